@@ -1,0 +1,2 @@
+-- Lemmas on lists that the layers above share.
+pub mod Lists

@@ -1,0 +1,4 @@
+-- What the crate's contracts cite, and the words of the layers above.
+pub mod Check
+pub mod Numbers
+pub mod Causes

@@ -1,0 +1,28 @@
+//! The words that several crates of crashbpf share.
+//!
+//! This crate stands at the bottom, on `byteorder` alone, and does nothing by itself. It has:
+//!
+//! - `numbers`: little-endian numbers in a list of bytes, read at a place and appended to a list.
+//!   Logs and BPF programs are both made of such numbers. A contract names the number in `n` bytes
+//!   from place `i` by `number_at n i bytes`, and the bytes of a number by `number_bytes n x`.
+//! - `bytes`: `Bytes`, an owned list of bytes that contracts see as that list.
+//! - `causes`: for each kind of input the causes of a refusal, each an enum, and the number under
+//!   which the program prints it. The numbers stand here and nowhere else.
+//! - `specs/Check.antt`: an ordered list of checks and the first of them that fails. Every refusal
+//!   of the product is decided that way: the definition lists the checks in their order, and a
+//!   contract says that the cause is that of the first one that does not pass.
+//!
+//! Its contract, in words: what is read at a place is the little-endian number of the bytes there,
+//! what is appended are the little-endian bytes of the number and nothing else, and a cause has the
+//! number that docs/REPORT.md lists.
+//!
+//! ```text
+//! let version = u64_at(log, 8);            // the number in bytes 8 to 15
+//! put_u64(&mut out, version)?;             // appends its eight bytes
+//! LogCause::Version.number()               // 3
+//! ```
+#![tactic(auto)]
+
+pub mod bytes;
+pub mod causes;
+pub mod numbers;

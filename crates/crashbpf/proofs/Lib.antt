@@ -1,0 +1,5 @@
+pub mod ReportLines
+pub mod Counting
+pub mod JudgedLines
+pub mod Refusals
+pub mod Rising

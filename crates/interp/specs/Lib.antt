@@ -1,0 +1,3 @@
+-- How the interpreter's values say what the machine did.
+pub mod Ending
+pub mod Going

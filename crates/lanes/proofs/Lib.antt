@@ -1,0 +1,3 @@
+pub mod CallerLemmas
+pub mod Mixes
+pub mod Sectors

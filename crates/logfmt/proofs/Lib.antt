@@ -1,0 +1,5 @@
+pub mod FlagBits
+pub mod Progress
+pub mod Unique
+pub mod Canonical
+pub mod NoFault

@@ -1,0 +1,108 @@
+-- What holds after the first n entries were read: the invariant of the loop of `read`.
+use Rattle.std.proofs.Common.{ℕ, zero, suc, ◌≡◌, ◌+◌, ◌*◌, ◌<◌, ◌≤◌, if◌then◌else◌, List, [], ◌∷◌, ◌++◌, length, slice_get, Some, None, refl, sym, ◌∙◌, inl, inr, arith, length-append, add-one, below_more}
+use Rattle.std.proofs.lemmas.List.Sums.{sum_by_push}
+use Rattle.std.proofs.lemmas.Option.{slice_get_within}
+use Rattle.base.proofs.Lists.{slice_get-append_left, slice_get-push, slice_get_of_push}
+use Rattle.base.specs.Check.{first_failing}
+use Rattle.logfmt.specs.declared.entry.Entry.{Entry}
+use Rattle.logfmt.specs.Bounds.{IsEntry, AreEntries, units_of, data_of, place}
+use Rattle.base.specs.Numbers.{number_at}
+use Rattle.base.specs.declared.causes.LogCause.{LogCause}
+use Rattle.logfmt.specs.LogText.{LogText, StandsAt, AllStand}
+use Rattle.logfmt.specs.Faults.{FirstFault, in_entry, SuperPasses, super_checks, EntriesPass, header, units_before, entry_checks, data_sectors}
+use Rattle.logfmt.proofs.FlagBits.{flag_discard}
+use Rattle.logfmt.specs.declared.header.Header.{Header}
+use Rattle.logfmt.specs.Header.{HeaderStands}
+
+pub record Progress (bytes : List ℕ) (sectors : ℕ) (es : List Entry) (n p u : ℕ) : Type 0 where
+  pub count : length es ≡ n
+  pub placed : place es n ≡ p
+  pub header : header bytes n ≡ p
+  pub before : units_before bytes n ≡ u
+  pub sum : units_of es ≡ u
+  pub inside : 512 * p ≤ length bytes
+  pub within : u ≤ 262144
+  pub stand : AllStand bytes es
+  pub entries : AreEntries sectors es
+  pub pass : EntriesPass bytes sectors n
+
+-- the header places do not depend on what follows
+pub place-push : (es : List Entry) (e : Entry) (i : ℕ) → i ≤ length es → place (es ++ e ∷ []) i ≡ place es i
+place-push es e zero h = refl
+place-push es e (suc i) h =
+    let lt : i < length es = omega (arith, h) in
+    let here = place-push es e i (omega (arith, h)) in
+    let same : slice_get (es ++ e ∷ []) i ≡ slice_get es i = slice_get-append_left es (e ∷ []) i lt in
+    rw (here, same) refl
+
+-- the place behind the entry that was pushed
+pub place-last : (es : List Entry) (e : Entry) → place (es ++ e ∷ []) (suc (length es)) ≡ place es (length es) + 1 + data_of e
+place-last es e =
+    let here = place-push es e (length es) (omega arith) in
+    let last : slice_get (es ++ e ∷ []) (length es) ≡ Some e = slice_get-push es e in
+    rw (here, last) refl
+
+pub start : (bytes : List ℕ) (sectors : ℕ) → 512 ≤ length bytes → Progress bytes sectors [] 0 1 0
+start bytes sectors h = record {
+  count = refl;
+  placed = refl;
+  header = refl;
+  before = refl;
+  sum = refl;
+  inside = omega arith;
+  within = omega arith;
+  stand = λ i e k. absurd (let bad : None ≡ Some e = k in cc);
+  entries = λ i e k. absurd (let bad : None ≡ Some e = k in cc);
+  pass = λ i k. absurd (omega (arith, k));
+}
+
+-- an entry and the header in its sector tell the same number of sectors of data
+pub same_data : (bytes : List ℕ) (p : ℕ) (e : Entry) → StandsAt bytes p e → data_of e ≡ data_sectors bytes p
+same_data bytes p e stands =
+    rw (stands.count, flag_discard e.flags, stands.flags) refl
+
+pub go_on : (bytes : List ℕ) (sectors : ℕ) (es : List Entry) (n p u : ℕ) (e : Entry)
+    → Progress bytes sectors es n p u
+    → first_failing (entry_checks bytes sectors p u) ≡ None
+    → StandsAt bytes p e → IsEntry sectors e
+    → (h : Header) → HeaderStands bytes p h → u + h.count ≤ 262144 → (d : ℕ) → d ≡ (if h.flags.discard then 0 else h.count)
+    → Progress bytes sectors (es ++ e ∷ []) (n + 1) (p + (1 + d)) (u + h.count)
+go_on bytes sectors es n p u e so passes stands fits h has room d behind_is =
+    let count : e.count ≡ h.count = stands.count ∙ sym has.count in
+    let behind : d ≡ data_sectors bytes p = behind_is ∙ rw (has.discard, has.count) refl in
+    let content : data_of e ≡ data_sectors bytes p = same_data bytes p e stands in
+    record {
+      count = omega (arith, length-append es (e ∷ []), so.count);
+      placed = rw (add-one n, ← so.count, place-last es e, so.count, so.placed) (omega (arith, content, behind));
+      header = rw (add-one n, so.header, ← behind) (omega arith);
+      before = rw (add-one n, so.header, so.before, has.count) refl;
+      sum = sum_by_push (λ (x : Entry). x.count) es e ∙ (rw (so.sum, count) refl);
+      inside = omega (arith, has.whole, behind);
+      within = room;
+      stand = λ i x k. elim (slice_get_of_push es e i x k) [
+        | inl was ↦ let lt : i < length es = slice_get_within es i x was in rw (place-push es e i (omega (arith, lt))) (so.stand i x was)
+        | inr last ↦ rw (last.0, last.1, place-push es e (length es) (omega arith), so.count, so.placed) stands
+      ];
+      entries = λ i x k. elim (slice_get_of_push es e i x k) [
+        | inl was ↦ so.entries i x was
+        | inr last ↦ rw last.1 fits
+      ];
+      pass = below_more _ n so.pass (rw (so.header, so.before) passes);
+    }
+
+-- where all entries are read the bytes are the text of their log
+pub whole_text : (bytes : List ℕ) (sectors : ℕ) (es : List Entry) (n p u : ℕ) → SuperPasses bytes → 1 ≤ sectors → sectors ≤ 16384
+    → number_at 8 16 bytes ≡ n → Progress bytes sectors es n p u → LogText bytes (record { sectors = sectors; entries = es })
+whole_text bytes sectors es n p u s some device count so = record {
+  size = s.size;
+  super = record { whole = s.whole; magic = s.magic; version = s.version; entries = count ∙ sym so.count; sector_size = s.sector_size };
+  stands = so.stand;
+  bounds = record { some = some; device = device; count = omega (arith, s.count, count, so.count); units = omega (arith, so.sum, so.within); entries = so.entries; size = rw (so.count, so.placed) (omega (arith, so.inside, s.size)) };
+}
+
+-- the first fault, at an entry behind those that passed
+pub fault_here : (bytes : List ℕ) (sectors : ℕ) (es : List Entry) (n p u : ℕ) (c : LogCause) → first_failing (super_checks bytes) ≡ None
+    → n < number_at 8 16 bytes → Progress bytes sectors es n p u → first_failing (entry_checks bytes sectors p u) ≡ Some c
+    → FirstFault bytes sectors c n
+fault_here bytes sectors es n p u c clean lt so failing =
+    in_entry c n clean lt so.pass (rw (so.header, so.before) failing)

@@ -1,0 +1,23 @@
+-- What holds of the texts of logs as a whole: `read` and `write` lead back and forth.
+use Rattle.std.specs.Prelude.{ℕ, ◌≡◌, List}
+use Rattle.base.specs.declared.causes.LogCause.{LogCause}
+use Rattle.logfmt.specs.Bounds.{LogValue, IsLog}
+use Rattle.logfmt.specs.LogText.{LogText, canonical_text}
+use Rattle.logfmt.specs.Faults.{FirstFault}
+
+-- a text is the text of at most one log for a device
+abbrev pub TextOfOneLog : Type 0
+TextOfOneLog = (bytes : List ℕ) (a b : LogValue) → LogText bytes a → LogText bytes b → a.sectors ≡ b.sectors → a ≡ b
+
+-- the canonical text of a log is a text of it
+abbrev pub CanonicalIsText : Type 0
+CanonicalIsText = (log : LogValue) → IsLog log → LogText (canonical_text log.entries) log
+
+-- a log that is read from the canonical text of a log, for the same device, is that log
+abbrev pub CanonicalReadsBack : Type 0
+CanonicalReadsBack =
+    (log read : LogValue) → IsLog log → LogText (canonical_text log.entries) read → read.sectors ≡ log.sectors → read ≡ log
+
+-- no check fails at a text of a log
+abbrev pub TextHasNoFault : Type 0
+TextHasNoFault = (bytes : List ℕ) (log : LogValue) (cause : LogCause) (at : ℕ) → LogText bytes log → ¬ (FirstFault bytes log.sectors cause at)

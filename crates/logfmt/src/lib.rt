@@ -1,0 +1,81 @@
+//! The log codec: from the bytes of a log to its entries, and back.
+//!
+//! A log is a sequence of sectors of 512 bytes, a profile of what Linux's `dm-log-writes` target
+//! writes: a super block, then for each entry a header and the data that was written. Two calls
+//! lead back and forth:
+//!
+//! | Call | Answer |
+//! |---|---|
+//! | `read(alloc, bytes, sectors)` | the log that the bytes are, for a device of so many sectors, or the first fault |
+//! | `write(alloc, log)` | the canonical text of a log |
+//!
+//! A `Log` is a value that only `read` makes, so it keeps every bound of docs/LOG-FORMAT.md: each
+//! entry lies on the device, each content has its length, a mark has nothing but its text, and the
+//! counts of bytes, entries and units are within the limits. `Log::sectors` and `Log::entries` give
+//! it to the layers above, each `Entry` with its place on the device, its `Flags`, the text of a
+//! mark and its data.
+//!
+//! # Place
+//!
+//! The second layer, on `base`, whose numbers in bytes and whose `LogCause` it takes. `epochs` makes
+//! units and cuts of a log's entries, and `images` takes their contents. What the entries do to a
+//! device is not known here (docs/CRASH-MODEL.md).
+//!
+//! # What is proved
+//!
+//! - `LogText bytes log` says by an equation of positions where each field of each entry stands, and
+//!   which bounds hold. Where `read` is `Ok`, the bytes are a log text of its result.
+//! - `FirstFault bytes sectors code at` says which check of docs/LOG-FORMAT.md is the first to fail.
+//!   It speaks of the bytes alone. Where `read` is `Err`, that is its fault, or memory ran out. Where
+//!   it is `Ok`, no check fails.
+//! - `write` gives `canonical_text`: zeros in all unused places, nothing behind the last entry.
+//! - Four laws stand above these (`specs/Laws.antt`): a text is the log text of at most one log for a
+//!   device (`text_of_one_log`), the canonical text of a log is a log text of it
+//!   (`canonical_is_text`), so what is written reads back (`canonical_reads_back`), and no log text
+//!   has a fault (`text_has_no_fault`), so `read` refuses nothing that is a log text but for want of
+//!   memory.
+//!
+//! # How it is written
+//!
+//! `reader` goes over the bytes once, header by header. `header` makes the checks of an entry, in
+//! their order, on the numbers of its header; only then the entry's text and data are taken, each by
+//! one copy of a slice. Bytes that no field uses, and bytes behind the last entry, are not looked at.
+//! `writer` appends each field to one list.
+//!
+//! # Example
+//!
+//! ```
+//! use logfmt::{read, write};
+//!
+//! // `bytes` holds the super block and one entry that writes device sector 0
+//! let log = read(alloc, &bytes, 4)?;
+//! // log.sectors() is 4; log.entries()[0].count is 1 and its content has 512 bytes
+//! let text = write(alloc, &log)?;
+//! // read(alloc, &text, 4) gives the same log again
+//! let fault = read(alloc, &bytes[..1535], 4).err();
+//! // the data of entry 0 is cut short: Some(LogFault { code: LogCause::CutShort, at: 0 })
+//! ```
+#![tactic(auto)]
+
+mod entry;
+mod fault;
+mod flags;
+mod header;
+mod laws;
+mod reader;
+#[cfg(test)]
+mod tests;
+mod writer;
+
+pub use entry::{Entry, Log, SECTOR};
+pub use fault::LogFault;
+pub use flags::Flags;
+pub use laws::{canonical_is_text, canonical_reads_back, text_has_no_fault, text_of_one_log};
+pub use reader::read;
+pub use writer::write;
+
+/// The bytes `rhswfsj` and a zero.
+const MAGIC: u64 = 0x006a_7366_7773_6872;
+
+/// The only version of the format.
+const VERSION: u64 = 1;

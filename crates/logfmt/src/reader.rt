@@ -1,0 +1,111 @@
+//! From bytes to a log: one pass, in which each check is made once and in its order.
+
+ghost use Rattle.std.specs.Prelude.{◌≡◌, ◌≤◌, ◌<◌, ◌+◌, ◌*◌, ◌⊎◌, length, IfOk, IfErr, IfNone, OnOk, if◌then◌else◌};
+ghost use Rattle.base.specs.Check.{first_failing};
+ghost use Rattle.base.specs.Numbers.{number_at};
+ghost use Rattle.base.specs.declared.causes.LogCause.TheVariants as cause;
+ghost use Rattle.logfmt.specs.Bounds.{IsEntry, data_of};
+ghost use Rattle.logfmt.specs.LogText.{LogText, StandsAt};
+ghost use Rattle.logfmt.specs.Faults.{FirstFault, HasNoFault, super_checks, SuperPasses};
+ghost use Rattle.logfmt.specs.Header.{HeaderStands, HeaderFits};
+
+use crate::entry::{Entry, Log, SECTOR};
+use crate::fault::LogFault;
+use crate::header::{Header, checked_header};
+use crate::{MAGIC, VERSION};
+use base::bytes::Bytes;
+use base::causes::LogCause;
+use base::numbers::{u32_at, u64_at};
+use std::alloc::{AllocError, Global};
+
+const MAX_BYTES: usize = 67_108_864;
+
+const MAX_ENTRIES: u64 = 65_536;
+
+/// The cause for which the super block is refused, if there is one.
+#[tactic(auto, unfolding(crate::specs::Faults::super_checks))]
+fn super_fault(bytes: &[u8]) -> Option<LogCause>
+    ensures exact { result ≡ first_failing (super_checks bytes.now) }
+    ensures passes { IfNone result (SuperPasses bytes.now) }
+{
+    if bytes.len() < SECTOR {
+        return Some(LogCause::Short);
+    }
+    if bytes.len() > MAX_BYTES {
+        return Some(LogCause::Limit);
+    }
+    if u64_at(bytes, 0) != MAGIC {
+        return Some(LogCause::Magic);
+    }
+    if u64_at(bytes, 8) != VERSION {
+        return Some(LogCause::Version);
+    }
+    if u32_at(bytes, 24) != 512 {
+        return Some(LogCause::SectorSize);
+    }
+    if u64_at(bytes, 16) > MAX_ENTRIES {
+        return Some(LogCause::Limit);
+    }
+    None
+}
+
+/// The entry whose header stands in sector `at`, with its text and its data.
+fn entry_of(
+    alloc: Global,
+    bytes: &[u8],
+    at: usize,
+    sectors: u32,
+    header: Header,
+) -> Result<Entry, AllocError>
+    requires size { length bytes.now ≤ 67108864 }
+    requires device { sectors ≤ 16384 }
+    requires stands { HeaderStands bytes.now at header }
+    requires fits { HeaderFits sectors header }
+    ensures stands { IfOk result (StandsAt bytes.now at) }
+    ensures fits { IfOk result (IsEntry sectors) }
+{
+    let text = SECTOR * at + 32;
+    let data = SECTOR * (at + 1);
+    let text = bytes[text..text + header.text_length as usize].to_vec(alloc)?;
+    let content = bytes[data..data + SECTOR * header.data_sectors() as usize].to_vec(alloc)?;
+    Ok(Entry {
+        sector: header.sector,
+        count: header.count,
+        flags: header.flags,
+        text: Bytes::of(text),
+        content: Bytes::of(content),
+    })
+}
+
+/// Reads a log for a device of `sectors` sectors of 512 bytes (docs/LOG-FORMAT.md).
+///
+/// # Errors
+///
+/// The first fault of the bytes, at the entry where it is, 0 for the super block; or want of memory,
+/// at 0.
+pub fn read(alloc: Global, bytes: &[u8], sectors: u32) -> Result<Log, LogFault>
+    requires some { 1 ≤ sectors }
+    requires device { sectors ≤ 16384 }
+    ensures found { IfOk result (LogText bytes.now) }
+    ensures sectors { IfOk result (λ log. log.sectors ≡ sectors) }
+    ensures clean { OnOk result (HasNoFault bytes.now sectors) }
+    ensures fault { IfErr result (λ f. (f ≡ record { code = cause.Memory; at = 0 }) ⊎ FirstFault bytes.now sectors f.code f.at) }
+{
+    if let Some(code) = super_fault(bytes) {
+        return Err(LogFault { code, at: 0 });
+    }
+    let count = u64_at(bytes, 16) as u32;
+    let mut entries = Vec::new(alloc);
+    let mut at = 1;
+    let mut units = 0;
+    for number in 0..count {
+        let header = match checked_header(bytes, at, sectors, units) {
+            Ok(header) => header,
+            Err(code) => return Err(LogFault { code, at: number }),
+        };
+        entries.push(entry_of(alloc, bytes, at, sectors, header)?)?;
+        at += 1 + header.data_sectors() as usize;
+        units += header.count;
+    }
+    Ok(Log::of(sectors, entries))
+}

@@ -1,0 +1,3 @@
+-- The machine (RFC 9669; docs/MACHINE.md).
+pub mod Step
+pub mod Outcome

@@ -1,0 +1,2 @@
+-- The number under which a refusal is printed.
+pub mod Numbers
