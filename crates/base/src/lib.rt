@@ -1,6 +1,6 @@
 //! The words that several crates of crashbpf share.
 //!
-//! This crate stands at the bottom, on `byteorder` alone, and does nothing by itself. It has:
+//! This crate stands at the bottom, on `byteorder` and `thiserror`, and does nothing by itself. It has:
 //!
 //! - `numbers`: little-endian numbers in a list of bytes, read at a place and appended to a list.
 //!   Logs and BPF programs are both made of such numbers. A contract names the number in `n` bytes

@@ -3,9 +3,8 @@
 ghost use Rattle.std.specs.Prelude.{◌≡◌, ◌≤◌, ◌+◌, ◌++◌, length, OnOk, OnErr};
 ghost use Rattle.base.specs.Numbers.{number_at, number_bytes, zeros};
 
-use std::alloc::AllocError;
-
 use byteorder::{ByteOrder, LittleEndian};
+use std::alloc::AllocError;
 
 /// The number in the two bytes from place `at`.
 #[tactic(auto, unfolding(crate::specs::Numbers::number_at))]

@@ -5,6 +5,7 @@
 #![tactic(auto)]
 
 mod kernels;
+mod reading;
 mod timing;
 
 use std::{env, io};
@@ -13,6 +14,7 @@ fn main(rt: HostRuntime) -> io::Result<()> {
     let mut words = env::args(&rt)?.skip(1);
     match words.next() {
         Some(word) if word.as_str() == "kernels" => kernels::run(&rt),
-        _ => println!(rt; "usage: bench kernels"),
+        Some(word) if word.as_str() == "reading" => reading::run(&rt),
+        _ => println!(rt; "usage: bench kernels|reading"),
     }
 }

@@ -1,21 +1,21 @@
 -- What holds after the first n slots were decoded: the invariant of the loop of `decode`.
-use Rattle.std.proofs.Common.{ℕ, ◌≡◌, ◌+◌, ◌*◌, ◌/◌, ◌<◌, ◌≤◌, ◌⊎◌, inl, inr, List, [], ◌∷◌, ◌++◌, length, slice_get, Option, None, Some, refl, sym, ◌∙◌, arith, length-append, below_more}
-use Rattle.base.proofs.Lists.{slice_get_of_push}
+use Rattle.std.proofs.Common.{ℕ, ◌≡◌, ◌+◌, ◌*◌, ◌/◌, ◌<◌, ◌≤◌, List, [], ◌∷◌, ◌++◌, length, Option, None, Some, refl, sym, ◌∙◌, arith, length-append, below_more}
+use Rattle.base.proofs.Lists.{slice_get-append_left, slice_get-push}
 use Rattle.base.specs.Check.{first_failing}
 use Rattle.base.specs.declared.causes.CodeCause.{CodeCause}
 use Rattle.bpf_isa.specs.declared.instr.Instr.{Instr}
 use Rattle.bpf_isa.specs.Spelling.{fields_of}
-use Rattle.bpf_isa.specs.Faults.{fields_at, slot_checks, length_checks, length_place, SlotsPass, FirstFault, in_length, in_slot}
+use Rattle.bpf_isa.specs.Faults.{fields_at, slot_checks, length_checks, length_place, SpellsSlot, SlotsPass, IsSpelledBy, FirstFault, in_length, in_slot}
 
 pub record Progress (bytes : List ℕ) (slots : List (Option Instr)) (n : ℕ) : Type 0 where
   pub count : length slots ≡ n
-  pub fields : (s : ℕ) (i : Instr) → slice_get slots s ≡ Some (Some i) → fields_at bytes s ≡ fields_of i
+  pub spelled : (s : ℕ) → s < n → SpellsSlot bytes slots s
   pub pass : SlotsPass bytes n
 
 pub start : (bytes : List ℕ) → Progress bytes [] 0
 start bytes = record {
   count = refl;
-  fields = λ s i k. absurd (let bad : None ≡ Some (Some i) = k in cc);
+  spelled = λ s k. absurd (omega (arith, k));
   pass = λ s k. absurd (omega (arith, k));
 }
 
@@ -24,10 +24,9 @@ pub go_on : (bytes : List ℕ) (slots : List (Option Instr)) (n : ℕ) (i : Inst
     → Progress bytes (slots ++ Some i ∷ []) (n + 1)
 go_on bytes slots n i so passes has = record {
   count = omega (arith, length-append slots (Some i ∷ []), so.count);
-  fields = λ s x k. elim (slice_get_of_push slots (Some i) s (Some x) k) [
-    | inl was ↦ so.fields s x was
-    | inr last ↦ let same : x ≡ i = (let e : Some x ≡ Some i = last.1 in cc) in rw (last.0, so.count, same) has
-  ];
+  spelled = below_more _ n
+      (λ s k. let was = so.spelled s k in (was.0, slice_get-append_left slots (Some i ∷ []) s (omega (arith, k, so.count)) ∙ was.1, was.2))
+      (i, rw (← so.count) (slice_get-push slots (Some i)), has);
   pass = below_more _ n so.pass passes;
 }
 
@@ -39,3 +38,11 @@ fault_of_length bytes c s failing there = rw there (in_length c (sym failing))
 pub fault_here : (bytes : List ℕ) (slots : List (Option Instr)) (n : ℕ) (c : CodeCause) → None ≡ first_failing (length_checks bytes)
     → n < length bytes / 8 → Progress bytes slots n → first_failing (slot_checks (fields_at bytes n)) ≡ Some c → FirstFault bytes c n
 fault_here bytes slots n c clean lt so failing = in_slot c n (sym clean) lt so.pass failing
+
+-- where all slots are decoded the bytes spell them
+pub all_spelled : (bytes : List ℕ) (slots : List (Option Instr)) (n : ℕ) → length bytes ≡ 8 * (length bytes / 8) → length bytes / 8 ≤ n
+    → n ≤ length bytes / 8 → Progress bytes slots n → IsSpelledBy bytes slots
+all_spelled bytes slots n whole all most so = record {
+  count = omega (arith, so.count);
+  spelled = λ s k. so.spelled s (omega (arith, so.count, k));
+}

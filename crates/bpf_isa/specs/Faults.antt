@@ -1,5 +1,5 @@
 -- The first fault of bytes that spell no program (docs/MACHINE.md, Encoding).
-use Rattle.std.specs.Prelude.{ℕ, ◌+◌, ◌*◌, ◌/◌, ◌%◌, ◌≡◌, ◌==◌, ◌<◌, ◌≤◌, Bool, true, not, ◌&&◌, ◌||◌, nat_le, nat_lt, if◌then◌else◌, List, [], ◌∷◌, length, Option, None, Some, slice_index, slice_get}
+use Rattle.std.specs.Prelude.{ℕ, ◌+◌, ◌*◌, ◌/◌, ◌%◌, ◌≡◌, ◌==◌, ◌<◌, not, ◌&&◌, ◌||◌, nat_le, List, [], ◌∷◌, length, Option, None, Some, slice_index, slice_get}
 use Rattle.base.specs.Check.{Check, check, first_failing}
 use Rattle.base.specs.Numbers.{number_at}
 use Rattle.base.specs.declared.causes.CodeCause.{CodeCause}
@@ -55,7 +55,11 @@ pub data FirstFault (bytes : List ℕ) : CodeCause → ℕ → Type 0 where
 abbrev pub HasNoFault : List ℕ → Type 0
 HasNoFault bytes = (first_failing (length_checks bytes) ≡ None) × SlotsPass bytes (length bytes / 8)
 
--- the bytes spell what stands in these slots: each slot has the fields of its instruction
+-- an instruction stands in slot s, and the slot has its fields
+abbrev pub SpellsSlot : List ℕ → List (Option Instr) → ℕ → Type 0
+SpellsSlot bytes slots s = (i : Instr) × (slice_get slots s ≡ Some (Some i)) × (fields_at bytes s ≡ fields_of i)
+
+-- the bytes spell what stands in these slots
 pub record IsSpelledBy (bytes : List ℕ) (slots : List (Option Instr)) : Type 0 where
   pub count : length bytes ≡ 8 * length slots
-  pub fields : (s : ℕ) (i : Instr) → slice_get slots s ≡ Some (Some i) → fields_at bytes s ≡ fields_of i
+  pub spelled : (s : ℕ) → s < length slots → SpellsSlot bytes slots s

@@ -7,15 +7,13 @@ ghost use Rattle.base.specs.declared.causes.CodeCause.TheVariants as cause;
 ghost use Rattle.bpf_isa.specs.Spelling.{fields_of};
 ghost use Rattle.bpf_isa.specs.Faults.{slot_checks, length_checks, length_place, slot_fault, FirstFault, HasNoFault, IsSpelledBy};
 
-use std::alloc::Global;
-
-use base::causes::CodeCause;
-
 use crate::fault::CodeFault;
 use crate::fields::{Fields, SLOT, fields_in};
 use crate::instr::Instr;
 use crate::program::{MAX_SLOTS, Program};
 use crate::register::Register;
+use base::causes::CodeCause;
+use std::alloc::Global;
 
 /// The instruction of these fields, or the first cause for which they are refused.
 #[tactic(auto, unfolding(crate::specs::Faults::slot_checks))]

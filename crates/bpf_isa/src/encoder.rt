@@ -3,12 +3,10 @@
 ghost use Rattle.std.specs.Prelude.{◌≡◌, ◌++◌, OnOk, IfOk};
 ghost use Rattle.bpf_isa.specs.Spelling.{spelling, slot_bytes, program_bytes, slot_spelling};
 
-use std::alloc::{AllocError, Global};
-
-use base::numbers::{put_u16, put_u32};
-
 use crate::instr::Instr;
 use crate::program::Program;
+use base::numbers::{put_u16, put_u32};
+use std::alloc::{AllocError, Global};
 
 /// Appends the bytes of an instruction.
 #[tactic(auto, unfolding(crate::specs::Spelling::spelling, crate::specs::Spelling::slot_bytes))]

@@ -1,9 +1,8 @@
 -- Counting the numbers of a list that does not fall.
-use Rattle.std.proofs.Common.{ℕ, zero, suc, ◌≡◌, ◌+◌, ◌<◌, ◌≤◌, ◌≢◌, ◌⊎◌, inl, inr, Bool, true, false, ◌==◌, ◌||◌, if◌then◌else◌, List, [], ◌∷◌, ◌++◌, length, take, get_or, Option, None, Some, refl, sym, ◌∙◌, ap, arith, length-append}
+use Rattle.std.proofs.Common.{ℕ, zero, suc, ◌≡◌, ◌+◌, ◌<◌, ◌≤◌, inl, inr, Bool, true, false, ◌==◌, if◌then◌else◌, List, [], ◌∷◌, ◌++◌, length, take, get_or, Option, None, Some, refl, sym, ◌∙◌, ap, arith}
 use Rattle.std.proofs.lemmas.Bool.{eq-eqb, false≢true}
 use Rattle.std.proofs.lemmas.Bool.Decides.{eqb_tells}
 use Rattle.std.proofs.lemmas.List.{take_more}
-use Rattle.std.proofs.lemmas.List.Folds.{list_any-append}
 use Rattle.std.proofs.Math.Dec.{eqb}
 use Rattle.std.specs.List.{list_any}
 use Rattle.std.specs.List.Sorted.{IsNonDecreasing}
@@ -81,14 +80,14 @@ counts xs n count y (Some v) so below = elim (eqb_tells v y) [
     ends = (has-push y xs, at_most-push y y xs below (omega arith));
   }
   | inr e ↦
-    let le : v ≤ y = has_at_most v y xs so.ends.0 below in
-    let lt : v < y = omega (arith, le, e.1) in
-    let new : has y xs ≡ false = no_greater v y xs so.ends.1 lt in
-    record {
-      same = rw (count-push y xs, new, e.0, so.same) refl;
-      small = rw e.0 (omega (arith, so.small));
-      ends = (has-push y xs, at_most-push y y xs below (omega arith));
-    }
+      let le : v ≤ y = has_at_most v y xs so.ends.0 below in
+      let lt : v < y = omega (arith, le, e.1) in
+      let new : has y xs ≡ false = no_greater v y xs so.ends.1 lt in
+      record {
+        same = rw (count-push y xs, new, e.0, so.same) refl;
+        small = rw e.0 (omega (arith, so.small));
+        ends = (has-push y xs, at_most-push y y xs below (omega arith));
+      }
 ]
 
 -- what stands before place i in a list that does not fall is at most what stands there

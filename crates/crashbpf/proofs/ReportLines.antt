@@ -1,5 +1,5 @@
 -- The lines of the report after one more.
-use Rattle.std.proofs.Common.{ℕ, zero, suc, ◌≡◌, ◌+◌, ◌<◌, List, [], ◌∷◌, ◌++◌, length, take, get_or, map, refl, sym, ◌∙◌, ap, arith, append_assoc, append-nil, add-one, add-zero}
+use Rattle.std.proofs.Common.{ℕ, zero, suc, ◌≡◌, ◌+◌, ◌<◌, List, [], ◌∷◌, ◌++◌, length, take, get_or, map, refl, ap, arith, append_assoc, append-nil, add-one, add-zero}
 use Rattle.crashbpf.specs.declared.report.ProgramHead.{ProgramHead}
 use Rattle.crashbpf.specs.declared.report.Line.{Line}
 use Rattle.crashbpf.specs.Failing.{FailingLine}

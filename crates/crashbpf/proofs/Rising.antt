@@ -1,9 +1,8 @@
 -- The failing lines stand in the order of their images.
-use Rattle.std.proofs.Common.{ℕ, zero, suc, ◌≡◌, ◌+◌, ◌<◌, ◌≤◌, Bool, true, false, List, [], ◌∷◌, ◌++◌, length, map, get_or, Option, None, Some, slice_get, refl, sym, ◌∙◌, ap, arith}
+use Rattle.std.proofs.Common.{ℕ, zero, suc, ◌≡◌, ◌+◌, ◌<◌, ◌≤◌, Bool, true, false, List, [], ◌∷◌, ◌++◌, length, map, get_or, Option, None, Some, slice_get, refl, ap, arith}
 use Rattle.std.specs.Option.{option_and_then}
-use Rattle.std.specs.List.{cons_option, filter_map, flat_map, range_with_len}
+use Rattle.std.specs.List.{cons_option, filter_map, range_with_len}
 use Rattle.std.specs.List.Sorted.{IsNonDecreasing}
-use Rattle.bpf_isa.specs.declared.instr.Instr.{Instr}
 use Rattle.machine.specs.Outcome.{Ending}
 use Rattle.crashbpf.specs.Failing.{Subject, FailingLine, fails, judged, line_if, line_of, image_lines, image_count, lines_from, failing_lines}
 

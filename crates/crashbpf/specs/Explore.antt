@@ -1,5 +1,5 @@
 -- What a run answers, and when it refuses (docs/REPORT.md).
-use Rattle.std.specs.Prelude.{ℕ, ◌+◌, ◌≡◌, ◌≢◌, ◌<◌, Bool, IsTrue, ◌↔◌, not, List, [], ◌∷◌, length, map, take, Option, None, Some, slice_get, position}
+use Rattle.std.specs.Prelude.{ℕ, ◌+◌, ◌≡◌, ◌≢◌, Bool, IsTrue, ◌↔◌, not, List, [], ◌∷◌, length, map, take, Option, None, Some, slice_get, position}
 use Rattle.base.specs.declared.causes.LogCause.{LogCause}
 use Rattle.base.specs.declared.causes.LogCause.TheVariants as log
 use Rattle.base.specs.declared.causes.CodeCause.{CodeCause}
@@ -13,10 +13,9 @@ use Rattle.logfmt.specs.LogText.{LogText}
 use Rattle.logfmt.specs.Faults as log_fault
 use Rattle.bpf_isa.specs.declared.instr.Instr.{Instr}
 use Rattle.bpf_isa.specs.Faults as code_fault
-use Rattle.crashbpf.specs.declared.report.ProgramHead.{ProgramHead}
 use Rattle.crashbpf.specs.Settings.{Settings, option_refusal, limit_of}
 use Rattle.crashbpf.specs.Images.{is_built}
-use Rattle.crashbpf.specs.Failing.{Subject, failing_lines, image_count}
+use Rattle.crashbpf.specs.Failing.{Subject, failing_lines}
 use Rattle.crashbpf.specs.Report.{HeadValue, report_bytes}
 
 -- the programs of a run, and the slots that their bytes spell

@@ -1,5 +1,5 @@
 -- The failing lines of a run: each image on which a program does not answer 0 (docs/REPORT.md).
-use Rattle.std.specs.Prelude.{ℕ, ◌+◌, ◌*◌, ◌==◌, Bool, true, false, not, if◌then◌else◌, List, [], length, Option, None, Some, slice_get}
+use Rattle.std.specs.Prelude.{ℕ, ◌+◌, ◌==◌, Bool, true, not, if◌then◌else◌, List, length, Option, None, Some, slice_get}
 use Rattle.std.specs.Option.{option_and_then}
 use Rattle.std.specs.List.{filter_map, flat_map, range_with_len}
 use Rattle.logfmt.specs.declared.entry.Entry.{Entry}

@@ -1,7 +1,6 @@
 -- The crash images of a log, as far as they are built: those of a log that writes nothing, on a device
 -- that starts as zeros (docs/CRASH-MODEL.md).
-use Rattle.std.specs.Prelude.{ℕ, ◌+◌, ◌≡◌, ◌==◌, Bool, not, ◌&&◌, List, length, take, count_by, replicate}
-use Rattle.std.specs.List.{range_with_len}
+use Rattle.std.specs.Prelude.{ℕ, ◌==◌, Bool, not, ◌&&◌, List, take, count_by, replicate}
 use Rattle.logfmt.specs.declared.entry.Entry.{Entry}
 use Rattle.helpers.specs.declared.Context.{Context}
 

@@ -6,3 +6,5 @@ pub mod Failing
 pub mod Lines
 pub mod Report
 pub mod Explore
+pub mod FaultLine
+pub mod Words

@@ -10,17 +10,15 @@ ghost use Rattle.crashbpf.specs.Failing.{failing_lines};
 ghost use Rattle.crashbpf.specs.Report.{report_bytes};
 ghost use Rattle.crashbpf.specs.Explore.{HasReport, subject_of, log_refusal, code_refusal, IsCodeFault, IsReport, Refuses, AreSpelledBy, first_unbuilt, head_of, RefusesLog, RefusesCode, work_refusal};
 
-use std::alloc::{AllocError, Global};
-
-use base::causes::{LogCause, WorkCause};
-use bpf_isa::{CodeFault, Program, decode};
-use logfmt::{Entry, Log, LogFault, read};
-use shares::{Cause, Refusal};
-
 use crate::gate::{Gate, OpenGate};
 use crate::judge::Judge;
 use crate::options::{Options, option_refusal_at};
 use crate::report::{Head, ProgramHead, write_report};
+use base::causes::{LogCause, WorkCause};
+use bpf_isa::{CodeFault, Program, decode};
+use logfmt::{Entry, Log, LogFault, read};
+use shares::{Cause, Refusal};
+use std::alloc::{AllocError, Global};
 
 /// What a run answers.
 #[derive(Drop)]
@@ -45,7 +43,12 @@ fn is_built_entry(entry: &Entry) -> bool
     ensures { result ≡ is_built entry.now }
 {
     let flags = entry.flags;
-    flags.flush && !flags.fua && !flags.discard && !flags.mark && !flags.metadata && entry.count == 0
+    flags.flush
+        && !flags.fua
+        && !flags.discard
+        && !flags.mark
+        && !flags.metadata
+        && entry.count == 0
 }
 
 /// The refusal that says a fault of the log.
@@ -142,7 +145,12 @@ pub(crate) fn no_memory() -> Refusal
 
 /// What stands at the head of the report.
 #[tactic(auto, unfolding(crate::specs::Explore::head_of))]
-fn head(alloc: Global, options: &Options, entries: usize, programs: &[Program]) -> Result<Head, AllocError>
+fn head(
+    alloc: Global,
+    options: &Options,
+    entries: usize,
+    programs: &[Program],
+) -> Result<Head, AllocError>
     requires { entries ≤ 65536 }
     ensures { IfOk result (λ h. h ≡ head_of options.now entries programs.now) }
 {
@@ -167,7 +175,13 @@ fn head(alloc: Global, options: &Options, entries: usize, programs: &[Program]) 
 }
 
 /// The report of a log that is built, and of programs.
-fn report<G: Gate>(alloc: Global, gate: &G, log: &Log, programs: &[Program], options: &Options) -> Result<Explored, AllocError>
+fn report<G: Gate>(
+    alloc: Global,
+    gate: &G,
+    log: &Log,
+    programs: &[Program],
+    options: &Options,
+) -> Result<Explored, AllocError>
     requires programs { length programs.now ≤ 8 }
     requires device { log.now.sectors ≡ options.now.sectors }
     ensures bytes { IfOk result (λ e. e.bytes.items ≡ report_bytes (head_of options.now (length log.now.entries) programs.now) (failing_lines (subject_of options.now log.now.entries programs.now))) }
@@ -192,7 +206,13 @@ fn report<G: Gate>(alloc: Global, gate: &G, log: &Log, programs: &[Program], opt
 ///
 /// The first refusal in the order of docs/REPORT.md: the number of programs, the log, then each
 /// program; or want of memory.
-pub fn explore_with<G: Gate>(alloc: Global, gate: &G, log: &[u8], programs: &[Vec<u8>], options: &Options) -> Result<Explored, Refusal>
+pub fn explore_with<G: Gate>(
+    alloc: Global,
+    gate: &G,
+    log: &[u8],
+    programs: &[Vec<u8>],
+    options: &Options,
+) -> Result<Explored, Refusal>
     ensures report { IfOk result (λ e. IsReport log.now (map (λ f. f.items) programs.now) options.now e.bytes.items e.failing) }
     ensures hits { IfOk result (λ e. e.hits ≡ 0) }
     ensures refused { IfErr result (Refuses log.now (map (λ f. f.items) programs.now) options.now) }
@@ -215,7 +235,12 @@ pub fn explore_with<G: Gate>(alloc: Global, gate: &G, log: &[u8], programs: &[Ve
 }
 
 /// The bytes of `explore_with`, with a gate that does nothing.
-pub fn explore(alloc: Global, log: &[u8], programs: &[Vec<u8>], options: &Options) -> Result<Vec<u8>, Refusal>
+pub fn explore(
+    alloc: Global,
+    log: &[u8],
+    programs: &[Vec<u8>],
+    options: &Options,
+) -> Result<Vec<u8>, Refusal>
     ensures report { IfOk result (λ bytes. HasReport log.now (map (λ f. f.items) programs.now) options.now bytes.items) }
     ensures refused { IfErr result (Refuses log.now (map (λ f. f.items) programs.now) options.now) }
 {

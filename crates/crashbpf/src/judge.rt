@@ -6,17 +6,15 @@ ghost use Rattle.crashbpf.specs.Images.{epoch, marks, context_at};
 ghost use Rattle.crashbpf.specs.Failing.{fails, judged, line_if, line_of, image_lines, image_count, lines_from, failing_lines};
 ghost use Rattle.crashbpf.specs.Lines.{line_list};
 
-use std::alloc::{AllocError, Global};
-use std::marker::Model;
-
+use crate::blank::Blank;
+use crate::gate::Gate;
+use crate::report::{Line, Lines};
 use bpf_isa::Program;
 use helpers::Context;
 use interp::{Outcome, run_checked};
 use logfmt::Entry;
-
-use crate::blank::Blank;
-use crate::gate::Gate;
-use crate::report::{Line, Lines};
+use std::alloc::{AllocError, Global};
+use std::marker::Model;
 
 /// How many images, in a row, are judged as one piece of work.
 const BLOCK: usize = 64;
@@ -56,7 +54,12 @@ fn fails_with(outcome: &Outcome) -> bool
 }
 
 impl<'a> Judge<'a> {
-    pub(crate) fn new(entries: &'a [Entry], sectors: u32, programs: &'a [Program], limit: u64) -> Judge<'a>
+    pub(crate) fn new(
+        entries: &'a [Entry],
+        sectors: u32,
+        programs: &'a [Program],
+        limit: u64,
+    ) -> Judge<'a>
         requires entries { length entries.now ≤ 65536 }
         requires programs { length programs.now ≤ 8 }
         ensures { result ≡ record { entries = entries.entry.now; sectors = sectors; programs = programs.entry.now; limit = limit } }
@@ -111,7 +114,13 @@ impl<'a> Judge<'a> {
     }
 
     /// Appends the line of an image and a program, if it fails there.
-    fn judge_program(&self, lines: &mut Lines, image: usize, number: usize, program: &Program) -> Result<(), AllocError>
+    fn judge_program(
+        &self,
+        lines: &mut Lines,
+        image: usize,
+        number: usize,
+        program: &Program,
+    ) -> Result<(), AllocError>
         requires image { image < image_count self.now }
         requires bound { image ≤ 65536 }
         requires number { number < 8 }

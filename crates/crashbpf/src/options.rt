@@ -4,12 +4,10 @@ ghost use Rattle.std.specs.Prelude.{◌≡◌, ◌≤◌, MatchResult, IfOk, Non
 ghost use Rattle.base.specs.Check.{first_failing};
 ghost use Rattle.crashbpf.specs.Settings.{option_checks, option_refusal, limit_of, IsAsked};
 
-use std::marker::Model;
-
+use crate::cuts::Cuts;
 use base::causes::RequestCause;
 use shares::{Cause, Refusal};
-
-use crate::cuts::Cuts;
+use std::marker::Model;
 
 /// The greatest number of sectors of a device.
 const MAX_SECTORS: u64 = 16_384;
@@ -60,7 +58,16 @@ impl Options {
     ///
     /// The first option that is out of its range, or not built yet, by its place.
     #[tactic(auto, unfolding(crate::specs::Settings::option_checks))]
-    pub fn new(sectors: u64, cuts: Cuts, bound: u64, tears: bool, workers: u64, cache: u64, checked: Option<u64>, first: bool) -> Result<Options, Refusal>
+    pub fn new(
+        sectors: u64,
+        cuts: Cuts,
+        bound: u64,
+        tears: bool,
+        workers: u64,
+        cache: u64,
+        checked: Option<u64>,
+        first: bool,
+    ) -> Result<Options, Refusal>
         ensures made { IfOk result (λ o. o ≡ record { sectors = sectors; cuts = cuts; bound = bound; tears = tears; workers = workers; cache = cache; checked = checked; first = first }) }
         ensures refused { MatchResult result (λ o. first_failing (option_checks o) ≡ None) (λ r. (first_failing (option_checks (record { sectors = sectors; cuts = cuts; bound = bound; tears = tears; workers = workers; cache = cache; checked = checked; first = first })) ≡ Some r.at) × (r ≡ option_refusal r.at)) }
     {
@@ -101,7 +108,7 @@ impl Options {
     }
 
     /// The number of sectors of the device, 1 to 16,384.
-    pub fn sectors(&self) -> u32
+    pub(crate) fn sectors(&self) -> u32
         ensures value { result ≡ self.now.sectors }
         ensures asked { IsAsked self.now }
     {
@@ -109,35 +116,35 @@ impl Options {
     }
 
     /// The kind of the cuts.
-    pub fn cuts(&self) -> Cuts
+    pub(crate) fn cuts(&self) -> Cuts
         ensures { result ≡ self.now.cuts }
     {
         self.cuts
     }
 
     /// How many units may depart, 0 to 3.
-    pub fn bound(&self) -> u8
+    pub(crate) fn bound(&self) -> u8
         ensures { result ≡ self.now.bound }
     {
         self.bound
     }
 
     /// Whether units may be torn.
-    pub fn tears(&self) -> bool
+    pub(crate) fn tears(&self) -> bool
         ensures { result ≡ self.now.tears }
     {
         self.tears
     }
 
     /// Whether the report is to hold the first failing image alone.
-    pub fn first(&self) -> bool
+    pub(crate) fn first(&self) -> bool
         ensures { result ≡ self.now.first }
     {
         self.first
     }
 
     /// The limit of steps of a program.
-    pub fn limit(&self) -> u64
+    pub(crate) fn limit(&self) -> u64
         ensures { result ≡ limit_of self.now }
     {
         self.checked.unwrap_or(0)

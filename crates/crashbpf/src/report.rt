@@ -9,12 +9,10 @@ ghost use Rattle.crashbpf.specs.Failing.{FailingLine};
 ghost use Rattle.crashbpf.specs.Lines.{line_value, is_image};
 ghost use Rattle.crashbpf.specs.Report.{yes_or_no, cuts_word, options_line, device_text, choices_text, program_line, program_lines, codes_text, ending_text, line_text, totals_line, failing_images, report_bytes};
 
+use crate::cuts::Cuts;
+use interp::Outcome;
 use std::alloc::{AllocError, Global};
 use std::marker::Model;
-
-use interp::Outcome;
-
-use crate::cuts::Cuts;
 
 /// What the report says of a program at its head.
 #[derive(Clone, Copy, Drop)]
@@ -119,7 +117,11 @@ fn put_device(out: &mut String, head: &Head) -> Result<(), AllocError>
     ensures { OnOk result (string_bytes out.new ≡ string_bytes out.old ++ device_text head.now) }
 {
     let cuts = word_of_cuts(head.cuts);
-    write!(out, "sectors {} entries {} cuts {cuts}", head.sectors, head.entries)
+    write!(
+        out,
+        "sectors {} entries {} cuts {cuts}",
+        head.sectors, head.entries
+    )
 }
 
 /// Appends the bound, the tears and whether the first failing image is asked for.
@@ -137,7 +139,11 @@ fn put_choices(out: &mut String, head: &Head) -> Result<(), AllocError>
 fn put_program(out: &mut String, number: usize, program: ProgramHead) -> Result<(), AllocError>
     ensures { OnOk result (string_bytes out.new ≡ string_bytes out.old ++ program_line number program) }
 {
-    write!(out, "program {number} slots {} limit {}\n", program.slots, program.limit)
+    write!(
+        out,
+        "program {number} slots {} limit {}\n",
+        program.slots, program.limit
+    )
 }
 
 /// Appends the codes of a verdict.
@@ -176,7 +182,11 @@ fn put_outcome(out: &mut String, outcome: &Outcome) -> Result<(), AllocError>
 fn put_line(out: &mut String, line: &Line) -> Result<(), AllocError>
     ensures { OnOk result (string_bytes out.new ≡ string_bytes out.old ++ line_text (line_value line.now)) }
 {
-    write!(out, "image {} cut {} program {} ", line.image, line.cut, line.program)?;
+    write!(
+        out,
+        "image {} cut {} program {} ",
+        line.image, line.cut, line.program
+    )?;
     put_outcome(out, &line.outcome)?;
     write!(out, " choice -\n")
 }
@@ -233,7 +243,11 @@ fn put_totals(out: &mut String, images: u64, lines: &Lines) -> Result<(), AllocE
     ensures { OnOk result (string_bytes out.new ≡ string_bytes out.old ++ totals_line images lines.now) }
 {
     let failing = failing_image_count(lines);
-    write!(out, "images {images} failing {failing} lines {}\n", lines.lines.len())
+    write!(
+        out,
+        "images {images} failing {failing} lines {}\n",
+        lines.lines.len()
+    )
 }
 
 /// The bytes of the report.

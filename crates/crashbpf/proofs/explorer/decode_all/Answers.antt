@@ -1,4 +1,3 @@
-use Rattle.std.proofs.Common.{◌≡◌, List, ℕ, map, Some, slice_get}
 use Rattle.std.proofs.lemmas.Result.{err_from_is_err_and}
 use Rattle.crashbpf.specs.Explore.{no_list_memory}
 use Rattle.crashbpf.proofs.Refusals.{code_refused, spelled_next, file_there}

@@ -1,4 +1,4 @@
-use Rattle.std.proofs.Common.{ℕ, ◌≡◌, ◌∙◌, sym, ap, List, length, map, arith}
+use Rattle.std.proofs.Common.{◌∙◌, sym}
 use Rattle.crashbpf.specs.Explore.{for_count, for_log, for_code, for_memory, RefusesLog}
 use Rattle.crashbpf.proofs.Refusals.{few_programs, length_of_bytes}
 use Rattle.crashbpf.proofs.explorer.explore_with.Goals as goal

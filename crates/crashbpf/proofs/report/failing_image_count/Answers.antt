@@ -1,6 +1,5 @@
-use Rattle.std.proofs.Common.{◌≡◌, ◌<◌, length, map, sym, ◌∙◌, ap, arith}
+use Rattle.std.proofs.Common.{◌<◌, length}
 use Rattle.std.specs.List.Sorted.{IsNonDecreasing}
-use Rattle.crashbpf.specs.Lines.{line_value}
 use Rattle.crashbpf.proofs.Counting.{counts_next}
 use Rattle.crashbpf.proofs.ReportLines.{images_of, length-images_of, image_at}
 use Rattle.crashbpf.proofs.report.failing_image_count.Goals as goal

@@ -1,6 +1,6 @@
 use Rattle.std.proofs.Common.{◌∙◌, ◌<◌, ◌*◌, arith}
 use Rattle.crashbpf.specs.Failing.{image_count}
-use Rattle.crashbpf.proofs.JudgedLines.{block_next, all_blocks}
+use Rattle.crashbpf.proofs.JudgedLines.{block_next}
 use Rattle.crashbpf.proofs.judge.Judge.judge_all.Goals as goal
 
 pub loop-block-preserved : goal.loop-block-preserved

@@ -1,4 +1,4 @@
-use Rattle.std.proofs.Common.{◌∙◌, arith}
+use Rattle.std.proofs.Common.{◌∙◌}
 use Rattle.crashbpf.proofs.JudgedLines.{image_next}
 use Rattle.crashbpf.proofs.judge.Judge.judge_block.Goals as goal
 

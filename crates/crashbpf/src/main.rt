@@ -1,0 +1,121 @@
+//! crashbpf, the program: from a log of block writes and checkers to the report of the crash images
+//! that fail.
+//!
+//! A log tells what was written to a device, in order. A power cut leaves one of many crash images of
+//! it (docs/CRASH-MODEL.md). A checker, a BPF program, looks at an image and answers 0 where it is
+//! good. This program judges every image within the bounds that it is asked for, and reports each one
+//! on which a checker answers otherwise (docs/REPORT.md).
+//!
+//! # Place
+//!
+//! The top layer. `logfmt` reads the log, `bpf_isa` decodes the checkers, `interp` runs them on a
+//! device of `helpers`, `shares` has the type of a refusal. What stands here:
+//!
+//! - `options`: `Options`, the options of a run, tested in their order.
+//! - `explorer`: `explore_with` and `explore`, from bytes to bytes. `judge` goes over the images block
+//!   by block, through a `gate`; `report` writes the lines.
+//! - `words`, `action` and `refused`: the words of the command line, what a command answers, and the
+//!   line of a refusal. `main` does no more than read files, call these and print.
+//!
+//! # What is proved
+//!
+//! Where `explore` answers `Ok`, its bytes are `report_bytes` of the log's failing lines
+//! (`specs/Report.antt`, `specs/Failing.antt`): the list of all images and programs whose outcome, by
+//! the definition of the machine, is not a verdict with answer 0. Where it answers `Err`, the refusal
+//! is the first in the order of docs/REPORT.md (`specs/Explore.antt`), or memory ran out.
+//!
+//! So far this holds for logs of flush entries without sectors, which leave a device of zeros. Other
+//! entries, and options whose work is not built, are refused.
+//!
+//! # Example
+//!
+//! ```
+//! let options = Options::new(1, Cuts::All, 0, false, 1, 0, Some(2), false)?;
+//! let report = explore(alloc, log, programs, &options)?;
+//! // crash report 1
+//! // sectors 1 entries 0 cuts all bound 0 tears no first no
+//! // program 0 slots 2 limit 2
+//! // images 1 failing 0 lines 0
+//! ```
+#![tactic(auto)]
+
+mod action;
+mod blank;
+mod cuts;
+mod explorer;
+mod gate;
+mod judge;
+mod options;
+mod refused;
+mod report;
+#[cfg(test)]
+mod tests;
+mod words;
+
+pub use action::act;
+pub use cuts::Cuts;
+pub use explorer::{Explored, explore, explore_with};
+pub use gate::Gate;
+pub use options::Options;
+pub use refused::fault_line;
+use std::alloc::AllocError;
+use std::io::Write;
+use std::process::ExitCode;
+use std::rt::{Env, Files};
+use std::{env, fs, io};
+pub use words::Words;
+
+/// The status of a run that was refused or could not be written.
+const REFUSED: u8 = 2;
+
+/// What the files hold, none for one that cannot be read.
+fn read_files<R: Files + AllocGlobal>(
+    rt: &R,
+    names: &[String],
+) -> Result<Vec<Option<Vec<u8>>>, AllocError> {
+    let mut files = Vec::new(rt.alloc());
+    for name in names {
+        files.push(fs::read(rt, name.as_str()).ok())?;
+    }
+    Ok(files)
+}
+
+/// Performs a command, and prints its answer or its refusal.
+fn run<R: Files + AllocGlobal + Print + Eprint>(rt: &R, words: &Words) -> io::Result<u8> {
+    let files = read_files(rt, words.files())?;
+    match act(rt.alloc(), words, files.as_slice()) {
+        Ok((bytes, status)) => {
+            io::writer(rt).write_all(bytes.as_slice())?;
+            Ok(status)
+        }
+        Err(refusal) => {
+            let line = fault_line(rt.alloc(), &refusal)?;
+            if let Ok(text) = str::from_utf8(line.as_slice()) {
+                rt.eprint(text)?;
+            }
+            Ok(REFUSED)
+        }
+    }
+}
+
+/// Reads the command line, and performs what it asks for.
+fn start<R: Env + Files + AllocGlobal + Print + Eprint>(rt: &R) -> io::Result<u8> {
+    let mut words: Vec<String> = env::args(rt)?.collect(rt.alloc())?;
+    if !words.is_empty() {
+        words.remove(0);
+    }
+    match Words::of(rt.alloc(), words.as_slice()) {
+        Ok(words) => run(rt, &words),
+        Err(error) => {
+            error.print(rt)?;
+            Ok(error.exit_code() as u8)
+        }
+    }
+}
+
+fn main(rt: HostRuntime) -> ExitCode {
+    match start(&rt) {
+        Ok(status) => ExitCode::from(status),
+        Err(_error) => ExitCode::from(REFUSED),
+    }
+}

@@ -1,0 +1,358 @@
+//! The runs of docs/REPORT.md, from words and files to the bytes and the status.
+
+use crate::{Cuts, Explored, Gate, Options, Words, act, explore, explore_with, fault_line};
+use shares::Refusal;
+use std::alloc::Global;
+use std::cell::Cell;
+use std::test::Fail;
+
+const ANSWER_0: [u8; 16] = [0xb7, 0, 0, 0, 0, 0, 0, 0, 0x95, 0, 0, 0, 0, 0, 0, 0];
+
+const ANSWER_1: [u8; 16] = [0xb7, 0, 0, 0, 1, 0, 0, 0, 0x95, 0, 0, 0, 0, 0, 0, 0];
+
+const MOVE_ALONE: [u8; 8] = [0xb7, 0, 0, 0, 1, 0, 0, 0];
+
+const EXIT_ALONE: [u8; 8] = [0x95, 0, 0, 0, 0, 0, 0, 0];
+
+const MOVE_TO_R10: [u8; 16] = [0xb7, 10, 0, 0, 0, 0, 0, 0, 0x95, 0, 0, 0, 0, 0, 0, 0];
+
+const MOVE_TO_R11: [u8; 16] = [0xb7, 11, 0, 0, 0, 0, 0, 0, 0x95, 0, 0, 0, 0, 0, 0, 0];
+
+/// A sector that begins with these bytes.
+fn put_sector(log: &mut Vec<u8>, head: &[u8]) -> Result<(), Fail> {
+    let end = log.len().checked_add(512).ok_or("a short log")?;
+    log.extend_from_slice(head)?;
+    log.resize(end, 0)?;
+    Ok(())
+}
+
+/// The log of so many flush entries without sectors.
+fn flushes(alloc: Global, count: u8) -> Result<Vec<u8>, Fail> {
+    let mut log = Vec::new(alloc);
+    let head = [
+        0x72, 0x68, 0x73, 0x77, 0x66, 0x73, 0x6a, 0, 1, 0, 0, 0, 0, 0, 0, 0, count, 0, 0, 0, 0, 0,
+        0, 0, 0, 2, 0, 0,
+    ];
+    put_sector(&mut log, &head)?;
+    for _entry in 0..count {
+        put_sector(
+            &mut log,
+            &[0, 0, 0, 0, 0, 0, 0, 0, 0, 0, 0, 0, 0, 0, 0, 0, 1],
+        )?;
+    }
+    Ok(log)
+}
+
+fn words_of(alloc: Global, line: &str) -> Result<Words, Fail> {
+    let mut words = Vec::new(alloc);
+    for word in line.split_whitespace() {
+        words.push(word.to_string(alloc)?)?;
+    }
+    Ok(Words::of(alloc, words.as_slice())?)
+}
+
+/// What a command prints and its status; for a refusal its line and 2.
+fn acted(alloc: Global, line: &str, log: Vec<u8>, program: &[u8]) -> Result<(Vec<u8>, u8), Fail> {
+    let words = words_of(alloc, line)?;
+    let mut files = Vec::new(alloc);
+    files.push(Some(log))?;
+    files.push(Some(program.to_vec(alloc)?))?;
+    match act(alloc, &words, files.as_slice()) {
+        Ok(answer) => Ok(answer),
+        Err(refusal) => Ok((fault_line(alloc, &refusal)?, 2)),
+    }
+}
+
+#[test]
+fn reports_the_empty_log(rt: HostRuntime) -> Result<(), Fail> {
+    let alloc = rt.alloc();
+    let head = "crash report 1\nsectors 1 entries 0 cuts all bound 0 tears no first no\n";
+    let rows = [
+        (
+            2,
+            ANSWER_1.as_slice(),
+            "program 0 slots 2 limit 2\nimage 0 cut 0 program 0 answer 1 codes - choice -\nimages 1 failing 1 lines 1\n",
+            1,
+        ),
+        (
+            2,
+            ANSWER_0.as_slice(),
+            "program 0 slots 2 limit 2\nimages 1 failing 0 lines 0\n",
+            0,
+        ),
+        (
+            1,
+            ANSWER_1.as_slice(),
+            "program 0 slots 2 limit 1\nimage 0 cut 0 program 0 out of steps choice -\nimages 1 failing 1 lines 1\n",
+            1,
+        ),
+        (
+            0,
+            ANSWER_0.as_slice(),
+            "program 0 slots 2 limit 0\nimage 0 cut 0 program 0 out of steps choice -\nimages 1 failing 1 lines 1\n",
+            1,
+        ),
+        (
+            5,
+            MOVE_ALONE.as_slice(),
+            "program 0 slots 1 limit 5\nimage 0 cut 0 program 0 fault 80 slot 0 choice -\nimages 1 failing 1 lines 1\n",
+            1,
+        ),
+        (
+            5,
+            EXIT_ALONE.as_slice(),
+            "program 0 slots 1 limit 5\nimage 0 cut 0 program 0 fault 81 slot 0 choice -\nimages 1 failing 1 lines 1\n",
+            1,
+        ),
+        (
+            5,
+            MOVE_TO_R10.as_slice(),
+            "program 0 slots 2 limit 5\nimage 0 cut 0 program 0 fault 88 slot 0 choice -\nimages 1 failing 1 lines 1\n",
+            1,
+        ),
+    ];
+    for (checked, program, rest, status) in rows {
+        let line = format!(in alloc;
+            "explore log program --sectors 1 --bound 0 --checked {checked}"
+        )?;
+        let (bytes, found) = acted(alloc, line.as_str(), flushes(alloc, 0)?, program)?;
+        let wanted = format!(in alloc; "{head}{rest}")?;
+        assert_eq!(rt; bytes.as_slice(), wanted.as_bytes(), "limit {checked}");
+        assert_eq!(rt; found, status, "limit {checked}");
+    }
+    Ok(())
+}
+
+#[test]
+fn reports_each_of_64_flushes(rt: HostRuntime) -> Result<(), Fail> {
+    let alloc = rt.alloc();
+    let log = flushes(alloc, 64)?;
+    assert_eq!(rt; log.len(), 33_280);
+    let (bytes, status) = acted(
+        alloc,
+        "explore log program --sectors 1 --bound 0 --checked 2",
+        log,
+        &ANSWER_1,
+    )?;
+    let mut wanted =
+        "crash report 1\nsectors 1 entries 64 cuts all bound 0 tears no first no\nprogram 0 slots 2 limit 2\n".to_string(
+            alloc,
+        )?;
+    for image in 0..65u8 {
+        write!(
+            wanted,
+            "image {image} cut {image} program 0 answer 1 codes - choice -\n"
+        )?;
+    }
+    wanted.push_str("images 65 failing 65 lines 65\n")?;
+    assert_eq!(rt; bytes.as_slice(), wanted.as_bytes());
+    assert_eq!(rt; status, 1);
+    Ok(())
+}
+
+#[test]
+fn refuses_with_number_and_place(rt: HostRuntime) -> Result<(), Fail> {
+    let alloc = rt.alloc();
+    let usual = "explore log program --sectors 1 --bound 0 --checked 2";
+    let rows = [
+        (
+            "explore log program --sectors 1 --bound 0 --checked 2",
+            512,
+            MOVE_TO_R11.as_slice(),
+            "refused 23 at 0 of program 0\n",
+        ),
+        (
+            "explore log program --sectors 1 --bound 0 --checked 2 --workers 2",
+            512,
+            ANSWER_1.as_slice(),
+            "refused 13 at 3\n",
+        ),
+        (
+            "explore log program --sectors 0 --bound 0 --checked 2",
+            512,
+            ANSWER_1.as_slice(),
+            "refused 13 at 1\n",
+        ),
+        (
+            "explore log program --sectors 16385 --bound 4",
+            512,
+            ANSWER_1.as_slice(),
+            "refused 13 at 1\n",
+        ),
+        (
+            "explore log program --sectors 1 --checked 2",
+            512,
+            ANSWER_1.as_slice(),
+            "refused 13 at 2\n",
+        ),
+        (
+            "explore log program --sectors 1 --bound 0 --checked 2 --cache 1",
+            512,
+            ANSWER_1.as_slice(),
+            "refused 13 at 4\n",
+        ),
+        (
+            "explore log program --sectors 1 --bound 0",
+            512,
+            ANSWER_1.as_slice(),
+            "refused 13 at 5\n",
+        ),
+        (
+            "explore log program --sectors 1 --bound 0 --checked 1000000001",
+            512,
+            ANSWER_1.as_slice(),
+            "refused 13 at 5\n",
+        ),
+        (
+            "explore log program --sectors 1 --bound 0 --checked 2 --cuts flush",
+            512,
+            ANSWER_1.as_slice(),
+            "refused 13 at 7\n",
+        ),
+        (
+            "explore log program --sectors 0 --bound 0 --checked 2 --cuts some",
+            512,
+            ANSWER_1.as_slice(),
+            "refused 13 at 7\n",
+        ),
+        (
+            "explore log program --sectors 1 --bound 0 --checked 2 --first",
+            512,
+            ANSWER_1.as_slice(),
+            "refused 13 at 8\n",
+        ),
+        (usual, 511, ANSWER_1.as_slice(), "refused 1 at 0\n"),
+        (usual, 512, [].as_slice(), "refused 21 at 0 of program 0\n"),
+        (
+            usual,
+            512,
+            [0xb7, 0, 0, 0, 0, 0, 0].as_slice(),
+            "refused 20 at 0 of program 0\n",
+        ),
+        (
+            usual,
+            512,
+            [0xb7, 0, 0, 0, 0, 0, 0, 0, 0x95].as_slice(),
+            "refused 20 at 1 of program 0\n",
+        ),
+        (
+            usual,
+            512,
+            [0xb7, 0, 0, 0, 0, 0, 0, 0, 0x07, 0, 0, 0, 0, 0, 0, 0].as_slice(),
+            "refused 22 at 1 of program 0\n",
+        ),
+        (
+            usual,
+            512,
+            [0x95, 0, 0, 0, 1, 0, 0, 0].as_slice(),
+            "refused 24 at 0 of program 0\n",
+        ),
+    ];
+    for (line, length, program, wanted) in rows {
+        let mut log = flushes(alloc, 0)?;
+        log.truncate(length);
+        let (bytes, status) = acted(alloc, line, log, program)?;
+        assert_eq!(rt; bytes.as_slice(), wanted.as_bytes(), "{line}");
+        assert_eq!(rt; status, 2, "{line}");
+    }
+    Ok(())
+}
+
+#[test]
+fn refuses_what_is_not_built(rt: HostRuntime) -> Result<(), Fail> {
+    let alloc = rt.alloc();
+    let mut log = flushes(alloc, 2)?;
+    // the second entry is a flush with forced unit access
+    assert!(rt; log.len() == 1536);
+    log[1040] = 3;
+    let (bytes, status) = acted(
+        alloc,
+        "explore log program --sectors 1 --bound 0 --checked 2",
+        log,
+        &ANSWER_1,
+    )?;
+    assert_eq!(rt; bytes.as_slice(), "refused 6 at 1\n".as_bytes());
+    assert_eq!(rt; status, 2);
+    Ok(())
+}
+
+#[test]
+fn refuses_files_and_counts(rt: HostRuntime) -> Result<(), Fail> {
+    let alloc = rt.alloc();
+    let words = words_of(
+        alloc,
+        "explore log program --sectors 1 --bound 0 --checked 2",
+    )?;
+    assert_eq!(rt; words.files().len(), 2);
+    let mut files = Vec::new(alloc);
+    files.push(Some(flushes(alloc, 0)?))?;
+    files.push(None)?;
+    let refusal = act(alloc, &words, files.as_slice())
+        .err()
+        .ok_or("a refusal")?;
+    assert_eq!(rt;
+        fault_line(alloc, &refusal)?.as_slice(),
+        "refused 14 at 1\n".as_bytes()
+    );
+    let options = Options::new(1, Cuts::All, 0, false, 1, 0, Some(2), false)
+        .ok()
+        .ok_or("options")?;
+    let programs = Vec::new(alloc);
+    let refusal: Refusal = explore(alloc, &flushes(alloc, 0)?, programs.as_slice(), &options)
+        .err()
+        .ok_or("a refusal")?;
+    assert_eq!(rt;
+        fault_line(alloc, &refusal)?.as_slice(),
+        "refused 13 at 6\n".as_bytes()
+    );
+    Ok(())
+}
+
+/// Counts the blocks that it is told of.
+#[derive(Drop)]
+struct Counting {
+    before: Cell<u32>,
+    after: Cell<u32>,
+}
+
+impl Gate for Counting {
+    fn before(&self, _worker: u8, block: u32) {
+        if self.before.get() == block && self.after.get() == block {
+            self.before.set(block.saturating_add(1));
+        }
+    }
+
+    fn after(&self, _worker: u8, block: u32) {
+        if self.after.get() == block {
+            self.after.set(block.saturating_add(1));
+        }
+    }
+}
+
+#[test]
+fn tells_the_gate_of_each_block(rt: HostRuntime) -> Result<(), Fail> {
+    let alloc = rt.alloc();
+    let options = Options::new(1, Cuts::All, 0, true, 1, 0, Some(2), false)
+        .ok()
+        .ok_or("options")?;
+    let mut programs = Vec::new(alloc);
+    programs.push(ANSWER_1.to_vec(alloc)?)?;
+    let gate = Counting {
+        before: Cell::new(0),
+        after: Cell::new(0),
+    };
+    let explored: Explored = explore_with(
+        alloc,
+        &gate,
+        &flushes(alloc, 64)?,
+        programs.as_slice(),
+        &options,
+    )
+    .ok()
+    .ok_or("a report")?;
+    assert_eq!(rt; gate.before.get(), 2);
+    assert_eq!(rt; gate.after.get(), 2);
+    assert!(rt; explored.failing);
+    assert_eq!(rt; explored.hits, 0);
+    Ok(())
+}

@@ -1,0 +1,178 @@
+//! The words of the command line.
+
+ghost use Rattle.std.specs.Prelude.{◌≡◌, [], IsOkAnd, map, string_bytes};
+ghost use Rattle.crashbpf.specs.declared.words.Request.TheVariants as request;
+
+use crate::cuts::Cuts;
+use clap::{Arg, ArgAction, ArgMatches, Command, Error};
+use std::alloc::{AllocError, Global};
+use std::marker::Model;
+
+/// The options as they were written.
+#[derive(Clone, Copy)]
+pub(crate) struct OptionWords {
+    pub sectors: u64,
+    /// None where the word is no kind of cut.
+    pub cuts: Option<Cuts>,
+    pub bound: u64,
+    pub tears: bool,
+    pub workers: u64,
+    pub cache: u64,
+    pub checked: Option<u64>,
+    pub first: bool,
+}
+
+/// What the command line asks for.
+#[derive(Clone, Copy)]
+pub(crate) enum Request {
+    /// No word: the run that the program holds itself.
+    StoredRun,
+    /// `explore LOG PROGRAM..`
+    Explore(OptionWords),
+}
+
+/// The words behind the program's name (docs/REPORT.md, Command line).
+#[derive(Drop)]
+pub struct Words {
+    request: Request,
+    files: Vec<String>,
+}
+
+impl Model for Words {
+    ghost use Rattle.std.specs.Prelude.{map, string_bytes};
+    ghost use Rattle.crashbpf.specs.Words.{WordsValue};
+
+    ghost Value = { WordsValue };
+
+    ghost view = { λ w. record { request = w.request; files = map string_bytes w.files.items } };
+}
+
+/// An option that takes a number.
+fn number_option<'a>(alloc: Global, name: &'a str, default: &'a str, help: &'a str) -> Arg<'a> {
+    Arg::new(alloc, name)
+        .long(name)
+        .value_parser(clap::value_parser!(u64))
+        .default_value(default)
+        .help(help)
+}
+
+/// The command `explore`.
+fn explore_command<'a>(alloc: Global) -> Result<Command<'a>, AllocError> {
+    let sectors = Arg::new(alloc, "sectors")
+        .long("sectors")
+        .required(true)
+        .value_parser(clap::value_parser!(u64))
+        .help("sectors of the device, 1 to 16384");
+    let checked = Arg::new(alloc, "checked")
+        .long("checked")
+        .value_parser(clap::value_parser!(u64))
+        .help("run programs with every check, for at most so many steps");
+    let cuts = Arg::new(alloc, "cuts")
+        .long("cuts")
+        .default_value("all")
+        .help("all, flush or mark");
+    let tears = Arg::new(alloc, "tears")
+        .long("tears")
+        .action(ArgAction::SetTrue)
+        .help("let sectors be torn");
+    let first = Arg::new(alloc, "first")
+        .long("first")
+        .action(ArgAction::SetTrue)
+        .help("report the first failing image alone");
+    let files = Arg::new(alloc, "files")
+        .num_args(2..)
+        .required(true)
+        .value_name("LOG PROGRAM..");
+    Command::new(alloc, "explore")
+        .arg(sectors)?
+        .arg(cuts)?
+        .arg(number_option(alloc, "bound", "1", "units that may depart, 0 to 3"))?
+        .arg(tears)?
+        .arg(number_option(alloc, "workers", "1", "threads, 1 to 64"))?
+        .arg(number_option(alloc, "cache", "0", "judgements to keep, at most 65536"))?
+        .arg(checked)?
+        .arg(first)?
+        .arg(files)
+}
+
+/// The kind of cut that a word names.
+fn cuts_of(word: Option<&str>) -> Option<Cuts> {
+    match word {
+        Some("all") => Some(Cuts::All),
+        Some("flush") => Some(Cuts::BeforeFlush),
+        Some("mark") => Some(Cuts::AfterMark),
+        _ => None,
+    }
+}
+
+/// The options of `explore`.
+fn option_words(matches: &ArgMatches<'_>) -> OptionWords {
+    OptionWords {
+        sectors: matches.get_one::<u64>("sectors").unwrap_or(0),
+        cuts: cuts_of(matches.get_str("cuts")),
+        bound: matches.get_one::<u64>("bound").unwrap_or(1),
+        tears: matches.get_flag("tears"),
+        workers: matches.get_one::<u64>("workers").unwrap_or(1),
+        cache: matches.get_one::<u64>("cache").unwrap_or(0),
+        checked: matches.get_one::<u64>("checked"),
+        first: matches.get_flag("first"),
+    }
+}
+
+/// The files that a command names.
+fn file_words(alloc: Global, matches: &ArgMatches<'_>) -> Result<Vec<String>, AllocError> {
+    let mut files = Vec::new(alloc);
+    if let Some(names) = matches.get_strs("files") {
+        for name in names {
+            files.push(name.to_string(alloc)?)?;
+        }
+    }
+    Ok(files)
+}
+
+impl Words {
+    /// Reads the words behind the program's name. No word at all asks for the stored run.
+    ///
+    /// # Errors
+    ///
+    /// A fault of the command line, or its help, in `clap`'s own text.
+    pub fn of(alloc: Global, words: &[String]) -> Result<Words, Error>
+        ensures stored { words.now ≡ [] → IsOkAnd result (λ w. w ≡ record { request = request.StoredRun; files = [] }) }
+    {
+        if words.is_empty() {
+            return Ok(Words {
+                request: Request::StoredRun,
+                files: Vec::new(alloc),
+            });
+        }
+        let command = Command::new(alloc, "crashbpf")
+            .no_binary_name(true)
+            .subcommand_required(true)
+            .subcommand(explore_command(alloc)?)?;
+        let matches = command.try_get_matches_from(words)?;
+        match matches.subcommand() {
+            Some((_name, inner)) => Ok(Words {
+                request: Request::Explore(option_words(inner)),
+                files: file_words(alloc, inner)?,
+            }),
+            None => Ok(Words {
+                request: Request::StoredRun,
+                files: Vec::new(alloc),
+            }),
+        }
+    }
+
+    /// The files of the command, in order: the log, then the programs.
+    pub fn files(&self) -> &[String]
+        ensures { map string_bytes result.now ≡ self.now.files }
+    {
+        self.files.as_slice()
+    }
+
+    /// What is asked for.
+    pub(crate) fn request(&self) -> Request
+        ensures { result ≡ self.now.request }
+    {
+        self.request
+    }
+}
