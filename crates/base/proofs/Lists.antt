@@ -1,8 +1,11 @@
 -- Elements of a list by their place, ranges of numbers, and numbers in a list of bytes.
-use Rattle.std.proofs.Common.{ℕ, zero, suc, ◌≡◌, ◌+◌, ◌^◌, ◌<◌, ◌⊎◌, List, [], ◌∷◌, ◌++◌, length, take, drop, Some, None, slice_get, refl, sym, ◌∙◌, ap, inl, inr, arith, add-one}
+use Rattle.std.proofs.Common.{ℕ, zero, suc, ◌≡◌, ◌+◌, ◌-◌, ◌^◌, ◌<◌, ◌≤◌, ◌⊎◌, Bool, true, false, if◌then◌else◌, List, [], ◌∷◌, ◌++◌, length, length-append, map, filter, take, drop, Some, None, slice_get, refl, sym, ◌∙◌, ap, inl, inr, arith, add-one}
+use Rattle.std.specs.List.{count_by, range_with_len}
 use Rattle.std.proofs.Math.Seq.{drop-append_seam}
+use Rattle.std.proofs.lemmas.Bool.{cases_lt}
 use Rattle.std.proofs.lemmas.List.{length-replicate}
-use Rattle.std.specs.List.{range_with_len}
+use Rattle.std.proofs.lemmas.List.Elements.{filter-append}
+use Rattle.std.proofs.lemmas.List.Sums.{length-filter}
 use Rattle.byteorder.specs.Numbers.{little_number-reads_back, length-bytes_low_first}
 use Rattle.base.specs.Numbers.{number_at, number_bytes, zeros}
 
@@ -86,3 +89,64 @@ range_with_len-append a (suc n) m =
     let f : a + 1 + n ≡ a + suc n = omega arith in
     let rest : range_with_len (a + 1) (n + m) ≡ range_with_len (a + 1) n ++ range_with_len (a + 1 + n) m = range_with_len-append (a + 1) n m in
     rw e (ap (λ (xs : List ℕ). a ∷ xs) (rest ∙ ap (λ (x : ℕ). range_with_len (a + 1) n ++ range_with_len x m) f))
+
+-- an element behind the first n
+pub slice_get-drop : {X : Type 0} (n : ℕ) (xs : List X) (i : ℕ) → slice_get (drop n xs) i ≡ slice_get xs (n + i)
+slice_get-drop zero xs i = let e : i ≡ 0 + i = omega arith in ap (slice_get xs) e
+slice_get-drop (suc n) [] i = refl
+slice_get-drop (suc n) (x ∷ xs) i =
+    let e : suc n + i ≡ suc (n + i) = omega arith in
+    slice_get-drop n xs i ∙ sym (ap (slice_get (x ∷ xs)) e)
+
+-- one element more from the front
+pub take-suc_place : {X : Type 0} (xs : List X) (k : ℕ) (x : X) → slice_get xs k ≡ Some x → take (suc k) xs ≡ take k xs ++ x ∷ []
+take-suc_place [] k x h = absurd (let bad : None ≡ Some x = h in cc)
+take-suc_place (y ∷ ys) zero x h = let here : Some y ≡ Some x = h in let same : y ≡ x = cc in ap (λ z. z ∷ []) same
+take-suc_place (y ∷ ys) (suc k) x h = ap (λ zs. y ∷ zs) (take-suc_place ys k x h)
+
+-- a test that tells alike filters alike
+pub filter_alike : {X : Type 0} (p q : X → Bool) (xs : List X) → ((x : X) → p x ≡ q x) → filter p xs ≡ filter q xs
+filter_alike {X = X} p q xs h = let same : p ≡ q = λ i x. h x i in ap (λ (r : X → Bool). filter r xs) same
+
+-- a test that each image passes, or none
+pub filter-map_all : {X Y : Type 0} (p : Y → Bool) (f : X → Y) (xs : List X) → ((x : X) → p (f x) ≡ true) → filter p (map f xs) ≡ map f xs
+filter-map_all p f [] h = refl
+filter-map_all p f (x ∷ xs) h = rw (h x) (ap (λ ys. f x ∷ ys) (filter-map_all p f xs h))
+
+pub filter-map_none : {X Y : Type 0} (p : Y → Bool) (f : X → Y) (xs : List X) → ((x : X) → p (f x) ≡ false) → filter p (map f xs) ≡ []
+filter-map_none p f [] h = refl
+filter-map_none p f (x ∷ xs) h = rw (h x) (filter-map_none p f xs h)
+
+-- a test that tells each image alike
+pub filter-map_alike : {X Y : Type 0} (p q : Y → Bool) (f : X → Y) (xs : List X) → ((x : X) → p (f x) ≡ q (f x)) → filter p (map f xs) ≡ filter q (map f xs)
+filter-map_alike p q f [] h = refl
+filter-map_alike p q f (x ∷ xs) h =
+    let rest = filter-map_alike p q f xs h in
+    rw (h x, rest) refl
+
+-- a test that no element passes
+pub filter_none : {X : Type 0} (p : X → Bool) (xs : List X) → ((x : X) → p x ≡ false) → filter p xs ≡ []
+filter_none p [] h = refl
+filter_none p (x ∷ xs) h = rw (h x) (filter_none p xs h)
+
+-- one element more to count
+pub count_by-push : {X : Type 0} (p : X → Bool) (xs : List X) (y : X) → count_by p (xs ++ y ∷ []) ≡ count_by p xs + (if p y then 1 else 0)
+count_by-push p xs y =
+    let one : length (filter p (y ∷ [])) ≡ (if p y then 1 else 0) =
+    elim (p y) as (λ b. length (if b then (y ∷ []) else []) ≡ (if b then 1 else 0)) [ true ↦ refl | false ↦ refl ] in
+    let whole = length-filter p (xs ++ y ∷ []) in
+    let first = length-filter p xs in
+    let parts = ap length (filter-append p xs (y ∷ [])) in
+    let sum = length-append (filter p xs) (filter p (y ∷ [])) in
+    omega (arith, one, whole, first, parts, sum)
+
+-- an element of two lists in a row is one of the first or of the second
+pub slice_get_of_append : {X : Type 0} (xs ys : List X) (i : ℕ) (x : X) → slice_get (xs ++ ys) i ≡ Some x
+    → ((i < length xs) × (slice_get xs i ≡ Some x)) ⊎ ((length xs ≤ i) × (slice_get ys (i - length xs) ≡ Some x))
+slice_get_of_append xs ys i x h =
+    elim (cases_lt i (length xs)) [
+      | inl less ↦ inl (less, sym (slice_get-append_left xs ys i less) ∙ h)
+      | inr more ↦
+          let at : length xs + (i - length xs) ≡ i = omega (arith, more) in
+          inr (more, sym (slice_get-append_right xs ys (i - length xs)) ∙ ap (slice_get (xs ++ ys)) at ∙ h)
+    ]

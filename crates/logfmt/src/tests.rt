@@ -23,7 +23,7 @@ struct Item {
 }
 
 /// A write of `count` sectors from `sector`, every byte `byte`.
-fn w(sector: u64, count: u32, byte: u8) -> Item {
+fn write_entry(sector: u64, count: u32, byte: u8) -> Item {
     Item {
         sector,
         count: u64::from(count),
@@ -86,14 +86,27 @@ fn two_epochs(alloc: Global) -> Result<Vec<u8>, AllocError> {
     text_of(
         alloc,
         3,
-        &[w(0, 1, 0xaa), header(0, 0, 1, 0), w(0, 1, 0xbb)],
+        &[
+            write_entry(0, 1, 0xaa),
+            header(0, 0, 1, 0),
+            write_entry(0, 1, 0xbb),
+        ],
     )
 }
 
-/// The fault for which a text is refused.
-fn fault_of(rt: &impl Abort, alloc: Global, bytes: &[u8], sectors: u32) -> Option<LogFault> {
+/// The fault for which a text is refused; an error where memory ran out.
+fn fault_of(
+    rt: &impl Abort,
+    alloc: Global,
+    bytes: &[u8],
+    sectors: u32,
+) -> Result<Option<LogFault>, AllocError> {
     assert!(rt; sectors >= 1 && sectors <= 16_384);
-    read(alloc, bytes, sectors).err()
+    match read(alloc, bytes, sectors) {
+        Ok(_log) => Ok(None),
+        Err(fault) if fault.code == LogCause::Memory => Err(AllocError),
+        Err(fault) => Ok(Some(fault)),
+    }
 }
 
 fn fault(code: LogCause, at: u32) -> Option<LogFault> {
@@ -111,11 +124,26 @@ fn refuses_as_listed(rt: HostRuntime) -> Result<(), Fail> {
     let discards = [header(0, 16_384, 4, 0); 17];
     let cases = [
         Case(&[], WHOLE, 1, None),
-        Case(&[w(0, 1, 0xaa)], 1536, 4, None),
-        Case(&[w(0, 1, 0xaa)], 1535, 4, fault(LogCause::CutShort, 0)),
-        Case(&[w(0, 1, 0xaa)], 511, 4, fault(LogCause::Short, 0)),
-        Case(&[w(3, 2, 0xaa)], WHOLE, 4, fault(LogCause::Device, 0)),
-        Case(&[w(3, 2, 0xaa)], WHOLE, 5, None),
+        Case(&[write_entry(0, 1, 0xaa)], 1536, 4, None),
+        Case(
+            &[write_entry(0, 1, 0xaa)],
+            1535,
+            4,
+            fault(LogCause::CutShort, 0),
+        ),
+        Case(
+            &[write_entry(0, 1, 0xaa)],
+            511,
+            4,
+            fault(LogCause::Short, 0),
+        ),
+        Case(
+            &[write_entry(3, 2, 0xaa)],
+            WHOLE,
+            4,
+            fault(LogCause::Device, 0),
+        ),
+        Case(&[write_entry(3, 2, 0xaa)], WHOLE, 5, None),
         Case(
             &[header(1, last, 0, 0)],
             WHOLE,
@@ -175,7 +203,7 @@ fn refuses_as_listed(rt: HostRuntime) -> Result<(), Fail> {
     for (number, Case(items, length, sectors, wanted)) in cases.iter().enumerate() {
         let text = text_of(alloc, items.len() as u64, items)?;
         let end = text.len().min(*length);
-        let found = fault_of(&rt, alloc, &text[..end], *sectors);
+        let found = fault_of(&rt, alloc, &text[..end], *sectors)?;
         assert_eq!(rt; found, *wanted, "in case {number}");
     }
     Ok(())
@@ -193,7 +221,7 @@ fn refuses_prefixes_of_two_epochs(rt: HostRuntime) -> Result<(), Fail> {
             2048..3072 => fault(LogCause::CutShort, 2),
             _ => None,
         };
-        let found = fault_of(&rt, rt.alloc(), &text[..length], 4);
+        let found = fault_of(&rt, rt.alloc(), &text[..length], 4)?;
         assert_eq!(rt; found, wanted, "at length {length}");
     }
     Ok(())
@@ -215,18 +243,18 @@ fn refuses_super_blocks(rt: HostRuntime) -> Result<(), Fail> {
         assert!(rt; place < text.len());
         text[place] = 2;
         assert_eq!(rt;
-            fault_of(&rt, alloc, &text, 4),
+            fault_of(&rt, alloc, &text, 4)?,
             fault(code, 0),
             "at {place}"
         );
     }
     let text = text_of(alloc, u64::MAX, &[])?;
-    assert_eq!(rt; fault_of(&rt, alloc, &text, 4), fault(LogCause::Limit, 0));
+    assert_eq!(rt; fault_of(&rt, alloc, &text, 4)?, fault(LogCause::Limit, 0));
     let mut long = Vec::new(alloc);
     long.resize(67_108_865, 0)?;
-    assert_eq!(rt; fault_of(&rt, alloc, &long, 4), fault(LogCause::Limit, 0));
+    assert_eq!(rt; fault_of(&rt, alloc, &long, 4)?, fault(LogCause::Limit, 0));
     assert_eq!(rt;
-        fault_of(&rt, alloc, &long[1..], 4),
+        fault_of(&rt, alloc, &long[1..], 4)?,
         fault(LogCause::Magic, 0)
     );
     Ok(())
@@ -272,7 +300,7 @@ fn keeps_the_text_of_a_mark(rt: HostRuntime) -> Result<(), Fail> {
 
 #[test]
 fn reads_discards_and_forced_writes(rt: HostRuntime) -> Result<(), Fail> {
-    let mut forced = w(0, 2, 0x11);
+    let mut forced = write_entry(0, 2, 0x11);
     forced.flags = 3;
     let text = text_of(rt.alloc(), 2, &[forced, header(1, 3, 4, 0)])?;
     assert_eq!(rt; text.len(), 2560);

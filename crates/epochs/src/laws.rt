@@ -1,0 +1,19 @@
+//! Laws of the volatile units. The functions do nothing; each contract is a theorem.
+
+ghost use Rattle.epochs.specs.Laws.{VolatileIsSet, VolatileIsRun, UnitIsSector};
+
+/// The volatile units of a cut are those that docs/CRASH-MODEL.md says, no other, each once, by entry
+/// and then by sector.
+pub fn volatile_is_set()
+    ensures { VolatileIsSet }
+{}
+
+/// The volatile units of a cut are one run of the units that are not forced.
+pub fn volatile_is_run()
+    ensures { VolatileIsRun }
+{}
+
+/// A unit has 512 bytes.
+pub fn unit_is_sector()
+    ensures { UnitIsSector }
+{}

@@ -1,0 +1,138 @@
+//! What each cut of a log leaves open.
+
+ghost use Rattle.std.specs.Prelude.{◌≡◌, ◌<◌, ◌≤◌, length, slice_get, IfOk, All, Some};
+ghost use Rattle.epochs.specs.Units.{volatile_units, epoch_at, marks_at};
+ghost use Rattle.epochs.specs.Cuts.{cuts_of};
+ghost use Rattle.epochs.specs.Table.{unforced_units, IsRow, RowFits, Found};
+
+use crate::cuts::Cuts;
+use crate::table::{Row, rows_of, rows_up_to};
+use crate::unit::Unit;
+use logfmt::Log;
+use std::alloc::{AllocError, Global};
+use std::marker::Model;
+
+/// A log with the cuts that are wanted of it, and what each of its cuts leaves open
+/// (docs/CRASH-MODEL.md).
+///
+/// Contracts see a plan as a log and a kind of cuts. A log of n entries has the cuts 0 to n, and a
+/// plan answers for each of them, wanted or not.
+#[derive(Drop)]
+pub struct Plan<'a> {
+    log: &'a Log,
+    kind: Cuts,
+    rows: Vec<Row>,
+    cuts: Vec<u32>,
+}
+
+impl<'a> Model for Plan<'a> {
+    ghost use Rattle.epochs.specs.Plan.{PlanValue, IsPlan};
+
+    ghost Value = { PlanValue };
+
+    ghost view = { λ p. record { log = p.log.now; kind = p.kind } };
+
+    ghost invariant = { λ p. IsPlan (record { log = p.log.now; kind = p.kind }) p.rows.items p.cuts.items };
+}
+
+impl<'a> Plan<'a> {
+    ghost use Rattle.epochs.specs.Plan.{IsUnit};
+
+    /// The plan of a log. The calls below take no memory.
+    pub fn new(alloc: Global, log: &'a Log, cuts: Cuts) -> Result<Plan<'a>, AllocError>
+        ensures log { IfOk result (λ plan. plan.log ≡ log.now) }
+        ensures kind { IfOk result (λ plan. plan.kind ≡ cuts) }
+    {
+        let entries = log.entries();
+        let rows = rows_of(alloc, entries)?;
+        let wanted = cuts.of(alloc, entries)?;
+        Ok(Plan {
+            log,
+            kind: cuts,
+            rows,
+            cuts: wanted,
+        })
+    }
+
+    /// The wanted cuts, rising; there may be none.
+    pub fn cuts(&self) -> &[u32]
+        ensures value { result.now ≡ cuts_of self.now.kind self.now.log.entries }
+        ensures within { All (λ cut. cut ≤ length self.now.log.entries) result.now }
+    {
+        self.cuts.as_slice()
+    }
+
+    /// The row of a cut.
+    fn row(&self, cut: u32) -> Row
+        requires { cut ≤ length self.now.log.entries }
+        ensures row { IsRow self.now.log.entries cut result }
+        ensures fits { RowFits result }
+    {
+        self.rows[cut as usize]
+    }
+
+    /// The epoch of a cut: how many flush entries stand before it.
+    pub fn epoch(&self, cut: u32) -> u32
+        requires { cut ≤ length self.now.log.entries }
+        ensures value { result ≡ epoch_at self.now.log.entries cut }
+        ensures bound { result ≤ 65536 }
+    {
+        self.row(cut).epoch
+    }
+
+    /// How many marks stand before a cut.
+    pub fn marks(&self, cut: u32) -> u32
+        requires { cut ≤ length self.now.log.entries }
+        ensures value { result ≡ marks_at self.now.log.entries cut }
+        ensures bound { result ≤ 65536 }
+    {
+        self.row(cut).marks
+    }
+
+    /// How many volatile units a cut has.
+    pub fn volatile(&self, cut: u32) -> u32
+        requires { cut ≤ length self.now.log.entries }
+        ensures value { result ≡ length (volatile_units self.now.log.entries cut) }
+        ensures bound { result ≤ 262144 }
+    {
+        let row = self.row(cut);
+        row.start - row.durable
+    }
+
+    /// A volatile unit of a cut, by its number in their order, by entry and then by sector of the
+    /// entry. It takes a search by halves in the table of cuts.
+    pub fn unit(&self, cut: u32, number: u32) -> Unit
+        requires cut { cut ≤ length self.now.log.entries }
+        requires number { number < length (volatile_units self.now.log.entries cut) }
+        ensures value { slice_get (volatile_units self.now.log.entries cut) number ≡ Some result }
+        ensures unit { IsUnit self.now.log result }
+        ensures before { result.entry < cut }
+    {
+        self.find(self.row(cut).durable + number)
+    }
+
+    /// A unit by its number among those that are not forced.
+    fn find(&self, number: u32) -> Unit
+        requires { number < length (unforced_units self.now.log.entries (length self.now.log.entries)) }
+        ensures value { slice_get (unforced_units self.now.log.entries (length self.now.log.entries)) number ≡ Some result }
+        ensures unit { IsUnit self.now.log result }
+        ensures entry { length (unforced_units self.now.log.entries result.entry) ≤ number }
+    {
+        let entry = self.entry_of(number);
+        let place = number - self.row(entry).start;
+        let first = self.log.entries()[entry as usize].sector as u32;
+        Unit {
+            entry,
+            place,
+            sector: first + place,
+        }
+    }
+
+    /// The entry of a unit, by the unit's number among those that are not forced.
+    fn entry_of(&self, number: u32) -> u32
+        requires { number < length (unforced_units self.now.log.entries (length self.now.log.entries)) }
+        ensures { Found self.now.log.entries number result }
+    {
+        (rows_up_to(self.rows.as_slice(), number) - 1) as u32
+    }
+}
