@@ -37,6 +37,7 @@ pub fn u64_at(bytes: &[u8], at: usize) -> u64
 #[tactic(auto, unfolding(crate::specs::Numbers::number_bytes))]
 pub fn put_u16(out: &mut Vec<u8>, number: u16) -> Result<(), AllocError>
     ensures appended { OnOk result (out.new.items ≡ out.old.items ++ number_bytes 2 number) }
+    ensures kept { OnErr result (out.new.items ≡ out.old.items) }
 {
     let mut bytes = [0u8; 2];
     LittleEndian::write_u16(&mut bytes, number);
@@ -47,6 +48,7 @@ pub fn put_u16(out: &mut Vec<u8>, number: u16) -> Result<(), AllocError>
 #[tactic(auto, unfolding(crate::specs::Numbers::number_bytes))]
 pub fn put_u32(out: &mut Vec<u8>, number: u32) -> Result<(), AllocError>
     ensures appended { OnOk result (out.new.items ≡ out.old.items ++ number_bytes 4 number) }
+    ensures kept { OnErr result (out.new.items ≡ out.old.items) }
 {
     let mut bytes = [0u8; 4];
     LittleEndian::write_u32(&mut bytes, number);
@@ -57,6 +59,7 @@ pub fn put_u32(out: &mut Vec<u8>, number: u32) -> Result<(), AllocError>
 #[tactic(auto, unfolding(crate::specs::Numbers::number_bytes))]
 pub fn put_u64(out: &mut Vec<u8>, number: u64) -> Result<(), AllocError>
     ensures appended { OnOk result (out.new.items ≡ out.old.items ++ number_bytes 8 number) }
+    ensures kept { OnErr result (out.new.items ≡ out.old.items) }
 {
     let mut bytes = [0u8; 8];
     LittleEndian::write_u64(&mut bytes, number);
@@ -67,6 +70,7 @@ pub fn put_u64(out: &mut Vec<u8>, number: u64) -> Result<(), AllocError>
 #[tactic(auto, unfolding(crate::specs::Numbers::zeros))]
 pub fn put_zeros(out: &mut Vec<u8>, count: usize) -> Result<(), AllocError>
     ensures appended { OnOk result (out.new.items ≡ out.old.items ++ zeros count) }
+    ensures kept { OnErr result (out.new.items ≡ out.old.items) }
 {
     match out.len().checked_add(count) {
         Some(length) => out.resize(length, 0),

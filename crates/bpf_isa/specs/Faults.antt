@@ -1,65 +1,114 @@
--- The first fault of bytes that spell no program (docs/MACHINE.md, Encoding).
-use Rattle.std.specs.Prelude.{ℕ, ◌+◌, ◌*◌, ◌/◌, ◌%◌, ◌≡◌, ◌==◌, ◌<◌, not, ◌&&◌, ◌||◌, nat_le, List, [], ◌∷◌, length, Option, None, Some, slice_index, slice_get}
-use Rattle.base.specs.Check.{Check, check, first_failing}
-use Rattle.base.specs.Numbers.{number_at}
+-- Which fields each form has, and the tests of a slot in their order (RFC 9669, sections 3 to 5;
+-- docs/MACHINE.md, Encoding).
+use Rattle.std.specs.Prelude.{ℕ, ◌==◌, nat_lt, ◌&&◌, Bool, true, false, if◌then◌else◌, List, [], ◌∷◌, Option, None, Some}
+use Rattle.base.specs.Check.{Check, check}
 use Rattle.base.specs.declared.causes.CodeCause.{CodeCause}
 use Rattle.base.specs.declared.causes.CodeCause.TheVariants as cause
-use Rattle.bpf_isa.specs.declared.instr.Instr.{Instr}
 use Rattle.bpf_isa.specs.declared.fields.Fields.{Fields}
-use Rattle.bpf_isa.specs.Spelling.{fields_of}
+use Rattle.bpf_isa.specs.declared.form.Form.{Form}
+use Rattle.bpf_isa.specs.declared.form.Form.TheVariants as form
+use Rattle.bpf_isa.specs.declared.instr.Width.{Width}
+use Rattle.bpf_isa.specs.declared.instr.Width.TheVariants as width
+use Rattle.bpf_isa.specs.declared.instr.Operator.{Operator}
+use Rattle.bpf_isa.specs.declared.instr.Operator.TheVariants as op
 
--- the fields that stand in slot s
-unfoldable pub fields_at : List ℕ → ℕ → Fields
-fields_at bytes s = record {
-  opcode = slice_index bytes (8 * s);
-  dst = slice_index bytes (8 * s + 1) % 16;
-  src = slice_index bytes (8 * s + 1) / 16;
-  offset = number_at 2 (8 * s + 2) bytes;
-  immediate = number_at 4 (8 * s + 4) bytes;
-}
+-- what stands in a register field: a register, a number that tells the kind of source (of which
+-- only 0 is known), or nothing, so that it is zero
+pub data Use : Type 0 where
+  Named : Use
+  Kind : Use
+  Unused : Use
 
--- the checks of a slot in their order
-unfoldable pub slot_checks : Fields → List (Check CodeCause)
-slot_checks f =
-    check cause.Opcode ((f.opcode == 0xb7) || (f.opcode == 0x95))
-    ∷ check cause.Register (not (f.opcode == 0xb7) || nat_le f.dst 10)
-    ∷ check cause.Field ((f.src == 0) && (f.offset == 0) && ((f.opcode == 0xb7) || ((f.dst == 0) && (f.immediate == 0))))
+-- the numbers that may stand in a field
+pub data Values : Type 0 where
+  Any : Values
+  Only : List ℕ → Values
+
+pub record Layout : Type 0 where
+  pub dst : Use
+  pub src : Use
+  pub offsets : Values
+  pub immediates : Values
+
+abbrev pub layout : Use → Use → Values → Values → Layout
+layout dst src offsets immediates = record { dst = dst; src = src; offsets = offsets; immediates = immediates }
+
+abbrev pub zero_only : Values
+zero_only = Only (0 ∷ [])
+
+-- division and modulo have a signed form, of offset 1
+abbrev pub offsets_of : Operator → List ℕ
+offsets_of op.Div = 0 ∷ 1 ∷ []
+offsets_of op.SignedDiv = 0 ∷ 1 ∷ []
+offsets_of op.Mod = 0 ∷ 1 ∷ []
+offsets_of op.SignedMod = 0 ∷ 1 ∷ []
+offsets_of _ = 0 ∷ []
+
+-- a move from a register may extend the sign of its low 8, 16 or 32 bits
+abbrev pub move_offsets : Width → List ℕ
+move_offsets width.W32 = 0 ∷ 8 ∷ 16 ∷ []
+move_offsets width.W64 = 0 ∷ 8 ∷ 16 ∷ 32 ∷ []
+
+abbrev pub register_offsets : Width → Operator → List ℕ
+register_offsets w op.Mov = move_offsets w
+register_offsets w o = offsets_of o
+
+-- the fields of each form. A call has the kind of source 0 alone, a helper, until programs have
+-- functions of their own.
+unfoldable pub layout_of : Form → Layout
+layout_of (form.Arithmetic w o false) = layout Named Unused (Only (offsets_of o)) Any
+layout_of (form.Arithmetic w o true) = layout Named Named (Only (register_offsets w o)) zero_only
+layout_of (form.Negate w) = layout Named Unused zero_only zero_only
+layout_of (form.ByteOrder o) = layout Named Unused zero_only (Only (16 ∷ 32 ∷ 64 ∷ []))
+layout_of form.Jump = layout Unused Unused Any zero_only
+layout_of form.LongJump = layout Unused Unused zero_only Any
+layout_of (form.Branch w c false) = layout Named Unused Any Any
+layout_of (form.Branch w c true) = layout Named Named Any zero_only
+layout_of form.Call = layout Unused Kind zero_only Any
+layout_of form.Exit = layout Unused Unused zero_only zero_only
+layout_of (form.Load s) = layout Named Named Any zero_only
+layout_of (form.LoadSigned s) = layout Named Named Any zero_only
+layout_of (form.StoreImmediate s) = layout Named Unused Any Any
+layout_of (form.Store s) = layout Named Named Any zero_only
+layout_of form.LoadImmediate = layout Named Kind zero_only Any
+
+-- a number that may name a register or a kind of source
+abbrev pub is_known : Use → ℕ → Bool
+is_known Named n = nat_lt n 11
+is_known Kind n = n == 0
+is_known Unused n = true
+
+abbrev pub is_clear : Use → ℕ → Bool
+is_clear Unused n = n == 0
+is_clear _ n = true
+
+abbrev pub is_one_of : List ℕ → ℕ → Bool
+is_one_of [] n = false
+is_one_of (x ∷ xs) n = if n == x then true else is_one_of xs n
+
+abbrev pub is_among : Values → ℕ → Bool
+is_among Any n = true
+is_among (Only xs) n = is_one_of xs n
+
+-- the second slot of an instruction has nothing but an immediate
+abbrev pub is_second : Option Fields → Bool
+is_second None = false
+is_second (Some s) = (s.opcode == 0) && (s.dst == 0) && (s.src == 0) && (s.offset == 0)
+
+abbrev pub has_its_second : Form → Option Fields → Bool
+has_its_second form.LoadImmediate next = is_second next
+has_its_second _ next = true
+
+-- the tests of the fields of a slot, where the next slot has the fields `next`
+unfoldable pub checks : Form → Fields → Option Fields → List (Check CodeCause)
+checks f s next =
+    let l = layout_of f in
+    check cause.Register (is_known l.dst s.dst && is_known l.src s.src)
+    ∷ check cause.Field (is_clear l.dst s.dst && is_clear l.src s.src && is_among l.offsets s.offset && is_among l.immediates s.immediate)
+    ∷ check cause.SecondHalf (has_its_second f next)
     ∷ []
 
-abbrev pub slot_fault : List ℕ → ℕ → Option CodeCause
-slot_fault bytes s = first_failing (slot_checks (fields_at bytes s))
-
--- the checks of the length, the first two
-unfoldable pub length_checks : List ℕ → List (Check CodeCause)
-length_checks bytes =
-    check cause.Length (length bytes % 8 == 0)
-    ∷ check cause.SlotCount (nat_le 1 (length bytes) && nat_le (length bytes) 32768)
-    ∷ []
-
--- the slot that a fault of the length names: a length names the slot that is cut, a count slot 0
-abbrev pub length_place : List ℕ → CodeCause → ℕ
-length_place bytes cause.Length = length bytes / 8
-length_place bytes _ = 0
-
--- the first n slots pass
-abbrev pub SlotsPass : List ℕ → ℕ → Type 0
-SlotsPass bytes n = (s : ℕ) → s < n → slot_fault bytes s ≡ None
-
--- the first fault is this cause at this slot
-pub data FirstFault (bytes : List ℕ) : CodeCause → ℕ → Type 0 where
-  in_length : (c : CodeCause) → first_failing (length_checks bytes) ≡ Some c → FirstFault bytes c (length_place bytes c)
-  in_slot : (c : CodeCause) (s : ℕ) → first_failing (length_checks bytes) ≡ None → s < length bytes / 8 → SlotsPass bytes s
-      → slot_fault bytes s ≡ Some c → FirstFault bytes c s
-
--- no check fails
-abbrev pub HasNoFault : List ℕ → Type 0
-HasNoFault bytes = (first_failing (length_checks bytes) ≡ None) × SlotsPass bytes (length bytes / 8)
-
--- an instruction stands in slot s, and the slot has its fields
-abbrev pub SpellsSlot : List ℕ → List (Option Instr) → ℕ → Type 0
-SpellsSlot bytes slots s = (i : Instr) × (slice_get slots s ≡ Some (Some i)) × (fields_at bytes s ≡ fields_of i)
-
--- the bytes spell what stands in these slots
-pub record IsSpelledBy (bytes : List ℕ) (slots : List (Option Instr)) : Type 0 where
-  pub count : length bytes ≡ 8 * length slots
-  pub spelled : (s : ℕ) → s < length slots → SpellsSlot bytes slots s
+-- the tests of a slot
+abbrev pub slot_checks : Option Form → Fields → Option Fields → List (Check CodeCause)
+slot_checks None s next = check cause.Opcode false ∷ []
+slot_checks (Some f) s next = checks f s next

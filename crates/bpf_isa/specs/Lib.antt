@@ -1,3 +1,11 @@
--- How instructions and programs are spelled in bytes.
+-- What the crate's contracts cite.
+pub mod Table
+pub mod Fields
 pub mod Spelling
 pub mod Faults
+pub mod Forms
+pub mod Decoding
+pub mod Program
+pub mod Laws
+pub mod Ready
+pub mod Running

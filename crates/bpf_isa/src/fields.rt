@@ -1,16 +1,14 @@
-//! The fields of a slot.
+//! The five fields of a slot of eight bytes.
 
-ghost use Rattle.std.specs.Prelude.{◌≡◌, ◌≤◌, ◌+◌, ◌*◌, length};
-ghost use Rattle.bpf_isa.specs.Faults.{fields_at};
+ghost use Rattle.std.specs.Prelude.{◌≡◌, ◌≤◌, ◌<◌, ◌+◌, ◌*◌, ◌++◌, length, OnOk, None};
+ghost use Rattle.bpf_isa.specs.Fields.{fields_at, field_bytes, slot_at};
 
-use base::numbers::{u16_at, u32_at};
+use base::numbers::{put_u16, put_u32, u16_at, u32_at};
+use std::alloc::AllocError;
 
-/// The length of a slot, in bytes.
-pub(crate) const SLOT: usize = 8;
-
-/// The fields of a slot (RFC 9669, section 3).
-#[derive(Clone, Copy)]
-pub(crate) struct Fields {
+/// The fields of a slot (RFC 9669, section 3.1); the offset and the immediate as their bits.
+#[derive(Clone, Copy, Debug, PartialEq, Eq)]
+pub struct Fields {
     pub opcode: u8,
     pub dst: u8,
     pub src: u8,
@@ -18,18 +16,44 @@ pub(crate) struct Fields {
     pub immediate: u32,
 }
 
-/// The fields that stand in a slot.
-#[tactic(auto, unfolding(crate::specs::Faults::fields_at))]
-pub(crate) fn fields_in(bytes: &[u8], slot: usize) -> Fields
+/// The fields of this slot.
+#[tactic(auto, unfolding(crate::specs::Fields::fields_at))]
+pub fn read_fields(bytes: &[u8], slot: usize) -> Fields
     requires { 8 * slot + 8 ≤ length bytes.now }
     ensures { result ≡ fields_at bytes.now slot }
 {
-    let at = SLOT * slot;
+    let place = 8 * slot;
+    let registers = bytes[place + 1];
     Fields {
-        opcode: bytes[at],
-        dst: bytes[at + 1] % 16,
-        src: bytes[at + 1] / 16,
-        offset: u16_at(bytes, at + 2),
-        immediate: u32_at(bytes, at + 4),
+        opcode: bytes[place],
+        dst: registers % 16,
+        src: registers / 16,
+        offset: u16_at(bytes, place + 2),
+        immediate: u32_at(bytes, place + 4),
     }
+}
+
+/// The fields of this slot, if the bytes reach that far.
+#[tactic(auto, unfolding(crate::specs::Fields::slot_at))]
+pub fn read_slot(bytes: &[u8], slot: usize) -> Option<Fields>
+    ensures { result ≡ slot_at bytes.now slot }
+{
+    if slot < bytes.len() / 8 {
+        Some(read_fields(bytes, slot))
+    } else {
+        None
+    }
+}
+
+/// Appends the eight bytes of a slot.
+#[tactic(auto, unfolding(crate::specs::Fields::field_bytes))]
+pub fn put_fields(out: &mut Vec<u8>, fields: Fields) -> Result<(), AllocError>
+    requires dst { fields.dst < 16 }
+    requires src { fields.src < 16 }
+    ensures appended { OnOk result (out.new.items ≡ out.old.items ++ field_bytes fields) }
+{
+    out.push(fields.opcode)?;
+    out.push(fields.dst + 16 * fields.src)?;
+    put_u16(out, fields.offset)?;
+    put_u32(out, fields.immediate)
 }

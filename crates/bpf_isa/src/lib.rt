@@ -1,46 +1,56 @@
-//! BPF instructions: from the bytes of a program to its instructions, and back.
+//! BPF instructions and programs, and their encoding both ways (RFC 9669).
 //!
-//! A program is a list of slots of eight bytes (RFC 9669, section 3). `decode` makes instructions of
-//! them, `encode` makes the bytes again, and `Program::of` makes a program of instructions. An
-//! instruction is a value by its form, whose fields keep their ranges by their types: a `Register` is
-//! 0 to 10.
+//! This crate stands on `base`. The assembler, the verifier and the machine stand on
+//! it: they take instructions and programs from here and never look at bytes.
 //!
-//! So far two instructions are known: the move of an immediate to a register, and exit. Every other
-//! opcode is refused.
+//! - `register`, `instr`: `Register`, which holds 0 to 10, and `Instr`, an enum by form whose fields
+//!   keep their ranges by their types. There is no instruction that cannot be encoded.
+//! - `program`: `Program`, 1 to 4,096 slots. Contracts see it as the list of its slots, each with the
+//!   instruction that begins there, or none in the second half of an instruction of two slots.
+//! - `codec`: `decode` and `encode`.
+//! - `ready`: the record that a program keeps for each slot, of one shape, with one fieldless `Code`,
+//!   the registers, the absolute target and the constant. The machine runs over these.
+//! - `form`, `fields`, `from_fields`, `to_fields`: the table of opcodes, the five fields of a slot, and each
+//!   form from its fields and back. Only this crate calls them.
+//! - `laws`: what holds of the encoding as a whole.
 //!
-//! # Place
+//! The encoding is stated once, in `specs/`: `Table` has the opcode of each form, `Spelling` the fields
+//! of each instruction and so its bytes, `Faults` which values each form takes in which field. A
+//! refusal is the first test that fails, of an ordered list.
 //!
-//! It stands on `base`, whose numbers in bytes and whose `CodeCause` it takes. The machine, the
-//! interpreter and the program stand on it.
+//! The contract, in words:
 //!
-//! # What is proved
+//! - `decode` answers a program exactly where the bytes are its instructions, one after the other, and
+//!   else, want of memory aside, the first fault: a slot that is cut, the number of slots, then slot by
+//!   slot an unknown opcode, an unknown register or kind of source, another field with a value that it
+//!   may not have, a second half that is missing or has another form. A fault names its slot.
+//! - `encode` answers the bytes that spell the program.
+//! - `Program::of` answers the program of these instructions, and refuses exactly where they take no
+//!   slot or more than 4,096, want of memory aside.
+//! - Bytes spell one program at most, have one first fault at most, and never both. So what `encode`
+//!   answers is decoded to the same program.
 //!
-//! - `fields_of` gives the fields of an instruction, and `slot_bytes` how they lie in a slot. Where
-//!   `decode` is `Ok`, each slot of the bytes has the fields of its instruction, and no check fails.
-//! - Where it is `Err`, the fault is the first in the order of docs/MACHINE.md, with its slot, or
-//!   memory ran out.
-//! - `encode` gives the bytes of the instructions, one after the other. `Program::of` is the program
-//!   of its instructions, and refuses exactly no instruction and more than 4,096 slots.
-//!
-//! # Example
-//!
+//! ```text
+//! let program = decode(alloc, &[0xb7, 0, 0, 0, 7, 0, 0, 0, 0x95, 0, 0, 0, 0, 0, 0, 0])?;
+//! program.slots()                      // 2: mov64 r0, 7; exit
+//! program.at(1)                        // Some(Instr::Exit)
+//! encode(alloc, &program)?             // the same sixteen bytes
+//! decode(alloc, &[0xb7, 11, 0, 0, 0, 0, 0, 0])     // refused: register, slot 0
 //! ```
-//! let program = decode(alloc, &[0xb7, 0, 0, 0, 1, 0, 0, 0, 0x95, 0, 0, 0, 0, 0, 0, 0])?;
-//! // program.slots() is 2, program.at(1) is Some(Instr::Exit)
-//! ```
+//!
+//! Calls of functions of the program itself (a call with source 1) are refused as an unknown source.
+//! They will be one more form in `Form`, `Instr`, `Code` and the tables, beside the call of a helper.
 #![tactic(auto)]
 
-mod decoder;
-mod encoder;
-mod fault;
+pub mod codec;
 mod fields;
-mod instr;
-mod program;
-mod register;
-
-pub use decoder::decode;
-pub use encoder::encode;
-pub use fault::CodeFault;
-pub use instr::Instr;
-pub use program::{MAX_SLOTS, Program};
-pub use register::Register;
+mod form;
+mod from_fields;
+pub mod instr;
+pub mod laws;
+pub mod program;
+pub mod ready;
+pub mod register;
+#[cfg(test)]
+mod tests;
+mod to_fields;

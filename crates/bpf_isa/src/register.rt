@@ -1,10 +1,10 @@
 //! The registers of the machine.
 
-ghost use Rattle.std.specs.Prelude.{◌≡◌, ◌<◌, ◌≤◌, ◌↔◌, IsSome, IfSome};
+ghost use Rattle.std.specs.Prelude.{◌≡◌, ◌<◌, nat_lt, if◌then◌else◌};
 
 use std::marker::Model;
 
-/// One of the eleven registers (RFC 9669, section 2.1), seen by contracts as its number, 0 to 10.
+/// A register: r0 to r10 (RFC 9669, section 2.1).
 #[derive(Clone, Copy, Debug, PartialEq, Eq)]
 pub struct Register {
     number: u8,
@@ -23,22 +23,28 @@ impl Model for Register {
 }
 
 impl Register {
-    /// The register of that number, or none above 10.
-    pub fn of(number: u8) -> Option<Register>
-        ensures known { IsSome result ↔ (number ≤ 10) }
-        ensures value { IfSome result (λ r. r ≡ number) }
+    /// r0, in which a helper and the program answer.
+    pub const FIRST: Register = Register { number: 0 };
+
+    /// r10, the end of the stack of the running frame, which no instruction may write.
+    pub const FRAME_POINTER: Register = Register { number: 10 };
+
+    /// The register of this number, if there is one.
+    pub fn new(number: u8) -> Option<Register>
+        ensures { result ≡ (if nat_lt number 11 then Some number else None) }
     {
-        if number > 10 {
-            return None;
+        if number < 11 {
+            Some(Register { number })
+        } else {
+            None
         }
-        Some(Register { number })
     }
 
-    /// Its number, 0 to 10.
-    pub fn number(self) -> u8
+    /// Its number.
+    pub fn number(self) -> usize
         ensures value { result ≡ self }
-        ensures bound { result ≤ 10 }
+        ensures bound { result < 11 }
     {
-        self.number
+        self.number as usize
     }
 }

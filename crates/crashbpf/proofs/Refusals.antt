@@ -9,7 +9,7 @@ use Rattle.shares.specs.declared.refusal.Refusal.{Refusal}
 use Rattle.logfmt.specs.declared.fault.LogFault.{LogFault}
 use Rattle.logfmt.specs.Faults as log_fault
 use Rattle.bpf_isa.specs.declared.instr.Instr.{Instr}
-use Rattle.bpf_isa.specs.Faults.{IsSpelledBy, HasNoFault}
+use Rattle.bpf_isa.specs.Program.{IsSpelledBy, HasNoFault}
 use Rattle.crashbpf.specs.Explore.{log_refusal, code_refusal, RefusesLog, with_fault, no_memory, RefusesCode, with_code_fault, no_code_memory, IsCodeFault, AreSpelledBy}
 
 -- what `read` answers
@@ -37,7 +37,7 @@ spelled_next files n bytes programs slots there so spelled clean =
 pub code_refused : (files : List (List ℕ)) (n : ℕ) (bytes : List ℕ) (programs : List (List (Option Instr))) (r : Refusal)
     → slice_get files n ≡ Some bytes → AreSpelledBy (take n files) programs
     → (r ≡ code_refusal n code.Memory 0) ⊎ IsCodeFault n bytes r → RefusesCode files r
-code_refused files n bytes programs r there so (inl e) = rw e (no_code_memory n)
+code_refused files n bytes programs r there so (inl e) = rw e (no_code_memory n (slice_get_within files n bytes there))
 code_refused files n bytes programs r there so (inr h) = with_code_fault r n bytes programs so there h
 
 -- the bytes of file n

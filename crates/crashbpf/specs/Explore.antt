@@ -1,5 +1,5 @@
 -- What a run answers, and when it refuses (docs/REPORT.md).
-use Rattle.std.specs.Prelude.{ℕ, ◌+◌, ◌≡◌, ◌≢◌, Bool, IsTrue, ◌↔◌, not, List, [], ◌∷◌, length, map, take, Option, None, Some, slice_get, position}
+use Rattle.std.specs.Prelude.{ℕ, ◌+◌, ◌≡◌, ◌≢◌, ◌<◌, Bool, IsTrue, ◌↔◌, not, List, [], ◌∷◌, length, map, take, Option, None, Some, slice_get, position}
 use Rattle.base.specs.declared.causes.LogCause.{LogCause}
 use Rattle.base.specs.declared.causes.LogCause.TheVariants as log
 use Rattle.base.specs.declared.causes.CodeCause.{CodeCause}
@@ -12,7 +12,7 @@ use Rattle.logfmt.specs.Bounds.{LogValue}
 use Rattle.logfmt.specs.LogText.{LogText}
 use Rattle.logfmt.specs.Faults as log_fault
 use Rattle.bpf_isa.specs.declared.instr.Instr.{Instr}
-use Rattle.bpf_isa.specs.Faults as code_fault
+use Rattle.bpf_isa.specs.Program as code_fault
 use Rattle.crashbpf.specs.Settings.{Settings, option_refusal, limit_of}
 use Rattle.crashbpf.specs.Images.{is_built}
 use Rattle.crashbpf.specs.Failing.{Subject, failing_lines}
@@ -93,7 +93,7 @@ pub data RefusesLog (text : List ℕ) (sectors : ℕ) : Refusal → Type 0 where
 pub data RefusesCode (files : List (List ℕ)) : Refusal → Type 0 where
   with_code_fault : (r : Refusal) (program : ℕ) (bytes : List ℕ) (before : List (List (Option Instr)))
       → AreSpelledBy (take program files) before → slice_get files program ≡ Some bytes → IsCodeFault program bytes r → RefusesCode files r
-  no_code_memory : (program : ℕ) → RefusesCode files (code_refusal program code.Memory 0)
+  no_code_memory : (program : ℕ) → program < length files → RefusesCode files (code_refusal program code.Memory 0)
   no_list_memory : RefusesCode files work_refusal
 
 -- the refusals in their order: the number of programs, the log, then each program. Want of memory may
@@ -102,4 +102,4 @@ pub data Refuses (text : List ℕ) (files : List (List ℕ)) (s : Settings) : Re
   for_count : length files ≢ 1 → Refuses text files s (option_refusal 6)
   for_log : (r : Refusal) → length files ≡ 1 → RefusesLog text s.sectors r → Refuses text files s r
   for_code : (r : Refusal) → length files ≡ 1 → IsBuiltLog text s → RefusesCode files r → Refuses text files s r
-  for_memory : length files ≡ 1 → Refuses text files s work_refusal
+  for_memory : (programs : List (List (Option Instr))) → length files ≡ 1 → IsBuiltLog text s → AreSpelledBy files programs → Refuses text files s work_refusal

@@ -1,20 +1,13 @@
 -- The crash images of a log, as far as they are built: those of a log that writes nothing, on a device
 -- that starts as zeros (docs/CRASH-MODEL.md).
-use Rattle.std.specs.Prelude.{ℕ, ◌==◌, Bool, not, ◌&&◌, List, take, count_by, replicate}
+use Rattle.std.specs.Prelude.{ℕ, ◌==◌, Bool, not, ◌&&◌, List, replicate}
 use Rattle.logfmt.specs.declared.entry.Entry.{Entry}
-use Rattle.helpers.specs.declared.Context.{Context}
-
--- the epoch of a cut is the number of flush entries before it
-abbrev pub epoch : List Entry → ℕ → ℕ
-epoch es cut = count_by (λ (e : Entry). e.flags.flush) (take cut es)
-
--- how many marks are passed at a cut
-abbrev pub marks : List Entry → ℕ → ℕ
-marks es cut = count_by (λ (e : Entry). e.flags.mark) (take cut es)
+use Rattle.helpers.specs.declared.device.Context.{Context}
+use Rattle.epochs.specs.Units.{epoch_at, marks_at}
 
 -- what a program is told of an image of that cut
 abbrev pub context_at : ℕ → List Entry → ℕ → Context
-context_at sectors es cut = record { sectors = sectors; epoch = epoch es cut; marks = marks es cut }
+context_at sectors es cut = record { sectors = sectors; epoch = epoch_at es cut; marks = marks_at es cut }
 
 -- a device on which nothing was written
 unfoldable pub blank : ℕ → List (List ℕ)

@@ -4,8 +4,8 @@ use Rattle.std.specs.Fmt.{decimal}
 use Rattle.std.specs.List.{flat_map, list_any}
 use Rattle.base.specs.Causes.{fault_number}
 use Rattle.machine.specs.Outcome.{Ending, Verdict, Stopped, OutOfSteps}
-use Rattle.crashbpf.specs.declared.cuts.Cuts.{Cuts}
-use Rattle.crashbpf.specs.declared.cuts.Cuts.TheVariants.{All, BeforeFlush, AfterMark}
+use Rattle.epochs.specs.declared.cuts.Cuts.{Cuts}
+use Rattle.epochs.specs.declared.cuts.Cuts.TheVariants.{All, BeforeFlush, AfterMark}
 use Rattle.crashbpf.specs.declared.report.ProgramHead.{ProgramHead}
 use Rattle.crashbpf.specs.Failing.{FailingLine}
 
@@ -50,7 +50,7 @@ abbrev pub program_lines : ℕ → List ProgramHead → List ℕ
 program_lines number [] = []
 program_lines number (p ∷ ps) = program_line number p ++ program_lines (number + 1) ps
 
--- the codes of a verdict, joined by commas; a bar where there is none
+-- the codes of a verdict, joined by commas; a hyphen where there is none
 unfoldable pub codes_text : List ℕ → List ℕ
 codes_text [] = codes "-"
 codes_text (c ∷ cs) = decimal c ++ flat_map (λ (n : ℕ). codes "," ++ decimal n) cs
@@ -60,7 +60,7 @@ ending_text (Verdict answer numbers) = codes "answer " ++ decimal answer ++ code
 ending_text (Stopped cause slot) = codes "fault " ++ decimal (fault_number cause) ++ codes " slot " ++ decimal slot
 ending_text OutOfSteps = codes "out of steps"
 
--- a failing line; no unit departs from the log, so the choice is a bar
+-- a failing line; no unit departs from the log, so the choice is a hyphen
 unfoldable pub line_text : FailingLine → List ℕ
 line_text l =
     codes "image " ++ decimal l.image ++ codes " cut " ++ decimal l.cut ++ codes " program " ++ decimal l.program ++ codes " "

@@ -5,8 +5,8 @@ use Rattle.base.specs.Check.{Check, check, first_failing}
 use Rattle.base.specs.declared.causes.RequestCause.TheVariants as request
 use Rattle.shares.specs.declared.refusal.Refusal.{Refusal}
 use Rattle.shares.specs.declared.refusal.Cause.TheVariants.{Request}
-use Rattle.crashbpf.specs.declared.cuts.Cuts.{Cuts}
-use Rattle.crashbpf.specs.declared.cuts.Cuts.TheVariants.{All, BeforeFlush, AfterMark}
+use Rattle.epochs.specs.declared.cuts.Cuts.{Cuts}
+use Rattle.epochs.specs.declared.cuts.Cuts.TheVariants.{All, BeforeFlush, AfterMark}
 
 -- what a run is asked
 pub record Settings : Type 0 where

@@ -1,13 +1,14 @@
 //! Performing a command.
 
-ghost use Rattle.std.specs.Prelude.{◌≡◌, ◌⊎◌, IfOk};
+ghost use Rattle.std.specs.Prelude.{◌≡◌, ◌⊎◌, IfOk, map, if◌then◌else◌};
+ghost use Rattle.crashbpf.specs.Explore.{HasReport};
 
-use crate::cuts::Cuts;
 use crate::explorer::{Explored, explore_with, no_memory};
 use crate::gate::OpenGate;
 use crate::options::{Options, option_refusal_at};
 use crate::words::{OptionWords, Request, Words};
 use base::causes::RequestCause;
+use epochs::Cuts;
 use shares::{Cause, Refusal};
 use std::alloc::{AllocError, Global};
 
@@ -34,7 +35,7 @@ const STORED_OPTIONS: OptionWords = OptionWords {
 
 /// The status of a command that found no failing image, and of one that found some.
 fn status_of(explored: &Explored) -> u8
-    ensures { (result ≡ 0) ⊎ (result ≡ 1) }
+    ensures { result ≡ (if explored.now.failing then 1 else 0) }
 {
     if explored.failing { 1 } else { 0 }
 }
@@ -89,6 +90,7 @@ fn explore_files(
     options: &Options,
 ) -> Result<(Vec<u8>, u8), Refusal>
     ensures status { IfOk result (λ answer. (answer.1 ≡ 0) ⊎ (answer.1 ≡ 1)) }
+    ensures report { IfOk result (λ answer. HasReport log.now (map (λ f. f.items) programs.now) options.now answer.0.items) }
 {
     let explored = explore_with(alloc, &OpenGate, log, programs, options)?;
     let status = status_of(&explored);
@@ -105,8 +107,8 @@ fn stored_files(alloc: Global) -> Result<(Vec<u8>, Vec<Vec<u8>>), AllocError> {
 }
 
 /// Performs a command on what its files hold, one for each of `Words::files`, none where a file could
-/// not be read. Answers the bytes for standard output and the status: 0 where no image fails, 1 where
-/// some do.
+/// not be read; with no file at all the log cannot be read. Answers the bytes for standard output and
+/// the status: 0 where no image fails, 1 where some do.
 ///
 /// # Errors
 ///

@@ -2,14 +2,14 @@
 
 ghost use Rattle.std.specs.Prelude.{◌≡◌, ◌≤◌, ◌<◌, ◌+◌, ◌*◌, ◌-◌, ◌++◌, [], ◌∷◌, min, length, OnOk, IfOk, IsTrue, slice_get, Some};
 ghost use Rattle.interp.specs.Ending.{ending_of};
-ghost use Rattle.crashbpf.specs.Images.{epoch, marks, context_at};
+ghost use Rattle.crashbpf.specs.Images.{context_at};
 ghost use Rattle.crashbpf.specs.Failing.{fails, judged, line_if, line_of, image_lines, image_count, lines_from, failing_lines};
 ghost use Rattle.crashbpf.specs.Lines.{line_list};
 
 use crate::blank::Blank;
 use crate::gate::Gate;
 use crate::report::{Line, Lines};
-use bpf_isa::Program;
+use bpf_isa::program::Program;
 use helpers::Context;
 use interp::{Outcome, run_checked};
 use logfmt::Entry;

@@ -41,7 +41,6 @@
 
 mod action;
 mod blank;
-mod cuts;
 mod explorer;
 mod gate;
 mod judge;
@@ -53,7 +52,7 @@ mod tests;
 mod words;
 
 pub use action::act;
-pub use cuts::Cuts;
+pub use epochs::Cuts;
 pub use explorer::{Explored, explore, explore_with};
 pub use gate::Gate;
 pub use options::Options;

@@ -4,8 +4,8 @@ ghost use Rattle.std.specs.Prelude.{◌≡◌, ◌≤◌, MatchResult, IfOk, Non
 ghost use Rattle.base.specs.Check.{first_failing};
 ghost use Rattle.crashbpf.specs.Settings.{option_checks, option_refusal, limit_of, IsAsked};
 
-use crate::cuts::Cuts;
 use base::causes::RequestCause;
+use epochs::Cuts;
 use shares::{Cause, Refusal};
 use std::marker::Model;
 

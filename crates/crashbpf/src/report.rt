@@ -9,7 +9,7 @@ ghost use Rattle.crashbpf.specs.Failing.{FailingLine};
 ghost use Rattle.crashbpf.specs.Lines.{line_value, is_image};
 ghost use Rattle.crashbpf.specs.Report.{yes_or_no, cuts_word, options_line, device_text, choices_text, program_line, program_lines, codes_text, ending_text, line_text, totals_line, failing_images, report_bytes};
 
-use crate::cuts::Cuts;
+use epochs::Cuts;
 use interp::Outcome;
 use std::alloc::{AllocError, Global};
 use std::marker::Model;

@@ -18,6 +18,36 @@ const MOVE_TO_R10: [u8; 16] = [0xb7, 10, 0, 0, 0, 0, 0, 0, 0x95, 0, 0, 0, 0, 0, 
 
 const MOVE_TO_R11: [u8; 16] = [0xb7, 11, 0, 0, 0, 0, 0, 0, 0x95, 0, 0, 0, 0, 0, 0, 0];
 
+/// Two nested loops by helper 3, which end with the 29th step.
+const NESTED_LOOPS: [u8; 72] = [
+    0xb7, 0x01, 0, 0, 2, 0, 0, 0, //
+    0x85, 0, 0, 0, 3, 0, 0, 0, //
+    0x15, 0, 4, 0, 0, 0, 0, 0, //
+    0xb7, 0x01, 0, 0, 3, 0, 0, 0, //
+    0x85, 0, 0, 0, 3, 0, 0, 0, //
+    0x15, 0, 0xfa, 0xff, 0, 0, 0, 0, //
+    0x05, 0, 0xfc, 0xff, 0, 0, 0, 0, //
+    0xb7, 0, 0, 0, 0, 0, 0, 0, //
+    0x95, 0, 0, 0, 0, 0, 0, 0,
+];
+
+/// Reports 17 codes, of which 16 are kept, and answers 1.
+const REPORT_CODES: [u8; 80] = [
+    0xb7, 0x06, 0, 0, 0, 0, 0, 0, //
+    0xb7, 0x01, 0, 0, 17, 0, 0, 0, //
+    0x85, 0, 0, 0, 3, 0, 0, 0, //
+    0x15, 0, 4, 0, 0, 0, 0, 0, //
+    0xbf, 0x61, 0, 0, 0, 0, 0, 0, //
+    0x85, 0, 0, 0, 4, 0, 0, 0, //
+    0x07, 0x06, 0, 0, 1, 0, 0, 0, //
+    0x05, 0, 0xf9, 0xff, 0, 0, 0, 0, //
+    0xb7, 0, 0, 0, 1, 0, 0, 0, //
+    0x95, 0, 0, 0, 0, 0, 0, 0,
+];
+
+/// Answers how many marks were passed.
+const MARKS_PASSED: [u8; 16] = [0x79, 0x10, 16, 0, 0, 0, 0, 0, 0x95, 0, 0, 0, 0, 0, 0, 0];
+
 /// A sector that begins with these bytes.
 fn put_sector(log: &mut Vec<u8>, head: &[u8]) -> Result<(), Fail> {
     let end = log.len().checked_add(512).ok_or("a short log")?;
@@ -119,6 +149,37 @@ fn reports_the_empty_log(rt: HostRuntime) -> Result<(), Fail> {
         let wanted = format!(in alloc; "{head}{rest}")?;
         assert_eq!(rt; bytes.as_slice(), wanted.as_bytes(), "limit {checked}");
         assert_eq!(rt; found, status, "limit {checked}");
+    }
+    Ok(())
+}
+
+#[test]
+fn runs_loops_helpers_and_loads(rt: HostRuntime) -> Result<(), Fail> {
+    let alloc = rt.alloc();
+    let codes =
+        "image 0 cut 0 program 0 answer 1 codes 0,1,2,3,4,5,6,7,8,9,10,11,12,13,14,15 choice -\n";
+    let late = "image 0 cut 0 program 0 out of steps choice -\n";
+    let rows = [
+        (29, NESTED_LOOPS.as_slice(), 9, "", 0),
+        (28, NESTED_LOOPS.as_slice(), 9, late, 1),
+        (162, REPORT_CODES.as_slice(), 10, codes, 1),
+        (2, MARKS_PASSED.as_slice(), 2, "", 0),
+    ];
+    for (checked, program, slots, lines, failing) in rows {
+        let line = format!(in alloc;
+            "explore log program --sectors 1 --bound 0 --checked {checked}"
+        )?;
+        let (bytes, status) = acted(alloc, line.as_str(), flushes(alloc, 0)?, program)?;
+        let mut wanted =
+            "crash report 1\nsectors 1 entries 0 cuts all bound 0 tears no first no\n".to_string(
+                alloc,
+            )?;
+        write!(
+            wanted,
+            "program 0 slots {slots} limit {checked}\n{lines}images 1 failing {failing} lines {failing}\n"
+        )?;
+        assert_eq!(rt; bytes.as_slice(), wanted.as_bytes(), "limit {checked}");
+        assert_eq!(rt; status, failing, "limit {checked}");
     }
     Ok(())
 }
@@ -238,7 +299,7 @@ fn refuses_with_number_and_place(rt: HostRuntime) -> Result<(), Fail> {
         (
             usual,
             512,
-            [0xb7, 0, 0, 0, 0, 0, 0, 0, 0x07, 0, 0, 0, 0, 0, 0, 0].as_slice(),
+            [0xb7, 0, 0, 0, 0, 0, 0, 0, 0xff, 0, 0, 0, 0, 0, 0, 0].as_slice(),
             "refused 22 at 1 of program 0\n",
         ),
         (
@@ -276,6 +337,74 @@ fn refuses_what_is_not_built(rt: HostRuntime) -> Result<(), Fail> {
     Ok(())
 }
 
+/// The refusal of a command whose files hold these, none where one cannot be read.
+fn refused(alloc: Global, line: &str, readable: &[bool]) -> Result<Vec<u8>, Fail> {
+    let words = words_of(alloc, line)?;
+    let mut files = Vec::new(alloc);
+    for can_be_read in readable {
+        files.push(if *can_be_read {
+            Some(ANSWER_1.to_vec(alloc)?)
+        } else {
+            None
+        })?;
+    }
+    let refusal = act(alloc, &words, files.as_slice())
+        .err()
+        .ok_or("a refusal")?;
+    Ok(fault_line(alloc, &refusal)?)
+}
+
+#[test]
+fn refuses_options_then_files_then_counts(rt: HostRuntime) -> Result<(), Fail> {
+    let alloc = rt.alloc();
+    let one = "explore log program --sectors 1 --bound 0 --checked 2";
+    let two = "explore log program other --sectors 1 --bound 0 --checked 2";
+    let bad = "explore log program --sectors 0 --bound 0 --checked 2";
+    let rows = [
+        (one, [false, true, true].as_slice(), "refused 14 at 0\n"),
+        (two, [true, false, false].as_slice(), "refused 14 at 1\n"),
+        (two, [true, true, false].as_slice(), "refused 14 at 2\n"),
+        (bad, [false, false].as_slice(), "refused 13 at 1\n"),
+        (two, [true, true, true].as_slice(), "refused 13 at 6\n"),
+        (one, [true, true].as_slice(), "refused 1 at 0\n"),
+    ];
+    for (line, readable, wanted) in rows {
+        let found = refused(alloc, line, readable)?;
+        assert_eq!(rt; found.as_slice(), wanted.as_bytes(), "{line}");
+    }
+    Ok(())
+}
+
+#[test]
+fn prints_the_tears_that_were_asked_for(rt: HostRuntime) -> Result<(), Fail> {
+    let alloc = rt.alloc();
+    let line = "explore log program --tears --sectors 3 --bound 0 --checked 2";
+    let (bytes, status) = acted(alloc, line, flushes(alloc, 0)?, &ANSWER_0)?;
+    let wanted =
+        "crash report 1\nsectors 3 entries 0 cuts all bound 0 tears yes first no\nprogram 0 slots 2 limit 2\nimages 1 failing 0 lines 0\n";
+    assert_eq!(rt; bytes.as_slice(), wanted.as_bytes());
+    assert_eq!(rt; status, 0);
+    Ok(())
+}
+
+#[test]
+fn faults_of_the_command_line(rt: HostRuntime) -> Result<(), Fail> {
+    let alloc = rt.alloc();
+    for line in [
+        "explore log --sectors 1",
+        "explore log program",
+        "survey log",
+        "explore log program --sectors one",
+    ] {
+        let mut words = Vec::new(alloc);
+        for word in line.split_whitespace() {
+            words.push(word.to_string(alloc)?)?;
+        }
+        assert!(rt; Words::of(alloc, words.as_slice()).is_err(), "{line}");
+    }
+    Ok(())
+}
+
 #[test]
 fn refuses_files_and_counts(rt: HostRuntime) -> Result<(), Fail> {
     let alloc = rt.alloc();
@@ -308,24 +437,27 @@ fn refuses_files_and_counts(rt: HostRuntime) -> Result<(), Fail> {
     Ok(())
 }
 
-/// Counts the blocks that it is told of.
+/// Keeps the calls that it is told of, as digits: 1 before block 0, 2 after it, 3 and 4 for block 1.
 #[derive(Drop)]
-struct Counting {
-    before: Cell<u32>,
-    after: Cell<u32>,
+struct Keeping {
+    calls: Cell<u64>,
 }
 
-impl Gate for Counting {
-    fn before(&self, _worker: u8, block: u32) {
-        if self.before.get() == block && self.after.get() == block {
-            self.before.set(block.saturating_add(1));
-        }
+impl Keeping {
+    fn keep(&self, worker: u8, call: u64) {
+        let told = if worker == 0 { call } else { 9 };
+        self.calls
+            .set(self.calls.get().wrapping_mul(10).wrapping_add(told));
+    }
+}
+
+impl Gate for Keeping {
+    fn before(&self, worker: u8, block: u32) {
+        self.keep(worker, if block == 0 { 1 } else { 3 });
     }
 
-    fn after(&self, _worker: u8, block: u32) {
-        if self.after.get() == block {
-            self.after.set(block.saturating_add(1));
-        }
+    fn after(&self, worker: u8, block: u32) {
+        self.keep(worker, if block == 0 { 2 } else { 4 });
     }
 }
 
@@ -337,9 +469,8 @@ fn tells_the_gate_of_each_block(rt: HostRuntime) -> Result<(), Fail> {
         .ok_or("options")?;
     let mut programs = Vec::new(alloc);
     programs.push(ANSWER_1.to_vec(alloc)?)?;
-    let gate = Counting {
-        before: Cell::new(0),
-        after: Cell::new(0),
+    let gate = Keeping {
+        calls: Cell::new(0),
     };
     let explored: Explored = explore_with(
         alloc,
@@ -350,8 +481,7 @@ fn tells_the_gate_of_each_block(rt: HostRuntime) -> Result<(), Fail> {
     )
     .ok()
     .ok_or("a report")?;
-    assert_eq!(rt; gate.before.get(), 2);
-    assert_eq!(rt; gate.after.get(), 2);
+    assert_eq!(rt; gate.calls.get(), 1234);
     assert!(rt; explored.failing);
     assert_eq!(rt; explored.hits, 0);
     Ok(())

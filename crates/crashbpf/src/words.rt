@@ -3,8 +3,8 @@
 ghost use Rattle.std.specs.Prelude.{◌≡◌, [], IsOkAnd, map, string_bytes};
 ghost use Rattle.crashbpf.specs.declared.words.Request.TheVariants as request;
 
-use crate::cuts::Cuts;
 use clap::{Arg, ArgAction, ArgMatches, Command, Error};
+use epochs::Cuts;
 use std::alloc::{AllocError, Global};
 use std::marker::Model;
 

@@ -1,52 +1,60 @@
-//! What a checker can ask of a crash image: the device that it runs on, and the image's context.
+//! What a checker can ask of a crash image: its device, its context, and the helpers.
 //!
 //! A checker judges one crash image. It sees the image as a device of sectors of 512 bytes, through
 //! the trait `Device`, and it is told three numbers, the `Context`: how many sectors the device has,
-//! in which epoch the cut lies, and how many marks were passed before it.
+//! in which epoch the cut lies, and how many marks were passed before it. More it asks by calling
+//! one of seven helpers (docs/MACHINE.md, Helpers):
 //!
-//! The crate stands at the bottom, on the words of `base`. The machine runs a checker over any
-//! `Device`, the verifier reasons about any, and a view of a crash image is one. Contracts see a
-//! device as its list of sectors, each a list of 512 bytes, by the trait's member `content`: the
-//! machine's definition is stated over that list, and never over the code of a device.
+//! | Helper | Answers |
+//! |---|---|
+//! | `sector` | where a sector stands in the memory of the program, or 0 |
+//! | `copy` | bytes of the device, written into a window, and whether one was past its end |
+//! | `again` | whether a call is made again, up to a limit |
+//! | `report` | whether a code is kept |
+//! | `zero` | whether a sector is all zeros |
+//! | `mix` | a number of a sector |
+//! | `same` | whether two sectors hold the same bytes |
 //!
-//! Its contract, in words: `sectors` is the length of the list, `sector(n)` lends the n-th sector and
-//! is none exactly past the end, and every sector of the list has 512 bytes. What an implementation
-//! keeps in memory is its own matter.
+//! # Place
 //!
-//! ```text
-//! struct Zeros { sectors: u32 }                      // a device on which nothing was written
-//! impl Device for Zeros { .. content is that many sectors of zeros .. }
-//! let context = Context { sectors: 4, epoch: 1, marks: 0 };
+//! The crate stands low, on the words of `base` and the kernels of `lanes`. The machine runs a checker
+//! over any `Device`, the verifier reasons about any, and a view of a crash image is one. What each
+//! helper answers is defined once, in `specs/Answers.antt`, over a device as its list of sectors; the
+//! machine's definition cites it. `again` and `report` depend on the run alone, so that only their
+//! definitions stand here, and the machine keeps their counts and codes.
+//!
+//! # What is proved
+//!
+//! - Of a `Device`: `sectors` is the length of its list, `sector(n)` lends the n-th sector and is
+//!   none exactly past the end, and every sector has 512 bytes. What an implementation keeps in
+//!   memory is its own matter.
+//! - `sector`, `zero`, `mix` and `same` of `answers` give exactly the defined answer, for each device
+//!   and each number, on it or past it.
+//! - `copy` leaves in its window exactly the defined bytes, zeros past the device, and gives the
+//!   defined answer. Positions do not wrap. A window has at most 512 bytes.
+//! - `Helper::of` knows the numbers 1 to 7 and no other.
+//! - `Filled` is a device in which each byte is the same, as one that nothing has written.
+//!
+//! No call takes memory, and none refuses.
+//!
+//! # Example
+//!
+//! ```
+//! use helpers::{Filled, answers};
+//!
+//! let device = Filled::new(4, 0);
+//! // answers::zero(&device, 3) is 1, answers::zero(&device, 4) is 2
 //! ```
 #![tactic(auto)]
 
-ghost use Rattle.std.specs.Prelude.{◌≡◌, ℕ, List, length, slice_get, Some};
-ghost use Rattle.std.specs.Option.{option_map};
+pub mod answers;
+pub mod copying;
+mod device;
+mod filled;
+mod helper;
+#[cfg(test)]
+mod tests;
 
-/// A device of sectors of 512 bytes, as a checker sees it.
-pub trait Device {
-    /// The sectors in order.
-    ghost content: { Self → List (List ℕ) };
-
-    /// The number of sectors.
-    fn sectors(&self) -> u32
-        ensures { result ≡ length (content self.now) };
-
-    /// Sector `n`, or none past the end.
-    fn sector(&self, n: u32) -> Option<&[u8; 512]>
-        ensures { option_map (λ s. s.now) result ≡ slice_get (content self.now) n };
-
-    /// Each sector has 512 bytes.
-    ghost whole: { (d : Self) (n : ℕ) (s : List ℕ) → slice_get (content d) n ≡ Some s → length s ≡ 512 };
-}
-
-/// What a checker is told of the crash image that it judges (docs/MACHINE.md, Memory).
-#[derive(Clone, Copy, Debug, PartialEq, Eq)]
-pub struct Context {
-    /// The number of sectors of the device.
-    pub sectors: u32,
-    /// The number of flush entries before the cut.
-    pub epoch: u32,
-    /// The number of marks before the cut.
-    pub marks: u32,
-}
+pub use device::{Context, Device};
+pub use filled::Filled;
+pub use helper::Helper;

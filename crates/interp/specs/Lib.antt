@@ -1,3 +1,4 @@
 -- How the interpreter's values say what the machine did.
 pub mod Ending
 pub mod Going
+pub mod Tests

@@ -1,3 +1,7 @@
 -- The machine (RFC 9669; docs/MACHINE.md).
+pub mod Arithmetic
+pub mod State
+pub mod Memory
 pub mod Step
 pub mod Outcome
+pub mod Laws

@@ -1,16 +1,54 @@
-//! The definition of the machine on which checkers run. It has no code.
+//! The definition of the machine on which checkers run. It has no code that runs.
 //!
 //! The machine is that of RFC 9669 with the memory, the helpers and the faults of docs/MACHINE.md.
 //! It is stated here once, over the types of `bpf_isa` and `helpers`, for all who cite it: the
-//! interpreter, whose outcome is that of this machine, and the verifier, whose tables cover its
-//! states.
+//! interpreter, whose outcome is that of this machine, the ranges, which cover its values, and the
+//! verifier, whose tables cover its states. Nothing here knows of code: the program is its list of
+//! slots, the device its list of sectors, the context its three numbers.
 //!
-//! - `State` is what the machine holds between two steps.
-//! - `checks` lists, for an instruction at a state, the checks of the fault table in their order, and
-//!   `effect` what the instruction does where all of them pass.
-//! - `step` is one step: the effect, or the fault of the first check that fails.
-//! - `outcome` is what a number of steps end in: a verdict, a fault, or neither.
+//! # The definitions
 //!
-//! The definition takes the program as its list of slots, the device as its list of sectors and the
-//! context as its three numbers, so it speaks of no code.
+//! - `Arithmetic`: `arithmetic width operator a b` is the value of each operator in each width, and
+//!   `holds` says whether a condition holds. `extended` and `in_order` are the moves that extend the
+//!   sign and the byte swaps.
+//! - `State`: what the machine holds between two steps, and the state at the start. The frames are a
+//!   list, the outermost first; until programs have functions of their own there is one.
+//! - `Memory`: `byte_at` is the memory, one partial function of addresses that answers a `ByteAt`.
+//!   An access is the list of its addresses, `loaded` the number that stands there, `stored` the
+//!   frames when bytes were written.
+//! - `Step`: `checks` lists the checks of an instruction in the order of the fault table, `effect` is
+//!   what it does where all of them pass, and `step` the effect or the first fault.
+//! - `Outcome`: `outcome` is what a number of steps from the start end in, a verdict, a fault or
+//!   neither, and `IsJudgement` says which verdict some limit gives.
+//!
+//! # What is proved
+//!
+//! The crate's functions do nothing; each is a law of the definitions.
+//!
+//! - `worked_arithmetic`, `worked_bytes`: the definitions have the values that docs/MACHINE.md works
+//!   out, among them those at zero divisors and at the least signed number.
+//! - `checks_in_order`: the checks of each instruction stand in the order of the fault table, each
+//!   fault at most once.
+//! - `one_judgement`: a program has at most one judgement on an image.
+//!
+//! # Example
+//!
+//! ```text
+//! outcome program device context 10        // what ten steps of the program end in
+//! ```
 #![tactic(auto)]
+
+mod laws;
+
+pub use laws::{checks_in_order, one_judgement, worked_arithmetic, worked_bytes};
+
+/// What stands at an address of a program's memory (docs/MACHINE.md, Address space).
+#[derive(Clone, Copy, Debug, PartialEq, Eq)]
+pub enum ByteAt {
+    /// No byte.
+    Unmapped,
+    /// A byte of a stack that was not written.
+    Unset,
+    /// A byte.
+    Holds(u8),
+}

@@ -30,4 +30,12 @@ report-requires-clause-programs g c =
 
 pub returns-clause-refused : goal.returns-clause-refused
 returns-clause-refused g c =
-    rw c.no_memory.ensures (for_memory (length_of_bytes _ c.args.programs.now ∙ c.if-programs-ne1.false))
+    rw c.no_memory.ensures
+    (for_memory c.in-Ok-decode_all.programs.items (length_of_bytes _ c.args.programs.now ∙ c.if-programs-ne1.false)
+    (record {
+      value = c.in-Ok.log;
+      device = c.in-Ok.ensures.sectors ∙ c.sectors.ensures.value;
+      of_log = c.in-Ok.ensures.text;
+      built = c.in-Ok.ensures.built;
+    })
+    c.in-Ok-decode_all.ensures.spelled)

@@ -1,0 +1,79 @@
+-- Closed forms of the numbers of choices.
+use Rattle.std.proofs.Common.{ℕ, zero, suc, ◌≡◌, ◌+◌, ◌-◌, ◌*◌, ◌/◌, ◌<◌, ◌≤◌, refl, sym, ◌∙◌, ap, arith}
+use Rattle.std.proofs.lemmas.Nat.{div-mul-add, mul-le}
+use Rattle.choices.specs.Ways.{ways, ways_below, pairs, triples}
+
+pub ways_zero : (m k : ℕ) → ways m 0 k ≡ 1
+unfolding ways
+ways_zero m k = refl
+
+pub ways_one : (m k : ℕ) → ways m 1 k ≡ m * k
+unfolding ways
+ways_one m zero = omega arith
+ways_one m (suc k) = omega (arith, ways_one m k)
+
+pub ways_two : (m k : ℕ) → ways m 2 k ≡ m * m * pairs k
+unfolding ways pairs
+ways_two m zero = omega arith
+ways_two m (suc k) = omega (arith, ways_two m k, ap (λ x. m * x) (ways_one m k))
+
+pub ways_three : (m k : ℕ) → ways m 3 k ≡ m * m * m * triples k
+unfolding ways triples
+ways_three m zero = omega arith
+ways_three m (suc k) = omega (arith, ways_three m k, ap (λ x. m * x) (ways_two m k))
+
+twice_pairs : (k : ℕ) → pairs (suc k) * 2 ≡ suc k * k
+unfolding pairs
+twice_pairs zero = refl
+twice_pairs (suc k) =
+    let one : pairs (suc (suc k)) ≡ suc k + pairs (suc k) = refl in
+    omega (arith, one, twice_pairs k)
+
+six_triples : (k : ℕ) → triples (suc (suc k)) * 6 ≡ suc (suc k) * suc k * k
+unfolding triples pairs
+six_triples zero = refl
+six_triples (suc k) =
+    let one : triples (suc (suc (suc k))) ≡ pairs (suc (suc k)) + triples (suc (suc k)) = refl in
+    omega (arith, one, twice_pairs (suc k), six_triples k)
+
+pub pairs_closed : (k : ℕ) → 0 < k → k * (k - 1) / 2 ≡ pairs k
+pairs_closed zero h = absurd (omega (arith, h))
+pairs_closed (suc k) h =
+    let less : suc k - 1 ≡ k = omega arith in
+    let twice : suc k * (suc k - 1) ≡ pairs (suc k) * 2 + 0 = rw less (omega (arith, twice_pairs k)) in
+    ap (λ n. n / 2) twice ∙ div-mul-add (pairs (suc k)) 2 0 (omega arith)
+
+pub triples_closed : (k : ℕ) → 2 ≤ k → k * (k - 1) * (k - 2) / 6 ≡ triples k
+triples_closed zero h = absurd (omega (arith, h))
+triples_closed (suc zero) h = absurd (omega (arith, h))
+triples_closed (suc (suc k)) h =
+    let less : suc (suc k) - 1 ≡ suc k = omega arith in
+    let lesser : suc (suc k) - 2 ≡ k = omega arith in
+    let six : suc (suc k) * (suc (suc k) - 1) * (suc (suc k) - 2) ≡ triples (suc (suc k)) * 6 + 0 =
+    rw (less, lesser) (omega (arith, six_triples k)) in
+    ap (λ n. n / 6) six ∙ div-mul-add (triples (suc (suc k))) 6 0 (omega arith)
+
+pub pairs_none : (k : ℕ) → k ≡ 0 → 0 ≡ pairs k
+unfolding pairs
+pairs_none zero h = refl
+pairs_none (suc k) h = absurd (omega (arith, h))
+
+pub triples_none : (k : ℕ) → k < 2 → 0 ≡ triples k
+unfolding triples pairs
+triples_none zero h = refl
+triples_none (suc zero) h = refl
+triples_none (suc (suc k)) h = absurd (omega (arith, h))
+
+pub cube_le : (m t : ℕ) → m ≤ 8 → t ≤ 3002399751580331 → m * m * m * t ≤ 1537228672809129472
+cube_le m t h k =
+    let square : m * m ≤ 64 = mul-le m m 8 8 h h in
+    let cube : m * m * m ≤ 512 = mul-le (m * m) m 64 8 square h in
+    mul-le (m * m * m) t 512 3002399751580331 cube k
+
+pub ways_below_none : (m v : ℕ) → 0 ≡ ways_below m 0 v
+unfolding ways_below
+ways_below_none m v = refl
+
+pub ways_below_more : (m s v : ℕ) → ways_below m (s + 1) v ≡ ways_below m s v + ways m s v
+unfolding ways_below
+ways_below_more m s v = let e : s + 1 ≡ suc s = omega arith in ap (λ n. ways_below m n v) e

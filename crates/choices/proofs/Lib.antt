@@ -1,0 +1,8 @@
+-- Lemmas of the crate.
+pub mod Counts
+pub mod Ranks
+pub mod Rows
+pub mod Following
+pub mod Departing
+pub mod Plans
+pub mod Sets

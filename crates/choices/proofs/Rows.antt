@@ -1,0 +1,86 @@
+-- Rows of units, and the following choice found from the end.
+use Rattle.std.proofs.Common.{ℕ, zero, suc, ◌≡◌, ◌+◌, ◌-◌, ◌<◌, ◌≤◌, List, [], ◌∷◌, ◌++◌, length, take, drop, Option, Some, None, refl, sym, ◌∙◌, ap, arith, append_assoc, add-one}
+use Rattle.std.proofs.Math.Seq.{drop-cons}
+use Rattle.std.specs.List.{slice_index_or}
+use Rattle.std.proofs.lemmas.List.{append-nil, length-drop, take-append-drop}
+use Rattle.std.specs.Option.{option_map}
+use Rattle.choices.specs.declared.pick.Pick.{Pick}
+use Rattle.choices.specs.Steps.{first_picks, stepped, after_rest, following, or_else, one_more, following_below}
+
+pub no_row : (xs : List Pick) (a : ℕ) → xs ≡ xs ++ first_picks 0 a
+unfolding first_picks
+no_row xs a = sym (append-nil xs)
+
+row_end : (i a : ℕ) → first_picks (suc i) a ≡ first_picks i a ++ record { unit = a + i; fate = 0 } ∷ []
+unfolding first_picks
+row_end zero a = let e : a ≡ a + 0 = omega arith in ap (λ (u : ℕ). record { unit = u; fate = 0 } ∷ []) e
+row_end (suc i) a =
+    let e : a + 1 + i ≡ a + suc i = omega arith in
+    let rest = row_end i (a + 1) in
+    ap (λ (ps : List Pick). record { unit = a; fate = 0 } ∷ ps) rest
+    ∙ ap (λ (u : ℕ). record { unit = a; fate = 0 } ∷ (first_picks i (a + 1) ++ record { unit = u; fate = 0 } ∷ [])) e
+
+-- a row grows at its end
+pub row_more : (xs ys : List Pick) (i a u : ℕ) → ys ≡ xs ++ first_picks i a → u ≡ a + i
+    → ys ++ record { unit = u; fate = 0 } ∷ [] ≡ xs ++ first_picks (i + 1) a
+row_more xs ys i a u so at =
+    rw (so, at, add-one i, row_end i a) (append_assoc xs (first_picks i a) (record { unit = a + i; fate = 0 } ∷ []))
+
+-- what stands before a departure stays
+following_front : (m e : ℕ) (front rest ds : List Pick) → following m e rest ≡ Some ds → following m e (front ++ rest) ≡ Some (front ++ ds)
+unfolding following
+following_front m e [] rest ds h = h
+following_front m e (d ∷ front) rest ds h =
+    ap (λ o. after_rest d o (stepped m e d (length (front ++ rest)))) (following_front m e front rest ds h)
+
+following_cons : (m e : ℕ) (d : Pick) (ds : List Pick) → following m e ds ≡ None → following m e (d ∷ ds) ≡ stepped m e d (length ds)
+unfolding following
+following_cons m e d ds h = ap (λ o. after_rest d o (stepped m e d (length ds))) h
+
+pub none_behind : (m e : ℕ) (ds : List Pick) (n : ℕ) → length ds ≤ n → following m e (drop n ds) ≡ None
+unfolding following
+none_behind m e [] zero h = refl
+none_behind m e [] (suc n) h = refl
+none_behind m e (d ∷ ds) zero h = absurd (omega (arith, h))
+none_behind m e (d ∷ ds) (suc n) h = none_behind m e ds n (omega (arith, h))
+
+pub all_of : (m e : ℕ) (ds : List Pick) → following m e (drop 0 ds) ≡ None → following m e ds ≡ None
+all_of m e ds h = h
+
+-- the step of the departure with `behind` others after it, which have none
+pub step_at : (m e : ℕ) (ds : List Pick) (place behind : ℕ) (d : Pick) → place ≡ length ds - 1 - behind → behind < length ds
+    → following m e (drop (length ds - behind) ds) ≡ None
+    → following m e (drop place ds) ≡ stepped m e (slice_index_or ds place d) behind
+step_at m e ds place behind d at lt none =
+    let next : suc place ≡ length ds - behind = omega (arith, at, lt) in
+    let split : drop place ds ≡ slice_index_or ds place d ∷ drop (suc place) ds = drop-cons ds place d (omega (arith, at, lt)) in
+    let last : following m e (drop (suc place) ds) ≡ None = rw next none in
+    let size : length (drop (suc place) ds) ≡ behind = length-drop (suc place) ds ∙ omega (arith, at, lt) in
+    ap (following m e) split ∙ following_cons m e (slice_index_or ds place d) (drop (suc place) ds) last
+    ∙ ap (stepped m e (slice_index_or ds place d)) size
+
+pub step_found : (m e : ℕ) (ds : List Pick) (place behind : ℕ) (d next : Pick) → place ≡ length ds - 1 - behind → behind < length ds
+    → following m e (drop (length ds - behind) ds) ≡ None
+    → option_map (λ (p : Pick). p ∷ first_picks behind (p.unit + 1)) (Some next) ≡ stepped m e (slice_index_or ds place d) behind
+    → following m e ds ≡ Some (take place ds ++ next ∷ first_picks (length ds - place - 1) (next.unit + 1))
+step_found m e ds place behind d next at lt none found =
+    let others : length ds - place - 1 ≡ behind = omega (arith, at, lt) in
+    ap (following m e) (sym (take-append-drop place ds))
+    ∙ following_front m e (take place ds) (drop place ds) (next ∷ first_picks behind (next.unit + 1)) (step_at m e ds place behind d at lt none ∙ sym found)
+    ∙ ap (λ b. Some (take place ds ++ next ∷ first_picks b (next.unit + 1))) (sym others)
+
+pub step_missed : (m e : ℕ) (ds : List Pick) (place behind : ℕ) (d : Pick) → place ≡ length ds - 1 - behind → behind < length ds
+    → following m e (drop (length ds - behind) ds) ≡ None → None ≡ stepped m e (slice_index_or ds place d) behind
+    → following m e (drop (length ds - (behind + 1)) ds) ≡ None
+step_missed m e ds place behind d at lt none missed =
+    let here : length ds - (behind + 1) ≡ place = omega (arith, at, lt) in
+    ap (λ n. following m e (drop n ds)) here ∙ step_at m e ds place behind d at lt none ∙ sym missed
+
+-- the following choice: as many departures, one more, or none
+pub below_moved : (m s e : ℕ) (ds new : List Pick) → following m e ds ≡ Some new → following_below m s e ds ≡ Some new
+unfolding following_below
+below_moved m s e ds new h = ap (λ o. or_else o (one_more s e (length ds))) h
+
+pub below_more : (m s e : ℕ) (ds : List Pick) → following m e ds ≡ None → following_below m s e ds ≡ one_more s e (length ds)
+unfolding following_below
+below_more m s e ds h = ap (λ o. or_else o (one_more s e (length ds))) h

@@ -1,0 +1,20 @@
+use Rattle.std.proofs.Common.{sym, arith}
+use Rattle.choices.proofs.Plans.{before_none, counted, first_past, counted_all, stepped_on, moved_on, at_last, nth_picks, new_picks, choice_is, found_choice}
+use Rattle.choices.proofs.ranked.count.Goals as goal
+
+pub loop-cut-init : goal.loop-cut-init
+loop-cut-init c = (sym (before_none _ _ _), omega arith)
+
+pub returns-then-sum-gt-LIMIT-clause-past : goal.returns-then-sum-gt-LIMIT-clause-past
+returns-then-sum-gt-LIMIT-clause-past c =
+    let so = c.loop-cut.invariant in
+    first_past _ _ _ _ _ _ _ c.cuts-cut-items.ensures.value c.loop-cut-test.true so.0 c.ways_at-sum.ensures.value so.1 c.if-sum-gt-LIMIT.true
+
+pub loop-cut-preserved : goal.loop-cut-preserved
+loop-cut-preserved c = (
+  counted _ _ _ _ _ _ _ c.cuts-cut-items.ensures.value c.loop-cut-test.true c.loop-cut.invariant.0 c.ways_at-sum.ensures.value,
+  c.if-sum-gt-LIMIT.false,
+)
+
+pub returns-clause-value : goal.returns-clause-value
+returns-clause-value c = counted_all _ _ _ _ _ _ c.cuts-cut-items.ensures.value c.loop-cut-test.false c.loop-cut.invariant.0

@@ -1,0 +1,23 @@
+use Rattle.std.proofs.Common.{ℕ, sym, ◌∙◌, ap, arith, length, slice_index_or, slice_get, Some, ◌≡◌, ◌<◌, ◌≤◌, suc}
+use Rattle.std.proofs.lemmas.Option.{slice_get_within, get_or_from_slice_get}
+use Rattle.epochs.specs.Units.{volatile_units}
+use Rattle.epochs.specs.Cuts.{cuts_of}
+use Rattle.choices.specs.Picks.{fates_of, picks_within, fewer}
+use Rattle.choices.proofs.Plans.{nth_picks, found_choice, ranked_at-ways, cut_there, same_ways, same_picks}
+use Rattle.choices.proofs.ranked.nth.Goals as goal
+
+pub nth_within-picks-requires-clause-number : goal.nth_within-picks-requires-clause-number
+nth_within-picks-requires-clause-number c =
+    rw (c.fates_of.ensures.value, c.volatile.ensures.value)
+    (same_ways _ _ _ _ _ _ c.place_of-place.ensures _ c.cuts.ensures.value 0)
+
+pub of-requires-clause-picks : goal.of-requires-clause-picks
+of-requires-clause-picks c =
+    nth_picks (fates_of c.args.tears) c.args.bound _ c.place_of-place.result.1 c.nth_within-picks.result.items (omega (arith, c.fates_of.ensures.value, c.fates_of.ensures.high))
+    (same_picks _ _ _ _ _ _ _ c.fates_of.ensures.value c.volatile.ensures.value c.nth_within-picks.ensures)
+
+pub returns : goal.returns
+returns c =
+    found_choice _ _ _ _ _ _ c.place_of-place.ensures (slice_index_or c.cuts.result.now c.place_of-place.result.0 0) (cut_there _ _ _ _ _ _ c.place_of-place.ensures _ c.cuts.ensures.value 0)
+    c.nth_within-picks.result.items (same_picks _ _ _ _ _ _ _ c.fates_of.ensures.value c.volatile.ensures.value c.nth_within-picks.ensures)
+    ∙ ap (λ v. Some v) (sym c.of.ensures)

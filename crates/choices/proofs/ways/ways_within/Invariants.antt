@@ -1,0 +1,6 @@
+use Rattle.std.proofs.Common.{◌≡◌, ◌*◌, ◌≤◌}
+use Rattle.choices.specs.Ways.{ways_below}
+use Rattle.choices.proofs.ways.ways_within.Given as goal
+
+abbrev pub invariant-loop-size : goal.invariant-loop-size
+invariant-loop-size l = (l.sum ≡ ways_below l.fates l.size l.units) × (l.sum ≤ l.size * 1537228672809129472)

@@ -1,0 +1,7 @@
+-- The choices at the cuts of a log, in their order: by numbers, and of a plan.
+pub mod Picks
+pub mod Ways
+pub mod Seeks
+pub mod Steps
+pub mod Choices
+pub mod Laws

@@ -1,0 +1,105 @@
+//! A choice.
+
+ghost use Rattle.std.specs.Prelude.{◌≡◌, ◌<◌, ◌≤◌, length, map};
+ghost use Rattle.epochs.specs.Units.{volatile_units};
+ghost use Rattle.choices.specs.Picks.{ArePicks};
+ghost use Rattle.choices.specs.Choices.{choice_of, departure_of};
+
+use crate::fate::Fate;
+use crate::pick::Pick;
+use arrayvec::ArrayVec;
+use epochs::{Plan, Unit};
+use std::marker::Model;
+
+/// A unit that is not whole, and what becomes of it.
+#[derive(Clone, Copy, Debug, PartialEq, Eq)]
+pub struct Departure {
+    /// The unit.
+    pub unit: Unit,
+    /// What becomes of it.
+    pub fate: Fate,
+}
+
+impl Default for Departure {
+    /// A departure that stands for none.
+    fn default() -> Departure {
+        Departure {
+            unit: Unit {
+                entry: 0,
+                place: 0,
+                sector: 0,
+            },
+            fate: Fate::Drop,
+        }
+    }
+}
+
+/// A choice at a cut: at most three of the volatile units, each with a fate other than whole
+/// (docs/CRASH-MODEL.md, Fates and choices).
+///
+/// Contracts see the cut, its place among the wanted cuts, and the departures, also by their numbers.
+#[derive(Drop)]
+pub struct Choice {
+    pub(crate) place: usize,
+    pub(crate) cut: u32,
+    pub(crate) picks: ArrayVec<Pick, 3>,
+    pub(crate) departures: ArrayVec<Departure, 3>,
+}
+
+impl Model for Choice {
+    ghost use Rattle.choices.specs.Choices.{ChoiceValue};
+
+    ghost Value = { ChoiceValue };
+
+    ghost view = { λ c. record { place = c.place; cut = c.cut; picks = c.picks.items; departures = c.departures.items } };
+}
+
+impl Choice {
+    /// The cut.
+    pub fn cut(&self) -> u32
+        ensures { result ≡ self.now.cut }
+    {
+        self.cut
+    }
+
+    /// The departures, rising by unit. Every other unit is whole.
+    pub fn departures(&self) -> &[Departure]
+        ensures value { result.now ≡ self.now.departures }
+        ensures few { length result.now ≤ 3 }
+    {
+        self.departures.as_slice()
+    }
+
+    /// The choice of those departures at a cut of a plan, which has that place among the wanted cuts.
+    #[tactic(auto, unfolding(crate::specs::Choices::choice_of))]
+    pub(crate) fn of(plan: &Plan, place: usize, cut: u32, picks: ArrayVec<Pick, 3>) -> Choice
+        requires cut { cut ≤ length plan.now.log.entries }
+        requires picks { ArePicks 8 (length (volatile_units plan.now.log.entries cut)) picks.items }
+        ensures { result ≡ choice_of plan.now.log.entries place cut picks.items }
+    {
+        let departures = departures_of(plan, cut, picks.as_slice());
+        Choice {
+            place,
+            cut,
+            picks,
+            departures,
+        }
+    }
+}
+
+/// The departures of those numbers at a cut of a plan.
+pub(crate) fn departures_of(plan: &Plan, cut: u32, picks: &[Pick]) -> ArrayVec<Departure, 3>
+    requires cut { cut ≤ length plan.now.log.entries }
+    requires few { length picks.now ≤ 3 }
+    requires picks { ArePicks 8 (length (volatile_units plan.now.log.entries cut)) picks.now }
+    ensures { result.items ≡ map (departure_of (volatile_units plan.now.log.entries cut)) picks.now }
+{
+    let mut departures = ArrayVec::new();
+    for pick in picks {
+        departures.push(Departure {
+            unit: plan.unit(cut, pick.unit),
+            fate: Fate::of(pick.fate),
+        });
+    }
+    departures
+}

@@ -1,0 +1,83 @@
+//! What a crash may leave out: the choices at the cuts of a log, numbered from 0.
+//!
+//! At a cut of a log a crash may lose each of the volatile units, in whole or in part. A choice names
+//! at most three of them, the departures, each with its fate: the unit is dropped, or, where writes
+//! may be torn, only its first eighths reach the device. Every other unit is whole. All choices at all
+//! wanted cuts of a plan stand in one order, and so each has a number:
+//!
+//! 1. by cut, rising;
+//! 2. by the number of departures, rising;
+//! 3. by the departures, rising by unit, compared one after the other, first by unit and then by fate.
+//!
+//! | Call | Answer |
+//! |---|---|
+//! | `count(plan, bound, tears)` | how many choices there are, or the cut with which they are too many |
+//! | `count_at(plan, bound, tears, cut)` | the same of one cut alone |
+//! | `nth(plan, bound, tears, number)` | the choice of a number |
+//! | `next(plan, bound, tears, choice)` | goes on to the following choice, if there is one |
+//!
+//! # Place
+//!
+//! The fourth layer, on `epochs`, whose `Plan` says which cuts are wanted and which units are volatile
+//! there. `images` forms the crash image of a choice. Here no byte of a log is looked at, and no call
+//! takes memory. The rules are those of docs/CRASH-MODEL.md.
+//!
+//! # What is proved
+//!
+//! `ranked plan bound tears` (`specs/Choices.antt`) is the list of all choices, written down in its
+//! order by a recursion over the units (`specs/Picks.antt`), with no count in it. Each call is a
+//! function of this list:
+//!
+//! - `count` is its length. It is refused exactly where that passes 16,777,216, at the first cut with
+//!   which it does.
+//! - `count_at` is the length of one cut's part.
+//! - `nth` is its element of that number.
+//! - `next` leads from each element to the one behind it, and leaves the last as it is.
+//!
+//! Above the recursion stands a law (`list_is_set`, `specs/Laws.antt`): the list of a cut has exactly
+//! the choices of at most so many departures, rising by unit, in their order, and so each once.
+//!
+//! # How it is written
+//!
+//! `ways` has closed forms of the numbers of choices of one cut; their products stay below 2^63, so
+//! nothing wraps, at 262,144 units and three departures too. `rank` finds a choice by its number: the
+//! number of departures by taking off the smaller ones, then each departure by a search by halves for
+//! its unit and a division for its fate. `step` changes the last departure that has a next fate or a
+//! next unit. A choice keeps its departures as numbers too, so `next` needs no search but those of
+//! `Plan::unit`. `nth` walks the wanted cuts up to its own, a few products at each; a table of their
+//! counts would need memory. So a caller that wants many choices in a row takes `nth` once, and then
+//! `next`.
+//!
+//! Further fates would change only their number (`fates_of`) and what a fate's number means
+//! (`fate_of`).
+//!
+//! # Example
+//!
+//! ```
+//! use choices::{count, next, nth};
+//!
+//! // `plan` has one wanted cut, and two volatile units there
+//! let total = count(&plan, 2, true)?;
+//! // 1 + 2 * 8 + 1 * 64 choices are 81
+//! let mut choice = nth(&plan, 2, true, 17);
+//! // both units are dropped
+//! let moved = next(&plan, 2, true, &mut choice);
+//! // the second unit now is torn behind its first eighth; `moved` is true
+//! ```
+#![tactic(auto)]
+
+mod choice;
+mod fate;
+mod laws;
+mod pick;
+mod rank;
+mod ranked;
+mod step;
+#[cfg(test)]
+mod tests;
+mod ways;
+
+pub use choice::{Choice, Departure};
+pub use fate::{Eighths, Fate};
+pub use laws::list_is_set;
+pub use ranked::{TooMany, count, count_at, next, nth};

@@ -1,0 +1,10 @@
+//! Departures by their numbers.
+
+/// A departure by its numbers.
+#[derive(Clone, Copy, Debug, Default, PartialEq, Eq)]
+pub(crate) struct Pick {
+    /// Which of the volatile units of its cut, from 0 in their order.
+    pub unit: u32,
+    /// Which fate, from 0 in their order: the drop, then the heads.
+    pub fate: u8,
+}
