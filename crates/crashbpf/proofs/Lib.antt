@@ -1,5 +1,3 @@
-pub mod ReportLines
-pub mod Counting
-pub mod JudgedLines
+pub mod Plans
 pub mod Refusals
-pub mod Rising
+pub mod Runs

@@ -10,7 +10,8 @@ use Rattle.logfmt.specs.declared.fault.LogFault.{LogFault}
 use Rattle.logfmt.specs.Faults as log_fault
 use Rattle.bpf_isa.specs.declared.instr.Instr.{Instr}
 use Rattle.bpf_isa.specs.Program.{IsSpelledBy, HasNoFault}
-use Rattle.crashbpf.specs.Explore.{log_refusal, code_refusal, RefusesLog, with_fault, no_memory, RefusesCode, with_code_fault, no_code_memory, IsCodeFault, AreSpelledBy}
+use Rattle.crashbpf.specs.Source.{log_refusal, RefusesLog, with_fault, no_memory}
+use Rattle.crashbpf.specs.Explore.{code_refusal, RefusesCode, with_code_fault, no_code_memory, IsCodeFault, AreSpelledBy}
 
 -- what `read` answers
 pub log_refused : (text : List ℕ) (sectors : ℕ) (f : LogFault) → (f ≡ record { code = log.Memory; at = 0 }) ⊎ log_fault.FirstFault text sectors f.code f.at

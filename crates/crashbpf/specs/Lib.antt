@@ -1,10 +1,8 @@
--- What a run explores, what it finds, and how the report tells it.
+-- What a run explores, what it finds, and how it is told.
 pub mod Settings
-pub mod Images
-pub mod BlankSectors
-pub mod Failing
-pub mod Lines
-pub mod Report
+pub mod Source
 pub mod Explore
+pub mod Image
+pub mod Survey
 pub mod FaultLine
 pub mod Words

@@ -1,12 +1,11 @@
 -- The options of a run, and which are refused (docs/REPORT.md, Options).
-use Rattle.std.specs.Prelude.{ℕ, ◌≡◌, ◌==◌, ◌≤◌, Bool, true, false, not, ◌&&◌, nat_le, List, [], ◌∷◌, Option, None, Some, unwrap_or}
+use Rattle.std.specs.Prelude.{ℕ, ◌≡◌, ◌==◌, ◌≤◌, Bool, true, not, ◌&&◌, nat_le, List, [], ◌∷◌, Option, None}
 use Rattle.std.specs.Option.{option_map_or}
 use Rattle.base.specs.Check.{Check, check, first_failing}
 use Rattle.base.specs.declared.causes.RequestCause.TheVariants as request
 use Rattle.shares.specs.declared.refusal.Refusal.{Refusal}
 use Rattle.shares.specs.declared.refusal.Cause.TheVariants.{Request}
 use Rattle.epochs.specs.declared.cuts.Cuts.{Cuts}
-use Rattle.epochs.specs.declared.cuts.Cuts.TheVariants.{All, BeforeFlush, AfterMark}
 
 -- what a run is asked
 pub record Settings : Type 0 where
@@ -19,31 +18,19 @@ pub record Settings : Type 0 where
   pub checked : Option ℕ
   pub first : Bool
 
--- the limit of steps
-abbrev pub limit_of : Settings → ℕ
-limit_of s = unwrap_or s.checked 0
-
 -- the refusal of the option at that place
 abbrev pub option_refusal : ℕ → Refusal
 option_refusal at = record { code = Request request.Option; at = at; program = None }
 
--- the kinds of cut that are built
-abbrev pub are_all : Cuts → Bool
-are_all All = true
-are_all BeforeFlush = false
-are_all AfterMark = false
-
--- the checks of the options; the cause of each is its place. What is not built yet is refused: a bound
--- above 0, more than one worker, a cache, a run without a limit of steps, cuts other than all, and
--- a report of the first failing image alone.
+-- the checks of the options; the cause of each is its place. What is not built yet is refused: more than
+-- one worker, a cache, and a report of the first failing image alone.
 unfoldable pub option_checks : Settings → List (Check ℕ)
 option_checks s =
     check 1 (nat_le 1 s.sectors && nat_le s.sectors 16384)
-    ∷ check 2 (nat_le s.bound 0)
+    ∷ check 2 (nat_le s.bound 3)
     ∷ check 3 (s.workers == 1)
     ∷ check 4 (nat_le s.cache 0)
-    ∷ check 5 (option_map_or (λ limit. nat_le limit 1000000000) s.checked false)
-    ∷ check 7 (are_all s.cuts)
+    ∷ check 5 (option_map_or (λ limit. nat_le limit 1000000000) s.checked true)
     ∷ check 8 (not s.first)
     ∷ []
 
@@ -51,6 +38,5 @@ option_checks s =
 pub record IsAsked (s : Settings) : Type 0 where
   pub some : 1 ≤ s.sectors
   pub device : s.sectors ≤ 16384
-  pub all : s.cuts ≡ All
-  pub limited : (limit : ℕ) × (s.checked ≡ Some limit) × (limit ≤ 1000000000)
+  pub bound : s.bound ≤ 3
   pub passed : first_failing (option_checks s) ≡ None

@@ -3,14 +3,17 @@
 ghost use Rattle.std.specs.Prelude.{◌≡◌, ◌⊎◌, IfOk, map, if◌then◌else◌};
 ghost use Rattle.crashbpf.specs.Explore.{HasReport};
 
-use crate::explorer::{Explored, explore_with, no_memory};
-use crate::gate::OpenGate;
+use crate::explorer::{Explored, explore_with};
 use crate::options::{Options, option_refusal_at};
+use crate::showing::image;
+use crate::source::no_memory;
+use crate::survey::survey;
 use crate::words::{OptionWords, Request, Words};
 use base::causes::RequestCause;
 use epochs::Cuts;
 use shares::{Cause, Refusal};
 use std::alloc::{AllocError, Global};
+use workers::OpenGate;
 
 /// The first bytes of the log of the stored run, a super block without entries; zeros follow.
 static STORED_SUPER: [u8; 32] = [
@@ -106,13 +109,85 @@ fn stored_files(alloc: Global) -> Result<(Vec<u8>, Vec<Vec<u8>>), AllocError> {
     Ok((log, programs))
 }
 
+/// The first file, which is the log.
+fn log_of(files: &[Option<Vec<u8>>]) -> Result<&[u8], Refusal> {
+    match files {
+        [Some(log), ..] => Ok(log.as_slice()),
+        _ => Err(unreadable(0)),
+    }
+}
+
+/// Explores the files of a command, of which the first is the log.
+fn act_explore(
+    alloc: Global,
+    words: OptionWords,
+    files: &[Option<Vec<u8>>],
+) -> Result<(Vec<u8>, u8), Refusal>
+    ensures status { IfOk result (λ answer. (answer.1 ≡ 0) ⊎ (answer.1 ≡ 1)) }
+{
+    let options = options_of(words)?;
+    if let Some(place) = first_unreadable(files) {
+        return Err(unreadable(place));
+    }
+    match files {
+        [Some(log), programs @ ..] => match programs_of(alloc, programs) {
+            Ok(programs) => {
+                explore_files(alloc, log.as_slice(), programs.as_slice(), &options)
+            }
+            Err(_error) => Err(no_memory()),
+        },
+        _ => Err(unreadable(0)),
+    }
+}
+
+/// The run that the program holds itself.
+fn act_stored(alloc: Global) -> Result<(Vec<u8>, u8), Refusal>
+    ensures status { IfOk result (λ answer. (answer.1 ≡ 0) ⊎ (answer.1 ≡ 1)) }
+{
+    let options = options_of(STORED_OPTIONS)?;
+    match stored_files(alloc) {
+        Ok((log, programs)) => {
+            explore_files(alloc, log.as_slice(), programs.as_slice(), &options)
+        }
+        Err(_error) => Err(no_memory()),
+    }
+}
+
+/// The survey of a log's crash images.
+fn act_images(
+    alloc: Global,
+    words: OptionWords,
+    files: &[Option<Vec<u8>>],
+) -> Result<(Vec<u8>, u8), Refusal>
+    ensures status { IfOk result (λ answer. answer.1 ≡ 0) }
+{
+    let options = options_of(words)?;
+    let bytes = survey(alloc, log_of(files)?, &options)?;
+    Ok((bytes, 0))
+}
+
+/// One crash image of a log.
+fn act_image(
+    alloc: Global,
+    words: OptionWords,
+    number: u64,
+    files: &[Option<Vec<u8>>],
+) -> Result<(Vec<u8>, u8), Refusal>
+    ensures status { IfOk result (λ answer. answer.1 ≡ 0) }
+{
+    let options = options_of(words)?;
+    let bytes = image(alloc, log_of(files)?, number, &options)?;
+    Ok((bytes, 0))
+}
+
 /// Performs a command on what its files hold, one for each of `Words::files`, none where a file could
 /// not be read; with no file at all the log cannot be read. Answers the bytes for standard output and
-/// the status: 0 where no image fails, 1 where some do.
+/// the status: 0 where the command succeeded and no image fails, 1 where some do.
 ///
 /// # Errors
 ///
-/// The first refusal in the order of docs/REPORT.md: an option, a file, then those of `explore`.
+/// The first refusal in the order of docs/REPORT.md: an option, a file, then those of `explore`,
+/// `survey` or `image`.
 pub fn act(
     alloc: Global,
     words: &Words,
@@ -121,35 +196,9 @@ pub fn act(
     ensures status { IfOk result (λ answer. (answer.1 ≡ 0) ⊎ (answer.1 ≡ 1)) }
 {
     match words.request() {
-        Request::StoredRun => {
-            let options = options_of(STORED_OPTIONS)?;
-            match stored_files(alloc) {
-                Ok((log, programs)) => explore_files(
-                    alloc,
-                    log.as_slice(),
-                    programs.as_slice(),
-                    &options,
-                ),
-                Err(_error) => Err(no_memory()),
-            }
-        }
-        Request::Explore(option_words) => {
-            let options = options_of(option_words)?;
-            if let Some(place) = first_unreadable(files) {
-                return Err(unreadable(place));
-            }
-            match files {
-                [Some(log), programs @ ..] => match programs_of(alloc, programs) {
-                    Ok(programs) => explore_files(
-                        alloc,
-                        log.as_slice(),
-                        programs.as_slice(),
-                        &options,
-                    ),
-                    Err(_error) => Err(no_memory()),
-                },
-                _ => Err(unreadable(0)),
-            }
-        }
+        Request::StoredRun => act_stored(alloc),
+        Request::Explore(options) => act_explore(alloc, options, files),
+        Request::Images(options) => act_images(alloc, options, files),
+        Request::Image(options, number) => act_image(alloc, options, number, files),
     }
 }

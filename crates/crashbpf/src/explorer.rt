@@ -1,25 +1,26 @@
 //! From the bytes of a log and of programs to the bytes of the report.
 
-ghost use Rattle.std.specs.Prelude.{◌≡◌, ◌≢◌, ◌≤◌, ◌<◌, ◌+◌, ◌⊎◌, ◌↔◌, IsTrue, ◌++◌, ◌∷◌, [], length, map, take, position, IfOk, IfErr, MatchResult, OnOk, Some, None, slice_get};
-ghost use Rattle.logfmt.specs.LogText.{LogText};
-ghost use Rattle.logfmt.specs.Bounds.{IsLog};
-ghost use Rattle.crashbpf.specs.Images.{is_built};
+ghost use Rattle.std.specs.Prelude.{◌≡◌, ◌≢◌, ◌≤◌, ◌<◌, ◌+◌, ◌⊎◌, ◌↔◌, IsTrue, ◌++◌, ◌∷◌, [], length, map, IfOk, IfErr, OnOk, Some};
 ghost use Rattle.base.specs.declared.causes.CodeCause.TheVariants as code;
 ghost use Rattle.bpf_isa.specs.Program.{IsSpelledBy, HasNoFault};
-ghost use Rattle.crashbpf.specs.Failing.{failing_lines};
-ghost use Rattle.crashbpf.specs.Report.{report_bytes};
-ghost use Rattle.crashbpf.specs.Explore.{HasReport, subject_of, log_refusal, code_refusal, IsCodeFault, IsReport, Refuses, AreSpelledBy, first_unbuilt, head_of, RefusesLog, RefusesCode, work_refusal};
+ghost use Rattle.std.specs.List.Sorted.{IsNonDecreasing};
+ghost use Rattle.choices.specs.Choices.{IsFirstPast};
+ghost use Rattle.workers.specs.Failing.{failing_lines};
+ghost use Rattle.crashbpf.specs.Source.{plan_of, images_of, images_refusal, work_refusal, RefusesPlan};
+ghost use Rattle.crashbpf.specs.Explore.{HasReport, IsReport, Refuses, RefusesCode, AreSpelledBy, IsCodeFault, code_refusal, checker_of, program_head, subject_of, head_of, report_of};
 
-use crate::gate::{Gate, OpenGate};
-use crate::judge::Judge;
 use crate::options::{Options, option_refusal_at};
-use crate::report::{Head, ProgramHead, write_report};
-use base::causes::{LogCause, WorkCause};
+use crate::source::{images_refusal_of, no_memory, planned, read_log};
 use bpf_isa::codec::decode;
 use bpf_isa::program::{CodeFault, Program};
-use logfmt::{Entry, Log, LogFault, read};
+use epochs::Plan;
+use images::History;
+use interp::Checker;
+use logfmt::Log;
+use report::{Head, ProgramHead, write_report};
 use shares::{Cause, Refusal};
 use std::alloc::{AllocError, Global};
+use workers::{Gate, Input, OpenGate, Work, explore_all};
 
 /// What a run answers.
 #[derive(Drop)]
@@ -32,37 +33,6 @@ pub struct Explored {
     pub failing: bool,
 }
 
-/// The first entry whose work is not built.
-fn unbuilt(entries: &[Entry]) -> Option<usize>
-    ensures { result ≡ first_unbuilt entries.now }
-{
-    entries.iter().position(|entry| !is_built_entry(entry))
-}
-
-/// Whether the entry is a flush entry without sectors.
-fn is_built_entry(entry: &Entry) -> bool
-    ensures { result ≡ is_built entry.now }
-{
-    let flags = entry.flags;
-    flags.flush
-        && !flags.fua
-        && !flags.discard
-        && !flags.mark
-        && !flags.metadata
-        && entry.count == 0
-}
-
-/// The refusal that says a fault of the log.
-fn log_refusal_of(fault: LogFault) -> Refusal
-    ensures { result ≡ log_refusal fault.code fault.at }
-{
-    Refusal {
-        code: Cause::Log(fault.code),
-        at: u64::from(fault.at),
-        program: None,
-    }
-}
-
 /// The refusal that says a fault of a program.
 fn code_refusal_of(number: u8, fault: CodeFault) -> Refusal
     ensures { result ≡ code_refusal number fault.code fault.slot }
@@ -71,28 +41,6 @@ fn code_refusal_of(number: u8, fault: CodeFault) -> Refusal
         code: Cause::Code(fault.code),
         at: fault.slot,
         program: Some(number),
-    }
-}
-
-/// The log of these bytes, if its work is built.
-fn read_log(alloc: Global, bytes: &[u8], sectors: u32) -> Result<Log, Refusal>
-    requires some { 1 ≤ sectors }
-    requires device { sectors ≤ 16384 }
-    ensures text { IfOk result (LogText bytes.now) }
-    ensures sectors { IfOk result (λ log. log.sectors ≡ sectors) }
-    ensures built { IfOk result (λ log. first_unbuilt log.entries ≡ None) }
-    ensures refused { IfErr result (RefusesLog bytes.now sectors) }
-{
-    let log = match read(alloc, bytes, sectors) {
-        Ok(log) => log,
-        Err(fault) => return Err(log_refusal_of(fault)),
-    };
-    match unbuilt(log.entries()) {
-        Some(at) => Err(log_refusal_of(LogFault {
-            code: LogCause::Flags,
-            at: at as u32,
-        })),
-        None => Ok(log),
     }
 }
 
@@ -133,71 +81,107 @@ fn decode_all(alloc: Global, files: &[Vec<u8>]) -> Result<Vec<Program>, Refusal>
     Ok(programs)
 }
 
-/// The refusal for want of memory in the work.
-pub(crate) fn no_memory() -> Refusal
-    ensures { result ≡ work_refusal }
+/// The programs as checkers with a limit of steps.
+fn checkers_of<'p>(
+    alloc: Global,
+    programs: &'p [Program],
+    limit: u64,
+) -> Result<Vec<Checker<'p>>, AllocError>
+    ensures { IfOk result (λ checkers. checkers.items ≡ map (checker_of limit) programs.now) }
 {
-    Refusal {
-        code: Cause::Work(WorkCause::Memory),
-        at: 0,
-        program: None,
+    let mut checkers = Vec::new(alloc);
+    for program in programs {
+        checkers.push(Checker::limited(program, limit))?;
     }
+    Ok(checkers)
 }
 
-/// What stands at the head of the report.
-#[tactic(auto, unfolding(crate::specs::Explore::head_of))]
-fn head(
-    alloc: Global,
-    options: &Options,
-    entries: usize,
-    programs: &[Program],
-) -> Result<Head, AllocError>
-    requires { entries ≤ 65536 }
-    ensures { IfOk result (λ h. h ≡ head_of options.now entries programs.now) }
+/// What the report says of each checker at its head.
+fn program_heads(alloc: Global, checkers: &[Checker<'_>]) -> Result<Vec<ProgramHead>, AllocError>
+    ensures { IfOk result (λ heads. heads.items ≡ map program_head checkers.now) }
 {
-    let limit = options.limit();
     let mut heads = Vec::new(alloc);
-    for program in programs {
+    for checker in checkers {
         heads.push(ProgramHead {
-            slots: program.slots() as u32,
-            limit,
+            slots: checker.slots(),
+            limit: checker.limit(),
         })?;
     }
-    Ok(Head {
+    Ok(heads)
+}
+
+/// The report of the work.
+#[tactic(auto, unfolding(crate::specs::Explore::head_of))]
+fn reported(
+    alloc: Global,
+    log: &Log,
+    checkers: &[Checker<'_>],
+    options: &Options,
+    images: u64,
+    work: &Work,
+) -> Result<Vec<u8>, AllocError>
+    requires images { images ≡ length (images_of options.now log.now) }
+    requires device { log.now.sectors ≡ options.now.sectors }
+    requires lines { work.now.lines ≡ failing_lines (subject_of options.now log.now checkers.now) }
+    requires order { IsNonDecreasing (map (λ l. l.image) work.now.lines) }
+    ensures { IfOk result (λ bytes. bytes.items ≡ report_of options.now log.now checkers.now) }
+{
+    let head = Head {
         sectors: options.sectors(),
-        entries: entries as u32,
+        entries: log.entries().len() as u32,
         cuts: options.cuts(),
         bound: options.bound(),
         tears: options.tears(),
         first: options.first(),
-        programs: heads,
-        images: entries as u64 + 1,
-    })
+        programs: program_heads(alloc, checkers)?,
+        images,
+    };
+    write_report(alloc, &head, &work.lines)
 }
 
-/// The report of a log that is built, and of programs.
-fn report<G: Gate>(
+/// Judges the crash images of a plan by checkers, and reports those that fail.
+fn judged<'x, G: Gate>(
     alloc: Global,
     gate: &G,
-    log: &Log,
-    programs: &[Program],
+    log: &'x Log,
+    plan: &'x Plan<'x>,
+    checkers: &'x [Checker<'x>],
     options: &Options,
-) -> Result<Explored, AllocError>
-    requires programs { length programs.now ≤ 8 }
+) -> Result<Explored, Refusal>
+    requires plan { plan.now ≡ plan_of options.now log.now }
     requires device { log.now.sectors ≡ options.now.sectors }
-    ensures bytes { IfOk result (λ e. e.bytes.items ≡ report_bytes (head_of options.now (length log.now.entries) programs.now) (failing_lines (subject_of options.now log.now.entries programs.now))) }
-    ensures failing { IfOk result (λ e. IsTrue e.failing ↔ (failing_lines (subject_of options.now log.now.entries programs.now) ≢ [])) }
+    requires checkers { length checkers.now ≤ 8 }
+    ensures bytes { IfOk result (λ e. e.bytes.items ≡ report_of options.now log.now checkers.now) }
+    ensures failing { IfOk result (λ e. IsTrue e.failing ↔ (failing_lines (subject_of options.now log.now checkers.now) ≢ [])) }
     ensures hits { IfOk result (λ e. e.hits ≡ 0) }
+    ensures refused { IfErr result (RefusesPlan options.now log.now) }
 {
-    let entries = log.entries();
-    let judge = Judge::new(entries, log.sectors(), programs, options.limit());
-    let lines = judge.judge_all(alloc, gate)?;
-    let head = head(alloc, options, entries.len(), programs)?;
-    Ok(Explored {
-        bytes: write_report(alloc, &head, &lines)?,
-        hits: 0,
-        failing: !lines.is_empty(),
-    })
+    let history = match History::new(alloc, &*plan, &*log) {
+        Ok(history) => history,
+        Err(_error) => return Err(no_memory()),
+    };
+    let input = match Input::new(
+        &*plan,
+        &history,
+        &*checkers,
+        options.bound(),
+        options.tears(),
+    ) {
+        Ok(input) => input,
+        Err(fault) => return Err(images_refusal_of(fault)),
+    };
+    let work = match explore_all(alloc, gate, &input) {
+        Ok(work) => work,
+        Err(refusal) => return Err(refusal),
+    };
+    match reported(alloc, log, checkers, options, input.image_count(), &work) {
+        Ok(bytes) => Ok(Explored {
+            bytes,
+            hits: work.hits,
+            failing: !work.lines.is_empty(),
+        }),
+        Err(_error) => Err(no_memory()),
+    }
 }
 
 /// Explores the crash images of a log: judges each by the programs, and reports those that fail
@@ -205,8 +189,8 @@ fn report<G: Gate>(
 ///
 /// # Errors
 ///
-/// The first refusal in the order of docs/REPORT.md: the number of programs, the log, then each
-/// program; or want of memory.
+/// The first refusal in the order of docs/REPORT.md: want of a limit of steps, the number of programs,
+/// the log, the number of its images, then each program; or want of memory.
 pub fn explore_with<G: Gate>(
     alloc: Global,
     gate: &G,
@@ -218,6 +202,10 @@ pub fn explore_with<G: Gate>(
     ensures hits { IfOk result (λ e. e.hits ≡ 0) }
     ensures refused { IfErr result (Refuses log.now (map (λ f. f.items) programs.now) options.now) }
 {
+    let limit = match options.checked() {
+        Some(limit) => limit,
+        None => return Err(option_refusal_at(5)),
+    };
     if programs.len() != 1 {
         return Err(option_refusal_at(6));
     }
@@ -225,13 +213,21 @@ pub fn explore_with<G: Gate>(
         Ok(log) => log,
         Err(refusal) => return Err(refusal),
     };
+    let (plan, _images) = match planned(alloc, &log, options) {
+        Ok(planned) => planned,
+        Err(refusal) => return Err(refusal),
+    };
     let programs = match decode_all(alloc, programs) {
         Ok(programs) => programs,
         Err(refusal) => return Err(refusal),
     };
-    match report(alloc, gate, &log, programs.as_slice(), options) {
+    let checkers = match checkers_of(alloc, programs.as_slice(), limit) {
+        Ok(checkers) => checkers,
+        Err(_error) => return Err(no_memory()),
+    };
+    match judged(alloc, gate, &log, &plan, checkers.as_slice(), options) {
         Ok(explored) => Ok(explored),
-        Err(_error) => Err(no_memory()),
+        Err(refusal) => Err(refusal),
     }
 }
 

@@ -8,24 +8,27 @@
 //!
 //! # Place
 //!
-//! The top layer. `logfmt` reads the log, `bpf_isa` decodes the checkers, `interp` runs them on a
-//! device of `helpers`, `shares` has the type of a refusal. What stands here:
+//! The top layer. `logfmt` reads the log, `epochs` says its cuts, `choices` and `images` its crash
+//! images, `bpf_isa` decodes the checkers, `workers` judges the images by `interp`, `report` has the
+//! lines, `shares` the type of a refusal. What stands here:
 //!
 //! - `options`: `Options`, the options of a run, tested in their order.
-//! - `explorer`: `explore_with` and `explore`, from bytes to bytes. `judge` goes over the images block
-//!   by block, through a `gate`; `report` writes the lines.
+//! - `source`: what each command reads of a log, with the refusals in their order.
+//! - `explorer`: `explore_with` and `explore`, from bytes to the bytes of the report.
+//! - `showing` and `survey`: the bytes of one image, and the number of images cut by cut.
 //! - `words`, `action` and `refused`: the words of the command line, what a command answers, and the
 //!   line of a refusal. `main` does no more than read files, call these and print.
 //!
 //! # What is proved
 //!
 //! Where `explore` answers `Ok`, its bytes are `report_bytes` of the log's failing lines
-//! (`specs/Report.antt`, `specs/Failing.antt`): the list of all images and programs whose outcome, by
-//! the definition of the machine, is not a verdict with answer 0. Where it answers `Err`, the refusal
-//! is the first in the order of docs/REPORT.md (`specs/Explore.antt`), or memory ran out.
+//! (`workers/specs/Failing.antt`): of all images and programs whose outcome, by the definition of the
+//! machine on the definition of the image, is not a verdict with answer 0. `image` answers the bytes of
+//! the image of a number, and `survey` the text of `specs/Survey.antt`. Where one of them answers `Err`,
+//! the refusal is the first in the order of docs/REPORT.md (`specs/Explore.antt`, `specs/Image.antt`,
+//! `specs/Survey.antt`), or memory ran out.
 //!
-//! So far this holds for logs of flush entries without sectors, which leave a device of zeros. Other
-//! entries, and options whose work is not built, are refused.
+//! So far a run has one program and one worker. What is not built is refused.
 //!
 //! # Example
 //!
@@ -40,29 +43,32 @@
 #![tactic(auto)]
 
 mod action;
-mod blank;
 mod explorer;
-mod gate;
-mod judge;
 mod options;
 mod refused;
-mod report;
+mod showing;
+mod source;
+mod survey;
 #[cfg(test)]
 mod tests;
 mod words;
+#[cfg(test)]
+mod written;
 
 pub use action::act;
 pub use epochs::Cuts;
 pub use explorer::{Explored, explore, explore_with};
-pub use gate::Gate;
 pub use options::Options;
 pub use refused::fault_line;
+pub use showing::image;
 use std::alloc::AllocError;
 use std::io::Write;
 use std::process::ExitCode;
 use std::rt::{Env, Files};
 use std::{env, fs, io};
+pub use survey::survey;
 pub use words::Words;
+pub use workers::Gate;
 
 /// The status of a run that was refused or could not be written.
 const REFUSED: u8 = 2;

@@ -1,8 +1,9 @@
 //! The options of a run.
 
-ghost use Rattle.std.specs.Prelude.{◌≡◌, ◌≤◌, MatchResult, IfOk, None, Some};
+ghost use Rattle.std.specs.Prelude.{◌≡◌, ◌≤◌, MatchResult, IfOk, None, Some, not, nat_le, true};
+ghost use Rattle.std.specs.Option.{option_map_or};
 ghost use Rattle.base.specs.Check.{first_failing};
-ghost use Rattle.crashbpf.specs.Settings.{option_checks, option_refusal, limit_of, IsAsked};
+ghost use Rattle.crashbpf.specs.Settings.{option_checks, option_refusal, IsAsked};
 
 use base::causes::RequestCause;
 use epochs::Cuts;
@@ -11,6 +12,9 @@ use std::marker::Model;
 
 /// The greatest number of sectors of a device.
 const MAX_SECTORS: u64 = 16_384;
+
+/// The most units that may depart.
+const MAX_BOUND: u64 = 3;
 
 /// The greatest limit of steps.
 const MAX_STEPS: u64 = 1_000_000_000;
@@ -50,6 +54,16 @@ pub(crate) fn option_refusal_at(place: u64) -> Refusal
     }
 }
 
+/// Whether there is a limit of steps that is too great.
+fn is_too_long(checked: Option<u64>) -> bool
+    ensures { result ≡ not (option_map_or (λ limit. nat_le limit 1000000000) checked true) }
+{
+    match checked {
+        Some(limit) => limit > MAX_STEPS,
+        None => false,
+    }
+}
+
 impl Options {
     /// The options of a run. `checked` is a limit of steps for programs that no verifier was asked
     /// about.
@@ -74,7 +88,7 @@ impl Options {
         if sectors < 1 || sectors > MAX_SECTORS {
             return Err(option_refusal_at(1));
         }
-        if bound > 0 {
+        if bound > MAX_BOUND {
             return Err(option_refusal_at(2));
         }
         if workers != 1 {
@@ -83,14 +97,8 @@ impl Options {
         if cache > 0 {
             return Err(option_refusal_at(4));
         }
-        let Some(limit) = checked else {
+        if is_too_long(checked) {
             return Err(option_refusal_at(5));
-        };
-        if limit > MAX_STEPS {
-            return Err(option_refusal_at(5));
-        }
-        if cuts != Cuts::All {
-            return Err(option_refusal_at(7));
         }
         if first {
             return Err(option_refusal_at(8));
@@ -124,7 +132,8 @@ impl Options {
 
     /// How many units may depart, 0 to 3.
     pub(crate) fn bound(&self) -> u8
-        ensures { result ≡ self.now.bound }
+        ensures value { result ≡ self.now.bound }
+        ensures few { result ≤ 3 }
     {
         self.bound
     }
@@ -143,10 +152,10 @@ impl Options {
         self.first
     }
 
-    /// The limit of steps of a program.
-    pub(crate) fn limit(&self) -> u64
-        ensures { result ≡ limit_of self.now }
+    /// The limit of steps of a program, where there is one.
+    pub(crate) fn checked(&self) -> Option<u64>
+        ensures { result ≡ self.now.checked }
     {
-        self.checked.unwrap_or(0)
+        self.checked
     }
 }

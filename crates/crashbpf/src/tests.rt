@@ -8,7 +8,7 @@ use std::test::Fail;
 
 const ANSWER_0: [u8; 16] = [0xb7, 0, 0, 0, 0, 0, 0, 0, 0x95, 0, 0, 0, 0, 0, 0, 0];
 
-const ANSWER_1: [u8; 16] = [0xb7, 0, 0, 0, 1, 0, 0, 0, 0x95, 0, 0, 0, 0, 0, 0, 0];
+pub(crate) const ANSWER_1: [u8; 16] = [0xb7, 0, 0, 0, 1, 0, 0, 0, 0x95, 0, 0, 0, 0, 0, 0, 0];
 
 const MOVE_ALONE: [u8; 8] = [0xb7, 0, 0, 0, 1, 0, 0, 0];
 
@@ -32,7 +32,7 @@ const NESTED_LOOPS: [u8; 72] = [
 ];
 
 /// Reports 17 codes, of which 16 are kept, and answers 1.
-const REPORT_CODES: [u8; 80] = [
+pub(crate) const REPORT_CODES: [u8; 80] = [
     0xb7, 0x06, 0, 0, 0, 0, 0, 0, //
     0xb7, 0x01, 0, 0, 17, 0, 0, 0, //
     0x85, 0, 0, 0, 3, 0, 0, 0, //
@@ -46,10 +46,10 @@ const REPORT_CODES: [u8; 80] = [
 ];
 
 /// Answers how many marks were passed.
-const MARKS_PASSED: [u8; 16] = [0x79, 0x10, 16, 0, 0, 0, 0, 0, 0x95, 0, 0, 0, 0, 0, 0, 0];
+pub(crate) const MARKS_PASSED: [u8; 16] = [0x79, 0x10, 16, 0, 0, 0, 0, 0, 0x95, 0, 0, 0, 0, 0, 0, 0];
 
 /// A sector that begins with these bytes.
-fn put_sector(log: &mut Vec<u8>, head: &[u8]) -> Result<(), Fail> {
+pub(crate) fn put_sector(log: &mut Vec<u8>, head: &[u8]) -> Result<(), Fail> {
     let end = log.len().checked_add(512).ok_or("a short log")?;
     log.extend_from_slice(head)?;
     log.resize(end, 0)?;
@@ -73,7 +73,7 @@ fn flushes(alloc: Global, count: u8) -> Result<Vec<u8>, Fail> {
     Ok(log)
 }
 
-fn words_of(alloc: Global, line: &str) -> Result<Words, Fail> {
+pub(crate) fn words_of(alloc: Global, line: &str) -> Result<Words, Fail> {
     let mut words = Vec::new(alloc);
     for word in line.split_whitespace() {
         words.push(word.to_string(alloc)?)?;
@@ -82,7 +82,7 @@ fn words_of(alloc: Global, line: &str) -> Result<Words, Fail> {
 }
 
 /// What a command prints and its status; for a refusal its line and 2.
-fn acted(alloc: Global, line: &str, log: Vec<u8>, program: &[u8]) -> Result<(Vec<u8>, u8), Fail> {
+pub(crate) fn acted(alloc: Global, line: &str, log: Vec<u8>, program: &[u8]) -> Result<(Vec<u8>, u8), Fail> {
     let words = words_of(alloc, line)?;
     let mut files = Vec::new(alloc);
     files.push(Some(log))?;
@@ -241,7 +241,7 @@ fn refuses_with_number_and_place(rt: HostRuntime) -> Result<(), Fail> {
             "refused 13 at 1\n",
         ),
         (
-            "explore log program --sectors 1 --checked 2",
+            "explore log program --sectors 1 --bound 4 --workers 0",
             512,
             ANSWER_1.as_slice(),
             "refused 13 at 2\n",
@@ -263,12 +263,6 @@ fn refuses_with_number_and_place(rt: HostRuntime) -> Result<(), Fail> {
             512,
             ANSWER_1.as_slice(),
             "refused 13 at 5\n",
-        ),
-        (
-            "explore log program --sectors 1 --bound 0 --checked 2 --cuts flush",
-            512,
-            ANSWER_1.as_slice(),
-            "refused 13 at 7\n",
         ),
         (
             "explore log program --sectors 0 --bound 0 --checked 2 --cuts some",
@@ -316,24 +310,6 @@ fn refuses_with_number_and_place(rt: HostRuntime) -> Result<(), Fail> {
         assert_eq!(rt; bytes.as_slice(), wanted.as_bytes(), "{line}");
         assert_eq!(rt; status, 2, "{line}");
     }
-    Ok(())
-}
-
-#[test]
-fn refuses_what_is_not_built(rt: HostRuntime) -> Result<(), Fail> {
-    let alloc = rt.alloc();
-    let mut log = flushes(alloc, 2)?;
-    // the second entry is a flush with forced unit access
-    assert!(rt; log.len() == 1536);
-    log[1040] = 3;
-    let (bytes, status) = acted(
-        alloc,
-        "explore log program --sectors 1 --bound 0 --checked 2",
-        log,
-        &ANSWER_1,
-    )?;
-    assert_eq!(rt; bytes.as_slice(), "refused 6 at 1\n".as_bytes());
-    assert_eq!(rt; status, 2);
     Ok(())
 }
 
@@ -395,6 +371,10 @@ fn faults_of_the_command_line(rt: HostRuntime) -> Result<(), Fail> {
         "explore log program",
         "survey log",
         "explore log program --sectors one",
+        "images --sectors 1",
+        "images log",
+        "image log --sectors 1",
+        "image log one --sectors 1",
     ] {
         let mut words = Vec::new(alloc);
         for word in line.split_whitespace() {

@@ -29,6 +29,10 @@ pub(crate) enum Request {
     StoredRun,
     /// `explore LOG PROGRAM..`
     Explore(OptionWords),
+    /// `images LOG`
+    Images(OptionWords),
+    /// `image LOG N`, with the number of the image.
+    Image(OptionWords, u64),
 }
 
 /// The words behind the program's name (docs/REPORT.md, Command line).
@@ -56,17 +60,13 @@ fn number_option<'a>(alloc: Global, name: &'a str, default: &'a str, help: &'a s
         .help(help)
 }
 
-/// The command `explore`.
-fn explore_command<'a>(alloc: Global) -> Result<Command<'a>, AllocError> {
+/// A command on a log, with the options that say which of its crash images are meant.
+fn log_command<'a>(alloc: Global, name: &'a str) -> Result<Command<'a>, AllocError> {
     let sectors = Arg::new(alloc, "sectors")
         .long("sectors")
         .required(true)
         .value_parser(clap::value_parser!(u64))
         .help("sectors of the device, 1 to 16384");
-    let checked = Arg::new(alloc, "checked")
-        .long("checked")
-        .value_parser(clap::value_parser!(u64))
-        .help("run programs with every check, for at most so many steps");
     let cuts = Arg::new(alloc, "cuts")
         .long("cuts")
         .default_value("all")
@@ -75,24 +75,54 @@ fn explore_command<'a>(alloc: Global) -> Result<Command<'a>, AllocError> {
         .long("tears")
         .action(ArgAction::SetTrue)
         .help("let sectors be torn");
-    let first = Arg::new(alloc, "first")
-        .long("first")
-        .action(ArgAction::SetTrue)
-        .help("report the first failing image alone");
-    let files = Arg::new(alloc, "files")
-        .num_args(2..)
-        .required(true)
-        .value_name("LOG PROGRAM..");
-    Command::new(alloc, "explore")
+    let log = Arg::new(alloc, "log").required(true).value_name("LOG");
+    Command::new(alloc, name)
         .arg(sectors)?
         .arg(cuts)?
         .arg(number_option(alloc, "bound", "1", "units that may depart, 0 to 3"))?
         .arg(tears)?
+        .arg(log)
+}
+
+/// The command `explore`.
+fn explore_command<'a>(alloc: Global) -> Result<Command<'a>, AllocError> {
+    let checked = Arg::new(alloc, "checked")
+        .long("checked")
+        .value_parser(clap::value_parser!(u64))
+        .help("run programs with every check, for at most so many steps");
+    let first = Arg::new(alloc, "first")
+        .long("first")
+        .action(ArgAction::SetTrue)
+        .help("report the first failing image alone");
+    let programs = Arg::new(alloc, "programs")
+        .num_args(1..)
+        .required(true)
+        .value_name("PROGRAM");
+    log_command(alloc, "explore")?
         .arg(number_option(alloc, "workers", "1", "threads, 1 to 64"))?
         .arg(number_option(alloc, "cache", "0", "judgements to keep, at most 65536"))?
         .arg(checked)?
         .arg(first)?
-        .arg(files)
+        .arg(programs)
+}
+
+/// The command `image`.
+fn image_command<'a>(alloc: Global) -> Result<Command<'a>, AllocError> {
+    let number = Arg::new(alloc, "number")
+        .required(true)
+        .value_parser(clap::value_parser!(u64))
+        .value_name("N");
+    log_command(alloc, "image")?.arg(number)
+}
+
+/// All commands.
+fn commands<'a>(alloc: Global) -> Result<Command<'a>, AllocError> {
+    Command::new(alloc, "crashbpf")
+        .no_binary_name(true)
+        .subcommand_required(true)
+        .subcommand(explore_command(alloc)?)?
+        .subcommand(log_command(alloc, "images")?)?
+        .subcommand(image_command(alloc)?)
 }
 
 /// The kind of cut that a word names.
@@ -105,26 +135,55 @@ fn cuts_of(word: Option<&str>) -> Option<Cuts> {
     }
 }
 
-/// The options of `explore`.
-fn option_words(matches: &ArgMatches<'_>) -> OptionWords {
+/// The options of a command on a log.
+fn log_words(matches: &ArgMatches<'_>) -> OptionWords {
     OptionWords {
         sectors: matches.get_one::<u64>("sectors").unwrap_or(0),
         cuts: cuts_of(matches.get_str("cuts")),
         bound: matches.get_one::<u64>("bound").unwrap_or(1),
         tears: matches.get_flag("tears"),
+        workers: 1,
+        cache: 0,
+        checked: None,
+        first: false,
+    }
+}
+
+/// The options of `explore`.
+fn explore_words(matches: &ArgMatches<'_>) -> OptionWords {
+    OptionWords {
         workers: matches.get_one::<u64>("workers").unwrap_or(1),
         cache: matches.get_one::<u64>("cache").unwrap_or(0),
         checked: matches.get_one::<u64>("checked"),
         first: matches.get_flag("first"),
+        ..log_words(matches)
     }
 }
 
-/// The files that a command names.
-fn file_words(alloc: Global, matches: &ArgMatches<'_>) -> Result<Vec<String>, AllocError> {
+/// What a command with that name asks for.
+fn request_of(name: &str, matches: &ArgMatches<'_>) -> Request {
+    match name {
+        "images" => Request::Images(log_words(matches)),
+        "image" => Request::Image(
+            log_words(matches),
+            matches.get_one::<u64>("number").unwrap_or(0),
+        ),
+        _ => Request::Explore(explore_words(matches)),
+    }
+}
+
+/// The files that a command names: the log, then the programs.
+fn file_words(alloc: Global, name: &str, matches: &ArgMatches<'_>) -> Result<Vec<String>, AllocError> {
     let mut files = Vec::new(alloc);
-    if let Some(names) = matches.get_strs("files") {
-        for name in names {
-            files.push(name.to_string(alloc)?)?;
+    if let Some(log) = matches.get_str("log") {
+        files.push(log.to_string(alloc)?)?;
+    }
+    if name != "explore" {
+        return Ok(files);
+    }
+    if let Some(programs) = matches.get_strs("programs") {
+        for program in programs {
+            files.push(program.to_string(alloc)?)?;
         }
     }
     Ok(files)
@@ -145,15 +204,11 @@ impl Words {
                 files: Vec::new(alloc),
             });
         }
-        let command = Command::new(alloc, "crashbpf")
-            .no_binary_name(true)
-            .subcommand_required(true)
-            .subcommand(explore_command(alloc)?)?;
-        let matches = command.try_get_matches_from(words)?;
+        let matches = commands(alloc)?.try_get_matches_from(words)?;
         match matches.subcommand() {
-            Some((_name, inner)) => Ok(Words {
-                request: Request::Explore(option_words(inner)),
-                files: file_words(alloc, inner)?,
+            Some((name, inner)) => Ok(Words {
+                request: request_of(name, inner),
+                files: file_words(alloc, name, inner)?,
             }),
             None => Ok(Words {
                 request: Request::StoredRun,

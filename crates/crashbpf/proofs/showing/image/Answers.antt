@@ -1,0 +1,36 @@
+use Rattle.std.proofs.Common.{◌≡◌, ◌∙◌, ◌≤◌, length, arith}
+use Rattle.choices.specs.Choices.{limit}
+use Rattle.crashbpf.specs.Source.{for_log, for_plan, images_of}
+use Rattle.crashbpf.specs.Image.{for_source, for_number, for_memory}
+use Rattle.crashbpf.proofs.showing.image.Goals as goal
+
+pub returns-in-Err-clause-refused : goal.returns-in-Err-clause-refused
+returns-in-Err-clause-refused c = for_source _ (for_log _ (rw (← c.sectors.ensures.value) c.in-Err.ensures.refused))
+
+pub returns-in-Err-planned-clause-refused : goal.returns-in-Err-planned-clause-refused
+returns-in-Err-planned-clause-refused c =
+    for_source _
+    (for_plan _ c.in-Ok.log (record { device = c.in-Ok.ensures.sectors ∙ c.sectors.ensures.value; of_log = c.in-Ok.ensures.text }) c.in-Err-planned.ensures.refused)
+
+pub returns-then-number-images-clause-refused :
+    goal.returns-then-number-images-clause-refused
+returns-then-number-images-clause-refused c =
+    let few : length (images_of c.args.options.now c.in-Ok.log) ≤ limit = omega (arith, c.in-Ok-planned.ensures.count, c.in-Ok-planned.ensures.few) in
+    let past : length (images_of c.args.options.now c.in-Ok.log) ≤ c.args.number = omega (arith, c.in-Ok-planned.ensures.count, c.if-number-images.true) in
+    rw c.option_refusal_at.ensures
+    (for_number c.in-Ok.log
+    (record {
+      reads = record { device = c.in-Ok.ensures.sectors ∙ c.sectors.ensures.value; of_log = c.in-Ok.ensures.text };
+      few = few;
+    })
+    past)
+
+pub returns-clause-refused : goal.returns-clause-refused
+returns-clause-refused c =
+    let few : length (images_of c.args.options.now c.in-Ok.log) ≤ limit = omega (arith, c.in-Ok-planned.ensures.count, c.in-Ok-planned.ensures.few) in
+    rw c.no_memory.ensures
+    (for_memory c.in-Ok.log
+    (record {
+      reads = record { device = c.in-Ok.ensures.sectors ∙ c.sectors.ensures.value; of_log = c.in-Ok.ensures.text };
+      few = few;
+    }))

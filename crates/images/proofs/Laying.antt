@@ -1,0 +1,103 @@
+-- A unit that is laid over what the units before it have left.
+use Rattle.std.proofs.Common.{ℕ, ◌≡◌, ◌≢◌, ◌+◌, ◌-◌, ◌*◌, ◌<◌, ◌≤◌, false, nat_lt, ◌&&◌, if◌then◌else◌, List, [], ◌∷◌, ◌++◌, length, map, take, drop, slice_index_or, slice_set, refl, sym, ◌∙◌, ap, arith, inl, inr}
+use Rattle.std.specs.List.{range_with_len, slice_index}
+use Rattle.std.proofs.lemmas.Bool.{cases_lt, lt-ltb, le-ltb, eq-eqb, ne_eqb}
+use Rattle.std.proofs.lemmas.Bool.Decides.{eqb_tells}
+use Rattle.std.proofs.lemmas.Grind.{same_number_lists}
+use Rattle.std.proofs.lemmas.List.{same_lists, length-append, length-take-le, length-drop, length-set, get_or-take, get_or-drop, get_or_append_left, get_or-append_right, get_or-set_same, get_or-set_other}
+use Rattle.std.proofs.lemmas.List.FromFn.{length-map-range_with_len, get_or-map-range_with_len}
+use Rattle.logfmt.specs.declared.entry.Entry.{Entry}
+use Rattle.epochs.specs.declared.unit.Unit.{Unit as LogUnit}
+use Rattle.epochs.specs.Units.{unit_content}
+use Rattle.choices.specs.declared.choice.Departure.{Departure}
+use Rattle.images.specs.Images.{survives, writes, byte_after, sector_after, device_after}
+use Rattle.images.proofs.Writers.{byte_after-push, byte_after_lost}
+
+-- whether a unit writes in another sector, and in its own
+writes_elsewhere : (ds : List Departure) (s i : ℕ) (u : LogUnit) → s ≢ u.sector → writes ds s i u ≡ false
+unfolding writes
+writes_elsewhere ds s i u other = ap (λ b. b && survives ds i u) (ne_eqb u.sector s (λ e. other (sym e)))
+
+writes_here : (ds : List Departure) (i : ℕ) (u : LogUnit) → writes ds u.sector i u ≡ survives ds i u
+unfolding writes
+writes_here ds i u = ap (λ b. b && survives ds i u) (eq-eqb u.sector u.sector refl)
+
+-- another sector stays
+pub sector_elsewhere : (es : List Entry) (us : List LogUnit) (u : LogUnit) (ds : List Departure) (s : ℕ) → s ≢ u.sector
+    → sector_after es us ds s ≡ sector_after es (us ++ u ∷ []) ds s
+unfolding sector_after
+sector_elsewhere es us u ds s other =
+    ap (λ (f : ℕ → ℕ). map f (range_with_len 0 512)) (λ j i. sym (byte_after_lost es us u ds s i (writes_elsewhere ds s i u other)) j)
+
+-- a byte of a spliced sector
+spliced_byte : (new old : List ℕ) (m i : ℕ) → m ≤ length new → slice_index (take m new ++ drop m old) i ≡ (if nat_lt i m then slice_index new i else slice_index old i)
+spliced_byte new old m i le =
+    let long : length (take m new) ≡ m = length-take-le m new le in
+    elim (cases_lt i m) [
+      | inl lt ↦
+          get_or_append_left (take m new) (drop m old) 0 i (omega (arith, long, lt)) ∙ get_or-take m new i 0 lt
+          ∙ ap (λ b. if b then slice_index new i else slice_index old i) (sym (lt-ltb i m lt))
+      | inr past ↦
+          let back : m + (i - m) ≡ i = omega (arith, past) in
+          get_or-append_right (take m new) (drop m old) m i 0 long past ∙ get_or-drop m old (i - m) 0 ∙ ap (slice_index old) back
+          ∙ ap (λ b. if b then slice_index new i else slice_index old i) (sym (le-ltb i m past))
+    ]
+
+-- its own sector is spliced
+pub sector_here : (es : List Entry) (us : List LogUnit) (u : LogUnit) (ds : List Departure) (new old : List ℕ) (n : ℕ) → n ≤ 8
+    → new ≡ unit_content es u → length new ≡ 512 → old ≡ sector_after es us ds u.sector
+    → ((i : ℕ) → i < 512 → survives ds i u ≡ nat_lt i (64 * n))
+    → take (64 * n) new ++ drop (64 * n) old ≡ sector_after es (us ++ u ∷ []) ds u.sector
+unfolding sector_after
+sector_here es us u ds new old n le content long below kept =
+    let byte : ℕ → ℕ = byte_after es (us ++ u ∷ []) ds u.sector in
+    let old_byte : ℕ → ℕ = byte_after es us ds u.sector in
+    let old_long : length old ≡ 512 = ap length below ∙ length-map-range_with_len old_byte 0 512 in
+    let size : length (take (64 * n) new ++ drop (64 * n) old) ≡ 512 =
+    omega (arith, length-append (take (64 * n) new) (drop (64 * n) old), length-take-le (64 * n) new (omega (arith, long, le)), length-drop (64 * n) old, old_long, le) in
+    same_number_lists _ _ (size ∙ sym (length-map-range_with_len byte 0 512)) (λ i lt.
+    let within : i < 512 = omega (arith, lt, size) in
+    let here : 0 + i ≡ i = omega arith in
+    spliced_byte new old (64 * n) i (omega (arith, long, le))
+    ∙ ap (λ x. if nat_lt i (64 * n) then x else slice_index old i) (ap (λ xs. slice_index xs i) content)
+    ∙ ap (λ x. if nat_lt i (64 * n) then slice_index (unit_content es u) i else x)
+    (ap (λ xs. slice_index xs i) below ∙ get_or-map-range_with_len old_byte 0 512 i i 0 within here)
+    ∙ ap (λ b. if b then slice_index (unit_content es u) i else old_byte i) (sym (writes_here ds i u ∙ kept i within))
+    ∙ sym (byte_after-push es us u ds u.sector i)
+    ∙ sym (get_or-map-range_with_len byte 0 512 i i 0 within here))
+
+-- the device with that sector in its place
+pub laid : (sectors : ℕ) (es : List Entry) (us : List LogUnit) (u : LogUnit) (ds : List Departure) (image : List (List ℕ)) (sector : List ℕ)
+    → u.sector < sectors → image ≡ device_after sectors es us ds → sector ≡ sector_after es (us ++ u ∷ []) ds u.sector
+    → slice_set image u.sector sector ≡ device_after sectors es (us ++ u ∷ []) ds
+unfolding device_after
+laid sectors es us u ds image sector lt is own =
+    let f : ℕ → List ℕ = sector_after es us ds in
+    let g : ℕ → List ℕ = sector_after es (us ++ u ∷ []) ds in
+    let long : length image ≡ sectors = ap length is ∙ length-map-range_with_len f 0 sectors in
+    let size : length (slice_set image u.sector sector) ≡ sectors = length-set image u.sector sector ∙ long in
+    same_lists _ _ (size ∙ sym (length-map-range_with_len g 0 sectors)) (λ k d lower.
+    let within : k < sectors = omega (arith, lower, size) in
+    let here : 0 + k ≡ k = omega arith in
+    let right : slice_index_or (map g (range_with_len 0 sectors)) k d ≡ g k = get_or-map-range_with_len g 0 sectors k k d within here in
+    elim (eqb_tells k u.sector) [
+      | inl same ↦
+          ap (λ n. slice_index_or (slice_set image u.sector sector) n d) same.1
+          ∙ get_or-set_same image u.sector sector d (omega (arith, long, lt)) ∙ own ∙ ap g (sym same.1) ∙ sym right
+      | inr other ↦
+          get_or-set_other image u.sector k sector d other.1
+          ∙ ap (λ xs. slice_index_or xs k d) is ∙ get_or-map-range_with_len f 0 sectors k k d within here
+          ∙ sector_elsewhere es us u ds k other.1 ∙ sym right
+    ])
+
+pub length-device_after : (sectors : ℕ) (es : List Entry) (us : List LogUnit) (ds : List Departure) → length (device_after sectors es us ds) ≡ sectors
+unfolding device_after
+length-device_after sectors es us ds = length-map-range_with_len (sector_after es us ds) 0 sectors
+
+-- what lies below a unit
+pub sector_below : (sectors : ℕ) (es : List Entry) (us : List LogUnit) (ds : List Departure) (s : ℕ) (image : List (List ℕ)) (old : List ℕ)
+    → s < sectors → image ≡ device_after sectors es us ds → old ≡ slice_index_or image s old → old ≡ sector_after es us ds s
+unfolding device_after
+sector_below sectors es us ds s image old lt is read =
+    let here : 0 + s ≡ s = omega arith in
+    read ∙ ap (λ xs. slice_index_or xs s old) is ∙ get_or-map-range_with_len (sector_after es us ds) 0 sectors s s old lt here

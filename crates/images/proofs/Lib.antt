@@ -1,0 +1,8 @@
+-- Lemmas of the crate.
+pub mod Eighths
+pub mod Writers
+pub mod Laying
+pub mod Blank
+pub mod Fates
+pub mod Entries
+pub mod Members

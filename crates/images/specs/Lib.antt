@@ -1,0 +1,5 @@
+-- The crash images of a log.
+pub mod Images
+pub mod Views
+pub mod Whole
+pub mod Laws

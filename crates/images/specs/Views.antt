@@ -1,0 +1,46 @@
+-- What a view shows: the crash image of a log at a cut with some departures, and its context
+-- (docs/CRASH-MODEL.md, Crash image, Context of an image).
+use Rattle.std.specs.Prelude.{ℕ, ◌≡◌, ◌≤◌, Bool, List, slice_get, Some}
+use Rattle.logfmt.specs.Bounds.{LogValue, IsLog}
+use Rattle.epochs.specs.Units.{epoch_at, marks_at}
+use Rattle.epochs.specs.Plan.{PlanValue}
+use Rattle.choices.specs.declared.choice.Departure.{Departure}
+use Rattle.choices.specs.Choices.{ChoiceValue, ranked}
+use Rattle.helpers.specs.declared.device.Context.{Context}
+use Rattle.images.specs.Images.{crash_image}
+
+pub record ViewValue : Type 0 where
+  pub log : LogValue
+  pub cut : ℕ
+  pub departures : List Departure
+
+-- the view of a plan's log at a choice
+abbrev pub view_of : PlanValue → ChoiceValue → ViewValue
+view_of plan choice = record { log = plan.log; cut = choice.cut; departures = choice.departures }
+
+-- a choice of the plan, as it is numbered with some bound, with torn writes or without
+pub record IsMember (plan : PlanValue) (choice : ChoiceValue) : Type 0 where
+  pub bound : ℕ
+  pub tears : Bool
+  pub number : ℕ
+  pub there : slice_get (ranked plan bound tears) number ≡ Some choice
+
+-- the sectors of a view
+unfoldable pub sectors_of : ViewValue → List (List ℕ)
+sectors_of view = crash_image view.log.sectors view.log.entries view.cut view.departures
+
+-- the context of a cut
+abbrev pub context_at : LogValue → ℕ → Context
+context_at log cut = record { sectors = log.sectors; epoch = epoch_at log.entries cut; marks = marks_at log.entries cut }
+
+-- the numbers of a context are small
+pub record ContextFits (context : Context) : Type 0 where
+  pub epoch : context.epoch ≤ 65536
+  pub marks : context.marks ≤ 65536
+
+-- what a view keeps
+pub record IsView (view : ViewValue) (image : List (List ℕ)) (context : Context) : Type 0 where
+  pub bounds : IsLog view.log
+  pub shown : image ≡ sectors_of view
+  pub told : context ≡ context_at view.log view.cut
+  pub fits : ContextFits context

@@ -1,0 +1,79 @@
+//! Crash images: what a crash leaves on the device, as devices that a checker can read.
+//!
+//! A crash image is what the device holds after a crash at a cut of a log, where a choice says which
+//! of the last writes were lost or torn. Each byte of it is that of the last unit before the cut which
+//! covers the sector and of which the byte reached the device, and 0 where there is none:
+//!
+//! | A unit that is | leaves on its sector |
+//! |---|---|
+//! | whole | its 512 bytes |
+//! | dropped | what the units before it left |
+//! | torn behind t eighths | its first 64 t bytes, and then what the units before it left |
+//!
+//! A discard is a write of zeros, and can be dropped and torn as a write can. So the rest of a torn
+//! sector comes from an earlier write that reached the device, and that may be a torn one too.
+//!
+//! | Call | Answer |
+//! |---|---|
+//! | `History::new(alloc, plan, log)` | the crash images of a log, of which a plan says the cuts |
+//! | `history.view(alloc, choice)` | the crash image of a choice |
+//! | `view.context()` | the number of sectors, the epoch of the cut, the marks before it |
+//! | `view.sectors()`, `view.sector(n)` | the image as a `helpers::Device` |
+//!
+//! # Place
+//!
+//! The fifth layer. It stands on `epochs` and `choices`, whose plan and choices it takes, on `logfmt`
+//! for the contents of the units, on `lanes` for torn sectors, and on `helpers`, whose trait `Device` a
+//! view implements. Programs are run on views. The rules are those of docs/CRASH-MODEL.md, 'Fates and
+//! choices', 'Crash image' and 'Context of an image'.
+//!
+//! # What is proved
+//!
+//! Contracts see a history as its plan, and a view as a log, a cut and the departures; what either
+//! keeps in memory is its own matter.
+//!
+//! - The sectors of a view are `crash_image` of the log, the cut and the departures
+//!   (`specs/Images.antt`): byte i of sector s is byte i of the last of the units before the cut that
+//!   write it, `filter (writes ..) (units_before ..)`, and 0 where no unit does. The definition is a
+//!   filter of a list of units, byte by byte; the code lays whole sectors.
+//! - `History::view` answers the view of exactly its choice, which has to be one of the plan
+//!   (`IsMember`, `specs/Views.antt`): such as `choices::nth` and `choices::next` give.
+//! - `View::context` is that of the cut: the log's number of sectors, its flush entries and its marks
+//!   before the cut, each at most 65,536.
+//! - Two laws stand over the definition (`specs/Laws.antt`): a byte is that of its last writer
+//!   (`last_writer_shows`), and what one more unit changes is the table above (`fates_show`).
+//!
+//! Where memory is refused `view` answers `AllocError`. Nothing else is refused.
+//!
+//! # How it is written
+//!
+//! A view is a full copy of its device. `image` begins with zeros and lays the units before the cut
+//! over them, entry after entry: a unit's sector becomes `lanes::splice` of its content and of what
+//! stands there, with as many eighths of the content as its departures keep, 8 for a whole unit. So a
+//! view takes the memory of the device, and a copy of a sector for each unit.
+//!
+//! # Example
+//!
+//! ```
+//! use choices::nth;
+//! use helpers::Device;
+//! use images::History;
+//!
+//! // `log` writes sector 0 twice, first 0x11 and then 0x22, and `plan` has all of its cuts
+//! let history = History::new(alloc, &plan, &log)?;
+//! let view = history.view(alloc, &nth(&plan, 1, true, 20))?;
+//! // the cut behind both, the second write torn behind its first eighth: bytes 0 to 63 of
+//! // view.sector(0) are 0x22, and bytes 64 to 511 are 0x11
+//! ```
+#![tactic(auto)]
+
+mod history;
+mod image;
+mod laws;
+#[cfg(test)]
+mod tests;
+mod view;
+
+pub use history::History;
+pub use laws::{fates_show, last_writer_shows};
+pub use view::View;

@@ -1,0 +1,278 @@
+//! The examples of docs/CRASH-MODEL.md: the bytes and the contexts of images of small logs.
+
+ghost use Rattle.std.specs.Prelude.{◌≡◌, ◌≤◌};
+
+use super::{History, View, fates_show, last_writer_shows};
+use base::numbers::{put_u32, put_u64, put_zeros};
+use choices::{count, nth};
+use epochs::{Cuts, Plan};
+use helpers::{Context, Device};
+use logfmt::read;
+use std::alloc::{AllocError, Global};
+use std::process::Abort;
+use std::test::Fail;
+
+const FLUSH: u64 = 1;
+
+const FUA: u64 = 2;
+
+const DISCARD: u64 = 4;
+
+const MARK: u64 = 8;
+
+/// How many sectors the device of a test has.
+const SECTORS: u32 = 4;
+
+/// An entry as a test writes it: its first sector, how many sectors, its flags, and the byte of its
+/// first sector of data; each further sector has the next byte.
+type Item = (u64, u64, u64, u8);
+
+/// The text of a log of these entries. A mark's text has one byte.
+fn text_of(alloc: Global, items: &[Item]) -> Result<Vec<u8>, AllocError> {
+    let mut out = Vec::new(alloc);
+    out.extend_from_slice(b"rhswfsj\0")?;
+    put_u64(&mut out, 1)?;
+    put_u64(&mut out, items.len() as u64)?;
+    put_u32(&mut out, 512)?;
+    put_zeros(&mut out, 484)?;
+    for (sector, count, flags, byte) in items {
+        put_u64(&mut out, *sector)?;
+        put_u64(&mut out, *count)?;
+        put_u64(&mut out, *flags)?;
+        put_u64(&mut out, u64::from(*flags == MARK))?;
+        put_zeros(&mut out, 480)?;
+        if *flags & DISCARD == 0 {
+            put_data(&mut out, *count, *byte)?;
+        }
+    }
+    Ok(out)
+}
+
+/// So many sectors of data.
+fn put_data(out: &mut Vec<u8>, count: u64, byte: u8) -> Result<(), AllocError> {
+    let mut own = byte;
+    for _ in 0..count {
+        out.extend_from_slice(&[own; 512])?;
+        own = own.wrapping_add(1);
+    }
+    Ok(())
+}
+
+/// The bytes from one place to below another of a sector are all this one.
+type Run = (u32, usize, usize, u8);
+
+/// An image by its number, its cut, and bytes of it.
+#[derive(Clone, Copy)]
+struct Case<'a>(u64, u32, &'a [Run]);
+
+/// A log, the bound, whether writes may be torn, how many images there are, and some of them.
+#[derive(Clone, Copy)]
+struct Log<'a>(&'a [Item], u8, bool, u64, &'a [Case<'a>]);
+
+fn check_run(rt: &impl Abort, view: &View, run: Run, number: u64) {
+    let (sector, from, to, byte) = run;
+    let part = view.sector(sector).and_then(|bytes| bytes.get(from..to));
+    assert!(rt;
+        part.is_some_and(|bytes| bytes.iter().all(|own| *own == byte)),
+        "image {number}, sector {sector}, from {from}"
+    );
+}
+
+fn check_view(rt: &impl Abort, view: &View, runs: &[Run], number: u64) {
+    assert_eq!(rt; view.sectors(), SECTORS);
+    assert!(rt; view.sector(SECTORS).is_none());
+    for run in runs {
+        check_run(rt, view, *run, number);
+    }
+}
+
+fn check_case(
+    rt: &impl Abort,
+    alloc: Global,
+    plan: &Plan,
+    history: &History,
+    log: Log,
+    case: Case,
+) -> Result<(), Fail>
+    requires history { history.now ≡ plan.now }
+{
+    let Log(_, bound, tears, total, _) = log;
+    let Case(number, cut, runs) = case;
+    if bound > 3 {
+        return Err("a bound above 3".into());
+    }
+    let counted = count(plan, bound, tears);
+    assert_eq!(rt; counted, Ok(total));
+    if counted.is_ok_and(|counted| number < counted) {
+        let choice = nth(plan, bound, tears, number);
+        assert_eq!(rt; choice.cut(), cut, "image {number}");
+        let view = history.view(alloc, &choice)?;
+        check_view(rt, &view, runs, number);
+    }
+    Ok(())
+}
+
+fn check_log(rt: &impl Abort, alloc: Global, log: Log) -> Result<(), Fail> {
+    let text = text_of(alloc, log.0)?;
+    let read = read(alloc, &text, SECTORS)?;
+    let plan = Plan::new(alloc, &read, Cuts::All)?;
+    let history = History::new(alloc, &plan, &read)?;
+    for case in log.4 {
+        check_case(rt, alloc, &plan, &history, log, *case)?;
+    }
+    Ok(())
+}
+
+#[test]
+fn images_are_those_of_the_model(rt: HostRuntime) -> Result<(), Fail> {
+    let logs = [
+        // overwritten_sector
+        Log(
+            &[(0, 1, 0, 0x11), (0, 1, 0, 0x22)],
+            1,
+            true,
+            27,
+            &[
+                Case(0, 0, &[(0, 0, 512, 0)]),
+                Case(1, 1, &[(0, 0, 512, 0x11)]),
+                Case(2, 1, &[(0, 0, 512, 0)]),
+                Case(9, 1, &[(0, 0, 448, 0x11), (0, 448, 512, 0)]),
+                Case(10, 2, &[(0, 0, 512, 0x22), (1, 0, 512, 0)]),
+                Case(19, 2, &[(0, 0, 512, 0x11)]),
+                Case(
+                    20,
+                    2,
+                    &[
+                        (0, 0, 64, 0x22),
+                        (0, 64, 512, 0x11),
+                        (1, 0, 512, 0),
+                        (2, 0, 512, 0),
+                        (3, 0, 512, 0),
+                    ],
+                ),
+            ],
+        ),
+        // both writes torn, and the first one dropped
+        Log(
+            &[(0, 1, 0, 0x11), (0, 1, 0, 0x22)],
+            2,
+            true,
+            91,
+            &[
+                Case(28, 2, &[(0, 0, 64, 0x22), (0, 64, 512, 0)]),
+                Case(47, 2, &[(0, 0, 256, 0x22), (0, 256, 512, 0)]),
+                Case(
+                    61,
+                    2,
+                    &[(0, 0, 128, 0x22), (0, 128, 256, 0x11), (0, 256, 512, 0)],
+                ),
+            ],
+        ),
+        // discard
+        Log(
+            &[(0, 1, 0, 0x44), (0, 2, DISCARD, 0)],
+            1,
+            false,
+            7,
+            &[
+                Case(0, 0, &[(0, 0, 512, 0)]),
+                Case(1, 1, &[(0, 0, 512, 0x44)]),
+                Case(2, 1, &[(0, 0, 512, 0)]),
+                Case(3, 2, &[(0, 0, 512, 0)]),
+                Case(4, 2, &[(0, 0, 512, 0)]),
+                Case(5, 2, &[(0, 0, 512, 0x44)]),
+                Case(6, 2, &[(0, 0, 512, 0)]),
+            ],
+        ),
+        // flush_with_data
+        Log(
+            &[(0, 1, FLUSH, 0x33)],
+            1,
+            false,
+            3,
+            &[
+                Case(1, 1, &[(0, 0, 512, 0x33)]),
+                Case(2, 1, &[(0, 0, 512, 0)]),
+            ],
+        ),
+        // forced_write
+        Log(
+            &[(0, 1, 0, 0x11), (0, 1, FUA, 0xbb)],
+            1,
+            false,
+            5,
+            &[
+                Case(3, 2, &[(0, 0, 512, 0xbb)]),
+                Case(4, 2, &[(0, 0, 512, 0xbb)]),
+            ],
+        ),
+        // a write of three sectors, the second of which is lost
+        Log(
+            &[(1, 3, 0, 0x50)],
+            1,
+            false,
+            5,
+            &[Case(
+                3,
+                1,
+                &[
+                    (0, 0, 512, 0),
+                    (1, 0, 512, 0x50),
+                    (2, 0, 512, 0),
+                    (3, 0, 512, 0x52),
+                ],
+            )],
+        ),
+    ];
+    for log in logs {
+        check_log(&rt, rt.alloc(), log)?;
+    }
+    Ok(())
+}
+
+fn check_context(
+    rt: &impl Abort,
+    alloc: Global,
+    plan: &Plan,
+    history: &History,
+    cut: u32,
+    epoch: u32,
+    marks: u32,
+) -> Result<(), Fail>
+    requires history { history.now ≡ plan.now }
+{
+    let number = u64::from(cut);
+    if count(plan, 0, true).is_ok_and(|counted| number < counted) {
+        let choice = nth(plan, 0, true, number);
+        let view = history.view(alloc, &choice)?;
+        let wanted = Context {
+            sectors: SECTORS,
+            epoch,
+            marks,
+        };
+        assert_eq!(rt; choice.cut(), cut);
+        assert_eq!(rt; view.context(), wanted, "at cut {cut}");
+    }
+    Ok(())
+}
+
+#[test]
+fn contexts_count_what_was_passed(rt: HostRuntime) -> Result<(), Fail> {
+    let items = [
+        (0, 1, 0, 0x11),
+        (0, 0, FLUSH, 0),
+        (0, 0, MARK, 0),
+        (1, 1, 0, 0x22),
+    ];
+    let text = text_of(rt.alloc(), &items)?;
+    let log = read(rt.alloc(), &text, SECTORS)?;
+    let plan = Plan::new(rt.alloc(), &log, Cuts::All)?;
+    let history = History::new(rt.alloc(), &plan, &log)?;
+    assert_eq!(rt; count(&plan, 0, true), Ok(5));
+    for (cut, epoch, marks) in [(0, 0, 0), (1, 0, 0), (2, 1, 0), (3, 1, 1), (4, 1, 1)] {
+        check_context(&rt, rt.alloc(), &plan, &history, cut, epoch, marks)?;
+    }
+    last_writer_shows();
+    fates_show();
+    Ok(())
+}

@@ -1,0 +1,19 @@
+-- A failing line: an image on which a checker does not answer 0 (docs/REPORT.md, Failing lines).
+use Rattle.std.specs.Prelude.{ℕ, ◌==◌, Bool, true, not, List}
+use Rattle.machine.specs.Outcome.{Ending, Verdict, Stopped, OutOfSteps}
+use Rattle.choices.specs.declared.choice.Departure.{Departure}
+
+-- the number of the image, its cut, the number of the checker, what the checker ended in, and the units of
+-- the image that are not whole
+pub record FailingLine : Type 0 where
+  pub image : ℕ
+  pub cut : ℕ
+  pub program : ℕ
+  pub ending : Ending
+  pub departures : List Departure
+
+-- an image is good for a checker that answers 0
+abbrev pub fails : Ending → Bool
+fails (Verdict answer codes) = not (answer == 0)
+fails (Stopped cause slot) = true
+fails OutOfSteps = true

@@ -1,0 +1,41 @@
+//! What the report says before its lines.
+
+use epochs::Cuts;
+use std::marker::Model;
+
+/// What the report says of a program at its head.
+#[derive(Clone, Copy, Drop)]
+pub struct ProgramHead {
+    pub slots: u32,
+    /// The limit of steps.
+    pub limit: u64,
+}
+
+/// What the report says at its head, and how many images there are.
+#[derive(Drop)]
+pub struct Head {
+    /// The number of sectors of the device.
+    pub sectors: u32,
+    /// The number of entries of the log.
+    pub entries: u32,
+    /// The kind of the cuts.
+    pub cuts: Cuts,
+    /// How many units may depart.
+    pub bound: u8,
+    /// Whether units may be torn.
+    pub tears: bool,
+    /// Whether the report holds the first failing image alone.
+    pub first: bool,
+    /// The programs in order.
+    pub programs: Vec<ProgramHead>,
+    /// The number of images.
+    pub images: u64,
+}
+
+impl Model for Head {
+    ghost use Rattle.report.specs.Report.{HeadValue};
+
+    ghost Value = { HeadValue };
+
+    ghost view = { λ h. record { sectors = h.sectors; entries = h.entries; cuts = h.cuts; bound = h.bound; tears = h.tears; first = h.first; programs = h.programs.items; images = h.images } };
+}

@@ -1,0 +1,46 @@
+//! The report of a run: its failing lines, and the bytes that it prints.
+//!
+//! A run judges each crash image of a log by its programs. An image on which a program does not answer
+//! 0 makes a line. The report is a text of ASCII lines (docs/REPORT.md):
+//!
+//! ```text
+//! crash report 1
+//! sectors 4 entries 1 cuts all bound 1 tears yes first no
+//! program 0 slots 11 limit 9
+//! image 3 cut 1 program 0 answer 1 codes - choice 0.0:head1
+//! images 10 failing 1 lines 1
+//! ```
+//!
+//! | Type or call | What it is |
+//! |---|---|
+//! | `Head`, `ProgramHead` | what stands before the lines, and the number of images |
+//! | `Line` | one image with one program on which it fails: what the program ended in, and the departures |
+//! | `Lines` | lines in their order |
+//! | `write_report(alloc, head, lines)` | the bytes of the report |
+//!
+//! # Place
+//!
+//! The fifth layer, on `interp`, whose `Outcome` a line holds, on `choices`, whose departures it names,
+//! and on `epochs`, whose kinds of cut the head names. `workers` makes the lines, and `crashbpf` the
+//! head. Which images fail is not known here.
+//!
+//! # What is proved
+//!
+//! `write_report` gives exactly `report_bytes` of what head and lines say (`specs/Report.antt`,
+//! `specs/Text.antt`), byte by byte, where the lines stand in the order of their images; its one error
+//! is want of memory. Contracts see `Lines` as a list of `FailingLine`, what the lines say
+//! (`specs/Line.antt`): `push` and `append` add to its end.
+//!
+//! # How it is written
+//!
+//! Each part of a line is appended to one string by a function of its own, which says what it appended.
+//! The number of failing images is counted in one pass, since the lines of an image stand together.
+#![tactic(auto)]
+
+mod head;
+mod line;
+mod writer;
+
+pub use head::{Head, ProgramHead};
+pub use line::{Line, Lines};
+pub use writer::write_report;

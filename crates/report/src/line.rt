@@ -1,0 +1,79 @@
+//! The failing lines of a run.
+
+ghost use Rattle.std.specs.Prelude.{◌≡◌, ◌↔◌, ◌++◌, ◌∷◌, [], IsTrue, OnOk};
+ghost use Rattle.report.specs.Lines.{line_value};
+
+use arrayvec::ArrayVec;
+use choices::Departure;
+use interp::Outcome;
+use std::alloc::{AllocError, Global};
+use std::marker::Model;
+
+/// A failing line: an image on which a program does not answer 0 (docs/REPORT.md, Failing lines).
+#[derive(Drop)]
+pub struct Line {
+    /// The number of the image.
+    pub image: u64,
+    /// Its cut.
+    pub cut: u32,
+    /// The number of the program.
+    pub program: u8,
+    /// What the program ended in.
+    pub outcome: Outcome,
+    /// The units of the image that are not whole.
+    pub departures: ArrayVec<Departure, 3>,
+}
+
+/// Failing lines in their order. Contracts see the list of what the lines say.
+#[derive(Drop)]
+pub struct Lines {
+    pub(crate) lines: Vec<Line>,
+}
+
+impl Model for Lines {
+    ghost use Rattle.std.specs.Prelude.{List, map};
+    ghost use Rattle.report.specs.Line.{FailingLine};
+
+    ghost Value = { List FailingLine };
+
+    ghost use Rattle.report.specs.Lines.{line_value};
+
+    ghost view = { λ l. map line_value l.lines.items };
+}
+
+impl Lines {
+    /// No line.
+    pub fn new(alloc: Global) -> Lines
+        ensures { result ≡ [] }
+    {
+        Lines {
+            lines: Vec::new(alloc),
+        }
+    }
+
+    /// Adds a line at the end.
+    pub fn push(&mut self, line: Line) -> Result<(), AllocError>
+        ensures { OnOk result (self.new ≡ self.old ++ line_value line ∷ []) }
+    {
+        self.lines.push(line)?;
+        Ok(())
+    }
+
+    /// Adds other lines at the end.
+    pub fn append(&mut self, other: Lines) -> Result<(), AllocError>
+        ensures { OnOk result (self.new ≡ self.old ++ other) }
+    {
+        let Lines { lines } = other;
+        for line in lines {
+            self.lines.push(line)?;
+        }
+        Ok(())
+    }
+
+    /// Whether there is no line.
+    pub fn is_empty(&self) -> bool
+        ensures { IsTrue result ↔ (self.now ≡ []) }
+    {
+        self.lines.is_empty()
+    }
+}

@@ -1,0 +1,4 @@
+pub mod Tables
+pub mod JudgedLines
+pub mod Sets
+pub mod Collected

@@ -1,0 +1,19 @@
+-- What the work is given.
+use Rattle.std.specs.Prelude.{ℕ, ◌≡◌, ◌≤◌, List, [], ◌∷◌, length, Option, None, Some}
+use Rattle.epochs.specs.Plan.{PlanValue}
+use Rattle.choices.specs.Choices.{limit}
+use Rattle.report.specs.Line.{FailingLine}
+use Rattle.workers.specs.Failing.{Subject, image_count}
+
+-- the history is that of the plan, the images are counted, and each number is within its limit
+pub record IsInput (s : Subject) (plan : PlanValue) (images : ℕ) : Type 0 where
+  pub history : plan ≡ s.plan
+  pub bound : s.bound ≤ 3
+  pub checkers : length s.checkers ≤ 8
+  pub count : images ≡ image_count s
+  pub few : images ≤ limit
+
+-- the line, if there is one
+abbrev pub line_list : Option FailingLine → List FailingLine
+line_list None = []
+line_list (Some l) = l ∷ []

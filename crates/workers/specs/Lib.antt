@@ -1,0 +1,6 @@
+-- The failing lines of a run, their parts by blocks, and how parts are collected.
+pub mod Failing
+pub mod Input
+pub mod Pieces
+pub mod Table
+pub mod Laws

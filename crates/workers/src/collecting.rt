@@ -1,0 +1,128 @@
+//! From pieces of the work to all lines.
+
+ghost use Rattle.std.specs.Prelude.{◌≡◌, ◌+◌, ◌<◌, ◌++◌, ◌∷◌, [], ℕ, All, List, length, position, is_none, unwrap_or, IfOk, IfErr, OnOk, None, min};
+ghost use Rattle.std.specs.List.{flat_map};
+ghost use Rattle.report.specs.Line.{FailingLine};
+ghost use Rattle.workers.specs.Pieces.{PieceValue, AreWhole, collected, RefusesPieces, work_refusal};
+ghost use Rattle.workers.specs.Table.{AreRows, row_lines, first_of};
+
+use crate::piece::Piece;
+use base::causes::WorkCause;
+use report::Lines;
+use shares::{Cause, Refusal};
+use std::alloc::{AllocError, Global};
+
+/// The lines of each block so far, and the first block that came twice.
+#[derive(Drop)]
+struct Table {
+    rows: Vec<Option<Lines>>,
+    twice: Option<u32>,
+}
+
+/// The refusal of the work for that cause, at a block.
+pub(crate) fn work_refusal_at(cause: WorkCause, block: u32) -> Refusal
+    ensures { result ≡ work_refusal cause block }
+{
+    Refusal {
+        code: Cause::Work(cause),
+        at: u64::from(block),
+        program: None,
+    }
+}
+
+/// The lower of two blocks, the first of which there may not be.
+fn first_of(seen: Option<u32>, block: u32) -> u32
+    ensures { result ≡ first_of seen block }
+{
+    match seen {
+        Some(other) => other.min(block),
+        None => block,
+    }
+}
+
+impl Table {
+    /// A table of so many blocks, of which none has a piece.
+    fn new(alloc: Global, blocks: u32) -> Result<Table, AllocError>
+        ensures { IfOk result (λ table. AreRows [] blocks table.rows.items table.twice) }
+    {
+        let mut rows = Vec::new(alloc);
+        for _block in 0..blocks {
+            rows.push(None)?;
+        }
+        Ok(Table { rows, twice: None })
+    }
+
+    /// Puts one more piece into its row.
+    fn put(&mut self, piece: Piece)
+        requires { piece.block < length self.old.rows.items }
+        ensures { (pieces : List PieceValue) (blocks : ℕ) → AreRows pieces blocks self.old.rows.items self.old.twice
+            → AreRows (pieces ++ piece ∷ []) blocks self.new.rows.items self.new.twice }
+    {
+        let block = piece.block();
+        if self.rows[block as usize].is_some() {
+            self.twice = Some(first_of(self.twice, block));
+        } else {
+            self.rows[block as usize] = Some(piece.into_lines());
+        }
+    }
+}
+
+/// The table of those pieces.
+fn table_of(alloc: Global, pieces: Vec<Piece>, blocks: u32) -> Result<Table, AllocError>
+    requires { All (λ piece. piece.block < blocks) pieces.items }
+    ensures { IfOk result (λ table. AreRows pieces.items blocks table.rows.items table.twice) }
+{
+    let mut table = Table::new(alloc, blocks)?;
+    for piece in pieces {
+        table.put(piece);
+    }
+    Ok(table)
+}
+
+/// The first block without a piece.
+fn first_missing(rows: &[Option<Lines>]) -> Option<usize>
+    ensures { result ≡ position is_none rows.now }
+{
+    rows.iter().position(|row| row.is_none())
+}
+
+/// The lines of all rows, one after the other.
+fn joined(alloc: Global, rows: Vec<Option<Lines>>) -> Result<Lines, AllocError>
+    ensures { IfOk result (λ lines. lines ≡ flat_map row_lines rows.items) }
+{
+    let mut all = Lines::new(alloc);
+    for row in rows {
+        if let Some(lines) = row {
+            all.append(lines)?;
+        }
+    }
+    Ok(all)
+}
+
+/// The lines of the pieces of a run, by block. The pieces come in any order; there are to be as many
+/// as blocks, one of each.
+///
+/// # Errors
+///
+/// The lowest block of which there are two pieces; or else the lowest of which there is none; or want
+/// of memory.
+pub fn collect(alloc: Global, pieces: Vec<Piece>, blocks: u32) -> Result<Lines, Refusal>
+    requires { All (λ piece. piece.block < blocks) pieces.items }
+    ensures whole { OnOk result (AreWhole pieces.items blocks) }
+    ensures lines { IfOk result (λ lines. lines ≡ collected pieces.items blocks) }
+    ensures refused { IfErr result (RefusesPieces pieces.items blocks) }
+{
+    let table = match table_of(alloc, pieces, blocks) {
+        Ok(table) => table,
+        Err(_error) => return Err(work_refusal_at(WorkCause::Memory, 0)),
+    };
+    let Table { rows, twice } = table;
+    match (twice, first_missing(rows.as_slice())) {
+        (Some(block), _) => Err(work_refusal_at(WorkCause::PieceTwice, block)),
+        (None, Some(block)) => Err(work_refusal_at(WorkCause::PieceMissing, block as u32)),
+        (None, None) => match joined(alloc, rows) {
+            Ok(lines) => Ok(lines),
+            Err(_error) => Err(work_refusal_at(WorkCause::Memory, 0)),
+        },
+    }
+}

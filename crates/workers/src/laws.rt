@@ -1,0 +1,14 @@
+//! Laws of the failing lines. The functions do nothing; each contract is a theorem.
+
+ghost use Rattle.workers.specs.Laws.{LinesAreSet, CollectionIsFailing};
+
+/// The failing lines of a run are those that docs/REPORT.md says, no other, each once, by image and
+/// then by program.
+pub fn lines_are_set()
+    ensures { LinesAreSet }
+{}
+
+/// What is collected of the pieces of a run, one of each block, are its failing lines.
+pub fn collection_is_failing()
+    ensures { CollectionIsFailing }
+{}
