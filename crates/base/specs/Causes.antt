@@ -6,6 +6,8 @@ use Rattle.base.specs.declared.causes.RequestCause.{RequestCause}
 use Rattle.base.specs.declared.causes.RequestCause.TheVariants as request
 use Rattle.base.specs.declared.causes.CodeCause.{CodeCause}
 use Rattle.base.specs.declared.causes.CodeCause.TheVariants as code
+use Rattle.base.specs.declared.causes.AsmCause.{AsmCause}
+use Rattle.base.specs.declared.causes.AsmCause.TheVariants as asm
 use Rattle.base.specs.declared.causes.WorkCause.{WorkCause}
 use Rattle.base.specs.declared.causes.WorkCause.TheVariants as work
 use Rattle.base.specs.declared.causes.MachineFault.{MachineFault}
@@ -37,6 +39,14 @@ code_number code.Register = 23
 code_number code.Field = 24
 code_number code.SecondHalf = 25
 code_number code.Memory = 26
+
+abbrev pub asm_number : AsmCause → ℕ
+asm_number asm.Word = 30
+asm_number asm.Operand = 31
+asm_number asm.Range = 32
+asm_number asm.UnknownLabel = 33
+asm_number asm.RepeatedLabel = 34
+asm_number asm.Memory = 35
 
 abbrev pub work_number : WorkCause → ℕ
 work_number work.PieceTwice = 70

@@ -3,7 +3,7 @@
 //! docs/REPORT.md has one table of all of them.
 
 ghost use Rattle.std.specs.Prelude.{◌≡◌};
-ghost use Rattle.base.specs.Causes.{log_number, request_number, code_number, work_number, fault_number};
+ghost use Rattle.base.specs.Causes.{log_number, request_number, code_number, asm_number, work_number, fault_number};
 
 use thiserror::Error;
 
@@ -86,6 +86,32 @@ impl CodeCause {
     /// The number under which a refusal prints this cause.
     pub fn number(self) -> u8
         ensures { result ≡ code_number self }
+    {
+        self as u8
+    }
+}
+
+/// Why a source text is no program (docs/ASSEMBLY.md, Refusals).
+#[derive(Clone, Copy, Debug, PartialEq, Eq, Error)]
+pub enum AsmCause {
+    #[error("the line does not begin with an instruction or a label")]
+    Word = 30,
+    #[error("the operands of the instruction have another form")]
+    Operand = 31,
+    #[error("a number is out of its range, or there are no instructions or too many")]
+    Range = 32,
+    #[error("a target names an unknown label")]
+    UnknownLabel = 33,
+    #[error("the label stands on an earlier line too")]
+    RepeatedLabel = 34,
+    #[error("there is no memory for the program")]
+    Memory = 35,
+}
+
+impl AsmCause {
+    /// The number under which a refusal prints this cause.
+    pub fn number(self) -> u8
+        ensures { result ≡ asm_number self }
     {
         self as u8
     }

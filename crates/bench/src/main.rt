@@ -6,6 +6,7 @@
 
 mod kernels;
 mod reading;
+mod running;
 mod timing;
 
 use std::{env, io};
@@ -15,6 +16,7 @@ fn main(rt: HostRuntime) -> io::Result<()> {
     match words.next() {
         Some(word) if word.as_str() == "kernels" => kernels::run(&rt),
         Some(word) if word.as_str() == "reading" => reading::run(&rt),
-        _ => println!(rt; "usage: bench kernels|reading"),
+        Some(word) if word.as_str() == "running" => running::run(&rt),
+        _ => println!(rt; "usage: bench kernels|reading|running"),
     }
 }

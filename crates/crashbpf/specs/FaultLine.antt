@@ -1,4 +1,4 @@
--- The line that a refusal prints (docs/REPORT.md, Refusals).
+-- The line that a refusal prints (docs/REPORT.md, All refusals).
 use Rattle.std.specs.Prelude.{ℕ, List, [], ◌++◌, codes, Option, None, Some}
 use Rattle.std.specs.Fmt.{decimal}
 use Rattle.shares.specs.declared.refusal.Refusal.{Refusal}

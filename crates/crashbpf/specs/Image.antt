@@ -1,4 +1,4 @@
--- The bytes of one crash image (docs/REPORT.md, Command line).
+-- The bytes of one crash image (docs/REPORT.md, Commands).
 use Rattle.std.specs.Prelude.{ℕ, ◌≡◌, ◌≤◌, List, length, slice_get, Some}
 use Rattle.std.specs.List.{flat_map}
 use Rattle.shares.specs.declared.refusal.Refusal.{Refusal}

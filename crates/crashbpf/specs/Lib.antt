@@ -4,5 +4,6 @@ pub mod Source
 pub mod Explore
 pub mod Image
 pub mod Survey
+pub mod Assembly
 pub mod FaultLine
 pub mod Words

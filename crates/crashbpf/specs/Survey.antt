@@ -1,4 +1,4 @@
--- The survey of the crash images of a log, cut by cut (docs/REPORT.md, Command line).
+-- The survey of the crash images of a log, cut by cut (docs/REPORT.md, Commands).
 use Rattle.std.specs.Prelude.{ℕ, ◌≡◌, Bool, List, ◌++◌, length, codes}
 use Rattle.std.specs.Fmt.{decimal}
 use Rattle.std.specs.List.{flat_map}

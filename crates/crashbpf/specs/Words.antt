@@ -1,4 +1,4 @@
--- What the words of the command line ask for (docs/REPORT.md, Command line).
+-- What the words of the command line ask for (docs/REPORT.md, Commands).
 use Rattle.std.specs.Prelude.{ℕ, List}
 use Rattle.crashbpf.specs.declared.words.Request.{Request}
 

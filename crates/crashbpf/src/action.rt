@@ -3,15 +3,15 @@
 ghost use Rattle.std.specs.Prelude.{◌≡◌, ◌⊎◌, IfOk, map, if◌then◌else◌};
 ghost use Rattle.crashbpf.specs.Explore.{HasReport};
 
+use crate::assembly::{assembled, listed, unreadable};
 use crate::explorer::{Explored, explore_with};
 use crate::options::{Options, option_refusal_at};
 use crate::showing::image;
 use crate::source::no_memory;
 use crate::survey::survey;
 use crate::words::{OptionWords, Request, Words};
-use base::causes::RequestCause;
 use epochs::Cuts;
-use shares::{Cause, Refusal};
+use shares::Refusal;
 use std::alloc::{AllocError, Global};
 use workers::OpenGate;
 
@@ -41,15 +41,6 @@ fn status_of(explored: &Explored) -> u8
     ensures { result ≡ (if explored.now.failing then 1 else 0) }
 {
     if explored.failing { 1 } else { 0 }
-}
-
-/// The refusal of a file that cannot be read: 0 is the log, p + 1 program p.
-fn unreadable(place: usize) -> Refusal {
-    Refusal {
-        code: Cause::Request(RequestCause::File),
-        at: place as u64,
-        program: None,
-    }
 }
 
 /// The options that these words ask for.
@@ -109,8 +100,8 @@ fn stored_files(alloc: Global) -> Result<(Vec<u8>, Vec<Vec<u8>>), AllocError> {
     Ok((log, programs))
 }
 
-/// The first file, which is the log.
-fn log_of(files: &[Option<Vec<u8>>]) -> Result<&[u8], Refusal> {
+/// What the first file holds: a log, a source text or a program.
+fn first_of(files: &[Option<Vec<u8>>]) -> Result<&[u8], Refusal> {
     match files {
         [Some(log), ..] => Ok(log.as_slice()),
         _ => Err(unreadable(0)),
@@ -126,14 +117,15 @@ fn act_explore(
     ensures status { IfOk result (λ answer. (answer.1 ≡ 0) ⊎ (answer.1 ≡ 1)) }
 {
     let options = options_of(words)?;
+    if options.checked().is_none() {
+        return Err(option_refusal_at(5));
+    }
     if let Some(place) = first_unreadable(files) {
         return Err(unreadable(place));
     }
     match files {
         [Some(log), programs @ ..] => match programs_of(alloc, programs) {
-            Ok(programs) => {
-                explore_files(alloc, log.as_slice(), programs.as_slice(), &options)
-            }
+            Ok(programs) => { explore_files(alloc, log.as_slice(), programs.as_slice(), &options) }
             Err(_error) => Err(no_memory()),
         },
         _ => Err(unreadable(0)),
@@ -162,7 +154,7 @@ fn act_images(
     ensures status { IfOk result (λ answer. answer.1 ≡ 0) }
 {
     let options = options_of(words)?;
-    let bytes = survey(alloc, log_of(files)?, &options)?;
+    let bytes = survey(alloc, first_of(files)?, &options)?;
     Ok((bytes, 0))
 }
 
@@ -176,18 +168,34 @@ fn act_image(
     ensures status { IfOk result (λ answer. answer.1 ≡ 0) }
 {
     let options = options_of(words)?;
-    let bytes = image(alloc, log_of(files)?, number, &options)?;
+    let bytes = image(alloc, first_of(files)?, number, &options)?;
     Ok((bytes, 0))
 }
 
+/// The program of a source text, as bytes.
+fn act_asm(alloc: Global, files: &[Option<Vec<u8>>]) -> Result<(Vec<u8>, u8), Refusal>
+    ensures status { IfOk result (λ answer. answer.1 ≡ 0) }
+{
+    let bytes = assembled(alloc, first_of(files)?)?;
+    Ok((bytes, 0))
+}
+
+/// The listing of a program.
+fn act_list(alloc: Global, files: &[Option<Vec<u8>>]) -> Result<(Vec<u8>, u8), Refusal>
+    ensures status { IfOk result (λ answer. answer.1 ≡ 0) }
+{
+    let text = listed(alloc, first_of(files)?)?;
+    Ok((text, 0))
+}
+
 /// Performs a command on what its files hold, one for each of `Words::files`, none where a file could
-/// not be read; with no file at all the log cannot be read. Answers the bytes for standard output and
+/// not be read; with no file at all the first cannot be read. Answers the bytes for standard output and
 /// the status: 0 where the command succeeded and no image fails, 1 where some do.
 ///
 /// # Errors
 ///
 /// The first refusal in the order of docs/REPORT.md: an option, a file, then those of `explore`,
-/// `survey` or `image`.
+/// `survey` or `image`; those of a source text, and those of a program.
 pub fn act(
     alloc: Global,
     words: &Words,
@@ -200,5 +208,7 @@ pub fn act(
         Request::Explore(options) => act_explore(alloc, options, files),
         Request::Images(options) => act_images(alloc, options, files),
         Request::Image(options, number) => act_image(alloc, options, number, files),
+        Request::Asm => act_asm(alloc, files),
+        Request::List => act_list(alloc, files),
     }
 }

@@ -9,13 +9,14 @@
 //! # Place
 //!
 //! The top layer. `logfmt` reads the log, `epochs` says its cuts, `choices` and `images` its crash
-//! images, `bpf_isa` decodes the checkers, `workers` judges the images by `interp`, `report` has the
+//! images, `bpf_isa` decodes the checkers, `bpf_asm` assembles and lists them, `workers` judges the images by `interp`, `report` has the
 //! lines, `shares` the type of a refusal. What stands here:
 //!
 //! - `options`: `Options`, the options of a run, tested in their order.
 //! - `source`: what each command reads of a log, with the refusals in their order.
 //! - `explorer`: `explore_with` and `explore`, from bytes to the bytes of the report.
 //! - `showing` and `survey`: the bytes of one image, and the number of images cut by cut.
+//! - `assembly`: a program from a source text, and the listing of a program.
 //! - `words`, `action` and `refused`: the words of the command line, what a command answers, and the
 //!   line of a refusal. `main` does no more than read files, call these and print.
 //!
@@ -27,6 +28,9 @@
 //! the image of a number, and `survey` the text of `specs/Survey.antt`. Where one of them answers `Err`,
 //! the refusal is the first in the order of docs/REPORT.md (`specs/Explore.antt`, `specs/Image.antt`,
 //! `specs/Survey.antt`), or memory ran out.
+//!
+//! What `asm` answers spells the program that the source text says, and what `list` answers is the
+//! listing of the program that the bytes spell (`specs/Assembly.antt`).
 //!
 //! So far a run has one program and one worker. What is not built is refused.
 //!
@@ -43,6 +47,9 @@
 #![tactic(auto)]
 
 mod action;
+mod assembly;
+#[cfg(test)]
+mod examples;
 mod explorer;
 mod options;
 mod refused;

@@ -61,12 +61,7 @@ fn shown<'x>(
 ///
 /// The first refusal in the order of docs/REPORT.md: the log, the number of its images, then a number
 /// that no image has, 13 at 9; or want of memory.
-pub fn image(
-    alloc: Global,
-    log: &[u8],
-    number: u64,
-    options: &Options,
-) -> Result<Vec<u8>, Refusal>
+pub fn image(alloc: Global, log: &[u8], number: u64, options: &Options) -> Result<Vec<u8>, Refusal>
     ensures shown { IfOk result (λ bytes. IsImage log.now options.now number bytes.items) }
     ensures refused { IfErr result (RefusesImage log.now options.now number) }
 {

@@ -83,7 +83,7 @@ fn text_of(
 }
 
 /// A line for each wanted cut of a log, with its epoch, the marks before it, its volatile units and
-/// how many images it has, and then their total (docs/REPORT.md, Command line).
+/// how many images it has, and then their total (docs/REPORT.md, Commands).
 ///
 /// # Errors
 ///

@@ -46,7 +46,9 @@ pub(crate) const REPORT_CODES: [u8; 80] = [
 ];
 
 /// Answers how many marks were passed.
-pub(crate) const MARKS_PASSED: [u8; 16] = [0x79, 0x10, 16, 0, 0, 0, 0, 0, 0x95, 0, 0, 0, 0, 0, 0, 0];
+pub(crate) const MARKS_PASSED: [u8; 16] = [
+    0x79, 0x10, 16, 0, 0, 0, 0, 0, 0x95, 0, 0, 0, 0, 0, 0, 0,
+];
 
 /// A sector that begins with these bytes.
 pub(crate) fn put_sector(log: &mut Vec<u8>, head: &[u8]) -> Result<(), Fail> {
@@ -82,7 +84,12 @@ pub(crate) fn words_of(alloc: Global, line: &str) -> Result<Words, Fail> {
 }
 
 /// What a command prints and its status; for a refusal its line and 2.
-pub(crate) fn acted(alloc: Global, line: &str, log: Vec<u8>, program: &[u8]) -> Result<(Vec<u8>, u8), Fail> {
+pub(crate) fn acted(
+    alloc: Global,
+    line: &str,
+    log: Vec<u8>,
+    program: &[u8],
+) -> Result<(Vec<u8>, u8), Fail> {
     let words = words_of(alloc, line)?;
     let mut files = Vec::new(alloc);
     files.push(Some(log))?;
@@ -336,11 +343,13 @@ fn refuses_options_then_files_then_counts(rt: HostRuntime) -> Result<(), Fail> {
     let one = "explore log program --sectors 1 --bound 0 --checked 2";
     let two = "explore log program other --sectors 1 --bound 0 --checked 2";
     let bad = "explore log program --sectors 0 --bound 0 --checked 2";
+    let unlimited = "explore log program --sectors 1";
     let rows = [
         (one, [false, true, true].as_slice(), "refused 14 at 0\n"),
         (two, [true, false, false].as_slice(), "refused 14 at 1\n"),
         (two, [true, true, false].as_slice(), "refused 14 at 2\n"),
         (bad, [false, false].as_slice(), "refused 13 at 1\n"),
+        (unlimited, [false, false].as_slice(), "refused 13 at 5\n"),
         (two, [true, true, true].as_slice(), "refused 13 at 6\n"),
         (one, [true, true].as_slice(), "refused 1 at 0\n"),
     ];

@@ -33,9 +33,13 @@ pub(crate) enum Request {
     Images(OptionWords),
     /// `image LOG N`, with the number of the image.
     Image(OptionWords, u64),
+    /// `asm SOURCE`
+    Asm,
+    /// `list PROGRAM`
+    List,
 }
 
-/// The words behind the program's name (docs/REPORT.md, Command line).
+/// The words behind the program's name (docs/REPORT.md, Commands).
 #[derive(Drop)]
 pub struct Words {
     request: Request,
@@ -75,7 +79,7 @@ fn log_command<'a>(alloc: Global, name: &'a str) -> Result<Command<'a>, AllocErr
         .long("tears")
         .action(ArgAction::SetTrue)
         .help("let sectors be torn");
-    let log = Arg::new(alloc, "log").required(true).value_name("LOG");
+    let log = Arg::new(alloc, "file").required(true).value_name("LOG");
     Command::new(alloc, name)
         .arg(sectors)?
         .arg(cuts)?
@@ -115,6 +119,16 @@ fn image_command<'a>(alloc: Global) -> Result<Command<'a>, AllocError> {
     log_command(alloc, "image")?.arg(number)
 }
 
+/// A command on one file and without options.
+fn file_command<'a>(
+    alloc: Global,
+    name: &'a str,
+    file: &'a str,
+) -> Result<Command<'a>, AllocError> {
+    let file = Arg::new(alloc, "file").required(true).value_name(file);
+    Command::new(alloc, name).arg(file)
+}
+
 /// All commands.
 fn commands<'a>(alloc: Global) -> Result<Command<'a>, AllocError> {
     Command::new(alloc, "crashbpf")
@@ -122,7 +136,9 @@ fn commands<'a>(alloc: Global) -> Result<Command<'a>, AllocError> {
         .subcommand_required(true)
         .subcommand(explore_command(alloc)?)?
         .subcommand(log_command(alloc, "images")?)?
-        .subcommand(image_command(alloc)?)
+        .subcommand(image_command(alloc)?)?
+        .subcommand(file_command(alloc, "asm", "SOURCE")?)?
+        .subcommand(file_command(alloc, "list", "PROGRAM")?)
 }
 
 /// The kind of cut that a word names.
@@ -168,15 +184,21 @@ fn request_of(name: &str, matches: &ArgMatches<'_>) -> Request {
             log_words(matches),
             matches.get_one::<u64>("number").unwrap_or(0),
         ),
+        "asm" => Request::Asm,
+        "list" => Request::List,
         _ => Request::Explore(explore_words(matches)),
     }
 }
 
-/// The files that a command names: the log, then the programs.
-fn file_words(alloc: Global, name: &str, matches: &ArgMatches<'_>) -> Result<Vec<String>, AllocError> {
+/// The files that a command names: its log, source or program, then the programs of `explore`.
+fn file_words(
+    alloc: Global,
+    name: &str,
+    matches: &ArgMatches<'_>,
+) -> Result<Vec<String>, AllocError> {
     let mut files = Vec::new(alloc);
-    if let Some(log) = matches.get_str("log") {
-        files.push(log.to_string(alloc)?)?;
+    if let Some(first) = matches.get_str("file") {
+        files.push(first.to_string(alloc)?)?;
     }
     if name != "explore" {
         return Ok(files);

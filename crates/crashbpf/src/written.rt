@@ -1,4 +1,4 @@
-//! Runs over logs that write: reports, surveys and images.
+//! Runs over logs that write: reports, surveys and images; and the commands on single programs.
 
 use crate::tests::{ANSWER_1, MARKS_PASSED, REPORT_CODES, acted, put_sector, words_of};
 use crate::{act, fault_line};
@@ -58,7 +58,9 @@ fn put_entry(log: &mut Vec<u8>, entry: Written) -> Result<(), Fail> {
     let (sector, count, flags, byte) = entry;
     put_sector(
         log,
-        &[sector, 0, 0, 0, 0, 0, 0, 0, count, 0, 0, 0, 0, 0, 0, 0, flags],
+        &[
+            sector, 0, 0, 0, 0, 0, 0, 0, count, 0, 0, 0, 0, 0, 0, 0, flags,
+        ],
     )?;
     if flags != DISCARD {
         for _sector in 0..count {
@@ -84,11 +86,11 @@ fn log_of(alloc: Global, entries: &[Written]) -> Result<Vec<u8>, Fail> {
     Ok(log)
 }
 
-/// What a command on one log prints, and its status; for a refusal its line and 2.
-fn told(alloc: Global, line: &str, log: Vec<u8>) -> Result<(Vec<u8>, u8), Fail> {
+/// What a command on one file prints, and its status; for a refusal its line and 2.
+fn told(alloc: Global, line: &str, file: Vec<u8>) -> Result<(Vec<u8>, u8), Fail> {
     let words = words_of(alloc, line)?;
     let mut files = Vec::new(alloc);
-    files.push(Some(log))?;
+    files.push(Some(file))?;
     match act(alloc, &words, files.as_slice()) {
         Ok(answer) => Ok(answer),
         Err(refusal) => Ok((fault_line(alloc, &refusal)?, 2)),
@@ -191,7 +193,11 @@ fn reports_what_checkers_find(rt: HostRuntime) -> Result<(), Fail> {
     ];
     for (asked, entries, program, rest) in rows {
         let bound = if asked.ends_with('0') { 0 } else { 1 };
-        let cuts = if asked.starts_with('a') { "all" } else { "mark" };
+        let cuts = if asked.starts_with('a') {
+            "all"
+        } else {
+            "mark"
+        };
         let line = format!(in alloc;
             "explore log program --sectors 4 --cuts {cuts} --bound {bound} --checked 9"
         )?;
@@ -217,8 +223,10 @@ fn reports_sixteen_codes_of_every_image(rt: HostRuntime) -> Result<(), Fail> {
         &REPORT_CODES,
     )?;
     let text = str::from_utf8(bytes.as_slice()).ok().ok_or("a text")?;
-    let middle = "image 17 cut 1 program 0 answer 1 codes 0,1,2,3,4,5,6,7,8,9,10,11,12,13,14,15 choice 0.0:drop,0.1:drop\n";
-    let last = "image 80 cut 1 program 0 answer 1 codes 0,1,2,3,4,5,6,7,8,9,10,11,12,13,14,15 choice 0.0:head7,0.1:head7\nimages 81 failing 81 lines 81\n";
+    let middle =
+        "image 17 cut 1 program 0 answer 1 codes 0,1,2,3,4,5,6,7,8,9,10,11,12,13,14,15 choice 0.0:drop,0.1:drop\n";
+    let last =
+        "image 80 cut 1 program 0 answer 1 codes 0,1,2,3,4,5,6,7,8,9,10,11,12,13,14,15 choice 0.0:head7,0.1:head7\nimages 81 failing 81 lines 81\n";
     assert!(rt; text.contains(middle));
     assert!(rt; text.ends_with(last));
     assert_eq!(rt; status, 1);
@@ -318,5 +326,84 @@ fn refuses_logs_and_counts_before_programs(rt: HostRuntime) -> Result<(), Fail> 
     log.truncate(1535);
     let (bytes, _status) = acted(alloc, line, log, &[])?;
     assert_eq!(rt; bytes.as_slice(), "refused 5 at 0\n".as_bytes());
+    Ok(())
+}
+
+#[test]
+fn assembles_and_lists(rt: HostRuntime) -> Result<(), Fail> {
+    let alloc = rt.alloc();
+    let rows = [
+        (
+            "asm source",
+            b"stdw [r10-8], -1\n".as_slice(),
+            [0x7a, 0x0a, 0xf8, 0xff, 0xff, 0xff, 0xff, 0xff].as_slice(),
+            0,
+        ),
+        (
+            "asm source",
+            b"foo r1".as_slice(),
+            b"refused 30 at 1\n".as_slice(),
+            2,
+        ),
+        (
+            "asm source",
+            b"exit\nadd64 r1".as_slice(),
+            b"refused 31 at 2\n".as_slice(),
+            2,
+        ),
+        (
+            "asm source",
+            b"mov64 r0, 2147483648".as_slice(),
+            b"refused 32 at 1\n".as_slice(),
+            2,
+        ),
+        (
+            "asm source",
+            b"ja x".as_slice(),
+            b"refused 33 at 1\n".as_slice(),
+            2,
+        ),
+        (
+            "asm source",
+            b"x:\nexit\nx:\n".as_slice(),
+            b"refused 34 at 3\n".as_slice(),
+            2,
+        ),
+        (
+            "asm source",
+            [0xff].as_slice(),
+            b"refused 14 at 0\n".as_slice(),
+            2,
+        ),
+        (
+            "asm source",
+            [0x65, 0x78, 0x69, 0x74, 0x20, 0x3b, 0xff].as_slice(),
+            b"refused 14 at 0\n".as_slice(),
+            2,
+        ),
+        (
+            "list program",
+            ANSWER_1.as_slice(),
+            b"mov64 r0, 1\nexit\n".as_slice(),
+            0,
+        ),
+        (
+            "list program",
+            [0x95].as_slice(),
+            b"refused 20 at 0\n".as_slice(),
+            2,
+        ),
+        (
+            "list program",
+            [0xff, 0, 0, 0, 0, 0, 0, 0].as_slice(),
+            b"refused 22 at 0\n".as_slice(),
+            2,
+        ),
+    ];
+    for (line, file, wanted, status) in rows {
+        let (bytes, found) = told(alloc, line, file.to_vec(alloc)?)?;
+        assert_eq!(rt; bytes.as_slice(), wanted, "{line}");
+        assert_eq!(rt; found, status, "{line}");
+    }
     Ok(())
 }

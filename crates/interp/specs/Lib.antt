@@ -2,4 +2,6 @@
 pub mod Ending
 pub mod Checker
 pub mod Going
-pub mod Tests
+pub mod Cells
+pub mod Reading
+pub mod Operations

@@ -1,195 +1,156 @@
-//! The memory of a program (docs/MACHINE.md, Address space).
+//! The memory of a program (docs/MACHINE.md, Address space). An access lies in one block, the context,
+//! the stack or a sector, or some address of it has no byte; so its block is found once.
 
-ghost use Rattle.std.specs.Prelude.{◌≡◌, ◌≤◌, ◌<◌, ◌+◌, List, ℕ, map, length};
-ghost use Rattle.machine.specs.Memory.{byte_at, held, cell, in_blocks, value, addresses, all_at, loaded, stored, byte_count, is_in_stacks};
-ghost use Rattle.machine.specs.Step.{memory};
+ghost use Rattle.std.specs.Prelude.{◌≡◌, ◌≤◌, ◌<◌, ◌+◌, ◌-◌, ◌/◌, ◌^◌, length, slice_get, IfNone, IfSome, Some, if◌then◌else◌};
+ghost use Rattle.base.specs.declared.causes.MachineFault.TheVariants.{ReadOnly, Unmapped};
+ghost use Rattle.std.specs.Option.{option_map};
+ghost use Rattle.machine.specs.Memory.{byte_count, stored};
 ghost use Rattle.machine.specs.State.{stack_start};
-ghost use Rattle.interp.specs.Tests.{passes};
+ghost use Rattle.machine.specs.Step.{memory};
+ghost use Rattle.helpers.specs.Answers.{sector_start};
+ghost use Rattle.interp.specs.Reading.{reading, write_fault};
 
-use crate::state::Machine;
-use base::numbers::{u16_at, u32_at, u64_at};
+use crate::stack::{Stack, read_plain};
+use crate::state::{CONTEXT_START, Machine, STACK_START};
+use crate::step::World;
+use base::causes::MachineFault;
 use bpf_isa::instr::Size;
 use helpers::Device;
-use machine::ByteAt;
 
-const CONTEXT_START: u64 = 0x1_0000_0000;
-
-const STACK_START: u64 = 0x2_0000_0000;
-
+/// Where the sectors begin.
 const SECTOR_START: u64 = 0x3_0000_0000;
 
-/// What is asked of each address of an access.
-#[derive(Clone, Copy)]
-pub(crate) enum Test {
-    /// A byte stands there.
-    Mapped,
-    /// It is not unset.
-    Set,
-    /// It is one of the stacks.
-    InStacks,
-}
+/// The bytes of a stack and of a sector. Blocks begin 1,024 addresses apart.
+const BLOCK: u64 = 512;
 
-/// A byte of the context or of a sector.
-fn held(byte: Option<u8>) -> ByteAt
-    ensures { result ≡ held byte }
-{
-    match byte {
-        Some(n) => ByteAt::Holds(n),
-        None => ByteAt::Unmapped,
-    }
-}
+/// The bytes of the context.
+const CONTEXT: u64 = 32;
 
-/// A byte of a stack.
-fn cell(byte: Option<Option<u8>>) -> ByteAt
-    ensures { result ≡ cell byte }
+/// The sector at an address, where there is one.
+fn sector_at<'w, D: Device>(world: &World<'w, D>, address: u64) -> Option<&'w [u8; 512]>
+    requires { sector_start ≤ address }
+    ensures sector { option_map (λ s. s.now) result ≡ slice_get (D.content world.now.device.now) ((address - sector_start) / 1024) }
+    ensures number { IfSome result (λ _. (address - sector_start) / 1024 < 2 ^ 32) }
 {
-    match byte {
-        Some(Some(n)) => ByteAt::Holds(n),
-        Some(None) => ByteAt::Unset,
-        None => ByteAt::Unmapped,
-    }
-}
-
-/// The byte at a place of the sectors, where there is one.
-fn sector_byte<D: Device>(device: &D, place: u64) -> Option<u8>
-    ensures { result ≡ in_blocks (D.content device.now) place }
-{
-    let number = place / 1024;
-    if number >= u64::from(device.sectors()) {
+    let number = (address - SECTOR_START) / 1024;
+    if number >= u64::from(world.device.sectors()) {
         return None;
     }
-    match device.sector(number as u32) {
-        Some(sector) => sector.get((place % 1024) as usize).copied(),
-        None => None,
+    world.device.sector(number as u32)
+}
+
+/// Reads an access that begins at the sectors or behind them.
+fn read_sector<D: Device>(
+    machine: &Machine,
+    world: &World<D>,
+    address: u64,
+    size: Size,
+) -> Result<u64, MachineFault>
+    requires { sector_start ≤ address }
+    ensures { result ≡ reading (memory world.now.context (D.content world.now.device.now) machine.now) address (byte_count size) }
+{
+    let place = (address - SECTOR_START) % 1024;
+    match sector_at(world, address) {
+        Some(sector) if place < BLOCK => read_plain(sector, place, size),
+        _ => Err(MachineFault::Unmapped),
+    }
+}
+
+/// The fault of bytes that are written to a block that is no stack, and stand in it or not.
+fn plain_fault(within: bool) -> MachineFault
+    ensures { result ≡ (if within then ReadOnly else Unmapped) }
+{
+    if within {
+        MachineFault::ReadOnly
+    } else {
+        MachineFault::Unmapped
+    }
+}
+
+/// The fault of bytes that are written from the sectors or behind them on.
+fn sector_fault<D: Device>(
+    machine: &Machine,
+    world: &World<D>,
+    address: u64,
+    count: u64,
+) -> MachineFault
+    requires from { sector_start ≤ address }
+    requires some { 0 < count }
+    requires few { count ≤ 512 }
+    ensures { Some result ≡ write_fault (memory world.now.context (D.content world.now.device.now) machine.now) address count }
+{
+    let place = (address - SECTOR_START) % 1024;
+    match sector_at(world, address) {
+        Some(_) => plain_fault(place + count <= BLOCK),
+        None => MachineFault::Unmapped,
     }
 }
 
 impl Machine {
-    /// What stands at an address.
-    #[tactic(auto, unfolding(machine::specs::Memory::byte_at))]
-    fn byte<D: Device>(&self, context: &[u8; 32], device: &D, address: u64) -> ByteAt
-        ensures { result ≡ byte_at context.now (D.content device.now) self.now.frames address }
-    {
-        if address < CONTEXT_START {
-            return ByteAt::Unmapped;
-        }
-        if address < STACK_START {
-            return held(context.get((address - CONTEXT_START) as usize).copied());
-        }
-        if address < SECTOR_START {
-            return cell(self.stack_byte(address - STACK_START));
-        }
-        held(sector_byte(device, address - SECTOR_START))
-    }
-
-    /// The number in the byte at an address, or 0.
-    fn value<D: Device>(&self, context: &[u8; 32], device: &D, address: u64) -> u8
-        ensures { result ≡ value (byte_at context.now (D.content device.now) self.now.frames address) }
-    {
-        match self.byte(context, device, address) {
-            ByteAt::Holds(n) => n,
-            ByteAt::Unmapped | ByteAt::Unset => 0,
-        }
-    }
-
-    /// Whether an address passes a test.
-    fn passes<D: Device>(&self, test: Test, context: &[u8; 32], device: &D, address: u64) -> bool
-        ensures { result ≡ passes context.now (D.content device.now) self.now.frames test address }
-    {
-        match test {
-            Test::Mapped => !matches!(self.byte(context, device, address), ByteAt::Unmapped),
-            Test::Set => !matches!(self.byte(context, device, address), ByteAt::Unset),
-            Test::InStacks => address >= STACK_START && address < SECTOR_START,
-        }
-    }
-
-    /// Whether so many addresses from one on pass a test.
-    pub(crate) fn all<D: Device>(
+    /// Reads an access.
+    #[inline]
+    pub(crate) fn read<D: Device>(
         &self,
-        test: Test,
-        context: &[u8; 32],
-        device: &D,
-        address: u64,
-        count: u64,
-    ) -> bool
-        ensures { result ≡ all_at (passes context.now (D.content device.now) self.now.frames test) address count }
-    {
-        let mut at = address;
-        for _passed in 0..count {
-            if !self.passes(test, context, device, at) {
-                return false;
-            }
-            at = at.wrapping_add(1);
-        }
-        true
-    }
-
-    /// The numbers in 2 bytes from an address on.
-    fn two<D: Device>(&self, context: &[u8; 32], device: &D, address: u64) -> [u8; 2]
-        ensures { result ≡ map (λ at. value (memory context.now (D.content device.now) self.now at)) (addresses address 2) }
-    {
-        let second = address.wrapping_add(1);
-        [
-            self.value(context, device, address),
-            self.value(context, device, second),
-        ]
-    }
-
-    /// The numbers in 4 bytes from an address on.
-    fn four<D: Device>(&self, context: &[u8; 32], device: &D, address: u64) -> [u8; 4]
-        ensures { result ≡ map (λ at. value (memory context.now (D.content device.now) self.now at)) (addresses address 4) }
-    {
-        let second = address.wrapping_add(1);
-        let third = second.wrapping_add(1);
-        let fourth = third.wrapping_add(1);
-        [
-            self.value(context, device, address),
-            self.value(context, device, second),
-            self.value(context, device, third),
-            self.value(context, device, fourth),
-        ]
-    }
-
-    /// The numbers in 8 bytes from an address on.
-    fn eight<D: Device>(&self, context: &[u8; 32], device: &D, address: u64) -> [u8; 8]
-        ensures { result ≡ map (λ at. value (memory context.now (D.content device.now) self.now at)) (addresses address 8) }
-    {
-        let second = address.wrapping_add(1);
-        let third = second.wrapping_add(1);
-        let fourth = third.wrapping_add(1);
-        let fifth = fourth.wrapping_add(1);
-        let [a, b, c, d] = self.four(context, device, address);
-        let [e, f, g, h] = self.four(context, device, fifth);
-        [a, b, c, d, e, f, g, h]
-    }
-
-    /// The number that stands at an address.
-    #[tactic(auto, unfolding(machine::specs::Memory::loaded))]
-    pub(crate) fn loaded<D: Device>(
-        &self,
-        context: &[u8; 32],
-        device: &D,
+        world: &World<D>,
         address: u64,
         size: Size,
-    ) -> u64
-        ensures { result ≡ loaded (memory context.now (D.content device.now) self.now) address (byte_count size) }
+    ) -> Result<u64, MachineFault>
+        ensures { result ≡ reading (memory world.now.context (D.content world.now.device.now) self.now) address (byte_count size) }
     {
-        match size {
-            Size::Byte => u64::from(self.value(context, device, address)),
-            Size::Half => u64::from(u16_at(&self.two(context, device, address), 0)),
-            Size::Word => u64::from(u32_at(&self.four(context, device, address), 0)),
-            Size::Double => u64_at(&self.eight(context, device, address), 0),
+        let stack = &self.stack;
+        let place = address.wrapping_sub(STACK_START);
+        if place < BLOCK {
+            return stack.read(place, size);
         }
+        let place = address.wrapping_sub(CONTEXT_START);
+        if place < CONTEXT {
+            return read_plain(&world.context, place, size);
+        }
+        if address < SECTOR_START {
+            return Err(MachineFault::Unmapped);
+        }
+        read_sector(self, world, address, size)
     }
 
-    /// Stores bytes from an address on.
+    /// The fault of bytes that are written, if there is one.
+    #[inline]
+    pub(crate) fn write_fault<D: Device>(
+        &self,
+        world: &World<D>,
+        address: u64,
+        count: u64,
+    ) -> Option<MachineFault>
+        requires some { 0 < count }
+        requires few { count ≤ 512 }
+        ensures fault { result ≡ write_fault (memory world.now.context (D.content world.now.device.now) self.now) address count }
+        ensures from { IfNone result (stack_start ≤ address) }
+        ensures fits { IfNone result (address - stack_start + count ≤ 512) }
+    {
+        let _stack = &self.stack;
+        let place = address.wrapping_sub(STACK_START);
+        if place < BLOCK {
+            if place + count <= BLOCK {
+                return None;
+            }
+            return Some(MachineFault::Unmapped);
+        }
+        let place = address.wrapping_sub(CONTEXT_START);
+        if place < CONTEXT {
+            return Some(plain_fault(place + count <= CONTEXT));
+        }
+        if address < SECTOR_START {
+            return Some(MachineFault::Unmapped);
+        }
+        Some(sector_fault(self, world, address, count))
+    }
+
+    /// Stores bytes in the stack.
     pub(crate) fn store(&mut self, address: u64, bytes: &[u8])
+        requires from { stack_start ≤ address }
+        requires fits { address - stack_start + length bytes.now ≤ 512 }
         ensures { self.new ≡ record self.old { frames = stored self.old.frames address bytes.now } }
     {
-        let mut at = address;
-        for byte in bytes {
-            self.set_byte(at, *byte);
-            at = at.wrapping_add(1);
-        }
+        let place = address - STACK_START;
+        self.stack.write(place as usize, bytes);
     }
 }

@@ -188,6 +188,79 @@ fn memory_and_faults(rt: HostRuntime) {
 }
 
 #[test]
+fn next_slots(rt: HostRuntime) {
+    let alloc = rt.alloc();
+    let one = 0xb700_0000_0100_0000; // mov64 r0, 1
+    // no instruction behind the last step is a fault, and not out of steps
+    assert_eq!(rt; end_within(alloc, &[one], 1), End::Fault(80, 0));
+    assert_eq!(rt; end_within(alloc, &[one], 0), End::OutOfSteps);
+    assert_eq!(rt; end_within(alloc, &[one, EXIT], 1), End::OutOfSteps);
+    assert_eq!(rt; end_within(alloc, &[one, EXIT], 2), End::Answer(1));
+    // a jump into a second half, and one before the first slot: mov64 r0, 1; ja
+    let wide = [0x1800_0000_0000_0000, 0x0000_0000_0100_0000];
+    assert_eq!(rt;
+        came_to(alloc, &[one, 0x0500_0100_0000_0000, wide[0], wide[1], EXIT]),
+        End::Fault(80, 1)
+    );
+    assert_eq!(rt;
+        came_to(alloc, &[one, 0x0500_fdff_0000_0000, EXIT]),
+        End::Fault(80, 1)
+    );
+    // the branch that is not taken: jeq r0, 0, +7
+    assert_eq!(rt;
+        came_to(alloc, &[one, 0x1500_0700_0000_0000, EXIT]),
+        End::Answer(1)
+    );
+    // lddw as the last instruction, and unset operands before the next slot
+    assert_eq!(rt; came_to(alloc, &wide), End::Fault(80, 0));
+    assert_eq!(rt; came_to(alloc, &[0x0f10_0000_0000_0000]), End::Fault(81, 0));
+}
+
+#[test]
+fn ends_of_blocks(rt: HostRuntime) {
+    let alloc = rt.alloc();
+    // stdw [r10-512], -1; ldxdw r0, [r10-512]
+    assert_eq!(rt;
+        came_to(alloc, &[0x7a0a_00fe_ffff_ffff, 0x79a0_00fe_0000_0000, EXIT]),
+        End::Answer(u64::MAX)
+    );
+    // the same one byte before the stack
+    assert_eq!(rt;
+        came_to(alloc, &[0x7a0a_fffd_ffff_ffff, EXIT]),
+        End::Fault(83, 0)
+    );
+    // sth [r10-2], 1; ldxw r0, [r10-4]: two of four bytes are unset
+    assert_eq!(rt;
+        came_to(alloc, &[0x6a0a_feff_0100_0000, 0x61a0_fcff_0000_0000, EXIT]),
+        End::Fault(82, 1)
+    );
+    // mov64 r1, 3; call 1; ldxdw r0, [r0+504], and [r0+505]
+    let sector = [0xb701_0000_0300_0000, 0x8500_0000_0100_0000];
+    assert_eq!(rt;
+        came_to(alloc, &[sector[0], sector[1], 0x7900_f801_0000_0000, EXIT]),
+        End::Answer(0xeeee_eeee_eeee_eeee)
+    );
+    assert_eq!(rt;
+        came_to(alloc, &[sector[0], sector[1], 0x7900_f901_0000_0000, EXIT]),
+        End::Fault(83, 2)
+    );
+    // stb [r0+0], 1 is read-only there, and stb [r0+512], 1 unmapped
+    assert_eq!(rt;
+        came_to(alloc, &[sector[0], sector[1], 0x7200_0000_0100_0000, EXIT]),
+        End::Fault(84, 2)
+    );
+    assert_eq!(rt;
+        came_to(alloc, &[sector[0], sector[1], 0x7200_0002_0100_0000, EXIT]),
+        End::Fault(83, 2)
+    );
+    // ldxdw r0, [r1+24] and [r1+25]
+    assert_eq!(rt;
+        came_to(alloc, &[0x7910_1900_0000_0000, EXIT]),
+        End::Fault(83, 0)
+    );
+}
+
+#[test]
 fn helper_answers(rt: HostRuntime) {
     let alloc = rt.alloc();
     // mov64 r1, 4; call N

@@ -1,4 +1,4 @@
--- A failing line: an image on which a checker does not answer 0 (docs/REPORT.md, Failing lines).
+-- A failing line: an image on which a checker does not answer 0 (docs/REPORT.md, The report).
 use Rattle.std.specs.Prelude.{ℕ, ◌==◌, Bool, true, not, List}
 use Rattle.machine.specs.Outcome.{Ending, Verdict, Stopped, OutOfSteps}
 use Rattle.choices.specs.declared.choice.Departure.{Departure}

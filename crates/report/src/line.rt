@@ -1,6 +1,6 @@
 //! The failing lines of a run.
 
-ghost use Rattle.std.specs.Prelude.{◌≡◌, ◌↔◌, ◌++◌, ◌∷◌, [], IsTrue, OnOk};
+ghost use Rattle.std.specs.Prelude.{◌≡◌, ◌↔◌, ◌++◌, ◌∷◌, [], IsTrue, IfOk, OnOk, OnErr};
 ghost use Rattle.report.specs.Lines.{line_value};
 
 use arrayvec::ArrayVec;
@@ -9,7 +9,7 @@ use interp::Outcome;
 use std::alloc::{AllocError, Global};
 use std::marker::Model;
 
-/// A failing line: an image on which a program does not answer 0 (docs/REPORT.md, Failing lines).
+/// A failing line: an image on which a program does not answer 0 (docs/REPORT.md, The report).
 #[derive(Drop)]
 pub struct Line {
     /// The number of the image.
@@ -51,23 +51,25 @@ impl Lines {
         }
     }
 
-    /// Adds a line at the end.
+    /// Adds a line at the end. Where memory is wanting, the lines stay as they were.
     pub fn push(&mut self, line: Line) -> Result<(), AllocError>
-        ensures { OnOk result (self.new ≡ self.old ++ line_value line ∷ []) }
+        ensures added { OnOk result (self.new ≡ self.old ++ line_value line ∷ []) }
+        ensures kept { OnErr result (self.new ≡ self.old) }
     {
         self.lines.push(line)?;
         Ok(())
     }
 
-    /// Adds other lines at the end.
-    pub fn append(&mut self, other: Lines) -> Result<(), AllocError>
-        ensures { OnOk result (self.new ≡ self.old ++ other) }
+    /// These lines, and then the others.
+    pub fn followed_by(self, other: Lines) -> Result<Lines, AllocError>
+        ensures { IfOk result (λ lines. lines ≡ self ++ other) }
     {
-        let Lines { lines } = other;
-        for line in lines {
-            self.lines.push(line)?;
+        let Lines { mut lines } = self;
+        let Lines { lines: others } = other;
+        for line in others {
+            lines.push(line)?;
         }
-        Ok(())
+        Ok(Lines { lines })
     }
 
     /// Whether there is no line.

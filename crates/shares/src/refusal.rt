@@ -3,7 +3,7 @@
 ghost use Rattle.std.specs.Prelude.{◌≡◌};
 ghost use Rattle.shares.specs.Numbers.{cause_number};
 
-use base::causes::{CodeCause, LogCause, RequestCause, WorkCause};
+use base::causes::{AsmCause, CodeCause, LogCause, RequestCause, WorkCause};
 
 /// The cause of a refusal, by what was refused.
 #[derive(Clone, Copy, Debug, PartialEq, Eq)]
@@ -11,6 +11,7 @@ pub enum Cause {
     Log(LogCause),
     Request(RequestCause),
     Code(CodeCause),
+    Asm(AsmCause),
     Work(WorkCause),
 }
 
@@ -23,13 +24,14 @@ impl Cause {
             Cause::Log(cause) => cause.number(),
             Cause::Request(cause) => cause.number(),
             Cause::Code(cause) => cause.number(),
+            Cause::Asm(cause) => cause.number(),
             Cause::Work(cause) => cause.number(),
         }
     }
 }
 
 /// A refusal: its cause, the place that the cause names (an entry, an option, a slot, a block), and
-/// the program that is at fault, where one is (docs/REPORT.md, Refusals).
+/// the program that is at fault, where one is (docs/REPORT.md, All refusals).
 #[derive(Clone, Copy, Debug, PartialEq, Eq)]
 pub struct Refusal {
     pub code: Cause,

@@ -90,6 +90,7 @@ of_pair s i p = at_choice (slice_get (choices_of s) i) refl
         → IsOfOption s i p (option_and_then (λ checker. line_if i choice p (ending_at s choice checker)) o)
     at_checker choice None there named = tt
     at_checker choice (Some checker) there named = line_if-fails s i p choice checker (fails (ending_at s choice checker)) there named refl
+
     at_choice : (o : Option ChoiceValue) → slice_get (choices_of s) i ≡ o → IsOfOption s i p (option_and_then (λ choice. line_at s i choice p) o)
     at_choice None there = tt
     at_choice (Some choice) there = at_checker choice (slice_get s.checkers p) there refl
@@ -124,10 +125,10 @@ of_images s a (suc n) = step (image_lines s a) (lines_from s (a + 1) n) (lines_h
     step : (xs ys : List FailingLine) → Each (IsOf s a 0) xs × Ordered xs → Each (IsFrom s (a + 1)) ys × Ordered ys → Each (IsFrom s a) (xs ++ ys) × Ordered (xs ++ ys)
     step xs ys h g = (
       each_append (IsFrom s a) xs ys (each_then (IsOf s a 0) (IsFrom s a) xs (λ l is. (is.0, omega (arith, is.1))) h.0)
-      (each_then (IsFrom s (a + 1)) (IsFrom s a) ys (λ l is. (is.0, omega (arith, is.1))) g.0),
+          (each_then (IsFrom s (a + 1)) (IsFrom s a) ys (λ l is. (is.0, omega (arith, is.1))) g.0),
       ordered_append xs ys h.1 g.1
-      (each_then (IsOf s a 0) (λ x. Each (Precedes x) ys) xs
-      (λ x is. each_then (IsFrom s (a + 1)) (Precedes x) ys (λ y js. inl (omega (arith, is.1, js.1))) g.0) h.0),
+          (each_then (IsOf s a 0) (λ x. Each (Precedes x) ys) xs
+          (λ x is. each_then (IsFrom s (a + 1)) (Precedes x) ys (λ y js. inl (omega (arith, is.1, js.1))) g.0) h.0),
     )
 
 -- where a failing line stands

@@ -90,7 +90,7 @@ twice_of_lower ps p blocks t h lt one (inr less) =
       within = lt;
       twice = omega (arith, own, one);
       before = λ b below. (let other = other_count ps p b (λ same. absurd (omega (arith, same, below))) in
-      let few = h.before b (omega (arith, below, less)) in omega (arith, other, few));
+          let few = h.before b (omega (arith, below, less)) in omega (arith, other, few));
     })
 
 lower_or_not : (t n : ℕ) → (t ≤ n) ⊎ (n < t)
@@ -104,7 +104,7 @@ twice_again ps p blocks None h lt one =
       within = lt;
       twice = omega (arith, own, one);
       before = λ b below. (let other = other_count ps p b (λ same. absurd (omega (arith, same, below))) in
-      let few = h b (omega (arith, below, lt)) in omega (arith, other, few));
+          let few = h b (omega (arith, below, lt)) in omega (arith, other, few));
     }
 twice_again ps p blocks (Some t) h lt one = twice_of_lower ps p blocks t h lt one (lower_or_not t p.block)
 

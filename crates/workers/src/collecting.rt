@@ -93,7 +93,7 @@ fn joined(alloc: Global, rows: Vec<Option<Lines>>) -> Result<Lines, AllocError>
     let mut all = Lines::new(alloc);
     for row in rows {
         if let Some(lines) = row {
-            all.append(lines)?;
+            all = all.followed_by(lines)?;
         }
     }
     Ok(all)

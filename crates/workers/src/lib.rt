@@ -14,7 +14,7 @@
 //!
 //! # Place
 //!
-//! The seventh layer. It stands on `choices` and `images`, which number and form the images, on `interp`,
+//! The sixth layer. It stands on `choices` and `images`, which number and form the images, on `interp`,
 //! whose `Checker` judges them, on `report`, which has the lines, and on `shares`, which has the type of
 //! a refusal. `crashbpf` calls it and writes the report.
 //!

@@ -1,10 +1,15 @@
-use Rattle.interp.proofs.Addresses.{stored_more, stored_ends}
+use Rattle.std.proofs.Common.{◌-◌, refl, arith}
+use Rattle.machine.specs.State.{stack_start}
+use Rattle.interp.proofs.Cells.{stored_is}
 use Rattle.interp.proofs.state.Machine.store.Goals as goal
 
-pub loop-byte-preserved : goal.loop-byte-preserved
-loop-byte-preserved c =
-    rw (c.set_byte.ensures, ← stored_more c.loop-byte.self.frames c.loop-byte.at c.loop-byte.byte-index c.args.bytes.now c.loop-byte-test.true) c.loop-byte.invariant
+pub invariant_of-self : goal.invariant_of-self
+invariant_of-self c = c.write.ensures.long
 
 pub returns : goal.returns
 returns c =
-    rw (stored_ends c.loop-byte.self.frames c.loop-byte.at c.loop-byte.byte-index c.args.bytes.now c.loop-byte-test.false) at c.loop-byte.invariant
+    rw (
+      ← c.self.view_is,
+      c.write.ensures.written,
+      stored_is c.args.bytes.now c.self.inside.stack c.args.address (c.args.address - stack_start) c.self.invariant (omega (arith, c.requires.from)) c.requires.fits,
+    ) refl

@@ -1,0 +1,140 @@
+//! Runs of checkers by the interpreter, with every check of the machine.
+//!
+//! The programs are those that `bench/running.c` runs on DPDK's interpreter: a loop of five
+//! instructions, a loop of loads and stores, and instructions in a row. The last one is short, so that
+//! its time is that of a run itself.
+
+use crate::timing::{Best, ROUNDS};
+use bpf_isa::codec::decode;
+use bpf_isa::program::{CodeFault, Program};
+use helpers::{Context, Filled};
+use interp::{Outcome, run_checked};
+use std::alloc::{AllocError, Global};
+use std::io;
+use std::io::Print;
+use std::time::{Clock, Instant};
+
+/// More steps than any program here makes.
+const LIMIT: u64 = 1_000_000_000;
+
+/// The instructions between the first two and the last of the row.
+const ROW: u32 = 999;
+
+/// `exit`. Slots are written as their bytes stand, the first byte the highest.
+const EXIT: u64 = 0x9500_0000_0000_0000;
+
+/// A loop of arithmetic: five instructions, 20,000,000 times.
+const COUNT: [u64; 9] = [
+    0xb700_0000_0000_0000, // mov64 r0, 0
+    0xb701_0000_002d_3101, // mov64 r1, 20000000
+    0xb702_0000_0000_0000, // mov64 r2, 0
+    0x0700_0000_0300_0000, // add64 r0, 3
+    0xaf10_0000_0000_0000, // xor64 r0, r1
+    0xbf02_0000_0000_0000, // mov64 r2, r0
+    0x1701_0000_0100_0000, // sub64 r1, 1
+    0x5501_fbff_0000_0000, // jne r1, 0, -5
+    EXIT,
+];
+
+/// A loop of loads and stores: eight instructions, 12,500,000 times.
+const MEMORY: [u64; 12] = [
+    0xb700_0000_0000_0000, // mov64 r0, 0
+    0xb703_0000_20bc_be00, // mov64 r3, 12500000
+    0x7b0a_f8ff_0000_0000, // stxdw [r10-8], r0
+    0x7912_0800_0000_0000, // ldxdw r2, [r1+8]
+    0x0f32_0000_0000_0000, // add64 r2, r3
+    0x7b2a_f8ff_0000_0000, // stxdw [r10-8], r2
+    0x79a4_f8ff_0000_0000, // ldxdw r4, [r10-8]
+    0x0f40_0000_0000_0000, // add64 r0, r4
+    0x71a5_f8ff_0000_0000, // ldxb r5, [r10-8]
+    0x1703_0000_0100_0000, // sub64 r3, 1
+    0x5503_f8ff_0000_0000, // jne r3, 0, -8
+    EXIT,
+];
+
+/// A program that ends at once.
+const SHORT: [u64; 2] = [0xb700_0000_0000_0000, EXIT];
+
+/// The bytes of slots.
+fn spelled(alloc: Global, slots: &[u64]) -> Result<Vec<u8>, AllocError> {
+    let mut bytes = Vec::new(alloc);
+    for slot in slots {
+        bytes.extend_from_slice(&slot.to_be_bytes())?;
+    }
+    Ok(bytes)
+}
+
+/// The slots of the row.
+fn row(alloc: Global) -> Result<Vec<u64>, AllocError> {
+    let mut slots = Vec::new(alloc);
+    slots.extend_from_slice(&[0xb700_0000_0000_0000, 0xb701_0000_0700_0000])?;
+    for _turn in 0..ROW {
+        slots.extend_from_slice(&COUNT[3..7])?;
+    }
+    slots.push(EXIT)?;
+    Ok(slots)
+}
+
+/// The program of slots.
+fn program(alloc: Global, slots: &[u64]) -> Result<Program, CodeFault> {
+    let bytes = spelled(alloc, slots)?;
+    decode(alloc, bytes.as_slice())
+}
+
+/// The sum of the answers of so many runs.
+#[inline(never)]
+fn answers(program: &Program, device: &Filled, runs: u32) -> u64 {
+    let context = Context {
+        sectors: 4,
+        epoch: 6,
+        marks: 7,
+    };
+    let mut sum: u64 = 0;
+    for _run in 0..runs {
+        if let Outcome::Verdict(verdict) = run_checked(program, &context, device, LIMIT) {
+            sum = sum.wrapping_add(verdict.answer);
+        }
+    }
+    sum
+}
+
+/// Prints a row for a program that makes so many steps a run: steps a second in millions, and
+/// nanoseconds a run, best of five.
+fn time<R: Clock + Print + AllocGlobal>(
+    rt: &R,
+    name: &str,
+    slots: &[u64],
+    steps: f64,
+    runs: u32,
+) -> io::Result<()> {
+    let Ok(program) = program(rt.alloc(), slots) else {
+        return println!(rt; "{name} is no program");
+    };
+    let device = Filled::new(4, 0xee);
+    let mut best = Best::new();
+    for _round in 0..ROUNDS {
+        let start = Instant::now(rt)?;
+        let answer = answers(&program, &device, runs);
+        best.keep(start.elapsed(rt)?, answer);
+    }
+    let run = best.nanoseconds(f64::from(runs));
+    let answer = best.answer();
+    println!(rt;
+        "{name:8} {:10.1} {run:14.1} {answer:>22}",
+        1000.0 * steps / run
+    )
+}
+
+/// Prints a row for each program.
+pub fn run<R: Clock + Print + AllocGlobal>(rt: &R) -> io::Result<()> {
+    println!(rt;
+        "{:8} {:>10} {:>14} {:>22}",
+        "program", "M steps/s", "ns a run", "answers"
+    )?;
+    time(rt, "count", &COUNT, 100_000_004.0, 1)?;
+    time(rt, "memory", &MEMORY, 100_000_004.0, 1)?;
+    let long = row(rt.alloc())?;
+    time(rt, "row", long.as_slice(), 3999.0, 25_000)?;
+    drop(long);
+    time(rt, "short", &SHORT, 2.0, 1_000_000)
+}

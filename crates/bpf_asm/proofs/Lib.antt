@@ -1,0 +1,11 @@
+pub mod Parts
+pub mod Words
+pub mod Outlines
+pub mod Lines
+pub mod Places
+pub mod Programs
+pub mod Listed
+pub mod Printed
+pub mod Names
+pub mod Operands
+pub mod Again

@@ -1,0 +1,62 @@
+//! Assembly texts of BPF programs, and the listings of programs (docs/ASSEMBLY.md).
+//!
+//! This crate stands on `bpf_isa`, from which it takes instructions and programs, and on `indexmap`.
+//! The commands that read and print programs stand on it, and call `assemble` and `list` alone.
+//!
+//! - `part`: the words and marks of a line, taken from its front one by one.
+//! - `number`: numbers with their sign, and the ranges that they have to keep.
+//! - `mnemonic`: the names of the instructions, both ways, over one table.
+//! - `operand`: registers, numbers, memory places and targets, and the lists of operands that
+//!   instructions have.
+//! - `instruction`, `statement`: what a line says: nothing, a label, or an instruction. An
+//!   instruction that names a label is kept with the distance 0 and that name.
+//! - `outline`: the lines of a text in turn: the slot of each label, in the order in which the labels
+//!   stand, and the instructions with the labels that they name.
+//! - `assembler`: the second pass, which gives each instruction its distance, and `assemble`.
+//! - `listing`: `list`.
+//! - `fault`: why a text is refused, with the number under which the refusal is printed and its line.
+//!
+//! The grammar is stated once, in `specs/`: `Parts` has the lines and the parts of a line, `Words` what
+//! a word stands for, `Mnemonics` the name of each instruction, `Operands` the operands of each, and
+//! `Statements` what a line says. `Says` has the relation between a text and a program: each line says
+//! something, no name is a label on two lines, and the program is that of the instructions in order,
+//! each label replaced by its distance. `Listing` has the text of a program.
+//!
+//! The contract, in words:
+//!
+//! - `assemble` answers a program only where the text says it.
+//! - `assemble` refuses, want of memory aside, only where the text says no program. Which number and
+//!   line a refusal has is held to the table of docs/ASSEMBLY.md by tests.
+//! - `list` answers the listing of the program, to the byte, and the listing says the program.
+//! - A text says at most one program. So assembling the listing of a program gives that program, or
+//!   want of memory (`laws::round_trip`).
+//!
+//! Each line is read once. A label is looked up in a map, so a text takes time linear in its length.
+//!
+//! ```text
+//! let program = assemble(alloc, "again:\n    mov64 r0, 7 ; comment\n    ja again\n")?;
+//! program.slots()                      // 2
+//! list(alloc, &program)?               // "mov64 r0, 7\nja -2\n"
+//! assemble(alloc, "exit\nja x\n")      // refused: unknown label, line 2
+//! ```
+//!
+//! Calls of functions of the program itself (`callf`) are not in the language yet: the word is refused
+//! as unknown. They will be one more form in `Mnemonic` and in the tables.
+#![tactic(auto)]
+
+mod assembler;
+pub mod fault;
+mod instruction;
+pub mod laws;
+mod listing;
+mod mnemonic;
+mod number;
+mod operand;
+mod outline;
+mod part;
+mod statement;
+#[cfg(test)]
+mod tests;
+
+pub use assembler::assemble;
+pub use listing::list;
