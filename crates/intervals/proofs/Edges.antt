@@ -1,0 +1,137 @@
+-- The edges: what they leave, and that smaller ranges leave smaller ones.
+use Rattle.std.proofs.Common.{ℕ, suc, ◌≡◌, ◌+◌, ◌-◌, ◌*◌, ◌^◌, ◌<◌, ◌≤◌, ◌==◌, nat_le, nat_lt, ◌&&◌, not, Bool, true, false, Option, None, Some, refl, sym, ◌∙◌, ap, inl, inr, ℤ, min, max, if◌then◌else◌, arith}
+use Rattle.std.proofs.lemmas.Bool.{and_parts}
+use Rattle.std.proofs.lemmas.Bool.Decides.{nat_tests}
+use Rattle.bpf_isa.specs.declared.instr.Instr.{Instr}
+use Rattle.bpf_isa.specs.declared.instr.Instr.TheVariants as instr
+use Rattle.bpf_isa.specs.declared.instr.Source.{Source}
+use Rattle.bpf_isa.specs.declared.instr.Width.{Width}
+use Rattle.bpf_isa.specs.declared.instr.Width.TheVariants as width
+use Rattle.bpf_isa.specs.declared.instr.Condition.{Condition}
+use Rattle.bpf_isa.specs.declared.instr.Condition.TheVariants as cond
+use Rattle.machine.specs.Arithmetic.{compared, holds}
+use Rattle.intervals.specs.Spans.{Span, span, IsSpan, Has, Within}
+use Rattle.intervals.specs.Edges.{both, equal, without, apart, above, at_most, at_least, below, told, is_same, refined}
+use Rattle.intervals.specs.Laws.{Leaves, Shrinks, WithinBoth, IsWordSpan}
+
+-- two spans that have words are left
+pub both_leave : (l h m n a b : ℕ) → l ≤ a → a ≤ h → m ≤ b → b ≤ n → Leaves (both (span l h) (span m n)) a b
+both_leave l h m n a b p q r s =
+    let t : nat_le l h && nat_le m n ≡ true = grind (arith, nat_tests, p, q, r, s) in
+    rw t (record { from = p; upto = q }, record { from = r; upto = s })
+
+pub equal_leaves : (x y : Span) (a b : ℕ) → Has x a → Has y b → a ≡ b → Leaves (equal x y) a b
+unfolding equal
+equal_leaves x y a b h k e =
+    both_leave (max x.low y.low) (min x.high y.high) (max x.low y.low) (min x.high y.high) a b
+      (omega (arith, h.from, k.from, e)) (omega (arith, h.upto, k.upto, e))
+      (omega (arith, h.from, k.from, e)) (omega (arith, h.upto, k.upto, e))
+
+-- a number that is not the constant stays
+without_has : (x y : Span) (a b : ℕ) → Has x a → Has y b → (a ≡ b → ⊥) → Has (without x y) a
+without_has x y a b h k e =
+    record {
+      from = grind (arith, nat_tests, h.from, h.upto, k.from, k.upto, e);
+      upto = grind (arith, nat_tests, h.from, h.upto, k.from, k.upto, e);
+    }
+
+pub apart_leaves : (x y : Span) (a b : ℕ) → Has x a → Has y b → (a ≡ b → ⊥) → Leaves (apart x y) a b
+unfolding apart
+apart_leaves x y a b h k e =
+    let p = without_has x y a b h k e in
+    let q = without_has y x b a k h (λ i. e (sym i)) in
+    both_leave (without x y).low (without x y).high (without y x).low (without y x).high a b p.from p.upto q.from q.upto
+
+pub above_leaves : (x y : Span) (a b : ℕ) → Has x a → Has y b → b < a → Leaves (above x y) a b
+unfolding above
+above_leaves x y a b h k e =
+    both_leave (max x.low (y.low + 1)) x.high y.low (min y.high (x.high - 1)) a b
+      (omega (arith, h.from, k.from, e)) h.upto k.from (omega (arith, h.upto, k.upto, e))
+
+pub at_most_leaves : (x y : Span) (a b : ℕ) → Has x a → Has y b → a ≤ b → Leaves (at_most x y) a b
+unfolding at_most
+at_most_leaves x y a b h k e =
+    both_leave x.low (min x.high y.high) (max x.low y.low) y.high a b
+      h.from (omega (arith, h.upto, k.upto, e)) (omega (arith, h.from, k.from, e)) k.upto
+
+pub at_least_leaves : (x y : Span) (a b : ℕ) → Has x a → Has y b → b ≤ a → Leaves (at_least x y) a b
+unfolding at_least
+at_least_leaves x y a b h k e =
+    both_leave (max x.low y.low) x.high y.low (min y.high x.high) a b
+      (omega (arith, h.from, k.from, e)) h.upto k.from (omega (arith, h.upto, k.upto, e))
+
+pub below_leaves : (x y : Span) (a b : ℕ) → Has x a → Has y b → a < b → Leaves (below x y) a b
+unfolding below
+below_leaves x y a b h k e =
+    both_leave x.low (min x.high (y.high - 1)) (max y.low (x.low + 1)) y.high a b
+      h.from (omega (arith, h.upto, k.upto, e)) (omega (arith, h.from, k.from, e)) k.upto
+
+-- what the edge of a condition leaves
+pub told_leaves : (c : Condition) (taken : Bool) (x y : Span) (a b : ℕ) → Has x a → Has y b → compared width.W64 c a b ≡ taken
+    → Leaves (told c taken x y) a b
+unfolding told compared
+told_leaves cond.Eq true x y a b h k e = equal_leaves x y a b h k (grind (arith, nat_tests, e))
+told_leaves cond.Eq false x y a b h k e = apart_leaves x y a b h k (grind (arith, nat_tests, e))
+told_leaves cond.Ne true x y a b h k e = apart_leaves x y a b h k (grind (arith, nat_tests, e))
+told_leaves cond.Ne false x y a b h k e = equal_leaves x y a b h k (grind (arith, nat_tests, e))
+told_leaves cond.Gt true x y a b h k e = above_leaves x y a b h k (grind (arith, nat_tests, e))
+told_leaves cond.Gt false x y a b h k e = at_most_leaves x y a b h k (grind (arith, nat_tests, e))
+told_leaves cond.Ge true x y a b h k e = at_least_leaves x y a b h k (grind (arith, nat_tests, e))
+told_leaves cond.Ge false x y a b h k e = below_leaves x y a b h k (grind (arith, nat_tests, e))
+told_leaves cond.Lt true x y a b h k e = below_leaves x y a b h k (grind (arith, nat_tests, e))
+told_leaves cond.Lt false x y a b h k e = at_least_leaves x y a b h k (grind (arith, nat_tests, e))
+told_leaves cond.Le true x y a b h k e = at_most_leaves x y a b h k (grind (arith, nat_tests, e))
+told_leaves cond.Le false x y a b h k e = above_leaves x y a b h k (grind (arith, nat_tests, e))
+told_leaves cond.Set taken x y a b h k e = (h, k)
+told_leaves cond.SignedGt taken x y a b h k e = (h, k)
+told_leaves cond.SignedGe taken x y a b h k e = (h, k)
+told_leaves cond.SignedLt taken x y a b h k e = (h, k)
+told_leaves cond.SignedLe taken x y a b h k e = (h, k)
+
+leave_if : (s : Bool) (p q : Option (Span × Span)) (a b : ℕ) → Leaves p a b → Leaves q a b → Leaves (if s then p else q) a b
+leave_if true p q a b h k = h
+leave_if false p q a b h k = k
+
+pub refined_leaves : (w : Width) (c : Condition) (dst : ℕ) (from : Source) (offset : ℤ) (taken : Bool) (x y : Span) (a b : ℕ)
+    → Has x a → Has y b → holds w c a b ≡ taken → Leaves (refined (instr.Branch w c dst from offset) taken x y) a b
+unfolding refined holds
+refined_leaves width.W32 c dst from offset taken x y a b h k e = (h, k)
+refined_leaves width.W64 c dst from offset taken x y a b h k e =
+    leave_if (is_same dst from) (Some (x, y)) (told c taken x y) a b (h, k) (told_leaves c taken x y a b h k e)
+
+-- what is left lies in the ranges before
+shrink_if : (t : Bool) (x y p q : Span) → (t ≡ true → IsWordSpan p × IsWordSpan q) → Within p x → Within q y
+    → Shrinks (if t then Some (p, q) else None) x y
+shrink_if true x y p q f wp wq = let k = f refl in (k.0, k.1, wp, wq)
+shrink_if false x y p q f wp wq = tt
+
+both_shrink : (x y p q : Span) → IsWordSpan x → IsWordSpan y → Within p x → Within q y → Shrinks (both p q) x y
+both_shrink x y p q hx hy wp wq =
+    shrink_if (nat_le p.low p.high && nat_le q.low q.high) x y p q
+      (λ e. (
+        record { ordered = grind (arith, nat_tests, e); most = omega (arith, hx.most, wp.upto) },
+        record { ordered = grind (arith, nat_tests, e); most = omega (arith, hy.most, wq.upto) },
+      ))
+      wp wq
+
+without_within : (x y : Span) → Within (without x y) x
+without_within x y = record { from = grind (arith, nat_tests); upto = grind (arith, nat_tests) }
+
+-- smaller spans leave smaller ones
+within_if : (s t : Bool) (p q r u : Span) → (s ≡ true → t ≡ true) → Within p r → Within q u
+    → WithinBoth (if s then Some (p, q) else None) (if t then Some (r, u) else None)
+within_if true true p q r u f a b = (a, b)
+within_if true false p q r u f a b = absurd (let bad : false ≡ true = f refl in cc)
+within_if false t p q r u f a b = tt
+
+both_within : (p q r s : Span) → Within p r → Within q s → WithinBoth (both p q) (both r s)
+both_within p q r s a b =
+    within_if (nat_le p.low p.high && nat_le q.low q.high) (nat_le r.low r.high && nat_le s.low s.high) p q r s
+      (λ e. grind (arith, nat_tests, e, a.from, a.upto, b.from, b.upto)) a b
+
+without_mono : (x y s t : Span) → IsWordSpan y → Within x s → Within y t → Within (without x y) (without s t)
+without_mono x y s t hy a b =
+    record {
+      from = grind (arith, nat_tests, a.from, a.upto, b.from, b.upto, hy.ordered);
+      upto = grind (arith, nat_tests, a.from, a.upto, b.from, b.upto, hy.ordered);
+    }

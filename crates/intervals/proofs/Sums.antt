@@ -1,0 +1,94 @@
+-- Sums, differences and products: each holds what it has to, is a range of the width, and is smaller
+-- for smaller operands.
+use Rattle.std.proofs.Common.{ℕ, suc, ◌≡◌, ◌+◌, ◌-◌, ◌*◌, ◌%◌, ◌<◌, ◌≤◌, nat_le, nat_lt, ◌⊎◌, sym, ◌∙◌, ap, inl, inr, arith}
+use Rattle.std.proofs.lemmas.Bool.{cases_lt}
+use Rattle.std.proofs.lemmas.Bool.Decides.{nat_tests}
+use Rattle.std.proofs.Math.Nat.{mod-lt, mod-eq_of_lt, mod-eq-sub-mod, mul-le-mul}
+use Rattle.intervals.specs.Spans.{Span, IsSpan, Has, Within}
+use Rattle.intervals.specs.Operators.{added, subtracted, multiplied}
+
+-- a number below twice the count of numbers, in the width
+record Wrapped (m v w : ℕ) : Type 0 where
+  pub most : w ≤ m
+  pub is : ((v ≤ m) × (w ≡ v)) ⊎ ((m < v) × (w + (m + 1) ≡ v))
+
+wrapped : (m v : ℕ) → v ≤ m + (m + 1) → Wrapped m v (v % (m + 1))
+wrapped m v h =
+    elim (cases_lt v (m + 1)) [
+    | inl less ↦ let e : v % (m + 1) ≡ v = mod-eq_of_lt less in record { most = omega (arith, e, less); is = inl (omega (arith, less), e) }
+    | inr more ↦
+        let e : v % (m + 1) ≡ (v - (m + 1)) % (m + 1) = mod-eq-sub-mod more in
+        let f : (v - (m + 1)) % (m + 1) ≡ v - (m + 1) = mod-eq_of_lt (omega (arith, h, more)) in
+        record { most = omega (arith, e, f, h, more); is = inr (omega (arith, more), omega (arith, e, f, more)) }
+    ]
+
+pub added_has : (m : ℕ) (x y : Span) (a b : ℕ) → IsSpan m x → IsSpan m y → Has x a → Has y b → Has (added m x y) ((a + b) % (m + 1))
+unfolding added
+added_has m x y a b hx hy h k =
+    let w = wrapped m (a + b) (omega (arith, h.upto, k.upto, hx.most, hy.most)) in
+    record {
+      from = grind (arith, nat_tests, w.most, w.is, h.from, h.upto, k.from, k.upto);
+      upto = grind (arith, nat_tests, w.most, w.is, h.from, h.upto, k.from, k.upto);
+    }
+
+pub added_fits : (m : ℕ) (x y : Span) → IsSpan m x → IsSpan m y → IsSpan m (added m x y)
+unfolding added
+added_fits m x y hx hy =
+    record {
+      ordered = grind (arith, nat_tests, hx.ordered, hy.ordered, hx.most, hy.most);
+      most = grind (arith, nat_tests, hx.ordered, hy.ordered, hx.most, hy.most);
+    }
+
+pub added_mono : (m : ℕ) (x y s t : Span) → IsSpan m x → IsSpan m y → IsSpan m s → IsSpan m t → Within x s → Within y t
+    → Within (added m x y) (added m s t)
+unfolding added
+added_mono m x y s t hx hy hs ht a b =
+    record { from = grind (arith, nat_tests); upto = grind (arith, nat_tests) }
+
+pub subtracted_has : (m : ℕ) (x y : Span) (a b : ℕ) → IsSpan m x → IsSpan m y → Has x a → Has y b
+    → Has (subtracted m x y) ((a + (m + 1 - b)) % (m + 1))
+unfolding subtracted
+subtracted_has m x y a b hx hy h k =
+    let w = wrapped m (a + (m + 1 - b)) (omega (arith, h.upto, hx.most)) in
+    record {
+      from = grind (arith, nat_tests, w.most, w.is, h.from, h.upto, k.from, k.upto, hy.most);
+      upto = grind (arith, nat_tests, w.most, w.is, h.from, h.upto, k.from, k.upto, hy.most);
+    }
+
+pub subtracted_fits : (m : ℕ) (x y : Span) → IsSpan m x → IsSpan m y → IsSpan m (subtracted m x y)
+unfolding subtracted
+subtracted_fits m x y hx hy =
+    record {
+      ordered = grind (arith, nat_tests, hx.ordered, hy.ordered, hx.most, hy.most);
+      most = grind (arith, nat_tests, hx.ordered, hy.ordered, hx.most, hy.most);
+    }
+
+pub subtracted_mono : (m : ℕ) (x y s t : Span) → IsSpan m x → IsSpan m y → IsSpan m s → IsSpan m t → Within x s → Within y t
+    → Within (subtracted m x y) (subtracted m s t)
+unfolding subtracted
+subtracted_mono m x y s t hx hy hs ht a b =
+    record { from = grind (arith, nat_tests); upto = grind (arith, nat_tests) }
+
+pub multiplied_has : (m : ℕ) (x y : Span) (a b : ℕ) → Has x a → Has y b → Has (multiplied m x y) ((a * b) % (m + 1))
+unfolding multiplied
+multiplied_has m x y a b h k =
+    let least : x.low * y.low ≤ a * b = mul-le-mul h.from k.from in
+    let greatest : a * b ≤ x.high * y.high = mul-le-mul h.upto k.upto in
+    let small : (a * b) % (m + 1) < m + 1 = mod-lt (a * b) (omega arith) in
+    let same : a * b < m + 1 → (a * b) % (m + 1) ≡ a * b = λ less. mod-eq_of_lt less in
+    record { from = grind (arith, nat_tests); upto = grind (arith, nat_tests) }
+
+pub multiplied_fits : (m : ℕ) (x y : Span) → IsSpan m x → IsSpan m y → IsSpan m (multiplied m x y)
+unfolding multiplied
+multiplied_fits m x y hx hy =
+    let order : x.low * y.low ≤ x.high * y.high = mul-le-mul hx.ordered hy.ordered in
+    record { ordered = grind (arith, nat_tests); most = grind (arith, nat_tests) }
+
+pub multiplied_mono : (m : ℕ) (x y s t : Span) → IsSpan m x → IsSpan m y → Within x s → Within y t
+    → Within (multiplied m x y) (multiplied m s t)
+unfolding multiplied
+multiplied_mono m x y s t hx hy a b =
+    let least : s.low * t.low ≤ x.low * y.low = mul-le-mul a.from b.from in
+    let greatest : x.high * y.high ≤ s.high * t.high = mul-le-mul a.upto b.upto in
+    let order : x.low * y.low ≤ x.high * y.high = mul-le-mul hx.ordered hy.ordered in
+    record { from = grind (arith, nat_tests); upto = grind (arith, nat_tests) }
