@@ -12,20 +12,22 @@ record Wrapped (m v w : ℕ) : Type 0 where
   pub most : w ≤ m
   pub is : ((v ≤ m) × (w ≡ v)) ⊎ ((m < v) × (w + (m + 1) ≡ v))
 
-wrapped : (m v : ℕ) → v ≤ m + (m + 1) → Wrapped m v (v % (m + 1))
-wrapped m v h =
-    elim (cases_lt v (m + 1)) [
-    | inl less ↦ let e : v % (m + 1) ≡ v = mod-eq_of_lt less in record { most = omega (arith, e, less); is = inl (omega (arith, less), e) }
+wrapped : (m n v : ℕ) → m + 1 ≡ n → v ≤ m + n → Wrapped m v (v % n)
+wrapped m n v one h =
+    elim (cases_lt v n) [
+    | inl less ↦ let e : v % n ≡ v = mod-eq_of_lt less in record { most = omega (arith, e, less, one); is = inl (omega (arith, less, one), e) }
     | inr more ↦
-        let e : v % (m + 1) ≡ (v - (m + 1)) % (m + 1) = mod-eq-sub-mod more in
-        let f : (v - (m + 1)) % (m + 1) ≡ v - (m + 1) = mod-eq_of_lt (omega (arith, h, more)) in
-        record { most = omega (arith, e, f, h, more); is = inr (omega (arith, more), omega (arith, e, f, more)) }
+        let e : v % n ≡ (v - n) % n = mod-eq-sub-mod more in
+        let f : (v - n) % n ≡ v - n = mod-eq_of_lt (omega (arith, h, more, one)) in
+        record { most = omega (arith, e, f, h, more, one); is = inr (omega (arith, more, one), omega (arith, e, f, more, one)) }
     ]
 
-pub added_has : (m : ℕ) (x y : Span) (a b : ℕ) → IsSpan m x → IsSpan m y → Has x a → Has y b → Has (added m x y) ((a + b) % (m + 1))
+-- n is how many numbers the width has
+pub added_has : (m n : ℕ) (x y : Span) (a b : ℕ) → m + 1 ≡ n → IsSpan m x → IsSpan m y → Has x a → Has y b
+    → Has (added m x y) ((a + b) % n)
 unfolding added
-added_has m x y a b hx hy h k =
-    let w = wrapped m (a + b) (omega (arith, h.upto, k.upto, hx.most, hy.most)) in
+added_has m n x y a b one hx hy h k =
+    let w = wrapped m n (a + b) one (omega (arith, h.upto, k.upto, hx.most, hy.most, one)) in
     record {
       from = grind (arith, nat_tests, w.most, w.is, h.from, h.upto, k.from, k.upto);
       upto = grind (arith, nat_tests, w.most, w.is, h.from, h.upto, k.from, k.upto);
@@ -45,11 +47,11 @@ unfolding added
 added_mono m x y s t hx hy hs ht a b =
     record { from = grind (arith, nat_tests); upto = grind (arith, nat_tests) }
 
-pub subtracted_has : (m : ℕ) (x y : Span) (a b : ℕ) → IsSpan m x → IsSpan m y → Has x a → Has y b
-    → Has (subtracted m x y) ((a + (m + 1 - b)) % (m + 1))
+pub subtracted_has : (m n : ℕ) (x y : Span) (a b : ℕ) → m + 1 ≡ n → IsSpan m x → IsSpan m y → Has x a → Has y b
+    → Has (subtracted m x y) ((a + (n - b)) % n)
 unfolding subtracted
-subtracted_has m x y a b hx hy h k =
-    let w = wrapped m (a + (m + 1 - b)) (omega (arith, h.upto, hx.most)) in
+subtracted_has m n x y a b one hx hy h k =
+    let w = wrapped m n (a + (n - b)) one (omega (arith, h.upto, hx.most)) in
     record {
       from = grind (arith, nat_tests, w.most, w.is, h.from, h.upto, k.from, k.upto, hy.most);
       upto = grind (arith, nat_tests, w.most, w.is, h.from, h.upto, k.from, k.upto, hy.most);
@@ -69,13 +71,13 @@ unfolding subtracted
 subtracted_mono m x y s t hx hy hs ht a b =
     record { from = grind (arith, nat_tests); upto = grind (arith, nat_tests) }
 
-pub multiplied_has : (m : ℕ) (x y : Span) (a b : ℕ) → Has x a → Has y b → Has (multiplied m x y) ((a * b) % (m + 1))
+pub multiplied_has : (m n : ℕ) (x y : Span) (a b : ℕ) → m + 1 ≡ n → Has x a → Has y b → Has (multiplied m x y) ((a * b) % n)
 unfolding multiplied
-multiplied_has m x y a b h k =
+multiplied_has m n x y a b one h k =
     let least : x.low * y.low ≤ a * b = mul-le-mul h.from k.from in
     let greatest : a * b ≤ x.high * y.high = mul-le-mul h.upto k.upto in
-    let small : (a * b) % (m + 1) < m + 1 = mod-lt (a * b) (omega arith) in
-    let same : a * b < m + 1 → (a * b) % (m + 1) ≡ a * b = λ less. mod-eq_of_lt less in
+    let small : (a * b) % n < n = mod-lt (a * b) (omega (arith, one)) in
+    let same : a * b < n → (a * b) % n ≡ a * b = λ less. mod-eq_of_lt less in
     record { from = grind (arith, nat_tests); upto = grind (arith, nat_tests) }
 
 pub multiplied_fits : (m : ℕ) (x y : Span) → IsSpan m x → IsSpan m y → IsSpan m (multiplied m x y)
