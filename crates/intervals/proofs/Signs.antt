@@ -17,7 +17,7 @@ use Rattle.intervals.proofs.Quotients.{divided_has, divided_fits, divided_mono, 
 use Rattle.intervals.proofs.Bits.{shifted_right_has, shifted_right_fits, shifted_right_mono}
 
 -- a number that is not negative is at most m
-abbrev Upto : ℕ → ℤ → Type 0
+abbrev pub Upto : ℕ → ℤ → Type 0
 Upto m (pos n) = n ≤ m
 Upto m (negsuc n) = Unit {0}
 
@@ -25,16 +25,20 @@ negative_upto : (m n : ℕ) → Upto m (neg_ℤ (pos n))
 negative_upto m zero = omega arith
 negative_upto m (suc n) = tt
 
-unsigned_upto : (w : Width) (z : ℤ) → Upto (most w) z → unsigned w z ≤ most w
+pub unsigned_upto : (w : Width) (z : ℤ) → Upto (most w) z → unsigned w z ≤ most w
 unsigned_upto width.W32 (pos n) h = h
 unsigned_upto width.W32 (negsuc n) h = omega arith
 unsigned_upto width.W64 (pos n) h = h
 unsigned_upto width.W64 (negsuc n) h = omega arith
 
 -- the size of a signed number, however far below zero
-abbrev size : ℤ → ℕ
+abbrev pub size : ℤ → ℕ
 size (pos n) = n
 size (negsuc n) = suc n
+
+pub size_upto : (m : ℕ) (z : ℤ) → size z ≤ m → Upto m z
+size_upto m (pos n) h = h
+size_upto m (negsuc n) h = tt
 
 signed_size : (w : Width) (a : ℕ) → a ≤ most w → size (signed w a) ≤ most w
 signed_size width.W32 a h = grind (arith, ints, nat_tests, h)

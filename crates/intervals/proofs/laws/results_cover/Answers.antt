@@ -1,6 +1,8 @@
 use Rattle.intervals.specs.Laws.{ResultsCover}
-use Rattle.intervals.proofs.Covers.{arithmetic_has}
+use Rattle.intervals.proofs.Calculated.{arithmetic_has, negated_has}
+use Rattle.intervals.proofs.Extensions.{extended_has}
+use Rattle.intervals.proofs.Orders.{ordered_has}
 use Rattle.intervals.proofs.laws.results_cover.Goals as goal
 
 pub returns : goal.returns
-returns c = record { operators = arithmetic_has; opposites = ?; signs = ?; orders = ? }
+returns c = record { operators = arithmetic_has; opposites = negated_has; signs = extended_has; orders = ordered_has }

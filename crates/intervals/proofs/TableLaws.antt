@@ -1,30 +1,34 @@
--- The results of arithmetic by the table, and then by the steps before it.
+-- The table of results, for operands that are numbers of the width.
 use Rattle.std.proofs.Common.{ℕ, suc, ◌≡◌, ◌+◌, ◌-◌, ◌*◌, ◌/◌, ◌%◌, ◌^◌, ◌<◌, ◌≤◌, ◌==◌, nat_le, nat_lt, ◌&&◌, Bool, true, false, if◌then◌else◌, refl, sym, ◌∙◌, ap, inl, inr, arith}
 use Rattle.std.proofs.lemmas.Bool.Decides.{nat_tests}
 use Rattle.std.proofs.lemmas.Nat.{pow_pos}
+use Rattle.std.proofs.Math.Nat.{mod-lt, mod-eq_of_lt}
+use Rattle.std.specs.Int.{cast_signed, cast_unsigned, w8, w16, w32, w64}
+use Rattle.bpf_isa.specs.declared.instr.SignExtension.{SignExtension}
+use Rattle.bpf_isa.specs.declared.instr.SignExtension.TheVariants as extension
 use Rattle.bpf_isa.specs.declared.instr.Width.{Width}
 use Rattle.bpf_isa.specs.declared.instr.Width.TheVariants as width
 use Rattle.bpf_isa.specs.declared.instr.Operator.{Operator}
 use Rattle.bpf_isa.specs.declared.instr.Operator.TheVariants as op
-use Rattle.machine.specs.Arithmetic.{computed, arithmetic, width_bits, low}
-use Rattle.intervals.specs.Spans.{Span, IsSpan, Has, Within}
-use Rattle.intervals.specs.Operators.{most, half, in_table}
-use Rattle.intervals.specs.Results.{cut, operated, arithmetic_result}
+use Rattle.machine.specs.Arithmetic.{computed, arithmetic, width_bits, low, extended}
+use Rattle.intervals.specs.Spans.{Span, span, only, is_constant, IsSpan, Has, Within}
+use Rattle.intervals.specs.Operators.{most, half, full, in_table}
+use Rattle.intervals.specs.Results.{cut, is_exact, operated, arithmetic_result, opposite, negated_result, extended_width, sign_of, sign_extended, extended_result}
 use Rattle.intervals.proofs.Sums.{added_has, added_fits, added_mono, subtracted_has, subtracted_fits, subtracted_mono, multiplied_has, multiplied_fits, multiplied_mono}
 use Rattle.intervals.proofs.Quotients.{divided_has, divided_fits, divided_mono, remaining_has, remaining_fits, remaining_mono}
 use Rattle.intervals.proofs.Bits.{common_has, common_fits, common_mono, united_has_or, united_has_xor, united_fits, united_mono, shifted_left_has, shifted_left_fits, shifted_left_mono, shifted_right_has, shifted_right_fits, shifted_right_mono}
-use Rattle.intervals.proofs.Signs.{signed_divided_has, signed_divided_fits, signed_divided_mono, signed_remaining_has, signed_remaining_fits, signed_remaining_mono, signed_shifted_has, signed_shifted_fits, signed_shifted_mono}
+use Rattle.intervals.proofs.Signs.{signed_divided_has, signed_divided_fits, signed_divided_mono, signed_remaining_has, signed_remaining_fits, signed_remaining_mono, signed_shifted_has, signed_shifted_fits, signed_shifted_mono, unsigned_upto, size_upto}
 
 -- how many numbers a width has
-numbers : (w : Width) → most w + 1 ≡ 2 ^ width_bits w
+pub numbers : (w : Width) → most w + 1 ≡ 2 ^ width_bits w
 numbers w = omega (arith, pow_pos (width_bits w))
 
 -- none is above the greatest word
-words : (w : Width) → most w ≤ 2 ^ 64 - 1
+pub words : (w : Width) → most w ≤ 2 ^ 64 - 1
 words width.W32 = omega arith
 words width.W64 = omega arith
 
-table_has : (w : Width) (o : Operator) (x y : Span) (a b : ℕ) → IsSpan (most w) x → IsSpan (most w) y → Has x a → Has y b
+pub table_has : (w : Width) (o : Operator) (x y : Span) (a b : ℕ) → IsSpan (most w) x → IsSpan (most w) y → Has x a → Has y b
     → Has (in_table w o x y) (computed w o a b)
 unfolding in_table computed
 table_has w op.Add x y a b hx hy h k = added_has (most w) (2 ^ width_bits w) x y a b (numbers w) hx hy h k
@@ -42,7 +46,7 @@ table_has w op.Xor x y a b hx hy h k = united_has_xor x y a b (omega (arith, hx.
 table_has w op.Mov x y a b hx hy h k = k
 table_has w op.Arsh x y a b hx hy h k = signed_shifted_has w x y a b hx h k
 
-table_fits : (w : Width) (o : Operator) (x y : Span) → IsSpan (most w) x → IsSpan (most w) y → IsSpan (most w) (in_table w o x y)
+pub table_fits : (w : Width) (o : Operator) (x y : Span) → IsSpan (most w) x → IsSpan (most w) y → IsSpan (most w) (in_table w o x y)
 unfolding in_table
 table_fits w op.Add x y hx hy = added_fits (most w) x y hx hy
 table_fits w op.Sub x y hx hy = subtracted_fits (most w) x y hx hy
@@ -59,7 +63,7 @@ table_fits w op.Xor x y hx hy = united_fits (width_bits w) x y (omega (arith, hx
 table_fits w op.Mov x y hx hy = hy
 table_fits w op.Arsh x y hx hy = signed_shifted_fits (most w) (half w) (width_bits w) x y hx
 
-table_mono : (w : Width) (o : Operator) (x y s t : Span) → IsSpan (most w) x → IsSpan (most w) y → IsSpan (most w) s → IsSpan (most w) t
+pub table_mono : (w : Width) (o : Operator) (x y s t : Span) → IsSpan (most w) x → IsSpan (most w) y → IsSpan (most w) s → IsSpan (most w) t
     → Within x s → Within y t → Within (in_table w o x y) (in_table w o s t)
 unfolding in_table
 table_mono w op.Add x y s t hx hy hs ht a b = added_mono (most w) x y s t hx hy hs ht a b
@@ -77,7 +81,3 @@ table_mono w op.Xor x y s t hx hy hs ht a b = united_mono x y s t (omega (arith,
 table_mono w op.Mov x y s t hx hy hs ht a b = b
 table_mono w op.Arsh x y s t hx hy hs ht a b = signed_shifted_mono (most w) (half w) (width_bits w) x y s t hx hy a b
 
-pub arithmetic_has : (w : Width) (o : Operator) (x y : Span) (a b : ℕ) → IsSpan (2 ^ 64 - 1) x → IsSpan (2 ^ 64 - 1) y → Has x a → Has y b
-    → Has (arithmetic_result w o x y) (arithmetic w o a b)
-unfolding arithmetic_result arithmetic
-arithmetic_has w o x y a b hx hy h k = let t = table_has w o in let f = table_fits w o in let m = table_mono w o in ?
