@@ -135,3 +135,150 @@ without_mono x y s t hy a b =
       from = grind (arith, nat_tests, a.from, a.upto, b.from, b.upto, hy.ordered);
       upto = grind (arith, nat_tests, a.from, a.upto, b.from, b.upto, hy.ordered);
     }
+
+-- each edge leaves ranges that lie in those before
+
+equal_shrinks : (x y : Span) → IsWordSpan x → IsWordSpan y → Shrinks (equal x y) x y
+unfolding equal
+equal_shrinks x y hx hy =
+    both_shrink x y (span (max x.low y.low) (min x.high y.high)) (span (max x.low y.low) (min x.high y.high)) hx hy
+      (record { from = omega arith; upto = omega arith }) (record { from = omega arith; upto = omega arith })
+
+above_shrinks : (x y : Span) → IsWordSpan x → IsWordSpan y → Shrinks (above x y) x y
+unfolding above
+above_shrinks x y hx hy =
+    both_shrink x y (span (max x.low (y.low + 1)) x.high) (span y.low (min y.high (x.high - 1))) hx hy
+      (record { from = omega arith; upto = omega arith }) (record { from = omega arith; upto = omega arith })
+
+at_most_shrinks : (x y : Span) → IsWordSpan x → IsWordSpan y → Shrinks (at_most x y) x y
+unfolding at_most
+at_most_shrinks x y hx hy =
+    both_shrink x y (span x.low (min x.high y.high)) (span (max x.low y.low) y.high) hx hy
+      (record { from = omega arith; upto = omega arith }) (record { from = omega arith; upto = omega arith })
+
+at_least_shrinks : (x y : Span) → IsWordSpan x → IsWordSpan y → Shrinks (at_least x y) x y
+unfolding at_least
+at_least_shrinks x y hx hy =
+    both_shrink x y (span (max x.low y.low) x.high) (span y.low (min y.high x.high)) hx hy
+      (record { from = omega arith; upto = omega arith }) (record { from = omega arith; upto = omega arith })
+
+below_shrinks : (x y : Span) → IsWordSpan x → IsWordSpan y → Shrinks (below x y) x y
+unfolding below
+below_shrinks x y hx hy =
+    both_shrink x y (span x.low (min x.high (y.high - 1))) (span (max y.low (x.low + 1)) y.high) hx hy
+      (record { from = omega arith; upto = omega arith }) (record { from = omega arith; upto = omega arith })
+
+apart_shrinks : (x y : Span) → IsWordSpan x → IsWordSpan y → Shrinks (apart x y) x y
+unfolding apart
+apart_shrinks x y hx hy = both_shrink x y (without x y) (without y x) hx hy (without_within x y) (without_within y x)
+
+-- an edge that tells nothing
+kept_shrinks : (x y : Span) → IsWordSpan x → IsWordSpan y → Shrinks (Some (x, y)) x y
+kept_shrinks x y hx hy = (hx, hy, record { from = omega arith; upto = omega arith }, record { from = omega arith; upto = omega arith })
+
+told_shrinks : (c : Condition) (taken : Bool) (x y : Span) → IsWordSpan x → IsWordSpan y → Shrinks (told c taken x y) x y
+unfolding told
+told_shrinks cond.Eq true x y hx hy = equal_shrinks x y hx hy
+told_shrinks cond.Eq false x y hx hy = apart_shrinks x y hx hy
+told_shrinks cond.Ne true x y hx hy = apart_shrinks x y hx hy
+told_shrinks cond.Ne false x y hx hy = equal_shrinks x y hx hy
+told_shrinks cond.Gt true x y hx hy = above_shrinks x y hx hy
+told_shrinks cond.Gt false x y hx hy = at_most_shrinks x y hx hy
+told_shrinks cond.Ge true x y hx hy = at_least_shrinks x y hx hy
+told_shrinks cond.Ge false x y hx hy = below_shrinks x y hx hy
+told_shrinks cond.Lt true x y hx hy = below_shrinks x y hx hy
+told_shrinks cond.Lt false x y hx hy = at_least_shrinks x y hx hy
+told_shrinks cond.Le true x y hx hy = at_most_shrinks x y hx hy
+told_shrinks cond.Le false x y hx hy = above_shrinks x y hx hy
+told_shrinks cond.Set taken x y hx hy = kept_shrinks x y hx hy
+told_shrinks cond.SignedGt taken x y hx hy = kept_shrinks x y hx hy
+told_shrinks cond.SignedGe taken x y hx hy = kept_shrinks x y hx hy
+told_shrinks cond.SignedLt taken x y hx hy = kept_shrinks x y hx hy
+told_shrinks cond.SignedLe taken x y hx hy = kept_shrinks x y hx hy
+
+shrink_either : (t : Bool) (p q : Option (Span × Span)) (x y : Span) → Shrinks p x y → Shrinks q x y → Shrinks (if t then p else q) x y
+shrink_either true p q x y h k = h
+shrink_either false p q x y h k = k
+
+pub refined_shrinks : (i : Instr) (taken : Bool) (x y : Span) → IsWordSpan x → IsWordSpan y → Shrinks (refined i taken x y) x y
+unfolding refined
+refined_shrinks (instr.Branch width.W64 c dst from offset) taken x y hx hy =
+    shrink_either (is_same dst from) (Some (x, y)) (told c taken x y) x y (kept_shrinks x y hx hy) (told_shrinks c taken x y hx hy)
+refined_shrinks (instr.Branch width.W32 c dst from offset) taken x y hx hy = kept_shrinks x y hx hy
+refined_shrinks _ taken x y hx hy = kept_shrinks x y hx hy
+
+-- smaller ranges leave smaller ones
+
+equal_mono : (x y s t : Span) → Within x s → Within y t → WithinBoth (equal x y) (equal s t)
+unfolding equal
+equal_mono x y s t a b =
+    both_within (span (max x.low y.low) (min x.high y.high)) (span (max x.low y.low) (min x.high y.high)) (span (max s.low t.low) (min s.high t.high)) (span (max s.low t.low) (min s.high t.high))
+      (record { from = omega (arith, a.from, b.from); upto = omega (arith, a.upto, b.upto) })
+      (record { from = omega (arith, a.from, b.from); upto = omega (arith, a.upto, b.upto) })
+
+above_mono : (x y s t : Span) → Within x s → Within y t → WithinBoth (above x y) (above s t)
+unfolding above
+above_mono x y s t a b =
+    both_within (span (max x.low (y.low + 1)) x.high) (span y.low (min y.high (x.high - 1))) (span (max s.low (t.low + 1)) s.high) (span t.low (min t.high (s.high - 1)))
+      (record { from = omega (arith, a.from, b.from); upto = omega (arith, a.upto, b.upto) })
+      (record { from = omega (arith, a.from, b.from); upto = omega (arith, a.upto, b.upto) })
+
+at_most_mono : (x y s t : Span) → Within x s → Within y t → WithinBoth (at_most x y) (at_most s t)
+unfolding at_most
+at_most_mono x y s t a b =
+    both_within (span x.low (min x.high y.high)) (span (max x.low y.low) y.high) (span s.low (min s.high t.high)) (span (max s.low t.low) t.high)
+      (record { from = omega (arith, a.from, b.from); upto = omega (arith, a.upto, b.upto) })
+      (record { from = omega (arith, a.from, b.from); upto = omega (arith, a.upto, b.upto) })
+
+at_least_mono : (x y s t : Span) → Within x s → Within y t → WithinBoth (at_least x y) (at_least s t)
+unfolding at_least
+at_least_mono x y s t a b =
+    both_within (span (max x.low y.low) x.high) (span y.low (min y.high x.high)) (span (max s.low t.low) s.high) (span t.low (min t.high s.high))
+      (record { from = omega (arith, a.from, b.from); upto = omega (arith, a.upto, b.upto) })
+      (record { from = omega (arith, a.from, b.from); upto = omega (arith, a.upto, b.upto) })
+
+below_mono : (x y s t : Span) → Within x s → Within y t → WithinBoth (below x y) (below s t)
+unfolding below
+below_mono x y s t a b =
+    both_within (span x.low (min x.high (y.high - 1))) (span (max y.low (x.low + 1)) y.high) (span s.low (min s.high (t.high - 1))) (span (max t.low (s.low + 1)) t.high)
+      (record { from = omega (arith, a.from, b.from); upto = omega (arith, a.upto, b.upto) })
+      (record { from = omega (arith, a.from, b.from); upto = omega (arith, a.upto, b.upto) })
+
+apart_mono : (x y s t : Span) → IsWordSpan x → IsWordSpan y → Within x s → Within y t → WithinBoth (apart x y) (apart s t)
+unfolding apart
+apart_mono x y s t hx hy a b =
+    both_within (without x y) (without y x) (without s t) (without t s) (without_mono x y s t hy a b) (without_mono y x t s hx b a)
+
+told_mono : (c : Condition) (taken : Bool) (x y s t : Span) → IsWordSpan x → IsWordSpan y → Within x s → Within y t
+    → WithinBoth (told c taken x y) (told c taken s t)
+unfolding told
+told_mono cond.Eq true x y s t hx hy a b = equal_mono x y s t a b
+told_mono cond.Eq false x y s t hx hy a b = apart_mono x y s t hx hy a b
+told_mono cond.Ne true x y s t hx hy a b = apart_mono x y s t hx hy a b
+told_mono cond.Ne false x y s t hx hy a b = equal_mono x y s t a b
+told_mono cond.Gt true x y s t hx hy a b = above_mono x y s t a b
+told_mono cond.Gt false x y s t hx hy a b = at_most_mono x y s t a b
+told_mono cond.Ge true x y s t hx hy a b = at_least_mono x y s t a b
+told_mono cond.Ge false x y s t hx hy a b = below_mono x y s t a b
+told_mono cond.Lt true x y s t hx hy a b = below_mono x y s t a b
+told_mono cond.Lt false x y s t hx hy a b = at_least_mono x y s t a b
+told_mono cond.Le true x y s t hx hy a b = at_most_mono x y s t a b
+told_mono cond.Le false x y s t hx hy a b = above_mono x y s t a b
+told_mono cond.Set taken x y s t hx hy a b = (a, b)
+told_mono cond.SignedGt taken x y s t hx hy a b = (a, b)
+told_mono cond.SignedGe taken x y s t hx hy a b = (a, b)
+told_mono cond.SignedLt taken x y s t hx hy a b = (a, b)
+told_mono cond.SignedLe taken x y s t hx hy a b = (a, b)
+
+within_either : (u : Bool) (p q r s : Option (Span × Span)) → WithinBoth p r → WithinBoth q s
+    → WithinBoth (if u then p else q) (if u then r else s)
+within_either true p q r s h k = h
+within_either false p q r s h k = k
+
+pub refined_mono : (i : Instr) (taken : Bool) (x y s t : Span) → IsWordSpan x → IsWordSpan y → IsWordSpan s → IsWordSpan t
+    → Within x s → Within y t → WithinBoth (refined i taken x y) (refined i taken s t)
+unfolding refined
+refined_mono (instr.Branch width.W64 c dst from offset) taken x y s t hx hy hs ht a b =
+    within_either (is_same dst from) (Some (x, y)) (told c taken x y) (Some (s, t)) (told c taken s t) (a, b) (told_mono c taken x y s t hx hy a b)
+refined_mono (instr.Branch width.W32 c dst from offset) taken x y s t hx hy hs ht a b = (a, b)
+refined_mono _ taken x y s t hx hy hs ht a b = (a, b)
