@@ -6,47 +6,47 @@ use Rattle.std.proofs.lemmas.Nat.{and_le_l, and_le_r, or_lt, xor_lt, pow_pos}
 use Rattle.std.proofs.Math.Nat.{mod-lt, mod-eq_of_lt, div-le_self, mul-le-mul_right}
 use Rattle.intervals.specs.Spans.{Span, IsSpan, Has, Within}
 use Rattle.intervals.specs.Rounding.{ceiling}
-use Rattle.intervals.specs.Operators.{common, united, shifted_left, shifted_right}
+use Rattle.intervals.specs.Operators.{bits_of_both, bits_of_either, shifted_left, shifted_right}
 use Rattle.intervals.proofs.Digits.{Digits, digits, ceiling_fits, ceiling_mono}
 use Rattle.intervals.proofs.Quotients.{div_mono}
 
-pub common_has : (x y : Span) (a b : ℕ) → Has x a → Has y b → Has (common x y) (bit_and a b)
-unfolding common
-common_has x y a b h k = record { from = omega arith; upto = omega (arith, and_le_l a b, and_le_r a b, h.upto, k.upto) }
+pub bits_of_both_has : (x y : Span) (a b : ℕ) → Has x a → Has y b → Has (bits_of_both x y) (bit_and a b)
+unfolding bits_of_both
+bits_of_both_has x y a b h k = record { from = omega arith; upto = omega (arith, and_le_l a b, and_le_r a b, h.upto, k.upto) }
 
-pub common_fits : (m : ℕ) (x y : Span) → IsSpan m x → IsSpan m (common x y)
-unfolding common
-common_fits m x y hx = record { ordered = omega arith; most = omega (arith, hx.most) }
+pub bits_of_both_fits : (m : ℕ) (x y : Span) → IsSpan m x → IsSpan m (bits_of_both x y)
+unfolding bits_of_both
+bits_of_both_fits m x y hx = record { ordered = omega arith; most = omega (arith, hx.most) }
 
-pub common_mono : (x y s t : Span) → Within x s → Within y t → Within (common x y) (common s t)
-unfolding common
-common_mono x y s t a b = record { from = omega arith; upto = omega (arith, a.upto, b.upto) }
+pub bits_of_both_mono : (x y s t : Span) → Within x s → Within y t → Within (bits_of_both x y) (bits_of_both s t)
+unfolding bits_of_both
+bits_of_both_mono x y s t a b = record { from = omega arith; upto = omega (arith, a.upto, b.upto) }
 
 -- two numbers of some digits, either with its bits
-pub united_has_or : (x y : Span) (a b : ℕ) → x.high < 2 ^ 64 → y.high < 2 ^ 64 → Has x a → Has y b → Has (united x y) (bit_or a b)
-unfolding united
-united_has_or x y a b hx hy h k =
+pub bits_of_either_has_or : (x y : Span) (a b : ℕ) → x.high < 2 ^ 64 → y.high < 2 ^ 64 → Has x a → Has y b → Has (bits_of_either x y) (bit_or a b)
+unfolding bits_of_either
+bits_of_either_has_or x y a b hx hy h k =
     let d = digits (max x.high y.high) (omega (arith, hx, hy)) in
     let less = or_lt d.count a b (omega (arith, d.fits, h.upto)) (omega (arith, d.fits, k.upto)) in
     record { from = omega arith; upto = omega (arith, less, d.ceiling_is) }
 
-pub united_has_xor : (x y : Span) (a b : ℕ) → x.high < 2 ^ 64 → y.high < 2 ^ 64 → Has x a → Has y b → Has (united x y) (bit_xor a b)
-unfolding united
-united_has_xor x y a b hx hy h k =
+pub bits_of_either_has_xor : (x y : Span) (a b : ℕ) → x.high < 2 ^ 64 → y.high < 2 ^ 64 → Has x a → Has y b → Has (bits_of_either x y) (bit_xor a b)
+unfolding bits_of_either
+bits_of_either_has_xor x y a b hx hy h k =
     let d = digits (max x.high y.high) (omega (arith, hx, hy)) in
     let less = xor_lt d.count a b (omega (arith, d.fits, h.upto)) (omega (arith, d.fits, k.upto)) in
     record { from = omega arith; upto = omega (arith, less, d.ceiling_is) }
 
-pub united_fits : (bits : ℕ) (x y : Span) → x.high < 2 ^ 64 → y.high < 2 ^ 64 → IsSpan (2 ^ bits - 1) x → IsSpan (2 ^ bits - 1) y
-    → IsSpan (2 ^ bits - 1) (united x y)
-unfolding united
-united_fits bits x y hx hy p q =
+pub bits_of_either_fits : (bits : ℕ) (x y : Span) → x.high < 2 ^ 64 → y.high < 2 ^ 64 → IsSpan (2 ^ bits - 1) x → IsSpan (2 ^ bits - 1) y
+    → IsSpan (2 ^ bits - 1) (bits_of_either x y)
+unfolding bits_of_either
+bits_of_either_fits bits x y hx hy p q =
     let less = ceiling_fits (max x.high y.high) bits (omega (arith, hx, hy)) (omega (arith, p.most, q.most, pow_pos bits)) in
     record { ordered = omega arith; most = omega (arith, less) }
 
-pub united_mono : (x y s t : Span) → s.high < 2 ^ 64 → t.high < 2 ^ 64 → Within x s → Within y t → Within (united x y) (united s t)
-unfolding united
-united_mono x y s t hs ht a b =
+pub bits_of_either_mono : (x y s t : Span) → s.high < 2 ^ 64 → t.high < 2 ^ 64 → Within x s → Within y t → Within (bits_of_either x y) (bits_of_either s t)
+unfolding bits_of_either
+bits_of_either_mono x y s t hs ht a b =
     record { from = omega arith; upto = ceiling_mono (max x.high y.high) (max s.high t.high) (omega (arith, a.upto, b.upto)) (omega (arith, hs, ht)) }
 
 -- the factor of a count is that of every count in the range of one number

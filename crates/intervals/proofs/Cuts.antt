@@ -32,4 +32,3 @@ cut_mono width.W64 x s h a = a
 -- a range of a width is one of words
 pub wider : (w : Width) (x : Span) → IsSpan (most w) x → IsSpan (2 ^ 64 - 1) x
 wider w x h = record { ordered = h.ordered; most = omega (arith, h.most, words w) }
-

@@ -69,8 +69,8 @@ ones_shifted a h =
 pow_steps : (j k : ℕ) → 2 ^ k < 2 ^ suc j → 2 ^ k ≤ 2 ^ j
 pow_steps j k h =
     elim (cases_lt k (suc j)) [
-    | inl less ↦ pow-le-pow_right (pow_pos 1) (omega (arith, less))
-    | inr more ↦ absurd (omega (arith, h, pow-le-pow_right {n = 2} (omega arith) more))
+      | inl less ↦ pow-le-pow_right (pow_pos 1) (omega (arith, less))
+      | inr more ↦ absurd (omega (arith, h, pow-le-pow_right {n = 2} (omega arith) more))
     ]
 
 pub floor_zero : floor 0 ≡ 0
@@ -106,8 +106,8 @@ ceiling_nearest a h =
     next k zero b le m = omega (arith, pow_pos k)
     next k (suc n) b le m =
         elim (cases_lt n k) [
-        | inl less ↦ pow-le-pow_right {n = 2} (omega arith) less
-        | inr more ↦ absurd (omega (arith, le, m, pow_pos k, pow-suc 2 n, pow-le-pow_right {n = 2} (omega arith) more))
+          | inl less ↦ pow-le-pow_right {n = 2} (omega arith) less
+          | inr more ↦ absurd (omega (arith, le, m, pow_pos k, pow-suc 2 n, pow-le-pow_right {n = 2} (omega arith) more))
         ]
 
 pub floor_mono : (a b : ℕ) → a ≤ b → b < 2 ^ 64 → floor a ≤ floor b
@@ -115,8 +115,8 @@ floor_mono a b le h =
     let f = floor_nearest a (omega (arith, le, h)) in
     let g = floor_nearest b h in
     elim f.kind [
-    | inl none ↦ omega (arith, none)
-    | inr some ↦ omega (arith, some.1, g.greatest some.0 (omega (arith, some.1, f.below, le)))
+      | inl none ↦ omega (arith, none)
+      | inr some ↦ omega (arith, some.1, g.greatest some.0 (omega (arith, some.1, f.below, le)))
     ]
 
 pub ceiling_mono : (a b : ℕ) → a ≤ b → b < 2 ^ 64 → ceiling a ≤ ceiling b
@@ -138,12 +138,14 @@ rounded_within x s =
     let g = ceiling_nearest x.high (omega (arith, s.most)) in
     record { from = f.below; upto = g.above }
 
-pub rounded_fits : (x : Span) → IsSpan (2 ^ 64 - 1) x → IsSpan (2 ^ 64 - 1) (rounded x)
+pub rounded_fits : (bits : ℕ) (x : Span) → bits ≤ 64 → IsSpan (2 ^ bits - 1) x → IsSpan (2 ^ bits - 1) (rounded x)
 unfolding rounded
-rounded_fits x s =
-    let f = floor_nearest x.low (omega (arith, s.ordered, s.most)) in
-    let g = ceiling_nearest x.high (omega (arith, s.most)) in
-    let e = ceiling_fits x.high 64 (omega (arith, s.most)) (omega (arith, s.most)) in
+rounded_fits bits x b s =
+    let words : 2 ^ bits ≤ 2 ^ 64 = pow-le-pow_right {n = 2} (omega arith) b in
+    let h : x.high < 2 ^ 64 = omega (arith, s.most, pow_pos bits, words) in
+    let f = floor_nearest x.low (omega (arith, s.ordered, h)) in
+    let g = ceiling_nearest x.high h in
+    let e = ceiling_fits x.high bits h (omega (arith, s.most, pow_pos bits)) in
     record { ordered = omega (arith, f.below, g.above, s.ordered); most = omega (arith, e) }
 
 pub rounded_mono : (x s : Span) → IsSpan (2 ^ 64 - 1) x → IsSpan (2 ^ 64 - 1) s → Within x s → Within (rounded x) (rounded s)

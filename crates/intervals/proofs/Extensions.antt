@@ -17,7 +17,7 @@ use Rattle.intervals.specs.Spans.{Span, span, only, is_constant, IsSpan, Has, Wi
 use Rattle.intervals.specs.Operators.{most, half, full, in_table}
 use Rattle.intervals.specs.Results.{cut, is_exact, operated, arithmetic_result, opposite, negated_result, extended_width, sign_of, sign_extended, extended_result}
 use Rattle.intervals.proofs.TableLaws.{numbers, words, table_has, table_fits, table_mono}
-use Rattle.intervals.proofs.Tests.{has_if, fits_if, mono_if, full_has, full_fits, low_has, one_constant, one_still, constant_is, constant_same, low_within, stays_has, stays_fits, stays_mono, moved}
+use Rattle.intervals.proofs.Decided.{has_if, fits_if, mono_if, full_has, full_fits, low_has, one_constant, one_still, constant_is, constant_same, low_within, stays_has, stays_fits, stays_mono, moved}
 use Rattle.intervals.proofs.Cuts.{cut_has, cut_fits, cut_mono, wider}
 
 -- the extension of a sign
@@ -59,36 +59,36 @@ sign_extended_has : (e : SignExtension) (x : Span) (a : ℕ) → Has x a → Has
 unfolding sign_extended
 sign_extended_has e x a h =
     has_if (is_constant x) (extended e x.low) (extended e a) (if nat_lt x.high (sign_of e) then x else full (most (extended_width e)))
-      (λ t. ap (extended e) (constant_is x a h t))
-      (stays_has (nat_lt x.high (sign_of e)) (most (extended_width e)) (extended e a) x
-        (λ t. moved x a (extended e a) (sym (extended_plain e a (grind (arith, nat_tests, t, h.upto)))) h)
-        (extended_most e a))
+    (λ t. ap (extended e) (constant_is x a h t))
+    (stays_has (nat_lt x.high (sign_of e)) (most (extended_width e)) (extended e a) x
+    (λ t. moved x a (extended e a) (sym (extended_plain e a (grind (arith, nat_tests, t, h.upto)))) h)
+    (extended_most e a))
 
 sign_extended_fits : (e : SignExtension) (x : Span) → IsSpan (most (extended_width e)) x → IsSpan (most (extended_width e)) (sign_extended e x)
 unfolding sign_extended
 sign_extended_fits e x h =
     fits_if (most (extended_width e)) (is_constant x) (extended e x.low) (if nat_lt x.high (sign_of e) then x else full (most (extended_width e)))
-      (extended_most e x.low) (stays_fits (nat_lt x.high (sign_of e)) (most (extended_width e)) x (λ t. h))
+    (extended_most e x.low) (stays_fits (nat_lt x.high (sign_of e)) (most (extended_width e)) x (λ t. h))
 
 sign_extended_mono : (e : SignExtension) (x s : Span) → IsSpan (most (extended_width e)) x → Within x s
     → Within (sign_extended e x) (sign_extended e s)
 unfolding sign_extended
 sign_extended_mono e x s h a =
     mono_if (is_constant x) (is_constant s) (extended e x.low) (extended e s.low)
-      (if nat_lt x.high (sign_of e) then x else full (most (extended_width e))) (if nat_lt s.high (sign_of e) then s else full (most (extended_width e)))
-      (λ q. (one_still (most (extended_width e)) x s h a q, ap (extended e) (constant_same (most (extended_width e)) x s h a q)))
-      (stays_has (nat_lt s.high (sign_of e)) (most (extended_width e)) (extended e x.low) s
-        (λ t. moved s x.low (extended e x.low) (sym (extended_plain e x.low (grind (arith, nat_tests, t, h.ordered, a.upto))))
-          (low_within (most (extended_width e)) x s h a))
-        (extended_most e x.low))
-      (stays_mono (nat_lt x.high (sign_of e)) (nat_lt s.high (sign_of e)) (most (extended_width e)) x s
-        (λ t. grind (arith, nat_tests, t, a.upto)) (λ t. h.most) a)
+    (if nat_lt x.high (sign_of e) then x else full (most (extended_width e))) (if nat_lt s.high (sign_of e) then s else full (most (extended_width e)))
+    (λ q. (one_still (most (extended_width e)) x s h a q, ap (extended e) (constant_same (most (extended_width e)) x s h a q)))
+    (stays_has (nat_lt s.high (sign_of e)) (most (extended_width e)) (extended e x.low) s
+    (λ t. moved s x.low (extended e x.low) (sym (extended_plain e x.low (grind (arith, nat_tests, t, h.ordered, a.upto))))
+    (low_within (most (extended_width e)) x s h a))
+    (extended_most e x.low))
+    (stays_mono (nat_lt x.high (sign_of e)) (nat_lt s.high (sign_of e)) (most (extended_width e)) x s
+    (λ t. grind (arith, nat_tests, t, a.upto)) (λ t. h.most) a)
 
 pub extended_has : (e : SignExtension) (x : Span) (a : ℕ) → IsSpan (2 ^ 64 - 1) x → Has x a → Has (extended_result e x) (extended e a)
 unfolding extended_result
 extended_has e x a hx h =
     moved (sign_extended e (cut (extended_width e) x)) (extended e (low (extended_width e) a)) (extended e a) (extended_low e a)
-      (sign_extended_has e (cut (extended_width e) x) (low (extended_width e) a) (cut_has (extended_width e) x a h))
+    (sign_extended_has e (cut (extended_width e) x) (low (extended_width e) a) (cut_has (extended_width e) x a h))
 
 pub extended_fits : (e : SignExtension) (x : Span) → IsSpan (2 ^ 64 - 1) x → IsSpan (2 ^ 64 - 1) (extended_result e x)
 unfolding extended_result
@@ -99,4 +99,4 @@ pub extended_mono : (e : SignExtension) (x s : Span) → IsSpan (2 ^ 64 - 1) x �
 unfolding extended_result
 extended_mono e x s hx hs a =
     sign_extended_mono e (cut (extended_width e) x) (cut (extended_width e) s) (cut_fits (extended_width e) x hx)
-      (cut_mono (extended_width e) x s hx a)
+    (cut_mono (extended_width e) x s hx a)

@@ -11,7 +11,7 @@ use Rattle.machine.specs.Arithmetic.{in_order, kept_low, turned_round}
 use Rattle.intervals.specs.Spans.{Span, span, only, is_constant, IsSpan, Has, Within}
 use Rattle.intervals.specs.Operators.{full}
 use Rattle.intervals.specs.Results.{most_of, is_little, ordered_result}
-use Rattle.intervals.proofs.Tests.{has_if, fits_if, mono_if, full_has, full_fits, low_has, one_constant, one_still, constant_is, constant_same, low_within, stays_has, stays_fits, stays_mono, moved}
+use Rattle.intervals.proofs.Decided.{has_if, fits_if, mono_if, full_has, full_fits, low_has, one_constant, one_still, constant_is, constant_same, low_within, stays_has, stays_fits, stays_mono, moved}
 
 -- bytes in the opposite order are no more
 
@@ -74,18 +74,18 @@ pub ordered_has : (o : Order) (size : OrderSize) (x : Span) (a : ℕ) → IsSpan
 unfolding ordered_result
 ordered_has o size x a hx h =
     has_if (is_constant x) (in_order o size x.low) (in_order o size a) (if is_little o && nat_lt x.high (most_of size + 1) then x else full (most_of size))
-      (λ t. ap (in_order o size) (constant_is x a h t))
-      (stays_has (is_little o && nat_lt x.high (most_of size + 1)) (most_of size) (in_order o size a) x
-        (λ t. let l = little_test o x.high (most_of size) t in
-          moved x a (in_order o size a) (sym (order_plain o size a l.0 (omega (arith, l.1, h.upto)))) h)
-        (order_most o size a (omega (arith, h.upto, hx.most))))
+    (λ t. ap (in_order o size) (constant_is x a h t))
+    (stays_has (is_little o && nat_lt x.high (most_of size + 1)) (most_of size) (in_order o size a) x
+    (λ t. let l = little_test o x.high (most_of size) t in
+    moved x a (in_order o size a) (sym (order_plain o size a l.0 (omega (arith, l.1, h.upto)))) h)
+    (order_most o size a (omega (arith, h.upto, hx.most))))
 
 pub ordered_fits : (o : Order) (size : OrderSize) (x : Span) → IsSpan (2 ^ 64 - 1) x → IsSpan (2 ^ 64 - 1) (ordered_result o size x)
 unfolding ordered_result
 ordered_fits o size x h =
     fits_if (2 ^ 64 - 1) (is_constant x) (in_order o size x.low) (if is_little o && nat_lt x.high (most_of size + 1) then x else full (most_of size))
-      (omega (arith, order_most o size x.low (omega (arith, h.ordered, h.most)), sizes_are_words size))
-      (within_words (is_little o && nat_lt x.high (most_of size + 1)))
+    (omega (arith, order_most o size x.low (omega (arith, h.ordered, h.most)), sizes_are_words size))
+    (within_words (is_little o && nat_lt x.high (most_of size + 1)))
   where
     within_words : (t : Bool) → IsSpan (2 ^ 64 - 1) (if t then x else full (most_of size))
     within_words true = h
@@ -96,14 +96,14 @@ pub ordered_mono : (o : Order) (size : OrderSize) (x s : Span) → IsSpan (2 ^ 6
 unfolding ordered_result
 ordered_mono o size x s hx hs a =
     mono_if (is_constant x) (is_constant s) (in_order o size x.low) (in_order o size s.low)
-      (if is_little o && nat_lt x.high (most_of size + 1) then x else full (most_of size))
-      (if is_little o && nat_lt s.high (most_of size + 1) then s else full (most_of size))
-      (λ q. (one_still (2 ^ 64 - 1) x s hx a q, ap (in_order o size) (constant_same (2 ^ 64 - 1) x s hx a q)))
-      (stays_has (is_little o && nat_lt s.high (most_of size + 1)) (most_of size) (in_order o size x.low) s
-        (λ t. let l = little_test o s.high (most_of size) t in
-          moved s x.low (in_order o size x.low) (sym (order_plain o size x.low l.0 (omega (arith, l.1, hx.ordered, a.upto))))
-            (low_within (2 ^ 64 - 1) x s hx a))
-        (order_most o size x.low (omega (arith, hx.ordered, hx.most))))
-      (stays_mono (is_little o && nat_lt x.high (most_of size + 1)) (is_little o && nat_lt s.high (most_of size + 1)) (most_of size) x s
-        (little_still o x.high s.high (most_of size) a.upto)
-        (λ t. (little_test o x.high (most_of size) t).1) a)
+    (if is_little o && nat_lt x.high (most_of size + 1) then x else full (most_of size))
+    (if is_little o && nat_lt s.high (most_of size + 1) then s else full (most_of size))
+    (λ q. (one_still (2 ^ 64 - 1) x s hx a q, ap (in_order o size) (constant_same (2 ^ 64 - 1) x s hx a q)))
+    (stays_has (is_little o && nat_lt s.high (most_of size + 1)) (most_of size) (in_order o size x.low) s
+    (λ t. let l = little_test o s.high (most_of size) t in
+    moved s x.low (in_order o size x.low) (sym (order_plain o size x.low l.0 (omega (arith, l.1, hx.ordered, a.upto))))
+    (low_within (2 ^ 64 - 1) x s hx a))
+    (order_most o size x.low (omega (arith, hx.ordered, hx.most))))
+    (stays_mono (is_little o && nat_lt x.high (most_of size + 1)) (is_little o && nat_lt s.high (most_of size + 1)) (most_of size) x s
+    (little_still o x.high s.high (most_of size) a.upto)
+    (λ t. (little_test o x.high (most_of size) t).1) a)

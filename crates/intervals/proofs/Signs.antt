@@ -79,8 +79,8 @@ signed_divided_has w x y a b hx hy h k =
     let d = divided_has x y a b h k in
     let plain : a < half w → b < half w → unsigned w (int_div (signed w a) (signed w b)) ≡ a / b = quotient_plain w a b in
     let bound : unsigned w (int_div (signed w a) (signed w b)) ≤ most w =
-        unsigned_upto w (int_div (signed w a) (signed w b))
-          (quotient_upto (most w) (signed w a) (signed w b) (signed_size w a (omega (arith, h.upto, hx.most)))) in
+    unsigned_upto w (int_div (signed w a) (signed w b))
+    (quotient_upto (most w) (signed w a) (signed w b) (signed_size w a (omega (arith, h.upto, hx.most)))) in
     record { from = grind (arith, nat_tests, d.from, h.upto, k.upto); upto = grind (arith, nat_tests, d.upto, h.upto, k.upto) }
 
 pub signed_remaining_has : (w : Width) (x y : Span) (a b : ℕ) → IsSpan (most w) x → IsSpan (most w) y → Has x a → Has y b
@@ -90,8 +90,8 @@ signed_remaining_has w x y a b hx hy h k =
     let d = remaining_has x y a b h k in
     let plain : a < half w → b < half w → unsigned w (int_rem (signed w a) (signed w b)) ≡ a % b = remainder_plain w a b in
     let bound : unsigned w (int_rem (signed w a) (signed w b)) ≤ most w =
-        unsigned_upto w (int_rem (signed w a) (signed w b))
-          (remainder_upto (most w) (signed w a) (signed w b) (signed_size w a (omega (arith, h.upto, hx.most)))) in
+    unsigned_upto w (int_rem (signed w a) (signed w b))
+    (remainder_upto (most w) (signed w a) (signed w b) (signed_size w a (omega (arith, h.upto, hx.most)))) in
     record { from = grind (arith, nat_tests, d.from, h.upto, k.upto, hx.most); upto = grind (arith, nat_tests, d.upto, h.upto, k.upto, hx.most) }
 
 pub signed_shifted_has : (w : Width) (x y : Span) (a b : ℕ) → IsSpan (most w) x → Has x a → Has y b
@@ -101,8 +101,8 @@ signed_shifted_has w x y a b hx h k =
     let d = shifted_right_has (width_bits w) x y a b h k in
     let plain : a < half w → unsigned w (int_shr (signed w a) (b % width_bits w)) ≡ a / 2 ^ (b % width_bits w) = shift_plain w a (b % width_bits w) in
     let bound : unsigned w (int_shr (signed w a) (b % width_bits w)) ≤ most w =
-        unsigned_upto w (int_shr (signed w a) (b % width_bits w))
-          (shift_upto (most w) (signed w a) (b % width_bits w) (signed_size w a (omega (arith, h.upto, hx.most)))) in
+    unsigned_upto w (int_shr (signed w a) (b % width_bits w))
+    (shift_upto (most w) (signed w a) (b % width_bits w) (signed_size w a (omega (arith, h.upto, hx.most)))) in
     record { from = grind (arith, nat_tests, d.from, h.upto); upto = grind (arith, nat_tests, d.upto, h.upto) }
 
 pub signed_divided_fits : (m half : ℕ) (x y : Span) → IsSpan m x → IsSpan m (signed_divided m half x y)

@@ -15,11 +15,11 @@ record Wrapped (m v w : ℕ) : Type 0 where
 wrapped : (m n v : ℕ) → m + 1 ≡ n → v ≤ m + n → Wrapped m v (v % n)
 wrapped m n v one h =
     elim (cases_lt v n) [
-    | inl less ↦ let e : v % n ≡ v = mod-eq_of_lt less in record { most = omega (arith, e, less, one); is = inl (omega (arith, less, one), e) }
-    | inr more ↦
-        let e : v % n ≡ (v - n) % n = mod-eq-sub-mod more in
-        let f : (v - n) % n ≡ v - n = mod-eq_of_lt (omega (arith, h, more, one)) in
-        record { most = omega (arith, e, f, h, more, one); is = inr (omega (arith, more, one), omega (arith, e, f, more, one)) }
+      | inl less ↦ let e : v % n ≡ v = mod-eq_of_lt less in record { most = omega (arith, e, less, one); is = inl (omega (arith, less, one), e) }
+      | inr more ↦
+          let e : v % n ≡ (v - n) % n = mod-eq-sub-mod more in
+          let f : (v - n) % n ≡ v - n = mod-eq_of_lt (omega (arith, h, more, one)) in
+          record { most = omega (arith, e, f, h, more, one); is = inr (omega (arith, more, one), omega (arith, e, f, more, one)) }
     ]
 
 -- n is how many numbers the width has

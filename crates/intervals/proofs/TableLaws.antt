@@ -16,7 +16,7 @@ use Rattle.intervals.specs.Operators.{most, half, full, in_table}
 use Rattle.intervals.specs.Results.{cut, is_exact, operated, arithmetic_result, opposite, negated_result, extended_width, sign_of, sign_extended, extended_result}
 use Rattle.intervals.proofs.Sums.{added_has, added_fits, added_mono, subtracted_has, subtracted_fits, subtracted_mono, multiplied_has, multiplied_fits, multiplied_mono}
 use Rattle.intervals.proofs.Quotients.{divided_has, divided_fits, divided_mono, remaining_has, remaining_fits, remaining_mono}
-use Rattle.intervals.proofs.Bits.{common_has, common_fits, common_mono, united_has_or, united_has_xor, united_fits, united_mono, shifted_left_has, shifted_left_fits, shifted_left_mono, shifted_right_has, shifted_right_fits, shifted_right_mono}
+use Rattle.intervals.proofs.Bits.{bits_of_both_has, bits_of_both_fits, bits_of_both_mono, bits_of_either_has_or, bits_of_either_has_xor, bits_of_either_fits, bits_of_either_mono, shifted_left_has, shifted_left_fits, shifted_left_mono, shifted_right_has, shifted_right_fits, shifted_right_mono}
 use Rattle.intervals.proofs.Signs.{signed_divided_has, signed_divided_fits, signed_divided_mono, signed_remaining_has, signed_remaining_fits, signed_remaining_mono, signed_shifted_has, signed_shifted_fits, signed_shifted_mono, unsigned_upto, size_upto}
 
 -- how many numbers a width has
@@ -36,13 +36,13 @@ table_has w op.Sub x y a b hx hy h k = subtracted_has (most w) (2 ^ width_bits w
 table_has w op.Mul x y a b hx hy h k = multiplied_has (most w) (2 ^ width_bits w) x y a b (numbers w) h k
 table_has w op.Div x y a b hx hy h k = divided_has x y a b h k
 table_has w op.SignedDiv x y a b hx hy h k = signed_divided_has w x y a b hx hy h k
-table_has w op.Or x y a b hx hy h k = united_has_or x y a b (omega (arith, hx.most, words w)) (omega (arith, hy.most, words w)) h k
-table_has w op.And x y a b hx hy h k = common_has x y a b h k
+table_has w op.Or x y a b hx hy h k = bits_of_either_has_or x y a b (omega (arith, hx.most, words w)) (omega (arith, hy.most, words w)) h k
+table_has w op.And x y a b hx hy h k = bits_of_both_has x y a b h k
 table_has w op.Lsh x y a b hx hy h k = shifted_left_has (most w) (2 ^ width_bits w) (width_bits w) x y a b (numbers w) h k
 table_has w op.Rsh x y a b hx hy h k = shifted_right_has (width_bits w) x y a b h k
 table_has w op.Mod x y a b hx hy h k = remaining_has x y a b h k
 table_has w op.SignedMod x y a b hx hy h k = signed_remaining_has w x y a b hx hy h k
-table_has w op.Xor x y a b hx hy h k = united_has_xor x y a b (omega (arith, hx.most, words w)) (omega (arith, hy.most, words w)) h k
+table_has w op.Xor x y a b hx hy h k = bits_of_either_has_xor x y a b (omega (arith, hx.most, words w)) (omega (arith, hy.most, words w)) h k
 table_has w op.Mov x y a b hx hy h k = k
 table_has w op.Arsh x y a b hx hy h k = signed_shifted_has w x y a b hx h k
 
@@ -53,13 +53,13 @@ table_fits w op.Sub x y hx hy = subtracted_fits (most w) x y hx hy
 table_fits w op.Mul x y hx hy = multiplied_fits (most w) x y hx hy
 table_fits w op.Div x y hx hy = divided_fits (most w) x y hx
 table_fits w op.SignedDiv x y hx hy = signed_divided_fits (most w) (half w) x y hx
-table_fits w op.Or x y hx hy = united_fits (width_bits w) x y (omega (arith, hx.most, words w)) (omega (arith, hy.most, words w)) hx hy
-table_fits w op.And x y hx hy = common_fits (most w) x y hx
+table_fits w op.Or x y hx hy = bits_of_either_fits (width_bits w) x y (omega (arith, hx.most, words w)) (omega (arith, hy.most, words w)) hx hy
+table_fits w op.And x y hx hy = bits_of_both_fits (most w) x y hx
 table_fits w op.Lsh x y hx hy = shifted_left_fits (most w) (width_bits w) x y hx
 table_fits w op.Rsh x y hx hy = shifted_right_fits (most w) (width_bits w) x y hx
 table_fits w op.Mod x y hx hy = remaining_fits (most w) x y hx hy
 table_fits w op.SignedMod x y hx hy = signed_remaining_fits (most w) (half w) x y hx hy
-table_fits w op.Xor x y hx hy = united_fits (width_bits w) x y (omega (arith, hx.most, words w)) (omega (arith, hy.most, words w)) hx hy
+table_fits w op.Xor x y hx hy = bits_of_either_fits (width_bits w) x y (omega (arith, hx.most, words w)) (omega (arith, hy.most, words w)) hx hy
 table_fits w op.Mov x y hx hy = hy
 table_fits w op.Arsh x y hx hy = signed_shifted_fits (most w) (half w) (width_bits w) x y hx
 
@@ -71,13 +71,12 @@ table_mono w op.Sub x y s t hx hy hs ht a b = subtracted_mono (most w) x y s t h
 table_mono w op.Mul x y s t hx hy hs ht a b = multiplied_mono (most w) x y s t hx hy a b
 table_mono w op.Div x y s t hx hy hs ht a b = divided_mono (most w) x y s t hx hy a b
 table_mono w op.SignedDiv x y s t hx hy hs ht a b = signed_divided_mono (most w) (half w) x y s t hx hy a b
-table_mono w op.Or x y s t hx hy hs ht a b = united_mono x y s t (omega (arith, hs.most, words w)) (omega (arith, ht.most, words w)) a b
-table_mono w op.And x y s t hx hy hs ht a b = common_mono x y s t a b
+table_mono w op.Or x y s t hx hy hs ht a b = bits_of_either_mono x y s t (omega (arith, hs.most, words w)) (omega (arith, ht.most, words w)) a b
+table_mono w op.And x y s t hx hy hs ht a b = bits_of_both_mono x y s t a b
 table_mono w op.Lsh x y s t hx hy hs ht a b = shifted_left_mono (most w) (width_bits w) x y s t hx hy a b
 table_mono w op.Rsh x y s t hx hy hs ht a b = shifted_right_mono (most w) (width_bits w) x y s t hx hy a b
 table_mono w op.Mod x y s t hx hy hs ht a b = remaining_mono (most w) x y s t hx hy a b
 table_mono w op.SignedMod x y s t hx hy hs ht a b = signed_remaining_mono (most w) (half w) x y s t hx hy a b
-table_mono w op.Xor x y s t hx hy hs ht a b = united_mono x y s t (omega (arith, hs.most, words w)) (omega (arith, ht.most, words w)) a b
+table_mono w op.Xor x y s t hx hy hs ht a b = bits_of_either_mono x y s t (omega (arith, hs.most, words w)) (omega (arith, ht.most, words w)) a b
 table_mono w op.Mov x y s t hx hy hs ht a b = b
 table_mono w op.Arsh x y s t hx hy hs ht a b = signed_shifted_mono (most w) (half w) (width_bits w) x y s t hx hy a b
-

@@ -1,6 +1,6 @@
 -- What holds of the ranges: they cover the words of the machine, and a smaller range makes a smaller
 -- one.
-use Rattle.std.specs.Prelude.{◌≡◌, ℕ, ◌-◌, ◌^◌, ◌≤◌, ◌<◌, Bool, ℤ, Option, None, Some}
+use Rattle.std.specs.Prelude.{◌≡◌, ℕ, ◌-◌, ◌^◌, ◌≤◌, ◌<◌, ◌↔◌, Bool, ℤ, Option, None, Some}
 use Rattle.bpf_isa.specs.declared.instr.Instr.{Instr}
 use Rattle.bpf_isa.specs.declared.instr.Instr.TheVariants as instr
 use Rattle.bpf_isa.specs.declared.instr.Source.{Source}
@@ -84,19 +84,20 @@ abbrev pub RefinementsAreMonotone : Type 0
 RefinementsAreMonotone = (i : Instr) (taken : Bool) (x y s t : Span) → IsWordSpan x → IsWordSpan y → IsWordSpan s → IsWordSpan t
     → Within x s → Within y t → WithinBoth (refined i taken x y) (refined i taken s t)
 
--- the hull of two ranges is the least that holds both
+-- the hull of two ranges is the least that holds both, and it is the first where that holds the other
 pub record HullIsLeast : Type 0 where
   pub first : (x y : Span) → Within x (hull x y)
   pub other : (x y : Span) → Within y (hull x y)
   pub least : (x y z : Span) → Within x z → Within y z → Within (hull x y) z
-  pub fits : (x y : Span) → IsWordSpan x → IsWordSpan y → IsWordSpan (hull x y)
+  pub absorbs : (x y : Span) → (hull x y ≡ x) ↔ Within y x
+  pub fits : (m : ℕ) (x y : Span) → IsSpan m x → IsSpan m y → IsSpan m (hull x y)
 
 -- rounding goes to the nearest ends, and keeps what there was
 pub record RoundingContains : Type 0 where
   pub low : (a : ℕ) → a < 2 ^ 64 → IsFloor a (floor a)
   pub high : (a : ℕ) → a < 2 ^ 64 → IsCeiling a (ceiling a)
   pub contains : (x : Span) → IsWordSpan x → Within x (rounded x)
-  pub fits : (x : Span) → IsWordSpan x → IsWordSpan (rounded x)
+  pub fits : (bits : ℕ) (x : Span) → bits ≤ 64 → IsSpan (2 ^ bits - 1) x → IsSpan (2 ^ bits - 1) (rounded x)
 
 abbrev pub RoundingIsMonotone : Type 0
 RoundingIsMonotone = (x s : Span) → IsWordSpan x → IsWordSpan s → Within x s → Within (rounded x) (rounded s)

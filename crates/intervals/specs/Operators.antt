@@ -51,11 +51,11 @@ remaining x y =
     else span 0 (min x.high (y.high - 1))
 
 -- the bits of both, and of either
-unfoldable pub common : Span → Span → Span
-common x y = span 0 (min x.high y.high)
+unfoldable pub bits_of_both : Span → Span → Span
+bits_of_both x y = span 0 (min x.high y.high)
 
-unfoldable pub united : Span → Span → Span
-united x y = span 0 (ceiling (max x.high y.high))
+unfoldable pub bits_of_either : Span → Span → Span
+bits_of_either x y = span 0 (ceiling (max x.high y.high))
 
 -- of a shift count only the low bits count
 unfoldable pub shifted_left : ℕ → ℕ → Span → Span → Span
@@ -85,12 +85,12 @@ in_table w op.Sub x y = subtracted (most w) x y
 in_table w op.Mul x y = multiplied (most w) x y
 in_table w op.Div x y = divided x y
 in_table w op.SignedDiv x y = signed_divided (most w) (half w) x y
-in_table w op.Or x y = united x y
-in_table w op.And x y = common x y
+in_table w op.Or x y = bits_of_either x y
+in_table w op.And x y = bits_of_both x y
 in_table w op.Lsh x y = shifted_left (most w) (width_bits w) x y
 in_table w op.Rsh x y = shifted_right (width_bits w) x y
 in_table w op.Mod x y = remaining x y
 in_table w op.SignedMod x y = signed_remaining (most w) (half w) x y
-in_table w op.Xor x y = united x y
+in_table w op.Xor x y = bits_of_either x y
 in_table w op.Mov x y = y
 in_table w op.Arsh x y = signed_shifted (most w) (half w) (width_bits w) x y

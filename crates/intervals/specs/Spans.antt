@@ -31,5 +31,5 @@ pub record Within (x y : Span) : Type 0 where
   pub upto : x.high ≤ y.high
 
 -- the least range that holds both
-unfoldable pub hull : Span → Span → Span
+abbrev pub hull : Span → Span → Span
 hull x y = span (min x.low y.low) (max x.high y.high)

@@ -100,7 +100,8 @@ fn extended_width(extension: SignExtension) -> Width
     ensures { result ≡ extended_width extension }
 {
     match extension {
-        SignExtension::From8To64 | SignExtension::From16To64 | SignExtension::From32To64 => Width::W64,
+        SignExtension::From8To64 | SignExtension::From16To64 | SignExtension::From32To64 =>
+            Width::W64,
         SignExtension::From8To32 | SignExtension::From16To32 => Width::W32,
     }
 }

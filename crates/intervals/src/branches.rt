@@ -3,7 +3,7 @@
 ghost use Rattle.std.specs.Prelude.{◌≡◌, IsTrue, None, Some, if◌then◌else◌, nat_le, ◌&&◌};
 ghost use Rattle.std.specs.Option.{option_map};
 ghost use Rattle.intervals.specs.Spans.{span};
-ghost use Rattle.intervals.specs.Edges.{both, equal, apart, above, at_most, at_least, below, without, told, is_same, is_branch, refined};
+ghost use Rattle.intervals.specs.Edges.{both, equal, apart, above, at_most, at_least, below, without, narrowed, is_same, is_branch, refined};
 ghost use Rattle.intervals.specs.Seen.{span_of, spans_of};
 
 use crate::range::Range;
@@ -28,7 +28,7 @@ pub fn refine(instr: &Instr, taken: bool, first: Range, second: Range) -> Option
         } => if is_same(dst, source) {
             Some((first, second))
         } else {
-            told(*condition, taken, first, second)
+            narrowed(*condition, taken, first, second)
         },
         Instr::Branch { .. } => Some((first, second)),
         _ => unreachable!(),
@@ -46,9 +46,9 @@ fn is_same(dst: &Register, source: &Source) -> bool
 }
 
 /// What an edge of a condition in 64 bits tells.
-#[tactic(auto, unfolding(crate::specs::Edges::told))]
-fn told(condition: Condition, taken: bool, x: Range, y: Range) -> Option<(Range, Range)>
-    ensures { option_map spans_of result ≡ told condition taken (span_of x) (span_of y) }
+#[tactic(auto, unfolding(crate::specs::Edges::narrowed))]
+fn narrowed(condition: Condition, taken: bool, x: Range, y: Range) -> Option<(Range, Range)>
+    ensures { option_map spans_of result ≡ narrowed condition taken (span_of x) (span_of y) }
 {
     match (condition, taken) {
         (Condition::Eq, true) | (Condition::Ne, false) => equal(x, y),
@@ -85,8 +85,16 @@ fn without(x: Range, y: Range) -> Option<Range>
     if !y.is_constant() {
         return Some(x);
     }
-    let low = if x.low == y.low { x.low.checked_add(1)? } else { x.low };
-    let high = if x.high == y.low { x.high.checked_sub(1)? } else { x.high };
+    let low = if x.low == y.low {
+        x.low.checked_add(1)?
+    } else {
+        x.low
+    };
+    let high = if x.high == y.low {
+        x.high.checked_sub(1)?
+    } else {
+        x.high
+    };
     Range::new(low, high)
 }
 
@@ -97,7 +105,10 @@ fn above(x: Range, y: Range) -> Option<(Range, Range)>
 {
     let least = y.low.checked_add(1)?;
     let greatest = x.high.checked_sub(1)?;
-    Some((Range::new(x.low.max(least), x.high)?, Range::new(y.low, y.high.min(greatest))?))
+    Some((
+        Range::new(x.low.max(least), x.high)?,
+        Range::new(y.low, y.high.min(greatest))?,
+    ))
 }
 
 /// dst ≤ second.
@@ -105,7 +116,10 @@ fn above(x: Range, y: Range) -> Option<(Range, Range)>
 fn at_most(x: Range, y: Range) -> Option<(Range, Range)>
     ensures { option_map spans_of result ≡ at_most (span_of x) (span_of y) }
 {
-    Some((Range::new(x.low, x.high.min(y.high))?, Range::new(x.low.max(y.low), y.high)?))
+    Some((
+        Range::new(x.low, x.high.min(y.high))?,
+        Range::new(x.low.max(y.low), y.high)?,
+    ))
 }
 
 /// dst ≥ second.
@@ -113,7 +127,10 @@ fn at_most(x: Range, y: Range) -> Option<(Range, Range)>
 fn at_least(x: Range, y: Range) -> Option<(Range, Range)>
     ensures { option_map spans_of result ≡ at_least (span_of x) (span_of y) }
 {
-    Some((Range::new(x.low.max(y.low), x.high)?, Range::new(y.low, y.high.min(x.high))?))
+    Some((
+        Range::new(x.low.max(y.low), x.high)?,
+        Range::new(y.low, y.high.min(x.high))?,
+    ))
 }
 
 /// dst < second.
@@ -123,5 +140,8 @@ fn below(x: Range, y: Range) -> Option<(Range, Range)>
 {
     let greatest = y.high.checked_sub(1)?;
     let least = x.low.checked_add(1)?;
-    Some((Range::new(x.low, x.high.min(greatest))?, Range::new(y.low.max(least), y.high)?))
+    Some((
+        Range::new(x.low, x.high.min(greatest))?,
+        Range::new(y.low.max(least), y.high)?,
+    ))
 }

@@ -46,12 +46,18 @@ fn exact_64(operator: Operator, first: u64, second: u64) -> u64
         Operator::SignedDiv => if second == 0 {
             0
         } else {
-            first.cast_signed().wrapping_div(second.cast_signed()).cast_unsigned()
+            first
+                .cast_signed()
+                .wrapping_div(second.cast_signed())
+                .cast_unsigned()
         },
         Operator::SignedMod => if second == 0 {
             first
         } else {
-            first.cast_signed().wrapping_rem(second.cast_signed()).cast_unsigned()
+            first
+                .cast_signed()
+                .wrapping_rem(second.cast_signed())
+                .cast_unsigned()
         },
         Operator::Or => first | second,
         Operator::And => first & second,
@@ -70,12 +76,18 @@ fn exact_32(operator: Operator, first: u32, second: u32) -> u32
         Operator::SignedDiv => if second == 0 {
             0
         } else {
-            first.cast_signed().wrapping_div(second.cast_signed()).cast_unsigned()
+            first
+                .cast_signed()
+                .wrapping_div(second.cast_signed())
+                .cast_unsigned()
         },
         Operator::SignedMod => if second == 0 {
             first
         } else {
-            first.cast_signed().wrapping_rem(second.cast_signed()).cast_unsigned()
+            first
+                .cast_signed()
+                .wrapping_rem(second.cast_signed())
+                .cast_unsigned()
         },
         Operator::Or => first | second,
         Operator::And => first & second,
@@ -106,8 +118,12 @@ pub(crate) fn extended(extension: SignExtension, word: u64) -> u64
         SignExtension::From8To64 => i64::from(low_byte(word).cast_signed()).cast_unsigned(),
         SignExtension::From16To64 => i64::from(low_quarter(word).cast_signed()).cast_unsigned(),
         SignExtension::From32To64 => i64::from(low_half(word).cast_signed()).cast_unsigned(),
-        SignExtension::From8To32 => u64::from(i32::from(low_byte(word).cast_signed()).cast_unsigned()),
-        SignExtension::From16To32 => u64::from(i32::from(low_quarter(word).cast_signed()).cast_unsigned()),
+        SignExtension::From8To32 => u64::from(i32::from(low_byte(
+            word,
+        ).cast_signed()).cast_unsigned()),
+        SignExtension::From16To32 => u64::from(i32::from(low_quarter(
+            word,
+        ).cast_signed()).cast_unsigned()),
     }
 }
 

@@ -1,4 +1,70 @@
-//! Ranges of words.
+//! Ranges of words: what arithmetic makes of them, what a conditional jump leaves of them, and how they
+//! are joined and rounded.
+//!
+//! A `Range` is the words from `low` to `high`, both included; by its type it isn't empty. The verifier
+//! says with it which words a register may hold. The rules are those of docs/VERIFIER.md, Results of
+//! arithmetic on numbers and Branches.
+//!
+//! | Call | Answer |
+//! |---|---|
+//! | `result(&instr, first, second)` | the range of what an arithmetic instruction makes of words of two ranges |
+//! | `refine(&instr, taken, first, second)` | the ranges of the operands of a conditional jump on one of its edges, None where no words go that way |
+//! | `Range::new`, `constant`, `up_to`, `FULL` | a range by its ends, of one word, from 0, of all words |
+//! | `Range::immediate(n)` | the second operand that the machine makes of an immediate |
+//! | `x.is_constant()`, `x.contains(y)` | whether it is one word, whether it has each word of another |
+//! | `x.join(y)`, `x.round()` | the least range that has both, the least one between powers of two |
+//!
+//! No call takes memory, and none refuses. `result` is asked for an arithmetic instruction and `refine`
+//! for a conditional jump, which their contracts require.
+//!
+//! # Place
+//!
+//! On `bpf_isa`, whose instructions it takes, and on the definitions of `machine`, whose arithmetic it
+//! covers. The crate of abstract values stands on it; there a register holds a range or a pointer.
+//!
+//! # What is proved
+//!
+//! Contracts see a range as a `Span`, a record of two numbers (`specs/Spans.antt`).
+//!
+//! - `result` gives exactly the table: `specs/Operators.antt` has a line for each operator, and
+//!   `specs/Results.antt` the steps before it: operands of a 32-bit operation are cut, shift counts
+//!   are masked, and constants are computed exactly where the table says so.
+//! - `refine` gives exactly the table of `specs/Edges.antt`, and None exactly where a range would be
+//!   empty.
+//! - `round` and `join` are exact too, and what they answer is the nearest range of its kind
+//!   (`rounding_contains`, `hull_is_least`).
+//! - `results_cover`: every two words of the operands' ranges lead by the arithmetic of the machine to a
+//!   word of the result's. `refinements_cover`: where two words pass the test of the machine one way,
+//!   that edge is taken and its ranges have them. `immediates_agree`: an immediate's range is the word
+//!   that the machine takes.
+//! - `results_are_monotone`, `refinements_are_monotone`, `rounding_is_monotone`: smaller ranges have
+//!   smaller results, and an edge that smaller ranges take is taken by larger ones.
+//! - `results_fit`, `refinements_fit`: what comes out are ranges of words, and an edge makes none larger.
+//!
+//! # How it is written
+//!
+//! - `range`, `powers`: the type, and the powers of two next to a word.
+//! - `operators`: the table, one function a line, for operands that are numbers of the width.
+//! - `constants`: the exact values of constants, as the machine computes them.
+//! - `arithmetic`: `result`, the steps before the table.
+//! - `branches`: `refine`, one function for each relation that an edge tells.
+//! - `laws`: the laws, contracts of functions that do nothing.
+//!
+//! A range has unsigned ends only, so a signed operation is that of the table where no word is
+//! negative, and else may give any number. Signed jumps, jumps in 32 bits, `jset`, and a jump that
+//! compares a register with itself tell nothing of ranges.
+//!
+//! # Example
+//!
+//! ```
+//! // r1 is 3 to 10, and `add64 r1, 5` makes it 8 to 15
+//! let x = Range { low: 3, high: 10 };
+//! let sum = result(&add, x, Range::immediate(5));
+//! // on the edge that `jge r1, 12, ..` does not take it is 8 to 11
+//! let edge = refine(&jump, false, Range { low: 8, high: 15 }, Range::constant(12));
+//! // before the next turn of a loop: 8 to 15
+//! let rounded = Range { low: 8, high: 11 }.round();
+//! ```
 #![tactic(auto)]
 
 mod arithmetic;
@@ -8,6 +74,8 @@ pub mod laws;
 mod operators;
 mod powers;
 mod range;
+#[cfg(test)]
+mod tests;
 
 pub use arithmetic::result;
 pub use branches::refine;

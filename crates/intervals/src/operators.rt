@@ -2,7 +2,7 @@
 //! `most` is the greatest number of the width; the operands are ranges of such numbers.
 
 ghost use Rattle.std.specs.Prelude.{◌≡◌, ◌≤◌, ◌<◌};
-ghost use Rattle.intervals.specs.Operators.{added, subtracted, multiplied, divided, remaining, common, united, shifted_left, shifted_right, signed_divided, signed_remaining, signed_shifted, in_table, most, half};
+ghost use Rattle.intervals.specs.Operators.{added, subtracted, multiplied, divided, remaining, bits_of_both, bits_of_either, shifted_left, shifted_right, signed_divided, signed_remaining, signed_shifted, in_table, most, half};
 ghost use Rattle.intervals.specs.Seen.{span_of};
 ghost use Rattle.machine.specs.Arithmetic.{width_bits};
 
@@ -134,17 +134,17 @@ fn remaining(x: Range, y: Range) -> Range
 }
 
 /// Of the bits of both, none is above the smaller.
-#[tactic(auto, unfolding(crate::specs::Operators::common))]
-fn common(x: Range, y: Range) -> Range
-    ensures { span_of result ≡ common (span_of x) (span_of y) }
+#[tactic(auto, unfolding(crate::specs::Operators::bits_of_both))]
+fn bits_of_both(x: Range, y: Range) -> Range
+    ensures { span_of result ≡ bits_of_both (span_of x) (span_of y) }
 {
     Range::up_to(x.high.min(y.high))
 }
 
 /// Of the bits of either, none is above the first of the larger.
-#[tactic(auto, unfolding(crate::specs::Operators::united))]
-fn united(x: Range, y: Range) -> Range
-    ensures { span_of result ≡ united (span_of x) (span_of y) }
+#[tactic(auto, unfolding(crate::specs::Operators::bits_of_either))]
+fn bits_of_either(x: Range, y: Range) -> Range
+    ensures { span_of result ≡ bits_of_either (span_of x) (span_of y) }
 {
     Range::up_to(ceiling(x.high.max(y.high)))
 }
@@ -238,13 +238,13 @@ pub(crate) fn in_table(width: Width, operator: Operator, x: Range, y: Range) -> 
         Operator::Mul => multiplied(most(width), x, y),
         Operator::Div => divided(x, y),
         Operator::SignedDiv => signed_divided(most(width), half(width), x, y),
-        Operator::Or => united(x, y),
-        Operator::And => common(x, y),
+        Operator::Or => bits_of_either(x, y),
+        Operator::And => bits_of_both(x, y),
         Operator::Lsh => shifted_left(most(width), bits(width), x, y),
         Operator::Rsh => shifted_right(bits(width), x, y),
         Operator::Mod => remaining(x, y),
         Operator::SignedMod => signed_remaining(most(width), half(width), x, y),
-        Operator::Xor => united(x, y),
+        Operator::Xor => bits_of_either(x, y),
         Operator::Mov => y,
         Operator::Arsh => signed_shifted(most(width), half(width), bits(width), x, y),
     }

@@ -1,6 +1,6 @@
 //! The powers of two next to a word.
 
-ghost use Rattle.std.specs.Prelude.{◌≡◌, ◌≤◌};
+ghost use Rattle.std.specs.Prelude.{◌≡◌, ℕ, ◌^◌, ◌<◌, ◌≤◌};
 ghost use Rattle.intervals.specs.Rounding.{floor, ceiling};
 
 /// The greatest of 0, 1, 2, 4, 8, .. that isn't above the word.
@@ -21,6 +21,7 @@ pub(crate) fn floor(word: u64) -> u64
 pub(crate) fn ceiling(word: u64) -> u64
     ensures value { result ≡ ceiling word }
     ensures above { word ≤ result }
+    ensures small { (bits : ℕ) → word < 2 ^ bits → result < 2 ^ bits }
 {
     if word == 0 {
         0

@@ -15,7 +15,7 @@ pub struct Range {
 }
 
 impl Range {
-    ghost use Rattle.std.specs.Prelude.{◌≡◌, ◌-◌, ◌^◌, ◌≤◌, nat_le, None, Some, if◌then◌else◌, IsTrue, ◌↔◌};
+    ghost use Rattle.std.specs.Prelude.{◌≡◌, ℕ, ◌^◌, ◌<◌, nat_le, None, Some, if◌then◌else◌, IsTrue, ◌↔◌};
     ghost use Rattle.std.specs.Option.{option_map};
     ghost use Rattle.intervals.specs.Spans.{span, only, is_constant, hull, Within};
     ghost use Rattle.intervals.specs.Rounding.{rounded};
@@ -78,7 +78,6 @@ impl Range {
     }
 
     /// The least range that contains both.
-    #[tactic(auto, unfolding(crate::specs::Spans::hull))]
     pub fn join(self, other: Range) -> Range
         ensures { span_of result ≡ hull (span_of self) (span_of other) }
     {
@@ -92,7 +91,9 @@ impl Range {
     /// less one.
     #[tactic(auto, unfolding(crate::specs::Rounding::rounded))]
     pub fn round(self) -> Range
-        ensures { span_of result ≡ rounded (span_of self) }
+        ensures nearest { span_of result ≡ rounded (span_of self) }
+        ensures contains { Within (span_of self) (span_of result) }
+        ensures small { (bits : ℕ) → self.high < 2 ^ bits → result.high < 2 ^ bits }
     {
         Range {
             low: floor(self.low),

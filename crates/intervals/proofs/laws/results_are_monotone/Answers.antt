@@ -1,5 +1,5 @@
 use Rattle.intervals.specs.Laws.{ResultsAreMonotone}
-use Rattle.intervals.proofs.Calculated.{arithmetic_mono, negated_mono}
+use Rattle.intervals.proofs.Computations.{arithmetic_mono, negated_mono}
 use Rattle.intervals.proofs.Extensions.{extended_mono}
 use Rattle.intervals.proofs.Orders.{ordered_mono}
 use Rattle.intervals.proofs.laws.results_are_monotone.Goals as goal

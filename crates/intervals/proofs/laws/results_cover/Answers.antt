@@ -1,5 +1,5 @@
 use Rattle.intervals.specs.Laws.{ResultsCover}
-use Rattle.intervals.proofs.Calculated.{arithmetic_has, negated_has}
+use Rattle.intervals.proofs.Computations.{arithmetic_has, negated_has}
 use Rattle.intervals.proofs.Extensions.{extended_has}
 use Rattle.intervals.proofs.Orders.{ordered_has}
 use Rattle.intervals.proofs.laws.results_cover.Goals as goal

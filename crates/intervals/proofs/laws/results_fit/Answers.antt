@@ -1,5 +1,5 @@
 use Rattle.intervals.specs.Laws.{ResultsFit}
-use Rattle.intervals.proofs.Calculated.{arithmetic_fits, negated_fits}
+use Rattle.intervals.proofs.Computations.{arithmetic_fits, negated_fits}
 use Rattle.intervals.proofs.Extensions.{extended_fits}
 use Rattle.intervals.proofs.Orders.{ordered_fits}
 use Rattle.intervals.proofs.laws.results_fit.Goals as goal

@@ -65,4 +65,3 @@ stays_mono false false m x s f g a = record { from = omega arith; upto = omega a
 
 pub moved : (x : Span) (a b : ℕ) → a ≡ b → Has x a → Has x b
 moved x a b e h = record { from = omega (arith, e, h.from); upto = omega (arith, e, h.upto) }
-

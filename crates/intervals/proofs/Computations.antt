@@ -12,7 +12,7 @@ use Rattle.intervals.specs.Spans.{Span, span, only, is_constant, IsSpan, Has, Wi
 use Rattle.intervals.specs.Operators.{most, half, full, in_table}
 use Rattle.intervals.specs.Results.{cut, is_exact, operated, arithmetic_result, opposite, negated_result, extended_width, sign_of, sign_extended, extended_result}
 use Rattle.intervals.proofs.TableLaws.{numbers, words, table_has, table_fits, table_mono}
-use Rattle.intervals.proofs.Tests.{has_if, fits_if, mono_if, full_has, full_fits, low_has, one_constant, one_still, constant_is, constant_same, low_within, stays_has, stays_fits, stays_mono, moved}
+use Rattle.intervals.proofs.Decided.{has_if, fits_if, mono_if, full_has, full_fits, low_has, one_constant, one_still, constant_is, constant_same, low_within, stays_has, stays_fits, stays_mono, moved}
 use Rattle.intervals.proofs.Cuts.{cut_has, cut_fits, cut_mono, wider}
 
 -- the operators over numbers of the width
@@ -34,9 +34,9 @@ operated_has : (w : Width) (o : Operator) (x y : Span) (a b : ℕ) → IsSpan (m
 unfolding operated
 operated_has w o x y a b hx hy h k =
     has_if (is_exact o && (is_constant x && is_constant y)) (computed w o x.low y.low) (computed w o a b) (in_table w o x y)
-      (λ t. let c = both_constant (is_exact o) x y t in
-        computed_same w o a b x.low y.low (omega (arith, c.0, h.from, h.upto)) (omega (arith, c.1, k.from, k.upto)))
-      (table_has w o x y a b hx hy h k)
+    (λ t. let c = both_constant (is_exact o) x y t in
+    computed_same w o a b x.low y.low (omega (arith, c.0, h.from, h.upto)) (omega (arith, c.1, k.from, k.upto)))
+    (table_has w o x y a b hx hy h k)
 
 operated_fits : (w : Width) (o : Operator) (x y : Span) → IsSpan (most w) x → IsSpan (most w) y → IsSpan (most w) (operated w o x y)
 unfolding operated
@@ -50,16 +50,16 @@ operated_mono : (w : Width) (o : Operator) (x y s t : Span) → IsSpan (most w) 
 unfolding operated
 operated_mono w o x y s t hx hy hs ht a b =
     mono_if (is_exact o && (is_constant x && is_constant y)) (is_exact o && (is_constant s && is_constant t))
-      (computed w o x.low y.low) (computed w o s.low t.low) (in_table w o x y) (in_table w o s t)
-      (λ q. let c = both_constant (is_exact o) s t q in (
-        still_constant (is_exact o) x y s t (most w) hx hy a b q,
-        computed_same w o x.low y.low s.low t.low
+    (computed w o x.low y.low) (computed w o s.low t.low) (in_table w o x y) (in_table w o s t)
+    (λ q. let c = both_constant (is_exact o) s t q in (
+      still_constant (is_exact o) x y s t (most w) hx hy a b q,
+      computed_same w o x.low y.low s.low t.low
           (omega (arith, c.0, hx.ordered, a.from, a.upto)) (omega (arith, c.1, hy.ordered, b.from, b.upto)),
-      ))
-      (table_has w o s t x.low y.low hs ht
-        (record { from = a.from; upto = omega (arith, hx.ordered, a.upto) })
-        (record { from = b.from; upto = omega (arith, hy.ordered, b.upto) }))
-      (table_mono w o x y s t hx hy hs ht a b)
+    ))
+    (table_has w o s t x.low y.low hs ht
+    (record { from = a.from; upto = omega (arith, hx.ordered, a.upto) })
+    (record { from = b.from; upto = omega (arith, hy.ordered, b.upto) }))
+    (table_mono w o x y s t hx hy hs ht a b)
 
 pub arithmetic_has : (w : Width) (o : Operator) (x y : Span) (a b : ℕ) → IsSpan (2 ^ 64 - 1) x → IsSpan (2 ^ 64 - 1) y → Has x a → Has y b
     → Has (arithmetic_result w o x y) (arithmetic w o a b)
@@ -77,7 +77,7 @@ pub arithmetic_mono : (w : Width) (o : Operator) (x y s t : Span) → IsSpan (2 
 unfolding arithmetic_result
 arithmetic_mono w o x y s t hx hy hs ht a b =
     operated_mono w o (cut w x) (cut w y) (cut w s) (cut w t)
-      (cut_fits w x hx) (cut_fits w y hy) (cut_fits w s hs) (cut_fits w t ht) (cut_mono w x s hx a) (cut_mono w y t hy b)
+    (cut_fits w x hx) (cut_fits w y hy) (cut_fits w s hs) (cut_fits w t ht) (cut_mono w x s hx a) (cut_mono w y t hy b)
 
 -- the opposite
 
@@ -89,7 +89,7 @@ opposite_has : (w : Width) (x : Span) (a : ℕ) → Has x a → Has (opposite w 
 unfolding opposite
 opposite_has w x a h =
     has_if (is_constant x) (computed w op.Sub 0 x.low) (computed w op.Sub 0 a) (full (most w))
-      (λ t. ap (λ n. computed w op.Sub 0 n) (constant_is x a h t)) (full_has (most w) (computed w op.Sub 0 a) (opposite_most w a))
+    (λ t. ap (λ n. computed w op.Sub 0 n) (constant_is x a h t)) (full_has (most w) (computed w op.Sub 0 a) (opposite_most w a))
 
 opposite_fits : (w : Width) (x : Span) → IsSpan (most w) (opposite w x)
 unfolding opposite
@@ -99,9 +99,9 @@ opposite_mono : (w : Width) (x s : Span) → IsSpan (most w) x → Within x s �
 unfolding opposite
 opposite_mono w x s h a =
     mono_if (is_constant x) (is_constant s) (computed w op.Sub 0 x.low) (computed w op.Sub 0 s.low) (full (most w)) (full (most w))
-      (λ q. (one_still (most w) x s h a q, ap (λ n. computed w op.Sub 0 n) (constant_same (most w) x s h a q)))
-      (full_has (most w) (computed w op.Sub 0 x.low) (opposite_most w x.low))
-      (record { from = omega arith; upto = omega arith })
+    (λ q. (one_still (most w) x s h a q, ap (λ n. computed w op.Sub 0 n) (constant_same (most w) x s h a q)))
+    (full_has (most w) (computed w op.Sub 0 x.low) (opposite_most w x.low))
+    (record { from = omega arith; upto = omega arith })
 
 zero_low : (w : Width) → low w 0 ≡ 0
 zero_low width.W32 = refl
@@ -119,4 +119,3 @@ pub negated_mono : (w : Width) (x s : Span) → IsSpan (2 ^ 64 - 1) x → IsSpan
     → Within (negated_result w x) (negated_result w s)
 unfolding negated_result
 negated_mono w x s hx hs a = opposite_mono w (cut w x) (cut w s) (cut_fits w x hx) (cut_mono w x s hx a)
-
