@@ -1,13 +1,12 @@
 -- Bits and shifts: each result holds what it has to, is a range of the width, and is smaller for
 -- smaller operands.
-use Rattle.std.proofs.Common.{ℕ, zero, suc, ◌≡◌, ◌+◌, ◌-◌, ◌*◌, ◌/◌, ◌%◌, ◌^◌, ◌<◌, ◌≤◌, ◌==◌, nat_le, nat_lt, bit_and, bit_or, bit_xor, sym, ◌∙◌, ap, inl, inr, min, max, arith}
+use Rattle.std.proofs.Common.{ℕ, ◌≡◌, ◌+◌, ◌-◌, ◌*◌, ◌/◌, ◌%◌, ◌^◌, ◌<◌, ◌≤◌, bit_and, bit_or, bit_xor, sym, ap, max, arith}
 use Rattle.std.proofs.lemmas.Bool.Decides.{nat_tests}
 use Rattle.std.proofs.lemmas.Nat.{and_le_l, and_le_r, or_lt, xor_lt, pow_pos}
 use Rattle.std.proofs.Math.Nat.{mod-lt, mod-eq_of_lt, div-le_self, mul-le-mul_right}
 use Rattle.intervals.specs.Spans.{Span, IsSpan, Has, Within}
-use Rattle.intervals.specs.Rounding.{ceiling}
 use Rattle.intervals.specs.Operators.{bits_of_both, bits_of_either, shifted_left, shifted_right}
-use Rattle.intervals.proofs.Digits.{Digits, digits, ceiling_fits, ceiling_mono}
+use Rattle.intervals.proofs.Digits.{digits, ceiling_fits, ceiling_mono}
 use Rattle.intervals.proofs.Quotients.{div_mono}
 
 pub bits_of_both_has : (x y : Span) (a b : ℕ) → Has x a → Has y b → Has (bits_of_both x y) (bit_and a b)

@@ -1,17 +1,13 @@
 -- The part of a range that a width computes with.
-use Rattle.std.proofs.Common.{ℕ, suc, ◌≡◌, ◌+◌, ◌-◌, ◌*◌, ◌/◌, ◌%◌, ◌^◌, ◌<◌, ◌≤◌, ◌==◌, nat_le, nat_lt, ◌&&◌, Bool, true, false, if◌then◌else◌, refl, sym, ◌∙◌, ap, arith}
+use Rattle.std.proofs.Common.{ℕ, ◌-◌, ◌^◌, arith}
 use Rattle.std.proofs.lemmas.Bool.Decides.{nat_tests}
 use Rattle.bpf_isa.specs.declared.instr.Width.{Width}
 use Rattle.bpf_isa.specs.declared.instr.Width.TheVariants as width
-use Rattle.bpf_isa.specs.declared.instr.Operator.{Operator}
-use Rattle.bpf_isa.specs.declared.instr.Operator.TheVariants as op
-use Rattle.std.proofs.lemmas.Nat.{pow_pos}
-use Rattle.std.proofs.Math.Nat.{mod-lt, mod-eq_of_lt}
-use Rattle.machine.specs.Arithmetic.{computed, arithmetic, width_bits, low, extended}
-use Rattle.intervals.specs.Spans.{Span, span, only, is_constant, IsSpan, Has, Within}
-use Rattle.intervals.specs.Operators.{most, half, full, in_table}
-use Rattle.intervals.specs.Results.{cut, is_exact, operated, arithmetic_result, opposite, negated_result, extended_width, sign_of, sign_extended, extended_result}
-use Rattle.intervals.proofs.TableLaws.{numbers, words, table_has, table_fits, table_mono}
+use Rattle.machine.specs.Arithmetic.{low}
+use Rattle.intervals.specs.Spans.{Span, IsSpan, Has, Within}
+use Rattle.intervals.specs.Operators.{most}
+use Rattle.intervals.specs.Results.{cut}
+use Rattle.intervals.proofs.TableLaws.{words}
 
 pub cut_has : (w : Width) (x : Span) (a : ℕ) → Has x a → Has (cut w x) (low w a)
 unfolding cut

@@ -1,7 +1,7 @@
 -- Results that a test decides: one number where the operands are constant, a range that stays, a full one.
-use Rattle.std.proofs.Common.{ℕ, suc, ◌≡◌, ◌+◌, ◌-◌, ◌*◌, ◌/◌, ◌%◌, ◌^◌, ◌<◌, ◌≤◌, ◌==◌, nat_le, nat_lt, ◌&&◌, Bool, true, false, if◌then◌else◌, refl, sym, ◌∙◌, ap, arith}
+use Rattle.std.proofs.Common.{ℕ, ◌≡◌, ◌≤◌, Bool, true, false, if◌then◌else◌, refl, arith}
 use Rattle.std.proofs.lemmas.Bool.Decides.{nat_tests}
-use Rattle.intervals.specs.Spans.{Span, span, only, is_constant, IsSpan, Has, Within}
+use Rattle.intervals.specs.Spans.{Span, only, is_constant, IsSpan, Has, Within}
 use Rattle.intervals.specs.Operators.{full}
 
 -- A result that is one number where a test holds, and else a range.

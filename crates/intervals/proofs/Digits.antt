@@ -3,7 +3,7 @@ use Rattle.std.proofs.Common.{ℕ, zero, suc, ◌≡◌, ◌+◌, ◌-◌, ◌*�
 use Rattle.std.specs.Int.{leading_zeros, w64}
 use Rattle.std.specs.Int.Count.{leading_of_zero}
 use Rattle.std.proofs.lemmas.Nat.{leading_top, leading_length, pow_pos, pow-add}
-use Rattle.std.proofs.lemmas.Bool.{cases_eq, cases_lt}
+use Rattle.std.proofs.lemmas.Bool.{cases_lt}
 use Rattle.std.proofs.lemmas.Bool.Decides.{nat_tests}
 use Rattle.std.proofs.Math.Numerals.{add-one}
 use Rattle.std.proofs.Math.Nat.{mod-le, pow-suc, mul-suc, suc-mul, mul_comm, div-eq_of_lt-le, pow-le-pow_right}

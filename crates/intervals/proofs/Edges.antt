@@ -1,6 +1,5 @@
 -- The edges: what they leave, and that smaller ranges leave smaller ones.
-use Rattle.std.proofs.Common.{ℕ, suc, ◌≡◌, ◌+◌, ◌-◌, ◌*◌, ◌^◌, ◌<◌, ◌≤◌, ◌==◌, nat_le, nat_lt, ◌&&◌, not, Bool, true, false, Option, None, Some, refl, sym, ◌∙◌, ap, inl, inr, ℤ, min, max, if◌then◌else◌, arith}
-use Rattle.std.proofs.lemmas.Bool.{and_parts}
+use Rattle.std.proofs.Common.{ℕ, ◌≡◌, ◌+◌, ◌-◌, ◌<◌, ◌≤◌, nat_le, ◌&&◌, Bool, true, false, Option, None, Some, refl, sym, ℤ, min, max, if◌then◌else◌, arith}
 use Rattle.std.proofs.lemmas.Bool.Decides.{nat_tests}
 use Rattle.bpf_isa.specs.declared.instr.Instr.{Instr}
 use Rattle.bpf_isa.specs.declared.instr.Instr.TheVariants as instr
@@ -10,7 +9,7 @@ use Rattle.bpf_isa.specs.declared.instr.Width.TheVariants as width
 use Rattle.bpf_isa.specs.declared.instr.Condition.{Condition}
 use Rattle.bpf_isa.specs.declared.instr.Condition.TheVariants as cond
 use Rattle.machine.specs.Arithmetic.{compared, holds}
-use Rattle.intervals.specs.Spans.{Span, span, IsSpan, Has, Within}
+use Rattle.intervals.specs.Spans.{Span, span, Has, Within}
 use Rattle.intervals.specs.Edges.{both, equal, without, apart, above, at_most, at_least, below, narrowed, is_same, refined}
 use Rattle.intervals.specs.Laws.{Leaves, Shrinks, WithinBoth, IsWordSpan}
 

@@ -1,23 +1,18 @@
 -- The results of sign extensions.
-use Rattle.std.proofs.Common.{ℕ, suc, ◌≡◌, ◌+◌, ◌-◌, ◌*◌, ◌/◌, ◌%◌, ◌^◌, ◌<◌, ◌≤◌, ◌==◌, nat_le, nat_lt, ◌&&◌, Bool, true, false, if◌then◌else◌, refl, sym, ◌∙◌, ap, arith}
+use Rattle.std.proofs.Common.{ℕ, ◌≡◌, ◌-◌, ◌%◌, ◌^◌, ◌<◌, ◌≤◌, nat_lt, if◌then◌else◌, refl, sym, ◌∙◌, ap, arith}
 use Rattle.std.proofs.lemmas.Bool.Decides.{nat_tests}
 use Rattle.std.proofs.lemmas.Int.{to_z_pos, ints}
 use Rattle.std.specs.Int.{cast_signed, cast_unsigned, w8, w16, w32, w64}
 use Rattle.bpf_isa.specs.declared.instr.SignExtension.{SignExtension}
 use Rattle.bpf_isa.specs.declared.instr.SignExtension.TheVariants as extension
 use Rattle.intervals.proofs.Signs.{unsigned_upto, size_upto}
-use Rattle.bpf_isa.specs.declared.instr.Width.{Width}
 use Rattle.bpf_isa.specs.declared.instr.Width.TheVariants as width
-use Rattle.bpf_isa.specs.declared.instr.Operator.{Operator}
-use Rattle.bpf_isa.specs.declared.instr.Operator.TheVariants as op
-use Rattle.std.proofs.lemmas.Nat.{pow_pos}
-use Rattle.std.proofs.Math.Nat.{mod-lt, mod-eq_of_lt}
-use Rattle.machine.specs.Arithmetic.{computed, arithmetic, width_bits, low, extended}
-use Rattle.intervals.specs.Spans.{Span, span, only, is_constant, IsSpan, Has, Within}
-use Rattle.intervals.specs.Operators.{most, half, full, in_table}
-use Rattle.intervals.specs.Results.{cut, is_exact, operated, arithmetic_result, opposite, negated_result, extended_width, sign_of, sign_extended, extended_result}
-use Rattle.intervals.proofs.TableLaws.{numbers, words, table_has, table_fits, table_mono}
-use Rattle.intervals.proofs.Decided.{has_if, fits_if, mono_if, full_has, full_fits, low_has, one_constant, one_still, constant_is, constant_same, low_within, stays_has, stays_fits, stays_mono, moved}
+use Rattle.std.proofs.Math.Nat.{mod-eq_of_lt}
+use Rattle.machine.specs.Arithmetic.{low, extended}
+use Rattle.intervals.specs.Spans.{Span, is_constant, IsSpan, Has, Within}
+use Rattle.intervals.specs.Operators.{most, full}
+use Rattle.intervals.specs.Results.{cut, extended_width, sign_of, sign_extended, extended_result}
+use Rattle.intervals.proofs.Decided.{has_if, fits_if, mono_if, one_still, constant_is, constant_same, low_within, stays_has, stays_fits, stays_mono, moved}
 use Rattle.intervals.proofs.Cuts.{cut_has, cut_fits, cut_mono, wider}
 
 -- the extension of a sign

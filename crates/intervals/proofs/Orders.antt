@@ -1,17 +1,17 @@
 -- The results of byte orders.
-use Rattle.std.proofs.Common.{ℕ, suc, ◌≡◌, ◌+◌, ◌-◌, ◌*◌, ◌/◌, ◌%◌, ◌^◌, ◌<◌, ◌≤◌, ◌==◌, nat_le, nat_lt, ◌&&◌, Bool, true, false, if◌then◌else◌, refl, sym, ◌∙◌, ap, arith}
+use Rattle.std.proofs.Common.{ℕ, ◌≡◌, ◌+◌, ◌-◌, ◌%◌, ◌^◌, ◌≤◌, nat_lt, ◌&&◌, Bool, true, false, if◌then◌else◌, refl, sym, ap, arith}
 use Rattle.std.proofs.lemmas.Bool.Decides.{nat_tests}
 use Rattle.std.specs.Int.{swap_bytes, w16, w32, w64}
-use Rattle.std.proofs.Math.Nat.{mod-lt, mod-eq_of_lt}
+use Rattle.std.proofs.Math.Nat.{mod-eq_of_lt}
 use Rattle.bpf_isa.specs.declared.instr.Order.{Order}
 use Rattle.bpf_isa.specs.declared.instr.Order.TheVariants as order
 use Rattle.bpf_isa.specs.declared.instr.OrderSize.{OrderSize}
 use Rattle.bpf_isa.specs.declared.instr.OrderSize.TheVariants as bits
 use Rattle.machine.specs.Arithmetic.{in_order, kept_low, turned_round}
-use Rattle.intervals.specs.Spans.{Span, span, only, is_constant, IsSpan, Has, Within}
+use Rattle.intervals.specs.Spans.{Span, is_constant, IsSpan, Has, Within}
 use Rattle.intervals.specs.Operators.{full}
 use Rattle.intervals.specs.Results.{most_of, is_little, ordered_result}
-use Rattle.intervals.proofs.Decided.{has_if, fits_if, mono_if, full_has, full_fits, low_has, one_constant, one_still, constant_is, constant_same, low_within, stays_has, stays_fits, stays_mono, moved}
+use Rattle.intervals.proofs.Decided.{has_if, fits_if, mono_if, one_still, constant_is, constant_same, low_within, stays_has, stays_mono, moved}
 
 -- bytes in the opposite order are no more
 

@@ -1,9 +1,8 @@
 -- Signed operations: where no number is negative they are the unsigned ones, and elsewhere they stay
 -- in the width.
-use Rattle.std.proofs.Common.{ℕ, zero, suc, ◌≡◌, ◌+◌, ◌-◌, ◌*◌, ◌/◌, ◌%◌, ◌^◌, ◌<◌, ◌≤◌, ◌==◌, nat_le, nat_lt, if◌then◌else◌, ℤ, pos, negsuc, refl, sym, ◌∙◌, ap, inl, inr, arith}
+use Rattle.std.proofs.Common.{ℕ, zero, suc, ◌≡◌, ◌/◌, ◌%◌, ◌^◌, ◌<◌, ◌≤◌, ℤ, pos, negsuc, refl, arith}
 use Rattle.std.specs.Prelude.{int_div, int_rem, neg_ℤ}
-use Rattle.std.specs.Int.{cast_signed, cast_unsigned, int_shr, w8, w16, w32, w64}
-use Rattle.std.proofs.lemmas.Bool.{cases_lt}
+use Rattle.std.specs.Int.{int_shr, w32, w64}
 use Rattle.std.proofs.lemmas.Bool.Decides.{nat_tests}
 use Rattle.std.proofs.lemmas.Int.{to_z_pos, ints}
 use Rattle.std.proofs.Math.Nat.{mod-le, div-le_self}
@@ -12,7 +11,7 @@ use Rattle.bpf_isa.specs.declared.instr.Width.TheVariants as width
 use Rattle.bpf_isa.specs.declared.instr.Operator.TheVariants as op
 use Rattle.machine.specs.Arithmetic.{signed, unsigned, computed, width_bits}
 use Rattle.intervals.specs.Spans.{Span, IsSpan, Has, Within}
-use Rattle.intervals.specs.Operators.{most, half, signed_divided, signed_remaining, signed_shifted, divided, remaining, shifted_right}
+use Rattle.intervals.specs.Operators.{most, half, signed_divided, signed_remaining, signed_shifted}
 use Rattle.intervals.proofs.Quotients.{divided_has, divided_fits, divided_mono, remaining_has, remaining_fits, remaining_mono}
 use Rattle.intervals.proofs.Bits.{shifted_right_has, shifted_right_fits, shifted_right_mono}
 

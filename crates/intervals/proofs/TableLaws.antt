@@ -1,23 +1,17 @@
 -- The table of results, for operands that are numbers of the width.
-use Rattle.std.proofs.Common.{ℕ, suc, ◌≡◌, ◌+◌, ◌-◌, ◌*◌, ◌/◌, ◌%◌, ◌^◌, ◌<◌, ◌≤◌, ◌==◌, nat_le, nat_lt, ◌&&◌, Bool, true, false, if◌then◌else◌, refl, sym, ◌∙◌, ap, inl, inr, arith}
-use Rattle.std.proofs.lemmas.Bool.Decides.{nat_tests}
+use Rattle.std.proofs.Common.{ℕ, ◌≡◌, ◌+◌, ◌-◌, ◌^◌, ◌≤◌, arith}
 use Rattle.std.proofs.lemmas.Nat.{pow_pos}
-use Rattle.std.proofs.Math.Nat.{mod-lt, mod-eq_of_lt}
-use Rattle.std.specs.Int.{cast_signed, cast_unsigned, w8, w16, w32, w64}
-use Rattle.bpf_isa.specs.declared.instr.SignExtension.{SignExtension}
-use Rattle.bpf_isa.specs.declared.instr.SignExtension.TheVariants as extension
 use Rattle.bpf_isa.specs.declared.instr.Width.{Width}
 use Rattle.bpf_isa.specs.declared.instr.Width.TheVariants as width
 use Rattle.bpf_isa.specs.declared.instr.Operator.{Operator}
 use Rattle.bpf_isa.specs.declared.instr.Operator.TheVariants as op
-use Rattle.machine.specs.Arithmetic.{computed, arithmetic, width_bits, low, extended}
-use Rattle.intervals.specs.Spans.{Span, span, only, is_constant, IsSpan, Has, Within}
-use Rattle.intervals.specs.Operators.{most, half, full, in_table}
-use Rattle.intervals.specs.Results.{cut, is_exact, operated, arithmetic_result, opposite, negated_result, extended_width, sign_of, sign_extended, extended_result}
+use Rattle.machine.specs.Arithmetic.{computed, width_bits}
+use Rattle.intervals.specs.Spans.{Span, IsSpan, Has, Within}
+use Rattle.intervals.specs.Operators.{most, half, in_table}
 use Rattle.intervals.proofs.Sums.{added_has, added_fits, added_mono, subtracted_has, subtracted_fits, subtracted_mono, multiplied_has, multiplied_fits, multiplied_mono}
 use Rattle.intervals.proofs.Quotients.{divided_has, divided_fits, divided_mono, remaining_has, remaining_fits, remaining_mono}
 use Rattle.intervals.proofs.Bits.{bits_of_both_has, bits_of_both_fits, bits_of_both_mono, bits_of_either_has_or, bits_of_either_has_xor, bits_of_either_fits, bits_of_either_mono, shifted_left_has, shifted_left_fits, shifted_left_mono, shifted_right_has, shifted_right_fits, shifted_right_mono}
-use Rattle.intervals.proofs.Signs.{signed_divided_has, signed_divided_fits, signed_divided_mono, signed_remaining_has, signed_remaining_fits, signed_remaining_mono, signed_shifted_has, signed_shifted_fits, signed_shifted_mono, unsigned_upto, size_upto}
+use Rattle.intervals.proofs.Signs.{signed_divided_has, signed_divided_fits, signed_divided_mono, signed_remaining_has, signed_remaining_fits, signed_remaining_mono, signed_shifted_has, signed_shifted_fits, signed_shifted_mono}
 
 -- how many numbers a width has
 pub numbers : (w : Width) → most w + 1 ≡ 2 ^ width_bits w

@@ -3,7 +3,6 @@
 -- of the first operand, y that of the second.
 use Rattle.std.specs.Prelude.{ℕ, ◌+◌, ◌-◌, ◌*◌, ◌/◌, ◌%◌, ◌^◌, ◌==◌, nat_lt, nat_le, ◌&&◌, if◌then◌else◌, min, max}
 use Rattle.bpf_isa.specs.declared.instr.Width.{Width}
-use Rattle.bpf_isa.specs.declared.instr.Width.TheVariants as width
 use Rattle.bpf_isa.specs.declared.instr.Operator.{Operator}
 use Rattle.bpf_isa.specs.declared.instr.Operator.TheVariants as op
 use Rattle.machine.specs.Arithmetic.{width_bits}

@@ -1,5 +1,5 @@
 -- How contracts see ranges.
-use Rattle.std.specs.Prelude.{ℕ, ℤ}
+use Rattle.std.specs.Prelude.{ℤ}
 use Rattle.std.specs.Int.{cast_unsigned, w64}
 use Rattle.intervals.specs.declared.range.Range.{Range}
 use Rattle.intervals.specs.Spans.{Span, span, only}

@@ -1,6 +1,5 @@
 use Rattle.std.proofs.Common.{◌≡◌, ap, min, max, arith}
 use Rattle.intervals.specs.Spans.{Span, Within, hull}
-use Rattle.intervals.specs.Laws.{HullIsLeast}
 use Rattle.intervals.proofs.laws.hull_is_least.Goals as goal
 
 pub returns : goal.returns

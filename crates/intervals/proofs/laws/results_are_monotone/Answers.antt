@@ -1,4 +1,3 @@
-use Rattle.intervals.specs.Laws.{ResultsAreMonotone}
 use Rattle.intervals.proofs.Computations.{arithmetic_mono, negated_mono}
 use Rattle.intervals.proofs.Extensions.{extended_mono}
 use Rattle.intervals.proofs.Orders.{ordered_mono}

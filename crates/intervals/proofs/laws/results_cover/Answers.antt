@@ -1,4 +1,3 @@
-use Rattle.intervals.specs.Laws.{ResultsCover}
 use Rattle.intervals.proofs.Computations.{arithmetic_has, negated_has}
 use Rattle.intervals.proofs.Extensions.{extended_has}
 use Rattle.intervals.proofs.Orders.{ordered_has}

@@ -1,4 +1,3 @@
-use Rattle.intervals.specs.Laws.{ResultsFit}
 use Rattle.intervals.proofs.Computations.{arithmetic_fits, negated_fits}
 use Rattle.intervals.proofs.Extensions.{extended_fits}
 use Rattle.intervals.proofs.Orders.{ordered_fits}

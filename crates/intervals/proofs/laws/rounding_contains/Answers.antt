@@ -1,4 +1,3 @@
-use Rattle.intervals.specs.Laws.{RoundingContains}
 use Rattle.intervals.proofs.Digits.{floor_nearest, ceiling_nearest, rounded_within, rounded_fits}
 use Rattle.intervals.proofs.laws.rounding_contains.Goals as goal
 

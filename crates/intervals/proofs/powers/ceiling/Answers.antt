@@ -1,4 +1,4 @@
-use Rattle.std.proofs.Common.{◌≡◌, ◌≤◌, ◌∙◌, sym, ap, arith}
+use Rattle.std.proofs.Common.{◌∙◌, sym, ap, arith}
 use Rattle.intervals.specs.Rounding.{ceiling}
 use Rattle.intervals.proofs.Digits.{ceiling_zero, ones_shifted, ceiling_nearest, ceiling_fits}
 use Rattle.intervals.proofs.powers.ceiling.Goals as goal

@@ -1,4 +1,4 @@
-use Rattle.std.proofs.Common.{◌≡◌, ◌≤◌, ◌<◌, arith}
+use Rattle.std.proofs.Common.{◌<◌, arith}
 use Rattle.intervals.proofs.Digits.{first_shifted}
 use Rattle.intervals.proofs.powers.floor.Goals as goal
 
