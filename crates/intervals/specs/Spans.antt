@@ -1,5 +1,5 @@
 -- Ranges of numbers, without a bound on their size (docs/VERIFIER.md, Abstract values).
-use Rattle.std.specs.Prelude.{ℕ, ◌≤◌, ◌==◌, Bool, min, max}
+use Rattle.std.specs.Prelude.{ℕ, ◌≤◌, ◌==◌, nat_le, Bool, if◌then◌else◌, Option, None, Some, min, max}
 
 pub record Span : Type 0 where
   pub low : ℕ
@@ -29,6 +29,10 @@ pub record Has (x : Span) (a : ℕ) : Type 0 where
 pub record Within (x y : Span) : Type 0 where
   pub from : y.low ≤ x.low
   pub upto : x.high ≤ y.high
+
+-- a range that is not empty
+abbrev pub inhabited : Span → Option Span
+inhabited x = if nat_le x.low x.high then Some x else None
 
 -- the least range that holds both
 abbrev pub hull : Span → Span → Span

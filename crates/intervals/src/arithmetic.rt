@@ -6,7 +6,7 @@ ghost use Rattle.intervals.specs.Operators.{most};
 ghost use Rattle.intervals.specs.Results.{cut, operated, arithmetic_result, opposite, negated_result, extended_width, sign_of, sign_extended, extended_result, most_of, ordered_result, is_arithmetic, result_of};
 ghost use Rattle.intervals.specs.Seen.{span_of};
 
-use crate::constants::{exact, extended, in_order, is_exact};
+use crate::constants::{exact, extended, in_order, is_exact, negated};
 use crate::operators::{in_table, most};
 use crate::range::Range;
 use bpf_isa::instr::{Instr, Operator, Order, OrderSize, SignExtension, Width};
@@ -89,7 +89,7 @@ fn opposite(width: Width, x: Range) -> Range
     ensures { span_of result ≡ opposite width (span_of x) }
 {
     if x.is_constant() {
-        Range::constant(crate::constants::opposite(width, x.low))
+        Range::constant(negated(width, x.low))
     } else {
         Range::up_to(most(width))
     }

@@ -1,9 +1,9 @@
 //! What the edges of a conditional jump say.
 
-ghost use Rattle.std.specs.Prelude.{◌≡◌, IsTrue, None, Some, if◌then◌else◌, nat_le, ◌&&◌};
+ghost use Rattle.std.specs.Prelude.{◌≡◌, IsTrue};
 ghost use Rattle.std.specs.Option.{option_map};
-ghost use Rattle.intervals.specs.Spans.{span};
-ghost use Rattle.intervals.specs.Edges.{both, equal, apart, above, at_most, at_least, below, without, narrowed, is_same, is_branch, refined};
+ghost use Rattle.intervals.specs.Spans.{inhabited};
+ghost use Rattle.intervals.specs.Edges.{equal, apart, above, at_most, at_least, below, without, narrowed, is_same, is_branch, refined};
 ghost use Rattle.intervals.specs.Seen.{span_of, spans_of};
 
 use crate::range::Range;
@@ -80,7 +80,7 @@ fn apart(x: Range, y: Range) -> Option<(Range, Range)>
 
 /// A range whose ends are not the constant of the other, if something is left of it.
 fn without(x: Range, y: Range) -> Option<Range>
-    ensures { option_map span_of result ≡ (if nat_le (without (span_of x) (span_of y)).low (without (span_of x) (span_of y)).high then Some (without (span_of x) (span_of y)) else None) }
+    ensures { option_map span_of result ≡ inhabited (without (span_of x) (span_of y)) }
 {
     if !y.is_constant() {
         return Some(x);

@@ -99,7 +99,7 @@ fn exact_32(operator: Operator, first: u32, second: u32) -> u32
 
 /// The opposite of a number of a width.
 #[tactic(auto, unfolding(machine::specs::Arithmetic::computed))]
-pub(crate) fn opposite(width: Width, word: u64) -> u64
+pub(crate) fn negated(width: Width, word: u64) -> u64
     requires { word ≤ most width }
     ensures { result ≡ computed width Operator.Sub 0 word }
 {

@@ -15,9 +15,9 @@ pub struct Range {
 }
 
 impl Range {
-    ghost use Rattle.std.specs.Prelude.{◌≡◌, ℕ, ◌^◌, ◌<◌, nat_le, None, Some, if◌then◌else◌, IsTrue, ◌↔◌};
+    ghost use Rattle.std.specs.Prelude.{◌≡◌, ℕ, ◌^◌, ◌<◌, IsTrue, ◌↔◌};
     ghost use Rattle.std.specs.Option.{option_map};
-    ghost use Rattle.intervals.specs.Spans.{span, only, is_constant, hull, Within};
+    ghost use Rattle.intervals.specs.Spans.{span, only, is_constant, inhabited, hull, Within};
     ghost use Rattle.intervals.specs.Rounding.{rounded};
     ghost use Rattle.intervals.specs.Seen.{span_of, immediate_span};
 
@@ -29,7 +29,7 @@ impl Range {
 
     /// The words from one to another, if there are any.
     pub fn new(low: u64, high: u64) -> Option<Range>
-        ensures { option_map span_of result ≡ (if nat_le low high then Some (span low high) else None) }
+        ensures { option_map span_of result ≡ inhabited (span low high) }
     {
         if low <= high {
             Some(Range { low, high })
