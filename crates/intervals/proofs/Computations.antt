@@ -115,7 +115,7 @@ pub negated_fits : (w : Width) (x : Span) → IsSpan (2 ^ 64 - 1) x → IsSpan (
 unfolding negated_result
 negated_fits w x h = wider w _ (opposite_fits w (cut w x))
 
-pub negated_mono : (w : Width) (x s : Span) → IsSpan (2 ^ 64 - 1) x → IsSpan (2 ^ 64 - 1) s → Within x s
+pub negated_mono : (w : Width) (x s : Span) → IsSpan (2 ^ 64 - 1) x → Within x s
     → Within (negated_result w x) (negated_result w s)
 unfolding negated_result
-negated_mono w x s hx hs a = opposite_mono w (cut w x) (cut w s) (cut_fits w x hx) (cut_mono w x s hx a)
+negated_mono w x s hx a = opposite_mono w (cut w x) (cut w s) (cut_fits w x hx) (cut_mono w x s hx a)

@@ -274,10 +274,10 @@ within_either : (u : Bool) (p q r s : Option (Span × Span)) → WithinBoth p r 
 within_either true p q r s h k = h
 within_either false p q r s h k = k
 
-pub refined_mono : (i : Instr) (taken : Bool) (x y s t : Span) → IsWordSpan x → IsWordSpan y → IsWordSpan s → IsWordSpan t
-    → Within x s → Within y t → WithinBoth (refined i taken x y) (refined i taken s t)
+pub refined_mono : (i : Instr) (taken : Bool) (x y s t : Span) → IsWordSpan x → IsWordSpan y → Within x s → Within y t
+    → WithinBoth (refined i taken x y) (refined i taken s t)
 unfolding refined
-refined_mono (instr.Branch width.W64 c dst from offset) taken x y s t hx hy hs ht a b =
+refined_mono (instr.Branch width.W64 c dst from offset) taken x y s t hx hy a b =
     within_either (is_same dst from) (Some (x, y)) (narrowed c taken x y) (Some (s, t)) (narrowed c taken s t) (a, b) (narrowed_mono c taken x y s t hx hy a b)
-refined_mono (instr.Branch width.W32 c dst from offset) taken x y s t hx hy hs ht a b = (a, b)
-refined_mono _ taken x y s t hx hy hs ht a b = (a, b)
+refined_mono (instr.Branch width.W32 c dst from offset) taken x y s t hx hy a b = (a, b)
+refined_mono _ taken x y s t hx hy a b = (a, b)

@@ -89,9 +89,9 @@ pub extended_fits : (e : SignExtension) (x : Span) → IsSpan (2 ^ 64 - 1) x →
 unfolding extended_result
 extended_fits e x h = wider (extended_width e) _ (sign_extended_fits e (cut (extended_width e) x) (cut_fits (extended_width e) x h))
 
-pub extended_mono : (e : SignExtension) (x s : Span) → IsSpan (2 ^ 64 - 1) x → IsSpan (2 ^ 64 - 1) s → Within x s
+pub extended_mono : (e : SignExtension) (x s : Span) → IsSpan (2 ^ 64 - 1) x → Within x s
     → Within (extended_result e x) (extended_result e s)
 unfolding extended_result
-extended_mono e x s hx hs a =
+extended_mono e x s hx a =
     sign_extended_mono e (cut (extended_width e) x) (cut (extended_width e) s) (cut_fits (extended_width e) x hx)
     (cut_mono (extended_width e) x s hx a)

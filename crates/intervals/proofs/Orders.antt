@@ -91,10 +91,10 @@ ordered_fits o size x h =
     within_words true = h
     within_words false = record { ordered = omega arith; most = sizes_are_words size }
 
-pub ordered_mono : (o : Order) (size : OrderSize) (x s : Span) → IsSpan (2 ^ 64 - 1) x → IsSpan (2 ^ 64 - 1) s → Within x s
+pub ordered_mono : (o : Order) (size : OrderSize) (x s : Span) → IsSpan (2 ^ 64 - 1) x → Within x s
     → Within (ordered_result o size x) (ordered_result o size s)
 unfolding ordered_result
-ordered_mono o size x s hx hs a =
+ordered_mono o size x s hx a =
     mono_if (is_constant x) (is_constant s) (in_order o size x.low) (in_order o size s.low)
     (if is_little o && nat_lt x.high (most_of size + 1) then x else full (most_of size))
     (if is_little o && nat_lt s.high (most_of size + 1) then s else full (most_of size))

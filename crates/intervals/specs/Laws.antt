@@ -46,10 +46,9 @@ pub record ResultsFit : Type 0 where
 pub record ResultsAreMonotone : Type 0 where
   pub operators : (w : Width) (o : Operator) (x y s t : Span) → IsWordSpan x → IsWordSpan y → IsWordSpan s → IsWordSpan t
       → Within x s → Within y t → Within (arithmetic_result w o x y) (arithmetic_result w o s t)
-  pub opposites : (w : Width) (x s : Span) → IsWordSpan x → IsWordSpan s → Within x s → Within (negated_result w x) (negated_result w s)
-  pub signs : (e : SignExtension) (x s : Span) → IsWordSpan x → IsWordSpan s → Within x s
-      → Within (extended_result e x) (extended_result e s)
-  pub orders : (o : Order) (size : OrderSize) (x s : Span) → IsWordSpan x → IsWordSpan s → Within x s
+  pub opposites : (w : Width) (x s : Span) → IsWordSpan x → Within x s → Within (negated_result w x) (negated_result w s)
+  pub signs : (e : SignExtension) (x s : Span) → IsWordSpan x → Within x s → Within (extended_result e x) (extended_result e s)
+  pub orders : (o : Order) (size : OrderSize) (x s : Span) → IsWordSpan x → Within x s
       → Within (ordered_result o size x) (ordered_result o size s)
 
 -- the range of an immediate is the word that the machine takes for it
@@ -81,8 +80,8 @@ WithinBoth (Some p) None = ⊥
 WithinBoth (Some p) (Some q) = Within p.0 q.0 × Within p.1 q.1
 
 abbrev pub RefinementsAreMonotone : Type 0
-RefinementsAreMonotone = (i : Instr) (taken : Bool) (x y s t : Span) → IsWordSpan x → IsWordSpan y → IsWordSpan s → IsWordSpan t
-    → Within x s → Within y t → WithinBoth (refined i taken x y) (refined i taken s t)
+RefinementsAreMonotone = (i : Instr) (taken : Bool) (x y s t : Span) → IsWordSpan x → IsWordSpan y → Within x s → Within y t
+    → WithinBoth (refined i taken x y) (refined i taken s t)
 
 -- the hull of two ranges is the least that holds both, and it is the first where that holds the other
 pub record HullIsLeast : Type 0 where
