@@ -211,35 +211,40 @@ refined_shrinks _ taken x y hx hy = kept_shrinks x y hx hy
 equal_mono : (x y s t : Span) → Within x s → Within y t → WithinBoth (equal x y) (equal s t)
 unfolding equal
 equal_mono x y s t a b =
-    both_within (span (max x.low y.low) (min x.high y.high)) (span (max x.low y.low) (min x.high y.high)) (span (max s.low t.low) (min s.high t.high)) (span (max s.low t.low) (min s.high t.high))
+    both_within (span (max x.low y.low) (min x.high y.high)) (span (max x.low y.low) (min x.high y.high))
+    (span (max s.low t.low) (min s.high t.high)) (span (max s.low t.low) (min s.high t.high))
     (record { from = omega (arith, a.from, b.from); upto = omega (arith, a.upto, b.upto) })
     (record { from = omega (arith, a.from, b.from); upto = omega (arith, a.upto, b.upto) })
 
 above_mono : (x y s t : Span) → Within x s → Within y t → WithinBoth (above x y) (above s t)
 unfolding above
 above_mono x y s t a b =
-    both_within (span (max x.low (y.low + 1)) x.high) (span y.low (min y.high (x.high - 1))) (span (max s.low (t.low + 1)) s.high) (span t.low (min t.high (s.high - 1)))
+    both_within (span (max x.low (y.low + 1)) x.high) (span y.low (min y.high (x.high - 1)))
+    (span (max s.low (t.low + 1)) s.high) (span t.low (min t.high (s.high - 1)))
     (record { from = omega (arith, a.from, b.from); upto = omega (arith, a.upto, b.upto) })
     (record { from = omega (arith, a.from, b.from); upto = omega (arith, a.upto, b.upto) })
 
 at_most_mono : (x y s t : Span) → Within x s → Within y t → WithinBoth (at_most x y) (at_most s t)
 unfolding at_most
 at_most_mono x y s t a b =
-    both_within (span x.low (min x.high y.high)) (span (max x.low y.low) y.high) (span s.low (min s.high t.high)) (span (max s.low t.low) t.high)
+    both_within (span x.low (min x.high y.high)) (span (max x.low y.low) y.high)
+    (span s.low (min s.high t.high)) (span (max s.low t.low) t.high)
     (record { from = omega (arith, a.from, b.from); upto = omega (arith, a.upto, b.upto) })
     (record { from = omega (arith, a.from, b.from); upto = omega (arith, a.upto, b.upto) })
 
 at_least_mono : (x y s t : Span) → Within x s → Within y t → WithinBoth (at_least x y) (at_least s t)
 unfolding at_least
 at_least_mono x y s t a b =
-    both_within (span (max x.low y.low) x.high) (span y.low (min y.high x.high)) (span (max s.low t.low) s.high) (span t.low (min t.high s.high))
+    both_within (span (max x.low y.low) x.high) (span y.low (min y.high x.high))
+    (span (max s.low t.low) s.high) (span t.low (min t.high s.high))
     (record { from = omega (arith, a.from, b.from); upto = omega (arith, a.upto, b.upto) })
     (record { from = omega (arith, a.from, b.from); upto = omega (arith, a.upto, b.upto) })
 
 below_mono : (x y s t : Span) → Within x s → Within y t → WithinBoth (below x y) (below s t)
 unfolding below
 below_mono x y s t a b =
-    both_within (span x.low (min x.high (y.high - 1))) (span (max y.low (x.low + 1)) y.high) (span s.low (min s.high (t.high - 1))) (span (max t.low (s.low + 1)) t.high)
+    both_within (span x.low (min x.high (y.high - 1))) (span (max y.low (x.low + 1)) y.high)
+    (span s.low (min s.high (t.high - 1))) (span (max t.low (s.low + 1)) t.high)
     (record { from = omega (arith, a.from, b.from); upto = omega (arith, a.upto, b.upto) })
     (record { from = omega (arith, a.from, b.from); upto = omega (arith, a.upto, b.upto) })
 

@@ -5,7 +5,7 @@ use Rattle.std.proofs.lemmas.Int.{to_z_pos, ints}
 use Rattle.std.specs.Int.{cast_signed, cast_unsigned, w8, w16, w32, w64}
 use Rattle.bpf_isa.specs.declared.instr.SignExtension.{SignExtension}
 use Rattle.bpf_isa.specs.declared.instr.SignExtension.TheVariants as extension
-use Rattle.intervals.proofs.Signs.{unsigned_upto, size_upto}
+use Rattle.intervals.proofs.Signs.{sized_most}
 use Rattle.bpf_isa.specs.declared.instr.Width.TheVariants as width
 use Rattle.std.proofs.Math.Nat.{mod-eq_of_lt}
 use Rattle.machine.specs.Arithmetic.{low, extended}
@@ -19,11 +19,11 @@ use Rattle.intervals.proofs.Cuts.{cut_has, cut_fits, cut_mono, wider}
 
 extended_most : (e : SignExtension) (a : ℕ) → extended e a ≤ most (extended_width e)
 unfolding extended
-extended_most extension.From8To64 a = unsigned_upto width.W64 (cast_signed w8 (a % 2 ^ 8)) (size_upto (2 ^ 64 - 1) (cast_signed w8 (a % 2 ^ 8)) (grind (arith, ints, nat_tests)))
-extended_most extension.From16To64 a = unsigned_upto width.W64 (cast_signed w16 (a % 2 ^ 16)) (size_upto (2 ^ 64 - 1) (cast_signed w16 (a % 2 ^ 16)) (grind (arith, ints, nat_tests)))
-extended_most extension.From32To64 a = unsigned_upto width.W64 (cast_signed w32 (a % 2 ^ 32)) (size_upto (2 ^ 64 - 1) (cast_signed w32 (a % 2 ^ 32)) (grind (arith, ints, nat_tests)))
-extended_most extension.From8To32 a = unsigned_upto width.W32 (cast_signed w8 (a % 2 ^ 8)) (size_upto (2 ^ 32 - 1) (cast_signed w8 (a % 2 ^ 8)) (grind (arith, ints, nat_tests)))
-extended_most extension.From16To32 a = unsigned_upto width.W32 (cast_signed w16 (a % 2 ^ 16)) (size_upto (2 ^ 32 - 1) (cast_signed w16 (a % 2 ^ 16)) (grind (arith, ints, nat_tests)))
+extended_most extension.From8To64 a = sized_most width.W64 (cast_signed w8 (a % 2 ^ 8)) (grind (arith, ints, nat_tests))
+extended_most extension.From16To64 a = sized_most width.W64 (cast_signed w16 (a % 2 ^ 16)) (grind (arith, ints, nat_tests))
+extended_most extension.From32To64 a = sized_most width.W64 (cast_signed w32 (a % 2 ^ 32)) (grind (arith, ints, nat_tests))
+extended_most extension.From8To32 a = sized_most width.W32 (cast_signed w8 (a % 2 ^ 8)) (grind (arith, ints, nat_tests))
+extended_most extension.From16To32 a = sized_most width.W32 (cast_signed w16 (a % 2 ^ 16)) (grind (arith, ints, nat_tests))
 
 -- a number whose sign is not set stays
 extended_plain : (e : SignExtension) (a : ℕ) → a < sign_of e → extended e a ≡ a

@@ -24,7 +24,7 @@ negative_upto : (m n : ℕ) → Upto m (neg_ℤ (pos n))
 negative_upto m zero = omega arith
 negative_upto m (suc n) = tt
 
-pub unsigned_upto : (w : Width) (z : ℤ) → Upto (most w) z → unsigned w z ≤ most w
+unsigned_upto : (w : Width) (z : ℤ) → Upto (most w) z → unsigned w z ≤ most w
 unsigned_upto width.W32 (pos n) h = h
 unsigned_upto width.W32 (negsuc n) h = omega arith
 unsigned_upto width.W64 (pos n) h = h
@@ -35,9 +35,13 @@ abbrev pub size : ℤ → ℕ
 size (pos n) = n
 size (negsuc n) = suc n
 
-pub size_upto : (m : ℕ) (z : ℤ) → size z ≤ m → Upto m z
+size_upto : (m : ℕ) (z : ℤ) → size z ≤ m → Upto m z
 size_upto m (pos n) h = h
 size_upto m (negsuc n) h = tt
+
+-- a number of no greater size has bits of the width
+pub sized_most : (w : Width) (z : ℤ) → size z ≤ most w → unsigned w z ≤ most w
+sized_most w z h = unsigned_upto w z (size_upto (most w) z h)
 
 signed_size : (w : Width) (a : ℕ) → a ≤ most w → size (signed w a) ≤ most w
 signed_size width.W32 a h = grind (arith, ints, nat_tests, h)
