@@ -40,8 +40,8 @@ fn sector_at<'w, D: Device>(world: &World<'w, D>, address: u64) -> Option<&'w [u
 }
 
 /// Reads an access that begins at the sectors or behind them.
-fn read_sector<D: Device>(
-    machine: &Machine,
+fn read_sector<D: Device, const COUNTS: usize>(
+    machine: &Machine<COUNTS>,
     world: &World<D>,
     address: u64,
     size: Size,
@@ -68,8 +68,8 @@ fn plain_fault(within: bool) -> MachineFault
 }
 
 /// The fault of bytes that are written from the sectors or behind them on.
-fn sector_fault<D: Device>(
-    machine: &Machine,
+fn sector_fault<D: Device, const COUNTS: usize>(
+    machine: &Machine<COUNTS>,
     world: &World<D>,
     address: u64,
     count: u64,
@@ -86,9 +86,9 @@ fn sector_fault<D: Device>(
     }
 }
 
-impl Machine {
+impl<const COUNTS: usize> Machine<COUNTS> {
     /// Reads an access.
-    #[inline]
+    #[inline(always)]
     pub(crate) fn read<D: Device>(
         &self,
         world: &World<D>,
@@ -113,7 +113,7 @@ impl Machine {
     }
 
     /// The fault of bytes that are written, if there is one.
-    #[inline]
+    #[inline(always)]
     pub(crate) fn write_fault<D: Device>(
         &self,
         world: &World<D>,

@@ -4,10 +4,10 @@ use Rattle.interp.proofs.Cells.{stored_is}
 use Rattle.interp.proofs.state.Machine.store.Goals as goal
 
 pub invariant_of-self : goal.invariant_of-self
-invariant_of-self c = c.write.ensures.long
+invariant_of-self g c = c.write.ensures.long
 
 pub returns : goal.returns
-returns c =
+returns g c =
     rw (
       ← c.self.view_is,
       c.write.ensures.written,
