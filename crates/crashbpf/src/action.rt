@@ -1,7 +1,7 @@
 //! Performing a command.
 
-ghost use Rattle.std.specs.Prelude.{◌≡◌, ◌⊎◌, IfOk, map, if◌then◌else◌};
-ghost use Rattle.crashbpf.specs.Explore.{HasReport};
+ghost use Rattle.std.specs.Prelude.{◌≡◌, ◌⊎◌, IfOk, IfErr, map, if◌then◌else◌};
+ghost use Rattle.crashbpf.specs.Explore.{HasReport, Refuses};
 
 use crate::assembly::{assembled, listed, unreadable};
 use crate::explorer::{Explored, explore_with};
@@ -85,6 +85,7 @@ fn explore_files(
 ) -> Result<(Vec<u8>, u8), Refusal>
     ensures status { IfOk result (λ answer. (answer.1 ≡ 0) ⊎ (answer.1 ≡ 1)) }
     ensures report { IfOk result (λ answer. HasReport log.now (map (λ f. f.items) programs.now) options.now answer.0.items) }
+    ensures refused { IfErr result (Refuses log.now (map (λ f. f.items) programs.now) options.now) }
 {
     let explored = explore_with(alloc, &OpenGate, log, programs, options)?;
     let status = status_of(&explored);
