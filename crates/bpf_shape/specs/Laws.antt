@@ -1,0 +1,30 @@
+-- What holds of shapes: a program has at most one, or one first broken rule, and never both.
+use Rattle.std.specs.Prelude.{ℕ, ◌≡◌, ◌⊎◌, ◌↔◌, ◌<◌, true, false, List, length, get_or, Option, Some}
+use Rattle.bpf_isa.specs.declared.instr.Instr.{Instr}
+use Rattle.bpf_shape.specs.declared.causes.VerifierCause.{VerifierCause}
+use Rattle.bpf_shape.specs.Edges.{control}
+use Rattle.bpf_shape.specs.Again.{again_edge, plain, is_head, heads}
+use Rattle.bpf_shape.specs.Paths.{Leads}
+use Rattle.bpf_shape.specs.Rules.{FirstBroken, IsShaped}
+use Rattle.bpf_shape.specs.Shape.{ShapeValue, IsShapeOf}
+
+abbrev pub OneShape : Type 0
+OneShape = (program : List (Option Instr)) (a b : ShapeValue) → IsShapeOf program a → IsShapeOf program b → (a.steps ≡ b.steps) × (a.marks ≡ b.marks)
+
+abbrev pub OneFault : Type 0
+OneFault = (program : List (Option Instr)) (c d : VerifierCause) (s t : ℕ) → FirstBroken program c s → FirstBroken program d t → (c ≡ d) × (s ≡ t)
+
+abbrev pub NoFaultInShaped : Type 0
+NoFaultInShaped = (program : List (Option Instr)) → IsShaped program → (c : VerifierCause) (s : ℕ) → FirstBroken program c s → ⊥
+
+-- a control edge is the again edge or a plain one, and each of these is a control edge
+abbrev pub EdgesAreSplit : Type 0
+EdgesAreSplit = (program : List (Option Instr)) (s t : ℕ) → Leads (control program s) t ↔ ((again_edge program s ≡ Some t) ⊎ Leads (plain program s) t)
+
+-- a head is a slot to which an again edge leads
+abbrev pub HeadsAreTargets : Type 0
+HeadsAreTargets = (program : List (Option Instr)) (t : ℕ) → (is_head program t ≡ true) ↔ ((s : ℕ) × (again_edge program s ≡ Some t))
+
+-- the marks of a shape, slot by slot
+abbrev pub HeadsBySlot : Type 0
+HeadsBySlot = (program : List (Option Instr)) (t : ℕ) → t < length program → get_or (heads program) t false ≡ is_head program t

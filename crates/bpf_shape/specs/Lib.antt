@@ -1,0 +1,11 @@
+-- The shape of a program: its edges, the rules about them, its longest path and its budget.
+pub mod Causes
+pub mod Edges
+pub mod Again
+pub mod Paths
+pub mod Budget
+pub mod Rules
+pub mod Shape
+pub mod Search
+pub mod Lengths
+pub mod Laws

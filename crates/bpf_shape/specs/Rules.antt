@@ -1,0 +1,97 @@
+-- The shape rules (docs/VERIFIER.md, Shape rules).
+use Rattle.std.specs.Prelude.{ℕ, ◌+◌, ◌≡◌, ◌<◌, ◌⊎◌, ◌==◌, nat_le, not, ◌&&◌, Bool, true, false, if◌then◌else◌, List, [], ◌∷◌, Option, None, Some, is_some}
+use Rattle.std.specs.Option.{option_map_or, option_and_then}
+use Rattle.bpf_isa.specs.declared.instr.Instr.{Instr}
+use Rattle.bpf_isa.specs.declared.instr.Instr.TheVariants as instr
+use Rattle.bpf_isa.specs.declared.instr.Condition.{Condition}
+use Rattle.bpf_isa.specs.declared.instr.Condition.TheVariants as cond
+use Rattle.bpf_shape.specs.declared.causes.VerifierCause.{VerifierCause}
+use Rattle.bpf_shape.specs.declared.causes.VerifierCause.TheVariants as cause
+use Rattle.bpf_shape.specs.Edges.{at, begins, control}
+use Rattle.bpf_shape.specs.Again.{helper_number, calls_again, limit_before, answer_test, is_target, plain}
+use Rattle.bpf_shape.specs.Paths.{OnCycle}
+use Rattle.bpf_shape.specs.Budget.{IsBudget, most_steps}
+
+-- the register that arithmetic, a load or a 64-bit immediate writes
+abbrev pub written : Instr → Option ℕ
+written (instr.Arithmetic w o dst from) = Some dst
+written (instr.Negate w dst) = Some dst
+written (instr.SignExtend e dst src) = Some dst
+written (instr.ByteOrder o size dst) = Some dst
+written (instr.Load size dst base offset) = Some dst
+written (instr.LoadSigned size dst base offset) = Some dst
+written (instr.LoadImmediate dst value) = Some dst
+written _ = None
+
+-- the answer of `again` is compared for equal or not equal
+abbrev pub is_equality : Option Condition → Bool
+is_equality (Some cond.Eq) = true
+is_equality (Some cond.Ne) = true
+is_equality _ = false
+
+-- the instructions around a call of `again` at a slot, to which no jump leads, have the form
+unfoldable pub has_form : List (Option Instr) → ℕ → Bool
+has_form program slot =
+    is_some (limit_before program slot)
+    && (is_equality (answer_test program (slot + 1))
+    && (not (is_target program slot) && not (is_target program (slot + 1))))
+
+-- the rules that look at one slot: whether it keeps them
+unfoldable pub keeps : List (Option Instr) → VerifierCause → ℕ → Bool
+keeps program cause.Target slot = option_map_or (begins program) (control program slot).target true
+keeps program cause.End slot = option_map_or (begins program) (control program slot).next true
+keeps program cause.FramePointer slot = option_map_or (λ r. not (r == 10)) (option_and_then written (at program slot)) true
+keeps program cause.UnknownHelper slot = option_map_or (λ n. nat_le 1 n && nat_le n 7) (option_and_then helper_number (at program slot)) true
+keeps program cause.AgainForm slot = if calls_again program slot then has_form program slot else true
+keeps program _ slot = true
+
+-- the budget is above what is accepted
+pub record IsOver (program : List (Option Instr)) : Type 0 where
+  pub budget : ℕ
+  pub is : IsBudget program budget
+  pub over : most_steps < budget
+
+-- the slot breaks the rule of that cause; the budget is that of slot 0
+unfoldable pub Breaks : List (Option Instr) → VerifierCause → ℕ → Type 0
+Breaks program cause.Loop slot = OnCycle (plain program) slot
+Breaks program cause.Budget slot = (slot ≡ 0) × IsOver program
+Breaks program c slot = keeps program c slot ≡ false
+
+-- no slot breaks it
+abbrev pub Holds : List (Option Instr) → VerifierCause → Type 0
+Holds program c = (slot : ℕ) → Breaks program c slot → ⊥
+
+-- the lowest slot that breaks it
+pub record IsLowest (program : List (Option Instr)) (c : VerifierCause) (slot : ℕ) : Type 0 where
+  pub breaks : Breaks program c slot
+  pub lowest : (t : ℕ) → t < slot → Breaks program c t → ⊥
+
+-- the rules in the order in which they are tested
+abbrev pub order : List VerifierCause
+order = cause.Target ∷ cause.End ∷ cause.FramePointer ∷ cause.UnknownHelper ∷ cause.AgainForm ∷ cause.Loop ∷ cause.Budget ∷ []
+
+-- of these rules the first that is broken, at its lowest slot
+abbrev pub FirstOf : List (Option Instr) → List VerifierCause → VerifierCause → ℕ → Type 0
+FirstOf program [] c slot = ⊥
+FirstOf program (rule ∷ rest) c slot = ((c ≡ rule) × IsLowest program rule slot) ⊎ (Holds program rule × FirstOf program rest c slot)
+
+-- the rules that look at one slot hold; they come first
+pub record KeepsAll (program : List (Option Instr)) : Type 0 where
+  pub targets : Holds program cause.Target
+  pub ends : Holds program cause.End
+  pub frame_pointer : Holds program cause.FramePointer
+  pub helpers : Holds program cause.UnknownHelper
+  pub again : Holds program cause.AgainForm
+
+unfoldable pub FirstBroken : List (Option Instr) → VerifierCause → ℕ → Type 0
+FirstBroken program c slot = FirstOf program order c slot
+
+-- each rule holds
+pub record IsShaped (program : List (Option Instr)) : Type 0 where
+  pub targets : Holds program cause.Target
+  pub ends : Holds program cause.End
+  pub frame_pointer : Holds program cause.FramePointer
+  pub helpers : Holds program cause.UnknownHelper
+  pub again : Holds program cause.AgainForm
+  pub loops : Holds program cause.Loop
+  pub budget : Holds program cause.Budget

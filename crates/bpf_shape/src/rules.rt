@@ -1,0 +1,132 @@
+//! The rules that look at one slot and those beside it.
+
+ghost use Rattle.std.specs.Prelude.{◌≡◌, ◌<◌, ◌==◌, nat_le, not, ◌&&◌, true, false, OnOk, IfErr, ℕ, length};
+ghost use Rattle.std.specs.Option.{option_map_or, option_and_then};
+ghost use Rattle.bpf_shape.specs.Edges.{at, begins};
+ghost use Rattle.bpf_shape.specs.Again.{helper_number};
+ghost use Rattle.bpf_shape.specs.Rules.{written, is_equality, has_form, keeps, FirstBroken, KeepsAll};
+
+use crate::again::{answer_test, calls_again, helper_number, is_target, limit_before};
+use crate::causes::{Fault, VerifierCause};
+use crate::edges::control;
+use bpf_isa::instr::{Condition, Instr};
+use bpf_isa::program::Program;
+use bpf_isa::register::Register;
+
+/// The register that arithmetic, a load or a 64-bit immediate writes.
+fn written(instr: &Instr) -> Option<Register>
+    ensures { result ≡ written instr.now }
+{
+    match instr {
+        Instr::Arithmetic { dst, .. } => Some(*dst),
+        Instr::Negate { dst, .. } => Some(*dst),
+        Instr::SignExtend { dst, .. } => Some(*dst),
+        Instr::ByteOrder { dst, .. } => Some(*dst),
+        Instr::Load { dst, .. } => Some(*dst),
+        Instr::LoadSigned { dst, .. } => Some(*dst),
+        Instr::LoadImmediate { dst, .. } => Some(*dst),
+        _ => None,
+    }
+}
+
+/// Whether an edge leads to a slot in which an instruction begins, where there is an edge.
+fn begins(program: &Program, slot: Option<usize>) -> bool
+    ensures { result ≡ option_map_or (begins program.now) slot true }
+{
+    match slot {
+        Some(slot) => program.at(slot).is_some(),
+        None => true,
+    }
+}
+
+/// Whether the instruction at a slot leaves r10 as it is.
+fn keeps_frame_pointer(program: &Program, slot: usize) -> bool
+    ensures { result ≡ option_map_or (λ r. not (r == 10)) (option_and_then written (at program.now slot)) true }
+{
+    match program.at(slot) {
+        Some(instr) => match written(&instr) {
+            Some(register) => register.number() != 10,
+            None => true,
+        },
+        None => true,
+    }
+}
+
+/// Whether the instruction at a slot, if it calls a helper, calls one of the helpers 1 to 7.
+fn calls_known_helper(program: &Program, slot: usize) -> bool
+    ensures { result ≡ option_map_or (λ n. nat_le 1 n && nat_le n 7) (option_and_then helper_number (at program.now slot)) true }
+{
+    match program.at(slot) {
+        Some(instr) => match helper_number(&instr) {
+            Some(number) => 1 <= number && number <= 7,
+            None => true,
+        },
+        None => true,
+    }
+}
+
+/// Whether the answer of `again` is compared for equal or not equal.
+fn is_equality(test: Option<Condition>) -> bool
+    ensures { result ≡ is_equality test }
+{
+    matches!(test, Some(Condition::Eq | Condition::Ne))
+}
+
+/// Whether the instructions around a call of `again` have the form.
+#[tactic(auto, unfolding(crate::specs::Rules::has_form))]
+fn has_form(program: &Program, slot: usize) -> bool
+    requires { slot < 4096 }
+    ensures { result ≡ has_form program.now slot }
+{
+    limit_before(program, slot).is_some()
+        && is_equality(answer_test(program, slot + 1))
+        && !is_target(program, slot)
+        && !is_target(program, slot + 1)
+}
+
+/// Whether a slot keeps that rule, one of those that look at one slot.
+#[tactic(auto, unfolding(crate::specs::Rules::keeps))]
+fn keeps(program: &Program, rule: VerifierCause, slot: usize) -> bool
+    requires { slot < 4096 }
+    ensures { result ≡ keeps program.now rule slot }
+{
+    match rule {
+        VerifierCause::Target => begins(program, control(program, slot).target),
+        VerifierCause::End => begins(program, control(program, slot).next),
+        VerifierCause::FramePointer => keeps_frame_pointer(program, slot),
+        VerifierCause::UnknownHelper => calls_known_helper(program, slot),
+        VerifierCause::AgainForm => !calls_again(program, slot) || has_form(program, slot),
+        _ => true,
+    }
+}
+
+/// Tests that each slot keeps a rule, and names the lowest that doesn't.
+fn keep(program: &Program, rule: VerifierCause) -> Result<(), Fault>
+    ensures kept { OnOk result ((slot : ℕ) → slot < length program.now → keeps program.now rule slot ≡ true) }
+    ensures cause { IfErr result (λ f. f.cause ≡ rule) }
+    ensures breaks { IfErr result (λ f. keeps program.now rule f.slot ≡ false) }
+    ensures lowest { IfErr result (λ f. (slot : ℕ) → slot < f.slot → keeps program.now rule slot ≡ true) }
+{
+    for slot in 0..program.slots() {
+        if !keeps(program, rule, slot) {
+            return Err(Fault {
+                cause: rule,
+                slot: slot as u64,
+            });
+        }
+    }
+    Ok(())
+}
+
+/// Tests the rules that look at one slot, in their order.
+pub(crate) fn keep_all(program: &Program) -> Result<(), Fault>
+    ensures kept { OnOk result (KeepsAll program.now) }
+    ensures refused { IfErr result (λ f. FirstBroken program.now f.cause f.slot) }
+{
+    keep(program, VerifierCause::Target)?;
+    keep(program, VerifierCause::End)?;
+    keep(program, VerifierCause::FramePointer)?;
+    keep(program, VerifierCause::UnknownHelper)?;
+    keep(program, VerifierCause::AgainForm)?;
+    Ok(())
+}
