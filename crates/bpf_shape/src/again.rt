@@ -2,7 +2,7 @@
 
 ghost use Rattle.std.specs.Prelude.{◌≡◌, ◌<◌, ◌≤◌, ◌*◌, length, Some, IfSome, IfOk};
 ghost use Rattle.bpf_shape.specs.Search.{with_mark};
-ghost use Rattle.bpf_shape.specs.Again.{helper_number, calls_again, limit_of, zero_test, limit_before, answer_test, again_edge, plain, is_target, is_head, heads, turns_at, turns};
+ghost use Rattle.bpf_shape.specs.Again.{helper_number, calls_again, limit_of, zero_test, limit_before, answer_test, again_edge, plain, is_slot, is_target, is_head, heads, turns_at, turns};
 
 use crate::edges::{Edges, control};
 use bpf_isa::instr::{Condition, Instr, Operator, Source, Width};
@@ -143,13 +143,23 @@ pub(crate) fn plain(program: &Program, slot: usize) -> Edges
     }
 }
 
+/// Whether an edge leads to that slot.
+fn is_slot(slot: usize, to: Option<usize>) -> bool
+    ensures { result ≡ is_slot slot to }
+{
+    match to {
+        Some(t) => t == slot,
+        None => false,
+    }
+}
+
 /// Whether a jump leads to a slot.
 #[tactic(auto, unfolding(crate::specs::Again::is_target))]
 pub(crate) fn is_target(program: &Program, slot: usize) -> bool
     ensures { result ≡ is_target program.now slot }
 {
     for from in 0..program.slots() {
-        if control(program, from).target == Some(slot) {
+        if is_slot(slot, control(program, from).target) {
             return true;
         }
     }

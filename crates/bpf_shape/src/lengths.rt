@@ -39,6 +39,7 @@ fn length_from(lengths: &Vec<Option<usize>>, edges: Edges) -> Option<usize>
 /// Gives a slot its length, where it has none and those behind its edges are known.
 fn settle(program: &Program, lengths: &mut Vec<Option<usize>>, slot: usize) -> bool
     requires slot { slot < length program.now }
+    requires count { length program.now ≤ 4096 }
     requires partial { ArePartial (plain program.now) (length program.now) lengths.old.items }
     ensures partial { ArePartial (plain program.now) (length program.now) lengths.new.items }
     ensures more { IsTrue result → known lengths.old.items < known lengths.new.items }

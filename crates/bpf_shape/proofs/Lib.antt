@@ -1,0 +1,6 @@
+mod Ranges
+mod Walks
+mod Meeting
+mod Searching
+mod Partial
+mod Longest

@@ -1,0 +1,123 @@
+-- Lengths that come of those behind are the longest paths, and a slot without one leads to a cycle.
+use Rattle.std.proofs.Common.{ℕ, zero, suc, ◌≡◌, ◌+◌, ◌-◌, ◌<◌, ◌≤◌, ◌⊎◌, max, Bool, true, false, List, [], ◌∷◌, ◌++◌, length, Option, Some, None, is_some, refl, sym, ◌∙◌, ap, inl, inr, arith, add-one}
+use Rattle.std.specs.List.{list_any}
+use Rattle.std.proofs.lemmas.Bool.{cases_Bool, cases_lt, cases_eq}
+use Rattle.std.proofs.lemmas.Bool.Decides.{eqb_tells}
+use Rattle.std.proofs.lemmas.Map.Steps.{length-le_from_distinct_below}
+use Rattle.bpf_shape.specs.declared.edges.Edges.{Edges}
+use Rattle.bpf_shape.specs.Paths.{Leads, IsWalk, end_of, Reaches, LeadsTo, OnCycle}
+use Rattle.bpf_shape.specs.Search.{EdgesFit, Has}
+use Rattle.bpf_shape.specs.Lengths.{length_of, behind_edge, length_from, known, ArePartial, IsStuck, AreSettled}
+use Rattle.bpf_shape.proofs.Partial.{Comes, comes}
+
+-- Behind an edge stands a smaller length.
+smaller : (v : List (Option ℕ)) (e : Edges) (k t : ℕ) → Comes v e k → Leads e t → (j : ℕ) × ((length_of v t ≡ Some j) × (j + 1 ≤ k))
+smaller v e k t c (inl h) = (c.next, (let there : behind_edge v (Some t) ≡ Some c.next = rw h at c.next_is in there, omega (arith, c.sum)))
+smaller v e k t c (inr h) = (c.target, (let there : behind_edge v (Some t) ≡ Some c.target = rw h at c.target_is in there, omega (arith, c.sum)))
+
+-- Along a walk the lengths fall.
+pub down : (next : ℕ → Edges) (n : ℕ) (v : List (Option ℕ)) (s k : ℕ) (p : List ℕ) → ArePartial next n v → length_of v s ≡ Some k → IsWalk next s p
+    → (j : ℕ) × ((length_of v (end_of s p) ≡ Some j) × (j + length p ≤ k))
+down next n v s k [] part is walk = (k, (is, omega arith))
+down next n v s k (t ∷ p) part is walk =
+    let one = smaller v (next s) k t (comes v (next s) k (part.right s k is)) walk.0 in
+    let rest = down next n v t one.0 p part one.1.0 walk.1 in
+    (rest.0, (rest.1.0, omega (arith, one.1.1, rest.1.1)))
+
+-- So no path is longer,
+pub no_longer : (next : ℕ → Edges) (n : ℕ) (v : List (Option ℕ)) (s k : ℕ) (p : List ℕ) → ArePartial next n v → length_of v s ≡ Some k → IsWalk next s p
+    → suc (length p) ≤ k
+no_longer next n v s k p part is walk =
+    let last = down next n v s k p part is walk in
+    let c = comes v (next (end_of s p)) last.0 (part.right (end_of s p) last.0 last.1.0) in
+    omega (arith, c.sum, last.1.1)
+
+-- and the slot is on no cycle.
+pub no_cycle : (next : ℕ → Edges) (n : ℕ) (v : List (Option ℕ)) (s k : ℕ) → ArePartial next n v → length_of v s ≡ Some k → OnCycle next s → ⊥
+no_cycle next n v s k part is cycle =
+    let last = down next n v s k (cycle.first ∷ cycle.on.slots) part is (cycle.leads, cycle.on.walk) in
+    let back : length_of v s ≡ Some last.0 = rw (← cycle.on.ends) last.1.0 in
+    let same : Some k ≡ Some last.0 = sym is ∙ back in
+    let same_too : k ≡ last.0 = cc in
+    let long : length (cycle.first ∷ cycle.on.slots) ≡ suc (length cycle.on.slots) = refl in
+    omega (arith, same_too, last.1.1, long)
+
+-- An edge leads to a slot whose length is smaller by one, or there is none.
+chosen_by : (v : List (Option ℕ)) (e : Edges) (k : ℕ) (next target : Option ℕ) → e.next ≡ next → e.target ≡ target → (c : Comes v e k)
+    → (k ≡ 1) ⊎ ((t : ℕ) × (Leads e t × (length_of v t ≡ Some (k - 1))))
+chosen_by v e k None None x y c =
+    let a : Some 0 ≡ Some c.next = rw x at c.next_is in
+    let b : Some 0 ≡ Some c.target = rw y at c.target_is in
+    let a_is : 0 ≡ c.next = cc in
+    let b_is : 0 ≡ c.target = cc in
+    inl (omega (arith, a_is, b_is, c.sum))
+chosen_by v e k (Some t) None x y c =
+    let b : Some 0 ≡ Some c.target = rw y at c.target_is in
+    let b_is : 0 ≡ c.target = cc in
+    let there : length_of v t ≡ Some c.next = rw x at c.next_is in
+    let less : c.next ≡ k - 1 = omega (arith, b_is, c.sum) in
+    inr (t, (inl x, rw (← less) there))
+chosen_by v e k None (Some u) x y c =
+    let a : Some 0 ≡ Some c.next = rw x at c.next_is in
+    let a_is : 0 ≡ c.next = cc in
+    let there : length_of v u ≡ Some c.target = rw y at c.target_is in
+    let less : c.target ≡ k - 1 = omega (arith, a_is, c.sum) in
+    inr (u, (inr y, rw (← less) there))
+chosen_by v e k (Some t) (Some u) x y c =
+    let there : length_of v t ≡ Some c.next = rw x at c.next_is in
+    let over_there : length_of v u ≡ Some c.target = rw y at c.target_is in
+    elim (cases_lt c.next c.target) [
+      | inl less ↦ let e : c.target ≡ k - 1 = omega (arith, less, c.sum) in inr (u, (inr y, rw (← e) over_there))
+      | inr more ↦ let e : c.next ≡ k - 1 = omega (arith, more, c.sum) in inr (t, (inl x, rw (← e) there))
+    ]
+
+-- A path of that length.
+pub record Attained (next : ℕ → Edges) (s k : ℕ) : Type 0 where
+  pub rest : List ℕ
+  pub walk : IsWalk next s rest
+  pub long : suc (length rest) ≡ k
+
+pub attained : (next : ℕ → Edges) (n : ℕ) (v : List (Option ℕ)) (fuel s k : ℕ) → k ≤ fuel → ArePartial next n v → length_of v s ≡ Some k → Attained next s k
+attained next n v zero s k few part is =
+    let c = comes v (next s) k (part.right s k is) in
+    absurd (omega (arith, few, c.sum))
+attained next n v (suc fuel) s k few part is =
+    let c = comes v (next s) k (part.right s k is) in
+    elim (chosen_by v (next s) k (next s).next (next s).target refl refl c) [
+      | inl one ↦ record { rest = []; walk = tt; long = sym one }
+      | inr found ↦
+          let rest = attained next n v fuel found.0 (k - 1) (omega (arith, few)) part found.1.1 in
+          record { rest = found.0 ∷ rest.rest; walk = (found.1.0, rest.walk); long = let l = rest.long in omega (arith, l, c.sum) }
+    ]
+
+-- A slot without a length has an edge to another.
+not_known : (v : List (Option ℕ)) (o : Option ℕ) → behind_edge v o ≡ None → (t : ℕ) × ((o ≡ Some t) × (length_of v t ≡ None))
+not_known v None h = absurd (let bad : Some 0 ≡ None = h in cc)
+not_known v (Some t) h = (t, (refl, h))
+
+step_by : (v : List (Option ℕ)) (e : Edges) (a b : Option ℕ) → behind_edge v e.next ≡ a → behind_edge v e.target ≡ b → length_from v e ≡ None
+    → (t : ℕ) × (Leads e t × (length_of v t ≡ None))
+unfolding length_from
+step_by v e None b x y h = let found = not_known v e.next x in (found.0, (inl found.1.0, found.1.1))
+step_by v e (Some a) None x y h = let found = not_known v e.target y in (found.0, (inr found.1.0, found.1.1))
+step_by v e (Some a) (Some b) x y h = absurd (let bad : Some (1 + max a b) ≡ None = rw (x, y) at h in cc)
+
+-- So from such a slot there are walks of any length.
+pub record Wanders (next : ℕ → Edges) (n s k : ℕ) : Type 0 where
+  pub slots : List ℕ
+  pub walk : IsWalk next s slots
+  pub long : length slots ≡ k
+  pub fits : (q : ℕ) → Has (s ∷ slots) q → q < n
+
+pub wander : (next : ℕ → Edges) (n : ℕ) (v : List (Option ℕ)) (k s : ℕ) → EdgesFit next n → AreSettled next n v → s < n → length_of v s ≡ None → Wanders next n s k
+wander next n v zero s fit settled inside none =
+    record { slots = []; walk = tt; long = refl; fits = λ q h. elim h [ inl e ↦ rw e inside | inr bad ↦ absurd bad ] }
+wander next n v (suc k) s fit settled inside none =
+    let found = step_by v (next s) (behind_edge v (next s).next) (behind_edge v (next s).target) refl refl (settled.stuck s inside none) in
+    let rest = wander next n v k found.0 fit settled (fit s found.0 found.1.0) found.1.1 in
+    record {
+      slots = found.0 ∷ rest.slots;
+      walk = (found.1.0, rest.walk);
+      long = ap suc rest.long;
+      fits = λ q h. elim h [ inl e ↦ rw e inside | inr more ↦ rest.fits q more ];
+    }
