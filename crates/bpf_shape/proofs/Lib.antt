@@ -4,3 +4,4 @@ mod Meeting
 mod Searching
 mod Partial
 mod Longest
+mod Kept

@@ -1,6 +1,7 @@
 -- Lengths that come of those behind are the longest paths, and a slot without one leads to a cycle.
-use Rattle.std.proofs.Common.{ℕ, zero, suc, ◌≡◌, ◌+◌, ◌-◌, ◌<◌, ◌≤◌, ◌⊎◌, max, Bool, true, false, List, [], ◌∷◌, ◌++◌, length, Option, Some, None, is_some, refl, sym, ◌∙◌, ap, inl, inr, arith, add-one}
-use Rattle.std.specs.List.{list_any}
+use Rattle.std.proofs.Common.{ℕ, zero, suc, ◌≡◌, ◌+◌, ◌-◌, ◌<◌, ◌≤◌, ◌⊎◌, max, Bool, true, false, List, [], ◌∷◌, ◌++◌, length, Option, Some, None, is_some, eqb, refl, sym, ◌∙◌, ap, inl, inr, arith, add-one}
+use Rattle.std.specs.List.{list_any, IsDistinct, AllByRecursion}
+use Rattle.std.proofs.lemmas.Map.Keys.{IsDistinct-cons}
 use Rattle.std.proofs.lemmas.Bool.{cases_Bool, cases_lt, cases_eq}
 use Rattle.std.proofs.lemmas.Bool.Decides.{eqb_tells}
 use Rattle.std.proofs.lemmas.Map.Steps.{length-le_from_distinct_below}
@@ -8,7 +9,12 @@ use Rattle.bpf_shape.specs.declared.edges.Edges.{Edges}
 use Rattle.bpf_shape.specs.Paths.{Leads, IsWalk, end_of, Reaches, LeadsTo, OnCycle}
 use Rattle.bpf_shape.specs.Search.{EdgesFit, Has}
 use Rattle.bpf_shape.specs.Lengths.{length_of, behind_edge, length_from, known, ArePartial, IsStuck, AreSettled}
+use Rattle.bpf_shape.proofs.Walks.{leads_first}
 use Rattle.bpf_shape.proofs.Partial.{Comes, comes}
+
+nothing : IsDistinct eqb []
+unfolding IsDistinct
+nothing = tt
 
 -- Behind an edge stands a smaller length.
 smaller : (v : List (Option ℕ)) (e : Edges) (k t : ℕ) → Comes v e k → Leads e t → (j : ℕ) × ((length_of v t ≡ Some j) × (j + 1 ≤ k))
@@ -36,7 +42,7 @@ no_longer next n v s k p part is walk =
 pub no_cycle : (next : ℕ → Edges) (n : ℕ) (v : List (Option ℕ)) (s k : ℕ) → ArePartial next n v → length_of v s ≡ Some k → OnCycle next s → ⊥
 no_cycle next n v s k part is cycle =
     let last = down next n v s k (cycle.first ∷ cycle.on.slots) part is (cycle.leads, cycle.on.walk) in
-    let back : length_of v s ≡ Some last.0 = rw (← cycle.on.ends) last.1.0 in
+    let back : length_of v s ≡ Some last.0 = sym (ap (length_of v) cycle.on.ends) ∙ last.1.0 in
     let same : Some k ≡ Some last.0 = sym is ∙ back in
     let same_too : k ≡ last.0 = cc in
     let long : length (cycle.first ∷ cycle.on.slots) ≡ suc (length cycle.on.slots) = refl in
@@ -121,3 +127,68 @@ wander next n v (suc k) s fit settled inside none =
       long = ap suc rest.long;
       fits = λ q h. elim h [ inl e ↦ rw e inside | inr more ↦ rest.fits q more ];
     }
+
+-- A walk to a slot that it has.
+cut : (next : ℕ → Edges) (s x : ℕ) (p : List ℕ) → IsWalk next s p → Has p x → LeadsTo next (next s) x
+cut next s x [] walk h = absurd h
+cut next s x (t ∷ p) walk (inl e) = leads_first next (next s) x (rw e walk.0)
+cut next s x (t ∷ p) walk (inr h) =
+    let rest = cut next t x p walk.1 h in
+    record {
+      first = t;
+      leads = walk.0;
+      on = record { slots = rest.first ∷ rest.on.slots; walk = (rest.leads, rest.on.walk); ends = rest.on.ends };
+    }
+
+has_or_not : (x : ℕ) (xs : List ℕ) → Has xs x ⊎ AllByRecursion (λ y. eqb x y ≡ false) xs
+has_or_not x [] = inr tt
+has_or_not x (y ∷ ys) =
+    elim (eqb_tells x y) [
+      | inl same ↦ inl (inl same.1)
+      | inr other ↦ elim (has_or_not x ys) [ inl h ↦ inl (inr h) | inr none ↦ inr (other.0, none) ]
+    ]
+
+has_of_any : (q : ℕ) (xs : List ℕ) → list_any (eqb q) xs ≡ true → Has xs q
+has_of_any q [] h = absurd (let bad : false ≡ true = h in cc)
+has_of_any q (x ∷ xs) h =
+    elim (eqb_tells q x) [
+      | inl same ↦ inl same.1
+      | inr other ↦ inr (has_of_any q xs (let rest : list_any (eqb q) xs ≡ true = rw other.0 at h in rest))
+    ]
+
+-- A walk has no slot twice, or one of its slots is on a cycle.
+repeats : (next : ℕ → Edges) (s : ℕ) (p : List ℕ) → IsWalk next s p → IsDistinct eqb (s ∷ p) ⊎ ((c : ℕ) × OnCycle next c)
+repeats next s [] walk = inl (IsDistinct-cons eqb s [] tt nothing)
+repeats next s (t ∷ p) walk =
+    elim (repeats next t p walk.1) [
+      | inl distinct ↦ elim (has_or_not s (t ∷ p)) [
+          | inl h ↦ inr (s, cut next s s (t ∷ p) walk h)
+          | inr none ↦ inl (IsDistinct-cons eqb s (t ∷ p) none distinct)
+        ]
+      | inr cycle ↦ inr cycle
+    ]
+
+-- So a slot without a length tells of a cycle.
+pub stuck_cycle : (next : ℕ → Edges) (n : ℕ) (v : List (Option ℕ)) (s : ℕ) → EdgesFit next n → AreSettled next n v → s < n → length_of v s ≡ None
+    → (c : ℕ) × OnCycle next c
+stuck_cycle next n v s fit settled inside none =
+    let way = wander next n v n s fit settled inside none in
+    elim (repeats next s way.slots way.walk) [
+      | inl distinct ↦
+          let few = length-le_from_distinct_below (s ∷ way.slots) n distinct (λ q h. way.fits q (has_of_any q (s ∷ way.slots) h)) in
+          let many : length (s ∷ way.slots) ≡ suc n = ap suc way.long in
+          absurd (omega (arith, few, many))
+      | inr cycle ↦ cycle
+    ]
+
+known_by : (next : ℕ → Edges) (n : ℕ) (v : List (Option ℕ)) (s : ℕ) (x : Option ℕ) → EdgesFit next n → AreSettled next n v → s < n
+    → ((c : ℕ) → OnCycle next c → ⊥) → length_of v s ≡ x → (k : ℕ) × (length_of v s ≡ Some k)
+known_by next n v s None fit settled inside straight is =
+    let cycle = stuck_cycle next n v s fit settled inside is in
+    absurd (straight cycle.0 cycle.1)
+known_by next n v s (Some k) fit settled inside straight is = (k, is)
+
+-- Without a cycle each slot has a length.
+pub all_known : (next : ℕ → Edges) (n : ℕ) (v : List (Option ℕ)) (s : ℕ) → EdgesFit next n → AreSettled next n v → s < n
+    → ((c : ℕ) → OnCycle next c → ⊥) → (k : ℕ) × (length_of v s ≡ Some k)
+all_known next n v s fit settled inside straight = known_by next n v s (length_of v s) fit settled inside straight refl

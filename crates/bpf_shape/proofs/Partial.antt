@@ -174,3 +174,15 @@ pub no_length_here : (v : List (Option ℕ)) (s : ℕ) (x : Option ℕ) → s < 
 no_length_here v s x inside read h =
     let same : get_or v s None ≡ x = get_or_default v s None x inside ∙ sym read in
     same ∙ none_of x h
+
+some_of : (x : Option ℕ) → is_some x ≡ true → (k : ℕ) × (x ≡ Some k)
+some_of None h = absurd (let bad : false ≡ true = h in cc)
+some_of (Some k) h = (k, refl)
+
+-- what was read of a slot is its length
+pub length_here : (v : List (Option ℕ)) (s : ℕ) (x : Option ℕ) → s < length v → x ≡ get_or v s x → is_some x ≡ true
+    → (k : ℕ) × (length_of v s ≡ Some k)
+length_here v s x inside read h =
+    let same : get_or v s None ≡ x = get_or_default v s None x inside ∙ sym read in
+    let found = some_of x h in
+    (found.0, same ∙ found.1)

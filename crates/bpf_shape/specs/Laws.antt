@@ -9,7 +9,7 @@ use Rattle.bpf_shape.specs.Rules.{FirstBroken, IsShaped}
 use Rattle.bpf_shape.specs.Shape.{ShapeValue, IsShapeOf}
 
 abbrev pub OneShape : Type 0
-OneShape = (program : List (Option Instr)) (a b : ShapeValue) → IsShapeOf program a → IsShapeOf program b → (a.steps ≡ b.steps) × (a.marks ≡ b.marks)
+OneShape = (program : List (Option Instr)) (a b : ShapeValue) → IsShapeOf program a → IsShapeOf program b → (a.budget ≡ b.budget) × (a.heads ≡ b.heads)
 
 abbrev pub OneFault : Type 0
 OneFault = (program : List (Option Instr)) (c d : VerifierCause) (s t : ℕ) → FirstBroken program c s → FirstBroken program d t → (c ≡ d) × (s ≡ t)

@@ -1,8 +1,9 @@
 -- The lengths of the longest paths of slots, as far as they are known.
-use Rattle.std.specs.Prelude.{ℕ, ◌+◌, ◌≡◌, ◌<◌, ◌≤◌, max, List, length, get_or, Option, None, Some, is_some, option_map}
+use Rattle.std.specs.Prelude.{ℕ, ◌+◌, ◌≡◌, ◌<◌, ◌≤◌, ◌⊎◌, max, Bool, List, length, get_or, Option, None, Some, is_some, option_map}
 use Rattle.std.specs.Option.{option_and_then}
 use Rattle.std.specs.List.{count_by}
 use Rattle.bpf_shape.specs.declared.edges.Edges.{Edges}
+use Rattle.bpf_shape.specs.Search.{IsMarked}
 
 -- the length that a slot has
 abbrev pub length_of : List (Option ℕ) → ℕ → Option ℕ
@@ -35,3 +36,8 @@ IsStuck next lengths s = length_of lengths s ≡ None → length_from lengths (n
 pub record AreSettled (next : ℕ → Edges) (n : ℕ) (lengths : List (Option ℕ)) : Type 0 where
   pub partial : ArePartial next n lengths
   pub stuck : (s : ℕ) → s < n → IsStuck next lengths s
+
+-- among the marked slots below n the greatest length is k; 0 where there is none
+pub record IsGreatest (lengths : List (Option ℕ)) (marks : List Bool) (n k : ℕ) : Type 0 where
+  pub most : (s j : ℕ) → s < n → IsMarked marks s → length_of lengths s ≡ Some j → j ≤ k
+  pub some : (k ≡ 0) ⊎ ((s : ℕ) × (IsMarked marks s × (length_of lengths s ≡ Some k)))

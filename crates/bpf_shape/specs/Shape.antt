@@ -7,12 +7,12 @@ use Rattle.bpf_shape.specs.Rules.{IsShaped}
 
 -- a budget, and for each slot whether it is a head
 pub record ShapeValue : Type 0 where
-  pub steps : ℕ
-  pub marks : List Bool
+  pub budget : ℕ
+  pub heads : List Bool
 
 -- the program has right shape, and this is its shape
 pub record IsShapeOf (program : List (Option Instr)) (shape : ShapeValue) : Type 0 where
   pub rules : IsShaped program
-  pub budget : IsBudget program shape.steps
-  pub limit : shape.steps ≤ most_steps
-  pub heads : shape.marks ≡ heads program
+  pub budget : IsBudget program shape.budget
+  pub limit : shape.budget ≤ most_steps
+  pub heads : shape.heads ≡ heads program

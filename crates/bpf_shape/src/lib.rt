@@ -7,9 +7,13 @@ mod edges;
 mod lengths;
 mod rules;
 mod search;
+mod shaping;
+mod value;
 
 
 
 
 pub use causes::{Fault, VerifierCause};
 pub use edges::{Edges, control, edges_of};
+pub use shaping::{MOST_STEPS, shape};
+pub use value::Shape;

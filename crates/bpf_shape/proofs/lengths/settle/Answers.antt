@@ -12,5 +12,5 @@ length_from-requires c = λ s k h.
 pub returns-in-Some-clause-partial : goal.returns-in-Some-clause-partial
 returns-in-Some-clause-partial c =
     let none : length_of c.args.lengths.now.items c.args.slot ≡ None =
-    no_length_here c.args.lengths.now.items c.args.slot c.index.result.now (omega (arith, c.requires.slot, c.requires.partial.long)) c.index.ensures ? in
+    no_length_here c.args.lengths.now.items c.args.slot c.index.result.now (omega (arith, c.requires.slot, c.requires.partial.long)) c.index.ensures (sym c.is_some.ensures ∙ c.if-is_some.false) in
     grow (plain c.args.program.now) (length c.args.program.now) c.args.lengths.now.items c.args.slot c.in-Some.length c.requires.slot c.requires.partial none (rw c.plain.ensures at (sym c.length_from.ensures ∙ c.in-Some.is))

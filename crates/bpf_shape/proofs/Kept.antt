@@ -1,0 +1,91 @@
+-- What follows from the rules that look at one slot.
+use Rattle.std.proofs.Common.{ℕ, zero, suc, ◌≡◌, ◌+◌, ◌<◌, ◌≤◌, ◌⊎◌, Bool, true, false, not, if◌then◌else◌, List, [], ◌∷◌, length, slice_get, Option, Some, None, is_some, refl, sym, ◌∙◌, ap, inl, inr, arith}
+use Rattle.std.specs.Option.{option_map_or, option_and_then}
+use Rattle.std.proofs.lemmas.Bool.{cases_Bool, cases_lt}
+use Rattle.std.proofs.lemmas.Option.{slice_get_past}
+use Rattle.bpf_isa.specs.declared.instr.Instr.{Instr}
+use Rattle.bpf_isa.specs.declared.instr.Condition.{Condition}
+use Rattle.bpf_isa.specs.declared.instr.Condition.TheVariants as cond
+use Rattle.bpf_shape.specs.declared.edges.Edges.{Edges}
+use Rattle.bpf_shape.specs.declared.causes.VerifierCause.{VerifierCause}
+use Rattle.bpf_shape.specs.declared.causes.VerifierCause.TheVariants as cause
+use Rattle.bpf_shape.specs.Edges.{at, begins, edges_of, control, no_edges}
+use Rattle.bpf_shape.specs.Again.{helper_number, calls_again, answer_test, again_of, others_of, again_edge, plain}
+use Rattle.bpf_shape.specs.Paths.{Leads}
+use Rattle.bpf_shape.specs.Search.{EdgesFit}
+use Rattle.bpf_shape.specs.Rules.{keeps, Breaks, Holds, KeepsAll}
+
+-- no instruction begins past the end
+pub at_past : (program : List (Option Instr)) (s : ℕ) → length program ≤ s → at program s ≡ None
+at_past program s past =
+    let none : slice_get program s ≡ None = slice_get_past program s past in
+    ap (λ (x : Option (Option Instr)). option_and_then (λ i. i) x) none
+
+pub control_past : (program : List (Option Instr)) (s : ℕ) → length program ≤ s → control program s ≡ no_edges
+unfolding control
+control_past program s past = ap (λ (x : Option Instr). option_map_or (edges_of s) x no_edges) (at_past program s past)
+
+calls_past : (program : List (Option Instr)) (s : ℕ) → length program ≤ s → calls_again program s ≡ false
+unfolding calls_again
+calls_past program s past = rw (at_past program s past) refl
+
+-- a rule of one slot holds there
+keeps_past : (program : List (Option Instr)) (c : VerifierCause) (s : ℕ) → length program ≤ s → keeps program c s ≡ true
+unfolding keeps
+keeps_past program cause.Target s past = rw (control_past program s past) refl
+keeps_past program cause.End s past = rw (control_past program s past) refl
+keeps_past program cause.FramePointer s past = rw (at_past program s past) refl
+keeps_past program cause.UnknownHelper s past = rw (at_past program s past) refl
+keeps_past program cause.AgainForm s past = rw (calls_past program s past) refl
+keeps_past program _ s past = refl
+
+pub never : (program : List (Option Instr)) (c : VerifierCause) → ((s : ℕ) → s < length program → keeps program c s ≡ true)
+    → (s : ℕ) → keeps program c s ≡ false → ⊥
+never program c kept s broken =
+    let holds : keeps program c s ≡ true = elim (cases_lt s (length program)) [ inl inside ↦ kept s inside | inr past ↦ keeps_past program c s past ] in
+    let bad : true ≡ false = sym holds ∙ broken in
+    cc
+
+-- an instruction begins at a slot of the program
+begins_inside : (program : List (Option Instr)) (t : ℕ) → begins program t ≡ true → t < length program
+begins_inside program t h =
+    elim (cases_lt t (length program)) [
+      | inl inside ↦ inside
+      | inr past ↦
+          let none = at_past program t past in
+          let bad : false ≡ true = rw none at h in
+          absurd (cc)
+    ]
+
+leads_inside : (program : List (Option Instr)) (o : Option ℕ) (t : ℕ) → (option_map_or (begins program) o true ≡ false → ⊥) → o ≡ Some t → begins program t ≡ true
+leads_inside program o t holds e =
+    elim (cases_Bool (begins program t)) [
+      | inl is ↦ is
+      | inr not_is ↦ absurd (holds (rw (e, not_is) refl))
+    ]
+
+-- each control edge leads to a slot in which an instruction begins
+pub edges_begin : (program : List (Option Instr)) → Holds program cause.Target → Holds program cause.End → (s t : ℕ) → Leads (control program s) t
+    → begins program t ≡ true
+unfolding Breaks keeps
+edges_begin program targets ends s t (inl h) = leads_inside program (control program s).next t (ends s) h
+edges_begin program targets ends s t (inr h) = leads_inside program (control program s).target t (targets s) h
+
+pub control_fits : (program : List (Option Instr)) → KeepsAll program → EdgesFit (control program) (length program)
+control_fits program kept s t h = begins_inside program t (edges_begin program kept.targets kept.ends s t h)
+
+-- an edge that is no again edge is a control edge
+pub others_are : (test : Option Condition) (e : Edges) (t : ℕ) → Leads (others_of test e) t → Leads e t
+others_are None e t h = h
+others_are (Some cond.Eq) e t (inl h) = absurd (let bad : None ≡ Some t = h in cc)
+others_are (Some cond.Eq) e t (inr h) = inr h
+others_are (Some cond.Ne) e t (inl h) = inl h
+others_are (Some cond.Ne) e t (inr h) = absurd (let bad : None ≡ Some t = h in cc)
+others_are (Some _) e t h = h
+
+pub plain_is_control : (program : List (Option Instr)) (s t : ℕ) → Leads (plain program s) t → Leads (control program s) t
+unfolding plain
+plain_is_control program s t h = others_are (answer_test program s) (control program s) t h
+
+pub plain_fits : (program : List (Option Instr)) → KeepsAll program → EdgesFit (plain program) (length program)
+plain_fits program kept s t h = control_fits program kept s t (plain_is_control program s t h)

@@ -1,0 +1,117 @@
+//! The rules of the whole program, and `shape`.
+
+ghost use Rattle.std.specs.Prelude.{◌≡◌, ◌<◌, ◌≤◌, ◌⊎◌, ℕ, IsTrue, ◌↔◌, OnOk, IfOk, IfErr, length};
+ghost use Rattle.bpf_shape.specs.Causes.{memory_fault};
+ghost use Rattle.bpf_shape.specs.Edges.{control};
+ghost use Rattle.bpf_shape.specs.Again.{plain};
+ghost use Rattle.bpf_shape.specs.Paths.{OnCycle};
+ghost use Rattle.bpf_shape.specs.Search.{EdgesFit};
+ghost use Rattle.bpf_shape.specs.Lengths.{AreSettled, IsGreatest};
+ghost use Rattle.bpf_shape.specs.Budget.{IsBudget};
+ghost use Rattle.bpf_shape.specs.Rules.{Holds, IsLowest, FirstBroken};
+ghost use Rattle.bpf_shape.specs.Shape.{IsShapeOf};
+ghost use Rattle.bpf_shape.specs.declared.causes.VerifierCause.TheVariants as cause;
+
+use crate::again::{heads, plain, turns};
+use crate::causes::{Fault, VerifierCause};
+use crate::edges::Edges;
+use crate::lengths::path_lengths;
+use crate::rules::keep_all;
+use crate::search::{Kind, reached};
+use crate::value::Shape;
+use bpf_isa::program::Program;
+use std::alloc::{AllocError, Global};
+
+/// The greatest budget of a program.
+pub const MOST_STEPS: u64 = 1_000_000_000;
+
+/// Whether a slot is on a cycle of edges without again edges. One with a longest path is on none.
+fn is_on_cycle(
+    alloc: Global,
+    program: &Program,
+    lengths: &Vec<Option<usize>>,
+    slot: usize,
+) -> Result<bool, AllocError>
+    requires edges { EdgesFit (plain program.now) (length program.now) }
+    requires settled { AreSettled (plain program.now) (length program.now) lengths.now.items }
+    requires slot { slot < length program.now }
+    ensures { IfOk result (λ found. IsTrue found ↔ OnCycle (plain program.now) slot) }
+{
+    if lengths[slot].is_some() {
+        return Ok(false);
+    }
+    let marks = reached(alloc, program, Kind::Plain, plain(program, slot))?;
+    Ok(marks[slot])
+}
+
+/// Tests that there is no cycle without again edges, and names the lowest slot on one.
+fn keep_loops(
+    alloc: Global,
+    program: &Program,
+    lengths: &Vec<Option<usize>>,
+) -> Result<(), Fault>
+    requires edges { EdgesFit (plain program.now) (length program.now) }
+    requires settled { AreSettled (plain program.now) (length program.now) lengths.now.items }
+    ensures kept { OnOk result (Holds program.now cause.Loop) }
+    ensures refused { IfErr result (λ f. (f ≡ memory_fault) ⊎ ((f.cause ≡ cause.Loop) × IsLowest program.now cause.Loop f.slot)) }
+{
+    for slot in 0..program.slots() {
+        if is_on_cycle(alloc, program, lengths, slot)? {
+            return Err(Fault {
+                cause: VerifierCause::Loop,
+                slot: slot as u64,
+            });
+        }
+    }
+    Ok(())
+}
+
+/// The greatest length of the marked slots.
+fn greatest(lengths: &Vec<Option<usize>>, marks: &Vec<bool>) -> usize
+    requires { length marks.now.items ≡ length lengths.now.items }
+    ensures { IsGreatest lengths.now.items marks.now.items (length lengths.now.items) result }
+{
+    let mut longest = 0;
+    for slot in 0..lengths.len() {
+        if marks[slot] {
+            longest = longest.max(lengths[slot].unwrap_or(0));
+        }
+    }
+    longest
+}
+
+/// The budget of a program without cycles.
+fn budget(alloc: Global, program: &Program, lengths: &Vec<Option<usize>>) -> Result<u64, AllocError>
+    requires edges { EdgesFit (control program.now) (length program.now) }
+    requires settled { AreSettled (plain program.now) (length program.now) lengths.now.items }
+    requires loops { Holds program.now cause.Loop }
+    ensures { IfOk result (λ n. IsBudget program.now n) }
+{
+    let start = Edges {
+        next: Some(0),
+        target: None,
+    };
+    let marks = reached(alloc, program, Kind::All, start)?;
+    let longest = greatest(lengths, &marks);
+    Ok((1 + turns(program)) * longest as u64)
+}
+
+/// The shape of a program, or the first of the shape rules that it breaks, at the lowest slot that
+/// does (docs/VERIFIER.md, Shape rules and Budget).
+pub fn shape(alloc: Global, program: &Program) -> Result<Shape, Fault>
+    ensures shape { IfOk result (λ shape. IsShapeOf program.now shape) }
+    ensures refused { IfErr result (λ f. (f ≡ memory_fault) ⊎ FirstBroken program.now f.cause f.slot) }
+{
+    keep_all(program)?;
+    let lengths = path_lengths(alloc, program)?;
+    keep_loops(alloc, program, &lengths)?;
+    let budget = budget(alloc, program, &lengths)?;
+    if budget > MOST_STEPS {
+        return Err(Fault {
+            cause: VerifierCause::Budget,
+            slot: 0,
+        });
+    }
+    let heads = heads(alloc, program)?;
+    Ok(Shape::new(budget, heads))
+}
