@@ -9,11 +9,12 @@ use Rattle.bpf_isa.specs.declared.instr.Condition.TheVariants as cond
 use Rattle.bpf_shape.specs.declared.edges.Edges.{Edges}
 use Rattle.bpf_shape.specs.declared.causes.VerifierCause.{VerifierCause}
 use Rattle.bpf_shape.specs.declared.causes.VerifierCause.TheVariants as cause
+use Rattle.bpf_shape.specs.declared.causes.Fault.{Fault}
 use Rattle.bpf_shape.specs.Edges.{at, begins, edges_of, control, no_edges}
 use Rattle.bpf_shape.specs.Again.{helper_number, calls_again, answer_test, again_of, others_of, again_edge, plain}
-use Rattle.bpf_shape.specs.Paths.{Leads}
+use Rattle.bpf_shape.specs.Paths.{Leads, LeadsTo, OnCycle}
 use Rattle.bpf_shape.specs.Search.{EdgesFit}
-use Rattle.bpf_shape.specs.Rules.{keeps, Breaks, Holds, KeepsAll}
+use Rattle.bpf_shape.specs.Rules.{keeps, IsOfSlots, IsOver, Breaks, Holds, IsLowest, IsBrokenAt, FirstBroken, KeepsAll}
 
 -- no instruction begins past the end
 pub at_past : (program : List (Option Instr)) (s : ℕ) → length program ≤ s → at program s ≡ None
@@ -89,3 +90,83 @@ plain_is_control program s t h = others_are (answer_test program s) (control pro
 
 pub plain_fits : (program : List (Option Instr)) → KeepsAll program → EdgesFit (plain program) (length program)
 plain_fits program kept s t h = control_fits program kept s t (plain_is_control program s t h)
+
+-- a slot that doesn't keep a rule of slots breaks it, and the other way round
+breaks_of : (program : List (Option Instr)) (c : VerifierCause) (s : ℕ) → IsOfSlots c → keeps program c s ≡ false → Breaks program c s
+unfolding Breaks
+breaks_of program cause.Loop s of h = absurd of
+breaks_of program cause.Budget s of h = absurd of
+breaks_of program _ s of h = h
+
+of_breaks : (program : List (Option Instr)) (c : VerifierCause) (s : ℕ) → IsOfSlots c → Breaks program c s → keeps program c s ≡ false
+unfolding Breaks
+of_breaks program cause.Loop s of h = absurd of
+of_breaks program cause.Budget s of h = absurd of
+of_breaks program _ s of h = h
+
+pub holds_of : (program : List (Option Instr)) (c : VerifierCause) → IsOfSlots c → ((s : ℕ) → s < length program → keeps program c s ≡ true)
+    → Holds program c
+holds_of program c of kept s broken = never program c kept s (of_breaks program c s of broken)
+
+pub lowest_of : (program : List (Option Instr)) (c : VerifierCause) (s : ℕ) → IsOfSlots c → keeps program c s ≡ false
+    → ((t : ℕ) → t < s → keeps program c t ≡ true) → IsLowest program c s
+lowest_of program c s of broken kept = record {
+  breaks = breaks_of program c s of broken;
+  lowest = λ t less breaks.
+      let bad : true ≡ false = sym (kept t less) ∙ of_breaks program c t of breaks in
+      cc;
+}
+
+-- the first broken rule, behind those that hold
+module _ (program : List (Option Instr)) (f : Fault) where
+  pub first_target : IsBrokenAt program cause.Target f → FirstBroken program f.cause f.slot
+  unfolding FirstBroken
+  first_target b = inl (b.cause, b.lowest)
+
+  pub first_end : Holds program cause.Target → IsBrokenAt program cause.End f → FirstBroken program f.cause f.slot
+  unfolding FirstBroken
+  first_end h1 b = inr (h1, inl (b.cause, b.lowest))
+
+  pub first_frame_pointer : Holds program cause.Target → Holds program cause.End → IsBrokenAt program cause.FramePointer f → FirstBroken program f.cause f.slot
+  unfolding FirstBroken
+  first_frame_pointer h1 h2 b = inr (h1, inr (h2, inl (b.cause, b.lowest)))
+
+  pub first_helper : Holds program cause.Target → Holds program cause.End → Holds program cause.FramePointer → IsBrokenAt program cause.UnknownHelper f
+      → FirstBroken program f.cause f.slot
+  unfolding FirstBroken
+  first_helper h1 h2 h3 b = inr (h1, inr (h2, inr (h3, inl (b.cause, b.lowest))))
+
+  pub first_again : Holds program cause.Target → Holds program cause.End → Holds program cause.FramePointer → Holds program cause.UnknownHelper
+      → IsBrokenAt program cause.AgainForm f → FirstBroken program f.cause f.slot
+  unfolding FirstBroken
+  first_again h1 h2 h3 h4 b = inr (h1, inr (h2, inr (h3, inr (h4, inl (b.cause, b.lowest)))))
+
+  pub first_loop : KeepsAll program → IsBrokenAt program cause.Loop f → FirstBroken program f.cause f.slot
+  unfolding FirstBroken
+  first_loop k b = inr (k.targets, inr (k.ends, inr (k.frame_pointer, inr (k.helpers, inr (k.again, inl (b.cause, b.lowest))))))
+
+pub first_budget : (program : List (Option Instr)) → KeepsAll program → Holds program cause.Loop → IsOver program → FirstBroken program cause.Budget 0
+unfolding FirstBroken Breaks
+first_budget program k loops over =
+    let lowest : IsLowest program cause.Budget 0 = record { breaks = (refl, over); lowest = λ t less _. absurd (omega (arith, less)) } in
+    inr (k.targets, inr (k.ends, inr (k.frame_pointer, inr (k.helpers, inr (k.again, inr (loops, inl (refl, lowest)))))))
+
+pub lowest_loop : (program : List (Option Instr)) (s : ℕ) → OnCycle (plain program) s → ((t : ℕ) → t < s → OnCycle (plain program) t → ⊥)
+    → IsLowest program cause.Loop s
+unfolding Breaks
+lowest_loop program s found none = record { breaks = found; lowest = none }
+
+-- no edge leads from a slot past the end, so it is on no cycle
+no_edge : (t : ℕ) → Leads no_edges t → ⊥
+no_edge t (inl h) = let bad : None ≡ Some t = h in cc
+no_edge t (inr h) = let bad : None ≡ Some t = h in cc
+
+pub holds_loop : (program : List (Option Instr)) → ((s : ℕ) → s < length program → OnCycle (plain program) s → ⊥) → Holds program cause.Loop
+unfolding Breaks
+holds_loop program none s cycle =
+    elim (cases_lt s (length program)) [
+      | inl inside ↦ none s inside cycle
+      | inr past ↦
+          let first : Leads (control program s) cycle.first = plain_is_control program s cycle.first cycle.leads in
+          no_edge cycle.first (rw (control_past program s past) at first)
+    ]

@@ -5,3 +5,4 @@ mod Searching
 mod Partial
 mod Longest
 mod Kept
+mod Budgets

@@ -1,6 +1,6 @@
 -- The lengths of the longest paths of slots, as far as they are known.
-use Rattle.std.specs.Prelude.{ℕ, ◌+◌, ◌≡◌, ◌<◌, ◌≤◌, ◌⊎◌, max, Bool, List, length, get_or, Option, None, Some, is_some, option_map}
-use Rattle.std.specs.Option.{option_and_then}
+use Rattle.std.specs.Prelude.{ℕ, ◌+◌, ◌≡◌, ◌<◌, ◌≤◌, ◌⊎◌, max, if◌then◌else◌, Bool, false, List, length, get_or, Option, None, Some, is_some, option_map}
+use Rattle.std.specs.Option.{option_and_then, option_map_or}
 use Rattle.std.specs.List.{count_by}
 use Rattle.bpf_shape.specs.declared.edges.Edges.{Edges}
 use Rattle.bpf_shape.specs.Search.{IsMarked}
@@ -36,6 +36,10 @@ IsStuck next lengths s = length_of lengths s ≡ None → length_from lengths (n
 pub record AreSettled (next : ℕ → Edges) (n : ℕ) (lengths : List (Option ℕ)) : Type 0 where
   pub partial : ArePartial next n lengths
   pub stuck : (s : ℕ) → s < n → IsStuck next lengths s
+
+-- the length of a slot, if it is marked, else 0
+abbrev pub marked_length : List (Option ℕ) → List Bool → ℕ → ℕ
+marked_length lengths marks slot = if get_or marks slot false then option_map_or (λ k. k) (length_of lengths slot) 0 else 0
 
 -- among the marked slots below n the greatest length is k; 0 where there is none
 pub record IsGreatest (lengths : List (Option ℕ)) (marks : List Bool) (n k : ℕ) : Type 0 where

@@ -7,6 +7,7 @@ use Rattle.bpf_isa.specs.declared.instr.Condition.{Condition}
 use Rattle.bpf_isa.specs.declared.instr.Condition.TheVariants as cond
 use Rattle.bpf_shape.specs.declared.causes.VerifierCause.{VerifierCause}
 use Rattle.bpf_shape.specs.declared.causes.VerifierCause.TheVariants as cause
+use Rattle.bpf_shape.specs.declared.causes.Fault.{Fault}
 use Rattle.bpf_shape.specs.Edges.{at, begins, control}
 use Rattle.bpf_shape.specs.Again.{helper_number, calls_again, limit_before, answer_test, is_target, plain}
 use Rattle.bpf_shape.specs.Paths.{OnCycle}
@@ -65,6 +66,17 @@ Holds program c = (slot : ℕ) → Breaks program c slot → ⊥
 pub record IsLowest (program : List (Option Instr)) (c : VerifierCause) (slot : ℕ) : Type 0 where
   pub breaks : Breaks program c slot
   pub lowest : (t : ℕ) → t < slot → Breaks program c t → ⊥
+
+-- a refusal names that rule and its lowest slot
+pub record IsBrokenAt (program : List (Option Instr)) (rule : VerifierCause) (f : Fault) : Type 0 where
+  pub cause : f.cause ≡ rule
+  pub lowest : IsLowest program rule f.slot
+
+-- the rules of the whole program are two
+abbrev pub IsOfSlots : VerifierCause → Type 0
+IsOfSlots cause.Loop = ⊥
+IsOfSlots cause.Budget = ⊥
+IsOfSlots _ = Unit {0}
 
 -- the rules in the order in which they are tested
 abbrev pub order : List VerifierCause

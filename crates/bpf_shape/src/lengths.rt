@@ -1,6 +1,7 @@
 //! The length of the longest path of each slot, without again edges.
 
-ghost use Rattle.std.specs.Prelude.{◌≡◌, ◌<◌, ◌≤◌, ℕ, IsTrue, IsFalse, IfOk, IfSome, Some, None, length};
+ghost use Rattle.std.specs.Prelude.{◌≡◌, ◌<◌, ◌≤◌, ℕ, IsTrue, IsFalse, OnOk, IfOk, Some, None, length};
+ghost use Rattle.bpf_isa.specs.Program.{IsProgram};
 ghost use Rattle.bpf_shape.specs.Again.{plain};
 ghost use Rattle.bpf_shape.specs.Lengths.{length_of, behind_edge, length_from, known, ArePartial, AreSettled, IsStuck};
 
@@ -81,7 +82,8 @@ pub(crate) fn path_lengths(
     alloc: Global,
     program: &Program,
 ) -> Result<Vec<Option<usize>>, AllocError>
-    ensures { IfOk result (λ lengths. AreSettled (plain program.now) (length program.now) lengths.items) }
+    ensures settled { IfOk result (λ lengths. AreSettled (plain program.now) (length program.now) lengths.items) }
+    ensures program { OnOk result (IsProgram program.now) }
 {
     let mut lengths = Vec::new(alloc);
     lengths.resize(program.slots(), None)?;

@@ -1,10 +1,10 @@
 //! The rules that look at one slot and those beside it.
 
-ghost use Rattle.std.specs.Prelude.{◌≡◌, ◌<◌, ◌==◌, nat_le, not, ◌&&◌, true, false, OnOk, IfErr, ℕ, length};
+ghost use Rattle.std.specs.Prelude.{◌≡◌, ◌<◌, ◌==◌, nat_le, not, ◌&&◌, true, false, OnOk, IfErr};
 ghost use Rattle.std.specs.Option.{option_map_or, option_and_then};
 ghost use Rattle.bpf_shape.specs.Edges.{at, begins};
 ghost use Rattle.bpf_shape.specs.Again.{helper_number};
-ghost use Rattle.bpf_shape.specs.Rules.{written, is_equality, has_form, keeps, FirstBroken, KeepsAll};
+ghost use Rattle.bpf_shape.specs.Rules.{written, is_equality, has_form, keeps, IsOfSlots, Holds, IsBrokenAt, FirstBroken, KeepsAll};
 
 use crate::again::{answer_test, calls_again, helper_number, is_target, limit_before};
 use crate::causes::{Fault, VerifierCause};
@@ -102,10 +102,9 @@ fn keeps(program: &Program, rule: VerifierCause, slot: usize) -> bool
 
 /// Tests that each slot keeps a rule, and names the lowest that doesn't.
 fn keep(program: &Program, rule: VerifierCause) -> Result<(), Fault>
-    ensures kept { OnOk result ((slot : ℕ) → slot < length program.now → keeps program.now rule slot ≡ true) }
-    ensures cause { IfErr result (λ f. f.cause ≡ rule) }
-    ensures breaks { IfErr result (λ f. keeps program.now rule f.slot ≡ false) }
-    ensures lowest { IfErr result (λ f. (slot : ℕ) → slot < f.slot → keeps program.now rule slot ≡ true) }
+    requires { IsOfSlots rule }
+    ensures kept { OnOk result (Holds program.now rule) }
+    ensures refused { IfErr result (λ f. IsBrokenAt program.now rule f) }
 {
     for slot in 0..program.slots() {
         if !keeps(program, rule, slot) {

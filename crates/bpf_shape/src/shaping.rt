@@ -1,14 +1,15 @@
 //! The rules of the whole program, and `shape`.
 
 ghost use Rattle.std.specs.Prelude.{◌≡◌, ◌<◌, ◌≤◌, ◌⊎◌, ℕ, IsTrue, ◌↔◌, OnOk, IfOk, IfErr, length};
+ghost use Rattle.bpf_isa.specs.Program.{IsProgram};
 ghost use Rattle.bpf_shape.specs.Causes.{memory_fault};
 ghost use Rattle.bpf_shape.specs.Edges.{control};
 ghost use Rattle.bpf_shape.specs.Again.{plain};
 ghost use Rattle.bpf_shape.specs.Paths.{OnCycle};
 ghost use Rattle.bpf_shape.specs.Search.{EdgesFit};
-ghost use Rattle.bpf_shape.specs.Lengths.{AreSettled, IsGreatest};
+ghost use Rattle.bpf_shape.specs.Lengths.{AreSettled, marked_length, IsGreatest};
 ghost use Rattle.bpf_shape.specs.Budget.{IsBudget};
-ghost use Rattle.bpf_shape.specs.Rules.{Holds, IsLowest, FirstBroken};
+ghost use Rattle.bpf_shape.specs.Rules.{Holds, IsBrokenAt, FirstBroken};
 ghost use Rattle.bpf_shape.specs.Shape.{IsShapeOf};
 ghost use Rattle.bpf_shape.specs.declared.causes.VerifierCause.TheVariants as cause;
 
@@ -53,7 +54,7 @@ fn keep_loops(
     requires edges { EdgesFit (plain program.now) (length program.now) }
     requires settled { AreSettled (plain program.now) (length program.now) lengths.now.items }
     ensures kept { OnOk result (Holds program.now cause.Loop) }
-    ensures refused { IfErr result (λ f. (f ≡ memory_fault) ⊎ ((f.cause ≡ cause.Loop) × IsLowest program.now cause.Loop f.slot)) }
+    ensures refused { IfErr result (λ f. (f ≡ memory_fault) ⊎ IsBrokenAt program.now cause.Loop f) }
 {
     for slot in 0..program.slots() {
         if is_on_cycle(alloc, program, lengths, slot)? {
@@ -66,6 +67,22 @@ fn keep_loops(
     Ok(())
 }
 
+/// The length of a slot, if it is marked, else 0.
+fn marked_length(lengths: &Vec<Option<usize>>, marks: &Vec<bool>, slot: usize) -> usize
+    requires lengths { slot < length lengths.now.items }
+    requires marks { slot < length marks.now.items }
+    ensures { result ≡ marked_length lengths.now.items marks.now.items slot }
+{
+    if marks[slot] {
+        match lengths[slot] {
+            Some(length) => length,
+            None => 0,
+        }
+    } else {
+        0
+    }
+}
+
 /// The greatest length of the marked slots.
 fn greatest(lengths: &Vec<Option<usize>>, marks: &Vec<bool>) -> usize
     requires { length marks.now.items ≡ length lengths.now.items }
@@ -73,9 +90,7 @@ fn greatest(lengths: &Vec<Option<usize>>, marks: &Vec<bool>) -> usize
 {
     let mut longest = 0;
     for slot in 0..lengths.len() {
-        if marks[slot] {
-            longest = longest.max(lengths[slot].unwrap_or(0));
-        }
+        longest = longest.max(marked_length(lengths, marks, slot));
     }
     longest
 }
@@ -85,6 +100,7 @@ fn budget(alloc: Global, program: &Program, lengths: &Vec<Option<usize>>) -> Res
     requires edges { EdgesFit (control program.now) (length program.now) }
     requires settled { AreSettled (plain program.now) (length program.now) lengths.now.items }
     requires loops { Holds program.now cause.Loop }
+    requires program { IsProgram program.now }
     ensures { IfOk result (λ n. IsBudget program.now n) }
 {
     let start = Edges {
