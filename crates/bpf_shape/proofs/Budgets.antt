@@ -10,7 +10,8 @@ use Rattle.bpf_shape.specs.Edges.{control, edges}
 use Rattle.bpf_shape.specs.Again.{plain, turns, heads}
 use Rattle.bpf_shape.specs.Paths.{Leads, IsWalk, Reaches, LeadsTo, OnCycle, IsReached}
 use Rattle.bpf_shape.specs.Budget.{HasPath, IsLongest, IsBudget, most_steps}
-use Rattle.bpf_shape.specs.Rules.{Breaks, Holds, KeepsAll}
+use Rattle.bpf_shape.specs.Rules.{Breaks, Holds}
+use Rattle.bpf_shape.specs.Keeping.{KeepsAll}
 use Rattle.bpf_shape.specs.Shape.{IsShapeOf}
 use Rattle.bpf_shape.specs.Search.{IsMarked, EdgesFit, AreMarks}
 use Rattle.bpf_shape.specs.Lengths.{length_of, ArePartial, AreSettled, marked_length, IsGreatest}

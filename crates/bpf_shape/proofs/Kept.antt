@@ -14,7 +14,8 @@ use Rattle.bpf_shape.specs.Edges.{at, begins, edges_of, control, no_edges}
 use Rattle.bpf_shape.specs.Again.{helper_number, calls_again, answer_test, again_of, others_of, again_edge, plain}
 use Rattle.bpf_shape.specs.Paths.{Leads, LeadsTo, OnCycle}
 use Rattle.bpf_shape.specs.Search.{EdgesFit}
-use Rattle.bpf_shape.specs.Rules.{keeps, IsOfSlots, IsOver, Breaks, Holds, IsLowest, IsBrokenAt, FirstBroken, KeepsAll}
+use Rattle.bpf_shape.specs.Rules.{keeps, IsOver, Breaks, Holds, IsLowest, FirstBroken}
+use Rattle.bpf_shape.specs.Keeping.{IsOfSlots, IsBrokenAt, KeepsAll}
 
 -- no instruction begins past the end
 pub at_past : (program : List (Option Instr)) (s : ℕ) → length program ≤ s → at program s ≡ None
@@ -119,31 +120,31 @@ lowest_of program c s of broken kept = record {
 
 -- the first broken rule, behind those that hold
 module _ (program : List (Option Instr)) (f : Fault) where
-  pub first_target : IsBrokenAt program cause.Target f → FirstBroken program f.cause f.slot
+  pub first_target : IsBrokenAt program cause.Target f → FirstBroken program f.code f.slot
   unfolding FirstBroken
-  first_target b = inl (b.cause, b.lowest)
+  first_target b = inl (b.code, b.lowest)
 
-  pub first_end : Holds program cause.Target → IsBrokenAt program cause.End f → FirstBroken program f.cause f.slot
+  pub first_end : Holds program cause.Target → IsBrokenAt program cause.End f → FirstBroken program f.code f.slot
   unfolding FirstBroken
-  first_end h1 b = inr (h1, inl (b.cause, b.lowest))
+  first_end h1 b = inr (h1, inl (b.code, b.lowest))
 
-  pub first_frame_pointer : Holds program cause.Target → Holds program cause.End → IsBrokenAt program cause.FramePointer f → FirstBroken program f.cause f.slot
+  pub first_frame_pointer : Holds program cause.Target → Holds program cause.End → IsBrokenAt program cause.FramePointer f → FirstBroken program f.code f.slot
   unfolding FirstBroken
-  first_frame_pointer h1 h2 b = inr (h1, inr (h2, inl (b.cause, b.lowest)))
+  first_frame_pointer h1 h2 b = inr (h1, inr (h2, inl (b.code, b.lowest)))
 
   pub first_helper : Holds program cause.Target → Holds program cause.End → Holds program cause.FramePointer → IsBrokenAt program cause.UnknownHelper f
-      → FirstBroken program f.cause f.slot
+      → FirstBroken program f.code f.slot
   unfolding FirstBroken
-  first_helper h1 h2 h3 b = inr (h1, inr (h2, inr (h3, inl (b.cause, b.lowest))))
+  first_helper h1 h2 h3 b = inr (h1, inr (h2, inr (h3, inl (b.code, b.lowest))))
 
   pub first_again : Holds program cause.Target → Holds program cause.End → Holds program cause.FramePointer → Holds program cause.UnknownHelper
-      → IsBrokenAt program cause.AgainForm f → FirstBroken program f.cause f.slot
+      → IsBrokenAt program cause.AgainForm f → FirstBroken program f.code f.slot
   unfolding FirstBroken
-  first_again h1 h2 h3 h4 b = inr (h1, inr (h2, inr (h3, inr (h4, inl (b.cause, b.lowest)))))
+  first_again h1 h2 h3 h4 b = inr (h1, inr (h2, inr (h3, inr (h4, inl (b.code, b.lowest)))))
 
-  pub first_loop : KeepsAll program → IsBrokenAt program cause.Loop f → FirstBroken program f.cause f.slot
+  pub first_loop : KeepsAll program → IsBrokenAt program cause.Loop f → FirstBroken program f.code f.slot
   unfolding FirstBroken
-  first_loop k b = inr (k.targets, inr (k.ends, inr (k.frame_pointer, inr (k.helpers, inr (k.again, inl (b.cause, b.lowest))))))
+  first_loop k b = inr (k.targets, inr (k.ends, inr (k.frame_pointer, inr (k.helpers, inr (k.again, inl (b.code, b.lowest))))))
 
 pub first_budget : (program : List (Option Instr)) → KeepsAll program → Holds program cause.Loop → IsOver program → FirstBroken program cause.Budget 0
 unfolding FirstBroken Breaks

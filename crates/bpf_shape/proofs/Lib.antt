@@ -1,8 +1,9 @@
-mod Ranges
-mod Walks
-mod Meeting
-mod Searching
-mod Partial
-mod Longest
-mod Kept
-mod Budgets
+pub mod Ranges
+pub mod Walks
+pub mod Meeting
+pub mod Searching
+pub mod Partial
+pub mod Longest
+pub mod Kept
+pub mod Budgets
+mod Whole

@@ -25,4 +25,4 @@ number_of cause.Memory = 60
 
 -- the fault of want of memory
 abbrev pub memory_fault : Fault
-memory_fault = record { cause = cause.Memory; slot = 0 }
+memory_fault = record { code = cause.Memory; slot = 0 }

@@ -1,4 +1,5 @@
--- The lengths of the longest paths of slots, as far as they are known.
+-- The lengths of the longest paths of slots, as far as they are known. Only this crate's own contracts
+-- cite it.
 use Rattle.std.specs.Prelude.{ℕ, ◌+◌, ◌≡◌, ◌<◌, ◌≤◌, ◌⊎◌, max, if◌then◌else◌, Bool, false, List, length, get_or, Option, None, Some, is_some, option_map}
 use Rattle.std.specs.Option.{option_and_then, option_map_or}
 use Rattle.std.specs.List.{count_by}

@@ -6,6 +6,7 @@ pub mod Paths
 pub mod Budget
 pub mod Rules
 pub mod Shape
+pub mod Keeping
 pub mod Search
 pub mod Lengths
 pub mod Laws

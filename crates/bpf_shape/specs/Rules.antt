@@ -7,7 +7,6 @@ use Rattle.bpf_isa.specs.declared.instr.Condition.{Condition}
 use Rattle.bpf_isa.specs.declared.instr.Condition.TheVariants as cond
 use Rattle.bpf_shape.specs.declared.causes.VerifierCause.{VerifierCause}
 use Rattle.bpf_shape.specs.declared.causes.VerifierCause.TheVariants as cause
-use Rattle.bpf_shape.specs.declared.causes.Fault.{Fault}
 use Rattle.bpf_shape.specs.Edges.{at, begins, control}
 use Rattle.bpf_shape.specs.Again.{helper_number, calls_again, limit_before, answer_test, is_target, plain}
 use Rattle.bpf_shape.specs.Paths.{OnCycle}
@@ -67,17 +66,6 @@ pub record IsLowest (program : List (Option Instr)) (c : VerifierCause) (slot : 
   pub breaks : Breaks program c slot
   pub lowest : (t : ℕ) → t < slot → Breaks program c t → ⊥
 
--- a refusal names that rule and its lowest slot
-pub record IsBrokenAt (program : List (Option Instr)) (rule : VerifierCause) (f : Fault) : Type 0 where
-  pub cause : f.cause ≡ rule
-  pub lowest : IsLowest program rule f.slot
-
--- the rules of the whole program are two
-abbrev pub IsOfSlots : VerifierCause → Type 0
-IsOfSlots cause.Loop = ⊥
-IsOfSlots cause.Budget = ⊥
-IsOfSlots _ = Unit {0}
-
 -- the rules in the order in which they are tested
 abbrev pub order : List VerifierCause
 order = cause.Target ∷ cause.End ∷ cause.FramePointer ∷ cause.UnknownHelper ∷ cause.AgainForm ∷ cause.Loop ∷ cause.Budget ∷ []
@@ -87,14 +75,7 @@ abbrev pub FirstOf : List (Option Instr) → List VerifierCause → VerifierCaus
 FirstOf program [] c slot = ⊥
 FirstOf program (rule ∷ rest) c slot = ((c ≡ rule) × IsLowest program rule slot) ⊎ (Holds program rule × FirstOf program rest c slot)
 
--- the rules that look at one slot hold; they come first
-pub record KeepsAll (program : List (Option Instr)) : Type 0 where
-  pub targets : Holds program cause.Target
-  pub ends : Holds program cause.End
-  pub frame_pointer : Holds program cause.FramePointer
-  pub helpers : Holds program cause.UnknownHelper
-  pub again : Holds program cause.AgainForm
-
+-- the first broken rule of a program
 unfoldable pub FirstBroken : List (Option Instr) → VerifierCause → ℕ → Type 0
 FirstBroken program c slot = FirstOf program order c slot
 

@@ -1,4 +1,4 @@
--- Marks of slots, and the search that makes them.
+-- Marks of slots, and the search that makes them. Only this crate's own contracts cite it.
 use Rattle.std.specs.Prelude.{ℕ, ◌+◌, ◌≡◌, ◌<◌, ◌≤◌, ◌*◌, ◌⊎◌, nat_lt, not, ◌&&◌, if◌then◌else◌, Bool, true, false, List, [], ◌∷◌, ◌++◌, length, get_or, set, Option, None, Some}
 use Rattle.std.specs.List.{count_by}
 use Rattle.bpf_isa.specs.declared.instr.Instr.{Instr}

@@ -56,16 +56,16 @@ impl VerifierCause {
 
 /// Why a program is refused, with the slot that is the cause; 0 where the budget or memory is.
 #[derive(Clone, Copy, Debug, PartialEq, Eq, Error)]
-#[error("slot {slot}: {cause}")]
+#[error("slot {slot}: {code}")]
 pub struct Fault {
-    pub cause: VerifierCause,
+    pub code: VerifierCause,
     pub slot: u64,
 }
 
 impl Fault {
     /// Want of memory.
     pub(crate) const MEMORY: Fault = Fault {
-        cause: VerifierCause::Memory,
+        code: VerifierCause::Memory,
         slot: 0,
     };
 }

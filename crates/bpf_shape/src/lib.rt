@@ -4,6 +4,7 @@
 mod again;
 mod causes;
 mod edges;
+pub mod laws;
 mod lengths;
 mod rules;
 mod search;

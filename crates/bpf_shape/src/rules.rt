@@ -4,7 +4,8 @@ ghost use Rattle.std.specs.Prelude.{◌≡◌, ◌<◌, ◌==◌, nat_le, not, �
 ghost use Rattle.std.specs.Option.{option_map_or, option_and_then};
 ghost use Rattle.bpf_shape.specs.Edges.{at, begins};
 ghost use Rattle.bpf_shape.specs.Again.{helper_number};
-ghost use Rattle.bpf_shape.specs.Rules.{written, is_equality, has_form, keeps, IsOfSlots, Holds, IsBrokenAt, FirstBroken, KeepsAll};
+ghost use Rattle.bpf_shape.specs.Rules.{written, is_equality, has_form, keeps, Holds, FirstBroken};
+ghost use Rattle.bpf_shape.specs.Keeping.{IsOfSlots, IsBrokenAt, KeepsAll};
 
 use crate::again::{answer_test, calls_again, helper_number, is_target, limit_before};
 use crate::causes::{Fault, VerifierCause};
@@ -109,7 +110,7 @@ fn keep(program: &Program, rule: VerifierCause) -> Result<(), Fault>
     for slot in 0..program.slots() {
         if !keeps(program, rule, slot) {
             return Err(Fault {
-                cause: rule,
+                code: rule,
                 slot: slot as u64,
             });
         }
@@ -120,7 +121,7 @@ fn keep(program: &Program, rule: VerifierCause) -> Result<(), Fault>
 /// Tests the rules that look at one slot, in their order.
 pub(crate) fn keep_all(program: &Program) -> Result<(), Fault>
     ensures kept { OnOk result (KeepsAll program.now) }
-    ensures refused { IfErr result (λ f. FirstBroken program.now f.cause f.slot) }
+    ensures refused { IfErr result (λ f. FirstBroken program.now f.code f.slot) }
 {
     keep(program, VerifierCause::Target)?;
     keep(program, VerifierCause::End)?;

@@ -9,7 +9,8 @@ ghost use Rattle.bpf_shape.specs.Paths.{OnCycle};
 ghost use Rattle.bpf_shape.specs.Search.{EdgesFit};
 ghost use Rattle.bpf_shape.specs.Lengths.{AreSettled, marked_length, IsGreatest};
 ghost use Rattle.bpf_shape.specs.Budget.{IsBudget};
-ghost use Rattle.bpf_shape.specs.Rules.{Holds, IsBrokenAt, FirstBroken};
+ghost use Rattle.bpf_shape.specs.Rules.{Holds, FirstBroken};
+ghost use Rattle.bpf_shape.specs.Keeping.{IsBrokenAt};
 ghost use Rattle.bpf_shape.specs.Shape.{IsShapeOf};
 ghost use Rattle.bpf_shape.specs.declared.causes.VerifierCause.TheVariants as cause;
 
@@ -59,7 +60,7 @@ fn keep_loops(
     for slot in 0..program.slots() {
         if is_on_cycle(alloc, program, lengths, slot)? {
             return Err(Fault {
-                cause: VerifierCause::Loop,
+                code: VerifierCause::Loop,
                 slot: slot as u64,
             });
         }
@@ -116,7 +117,7 @@ fn budget(alloc: Global, program: &Program, lengths: &Vec<Option<usize>>) -> Res
 /// does (docs/VERIFIER.md, Shape rules and Budget).
 pub fn shape(alloc: Global, program: &Program) -> Result<Shape, Fault>
     ensures shape { IfOk result (λ shape. IsShapeOf program.now shape) }
-    ensures refused { IfErr result (λ f. (f ≡ memory_fault) ⊎ FirstBroken program.now f.cause f.slot) }
+    ensures refused { IfErr result (λ f. (f ≡ memory_fault) ⊎ FirstBroken program.now f.code f.slot) }
 {
     keep_all(program)?;
     let lengths = path_lengths(alloc, program)?;
@@ -124,7 +125,7 @@ pub fn shape(alloc: Global, program: &Program) -> Result<Shape, Fault>
     let budget = budget(alloc, program, &lengths)?;
     if budget > MOST_STEPS {
         return Err(Fault {
-            cause: VerifierCause::Budget,
+            code: VerifierCause::Budget,
             slot: 0,
         });
     }

@@ -1,0 +1,118 @@
+-- The laws of shapes.
+use Rattle.std.proofs.Common.{ℕ, zero, suc, ◌≡◌, ◌+◌, ◌<◌, ◌≤◌, ◌⊎◌, ◌↔◌, ◌==◌, Bool, true, false, List, [], ◌∷◌, length, get_or, Option, Some, None, refl, sym, ◌∙◌, ap, inl, inr, arith}
+use Rattle.std.proofs.lemmas.Bool.{cases_Bool, cases_lt}
+use Rattle.std.proofs.lemmas.Bool.Decides.{eqb_tells}
+use Rattle.std.proofs.lemmas.List.FromFn.{get_or-map-range_with_len}
+use Rattle.bpf_isa.specs.declared.instr.Instr.{Instr}
+use Rattle.bpf_isa.specs.declared.instr.Condition.{Condition}
+use Rattle.bpf_isa.specs.declared.instr.Condition.TheVariants as cond
+use Rattle.bpf_shape.specs.declared.edges.Edges.{Edges}
+use Rattle.bpf_shape.specs.declared.causes.VerifierCause.{VerifierCause}
+use Rattle.bpf_shape.specs.Edges.{control, no_edges}
+use Rattle.bpf_shape.specs.Again.{answer_test, again_of, others_of, again_edge, plain, is_slot, is_head, heads}
+use Rattle.bpf_shape.specs.Paths.{Leads}
+use Rattle.bpf_shape.specs.Rules.{Breaks, Holds, IsLowest, order, FirstOf, FirstBroken, IsShaped}
+use Rattle.bpf_shape.specs.Shape.{IsShapeOf}
+use Rattle.bpf_shape.specs.Laws.{OneShape, OneFault, NoFaultInShaped, EdgesAreSplit, HeadsAreTargets, HeadsBySlot}
+use Rattle.bpf_shape.proofs.Ranges.{any_at, at_any}
+use Rattle.bpf_shape.proofs.Kept.{control_past}
+use Rattle.bpf_shape.proofs.Budgets.{one_budget}
+
+pub one_shape : OneShape
+one_shape program a b x y = (one_budget program a.budget b.budget x.budget y.budget, x.heads ∙ sym y.heads)
+
+same_lowest : (program : List (Option Instr)) (c : VerifierCause) (s t : ℕ) → IsLowest program c s → IsLowest program c t → s ≡ t
+same_lowest program c s t x y =
+    elim (cases_lt s t) [
+      | inl less ↦ absurd (y.lowest s less x.breaks)
+      | inr not_less ↦ elim (cases_lt t s) [
+          | inl more ↦ absurd (x.lowest t more y.breaks)
+          | inr not_more ↦ omega (arith, not_less, not_more)
+        ]
+    ]
+
+first_of_rules : (program : List (Option Instr)) (rules : List VerifierCause) (c d : VerifierCause) (s t : ℕ) → FirstOf program rules c s → FirstOf program rules d t
+    → (c ≡ d) × (s ≡ t)
+first_of_rules program [] c d s t x y = absurd x
+first_of_rules program (r ∷ rest) c d s t (inl x) (inl y) = (x.0 ∙ sym y.0, same_lowest program r s t x.1 y.1)
+first_of_rules program (r ∷ rest) c d s t (inl x) (inr y) = absurd (y.0 s x.1.breaks)
+first_of_rules program (r ∷ rest) c d s t (inr x) (inl y) = absurd (x.0 t y.1.breaks)
+first_of_rules program (r ∷ rest) c d s t (inr x) (inr y) = first_of_rules program rest c d s t x.1 y.1
+
+pub one_fault : OneFault
+unfolding FirstBroken
+one_fault program c d s t x y = first_of_rules program order c d s t x y
+
+pub no_fault_in_shaped : NoFaultInShaped
+unfolding FirstBroken
+no_fault_in_shaped program h c s (inl x) = h.targets s x.1.breaks
+no_fault_in_shaped program h c s (inr (_, inl x)) = h.ends s x.1.breaks
+no_fault_in_shaped program h c s (inr (_, inr (_, inl x))) = h.frame_pointer s x.1.breaks
+no_fault_in_shaped program h c s (inr (_, inr (_, inr (_, inl x)))) = h.helpers s x.1.breaks
+no_fault_in_shaped program h c s (inr (_, inr (_, inr (_, inr (_, inl x))))) = h.again s x.1.breaks
+no_fault_in_shaped program h c s (inr (_, inr (_, inr (_, inr (_, inr (_, inl x)))))) = h.loops s x.1.breaks
+no_fault_in_shaped program h c s (inr (_, inr (_, inr (_, inr (_, inr (_, inr (_, inl x))))))) = h.budget s x.1.breaks
+no_fault_in_shaped program h c s (inr (_, inr (_, inr (_, inr (_, inr (_, inr (_, inr x))))))) = x.1
+
+split : (test : Option Condition) (e : Edges) (t : ℕ) → Leads e t → (again_of test e ≡ Some t) ⊎ Leads (others_of test e) t
+split None e t h = inr h
+split (Some cond.Eq) e t (inl h) = inl h
+split (Some cond.Eq) e t (inr h) = inr (inr h)
+split (Some cond.Ne) e t (inl h) = inr (inl h)
+split (Some cond.Ne) e t (inr h) = inl h
+split (Some _) e t h = inr h
+
+join : (test : Option Condition) (e : Edges) (t : ℕ) → (again_of test e ≡ Some t) ⊎ Leads (others_of test e) t → Leads e t
+join None e t (inl h) = absurd (let bad : None ≡ Some t = h in cc)
+join None e t (inr h) = h
+join (Some cond.Eq) e t (inl h) = inl h
+join (Some cond.Eq) e t (inr (inl h)) = absurd (let bad : None ≡ Some t = h in cc)
+join (Some cond.Eq) e t (inr (inr h)) = inr h
+join (Some cond.Ne) e t (inl h) = inr h
+join (Some cond.Ne) e t (inr (inl h)) = inl h
+join (Some cond.Ne) e t (inr (inr h)) = absurd (let bad : None ≡ Some t = h in cc)
+join (Some _) e t (inl h) = absurd (let bad : None ≡ Some t = h in cc)
+join (Some _) e t (inr h) = h
+
+pub edges_are_split : EdgesAreSplit
+unfolding again_edge plain
+edges_are_split program s t = (split (answer_test program s) (control program s) t, join (answer_test program s) (control program s) t)
+
+no_again : (test : Option Condition) → again_of test no_edges ≡ None
+no_again None = refl
+no_again (Some cond.Eq) = refl
+no_again (Some cond.Ne) = refl
+no_again (Some _) = refl
+
+again_past : (program : List (Option Instr)) (s : ℕ) → length program ≤ s → again_edge program s ≡ None
+unfolding again_edge
+again_past program s past = ap (λ (e : Edges). again_of (answer_test program s) e) (control_past program s past) ∙ no_again (answer_test program s)
+
+is_slot_of : (t : ℕ) (o : Option ℕ) → is_slot t o ≡ true → o ≡ Some t
+is_slot_of t None h = absurd (let bad : false ≡ true = h in cc)
+is_slot_of t (Some u) h =
+    elim (eqb_tells u t) [
+      | inl same ↦ ap Some same.1
+      | inr other ↦ absurd (let bad : false ≡ true = sym other.0 ∙ h in cc)
+    ]
+
+of_slot : (t : ℕ) (o : Option ℕ) → o ≡ Some t → is_slot t o ≡ true
+of_slot t o e =
+    let here : is_slot t (Some t) ≡ true = elim (eqb_tells t t) [ inl same ↦ same.0 | inr other ↦ absurd (other.1 refl) ] in
+    rw e here
+
+pub heads_are_targets : HeadsAreTargets
+unfolding is_head
+heads_are_targets program t =
+    (λ h.
+        let found = at_any (λ s. is_slot t (again_edge program s)) (length program) h in
+        (found.0, is_slot_of t (again_edge program found.0) found.1.1),
+        λ found.
+        elim (cases_lt found.0 (length program)) [
+          | inl inside ↦ any_at (λ s. is_slot t (again_edge program s)) (length program) found.0 inside (of_slot t (again_edge program found.0) found.1)
+          | inr past ↦ absurd (let bad : None ≡ Some t = sym (again_past program found.0 past) ∙ found.1 in cc)
+        ])
+
+pub heads_by_slot : HeadsBySlot
+unfolding heads
+heads_by_slot program t inside = get_or-map-range_with_len (is_head program) 0 (length program) t t false inside (omega arith)

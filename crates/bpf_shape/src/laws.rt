@@ -1,0 +1,34 @@
+//! Laws of shapes. The functions do nothing; each contract is a theorem.
+
+ghost use Rattle.bpf_shape.specs.Laws.{OneShape, OneFault, NoFaultInShaped, EdgesAreSplit, HeadsAreTargets, HeadsBySlot};
+
+/// A program has one shape at most.
+pub fn one_shape()
+    ensures { OneShape }
+{}
+
+/// The first rule that a program breaks is one, and so is its lowest slot.
+pub fn one_fault()
+    ensures { OneFault }
+{}
+
+/// A program that has a shape breaks no rule.
+pub fn no_fault_in_shaped()
+    ensures { NoFaultInShaped }
+{}
+
+/// A control edge is the again edge of its slot, or an edge of paths; and each of these is a control
+/// edge.
+pub fn edges_are_split()
+    ensures { EdgesAreSplit }
+{}
+
+/// A head is a slot to which an again edge leads.
+pub fn heads_are_targets()
+    ensures { HeadsAreTargets }
+{}
+
+/// The list of heads tells of each slot of the program whether it is one.
+pub fn heads_by_slot()
+    ensures { HeadsBySlot }
+{}
