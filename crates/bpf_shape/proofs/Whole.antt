@@ -1,5 +1,5 @@
 -- The laws of shapes.
-use Rattle.std.proofs.Common.{ℕ, zero, suc, ◌≡◌, ◌+◌, ◌<◌, ◌≤◌, ◌⊎◌, ◌↔◌, ◌==◌, Bool, true, false, List, [], ◌∷◌, length, get_or, Option, Some, None, refl, sym, ◌∙◌, ap, inl, inr, arith}
+use Rattle.std.proofs.Common.{ℕ, zero, suc, ◌≡◌, ◌+◌, ◌<◌, ◌≤◌, ◌⊎◌, ◌↔◌, ◌==◌, Bool, true, false, not, ◌&&◌, List, [], ◌∷◌, length, get_or, Option, Some, None, is_some, refl, sym, ◌∙◌, ap, inl, inr, arith}
 use Rattle.std.proofs.lemmas.Bool.{cases_Bool, cases_lt}
 use Rattle.std.proofs.lemmas.Bool.Decides.{eqb_tells}
 use Rattle.std.proofs.lemmas.List.FromFn.{get_or-map-range_with_len}
@@ -8,14 +8,15 @@ use Rattle.bpf_isa.specs.declared.instr.Condition.{Condition}
 use Rattle.bpf_isa.specs.declared.instr.Condition.TheVariants as cond
 use Rattle.bpf_shape.specs.declared.edges.Edges.{Edges}
 use Rattle.bpf_shape.specs.declared.causes.VerifierCause.{VerifierCause}
+use Rattle.bpf_shape.specs.declared.causes.VerifierCause.TheVariants as cause
 use Rattle.bpf_shape.specs.Edges.{control, no_edges}
-use Rattle.bpf_shape.specs.Again.{answer_test, again_of, others_of, again_edge, plain, is_slot, is_head, heads}
+use Rattle.bpf_shape.specs.Again.{calls_again, limit_before, answer_test, again_of, others_of, again_edge, plain, is_slot, is_target, is_head, heads}
 use Rattle.bpf_shape.specs.Paths.{Leads}
-use Rattle.bpf_shape.specs.Rules.{Breaks, Holds, IsLowest, order, FirstOf, FirstBroken, IsShaped}
+use Rattle.bpf_shape.specs.Rules.{is_equality, has_form, keeps, Breaks, Holds, IsLowest, order, FirstOf, FirstBroken, IsShaped}
 use Rattle.bpf_shape.specs.Shape.{IsShapeOf}
-use Rattle.bpf_shape.specs.Laws.{OneShape, OneFault, NoFaultInShaped, EdgesAreSplit, HeadsAreTargets, HeadsBySlot}
+use Rattle.bpf_shape.specs.Laws.{OneShape, OneFault, NoFaultInShaped, EdgesAreSplit, HeadsAreTargets, HeadsBySlot, EdgesLeadToInstructions, IsAround, AgainHasForm}
 use Rattle.bpf_shape.proofs.Ranges.{any_at, at_any}
-use Rattle.bpf_shape.proofs.Kept.{control_past}
+use Rattle.bpf_shape.proofs.Kept.{control_past, edges_begin}
 use Rattle.bpf_shape.proofs.Budgets.{one_budget}
 
 pub one_shape : OneShape
@@ -116,3 +117,50 @@ heads_are_targets program t =
 pub heads_by_slot : HeadsBySlot
 unfolding heads
 heads_by_slot program t inside = get_or-map-range_with_len (is_head program) 0 (length program) t t false inside (omega arith)
+
+pub edges_lead_to_instructions : EdgesLeadToInstructions
+edges_lead_to_instructions program s t h leads = edges_begin program h.targets h.ends s t leads
+
+both : (a b : Bool) → (a && b) ≡ true → (a ≡ true) × (b ≡ true)
+both true b h = (refl, h)
+both false b h = absurd (let bad : false ≡ true = h in cc)
+
+not_true : (a : Bool) → not a ≡ true → a ≡ false
+not_true true h = absurd (let bad : false ≡ true = h in cc)
+not_true false h = refl
+
+is_there : (o : Option ℕ) → is_some o ≡ true → (k : ℕ) × (o ≡ Some k)
+is_there None h = absurd (let bad : false ≡ true = h in cc)
+is_there (Some k) h = (k, refl)
+
+is_one : (o : Option Condition) → is_equality o ≡ true → (o ≡ Some cond.Eq) ⊎ (o ≡ Some cond.Ne)
+is_one None h = absurd (let bad : false ≡ true = h in cc)
+is_one (Some cond.Eq) h = inl refl
+is_one (Some cond.Ne) h = inr refl
+is_one (Some _) h = absurd (let bad : false ≡ true = h in cc)
+
+around : (program : List (Option Instr)) (s : ℕ) → has_form program s ≡ true → IsAround program s
+unfolding has_form
+around program s h =
+    let a = both (is_some (limit_before program s)) _ h in
+    let b = both (is_equality (answer_test program (s + 1))) _ a.1 in
+    let c = both (not (is_target program s)) (not (is_target program (s + 1))) b.1 in
+    let k = is_there (limit_before program s) a.0 in
+    record {
+      limit = k.0;
+      limit_is = k.1;
+      test = is_one (answer_test program (s + 1)) b.0;
+      call_free = not_true (is_target program s) c.0;
+      test_free = not_true (is_target program (s + 1)) c.1;
+    }
+
+kept_form : (program : List (Option Instr)) (s : ℕ) → Holds program cause.AgainForm → calls_again program s ≡ true → has_form program s ≡ true
+unfolding Breaks keeps
+kept_form program s holds calls =
+    elim (cases_Bool (has_form program s)) [
+      | inl is ↦ is
+      | inr not_is ↦ absurd (holds s (rw calls not_is))
+    ]
+
+pub again_has_form : AgainHasForm
+again_has_form program s h calls = around program s (kept_form program s h.again calls)

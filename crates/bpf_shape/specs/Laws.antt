@@ -1,9 +1,10 @@
 -- What holds of shapes: a program has at most one, or one first broken rule, and never both.
-use Rattle.std.specs.Prelude.{ℕ, ◌≡◌, ◌⊎◌, ◌↔◌, ◌<◌, true, false, List, length, get_or, Option, Some}
+use Rattle.std.specs.Prelude.{ℕ, ◌+◌, ◌≡◌, ◌⊎◌, ◌↔◌, ◌<◌, true, false, List, length, get_or, Option, Some}
 use Rattle.bpf_isa.specs.declared.instr.Instr.{Instr}
+use Rattle.bpf_isa.specs.declared.instr.Condition.TheVariants as cond
 use Rattle.bpf_shape.specs.declared.causes.VerifierCause.{VerifierCause}
-use Rattle.bpf_shape.specs.Edges.{control}
-use Rattle.bpf_shape.specs.Again.{again_edge, plain, is_head, heads}
+use Rattle.bpf_shape.specs.Edges.{begins, control}
+use Rattle.bpf_shape.specs.Again.{calls_again, limit_before, answer_test, again_edge, plain, is_target, is_head, heads}
 use Rattle.bpf_shape.specs.Paths.{Leads}
 use Rattle.bpf_shape.specs.Rules.{FirstBroken, IsShaped}
 use Rattle.bpf_shape.specs.Shape.{ShapeValue, IsShapeOf}
@@ -28,3 +29,20 @@ HeadsAreTargets = (program : List (Option Instr)) (t : ℕ) → (is_head program
 -- the marks of a shape, slot by slot
 abbrev pub HeadsBySlot : Type 0
 HeadsBySlot = (program : List (Option Instr)) (t : ℕ) → t < length program → get_or (heads program) t false ≡ is_head program t
+
+-- in a program of right shape each control edge leads to a slot in which an instruction begins
+abbrev pub EdgesLeadToInstructions : Type 0
+EdgesLeadToInstructions = (program : List (Option Instr)) (s t : ℕ) → IsShaped program → Leads (control program s) t → begins program t ≡ true
+
+-- what stands around a call of `again`: K before it, a comparison for equal or not equal behind it, and
+-- no jump leads to the call or to the comparison
+pub record IsAround (program : List (Option Instr)) (s : ℕ) : Type 0 where
+  pub limit : ℕ
+  pub limit_is : limit_before program s ≡ Some limit
+  pub test : (answer_test program (s + 1) ≡ Some cond.Eq) ⊎ (answer_test program (s + 1) ≡ Some cond.Ne)
+  pub call_free : is_target program s ≡ false
+  pub test_free : is_target program (s + 1) ≡ false
+
+-- and so it is in a program of right shape
+abbrev pub AgainHasForm : Type 0
+AgainHasForm = (program : List (Option Instr)) (s : ℕ) → IsShaped program → calls_again program s ≡ true → IsAround program s

@@ -1,6 +1,6 @@
 //! Laws of shapes. The functions do nothing; each contract is a theorem.
 
-ghost use Rattle.bpf_shape.specs.Laws.{OneShape, OneFault, NoFaultInShaped, EdgesAreSplit, HeadsAreTargets, HeadsBySlot};
+ghost use Rattle.bpf_shape.specs.Laws.{OneShape, OneFault, NoFaultInShaped, EdgesAreSplit, HeadsAreTargets, HeadsBySlot, EdgesLeadToInstructions, AgainHasForm};
 
 /// A program has one shape at most.
 pub fn one_shape()
@@ -31,4 +31,14 @@ pub fn heads_are_targets()
 /// The list of heads tells of each slot of the program whether it is one.
 pub fn heads_by_slot()
     ensures { HeadsBySlot }
+{}
+
+/// In a program of right shape each control edge leads to a slot in which an instruction begins.
+pub fn edges_lead_to_instructions()
+    ensures { EdgesLeadToInstructions }
+{}
+
+/// In a program of right shape each call of `again` has the form.
+pub fn again_has_form()
+    ensures { AgainHasForm }
 {}

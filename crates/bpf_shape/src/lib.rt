@@ -9,6 +9,8 @@ mod lengths;
 mod rules;
 mod search;
 mod shaping;
+#[cfg(test)]
+mod tests;
 mod value;
 
 
