@@ -162,9 +162,9 @@ repeats next s [] walk = inl (IsDistinct-cons eqb s [] tt nothing)
 repeats next s (t ∷ p) walk =
     elim (repeats next t p walk.1) [
       | inl distinct ↦ elim (has_or_not s (t ∷ p)) [
-          | inl h ↦ inr (s, cut next s s (t ∷ p) walk h)
-          | inr none ↦ inl (IsDistinct-cons eqb s (t ∷ p) none distinct)
-        ]
+        | inl h ↦ inr (s, cut next s s (t ∷ p) walk h)
+        | inr none ↦ inl (IsDistinct-cons eqb s (t ∷ p) none distinct)
+      ]
       | inr cycle ↦ inr cycle
     ]
 

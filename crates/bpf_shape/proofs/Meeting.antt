@@ -93,12 +93,12 @@ one_old : (m : List Bool) (w : List ℕ) (s : ℕ) → is_new m s ≡ false → 
 one_old m w s h =
     same (λ t. Some s ≡ Some t) m w
     (λ t p inside.
-        let e : s ≡ t = cc in
-        let within : s < length m = rw e inside in
-        elim (cases_Bool (get_or m s false)) [
-          | inl is ↦ rw (← e) is
-          | inr not_is ↦ absurd (let bad : is_new m s ≡ true = rw (not_is, lt-ltb s (length m) within) refl in cc)
-        ])
+    let e : s ≡ t = cc in
+    let within : s < length m = rw e inside in
+    elim (cases_Bool (get_or m s false)) [
+      | inl is ↦ rw (← e) is
+      | inr not_is ↦ absurd (let bad : is_new m s ≡ true = rw (not_is, lt-ltb s (length m) within) refl in cc)
+    ])
 
 meet_by : (b : Bool) (m : List Bool) (w : List ℕ) (s : ℕ) → is_new m s ≡ b
     → Met (λ t. Some s ≡ Some t) m w (if b then set m s true else m) (if b then w ++ s ∷ [] else w)

@@ -102,5 +102,5 @@ all_marks edge n marks m =
     let f : ℕ → Bool = λ t. list_any (λ s. is_slot t (edge s)) (range_with_len 0 n) in
     same_lists marks (map f (range_with_len 0 n)) (m.long ∙ sym (length-map-range_with_len f 0 n))
     (λ k d h.
-        let inside : k < n = omega (arith, h, m.long) in
-        get_or_default marks k d false h ∙ m.each k inside ∙ sym (get_or-map-range_with_len f 0 n k k d inside (omega arith)))
+    let inside : k < n = omega (arith, h, m.long) in
+    get_or_default marks k d false h ∙ m.each k inside ∙ sym (get_or-map-range_with_len f 0 n k k d inside (omega arith)))

@@ -54,14 +54,14 @@ go_on next n from m marks w waiting all s fits is before met =
       begun = λ t h. met.kept t (before.begun t h);
       closed = λ u h. elim (met.wait u h) [
         | inl old ↦ elim (before.closed u old) [
-            | inl waited ↦
-                let split : Has (w ++ s ∷ []) u = rw is at waited in
-                elim (has_last w u s split) [
-                  | inl still ↦ inl (met.stay u still)
-                  | inr e ↦ inr (λ t leads. let there : Leads (next s) t = rw e at leads in met.met t there (omega (arith, before.long, fits s t there)))
-                ]
-            | inr done ↦ inr (λ t leads. met.kept t (done t leads))
-          ]
+          | inl waited ↦
+              let split : Has (w ++ s ∷ []) u = rw is at waited in
+              elim (has_last w u s split) [
+                | inl still ↦ inl (met.stay u still)
+                | inr e ↦ inr (λ t leads. let there : Leads (next s) t = rw e at leads in met.met t there (omega (arith, before.long, fits s t there)))
+              ]
+          | inr done ↦ inr (λ t leads. met.kept t (done t leads))
+        ]
         | inr waits ↦ inl waits
       ];
       waits = λ t h. elim (met.come t h) [

@@ -27,9 +27,9 @@ same_lowest program c s t x y =
     elim (cases_lt s t) [
       | inl less ↦ absurd (y.lowest s less x.breaks)
       | inr not_less ↦ elim (cases_lt t s) [
-          | inl more ↦ absurd (x.lowest t more y.breaks)
-          | inr not_more ↦ omega (arith, not_less, not_more)
-        ]
+        | inl more ↦ absurd (x.lowest t more y.breaks)
+        | inr not_more ↦ omega (arith, not_less, not_more)
+      ]
     ]
 
 first_of_rules : (program : List (Option Instr)) (rules : List VerifierCause) (c d : VerifierCause) (s t : ℕ) → FirstOf program rules c s → FirstOf program rules d t
@@ -104,15 +104,16 @@ of_slot t o e =
 
 pub heads_are_targets : HeadsAreTargets
 unfolding is_head
-heads_are_targets program t =
-    (λ h.
-        let found = at_any (λ s. is_slot t (again_edge program s)) (length program) h in
-        (found.0, is_slot_of t (again_edge program found.0) found.1.1),
-        λ found.
-        elim (cases_lt found.0 (length program)) [
-          | inl inside ↦ any_at (λ s. is_slot t (again_edge program s)) (length program) found.0 inside (of_slot t (again_edge program found.0) found.1)
-          | inr past ↦ absurd (let bad : None ≡ Some t = sym (again_past program found.0 past) ∙ found.1 in cc)
-        ])
+heads_are_targets program t = (
+  λ h.
+      let found = at_any (λ s. is_slot t (again_edge program s)) (length program) h in
+      (found.0, is_slot_of t (again_edge program found.0) found.1.1),
+  λ found.
+      elim (cases_lt found.0 (length program)) [
+        | inl inside ↦ any_at (λ s. is_slot t (again_edge program s)) (length program) found.0 inside (of_slot t (again_edge program found.0) found.1)
+        | inr past ↦ absurd (let bad : None ≡ Some t = sym (again_past program found.0 past) ∙ found.1 in cc)
+      ],
+)
 
 pub heads_by_slot : HeadsBySlot
 unfolding heads

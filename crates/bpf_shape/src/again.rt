@@ -182,7 +182,9 @@ pub(crate) fn heads(alloc: Global, program: &Program) -> Result<Vec<bool>, Alloc
 fn mark(marks: &mut Vec<bool>, slot: Option<usize>)
     ensures { marks.new.items ≡ with_mark marks.old.items slot }
 {
-    if let Some(slot) = slot && slot < marks.len() {
+    if let Some(slot) = slot
+        && slot < marks.len()
+    {
         marks[slot] = true;
     }
 }

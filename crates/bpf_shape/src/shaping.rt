@@ -47,11 +47,7 @@ fn is_on_cycle(
 }
 
 /// Tests that there is no cycle without again edges, and names the lowest slot on one.
-fn keep_loops(
-    alloc: Global,
-    program: &Program,
-    lengths: &Vec<Option<usize>>,
-) -> Result<(), Fault>
+fn keep_loops(alloc: Global, program: &Program, lengths: &Vec<Option<usize>>) -> Result<(), Fault>
     requires edges { EdgesFit (plain program.now) (length program.now) }
     requires settled { AreSettled (plain program.now) (length program.now) lengths.now.items }
     ensures kept { OnOk result (Holds program.now cause.Loop) }

@@ -1,13 +1,14 @@
 //! The budgets, heads and refusals of docs/VERIFIER.md.
 
-use crate::laws::{again_has_form, edges_are_split, edges_lead_to_instructions, heads_are_targets, heads_by_slot, no_fault_in_shaped, one_fault, one_shape};
+use crate::laws::{
+    again_has_form, edges_are_split, edges_lead_to_instructions, heads_are_targets, heads_by_slot,
+    no_fault_in_shaped, one_fault, one_shape,
+};
 use crate::{Edges, VerifierCause, control, edges_of, shape};
-use base::numbers::{put_u32};
 use bpf_isa::codec::decode;
 use bpf_isa::instr::Instr;
 use bpf_isa::program::Program;
-use std::alloc::{AllocError, Global};
-use std::process::Abort;
+use std::alloc::Global;
 use std::test::Fail;
 
 /// A slot: opcode, registers (the source in the high half), offset, immediate.
@@ -17,81 +18,81 @@ const EXIT: Slot = (0x95, 0, 0, 0);
 
 /// first_byte
 const FIRST_BYTE: [Slot; 7] = [
-    (0xb7, 1, 0, 0),    // 0: mov64 r1, 0
-    (0x85, 0, 0, 1),    // 1: call 1
-    (0x55, 0, 2, 0),    // 2: jne r0, 0, +2
-    (0xb7, 0, 0, 0),    // 3: mov64 r0, 0
-    EXIT,               // 4: exit
+    (0xb7, 1, 0, 0), // 0: mov64 r1, 0
+    (0x85, 0, 0, 1), // 1: call 1
+    (0x55, 0, 2, 0), // 2: jne r0, 0, +2
+    (0xb7, 0, 0, 0), // 3: mov64 r0, 0
+    EXIT, // 4: exit
     (0x71, 0x00, 0, 0), // 5: ldxb r0, [r0+0]
-    EXIT,               // 6: exit
+    EXIT, // 6: exit
 ];
 
 /// ends_agree
 const ENDS_AGREE: [Slot; 11] = [
-    (0xb7, 1, 0, 0),      // 0: mov64 r1, 0
-    (0x85, 0, 0, 1),      // 1: call 1
-    (0x55, 0, 2, 0),      // 2: jne r0, 0, +2
-    (0xb7, 0, 0, 0),      // 3: mov64 r0, 0
-    EXIT,                 // 4: exit
-    (0x71, 0x01, 0, 0),   // 5: ldxb r1, [r0+0]
+    (0xb7, 1, 0, 0), // 0: mov64 r1, 0
+    (0x85, 0, 0, 1), // 1: call 1
+    (0x55, 0, 2, 0), // 2: jne r0, 0, +2
+    (0xb7, 0, 0, 0), // 3: mov64 r0, 0
+    EXIT, // 4: exit
+    (0x71, 0x01, 0, 0), // 5: ldxb r1, [r0+0]
     (0x71, 0x02, 511, 0), // 6: ldxb r2, [r0+511]
-    (0xb7, 0, 0, 0),      // 7: mov64 r0, 0
-    (0x1d, 0x21, 1, 0),   // 8: jeq r1, r2, +1
-    (0xb7, 0, 0, 1),      // 9: mov64 r0, 1
-    EXIT,                 // 10: exit
+    (0xb7, 0, 0, 0), // 7: mov64 r0, 0
+    (0x1d, 0x21, 1, 0), // 8: jeq r1, r2, +1
+    (0xb7, 0, 0, 1), // 9: mov64 r0, 1
+    EXIT, // 10: exit
 ];
 
 /// report_codes
 const REPORT_CODES: [Slot; 10] = [
-    (0xb7, 6, 0, 0),    // 0: mov64 r6, 0
-    (0xb7, 1, 0, 17),   // 1: mov64 r1, 17
-    (0x85, 0, 0, 3),    // 2: call 3
-    (0x15, 0, 4, 0),    // 3: jeq r0, 0, +4
+    (0xb7, 6, 0, 0), // 0: mov64 r6, 0
+    (0xb7, 1, 0, 17), // 1: mov64 r1, 17
+    (0x85, 0, 0, 3), // 2: call 3
+    (0x15, 0, 4, 0), // 3: jeq r0, 0, +4
     (0xbf, 0x61, 0, 0), // 4: mov64 r1, r6
-    (0x85, 0, 0, 4),    // 5: call 4
-    (0x07, 6, 0, 1),    // 6: add64 r6, 1
-    (0x05, 0, -7, 0),   // 7: ja -7
-    (0xb7, 0, 0, 1),    // 8: mov64 r0, 1
-    EXIT,               // 9: exit
+    (0x85, 0, 0, 4), // 5: call 4
+    (0x07, 6, 0, 1), // 6: add64 r6, 1
+    (0x05, 0, -7, 0), // 7: ja -7
+    (0xb7, 0, 0, 1), // 8: mov64 r0, 1
+    EXIT, // 9: exit
 ];
 
 /// sum_words
 const SUM_WORDS: [Slot; 22] = [
-    (0xb7, 6, 0, 0),    // 0: mov64 r6, 0
-    (0xb7, 1, 0, 0),    // 1: mov64 r1, 0
-    (0x85, 0, 0, 1),    // 2: call 1
-    (0x55, 0, 2, 0),    // 3: jne r0, 0, +2
-    (0xb7, 0, 0, 0),    // 4: mov64 r0, 0
-    EXIT,               // 5: exit
+    (0xb7, 6, 0, 0), // 0: mov64 r6, 0
+    (0xb7, 1, 0, 0), // 1: mov64 r1, 0
+    (0x85, 0, 0, 1), // 2: call 1
+    (0x55, 0, 2, 0), // 3: jne r0, 0, +2
+    (0xb7, 0, 0, 0), // 4: mov64 r0, 0
+    EXIT, // 5: exit
     (0xbf, 0x07, 0, 0), // 6: mov64 r7, r0
-    (0xb7, 8, 0, 0),    // 7: mov64 r8, 0
-    (0xb7, 1, 0, 64),   // 8: mov64 r1, 64
-    (0x85, 0, 0, 3),    // 9: call 3
-    (0x15, 0, 9, 0),    // 10: jeq r0, 0, +9
-    (0x35, 6, 8, 64),   // 11: jge r6, 64, +8
+    (0xb7, 8, 0, 0), // 7: mov64 r8, 0
+    (0xb7, 1, 0, 64), // 8: mov64 r1, 64
+    (0x85, 0, 0, 3), // 9: call 3
+    (0x15, 0, 9, 0), // 10: jeq r0, 0, +9
+    (0x35, 6, 8, 64), // 11: jge r6, 64, +8
     (0xbf, 0x62, 0, 0), // 12: mov64 r2, r6
-    (0x67, 2, 0, 3),    // 13: lsh64 r2, 3
+    (0x67, 2, 0, 3), // 13: lsh64 r2, 3
     (0xbf, 0x73, 0, 0), // 14: mov64 r3, r7
     (0x0f, 0x23, 0, 0), // 15: add64 r3, r2
     (0x79, 0x34, 0, 0), // 16: ldxdw r4, [r3+0]
     (0x4f, 0x48, 0, 0), // 17: or64 r8, r4
-    (0x07, 6, 0, 1),    // 18: add64 r6, 1
-    (0x05, 0, -12, 0),  // 19: ja -12
-    (0xb7, 0, 0, 0),    // 20: mov64 r0, 0
-    EXIT,               // 21: exit
+    (0x07, 6, 0, 1), // 18: add64 r6, 1
+    (0x05, 0, -12, 0), // 19: ja -12
+    (0xb7, 0, 0, 0), // 20: mov64 r0, 0
+    EXIT, // 21: exit
 ];
 
 /// nested_loops
 const NESTED_LOOPS: [Slot; 9] = [
-    (0xb7, 1, 0, 2),  // 0: mov64 r1, 2
-    (0x85, 0, 0, 3),  // 1: call 3
-    (0x15, 0, 4, 0),  // 2: jeq r0, 0, +4
-    (0xb7, 1, 0, 3),  // 3: mov64 r1, 3
-    (0x85, 0, 0, 3),  // 4: call 3
+    (0xb7, 1, 0, 2), // 0: mov64 r1, 2
+    (0x85, 0, 0, 3), // 1: call 3
+    (0x15, 0, 4, 0), // 2: jeq r0, 0, +4
+    (0xb7, 1, 0, 3), // 3: mov64 r1, 3
+    (0x85, 0, 0, 3), // 4: call 3
     (0x15, 0, -6, 0), // 5: jeq r0, 0, -6
     (0x05, 0, -4, 0), // 6: ja -4
-    (0xb7, 0, 0, 0),  // 7: mov64 r0, 0
-    EXIT,             // 8: exit
+    (0xb7, 0, 0, 0), // 7: mov64 r0, 0
+    EXIT, // 8: exit
 ];
 
 /// The same slot at both edges of the test.
@@ -99,7 +100,7 @@ const BOTH_EDGES: [Slot; 4] = [
     (0xb7, 1, 0, 1), // 0: mov64 r1, 1
     (0x85, 0, 0, 3), // 1: call 3
     (0x15, 0, 0, 0), // 2: jeq r0, 0, +0
-    EXIT,            // 3: exit
+    EXIT, // 3: exit
 ];
 
 /// The program of these slots.
@@ -123,7 +124,7 @@ fn answer(alloc: Global, program: &Program) -> Result<u64, (u8, u64)> {
 
 #[test]
 fn budgets(rt: HostRuntime) -> Result<(), Fail> {
-    let cases: [(&[Slot], u64); 9] = [
+    let cases: [(&[Slot], u64); 10] = [
         (&[(0xb7, 0, 0, 0), EXIT], 2),
         (&FIRST_BYTE, 5),
         (&ENDS_AGREE, 9),
@@ -133,10 +134,25 @@ fn budgets(rt: HostRuntime) -> Result<(), Fail> {
         (&NESTED_LOOPS, 54),
         (&BOTH_EDGES, 8),
         (&[EXIT], 1),
+        // mov64 r1, 2; call 3; jeq r0, 0, +1; ja -4; exit
+        (
+            &[
+                (0xb7, 1, 0, 2),
+                (0x85, 0, 0, 3),
+                (0x15, 0, 1, 0),
+                (0x05, 0, -4, 0),
+                EXIT,
+            ],
+            15,
+        ),
     ];
     for (number, (slots, budget)) in cases.iter().enumerate() {
         let program = program_of(rt.alloc(), slots)?;
-        assert_eq!(rt; answer(rt.alloc(), &program), Ok(*budget), "program {number}");
+        assert_eq!(rt;
+            answer(rt.alloc(), &program),
+            Ok(*budget),
+            "program {number}"
+        );
     }
     Ok(())
 }
@@ -178,10 +194,7 @@ fn refusals(rt: HostRuntime) -> Result<(), Fail> {
             (43, 1),
         ),
         // call 3; mov64 r10, 0; exit
-        (
-            &[(0x85, 0, 0, 3), (0xb7, 10, 0, 0), EXIT],
-            (57, 1),
-        ),
+        (&[(0x85, 0, 0, 3), (0xb7, 10, 0, 0), EXIT], (57, 1)),
         // call 3; call 8; exit
         (&[(0x85, 0, 0, 3), (0x85, 0, 0, 8), EXIT], (58, 1)),
         // call -1; exit
@@ -189,7 +202,11 @@ fn refusals(rt: HostRuntime) -> Result<(), Fail> {
     ];
     for (number, (slots, refusal)) in cases.iter().enumerate() {
         let program = program_of(rt.alloc(), slots)?;
-        assert_eq!(rt; answer(rt.alloc(), &program), Err(*refusal), "program {number}");
+        assert_eq!(rt;
+            answer(rt.alloc(), &program),
+            Err(*refusal),
+            "program {number}"
+        );
     }
     Ok(())
 }
@@ -241,9 +258,27 @@ fn edges(rt: HostRuntime) -> Result<(), Fail> {
     let jump = control(&program, 6);
     let test = control(&program, 2);
     assert_eq!(rt; ends, Edges::NONE);
-    assert_eq!(rt; jump, Edges { next: None, target: Some(3) });
-    assert_eq!(rt; test, Edges { next: Some(3), target: Some(7) });
-    assert_eq!(rt; edges_of(4, &Instr::Jump { offset: -5 }), Edges { next: None, target: Some(0) });
+    assert_eq!(rt;
+        jump,
+        Edges {
+            next: None,
+            target: Some(3)
+        }
+    );
+    assert_eq!(rt;
+        test,
+        Edges {
+            next: Some(3),
+            target: Some(7)
+        }
+    );
+    assert_eq!(rt;
+        edges_of(4, &Instr::Jump { offset: -5 }),
+        Edges {
+            next: None,
+            target: Some(0)
+        }
+    );
     assert_eq!(rt; VerifierCause::Memory.number(), 60);
     Ok(())
 }

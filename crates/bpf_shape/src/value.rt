@@ -40,4 +40,3 @@ impl Shape {
         slot < self.heads.len() && self.heads[slot]
     }
 }
-

@@ -5,7 +5,7 @@ use Rattle.bpf_shape.proofs.rules.keep_all.Goals as goal
 pub returns-in_err-keep-clause-refused : goal.returns-in_err-keep-clause-refused
 returns-in_err-keep-clause-refused c =
     let p = err_from_is_err_and c.from_residual.result c.from_residual.ensures.1 in
-    rw (p.1, p.2) (first_target c.args.program.now _  c.in_err-keep.ensures.refused)
+    rw (p.1, p.2) (first_target c.args.program.now _ c.in_err-keep.ensures.refused)
 
 pub returns-in_err-keep-2-clause-refused : goal.returns-in_err-keep-2-clause-refused
 returns-in_err-keep-2-clause-refused c =

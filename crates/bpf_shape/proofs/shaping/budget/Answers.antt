@@ -22,6 +22,6 @@ returns c =
     record {
       longest = c.greatest-longest.result;
       path = is_longest c.args.program.now (length c.args.program.now) c.args.lengths.now.items c.in_ok-marks.marks.items c.greatest-longest.result
-        (λ s t leads. c.requires.edges s t (plain_is_control c.args.program.now s t leads)) c.requires.settled c.requires.loops c.in_ok-marks.ensures great c.requires.program.count.some;
+          (λ s t leads. c.requires.edges s t (plain_is_control c.args.program.now s t leads)) c.requires.settled c.requires.loops c.in_ok-marks.ensures great c.requires.program.count.some;
       product = rw c.turns.ensures.value refl;
     }

@@ -16,15 +16,15 @@ returns-in_err-keep_loops-clause-refused c =
     let p = err_from_is_err_and c.from_residual-in_err-keep_loops.result c.from_residual-in_err-keep_loops.ensures.1 in
     rw (p.1, p.2)
     (elim c.in_err-keep_loops.ensures.refused [
-        | inl memory ↦ inl memory
-        | inr broken ↦ inr (first_loop c.args.program.now _ c.in_ok-keep_all.ensures.kept broken)
-      ])
+      | inl memory ↦ inl memory
+      | inr broken ↦ inr (first_loop c.args.program.now _ c.in_ok-keep_all.ensures.kept broken)
+    ])
 
 pub returns-then-budget-gt-MOST_STEPS-clause-refused :
     goal.returns-then-budget-gt-MOST_STEPS-clause-refused
 returns-then-budget-gt-MOST_STEPS-clause-refused c =
     inr (first_budget c.args.program.now c.in_ok-keep_all.ensures.kept c.in_ok-keep_loops.ensures.kept
-        (record { budget = c.in_ok-budget.budget; is = c.in_ok-budget.ensures; over = c.if-budget-gt-MOST_STEPS.true }))
+    (record { budget = c.in_ok-budget.budget; is = c.in_ok-budget.ensures; over = c.if-budget-gt-MOST_STEPS.true }))
 
 pub returns-clause-shape : goal.returns-clause-shape
 returns-clause-shape c =
