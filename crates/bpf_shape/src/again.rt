@@ -1,8 +1,8 @@
 //! Calls of `again`, and the edges and heads that they make.
 
-ghost use Rattle.std.specs.Prelude.{◌≡◌, ◌<◌, ◌≤◌, ◌*◌, length, Some, IfSome, IfOk};
+ghost use Rattle.std.specs.Prelude.{◌≡◌, ◌≤◌, ◌*◌, IfSome, IfOk};
 ghost use Rattle.bpf_shape.specs.Search.{with_mark};
-ghost use Rattle.bpf_shape.specs.Again.{helper_number, calls_again, limit_of, zero_test, limit_before, answer_test, again_edge, plain, is_slot, is_target, is_head, heads, turns_at, turns};
+ghost use Rattle.bpf_shape.specs.Again.{helper_number, calls_again, limit_of, zero_test, limit_before, answer_test, again_edge, plain, is_slot, is_target, heads, turns_at, turns};
 
 use crate::edges::{Edges, control};
 use bpf_isa::instr::{Condition, Instr, Operator, Source, Width};

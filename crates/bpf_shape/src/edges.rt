@@ -1,7 +1,7 @@
 //! Control edges: where control goes from an instruction.
 
 ghost use Rattle.std.specs.Prelude.{◌≡◌, ◌<◌, ◌≤ℤ◌, pos, negsuc};
-ghost use Rattle.bpf_shape.specs.Edges.{edges, edges_of, control, landing};
+ghost use Rattle.bpf_shape.specs.Edges.{edges_of, control, landing};
 
 use bpf_isa::instr::Instr;
 use bpf_isa::program::Program;

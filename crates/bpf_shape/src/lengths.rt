@@ -1,6 +1,6 @@
 //! The length of the longest path of each slot, without again edges.
 
-ghost use Rattle.std.specs.Prelude.{◌≡◌, ◌<◌, ◌≤◌, ℕ, IsTrue, IsFalse, OnOk, IfOk, Some, None, length};
+ghost use Rattle.std.specs.Prelude.{◌≡◌, ◌<◌, ◌≤◌, ℕ, IsTrue, IsFalse, OnOk, IfOk, Some, length};
 ghost use Rattle.bpf_isa.specs.Program.{IsProgram};
 ghost use Rattle.bpf_shape.specs.Again.{plain};
 ghost use Rattle.bpf_shape.specs.Lengths.{length_of, behind_edge, length_from, known, ArePartial, AreSettled, IsStuck};

@@ -1,6 +1,6 @@
 //! The rules that look at one slot and those beside it.
 
-ghost use Rattle.std.specs.Prelude.{◌≡◌, ◌<◌, ◌==◌, nat_le, not, ◌&&◌, true, false, OnOk, IfErr};
+ghost use Rattle.std.specs.Prelude.{◌≡◌, ◌<◌, ◌==◌, nat_le, not, ◌&&◌, true, OnOk, IfErr};
 ghost use Rattle.std.specs.Option.{option_map_or, option_and_then};
 ghost use Rattle.bpf_shape.specs.Edges.{at, begins};
 ghost use Rattle.bpf_shape.specs.Again.{helper_number};

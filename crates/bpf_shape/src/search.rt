@@ -1,6 +1,6 @@
 //! Which slots are reached along edges.
 
-ghost use Rattle.std.specs.Prelude.{◌≡◌, ◌<◌, ◌≤◌, ◌*◌, ◌+◌, ℕ, OnOk, IfOk, Some, length};
+ghost use Rattle.std.specs.Prelude.{◌≡◌, ◌<◌, ℕ, OnOk, IfOk, length};
 ghost use Rattle.bpf_shape.specs.Paths.{Leads};
 ghost use Rattle.bpf_shape.specs.Search.{followed, marks_after, waiting_after, Met, EdgesFit, AreMarks};
 

@@ -1,6 +1,6 @@
 //! The rules of the whole program, and `shape`.
 
-ghost use Rattle.std.specs.Prelude.{◌≡◌, ◌<◌, ◌≤◌, ◌⊎◌, ℕ, IsTrue, ◌↔◌, OnOk, IfOk, IfErr, length};
+ghost use Rattle.std.specs.Prelude.{◌≡◌, ◌+◌, ◌*◌, ◌<◌, ◌≤◌, ◌⊎◌, IsTrue, ◌↔◌, OnOk, IfOk, IfErr, length};
 ghost use Rattle.bpf_isa.specs.Program.{IsProgram};
 ghost use Rattle.bpf_shape.specs.Causes.{memory_fault};
 ghost use Rattle.bpf_shape.specs.Edges.{control};
@@ -92,6 +92,16 @@ fn greatest(lengths: &Vec<Option<usize>>, marks: &Vec<bool>) -> usize
     longest
 }
 
+/// The budget, from the sum of all K and the length of the longest path.
+#[tactic(auto, using(crate::proofs::Budgets::product_fits))]
+fn steps(turns: u64, longest: usize) -> u64
+    requires turns { turns ≤ 4294967296 }
+    requires longest { longest ≤ 4096 }
+    ensures { result ≡ (1 + turns) * longest }
+{
+    (1 + turns) * longest as u64
+}
+
 /// The budget of a program without cycles.
 fn budget(alloc: Global, program: &Program, lengths: &Vec<Option<usize>>) -> Result<u64, AllocError>
     requires edges { EdgesFit (control program.now) (length program.now) }
@@ -106,7 +116,7 @@ fn budget(alloc: Global, program: &Program, lengths: &Vec<Option<usize>>) -> Res
     };
     let marks = reached(alloc, program, Kind::All, start)?;
     let longest = greatest(lengths, &marks);
-    Ok((1 + turns(program)) * longest as u64)
+    Ok(steps(turns(program), longest))
 }
 
 /// The shape of a program, or the first of the shape rules that it breaks, at the lowest slot that
