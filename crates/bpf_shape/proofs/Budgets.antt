@@ -1,5 +1,5 @@
 -- The longest path and the budget, from the lengths of all slots and the marks of the reached ones.
-use Rattle.std.proofs.Common.{ℕ, zero, suc, ◌≡◌, ◌+◌, ◌*◌, ◌<◌, ◌≤◌, ◌⊎◌, ◌^◌, max, Bool, true, false, List, [], ◌∷◌, length, get_or, Option, Some, None, refl, sym, ◌∙◌, ap, inl, inr, arith}
+use Rattle.std.proofs.Common.{ℕ, suc, ◌≡◌, ◌+◌, ◌*◌, ◌<◌, ◌≤◌, ◌⊎◌, max, Bool, true, false, List, [], length, get_or, Option, Some, None, refl, sym, ◌∙◌, ap, inl, inr, arith}
 use Rattle.std.proofs.Math.Nat.{mul-le-mul}
 use Rattle.std.proofs.lemmas.Bool.{cases_lt}
 use Rattle.std.proofs.lemmas.List.{get_or_past}
@@ -7,9 +7,9 @@ use Rattle.bpf_isa.specs.declared.instr.Instr.{Instr}
 use Rattle.bpf_shape.specs.declared.edges.Edges.{Edges}
 use Rattle.bpf_shape.specs.declared.causes.VerifierCause.TheVariants as cause
 use Rattle.bpf_shape.specs.Edges.{control, edges}
-use Rattle.bpf_shape.specs.Again.{plain, turns, heads}
-use Rattle.bpf_shape.specs.Paths.{Leads, IsWalk, Reaches, LeadsTo, OnCycle, IsReached}
-use Rattle.bpf_shape.specs.Budget.{HasPath, IsLongest, IsBudget, most_steps}
+use Rattle.bpf_shape.specs.Again.{plain, heads}
+use Rattle.bpf_shape.specs.Paths.{Leads, IsWalk, Reaches, LeadsTo, OnCycle}
+use Rattle.bpf_shape.specs.Budget.{IsLongest, IsBudget, most_steps}
 use Rattle.bpf_shape.specs.Rules.{Breaks, Holds}
 use Rattle.bpf_shape.specs.Keeping.{KeepsAll}
 use Rattle.bpf_shape.specs.Shape.{IsShapeOf}

@@ -1,5 +1,5 @@
 -- What follows from the rules that look at one slot.
-use Rattle.std.proofs.Common.{ℕ, zero, suc, ◌≡◌, ◌+◌, ◌<◌, ◌≤◌, ◌⊎◌, Bool, true, false, not, if◌then◌else◌, List, [], ◌∷◌, length, slice_get, Option, Some, None, is_some, refl, sym, ◌∙◌, ap, inl, inr, arith}
+use Rattle.std.proofs.Common.{ℕ, ◌≡◌, ◌<◌, ◌≤◌, true, false, List, length, slice_get, Option, Some, None, refl, sym, ◌∙◌, ap, inl, inr, arith}
 use Rattle.std.specs.Option.{option_map_or, option_and_then}
 use Rattle.std.proofs.lemmas.Bool.{cases_Bool, cases_lt}
 use Rattle.std.proofs.lemmas.Option.{slice_get_past}
@@ -11,8 +11,8 @@ use Rattle.bpf_shape.specs.declared.causes.VerifierCause.{VerifierCause}
 use Rattle.bpf_shape.specs.declared.causes.VerifierCause.TheVariants as cause
 use Rattle.bpf_shape.specs.declared.causes.Fault.{Fault}
 use Rattle.bpf_shape.specs.Edges.{at, begins, edges_of, control, no_edges}
-use Rattle.bpf_shape.specs.Again.{helper_number, calls_again, answer_test, again_of, others_of, again_edge, plain}
-use Rattle.bpf_shape.specs.Paths.{Leads, LeadsTo, OnCycle}
+use Rattle.bpf_shape.specs.Again.{calls_again, answer_test, others_of, plain}
+use Rattle.bpf_shape.specs.Paths.{Leads, OnCycle}
 use Rattle.bpf_shape.specs.Search.{EdgesFit}
 use Rattle.bpf_shape.specs.Rules.{keeps, IsOver, Breaks, Holds, IsLowest, FirstBroken}
 use Rattle.bpf_shape.specs.Keeping.{IsOfSlots, IsBrokenAt, KeepsAll}

@@ -1,14 +1,14 @@
 -- Lengths that come of those behind are the longest paths, and a slot without one leads to a cycle.
-use Rattle.std.proofs.Common.{ℕ, zero, suc, ◌≡◌, ◌+◌, ◌-◌, ◌<◌, ◌≤◌, ◌⊎◌, max, Bool, true, false, List, [], ◌∷◌, ◌++◌, length, Option, Some, None, is_some, eqb, refl, sym, ◌∙◌, ap, inl, inr, arith, add-one}
+use Rattle.std.proofs.Common.{ℕ, zero, suc, ◌≡◌, ◌+◌, ◌-◌, ◌<◌, ◌≤◌, ◌⊎◌, max, true, false, List, [], ◌∷◌, length, Option, Some, None, eqb, refl, sym, ◌∙◌, ap, inl, inr, arith}
 use Rattle.std.specs.List.{list_any, IsDistinct, AllByRecursion}
 use Rattle.std.proofs.lemmas.Map.Keys.{IsDistinct-cons}
-use Rattle.std.proofs.lemmas.Bool.{cases_Bool, cases_lt, cases_eq}
+use Rattle.std.proofs.lemmas.Bool.{cases_lt}
 use Rattle.std.proofs.lemmas.Bool.Decides.{eqb_tells}
 use Rattle.std.proofs.lemmas.Map.Steps.{length-le_from_distinct_below}
 use Rattle.bpf_shape.specs.declared.edges.Edges.{Edges}
-use Rattle.bpf_shape.specs.Paths.{Leads, IsWalk, end_of, Reaches, LeadsTo, OnCycle}
+use Rattle.bpf_shape.specs.Paths.{Leads, IsWalk, end_of, LeadsTo, OnCycle}
 use Rattle.bpf_shape.specs.Search.{EdgesFit, Has}
-use Rattle.bpf_shape.specs.Lengths.{length_of, behind_edge, length_from, known, ArePartial, IsStuck, AreSettled}
+use Rattle.bpf_shape.specs.Lengths.{length_of, behind_edge, length_from, ArePartial, AreSettled}
 use Rattle.bpf_shape.proofs.Walks.{leads_first}
 use Rattle.bpf_shape.proofs.Partial.{Comes, comes}
 

@@ -1,11 +1,8 @@
 -- What a search does with the slots that it meets.
-use Rattle.std.proofs.Common.{ℕ, zero, suc, ◌≡◌, ◌+◌, ◌*◌, ◌<◌, ◌≤◌, ◌⊎◌, Bool, true, false, not, ◌&&◌, nat_lt, if◌then◌else◌, List, [], ◌∷◌, ◌++◌, length, get_or, set, Option, Some, None, refl, sym, ◌∙◌, ap, inl, inr, arith, length-append, lt-ltb}
+use Rattle.std.proofs.Common.{ℕ, ◌≡◌, ◌+◌, ◌<◌, ◌⊎◌, Bool, true, false, not, if◌then◌else◌, List, [], ◌∷◌, ◌++◌, length, get_or, set, Option, Some, None, refl, sym, ◌∙◌, ap, inl, inr, arith, length-append, lt-ltb}
 use Rattle.std.proofs.lemmas.Bool.{cases_Bool, cases_lt, cases_eq}
 use Rattle.std.proofs.lemmas.List.{get_or-set_same, get_or-set_other, length-set, get_or_past}
 use Rattle.std.proofs.lemmas.List.Sums.{sum_by-set}
-use Rattle.std.specs.List.{count_by}
-use Rattle.bpf_shape.specs.declared.edges.Edges.{Edges}
-use Rattle.bpf_shape.specs.Paths.{Leads}
 use Rattle.bpf_shape.specs.Search.{IsMarked, is_new, marks_after, waiting_after, Has, unmarked, Met}
 
 pub has_left : (xs ys : List ℕ) (t : ℕ) → Has xs t → Has (xs ++ ys) t

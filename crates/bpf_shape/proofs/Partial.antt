@@ -1,11 +1,10 @@
 -- The lengths of paths as they come to be known.
-use Rattle.std.proofs.Common.{ℕ, zero, suc, ◌≡◌, ◌+◌, ◌<◌, ◌≤◌, ◌-◌, ◌⊎◌, max, Bool, true, false, IsTrue, IsFalse, List, [], ◌∷◌, ◌++◌, length, get_or, set, replicate, Option, Some, None, is_some, if◌then◌else◌, refl, sym, ◌∙◌, ap, inl, inr, arith}
-use Rattle.std.proofs.lemmas.Bool.{cases_Bool, cases_lt, cases_eq}
+use Rattle.std.proofs.Common.{ℕ, ◌≡◌, ◌+◌, ◌<◌, ◌≤◌, ◌-◌, max, Bool, true, false, IsTrue, IsFalse, List, length, get_or, set, replicate, Option, Some, None, is_some, if◌then◌else◌, refl, sym, ◌∙◌, inl, inr, arith}
+use Rattle.std.proofs.lemmas.Bool.{cases_lt, cases_eq}
 use Rattle.std.proofs.lemmas.List.{get_or-set_same, get_or-set_other, length-set, get_or-replicate, length-replicate, get_or_past, get_or_default}
 use Rattle.std.proofs.lemmas.List.Sums.{sum_by-set, count_by-le-length}
 use Rattle.bpf_shape.specs.declared.edges.Edges.{Edges}
-use Rattle.bpf_shape.specs.Paths.{Leads}
-use Rattle.bpf_shape.specs.Lengths.{length_of, behind_edge, length_from, known, ArePartial, IsStuck, AreSettled}
+use Rattle.bpf_shape.specs.Lengths.{length_of, behind_edge, length_from, known, ArePartial, IsStuck}
 
 -- a length comes of those behind both edges
 pub record Comes (lengths : List (Option ℕ)) (e : Edges) (k : ℕ) : Type 0 where

@@ -1,6 +1,6 @@
 -- Tests and marks over all slots, one slot more at a time.
-use Rattle.std.proofs.Common.{ℕ, zero, suc, ◌≡◌, ◌+◌, ◌*◌, ◌<◌, ◌≤◌, ◌⊎◌, Bool, true, false, ◌||◌, ◌==◌, List, [], ◌∷◌, ◌++◌, length, map, get_or, set, replicate, Option, Some, None, refl, sym, ◌∙◌, ap, inl, inr, arith, add-one}
-use Rattle.std.specs.List.{list_any, range_with_len, sum, sum_by}
+use Rattle.std.proofs.Common.{ℕ, zero, suc, ◌≡◌, ◌+◌, ◌<◌, Bool, true, false, ◌||◌, List, [], ◌∷◌, length, map, get_or, set, replicate, Option, Some, None, refl, sym, ◌∙◌, ap, inl, inr, arith, add-one}
+use Rattle.std.specs.List.{list_any, range_with_len, sum}
 use Rattle.std.proofs.lemmas.Bool.{cases_Bool, cases_lt}
 use Rattle.std.proofs.lemmas.Bool.Decides.{eqb_tells}
 use Rattle.std.proofs.lemmas.List.{get_or-set_same, get_or-set_other, length-set, get_or-replicate, length-replicate, same_lists, get_or_default}

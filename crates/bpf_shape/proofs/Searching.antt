@@ -1,9 +1,9 @@
 -- The search along edges: what holds while slots wait, and at its end.
-use Rattle.std.proofs.Common.{ℕ, zero, suc, ◌≡◌, ◌+◌, ◌*◌, ◌<◌, ◌≤◌, ◌⊎◌, Bool, true, false, List, [], ◌∷◌, ◌++◌, length, get_or, replicate, Option, Some, None, refl, sym, ◌∙◌, ap, inl, inr, arith, length-append}
+use Rattle.std.proofs.Common.{ℕ, ◌≡◌, ◌+◌, ◌*◌, ◌<◌, ◌≤◌, ◌⊎◌, Bool, true, false, List, [], ◌∷◌, ◌++◌, length, replicate, refl, sym, ◌∙◌, ap, inl, inr, arith, length-append}
 use Rattle.std.proofs.lemmas.Bool.{cases_lt}
 use Rattle.std.proofs.lemmas.List.{get_or-replicate, length-replicate, get_or_past}
 use Rattle.bpf_shape.specs.declared.edges.Edges.{Edges}
-use Rattle.bpf_shape.specs.Paths.{Leads, IsWalk, end_of, Reaches, LeadsTo}
+use Rattle.bpf_shape.specs.Paths.{Leads, IsWalk, end_of, LeadsTo}
 use Rattle.bpf_shape.specs.Search.{IsMarked, Has, unmarked, Met, EdgesFit, AreMarks}
 use Rattle.bpf_shape.proofs.Walks.{leads_more, leads_first}
 use Rattle.bpf_shape.proofs.Meeting.{has_left, has_right, has_last}

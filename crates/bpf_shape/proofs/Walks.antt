@@ -1,7 +1,7 @@
 -- Walks: longer by an edge, in parts, and what a walk with a slot twice gives.
-use Rattle.std.proofs.Common.{ℕ, zero, suc, ◌≡◌, ◌+◌, ◌<◌, ◌≤◌, ◌⊎◌, Bool, true, false, List, [], ◌∷◌, ◌++◌, length, Some, None, refl, sym, ◌∙◌, ap, inl, inr, arith, length-append}
+use Rattle.std.proofs.Common.{ℕ, ◌≡◌, List, [], ◌∷◌, ◌++◌, refl}
 use Rattle.bpf_shape.specs.declared.edges.Edges.{Edges}
-use Rattle.bpf_shape.specs.Paths.{Leads, IsWalk, end_of, Reaches, LeadsTo, OnCycle}
+use Rattle.bpf_shape.specs.Paths.{Leads, IsWalk, end_of, Reaches, LeadsTo}
 
 pub walk_more : (next : ℕ → Edges) (s t : ℕ) (p : List ℕ) → IsWalk next s p → Leads (next (end_of s p)) t → IsWalk next s (p ++ t ∷ [])
 walk_more next s t [] w l = (l, tt)

@@ -1,5 +1,5 @@
 -- The laws of shapes.
-use Rattle.std.proofs.Common.{ℕ, zero, suc, ◌≡◌, ◌+◌, ◌<◌, ◌≤◌, ◌⊎◌, ◌↔◌, ◌==◌, Bool, true, false, not, ◌&&◌, List, [], ◌∷◌, length, get_or, Option, Some, None, is_some, refl, sym, ◌∙◌, ap, inl, inr, arith}
+use Rattle.std.proofs.Common.{ℕ, ◌≡◌, ◌+◌, ◌≤◌, ◌⊎◌, Bool, true, false, not, ◌&&◌, List, [], ◌∷◌, length, Option, Some, None, is_some, refl, sym, ◌∙◌, ap, inl, inr, arith}
 use Rattle.std.proofs.lemmas.Bool.{cases_Bool, cases_lt}
 use Rattle.std.proofs.lemmas.Bool.Decides.{eqb_tells}
 use Rattle.std.proofs.lemmas.List.FromFn.{get_or-map-range_with_len}
@@ -12,8 +12,7 @@ use Rattle.bpf_shape.specs.declared.causes.VerifierCause.TheVariants as cause
 use Rattle.bpf_shape.specs.Edges.{control, no_edges}
 use Rattle.bpf_shape.specs.Again.{calls_again, limit_before, answer_test, again_of, others_of, again_edge, plain, is_slot, is_target, is_head, heads}
 use Rattle.bpf_shape.specs.Paths.{Leads}
-use Rattle.bpf_shape.specs.Rules.{is_equality, has_form, keeps, Breaks, Holds, IsLowest, order, FirstOf, FirstBroken, IsShaped}
-use Rattle.bpf_shape.specs.Shape.{IsShapeOf}
+use Rattle.bpf_shape.specs.Rules.{is_equality, has_form, keeps, Breaks, Holds, IsLowest, order, FirstOf, FirstBroken}
 use Rattle.bpf_shape.specs.Laws.{OneShape, OneFault, NoFaultInShaped, EdgesAreSplit, HeadsAreTargets, HeadsBySlot, EdgesLeadToInstructions, IsAround, AgainHasForm}
 use Rattle.bpf_shape.proofs.Ranges.{any_at, at_any}
 use Rattle.bpf_shape.proofs.Kept.{control_past, edges_begin}

@@ -1,6 +1,6 @@
 -- Calls of `again`, which is helper 3, and the edges and heads that they make (docs/VERIFIER.md, The
 -- form of `again`).
-use Rattle.std.specs.Prelude.{ℕ, ◌+◌, ◌-◌, ◌==◌, nat_le, Bool, false, ◌&&◌, if◌then◌else◌, ℤ, pos, List, Option, None, Some, length, map}
+use Rattle.std.specs.Prelude.{ℕ, ◌-◌, ◌==◌, nat_le, Bool, false, ◌&&◌, if◌then◌else◌, pos, List, Option, None, Some, length, map}
 use Rattle.std.specs.Int.{cast_unsigned, w32, w64}
 use Rattle.std.specs.List.{list_any, range_with_len, sum}
 use Rattle.std.specs.Option.{option_map_or, option_and_then}

@@ -1,7 +1,6 @@
-use Rattle.std.proofs.Common.{◌≡◌, length, subst, List, Bool, arith, ◌≤◌}
+use Rattle.std.proofs.Common.{◌≡◌, length, arith}
 use Rattle.bpf_shape.specs.Again.{again_edge, is_head, heads}
-use Rattle.bpf_shape.specs.Search.{with_mark}
-use Rattle.bpf_shape.proofs.Ranges.{MarksUpTo, mark_more, all_marks, no_marks}
+use Rattle.bpf_shape.proofs.Ranges.{mark_more, all_marks}
 use Rattle.bpf_shape.proofs.again.heads.Goals as goal
 
 pub loop-slot-preserved : goal.loop-slot-preserved

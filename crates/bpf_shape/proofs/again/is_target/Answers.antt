@@ -1,4 +1,4 @@
-use Rattle.std.proofs.Common.{◌≡◌, true, false, sym, ◌∙◌, length, ◌<◌, arith}
+use Rattle.std.proofs.Common.{◌≡◌, true, false, sym, length, ◌<◌, arith}
 use Rattle.bpf_shape.specs.Edges.{control}
 use Rattle.bpf_shape.specs.Again.{is_slot, is_target}
 use Rattle.bpf_shape.proofs.Ranges.{none_more, any_at}

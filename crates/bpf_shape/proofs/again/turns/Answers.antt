@@ -1,5 +1,4 @@
-use Rattle.std.proofs.Common.{◌∙◌, ◌≡◌, ◌+◌, arith, map}
-use Rattle.std.specs.List.{sum, range_with_len}
+use Rattle.std.proofs.Common.{arith}
 use Rattle.bpf_shape.specs.Again.{turns_at}
 use Rattle.bpf_shape.proofs.Ranges.{sum_more}
 use Rattle.bpf_shape.proofs.again.turns.Goals as goal

@@ -1,6 +1,6 @@
-use Rattle.std.proofs.Common.{rules, ◌≡◌, None, length, arith, ◌≤◌, sym, ◌∙◌}
+use Rattle.std.proofs.Common.{◌≡◌, None, length, arith, sym, ◌∙◌}
 use Rattle.bpf_shape.specs.Again.{plain}
-use Rattle.bpf_shape.specs.Lengths.{length_of, length_from}
+use Rattle.bpf_shape.specs.Lengths.{length_of}
 use Rattle.bpf_shape.proofs.Partial.{grow, at_most, no_length_here}
 use Rattle.bpf_shape.proofs.lengths.settle.Goals as goal
 

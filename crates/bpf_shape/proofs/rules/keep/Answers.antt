@@ -1,5 +1,4 @@
-use Rattle.std.proofs.Common.{◌≡◌, sym, refl, ℕ, ◌<◌, length, arith, true}
-use Rattle.bpf_shape.specs.Rules.{keeps}
+use Rattle.std.proofs.Common.{sym, refl, arith}
 use Rattle.bpf_shape.proofs.Kept.{holds_of, lowest_of}
 use Rattle.bpf_shape.proofs.rules.keep.Goals as goal
 

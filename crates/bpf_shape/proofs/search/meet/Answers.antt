@@ -1,5 +1,5 @@
 use Rattle.std.proofs.Common.{◌≡◌, Some}
-use Rattle.bpf_shape.specs.Search.{marks_after, waiting_after, Met}
+use Rattle.bpf_shape.specs.Search.{Met}
 use Rattle.bpf_shape.proofs.Meeting.{meet_one, meet_both}
 use Rattle.bpf_shape.proofs.search.meet.Goals as goal
 

@@ -1,7 +1,7 @@
-use Rattle.std.proofs.Common.{rules, ◌≡◌, ◌∙◌, ◌++◌, ◌∷◌, [], length, false, replicate, List, ℕ}
+use Rattle.std.proofs.Common.{rules, ◌≡◌, [], length, false, replicate}
 use Rattle.bpf_shape.specs.Paths.{Leads}
 use Rattle.bpf_shape.specs.Search.{followed, Met}
-use Rattle.bpf_shape.proofs.Searching.{Searching, begin, go_on, end}
+use Rattle.bpf_shape.proofs.Searching.{begin, go_on, end}
 use Rattle.bpf_shape.proofs.search.reached.Goals as goal
 
 pub loop-slot-init : goal.loop-slot-init

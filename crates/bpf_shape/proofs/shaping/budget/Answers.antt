@@ -1,5 +1,4 @@
-use Rattle.std.proofs.Common.{rules, ◌≡◌, ◌≤◌, ◌<◌, Some, None, length, arith, ℕ, ap, inl, inr, ◌∙◌, refl}
-use Rattle.bpf_shape.specs.Lengths.{IsGreatest}
+use Rattle.std.proofs.Common.{length, arith, refl}
 use Rattle.bpf_shape.proofs.Budgets.{is_longest, greatest_fits, first_inside}
 use Rattle.bpf_shape.specs.Again.{plain}
 use Rattle.bpf_shape.proofs.Kept.{plain_is_control}

@@ -1,7 +1,6 @@
-use Rattle.std.proofs.Common.{rules, ◌≡◌, ◌<◌, ℕ, Some, length, arith, sym, ◌∙◌, true, false}
+use Rattle.std.proofs.Common.{◌≡◌, length, arith, sym, ◌∙◌, true, false}
 use Rattle.bpf_shape.specs.Again.{plain}
 use Rattle.bpf_shape.specs.Paths.{Leads}
-use Rattle.bpf_shape.specs.Lengths.{length_of}
 use Rattle.bpf_shape.proofs.Partial.{length_here}
 use Rattle.bpf_shape.proofs.Longest.{no_cycle}
 use Rattle.bpf_shape.proofs.shaping.is_on_cycle.Goals as goal

@@ -1,7 +1,6 @@
-use Rattle.std.proofs.Common.{◌≡◌, refl, inr, arith, true, rules, length}
+use Rattle.std.proofs.Common.{◌≡◌, refl, inr, arith, length}
 use Rattle.bpf_shape.specs.Again.{plain}
 use Rattle.bpf_shape.specs.Paths.{OnCycle}
-use Rattle.bpf_shape.specs.Rules.{Breaks}
 use Rattle.bpf_shape.proofs.Kept.{lowest_loop, holds_loop}
 use Rattle.bpf_shape.proofs.shaping.keep_loops.Goals as goal
 

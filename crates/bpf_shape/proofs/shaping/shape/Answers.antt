@@ -1,6 +1,5 @@
-use Rattle.std.proofs.Common.{◌≡◌, inl, inr, arith, rules, refl, ◌≤◌, ◌<◌}
+use Rattle.std.proofs.Common.{inl, inr}
 use Rattle.std.proofs.lemmas.Result.{err_from_is_err_and}
-use Rattle.bpf_shape.specs.Rules.{Breaks}
 use Rattle.bpf_shape.proofs.Kept.{plain_fits, control_fits, first_loop, first_budget}
 use Rattle.bpf_shape.proofs.Budgets.{shaped}
 use Rattle.bpf_shape.proofs.shaping.shape.Goals as goal
