@@ -68,6 +68,16 @@ impl Fault {
         code: VerifierCause::Memory,
         slot: 0,
     };
+
+    /// A slot for that cause.
+    pub(crate) fn at(code: VerifierCause, slot: usize) -> Fault
+        ensures { result ≡ record { code = code; slot = slot } }
+    {
+        Fault {
+            code,
+            slot: slot as u64,
+        }
+    }
 }
 
 impl From<AllocError> for Fault {

@@ -109,10 +109,7 @@ fn keep(program: &Program, rule: VerifierCause) -> Result<(), Fault>
 {
     for slot in 0..program.slots() {
         if !keeps(program, rule, slot) {
-            return Err(Fault {
-                code: rule,
-                slot: slot as u64,
-            });
+            return Err(Fault::at(rule, slot));
         }
     }
     Ok(())

@@ -1,6 +1,6 @@
 //! The rules of the whole program, and `shape`.
 
-ghost use Rattle.std.specs.Prelude.{◌≡◌, ◌+◌, ◌*◌, ◌<◌, ◌≤◌, ◌⊎◌, IsTrue, ◌↔◌, OnOk, IfOk, IfErr, length};
+ghost use Rattle.std.specs.Prelude.{◌≡◌, ◌+◌, ◌*◌, ◌<◌, ◌≤◌, ◌⊎◌, IsTrue, IsFalse, ◌↔◌, OnOk, IfOk, IfErr, length};
 ghost use Rattle.bpf_isa.specs.Program.{IsProgram};
 ghost use Rattle.bpf_shape.specs.Causes.{memory_fault};
 ghost use Rattle.bpf_shape.specs.Edges.{control};
@@ -8,7 +8,7 @@ ghost use Rattle.bpf_shape.specs.Again.{plain};
 ghost use Rattle.bpf_shape.specs.Paths.{OnCycle};
 ghost use Rattle.bpf_shape.specs.Search.{EdgesFit};
 ghost use Rattle.bpf_shape.specs.Lengths.{AreSettled, marked_length, IsGreatest};
-ghost use Rattle.bpf_shape.specs.Budget.{IsBudget};
+ghost use Rattle.bpf_shape.specs.Budget.{IsBudget, most_steps};
 ghost use Rattle.bpf_shape.specs.Rules.{Holds, FirstBroken};
 ghost use Rattle.bpf_shape.specs.Keeping.{IsBrokenAt};
 ghost use Rattle.bpf_shape.specs.Shape.{IsShapeOf};
@@ -55,10 +55,7 @@ fn keep_loops(alloc: Global, program: &Program, lengths: &Vec<Option<usize>>) ->
 {
     for slot in 0..program.slots() {
         if is_on_cycle(alloc, program, lengths, slot)? {
-            return Err(Fault {
-                code: VerifierCause::Loop,
-                slot: slot as u64,
-            });
+            return Err(Fault::at(VerifierCause::Loop, slot));
         }
     }
     Ok(())
@@ -102,6 +99,14 @@ fn steps(turns: u64, longest: usize) -> u64
     (1 + turns) * longest as u64
 }
 
+/// Whether a budget is above what is accepted.
+fn is_over(budget: u64) -> bool
+    ensures over { IsTrue result → most_steps < budget }
+    ensures within { IsFalse result → budget ≤ most_steps }
+{
+    budget > MOST_STEPS
+}
+
 /// The budget of a program without cycles.
 fn budget(alloc: Global, program: &Program, lengths: &Vec<Option<usize>>) -> Result<u64, AllocError>
     requires edges { EdgesFit (control program.now) (length program.now) }
@@ -129,11 +134,8 @@ pub fn shape(alloc: Global, program: &Program) -> Result<Shape, Fault>
     let lengths = path_lengths(alloc, program)?;
     keep_loops(alloc, program, &lengths)?;
     let budget = budget(alloc, program, &lengths)?;
-    if budget > MOST_STEPS {
-        return Err(Fault {
-            code: VerifierCause::Budget,
-            slot: 0,
-        });
+    if is_over(budget) {
+        return Err(Fault::at(VerifierCause::Budget, 0));
     }
     let heads = heads(alloc, program)?;
     Ok(Shape::new(budget, heads))

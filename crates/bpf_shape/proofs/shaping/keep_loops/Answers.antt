@@ -7,7 +7,7 @@ use Rattle.bpf_shape.proofs.shaping.keep_loops.Goals as goal
 pub returns-then-branch-clause-refused : goal.returns-then-branch-clause-refused
 returns-then-branch-clause-refused c =
     let found : OnCycle (plain c.args.program.now) c.loop-slot.slot = c.in_ok-is_on_cycle.ensures.0 c.if-branch.true in
-    inr (record { code = refl; lowest = lowest_loop c.args.program.now c.loop-slot.slot found c.loop-slot.invariant })
+    rw c.at.ensures (inr (record { code = refl; lowest = lowest_loop c.args.program.now c.loop-slot.slot found c.loop-slot.invariant }))
 
 pub returns-clause-kept : goal.returns-clause-kept
 returns-clause-kept c =

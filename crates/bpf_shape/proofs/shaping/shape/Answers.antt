@@ -19,14 +19,14 @@ returns-in_err-keep_loops-clause-refused c =
       | inr broken ↦ inr (first_loop c.args.program.now _ c.in_ok-keep_all.ensures.kept broken)
     ])
 
-pub returns-then-budget-gt-MOST_STEPS-clause-refused :
-    goal.returns-then-budget-gt-MOST_STEPS-clause-refused
-returns-then-budget-gt-MOST_STEPS-clause-refused c =
-    inr (first_budget c.args.program.now c.in_ok-keep_all.ensures.kept c.in_ok-keep_loops.ensures.kept
-    (record { budget = c.in_ok-budget.budget; is = c.in_ok-budget.ensures; over = c.if-budget-gt-MOST_STEPS.true }))
+pub returns-then-is_over-clause-refused : goal.returns-then-is_over-clause-refused
+returns-then-is_over-clause-refused c =
+    rw c.at.ensures
+    (inr (first_budget c.args.program.now c.in_ok-keep_all.ensures.kept c.in_ok-keep_loops.ensures.kept
+    (record { budget = c.in_ok-budget.budget; is = c.in_ok-budget.ensures; over = c.is_over.ensures.over c.if-is_over.true })))
 
 pub returns-clause-shape : goal.returns-clause-shape
 returns-clause-shape c =
     rw c.new.ensures
     (shaped c.args.program.now c.in_ok-budget.budget c.in_ok-heads.heads.items c.in_ok-keep_all.ensures.kept c.in_ok-keep_loops.ensures.kept
-    c.in_ok-budget.ensures c.if-budget-gt-MOST_STEPS.false c.in_ok-heads.ensures)
+    c.in_ok-budget.ensures (c.is_over.ensures.within c.if-is_over.false) c.in_ok-heads.ensures)
