@@ -24,7 +24,7 @@ helper_number _ = None
 unfoldable pub calls_again : List (Option Instr) → ℕ → Bool
 calls_again program slot = option_map_or (λ n. n == 3) (option_and_then helper_number (at program slot)) false
 
--- K of `mov64 r1, K`, where it is 1 to 1,048,576
+-- K of `mov64 r1, K`, the word that r1 is set to, where it is 1 to 1,048,576
 unfoldable pub limit_of : Instr → Option ℕ
 limit_of (instr.Arithmetic width.W64 op.Mov dst (source.Immediate n)) =
     if (dst == 1) && (nat_le 1 (cast_unsigned w64 n) && nat_le (cast_unsigned w64 n) 1048576) then Some (cast_unsigned w64 n) else None

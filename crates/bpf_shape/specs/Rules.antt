@@ -29,14 +29,17 @@ is_equality (Some cond.Eq) = true
 is_equality (Some cond.Ne) = true
 is_equality _ = false
 
--- the instructions around a call of `again` at a slot, to which no jump leads, have the form
+-- a call of `again` at a slot has the form: K is set before it, its answer is compared behind it, and
+-- no jump leads to the call or to the comparison
 unfoldable pub has_form : List (Option Instr) → ℕ → Bool
 has_form program slot =
     is_some (limit_before program slot)
     && (is_equality (answer_test program (slot + 1))
     && (not (is_target program slot) && not (is_target program (slot + 1))))
 
--- the rules that look at one slot: whether it keeps them
+-- The rules that look at one slot, and whether it keeps them: a jump's target and the next slot are
+-- where an instruction begins, r10 isn't written, a helper is one of 1 to 7, a call of `again` has the
+-- form.
 unfoldable pub keeps : List (Option Instr) → VerifierCause → ℕ → Bool
 keeps program cause.Target slot = option_map_or (begins program) (control program slot).target true
 keeps program cause.End slot = option_map_or (begins program) (control program slot).next true
@@ -51,7 +54,8 @@ pub record IsOver (program : List (Option Instr)) : Type 0 where
   pub is : IsBudget program budget
   pub over : most_steps < budget
 
--- the slot breaks the rule of that cause; the budget is that of slot 0
+-- the slot breaks the rule of that cause: it lies on a cycle without again edges; for the budget it is
+-- slot 0; or it doesn't keep a rule of one slot
 unfoldable pub Breaks : List (Option Instr) → VerifierCause → ℕ → Type 0
 Breaks program cause.Loop slot = OnCycle (plain program) slot
 Breaks program cause.Budget slot = (slot ≡ 0) × IsOver program
