@@ -8,6 +8,8 @@ use Rattle.base.specs.declared.causes.CodeCause.{CodeCause}
 use Rattle.base.specs.declared.causes.CodeCause.TheVariants as code
 use Rattle.base.specs.declared.causes.AsmCause.{AsmCause}
 use Rattle.base.specs.declared.causes.AsmCause.TheVariants as asm
+use Rattle.base.specs.declared.causes.VerifierCause.{VerifierCause}
+use Rattle.base.specs.declared.causes.VerifierCause.TheVariants as verifier
 use Rattle.base.specs.declared.causes.WorkCause.{WorkCause}
 use Rattle.base.specs.declared.causes.WorkCause.TheVariants as work
 use Rattle.base.specs.declared.causes.MachineFault.{MachineFault}
@@ -47,6 +49,25 @@ asm_number asm.Range = 32
 asm_number asm.UnknownLabel = 33
 asm_number asm.RepeatedLabel = 34
 asm_number asm.Memory = 35
+
+abbrev pub verifier_number : VerifierCause → ℕ
+verifier_number verifier.Target = 40
+verifier_number verifier.End = 41
+verifier_number verifier.Loop = 42
+verifier_number verifier.AgainForm = 43
+verifier_number verifier.CallDepth = 44
+verifier_number verifier.Budget = 45
+verifier_number verifier.UnsetRegister = 50
+verifier_number verifier.UnsetByte = 51
+verifier_number verifier.OutsideRegion = 52
+verifier_number verifier.ReadOnly = 53
+verifier_number verifier.PointerArithmetic = 54
+verifier_number verifier.PointerAsNumber = 55
+verifier_number verifier.HelperArgument = 56
+verifier_number verifier.FramePointer = 57
+verifier_number verifier.UnknownHelper = 58
+verifier_number verifier.Unsettled = 59
+verifier_number verifier.Memory = 60
 
 abbrev pub work_number : WorkCause → ℕ
 work_number work.PieceTwice = 70

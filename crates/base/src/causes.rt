@@ -3,7 +3,7 @@
 //! docs/REPORT.md has one table of all of them.
 
 ghost use Rattle.std.specs.Prelude.{◌≡◌};
-ghost use Rattle.base.specs.Causes.{log_number, request_number, code_number, asm_number, work_number, fault_number};
+ghost use Rattle.base.specs.Causes.{log_number, request_number, code_number, asm_number, verifier_number, work_number, fault_number};
 
 use thiserror::Error;
 
@@ -112,6 +112,54 @@ impl AsmCause {
     /// The number under which a refusal prints this cause.
     pub fn number(self) -> u8
         ensures { result ≡ asm_number self }
+    {
+        self as u8
+    }
+}
+
+/// Why a program is refused by the verifier (docs/VERIFIER.md, Refusals).
+#[derive(Clone, Copy, Debug, PartialEq, Eq, Error)]
+pub enum VerifierCause {
+    #[error("the target of a jump is no slot in which an instruction begins")]
+    Target = 40,
+    #[error("the program ends without an exit")]
+    End = 41,
+    #[error("a loop without a call of again")]
+    Loop = 42,
+    #[error("the call of again has another form")]
+    AgainForm = 43,
+    #[error("calls of functions are recursive or too deep")]
+    CallDepth = 44,
+    #[error("the budget is above the limit")]
+    Budget = 45,
+    #[error("a register that is read is unset")]
+    UnsetRegister = 50,
+    #[error("a byte of the stack that is read is unset")]
+    UnsetByte = 51,
+    #[error("an access may lie outside its region")]
+    OutsideRegion = 52,
+    #[error("a write to read-only memory")]
+    ReadOnly = 53,
+    #[error("arithmetic with a pointer")]
+    PointerArithmetic = 54,
+    #[error("a pointer is used as a number")]
+    PointerAsNumber = 55,
+    #[error("an argument of a helper is of another kind")]
+    HelperArgument = 56,
+    #[error("register 10 is written")]
+    FramePointer = 57,
+    #[error("there is no helper of that number")]
+    UnknownHelper = 58,
+    #[error("the table of states is not settled")]
+    Unsettled = 59,
+    #[error("there is no memory to verify the program")]
+    Memory = 60,
+}
+
+impl VerifierCause {
+    /// The number under which a refusal prints this cause.
+    pub fn number(self) -> u8
+        ensures { result ≡ verifier_number self }
     {
         self as u8
     }

@@ -5,7 +5,7 @@ use Rattle.std.proofs.lemmas.Bool.{cases_lt}
 use Rattle.std.proofs.lemmas.List.{get_or_past}
 use Rattle.bpf_isa.specs.declared.instr.Instr.{Instr}
 use Rattle.bpf_shape.specs.declared.edges.Edges.{Edges}
-use Rattle.bpf_shape.specs.declared.causes.VerifierCause.TheVariants as cause
+use Rattle.base.specs.declared.causes.VerifierCause.TheVariants as cause
 use Rattle.bpf_shape.specs.Edges.{control, edges}
 use Rattle.bpf_shape.specs.Again.{plain, heads}
 use Rattle.bpf_shape.specs.Paths.{Leads, IsWalk, Reaches, LeadsTo, OnCycle}

@@ -7,9 +7,9 @@ use Rattle.bpf_isa.specs.declared.instr.Instr.{Instr}
 use Rattle.bpf_isa.specs.declared.instr.Condition.{Condition}
 use Rattle.bpf_isa.specs.declared.instr.Condition.TheVariants as cond
 use Rattle.bpf_shape.specs.declared.edges.Edges.{Edges}
-use Rattle.bpf_shape.specs.declared.causes.VerifierCause.{VerifierCause}
-use Rattle.bpf_shape.specs.declared.causes.VerifierCause.TheVariants as cause
-use Rattle.bpf_shape.specs.declared.causes.Fault.{Fault}
+use Rattle.base.specs.declared.causes.VerifierCause.{VerifierCause}
+use Rattle.base.specs.declared.causes.VerifierCause.TheVariants as cause
+use Rattle.bpf_shape.specs.declared.fault.Fault.{Fault}
 use Rattle.bpf_shape.specs.Edges.{at, begins, edges_of, control, no_edges}
 use Rattle.bpf_shape.specs.Again.{calls_again, answer_test, others_of, plain}
 use Rattle.bpf_shape.specs.Paths.{Leads, OnCycle}

@@ -7,8 +7,8 @@ use Rattle.bpf_isa.specs.declared.instr.Instr.{Instr}
 use Rattle.bpf_isa.specs.declared.instr.Condition.{Condition}
 use Rattle.bpf_isa.specs.declared.instr.Condition.TheVariants as cond
 use Rattle.bpf_shape.specs.declared.edges.Edges.{Edges}
-use Rattle.bpf_shape.specs.declared.causes.VerifierCause.{VerifierCause}
-use Rattle.bpf_shape.specs.declared.causes.VerifierCause.TheVariants as cause
+use Rattle.base.specs.declared.causes.VerifierCause.{VerifierCause}
+use Rattle.base.specs.declared.causes.VerifierCause.TheVariants as cause
 use Rattle.bpf_shape.specs.Edges.{control, no_edges}
 use Rattle.bpf_shape.specs.Again.{calls_again, limit_before, answer_test, again_of, others_of, again_edge, plain, is_slot, is_target, is_head, heads}
 use Rattle.bpf_shape.specs.Paths.{Leads}

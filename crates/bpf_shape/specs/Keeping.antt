@@ -1,9 +1,9 @@
 -- How the rules that look at one slot are tested. Only this crate's own contracts cite it.
 use Rattle.std.specs.Prelude.{◌≡◌, List, Option}
 use Rattle.bpf_isa.specs.declared.instr.Instr.{Instr}
-use Rattle.bpf_shape.specs.declared.causes.VerifierCause.{VerifierCause}
-use Rattle.bpf_shape.specs.declared.causes.VerifierCause.TheVariants as cause
-use Rattle.bpf_shape.specs.declared.causes.Fault.{Fault}
+use Rattle.base.specs.declared.causes.VerifierCause.{VerifierCause}
+use Rattle.base.specs.declared.causes.VerifierCause.TheVariants as cause
+use Rattle.bpf_shape.specs.declared.fault.Fault.{Fault}
 use Rattle.bpf_shape.specs.Rules.{Holds, IsLowest}
 
 -- a refusal names that rule and its lowest slot

@@ -2,7 +2,7 @@
 use Rattle.std.specs.Prelude.{ℕ, ◌+◌, ◌≡◌, ◌⊎◌, ◌↔◌, ◌<◌, true, false, List, length, get_or, Option, Some}
 use Rattle.bpf_isa.specs.declared.instr.Instr.{Instr}
 use Rattle.bpf_isa.specs.declared.instr.Condition.TheVariants as cond
-use Rattle.bpf_shape.specs.declared.causes.VerifierCause.{VerifierCause}
+use Rattle.base.specs.declared.causes.VerifierCause.{VerifierCause}
 use Rattle.bpf_shape.specs.Edges.{begins, control}
 use Rattle.bpf_shape.specs.Again.{calls_again, limit_before, answer_test, again_edge, plain, is_target, is_head, heads}
 use Rattle.bpf_shape.specs.Paths.{Leads}

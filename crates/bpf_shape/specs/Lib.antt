@@ -1,5 +1,5 @@
 -- The shape of a program: its edges, the rules about them, its longest path and its budget.
-pub mod Causes
+pub mod Fault
 pub mod Edges
 pub mod Again
 pub mod Paths

@@ -44,7 +44,8 @@
 //!   there is one for each slot. A slot that gets no length leads to a cycle.
 //! - `search`: which slots are reached, by marks and a list of slots that wait. It tells the slots reached
 //!   from slot 0, and for a slot without a length whether it is on a cycle itself.
-//! - `shaping`: `shape`. `value`: `Shape`. `causes`: why the verifier refuses a program, with the numbers.
+//! - `shaping`: `shape`. `value`: `Shape`. `fault`: `Fault`, why and where the verifier refuses a
+//!   program, by the causes of `base`.
 //!
 //! Local calls, with their rule and weights, are not here yet: `bpf_isa` has no such instruction.
 //!
@@ -62,8 +63,8 @@
 #![tactic(auto)]
 
 mod again;
-mod causes;
 mod edges;
+mod fault;
 pub mod laws;
 mod lengths;
 mod rules;
@@ -73,7 +74,7 @@ mod shaping;
 mod tests;
 mod value;
 
-pub use causes::{Fault, VerifierCause};
 pub use edges::{Edges, control, edges_of};
+pub use fault::Fault;
 pub use shaping::{MOST_STEPS, shape};
 pub use value::Shape;

@@ -8,8 +8,9 @@ ghost use Rattle.bpf_shape.specs.Rules.{written, is_equality, has_form, keeps, H
 ghost use Rattle.bpf_shape.specs.Keeping.{IsOfSlots, IsBrokenAt, KeepsAll};
 
 use crate::again::{answer_test, calls_again, helper_number, is_target, limit_before};
-use crate::causes::{Fault, VerifierCause};
 use crate::edges::control;
+use crate::fault::Fault;
+use base::causes::VerifierCause;
 use bpf_isa::instr::{Condition, Instr};
 use bpf_isa::program::Program;
 use bpf_isa::register::Register;

@@ -2,7 +2,7 @@
 
 ghost use Rattle.std.specs.Prelude.{◌≡◌, ◌+◌, ◌*◌, ◌<◌, ◌≤◌, ◌⊎◌, IsTrue, IsFalse, ◌↔◌, OnOk, IfOk, IfErr, length};
 ghost use Rattle.bpf_isa.specs.Program.{IsProgram};
-ghost use Rattle.bpf_shape.specs.Causes.{memory_fault};
+ghost use Rattle.bpf_shape.specs.Fault.{memory_fault};
 ghost use Rattle.bpf_shape.specs.Edges.{control};
 ghost use Rattle.bpf_shape.specs.Again.{plain};
 ghost use Rattle.bpf_shape.specs.Paths.{OnCycle};
@@ -12,15 +12,16 @@ ghost use Rattle.bpf_shape.specs.Budget.{IsBudget, most_steps};
 ghost use Rattle.bpf_shape.specs.Rules.{Holds, FirstBroken};
 ghost use Rattle.bpf_shape.specs.Keeping.{IsBrokenAt};
 ghost use Rattle.bpf_shape.specs.Shape.{IsShapeOf};
-ghost use Rattle.bpf_shape.specs.declared.causes.VerifierCause.TheVariants as cause;
+ghost use Rattle.base.specs.declared.causes.VerifierCause.TheVariants as cause;
 
 use crate::again::{heads, plain, turns};
-use crate::causes::{Fault, VerifierCause};
 use crate::edges::Edges;
+use crate::fault::Fault;
 use crate::lengths::path_lengths;
 use crate::rules::keep_all;
 use crate::search::{Kind, reached};
 use crate::value::Shape;
+use base::causes::VerifierCause;
 use bpf_isa::program::Program;
 use std::alloc::{AllocError, Global};
 

@@ -4,7 +4,8 @@ use crate::laws::{
     again_has_form, edges_are_split, edges_lead_to_instructions, heads_are_targets, heads_by_slot,
     no_fault_in_shaped, one_fault, one_shape,
 };
-use crate::{Edges, VerifierCause, control, edges_of, shape};
+use crate::{Edges, control, edges_of, shape};
+use base::causes::VerifierCause;
 use bpf_isa::codec::decode;
 use bpf_isa::instr::Instr;
 use bpf_isa::program::Program;
