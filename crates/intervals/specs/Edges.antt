@@ -19,7 +19,7 @@ both x y = if nat_le x.low x.high && nat_le y.low y.high then Some (x, y) else N
 unfoldable pub equal : Span → Span → Option (Span × Span)
 equal x y = both (span (max x.low y.low) (min x.high y.high)) (span (max x.low y.low) (min x.high y.high))
 
--- a constant is cut off the ends of a range
+-- a constant is cut off the ends of a range, which stays where the other is no constant
 abbrev pub without : Span → Span → Span
 without x y =
     if is_constant y then span (if x.low == y.low then x.low + 1 else x.low) (if x.high == y.low then x.high - 1 else x.high) else x
@@ -29,7 +29,7 @@ without x y =
 unfoldable pub apart : Span → Span → Option (Span × Span)
 apart x y = both (without x y) (without y x)
 
--- dst > second
+-- dst > second. Where dst is 0 alone the other range would end below zero, and that of dst is empty.
 unfoldable pub above : Span → Span → Option (Span × Span)
 above x y = both (span (max x.low (y.low + 1)) x.high) (span y.low (min y.high (x.high - 1)))
 
@@ -41,7 +41,7 @@ at_most x y = both (span x.low (min x.high y.high)) (span (max x.low y.low) y.hi
 unfoldable pub at_least : Span → Span → Option (Span × Span)
 at_least x y = both (span (max x.low y.low) x.high) (span y.low (min y.high x.high))
 
--- dst < second
+-- dst < second, the same the other way round
 unfoldable pub below : Span → Span → Option (Span × Span)
 below x y = both (span x.low (min x.high (y.high - 1))) (span (max y.low (x.low + 1)) y.high)
 

@@ -17,7 +17,7 @@ use Rattle.machine.specs.State.{State}
 use Rattle.machine.specs.Step.{second}
 use Rattle.intervals.specs.Spans.{Span, IsSpan, Has, Within, hull}
 use Rattle.intervals.specs.Rounding.{floor, ceiling, rounded, IsFloor, IsCeiling}
-use Rattle.intervals.specs.Results.{arithmetic_result, negated_result, extended_result, ordered_result}
+use Rattle.intervals.specs.Results.{result_of}
 use Rattle.intervals.specs.Edges.{refined}
 use Rattle.intervals.specs.Seen.{immediate_span}
 
@@ -25,31 +25,38 @@ use Rattle.intervals.specs.Seen.{immediate_span}
 abbrev pub IsWordSpan : Span → Type 0
 IsWordSpan x = IsSpan (2 ^ 64 - 1) x
 
--- The words of the operands' ranges lead to words of the result's range, by the arithmetic of the
--- machine.
-pub record ResultsCover : Type 0 where
-  pub operators : (w : Width) (o : Operator) (x y : Span) (a b : ℕ) → IsWordSpan x → IsWordSpan y → Has x a → Has y b
-      → Has (arithmetic_result w o x y) (arithmetic w o a b)
-  pub opposites : (w : Width) (x : Span) (a : ℕ) → IsWordSpan x → Has x a → Has (negated_result w x) (arithmetic w op.Sub 0 a)
-  pub signs : (e : SignExtension) (x : Span) (a : ℕ) → IsWordSpan x → Has x a → Has (extended_result e x) (extended e a)
-  pub orders : (o : Order) (size : OrderSize) (x : Span) (a : ℕ) → IsWordSpan x → Has x a
-      → Has (ordered_result o size x) (in_order o size a)
+-- a result that has this word
+abbrev pub HasResult : Option Span → ℕ → Type 0
+HasResult None n = ⊥
+HasResult (Some r) n = Has r n
 
--- a result is a range of words
-pub record ResultsFit : Type 0 where
-  pub operators : (w : Width) (o : Operator) (x y : Span) → IsWordSpan x → IsWordSpan y → IsWordSpan (arithmetic_result w o x y)
-  pub opposites : (w : Width) (x : Span) → IsWordSpan x → IsWordSpan (negated_result w x)
-  pub signs : (e : SignExtension) (x : Span) → IsWordSpan x → IsWordSpan (extended_result e x)
-  pub orders : (o : Order) (size : OrderSize) (x : Span) → IsWordSpan x → IsWordSpan (ordered_result o size x)
+-- The words of the operands that an instruction reads lead to words of its result's range, by the
+-- arithmetic of the machine. A range of an operand that isn't read may be any.
+pub record ResultsCover : Type 0 where
+  pub operators : (w : Width) (o : Operator) (dst : ℕ) (from : Source) (x y : Span) (a b : ℕ) → IsWordSpan x → IsWordSpan y → Has x a → Has y b
+      → HasResult (result_of (instr.Arithmetic w o dst from) x y) (arithmetic w o a b)
+  pub opposites : (w : Width) (dst : ℕ) (x y : Span) (a : ℕ) → IsWordSpan x → Has x a → HasResult (result_of (instr.Negate w dst) x y) (arithmetic w op.Sub 0 a)
+  pub signs : (e : SignExtension) (dst src : ℕ) (x y : Span) (b : ℕ) → IsWordSpan y → Has y b → HasResult (result_of (instr.SignExtend e dst src) x y) (extended e b)
+  pub orders : (o : Order) (size : OrderSize) (dst : ℕ) (x y : Span) (a : ℕ) → IsWordSpan x → Has x a
+      → HasResult (result_of (instr.ByteOrder o size dst) x y) (in_order o size a)
+
+-- a result, where there is one, is a range of words
+abbrev pub FitsWords : Option Span → Type 0
+FitsWords None = Unit {0}
+FitsWords (Some r) = IsWordSpan r
+
+abbrev pub ResultsFit : Type 0
+ResultsFit = (i : Instr) (x y : Span) → IsWordSpan x → IsWordSpan y → FitsWords (result_of i x y)
 
 -- smaller ranges have a smaller result
-pub record ResultsAreMonotone : Type 0 where
-  pub operators : (w : Width) (o : Operator) (x y s t : Span) → IsWordSpan x → IsWordSpan y → IsWordSpan s → IsWordSpan t
-      → Within x s → Within y t → Within (arithmetic_result w o x y) (arithmetic_result w o s t)
-  pub opposites : (w : Width) (x s : Span) → IsWordSpan x → Within x s → Within (negated_result w x) (negated_result w s)
-  pub signs : (e : SignExtension) (x s : Span) → IsWordSpan x → Within x s → Within (extended_result e x) (extended_result e s)
-  pub orders : (o : Order) (size : OrderSize) (x s : Span) → IsWordSpan x → Within x s
-      → Within (ordered_result o size x) (ordered_result o size s)
+abbrev pub WithinOne : Option Span → Option Span → Type 0
+WithinOne None q = Unit {0}
+WithinOne (Some p) None = ⊥
+WithinOne (Some p) (Some q) = Within p q
+
+abbrev pub ResultsAreMonotone : Type 0
+ResultsAreMonotone = (i : Instr) (x y s t : Span) → IsWordSpan x → IsWordSpan y → IsWordSpan s → IsWordSpan t → Within x s → Within y t
+    → WithinOne (result_of i x y) (result_of i s t)
 
 -- the range of an immediate is the word that the machine takes for it
 abbrev pub ImmediatesAgree : Type 0
@@ -73,7 +80,7 @@ Shrinks (Some p) x y = IsWordSpan p.0 × IsWordSpan p.1 × Within p.0 x × Withi
 abbrev pub RefinementsFit : Type 0
 RefinementsFit = (i : Instr) (taken : Bool) (x y : Span) → IsWordSpan x → IsWordSpan y → Shrinks (refined i taken x y) x y
 
--- what one edge leaves lies in what another leaves; nothing lies in all
+-- what one edge leaves lies in what another leaves; an edge that isn't taken lies in any
 abbrev pub WithinBoth : Option (Span × Span) → Option (Span × Span) → Type 0
 WithinBoth None q = Unit {0}
 WithinBoth (Some p) None = ⊥

@@ -72,7 +72,7 @@ sign_extended e x =
 unfoldable pub extended_result : SignExtension → Span → Span
 extended_result e x = sign_extended e (cut (extended_width e) x)
 
--- the greatest number of so many bytes
+-- the greatest number of so many bits
 abbrev pub most_of : OrderSize → ℕ
 most_of bits.Bits16 = 2 ^ 16 - 1
 most_of bits.Bits32 = 2 ^ 32 - 1

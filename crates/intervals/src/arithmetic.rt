@@ -138,7 +138,7 @@ fn sign_extended(extension: SignExtension, x: Range) -> Range
     }
 }
 
-/// The greatest number of so many bytes.
+/// The greatest number of so many bits.
 fn most_of(size: OrderSize) -> u64
     ensures { result ≡ most_of size }
 {

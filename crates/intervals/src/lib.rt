@@ -9,7 +9,7 @@
 //! |---|---|
 //! | `result(&instr, first, second)` | the range of what an arithmetic instruction makes of words of two ranges |
 //! | `refine(&instr, taken, first, second)` | the ranges of the operands of a conditional jump on one of its edges, None where no words go that way |
-//! | `Range::new`, `constant`, `up_to`, `FULL` | a range by its ends, of one word, from 0, of all words |
+//! | `Range::new`, `constant`, `up_to`, `full` | a range by its ends, of one word, from 0, of all words |
 //! | `Range::immediate(n)` | the second operand that the machine makes of an immediate |
 //! | `x.is_constant()`, `x.contains(y)` | whether it is one word, whether it has each word of another |
 //! | `x.join(y)`, `x.round()` | the least range that has both, the least one between powers of two |
@@ -57,10 +57,10 @@
 //! # Example
 //!
 //! ```
-//! // r1 is 3 to 10, and `add64 r1, 5` makes it 8 to 15
+//! // r1 is 3 to 10, and the instruction `add`, `add64 r1, 5`, makes it 8 to 15
 //! let x = Range { low: 3, high: 10 };
 //! let sum = result(&add, x, Range::immediate(5));
-//! // on the edge that `jge r1, 12, ..` does not take it is 8 to 11
+//! // where the instruction `jump`, `jge r1, 12, ..`, does not jump it is 8 to 11
 //! let edge = refine(&jump, false, Range { low: 8, high: 15 }, Range::constant(12));
 //! // before the next turn of a loop: 8 to 15
 //! let rounded = Range { low: 8, high: 11 }.round();

@@ -62,7 +62,7 @@ fn added(most: u64, x: Range, y: Range) -> Range
     }
 }
 
-/// The same, of differences.
+/// The differences, where none or all of them wrap, else any number.
 #[tactic(auto, unfolding(crate::specs::Operators::subtracted))]
 fn subtracted(most: u64, x: Range, y: Range) -> Range
     requires first { x.high ≤ most }
@@ -141,7 +141,7 @@ fn bits_of_both(x: Range, y: Range) -> Range
     Range::up_to(x.high.min(y.high))
 }
 
-/// Of the bits of either, none is above the first of the larger.
+/// Bits of either: none is above the highest bit of the larger high end.
 #[tactic(auto, unfolding(crate::specs::Operators::bits_of_either))]
 fn bits_of_either(x: Range, y: Range) -> Range
     ensures { span_of result ≡ bits_of_either (span_of x) (span_of y) }

@@ -15,17 +15,21 @@ pub struct Range {
 }
 
 impl Range {
-    ghost use Rattle.std.specs.Prelude.{◌≡◌, ℕ, ◌^◌, ◌<◌, IsTrue, ◌↔◌};
+    ghost use Rattle.std.specs.Prelude.{◌≡◌, ℕ, ◌-◌, ◌^◌, ◌<◌, IsTrue, ◌↔◌};
     ghost use Rattle.std.specs.Option.{option_map};
     ghost use Rattle.intervals.specs.Spans.{span, only, is_constant, inhabited, hull, Within};
     ghost use Rattle.intervals.specs.Rounding.{rounded};
     ghost use Rattle.intervals.specs.Seen.{span_of, immediate_span};
 
     /// All words.
-    pub const FULL: Range = Range {
-        low: 0,
-        high: u64::MAX,
-    };
+    pub fn full() -> Range
+        ensures { span_of result ≡ span 0 (2 ^ 64 - 1) }
+    {
+        Range {
+            low: 0,
+            high: u64::MAX,
+        }
+    }
 
     /// The words from one to another, if there are any.
     pub fn new(low: u64, high: u64) -> Option<Range>
