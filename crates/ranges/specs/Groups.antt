@@ -1,0 +1,37 @@
+-- The bytes of a stack in aligned groups of eight (docs/VERIFIER.md, Abstract states).
+use Rattle.std.specs.Prelude.{◌≡◌, ℕ, zero, suc, ◌/◌, ◌%◌, ◌&&◌, ◌||◌, Bool, true, false, if◌then◌else◌, List, [], ◌∷◌, map, replicate, get_or}
+use Rattle.ranges.specs.Kinds.{Kind, Unset, Num, Ctx, Stack, Sector, SectorOrNull, join, round}
+
+-- two lists, element by element
+unfoldable pub zip_with : {A B C : Type 0} → (A → B → C) → List A → List B → List C
+zip_with f [] ys = []
+zip_with f (x ∷ xs) [] = []
+zip_with f (x ∷ xs) (y ∷ ys) = f x y ∷ zip_with f xs ys
+
+-- eight bytes: for each whether it is written, or a pointer that was spilled to all of them
+pub data GroupKind : Type 0 where
+  Marked : List Bool → GroupKind
+  Spilled : Kind → GroupKind
+
+abbrev pub unset_marks : List Bool
+unset_marks = replicate 8 false
+
+-- a pointer that is kept in eight bytes; what is no pointer leaves them unset
+abbrev pub kept : Kind → GroupKind
+kept Unset = Marked unset_marks
+kept (Num x) = Marked unset_marks
+kept k = Spilled k
+
+-- bytes of different kinds become unset; spilled pointers join as values do
+unfoldable pub join_group : GroupKind → GroupKind → GroupKind
+join_group (Marked xs) (Marked ys) = Marked (zip_with (λ a b. a && b) xs ys)
+join_group (Spilled k) (Spilled l) = kept (join k l)
+join_group _ _ = Marked unset_marks
+
+unfoldable pub round_group : GroupKind → GroupKind
+round_group (Marked xs) = Marked xs
+round_group (Spilled k) = Spilled (round k)
+
+-- the first holds all that the second does
+abbrev pub GroupContains : GroupKind → GroupKind → Type 0
+GroupContains g h = join_group g h ≡ g

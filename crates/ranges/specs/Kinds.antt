@@ -1,0 +1,47 @@
+-- What a register may hold (docs/VERIFIER.md, Abstract values), and how two such sets are joined and
+-- one is rounded (Abstract states). Offsets have no bound here; the types of the code keep them.
+use Rattle.std.specs.Prelude.{◌≡◌, ℕ, ◌==◌, if◌then◌else◌, Bool, true, false}
+use Rattle.intervals.specs.Spans.{Span, hull}
+use Rattle.intervals.specs.Rounding.{rounded}
+
+-- anything, unset too; the words of a range; the address of the context, of the lower end of the
+-- stack, or of a sector, and an offset; 0 or the address of a sector
+pub data Kind : Type 0 where
+  Unset : Kind
+  Num : Span → Kind
+  Ctx : ℕ → Kind
+  Stack : ℕ → Kind
+  Sector : Span → Kind
+  SectorOrNull : Kind
+
+abbrev pub is_number : Kind → Bool
+is_number (Num x) = true
+is_number _ = false
+
+abbrev pub is_pointer : Kind → Bool
+is_pointer Unset = false
+is_pointer (Num x) = false
+is_pointer _ = true
+
+abbrev pub is_unset : Kind → Bool
+is_unset Unset = true
+is_unset _ = false
+
+-- the join: ranges of one kind give their hull, equal pointers stay, all else may be anything
+unfoldable pub join : Kind → Kind → Kind
+join (Num x) (Num y) = Num (hull x y)
+join (Ctx a) (Ctx b) = if a == b then Ctx a else Unset
+join (Stack a) (Stack b) = if a == b then Stack a else Unset
+join (Sector x) (Sector y) = Sector (hull x y)
+join SectorOrNull SectorOrNull = SectorOrNull
+join _ _ = Unset
+
+-- the first holds all that the second does
+abbrev pub Contains : Kind → Kind → Type 0
+Contains k l = join k l ≡ k
+
+-- rounding widens ranges
+unfoldable pub round : Kind → Kind
+round (Num x) = Num (rounded x)
+round (Sector x) = Sector (rounded x)
+round k = k

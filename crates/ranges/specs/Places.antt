@@ -1,0 +1,52 @@
+-- Where accesses fall, and what is known of the bytes there (docs/VERIFIER.md, Rules at a slot, 3 and
+-- 4).
+use Rattle.std.specs.Prelude.{ℕ, zero, suc, ◌+◌, ◌-◌, ◌/◌, ◌%◌, ◌==◌, nat_le, ◌&&◌, not, Bool, true, false, if◌then◌else◌, ℤ, pos, negsuc, ◌+ℤ◌, List, [], ◌∷◌, slice_index_or, Option, None, Some, is_some}
+use Rattle.std.specs.Option.{option_map_or}
+use Rattle.intervals.specs.Spans.{Span}
+use Rattle.ranges.specs.declared.place.Place.{Place}
+use Rattle.ranges.specs.declared.place.Place.TheVariants as place
+use Rattle.ranges.specs.declared.place.Mark.{Mark}
+use Rattle.ranges.specs.declared.place.Mark.TheVariants as mark
+use Rattle.ranges.specs.Kinds.{Kind, Unset, Num, Ctx, Stack, Sector, SectorOrNull}
+use Rattle.ranges.specs.Groups.{GroupKind, Marked, Spilled}
+use Rattle.ranges.specs.Pointers.{offset_in}
+
+-- where n bytes from an offset on begin, if they lie below the size of a region
+abbrev pub landed : ℕ → ℕ → ℕ → ℤ → Option ℕ
+landed size n o distance = if nat_le n size then offset_in (size - n) (pos o +ℤ distance) else None
+
+-- where n bytes lie at a distance from a base
+unfoldable pub place_of : Kind → ℤ → ℕ → Place
+place_of (Ctx o) distance n = option_map_or (λ at. place.Context at) (landed 32 n o distance) place.Outside
+place_of (Stack o) distance n = option_map_or (λ at. place.Stack at) (landed 512 n o distance) place.Outside
+place_of (Sector x) distance n =
+    if is_some (landed 512 n x.low distance) && is_some (landed 512 n x.high distance) then place.Sector else place.Outside
+place_of k distance n = place.Outside
+
+abbrev pub is_inside : Place → Bool
+is_inside place.Outside = false
+is_inside p = true
+
+-- a byte of a group
+abbrev pub mark_in : GroupKind → ℕ → Mark
+mark_in (Marked marks) k = if slice_index_or marks k false then mark.Written else mark.Unset
+mark_in (Spilled k) _ = mark.Pointer
+
+-- a byte of the stack
+abbrev pub mark_at : List GroupKind → ℕ → Mark
+mark_at groups at = mark_in (slice_index_or groups (at / 8) (Marked [])) (at % 8)
+
+abbrev pub is_mark : Mark → Mark → Bool
+is_mark mark.Unset mark.Unset = true
+is_mark mark.Written mark.Written = true
+is_mark mark.Pointer mark.Pointer = true
+is_mark _ _ = false
+
+-- whether none of n bytes from a place on is of a kind
+unfoldable pub none_is : Mark → List GroupKind → ℕ → ℕ → Bool
+none_is m groups at zero = true
+none_is m groups at (suc n) = not (is_mark (mark_at groups at) m) && none_is m groups (at + 1) n
+
+-- whether n bytes are the eight of a group
+abbrev pub is_group : ℕ → ℕ → Bool
+is_group at n = (n == 8) && (at % 8 == 0)

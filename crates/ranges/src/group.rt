@@ -1,0 +1,89 @@
+//! Eight bytes of a stack.
+
+ghost use Rattle.std.specs.Prelude.{◌≡◌, ◌<◌, IsTrue, ◌&&◌, ◌↔◌};
+ghost use Rattle.ranges.specs.Groups.{zip_with, kept, join_group, round_group, GroupContains};
+ghost use Rattle.ranges.specs.Seen.{kind_of};
+ghost use Rattle.ranges.specs.SeenStates.{group_of};
+
+use crate::spill::Spill;
+use crate::value::Value;
+
+/// Eight bytes of a stack, from an offset that is a multiple of 8 (docs/VERIFIER.md, Abstract states).
+#[derive(Clone, Copy, Debug, PartialEq, Eq)]
+pub enum Group {
+    /// For each byte whether it is written. One that is not may be unset.
+    Marked([bool; 8]),
+    /// The bytes of a pointer.
+    Spilled(Spill),
+}
+
+/// No byte is written.
+pub const UNSET: Group = Group::Marked([false; 8]);
+
+/// A pointer that is kept in the eight bytes. What is no pointer leaves them unset.
+fn kept(value: Value) -> Group
+    ensures { group_of result ≡ kept (kind_of value) }
+{
+    match value {
+        Value::Unset | Value::Num(_) => UNSET,
+        value => Group::Spilled(Spill { value }),
+    }
+}
+
+/// Bytes that are written in both.
+fn both(x: &[bool; 8], y: &[bool; 8]) -> [bool; 8]
+    ensures { result ≡ zip_with (λ a b. a && b) x.now y.now }
+{
+    let mut marks = [false; 8];
+    for k in 0..8 {
+        marks[k] = x[k] & y[k];
+    }
+    marks
+}
+
+/// Whether the marks of the bytes are the same.
+fn same(x: &[bool; 8], y: &[bool; 8]) -> bool
+    ensures { IsTrue result ↔ (x.now ≡ y.now) }
+{
+    x == y
+}
+
+impl Group {
+    /// What is known where either group is.
+    #[tactic(auto, unfolding(crate::specs::Groups::join_group))]
+    pub fn join(self, other: Group) -> Group
+        ensures { group_of result ≡ join_group (group_of self) (group_of other) }
+    {
+        match (self, other) {
+            (Group::Marked(x), Group::Marked(y)) => Group::Marked(both(&x, &y)),
+            (Group::Spilled(x), Group::Spilled(y)) => kept(x.value.join(y.value)),
+            _ => UNSET,
+        }
+    }
+
+    /// The group with its spilled pointer rounded.
+    #[tactic(auto, unfolding(crate::specs::Groups::round_group))]
+    pub fn round(self) -> Group
+        ensures { group_of result ≡ round_group (group_of self) }
+    {
+        match self {
+            Group::Spilled(x) => Group::Spilled(Spill {
+                value: x.value.round(),
+            }),
+            group => group,
+        }
+    }
+
+    /// Whether it knows no more than the other: the join of both is itself.
+    #[tactic(auto, unfolding(crate::specs::Groups::join_group))]
+    pub fn contains(self, other: Group) -> bool
+        ensures { IsTrue result ↔ GroupContains (group_of self) (group_of other) }
+    {
+        match (self, other) {
+            (Group::Marked(x), Group::Marked(y)) => same(&both(&x, &y), &x),
+            (Group::Spilled(x), Group::Spilled(y)) => x.value.contains(y.value),
+            (Group::Marked(x), Group::Spilled(_)) => same(&x, &[false; 8]),
+            (Group::Spilled(_), Group::Marked(_)) => false,
+        }
+    }
+}

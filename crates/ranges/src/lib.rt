@@ -1,0 +1,7 @@
+//! Abstract values.
+#![tactic(auto)]
+
+pub mod group;
+pub mod spill;
+pub mod state;
+pub mod value;

@@ -1,0 +1,132 @@
+//! What is known at a slot.
+
+ghost use Rattle.std.specs.Prelude.{◌≡◌, IsTrue, map, ◌↔◌};
+ghost use Rattle.ranges.specs.Kinds.{join, round};
+ghost use Rattle.ranges.specs.Groups.{zip_with, join_group, round_group};
+ghost use Rattle.ranges.specs.Seen.{kind_of};
+ghost use Rattle.ranges.specs.SeenStates.{group_of};
+
+use crate::group::{Group, UNSET};
+use crate::value::{ContextOffset, StackOffset, Value};
+
+/// What is known of a machine's state at a slot (docs/VERIFIER.md, Abstract states).
+#[derive(Clone, Copy, Debug, PartialEq, Eq)]
+pub struct State {
+    /// What r0 to r10 hold.
+    pub values: [Value; 11],
+    /// The stack of the frame at hand, in groups of eight bytes.
+    pub groups: [Group; 64],
+}
+
+fn join_values(x: &[Value; 11], y: &[Value; 11]) -> [Value; 11]
+    ensures { map kind_of result ≡ zip_with join (map kind_of x.now) (map kind_of y.now) }
+{
+    let mut values = [Value::Unset; 11];
+    for k in 0..11 {
+        values[k] = x[k].join(y[k]);
+    }
+    values
+}
+
+fn join_groups(x: &[Group; 64], y: &[Group; 64]) -> [Group; 64]
+    ensures { map group_of result ≡ zip_with join_group (map group_of x.now) (map group_of y.now) }
+{
+    let mut groups = [UNSET; 64];
+    for k in 0..64 {
+        groups[k] = x[k].join(y[k]);
+    }
+    groups
+}
+
+fn round_values(x: &[Value; 11]) -> [Value; 11]
+    ensures { map kind_of result ≡ map round (map kind_of x.now) }
+{
+    let mut values = [Value::Unset; 11];
+    for k in 0..11 {
+        values[k] = x[k].round();
+    }
+    values
+}
+
+fn round_groups(x: &[Group; 64]) -> [Group; 64]
+    ensures { map group_of result ≡ map round_group (map group_of x.now) }
+{
+    let mut groups = [UNSET; 64];
+    for k in 0..64 {
+        groups[k] = x[k].round();
+    }
+    groups
+}
+
+fn contains_values(x: &[Value; 11], y: &[Value; 11]) -> bool
+    ensures { IsTrue result ↔ (zip_with join (map kind_of x.now) (map kind_of y.now) ≡ map kind_of x.now) }
+{
+    for k in 0..11 {
+        if !x[k].contains(y[k]) {
+            return false;
+        }
+    }
+    true
+}
+
+fn contains_groups(x: &[Group; 64], y: &[Group; 64]) -> bool
+    ensures { IsTrue result ↔ (zip_with join_group (map group_of x.now) (map group_of y.now) ≡ map group_of x.now) }
+{
+    for k in 0..64 {
+        if !x[k].contains(y[k]) {
+            return false;
+        }
+    }
+    true
+}
+
+impl State {
+    ghost use Rattle.ranges.specs.States.{join_state, round_state, StateContains, start};
+    ghost use Rattle.ranges.specs.SeenStates.{state_of};
+
+    /// The state at the start: r1 is the context, r10 the end of the stack, and nothing else is known.
+    #[tactic(auto, unfolding(crate::specs::States::start, crate::specs::States::unset_groups))]
+    pub fn start() -> State
+        ensures { state_of result ≡ start }
+    {
+        let unset = Value::Unset;
+        let context = Value::Ctx(ContextOffset { offset: 0 });
+        let stack = Value::Stack(StackOffset { offset: 512 });
+        State {
+            values: [
+                unset, context, unset, unset, unset, unset, unset, unset, unset, unset, stack,
+            ],
+            groups: [UNSET; 64],
+        }
+    }
+
+    /// What is known where either state is (docs/VERIFIER.md, Abstract states).
+    #[tactic(auto, unfolding(crate::specs::States::join_state))]
+    pub fn join(&self, other: &State) -> State
+        ensures { state_of result ≡ join_state (state_of self.now) (state_of other.now) }
+    {
+        State {
+            values: join_values(&self.values, &other.values),
+            groups: join_groups(&self.groups, &other.groups),
+        }
+    }
+
+    /// The state with all ranges rounded, those of spilled pointers too.
+    #[tactic(auto, unfolding(crate::specs::States::round_state))]
+    pub fn round(&self) -> State
+        ensures { state_of result ≡ round_state (state_of self.now) }
+    {
+        State {
+            values: round_values(&self.values),
+            groups: round_groups(&self.groups),
+        }
+    }
+
+    /// Whether it covers all that the other does: the join of both is itself.
+    #[tactic(auto, unfolding(crate::specs::States::join_state))]
+    pub fn contains(&self, other: &State) -> bool
+        ensures { IsTrue result ↔ StateContains (state_of self.now) (state_of other.now) }
+    {
+        contains_values(&self.values, &other.values) && contains_groups(&self.groups, &other.groups)
+    }
+}
