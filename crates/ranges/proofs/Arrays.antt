@@ -95,8 +95,8 @@ pub one_more_same : {X Y : Type 0} (f : X → Y) (right : ℕ → Y) (a : List X
     → (k : ℕ) → k < n + 1 → f (get_or a k d) ≡ right k
 one_more_same f right a n d before here k small =
     elim (cases_lt k n) [
-      inl lt ↦ before k lt
-    | inr ge ↦ let e : k ≡ n = omega arith in rw e here
+      | inl lt ↦ before k lt
+      | inr ge ↦ let e : k ≡ n = omega arith in rw e here
     ]
 
 pub zip_not_same : {X Y : Type 0} (f : X → Y) (j : Y → Y → Y) (a b : List X) (d : X) → length b ≡ length a

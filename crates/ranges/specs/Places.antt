@@ -1,6 +1,6 @@
 -- Where accesses fall, and what is known of the bytes there (docs/VERIFIER.md, Rules at a slot, 3 and
 -- 4).
-use Rattle.std.specs.Prelude.{ℕ, zero, suc, ◌+◌, ◌-◌, ◌/◌, ◌%◌, ◌==◌, nat_le, ◌&&◌, not, Bool, true, false, if◌then◌else◌, ℤ, pos, negsuc, ◌+ℤ◌, List, [], ◌∷◌, slice_index_or, Option, None, Some, is_some}
+use Rattle.std.specs.Prelude.{ℕ, zero, suc, ◌≤◌, ◌+◌, ◌-◌, ◌/◌, ◌%◌, ◌==◌, nat_le, ◌&&◌, not, Bool, true, false, if◌then◌else◌, ℤ, pos, negsuc, ◌+ℤ◌, List, [], ◌∷◌, slice_index_or, Option, None, Some, is_some}
 use Rattle.std.specs.Option.{option_map_or}
 use Rattle.intervals.specs.Spans.{Span}
 use Rattle.ranges.specs.declared.place.Place.{Place}
@@ -22,6 +22,11 @@ place_of (Stack o) distance n = option_map_or (λ at. place.Stack at) (landed 51
 place_of (Sector x) distance n =
     if is_some (landed 512 n x.low distance) && is_some (landed 512 n x.high distance) then place.Sector else place.Outside
 place_of k distance n = place.Outside
+
+-- n bytes in the stack lie below its end
+abbrev pub Fits : Place → ℕ → Type 0
+Fits (place.Stack at) n = at + n ≤ 512
+Fits p n = Unit {0}
 
 abbrev pub is_inside : Place → Bool
 is_inside place.Outside = false

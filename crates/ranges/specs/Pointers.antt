@@ -36,8 +36,8 @@ unfoldable pub moved_offsets : Bool → Span → Span → Option Span
 moved_offsets down x y =
     if is_constant y then offsets_in most_offset (moved_offset down x.low y) (moved_offset down x.high y)
     else if nat_le y.high most_offset then
-        (if down then offsets_in most_offset (pos x.low -ℤ pos y.high) (pos x.high -ℤ pos y.low)
-        else offsets_in most_offset (pos x.low +ℤ pos y.low) (pos x.high +ℤ pos y.high))
+    (if down then offsets_in most_offset (pos x.low -ℤ pos y.high) (pos x.high -ℤ pos y.low)
+    else offsets_in most_offset (pos x.low +ℤ pos y.low) (pos x.high +ℤ pos y.high))
     else None
 
 -- a pointer moved by a number, forward or down; None where it isn't allowed

@@ -1,5 +1,12 @@
 //! Where an access falls.
 
+ghost use Rattle.std.specs.Prelude.{◌≡◌, ◌≤◌, ◌+◌, IfSome};
+ghost use Rattle.ranges.specs.Places.{landed, place_of, Fits};
+ghost use Rattle.ranges.specs.Seen.{kind_of};
+
+use crate::pointers::offset_in;
+use crate::value::Value;
+
 /// Where the bytes of an access lie (docs/VERIFIER.md, Rules at a slot).
 #[derive(Clone, Copy, Debug, PartialEq, Eq)]
 pub enum Place {
@@ -22,4 +29,44 @@ pub enum Mark {
     Written,
     /// It is one of the eight of a spilled pointer.
     Pointer,
+}
+
+/// Where n bytes at a distance from an offset begin, if they lie below the size of a region.
+fn landed(size: u64, n: u64, offset: u64, distance: i16) -> Option<u64>
+    ensures value { result ≡ landed size n offset distance }
+    ensures bound { IfSome result (λ at. at + n ≤ size) }
+{
+    if n <= size {
+        offset_in(size - n, i128::from(offset) + i128::from(distance))
+    } else {
+        None
+    }
+}
+
+/// Where n bytes lie at a distance from a base.
+#[tactic(auto, unfolding(crate::specs::Places::place_of))]
+pub(crate) fn place_of(base: Value, distance: i16, n: u64) -> Place
+    ensures value { result ≡ place_of (kind_of base) distance n }
+    ensures fits { Fits result n }
+{
+    match base {
+        Value::Ctx(o) => match landed(32, n, u64::from(o.offset), distance) {
+            Some(at) => Place::Context(at),
+            None => Place::Outside,
+        },
+        Value::Stack(o) => match landed(512, n, u64::from(o.offset), distance) {
+            Some(at) => Place::Stack(at),
+            None => Place::Outside,
+        },
+        Value::Sector(x) => {
+            let low = landed(512, n, u64::from(x.low), distance);
+            let high = landed(512, n, u64::from(x.high), distance);
+            if low.is_some() && high.is_some() {
+                Place::Sector
+            } else {
+                Place::Outside
+            }
+        }
+        _ => Place::Outside,
+    }
 }

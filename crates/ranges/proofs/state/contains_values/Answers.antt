@@ -12,18 +12,20 @@ loop-k-preserved c =
     let x_inside : c.loop-k.k < length c.args.x.now = omega (arith, c.told-x) in
     let y_inside : c.loop-k.k < length c.args.y.now = omega (arith, c.told-y) in
     one_more_same kind_of (λ k. join (kind_of (get_or c.args.x.now k value.Unset)) (kind_of (get_or c.args.y.now k value.Unset))) c.args.x.now c.loop-k.k value.Unset c.loop-k.invariant
-        (read_both kind_of join c.args.x.now c.args.y.now c.loop-k.k c.index-x-k.result c.index-y-k.result value.Unset x_inside y_inside (c.contains.ensures.0 c.if-not-contains.false))
+    (read_both kind_of join c.args.x.now c.args.y.now c.loop-k.k c.index-x-k.result c.index-y-k.result value.Unset x_inside y_inside (c.contains.ensures.0 c.if-not-contains.false))
 
 pub returns-then-not-contains : goal.returns-then-not-contains
 returns-then-not-contains c =
     let x_inside : c.loop-k.k < length c.args.x.now = omega (arith, c.told-x) in
-    let bad : IsTrue false → ⊥ = λ t. let e : false ≡ true = t in cc in
-    (λ t. absurd (bad t),
-     λ e. absurd (zip_not_same kind_of join c.args.x.now c.args.y.now value.Unset (c.told-y ∙ sym c.told-x) c.loop-k.k c.index-x-k.result c.index-y-k.result x_inside
-         (λ same. let t : IsTrue c.contains.result = c.contains.ensures.1 same in cc) e))
+    let bad : IsTrue false → ⊥ = λ t. let e : false ≡ true = t in cc in (
+      λ t. absurd (bad t),
+      λ e. absurd (zip_not_same kind_of join c.args.x.now c.args.y.now value.Unset (c.told-y ∙ sym c.told-x) c.loop-k.k c.index-x-k.result c.index-y-k.result x_inside
+          (λ same. let t : IsTrue c.contains.result = c.contains.ensures.1 same in cc) e),
+    )
 
 pub returns : goal.returns
-returns c =
-    (λ t. sym (zip_filled kind_of join c.args.x.now c.args.y.now c.args.x.now value.Unset
-        (c.told-y ∙ sym c.told-x) refl (λ k small. c.loop-k.invariant k (omega (arith, c.told-x)))),
-     λ e. refl)
+returns c = (
+  λ t. sym (zip_filled kind_of join c.args.x.now c.args.y.now c.args.x.now value.Unset
+      (c.told-y ∙ sym c.told-x) refl (λ k small. c.loop-k.invariant k (omega (arith, c.told-x)))),
+  λ e. refl,
+)

@@ -10,12 +10,13 @@ use Rattle.ranges.proofs.state.round_groups.Goals as goal
 pub loop-k-preserved : goal.loop-k-preserved
 loop-k-preserved c =
     let inside : c.loop-k.k < length c.loop-k.groups = omega (arith, c.loop-k.invariant.0) in
-    let x_inside : c.loop-k.k < length c.args.x.now = omega (arith, c.told-x) in
-    (rw (length-set c.loop-k.groups c.loop-k.k _) c.loop-k.invariant.0,
-     one_more group_of (λ k. round_group (group_of (get_or c.args.x.now k (group.Marked [])))) c.loop-k.groups c.loop-k.k _ (group.Marked []) inside c.loop-k.invariant.1
-         (read_one group_of round_group c.args.x.now c.loop-k.k c.index-x-k.result (group.Marked []) c.round.result x_inside c.round.ensures))
+    let x_inside : c.loop-k.k < length c.args.x.now = omega (arith, c.told-x) in (
+      rw (length-set c.loop-k.groups c.loop-k.k _) c.loop-k.invariant.0,
+      one_more group_of (λ k. round_group (group_of (get_or c.args.x.now k (group.Marked [])))) c.loop-k.groups c.loop-k.k _ (group.Marked []) inside c.loop-k.invariant.1
+          (read_one group_of round_group c.args.x.now c.loop-k.k c.index-x-k.result (group.Marked []) c.round.result x_inside c.round.ensures),
+    )
 
 pub returns : goal.returns
 returns c =
     map_filled group_of round_group c.args.x.now c.loop-k.groups (group.Marked []) (c.loop-k.invariant.0 ∙ sym c.told-x)
-        (λ k small. c.loop-k.invariant.1 k (omega (arith, c.told-x)))
+    (λ k small. c.loop-k.invariant.1 k (omega (arith, c.told-x)))

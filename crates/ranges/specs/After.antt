@@ -1,0 +1,139 @@
+-- What is known after an instruction (docs/VERIFIER.md, Results of arithmetic on numbers to Helper
+-- calls). It is asked where no rule is broken.
+use Rattle.std.specs.Prelude.{ℕ, zero, suc, ◌+◌, ◌*◌, ◌-◌, ◌/◌, ◌%◌, ◌^◌, ◌==◌, nat_lt, nat_le, ◌&&◌, ◌||◌, not, Bool, true, false, if◌then◌else◌, ℤ, pos, List, [], ◌∷◌, slice_index_or, slice_set, Option, None, Some, unwrap_or}
+use Rattle.std.specs.Option.{option_map, option_map_or}
+use Rattle.std.specs.Int.{cast_unsigned, w32}
+use Rattle.bpf_isa.specs.declared.instr.Instr.{Instr}
+use Rattle.bpf_isa.specs.declared.instr.Instr.TheVariants as instr
+use Rattle.bpf_isa.specs.declared.instr.Source.{Source}
+use Rattle.bpf_isa.specs.declared.instr.Source.TheVariants as source
+use Rattle.bpf_isa.specs.declared.instr.Width.{Width}
+use Rattle.bpf_isa.specs.declared.instr.Width.TheVariants as width
+use Rattle.bpf_isa.specs.declared.instr.Operator.{Operator}
+use Rattle.bpf_isa.specs.declared.instr.Operator.TheVariants as op
+use Rattle.bpf_isa.specs.declared.instr.Size.{Size}
+use Rattle.bpf_isa.specs.declared.instr.Size.TheVariants as size
+use Rattle.helpers.specs.declared.helper.Helper.{Helper}
+use Rattle.helpers.specs.declared.helper.Helper.TheVariants as helper
+use Rattle.helpers.specs.Helper.{helper_of}
+use Rattle.machine.specs.Memory.{byte_count}
+use Rattle.intervals.specs.Spans.{Span, span, only}
+use Rattle.intervals.specs.Results.{arithmetic_result, negated_result, extended_result, ordered_result}
+use Rattle.ranges.specs.declared.place.Place.{Place}
+use Rattle.ranges.specs.declared.place.Place.TheVariants as place
+use Rattle.ranges.specs.declared.place.Mark.TheVariants as mark
+use Rattle.ranges.specs.Kinds.{Kind, Unset, Num, Ctx, Stack, Sector, SectorOrNull, is_pointer}
+use Rattle.ranges.specs.Groups.{GroupKind, Marked, Spilled}
+use Rattle.ranges.specs.States.{Abstract}
+use Rattle.ranges.specs.Pointers.{moved}
+use Rattle.ranges.specs.Places.{place_of, mark_in, is_mark, is_group}
+use Rattle.ranges.specs.Reading.{value, second, with_value, with_groups, words, any_word}
+use Rattle.ranges.specs.Rules.{length_of}
+
+-- what arithmetic makes of numbers
+abbrev pub computed : Width → Operator → Kind → Kind → Kind
+computed w o k l = Num (arithmetic_result w o (words k) (words l))
+
+-- what it makes of two values: a move in 64 bits copies, and pointers move
+unfoldable pub result_kind : Width → Operator → Kind → Kind → Kind
+result_kind width.W64 op.Mov k l = l
+result_kind width.W64 op.Add k l = unwrap_or (moved false k l) (computed width.W64 op.Add k l)
+result_kind width.W64 op.Sub k l = unwrap_or (moved true k l) (computed width.W64 op.Sub k l)
+result_kind w o k l = computed w o k l
+
+-- an aligned word of the context: the number of sectors, the epoch and the marks, and 0
+abbrev pub context_word : ℕ → ℕ → Kind
+context_word sectors at =
+    if at == 0 then Num (only sectors)
+    else if at == 8 || at == 16 then Num (span 0 65536)
+    else Num (only 0)
+
+-- any number of n bytes
+abbrev pub any_of : ℕ → Kind
+any_of n = Num (span 0 (2 ^ (8 * n) - 1))
+
+-- what a group gives to a load of its eight bytes
+abbrev pub group_value : GroupKind → Kind
+group_value (Marked marks) = any_of 8
+group_value (Spilled k) = k
+
+unfoldable pub loaded_kind : ℕ → List GroupKind → Place → ℕ → Kind
+loaded_kind sectors groups (place.Context at) n = if is_group at n then context_word sectors at else any_of n
+loaded_kind sectors groups (place.Stack at) n = if is_group at n then group_value (slice_index_or groups (at / 8) (Marked [])) else any_of n
+loaded_kind sectors groups p n = any_of n
+
+-- whether byte k of group g is one of n from a place on
+abbrev pub is_among : ℕ → ℕ → ℕ → ℕ → Bool
+is_among at n g k = nat_le at (8 * g + k) && nat_lt (8 * g + k) (at + n)
+
+-- the marks of group g where n bytes from a place on are written; those of a pointer are written too
+abbrev pub mark_after : ℕ → ℕ → ℕ → GroupKind → ℕ → Bool
+mark_after at n g group k = is_among at n g k || not (is_mark (mark_in group k) mark.Unset)
+
+abbrev pub marks_after : ℕ → ℕ → ℕ → GroupKind → List Bool
+marks_after at n g group =
+    mark_after at n g group 0 ∷ mark_after at n g group 1 ∷ mark_after at n g group 2 ∷ mark_after at n g group 3
+    ∷ mark_after at n g group 4 ∷ mark_after at n g group 5 ∷ mark_after at n g group 6 ∷ mark_after at n g group 7 ∷ []
+
+-- whether a group has one of n bytes from a place on
+abbrev pub is_touched : ℕ → ℕ → ℕ → Bool
+is_touched at n g = nat_lt at (8 * g + 8) && nat_lt (8 * g) (at + n)
+
+unfoldable pub group_after : ℕ → ℕ → ℕ → GroupKind → GroupKind
+group_after at n g group = if is_touched at n g then Marked (marks_after at n g group) else group
+
+-- the groups, from group g on, where n bytes from a place on are written
+unfoldable pub written_from : ℕ → ℕ → ℕ → List GroupKind → List GroupKind
+written_from at n g [] = []
+written_from at n g (group ∷ rest) = group_after at n g group ∷ written_from at n (g + 1) rest
+
+unfoldable pub written : ℕ → ℕ → List GroupKind → List GroupKind
+written at n groups = written_from at n 0 groups
+
+-- the groups where the bytes of an access are written
+abbrev pub written_at : List GroupKind → Place → ℕ → List GroupKind
+written_at groups (place.Stack at) n = written at n groups
+written_at groups p n = groups
+
+-- a pointer stored to a group stays a pointer; other stores make bytes written
+unfoldable pub stored_groups : Kind → List GroupKind → Place → ℕ → List GroupKind
+stored_groups k groups (place.Stack at) n =
+    if is_pointer k && is_group at n then slice_set groups (at / 8) (Spilled k) else written at n groups
+stored_groups k groups p n = groups
+
+-- what a helper answers
+abbrev pub answer_kind : Helper → Kind
+answer_kind helper.Sector = SectorOrNull
+answer_kind helper.Copy = Num (span 0 1)
+answer_kind helper.Again = Num (span 0 1)
+answer_kind helper.Report = Num (span 0 1)
+answer_kind helper.Zero = Num (span 0 2)
+answer_kind helper.Same = Num (span 0 2)
+answer_kind helper.Mix = Num any_word
+
+-- a call answers in register 0 and unsets registers 1 to 5
+abbrev pub answered : Abstract → Kind → Abstract
+answered s k =
+    with_value (with_value (with_value (with_value (with_value (with_value s 0 k) 1 Unset) 2 Unset) 3 Unset) 4 Unset) 5 Unset
+
+unfoldable pub call_after : Abstract → Helper → Abstract
+call_after s helper.Copy =
+    answered (with_groups s (written_at s.groups (place_of (value s 2) (pos 0) (length_of (value s 3))) (length_of (value s 3)))) (answer_kind helper.Copy)
+call_after s h = answered s (answer_kind h)
+
+-- the state behind an instruction that is no jump, on a device of so many sectors
+unfoldable pub after_of : ℕ → Abstract → Instr → Abstract
+after_of sectors s (instr.Arithmetic w o dst from) = with_value s dst (result_kind w o (value s dst) (second s from))
+after_of sectors s (instr.Negate w dst) = with_value s dst (Num (negated_result w (words (value s dst))))
+after_of sectors s (instr.SignExtend e dst src) = with_value s dst (Num (extended_result e (words (value s src))))
+after_of sectors s (instr.ByteOrder o size dst) = with_value s dst (Num (ordered_result o size (words (value s dst))))
+after_of sectors s (instr.Load size dst base distance) =
+    with_value s dst (loaded_kind sectors s.groups (place_of (value s base) distance (byte_count size)) (byte_count size))
+after_of sectors s (instr.LoadSigned size dst base distance) = with_value s dst (Num any_word)
+after_of sectors s (instr.StoreImmediate size base distance n) =
+    with_groups s (stored_groups (second s (source.Immediate n)) s.groups (place_of (value s base) distance (byte_count size)) (byte_count size))
+after_of sectors s (instr.Store size base distance src) =
+    with_groups s (stored_groups (value s src) s.groups (place_of (value s base) distance (byte_count size)) (byte_count size))
+after_of sectors s (instr.LoadImmediate dst x) = with_value s dst (Num (only x))
+after_of sectors s (instr.CallHelper number) = option_map_or (call_after s) (helper_of (cast_unsigned w32 number)) (answered s (Num any_word))
+after_of sectors s _ = s

@@ -1,0 +1,60 @@
+-- What is passed along the edges of an instruction (docs/VERIFIER.md, Branches and Good table).
+use Rattle.std.specs.Prelude.{ℕ, ◌+◌, Bool, true, false, not, if◌then◌else◌, List, [], ◌∷◌, ◌++◌, Option, None, Some}
+use Rattle.std.specs.Option.{option_map}
+use Rattle.bpf_isa.specs.declared.instr.Instr.{Instr}
+use Rattle.bpf_isa.specs.declared.instr.Instr.TheVariants as instr
+use Rattle.bpf_isa.specs.declared.instr.Source.{Source}
+use Rattle.bpf_isa.specs.declared.instr.Source.TheVariants as source
+use Rattle.bpf_isa.specs.declared.instr.Condition.{Condition}
+use Rattle.bpf_isa.specs.declared.instr.Condition.TheVariants as cond
+use Rattle.machine.specs.Step.{target}
+use Rattle.intervals.specs.Spans.{Span, only}
+use Rattle.intervals.specs.Edges.{refined}
+use Rattle.ranges.specs.Kinds.{Kind, Num, Sector}
+use Rattle.ranges.specs.States.{Abstract}
+use Rattle.ranges.specs.Reading.{value, second, with_value, words}
+use Rattle.ranges.specs.Rules.{is_null_test}
+use Rattle.ranges.specs.After.{after_of}
+
+-- whether an edge of a null test says that the register is 0
+abbrev pub is_equal_edge : Condition → Bool → Bool
+is_equal_edge cond.Eq taken = taken
+is_equal_edge _ taken = not taken
+
+-- the answer of helper 1 behind a null test
+abbrev pub tested_kind : Bool → Kind
+tested_kind true = Num (only 0)
+tested_kind false = Sector (only 0)
+
+-- the second operand with another range; an immediate has none of its own
+abbrev pub with_second : Abstract → Source → Span → Abstract
+with_second s (source.Immediate n) y = s
+with_second s (source.Register r) y = with_value s r (Num y)
+
+abbrev pub with_both : Abstract → ℕ → Source → Span × Span → Abstract
+with_both s dst from p = with_second (with_value s dst (Num p.0)) from p.1
+
+-- The state on an edge of a conditional jump, the one that is taken or the other; None where no
+-- machine goes that way. It is asked where no rule is broken.
+unfoldable pub edge_of : Abstract → Instr → Bool → Option Abstract
+edge_of s (instr.Branch w c dst from distance) taken =
+    if is_null_test w c from (value s dst) then Some (with_value s dst (tested_kind (is_equal_edge c taken)))
+    else option_map (with_both s dst from) (refined (instr.Branch w c dst from distance) taken (words (value s dst)) (words (second s from)))
+edge_of s i taken = Some s
+
+-- a state that is passed to a slot, if it is
+abbrev pub sent : ℕ → Option Abstract → List (ℕ × Abstract)
+sent slot None = []
+sent slot (Some s) = (slot, s) ∷ []
+
+-- to which slots what state is passed, the next slot first; rounding where it arrives is not a part
+-- of it
+unfoldable pub passes : ℕ → Abstract → ℕ → Instr → List (ℕ × Abstract)
+passes sectors s slot (instr.Jump distance) = (target slot distance, s) ∷ []
+passes sectors s slot (instr.LongJump distance) = (target slot distance, s) ∷ []
+passes sectors s slot (instr.Branch w c dst from distance) =
+    sent (slot + 1) (edge_of s (instr.Branch w c dst from distance) false)
+    ++ sent (target slot distance) (edge_of s (instr.Branch w c dst from distance) true)
+passes sectors s slot instr.Exit = []
+passes sectors s slot (instr.LoadImmediate dst x) = (slot + 2, after_of sectors s (instr.LoadImmediate dst x)) ∷ []
+passes sectors s slot i = (slot + 1, after_of sectors s i) ∷ []

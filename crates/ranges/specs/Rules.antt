@@ -1,0 +1,134 @@
+-- The rules of an instruction at a state, in their order (docs/VERIFIER.md, Rules at a slot).
+use Rattle.std.specs.Prelude.{ℕ, ◌==◌, ◌%◌, ◌&&◌, ◌||◌, Bool, true, false, if◌then◌else◌, ℤ, pos, List, [], ◌∷◌, is_some}
+use Rattle.std.specs.Option.{option_map_or}
+use Rattle.std.specs.Ordering.{int_eq}
+use Rattle.std.specs.Int.{cast_unsigned, w32}
+use Rattle.base.specs.Check.{Check, check}
+use Rattle.bpf_isa.specs.declared.instr.Instr.{Instr}
+use Rattle.bpf_isa.specs.declared.instr.Instr.TheVariants as instr
+use Rattle.bpf_isa.specs.declared.instr.Source.{Source}
+use Rattle.bpf_isa.specs.declared.instr.Source.TheVariants as source
+use Rattle.bpf_isa.specs.declared.instr.Width.{Width}
+use Rattle.bpf_isa.specs.declared.instr.Width.TheVariants as width
+use Rattle.bpf_isa.specs.declared.instr.Operator.{Operator}
+use Rattle.bpf_isa.specs.declared.instr.Operator.TheVariants as op
+use Rattle.bpf_isa.specs.declared.instr.Condition.{Condition}
+use Rattle.bpf_isa.specs.declared.instr.Condition.TheVariants as cond
+use Rattle.helpers.specs.declared.helper.Helper.{Helper}
+use Rattle.helpers.specs.declared.helper.Helper.TheVariants as helper
+use Rattle.helpers.specs.Helper.{helper_of, arguments}
+use Rattle.machine.specs.Memory.{byte_count, plain_size}
+use Rattle.machine.specs.Step.{source_registers, operands}
+use Rattle.ranges.specs.declared.cause.RuleCause.{RuleCause}
+use Rattle.ranges.specs.declared.cause.RuleCause.TheVariants as cause
+use Rattle.ranges.specs.declared.place.Place.{Place}
+use Rattle.ranges.specs.declared.place.Place.TheVariants as place
+use Rattle.ranges.specs.declared.place.Mark.{Mark}
+use Rattle.ranges.specs.declared.place.Mark.TheVariants as mark
+use Rattle.ranges.specs.Kinds.{Kind, Unset, Num, Ctx, Stack, Sector, SectorOrNull, is_number}
+use Rattle.ranges.specs.Groups.{GroupKind}
+use Rattle.ranges.specs.States.{Abstract}
+use Rattle.ranges.specs.Pointers.{moved}
+use Rattle.ranges.specs.Places.{place_of, is_inside, none_is, is_group}
+use Rattle.ranges.specs.Reading.{value, second, are_set, words, is_stack, is_base, has_length}
+
+-- the rule that each of these registers is set
+abbrev pub reads : Abstract → List ℕ → Check RuleCause
+reads s registers = check cause.UnsetRegister (are_set s registers)
+
+-- Whether arithmetic may take these operands: a move in 64 bits takes any, an addition or
+-- subtraction in 64 bits may move a pointer, and all else takes numbers. A move does not read dst.
+unfoldable pub may_compute : Width → Operator → Kind → Kind → Bool
+may_compute width.W64 op.Mov k l = true
+may_compute width.W32 op.Mov k l = is_number l
+may_compute width.W64 op.Add k l = (is_number k && is_number l) || is_some (moved false k l)
+may_compute width.W64 op.Sub k l = (is_number k && is_number l) || is_some (moved true k l)
+may_compute _ _ k l = is_number k && is_number l
+
+abbrev pub computes : Bool → Check RuleCause
+computes may = check cause.PointerArithmetic may
+
+-- the test of the answer of helper 1 against 0
+abbrev pub is_zero : Source → Bool
+is_zero (source.Immediate n) = int_eq n (pos 0)
+is_zero (source.Register r) = false
+
+abbrev pub is_equality : Condition → Bool
+is_equality cond.Eq = true
+is_equality cond.Ne = true
+is_equality _ = false
+
+abbrev pub may_be_null : Kind → Bool
+may_be_null SectorOrNull = true
+may_be_null _ = false
+
+abbrev pub is_wide : Width → Bool
+is_wide width.W64 = true
+is_wide width.W32 = false
+
+unfoldable pub is_null_test : Width → Condition → Source → Kind → Bool
+is_null_test w c from k = is_wide w && (is_equality c && (is_zero from && may_be_null k))
+
+-- the rules of an access to n bytes
+abbrev pub lies : Place → Check RuleCause
+lies p = check cause.OutsideRegion (is_inside p)
+
+-- whether none of the bytes of an access is of this kind
+abbrev pub has_no : Mark → List GroupKind → Place → ℕ → Bool
+has_no m groups (place.Stack at) n = none_is m groups at n
+has_no m groups p n = true
+
+-- whether they are the eight of a group of the stack
+abbrev pub is_whole : Place → ℕ → Bool
+is_whole (place.Stack at) n = is_group at n
+is_whole p n = false
+
+unfoldable pub load_rules : Abstract → ℕ → ℤ → ℕ → List (Check RuleCause)
+load_rules s base distance n =
+    reads s (base ∷ [])
+    ∷ lies (place_of (value s base) distance n)
+    ∷ check cause.UnwrittenByte (has_no mark.Unset s.groups (place_of (value s base) distance n) n)
+    ∷ check cause.PointerAsNumber (is_whole (place_of (value s base) distance n) n || has_no mark.Pointer s.groups (place_of (value s base) distance n) n)
+    ∷ []
+
+unfoldable pub store_rules : Abstract → List ℕ → Kind → ℕ → ℤ → ℕ → List (Check RuleCause)
+store_rules s registers stored base distance n =
+    reads s registers
+    ∷ check cause.OutsideRegion (is_base (value s base))
+    ∷ check cause.ReadOnly (is_stack (value s base))
+    ∷ lies (place_of (value s base) distance n)
+    ∷ check cause.PointerAsNumber (is_number stored || is_whole (place_of (value s base) distance n) n)
+    ∷ []
+
+-- the length of helper 2
+abbrev pub length_of : Kind → ℕ
+length_of k = (words k).low
+
+unfoldable pub call_rules : Abstract → Helper → List (Check RuleCause)
+call_rules s helper.Copy =
+    reads s (1 ∷ 2 ∷ 3 ∷ [])
+    ∷ check cause.HelperArgument (is_number (value s 1) && (is_stack (value s 2) && has_length (value s 3)))
+    ∷ lies (place_of (value s 2) (pos 0) (length_of (value s 3)))
+    ∷ []
+call_rules s helper.Same = reads s (1 ∷ 2 ∷ []) ∷ check cause.HelperArgument (is_number (value s 1) && is_number (value s 2)) ∷ []
+call_rules s h = reads s (1 ∷ []) ∷ check cause.HelperArgument (is_number (value s 1)) ∷ []
+
+-- the rules of an instruction; that helpers are known is a rule of shape
+unfoldable pub rules : Abstract → Instr → List (Check RuleCause)
+rules s (instr.Arithmetic w o dst from) = reads s (operands o dst from) ∷ computes (may_compute w o (value s dst) (second s from)) ∷ []
+rules s (instr.Negate w dst) = reads s (dst ∷ []) ∷ computes (is_number (value s dst)) ∷ []
+rules s (instr.SignExtend e dst src) = reads s (src ∷ []) ∷ computes (is_number (value s src)) ∷ []
+rules s (instr.ByteOrder o size dst) = reads s (dst ∷ []) ∷ computes (is_number (value s dst)) ∷ []
+rules s (instr.Jump distance) = []
+rules s (instr.LongJump distance) = []
+rules s (instr.Branch w c dst from distance) =
+    reads s (dst ∷ source_registers from)
+    ∷ check cause.PointerAsNumber (is_null_test w c from (value s dst) || (is_number (value s dst) && is_number (second s from)))
+    ∷ []
+rules s (instr.CallHelper number) = option_map_or (call_rules s) (helper_of (cast_unsigned w32 number)) []
+rules s instr.Exit = reads s (0 ∷ []) ∷ check cause.PointerAsNumber (is_number (value s 0)) ∷ []
+rules s (instr.Load size dst base distance) = load_rules s base distance (byte_count size)
+rules s (instr.LoadSigned size dst base distance) = load_rules s base distance (byte_count (plain_size size))
+rules s (instr.StoreImmediate size base distance n) = store_rules s (base ∷ []) (second s (source.Immediate n)) base distance (byte_count size)
+rules s (instr.Store size base distance src) = store_rules s (base ∷ src ∷ []) (value s src) base distance (byte_count size)
+rules s (instr.LoadImmediate dst x) = []
