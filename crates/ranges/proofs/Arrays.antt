@@ -2,7 +2,7 @@
 use Rattle.std.proofs.Common.{◌≡◌, ◌≢◌, ℕ, zero, suc, ◌+◌, ◌<◌, ◌≤◌, ◌⊎◌, inl, inr, List, [], ◌∷◌, length, map, get_or, sym, ◌∙◌, arith, refl}
 use Rattle.std.specs.Prelude.{set}
 use Rattle.std.proofs.lemmas.Bool.{cases_lt}
-use Rattle.std.proofs.lemmas.List.{get_or-set_same, get_or-set_other, get_or_default}
+use Rattle.std.proofs.lemmas.List.{get_or-set_same, get_or-set_other, get_or_default, map-set}
 use Rattle.ranges.specs.Groups.{zip_with}
 
 -- the elements below n are right; after one more, those below n + 1
@@ -106,3 +106,7 @@ zip_not_same f j a b d lb k u v small not e =
     let ib : k < length b = omega arith in
     let here : j (f (get_or a k d)) (f (get_or b k d)) ≡ f (get_or a k d) = zip_same_at f j a b d lb e k small in
     not (rw (get_or_default a k u d small, get_or_default b k v d ib) here)
+
+-- a value is written to an array as what contracts see of it is to their list
+pub mapped_set : {X Y : Type 0} (f : X → Y) (xs : List X) (i : ℕ) (x : X) → map f (set xs i x) ≡ set (map f xs) i (f x)
+mapped_set f xs i x = map-set f xs i x

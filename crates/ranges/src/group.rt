@@ -5,6 +5,7 @@ ghost use Rattle.ranges.specs.Groups.{zip_with, kept, join_group, round_group, G
 ghost use Rattle.ranges.specs.Seen.{kind_of};
 ghost use Rattle.ranges.specs.SeenStates.{group_of};
 
+use crate::place::Mark;
 use crate::spill::Spill;
 use crate::value::Value;
 
@@ -49,6 +50,8 @@ fn same(x: &[bool; 8], y: &[bool; 8]) -> bool
 }
 
 impl Group {
+    ghost use Rattle.ranges.specs.Places.{mark_in};
+
     /// What is known where either group is.
     #[tactic(auto, unfolding(crate::specs::Groups::join_group))]
     pub fn join(self, other: Group) -> Group
@@ -84,6 +87,17 @@ impl Group {
             (Group::Spilled(x), Group::Spilled(y)) => x.value.contains(y.value),
             (Group::Marked(x), Group::Spilled(_)) => same(&x, &[false; 8]),
             (Group::Spilled(_), Group::Marked(_)) => false,
+        }
+    }
+
+    /// What is known of byte k.
+    pub(crate) fn mark(self, k: usize) -> Mark
+        requires { k < 8 }
+        ensures { result ≡ mark_in (group_of self) k }
+    {
+        match self {
+            Group::Marked(marks) => if marks[k] { Mark::Written } else { Mark::Unset },
+            Group::Spilled(_) => Mark::Pointer,
         }
     }
 }

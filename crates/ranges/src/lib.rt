@@ -5,6 +5,8 @@ pub mod cause;
 pub mod group;
 pub mod place;
 mod pointers;
+mod reads;
+pub mod rules;
 pub mod spill;
 pub mod state;
 pub mod value;

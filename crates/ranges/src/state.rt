@@ -8,6 +8,9 @@ ghost use Rattle.ranges.specs.SeenStates.{group_of};
 
 use crate::group::{Group, UNSET};
 use crate::value::{ContextOffset, StackOffset, Value};
+use bpf_isa::instr::Source;
+use bpf_isa::register::Register;
+use intervals::Range;
 
 /// What is known of a machine's state at a slot (docs/VERIFIER.md, Abstract states).
 #[derive(Clone, Copy, Debug, PartialEq, Eq)]
@@ -82,6 +85,9 @@ fn contains_groups(x: &[Group; 64], y: &[Group; 64]) -> bool
 
 impl State {
     ghost use Rattle.ranges.specs.States.{join_state, round_state, StateContains, start};
+    ghost use Rattle.std.specs.Prelude.{◌<◌, slice_index_or, []};
+    ghost use Rattle.ranges.specs.Groups.{Marked};
+    ghost use Rattle.ranges.specs.Reading.{value, second, with_value, with_groups};
     ghost use Rattle.ranges.specs.SeenStates.{state_of};
 
     /// The state at the start: r1 is the context, r10 the end of the stack, and nothing else is known.
@@ -128,5 +134,64 @@ impl State {
         ensures { IsTrue result ↔ StateContains (state_of self.now) (state_of other.now) }
     {
         contains_values(&self.values, &other.values) && contains_groups(&self.groups, &other.groups)
+    }
+
+    /// What register n holds.
+    pub(crate) fn at(&self, n: usize) -> Value
+        requires { n < 11 }
+        ensures { kind_of result ≡ value (state_of self.now) n }
+    {
+        self.values[n]
+    }
+
+    /// What a register holds.
+    pub(crate) fn value(&self, register: Register) -> Value
+        ensures { kind_of result ≡ value (state_of self.now) register }
+    {
+        self.at(register.number())
+    }
+
+    /// The second operand of an instruction.
+    pub(crate) fn second(&self, source: &Source) -> Value
+        ensures { kind_of result ≡ second (state_of self.now) source.now }
+    {
+        match source {
+            Source::Immediate(immediate) => Value::Num(Range::immediate(*immediate)),
+            Source::Register(register) => self.value(*register),
+        }
+    }
+
+    /// Group n of the stack.
+    pub(crate) fn group(&self, n: usize) -> Group
+        requires { n < 64 }
+        ensures { group_of result ≡ slice_index_or (state_of self.now).groups n (Marked []) }
+    {
+        self.groups[n]
+    }
+
+    /// The state with another value in register n.
+    pub(crate) fn with_at(&self, n: usize, value: Value) -> State
+        requires { n < 11 }
+        ensures { state_of result ≡ with_value (state_of self.now) n (kind_of value) }
+    {
+        let mut state = *self;
+        state.values[n] = value;
+        state
+    }
+
+    /// The state with another value in a register.
+    pub(crate) fn with_value(&self, register: Register, value: Value) -> State
+        ensures { state_of result ≡ with_value (state_of self.now) register (kind_of value) }
+    {
+        self.with_at(register.number(), value)
+    }
+
+    /// The state with other groups.
+    pub(crate) fn with_groups(&self, groups: [Group; 64]) -> State
+        ensures { state_of result ≡ with_groups (state_of self.now) (map group_of groups) }
+    {
+        let mut state = *self;
+        state.groups = groups;
+        state
     }
 }

@@ -44,9 +44,11 @@ pub enum Value {
 }
 
 impl Value {
-    ghost use Rattle.std.specs.Prelude.{◌≡◌, IsTrue, ◌↔◌};
-    ghost use Rattle.ranges.specs.Kinds.{join, round, Contains, is_number, is_pointer};
+    ghost use Rattle.std.specs.Prelude.{◌≡◌, IsTrue, ◌↔◌, not};
+    ghost use Rattle.ranges.specs.Kinds.{join, round, Contains, is_number, is_pointer, is_unset};
+    ghost use Rattle.ranges.specs.Reading.{is_stack, is_base, has_length, words};
     ghost use Rattle.ranges.specs.Seen.{kind_of};
+    ghost use Rattle.intervals.specs.Seen.{span_of};
 
     /// The least value that holds all that either does (docs/VERIFIER.md, Abstract states).
     #[tactic(auto, unfolding(crate::specs::Kinds::join))]
@@ -89,6 +91,47 @@ impl Value {
             Value::Num(x) => Value::Num(x.round()),
             Value::Sector(x) => Value::Sector(x.round()),
             value => value,
+        }
+    }
+
+    /// Whether something is known of it.
+    pub(crate) fn is_set(self) -> bool
+        ensures { result ≡ not (is_unset (kind_of self)) }
+    {
+        !matches!(self, Value::Unset)
+    }
+
+    /// Whether it is an offset in the stack.
+    pub(crate) fn is_stack(self) -> bool
+        ensures { result ≡ is_stack (kind_of self) }
+    {
+        matches!(self, Value::Stack(_))
+    }
+
+    /// Whether it is a pointer to bytes.
+    pub(crate) fn is_base(self) -> bool
+        ensures { result ≡ is_base (kind_of self) }
+    {
+        matches!(self, Value::Ctx(_) | Value::Stack(_) | Value::Sector(_))
+    }
+
+    /// Whether it is a constant that helper 2 takes as a length.
+    pub(crate) fn has_length(self) -> bool
+        ensures { result ≡ has_length (kind_of self) }
+    {
+        match self {
+            Value::Num(x) => x.is_constant() && 1 <= x.low && x.low <= 512,
+            _ => false,
+        }
+    }
+
+    /// The words of a number; of what is none nothing is asked.
+    pub(crate) fn words(self) -> Range
+        ensures { span_of result ≡ words (kind_of self) }
+    {
+        match self {
+            Value::Num(x) => x,
+            _ => Range::FULL,
         }
     }
 
