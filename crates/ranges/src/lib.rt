@@ -1,6 +1,7 @@
 //! Abstract values.
 #![tactic(auto)]
 
+mod bytes;
 pub mod cause;
 pub mod group;
 pub mod place;

@@ -1,6 +1,6 @@
 //! The rules of an instruction at a state.
 
-ghost use Rattle.std.specs.Prelude.{◌≡◌, not, [], ◌∷◌, pos};
+ghost use Rattle.std.specs.Prelude.{◌≡◌, not, [], ◌∷◌, pos, ℕ, List};
 ghost use Rattle.base.specs.Check.{first_failing, check};
 ghost use Rattle.machine.specs.Memory.{byte_count, plain_size};
 ghost use Rattle.machine.specs.Step.{source_registers, operands};
@@ -11,7 +11,9 @@ ghost use Rattle.ranges.specs.Rules.{may_compute, is_null_test, is_zero, is_equa
 ghost use Rattle.ranges.specs.Seen.{kind_of};
 ghost use Rattle.ranges.specs.SeenStates.{state_of};
 
+use crate::bytes::{byte_count, has_no, is_whole, plain_size};
 use crate::cause::RuleCause;
+use crate::place::{Mark, Place, place_of};
 use crate::pointers::moved;
 use crate::reads::{are_both_set, are_operands_set, is_set};
 use crate::state::State;
@@ -70,5 +72,53 @@ fn is_zero(source: &Source) -> bool
     match source {
         Source::Immediate(immediate) => *immediate == 0,
         Source::Register(_) => false,
+    }
+}
+
+/// The first rule that a load breaks.
+#[tactic(auto, unfolding(crate::specs::Rules::load_rules))]
+fn load_breach(state: &State, base: Register, offset: i16, n: u64) -> Option<RuleCause>
+    ensures { result ≡ first_failing (load_rules (state_of state.now) base offset n) }
+{
+    let place = place_of(state.value(base), offset, n);
+    if !is_set(state, base) {
+        Some(RuleCause::UnsetRegister)
+    } else if matches!(place, Place::Outside) {
+        Some(RuleCause::OutsideRegion)
+    } else if !has_no(state, Mark::Unset, place, n) {
+        Some(RuleCause::UnwrittenByte)
+    } else if !is_whole(place, n) && !has_no(state, Mark::Pointer, place, n) {
+        Some(RuleCause::PointerAsNumber)
+    } else {
+        None
+    }
+}
+
+/// The first rule that a store breaks. `set` says whether the registers are set that it reads.
+#[tactic(auto, unfolding(crate::specs::Rules::store_rules))]
+fn store_breach(
+    state: &State,
+    set: bool,
+    stored: Value,
+    base: Register,
+    offset: i16,
+    n: u64,
+) -> Option<RuleCause>
+    ensures { (registers : List ℕ) → set ≡ are_set (state_of state.now) registers → result ≡ first_failing (store_rules (state_of state.now) registers (kind_of stored) base offset n) }
+{
+    let value = state.value(base);
+    let place = place_of(value, offset, n);
+    if !set {
+        Some(RuleCause::UnsetRegister)
+    } else if !value.is_base() {
+        Some(RuleCause::OutsideRegion)
+    } else if !value.is_stack() {
+        Some(RuleCause::ReadOnly)
+    } else if matches!(place, Place::Outside) {
+        Some(RuleCause::OutsideRegion)
+    } else if !stored.is_number() && !is_whole(place, n) {
+        Some(RuleCause::PointerAsNumber)
+    } else {
+        None
     }
 }

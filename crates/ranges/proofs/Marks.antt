@@ -1,0 +1,42 @@
+-- Bytes of the stack, looked at one after the other.
+use Rattle.std.proofs.Common.{◌≡◌, ℕ, zero, suc, ◌+◌, ◌-◌, ◌<◌, ◌≤◌, Bool, true, false, not, ◌&&◌, List, refl, arith, sym, ◌∙◌}
+use Rattle.ranges.specs.declared.place.Mark.{Mark}
+use Rattle.ranges.specs.Groups.{GroupKind}
+use Rattle.ranges.specs.Places.{mark_at, is_mark, none_is}
+
+none_more : (m : Mark) (groups : List GroupKind) (at n : ℕ)
+    → none_is m groups at (suc n) ≡ (not (is_mark (mark_at groups at) m) && none_is m groups (at + 1) n)
+unfolding none_is
+none_more m groups at n = refl
+
+pub none_next : (m : Mark) (groups : List GroupKind) (at n k : ℕ) (whole : Bool) → k < n
+    → is_mark (mark_at groups (at + k)) m ≡ false
+    → none_is m groups (at + k) (n - k) ≡ whole
+    → none_is m groups (at + (k + 1)) (n - (k + 1)) ≡ whole
+none_next m groups at n k whole inside other so =
+    let left : n - k ≡ suc (n - (k + 1)) = omega arith in
+    let next : at + k + 1 ≡ at + (k + 1) = omega arith in
+    let so2 : none_is m groups (at + k) (suc (n - (k + 1))) ≡ whole = rw (← left) so in
+    let so3 : (not (is_mark (mark_at groups (at + k)) m) && none_is m groups (at + k + 1) (n - (k + 1))) ≡ whole = sym (none_more m groups (at + k) (n - (k + 1))) ∙ so2 in
+    let so4 : (not false && none_is m groups (at + k + 1) (n - (k + 1))) ≡ whole = rw other at so3 in
+    rw (← next) so4
+
+pub none_here : (m : Mark) (groups : List GroupKind) (at n k : ℕ) (whole : Bool) → k < n
+    → is_mark (mark_at groups (at + k)) m ≡ true
+    → none_is m groups (at + k) (n - k) ≡ whole
+    → false ≡ whole
+none_here m groups at n k whole inside same so =
+    let left : n - k ≡ suc (n - (k + 1)) = omega arith in
+    let so2 : none_is m groups (at + k) (suc (n - (k + 1))) ≡ whole = rw (← left) so in
+    let so3 : (not (is_mark (mark_at groups (at + k)) m) && none_is m groups (at + k + 1) (n - (k + 1))) ≡ whole = sym (none_more m groups (at + k) (n - (k + 1))) ∙ so2 in
+    let so4 : (not true && none_is m groups (at + k + 1) (n - (k + 1))) ≡ whole = rw same at so3 in
+    so4
+
+pub none_ends : (m : Mark) (groups : List GroupKind) (at n k : ℕ) (whole : Bool) → n ≤ k
+    → none_is m groups (at + k) (n - k) ≡ whole
+    → true ≡ whole
+unfolding none_is
+none_ends m groups at n k whole past so =
+    let left : n - k ≡ 0 = omega arith in
+    let so2 : none_is m groups (at + k) 0 ≡ whole = rw left at so in
+    so2
