@@ -69,6 +69,10 @@ is_wide width.W32 = false
 unfoldable pub is_null_test : Width → Condition → Source → Kind → Bool
 is_null_test w c from k = is_wide w && (is_equality c && (is_zero from && may_be_null k))
 
+-- whether a jump tests numbers, or an answer of helper 1 against 0
+unfoldable pub compares : Abstract → Width → Condition → ℕ → Source → Bool
+compares s w c dst from = is_null_test w c from (value s dst) || (is_number (value s dst) && is_number (second s from))
+
 -- the rules of an access to n bytes
 abbrev pub lies : Place → Check RuleCause
 lies p = check cause.OutsideRegion (is_inside p)
@@ -91,9 +95,10 @@ load_rules s base distance n =
     ∷ check cause.PointerAsNumber (is_whole (place_of (value s base) distance n) n || has_no mark.Pointer s.groups (place_of (value s base) distance n) n)
     ∷ []
 
-unfoldable pub store_rules : Abstract → List ℕ → Kind → ℕ → ℤ → ℕ → List (Check RuleCause)
-store_rules s registers stored base distance n =
-    reads s registers
+-- `set` says whether the registers are set that the store reads
+unfoldable pub store_rules : Abstract → Bool → Kind → ℕ → ℤ → ℕ → List (Check RuleCause)
+store_rules s set stored base distance n =
+    check cause.UnsetRegister set
     ∷ check cause.OutsideRegion (is_base (value s base))
     ∷ check cause.ReadOnly (is_stack (value s base))
     ∷ lies (place_of (value s base) distance n)
@@ -123,12 +128,12 @@ rules s (instr.Jump distance) = []
 rules s (instr.LongJump distance) = []
 rules s (instr.Branch w c dst from distance) =
     reads s (dst ∷ source_registers from)
-    ∷ check cause.PointerAsNumber (is_null_test w c from (value s dst) || (is_number (value s dst) && is_number (second s from)))
+    ∷ check cause.PointerAsNumber (compares s w c dst from)
     ∷ []
 rules s (instr.CallHelper number) = option_map_or (call_rules s) (helper_of (cast_unsigned w32 number)) []
 rules s instr.Exit = reads s (0 ∷ []) ∷ check cause.PointerAsNumber (is_number (value s 0)) ∷ []
 rules s (instr.Load size dst base distance) = load_rules s base distance (byte_count size)
 rules s (instr.LoadSigned size dst base distance) = load_rules s base distance (byte_count (plain_size size))
-rules s (instr.StoreImmediate size base distance n) = store_rules s (base ∷ []) (second s (source.Immediate n)) base distance (byte_count size)
-rules s (instr.Store size base distance src) = store_rules s (base ∷ src ∷ []) (value s src) base distance (byte_count size)
+rules s (instr.StoreImmediate size base distance n) = store_rules s (are_set s (base ∷ [])) (second s (source.Immediate n)) base distance (byte_count size)
+rules s (instr.Store size base distance src) = store_rules s (are_set s (base ∷ src ∷ [])) (value s src) base distance (byte_count size)
 rules s (instr.LoadImmediate dst x) = []

@@ -48,3 +48,10 @@ pub(crate) fn are_operands_set(
         _ => are_both_set(state, dst, source),
     }
 }
+
+/// Whether two registers are set.
+pub(crate) fn are_two_set(state: &State, first: Register, other: Register) -> bool
+    ensures { result ≡ are_set (state_of state.now) (first ∷ other ∷ []) }
+{
+    is_set(state, first) && is_set(state, other)
+}

@@ -1,13 +1,13 @@
 //! The rules of an instruction at a state.
 
-ghost use Rattle.std.specs.Prelude.{◌≡◌, not, [], ◌∷◌, pos, ℕ, List};
+ghost use Rattle.std.specs.Prelude.{◌≡◌, not, [], ◌∷◌, pos, Some, None, OnOk, IfErr};
 ghost use Rattle.base.specs.Check.{first_failing, check};
 ghost use Rattle.machine.specs.Memory.{byte_count, plain_size};
 ghost use Rattle.machine.specs.Step.{source_registers, operands};
 ghost use Rattle.ranges.specs.Kinds.{is_number};
 ghost use Rattle.ranges.specs.Reading.{value, second, are_set};
 ghost use Rattle.ranges.specs.Places.{place_of, is_inside, none_is, is_group, Fits};
-ghost use Rattle.ranges.specs.Rules.{may_compute, is_null_test, is_zero, is_equality, may_be_null, has_no, is_whole, load_rules, store_rules, call_rules, rules, reads, computes, lies};
+ghost use Rattle.ranges.specs.Rules.{may_compute, compares, is_null_test, is_zero, is_equality, may_be_null, has_no, is_whole, load_rules, store_rules, call_rules, rules, reads, computes, lies};
 ghost use Rattle.ranges.specs.Seen.{kind_of};
 ghost use Rattle.ranges.specs.SeenStates.{state_of};
 
@@ -15,11 +15,13 @@ use crate::bytes::{byte_count, has_no, is_whole, plain_size};
 use crate::cause::RuleCause;
 use crate::place::{Mark, Place, place_of};
 use crate::pointers::moved;
-use crate::reads::{are_both_set, are_operands_set, is_set};
+use crate::reads::{are_both_set, are_operands_set, are_two_set, is_set};
 use crate::state::State;
 use crate::value::Value;
 use bpf_isa::instr::{Condition, Instr, Operator, Source, Width};
 use bpf_isa::register::Register;
+use helpers::Helper;
+use intervals::Range;
 
 /// Whether arithmetic may take these operands.
 #[tactic(auto, unfolding(crate::specs::Rules::may_compute))]
@@ -104,7 +106,7 @@ fn store_breach(
     offset: i16,
     n: u64,
 ) -> Option<RuleCause>
-    ensures { (registers : List ℕ) → set ≡ are_set (state_of state.now) registers → result ≡ first_failing (store_rules (state_of state.now) registers (kind_of stored) base offset n) }
+    ensures { result ≡ first_failing (store_rules (state_of state.now) set (kind_of stored) base offset n) }
 {
     let value = state.value(base);
     let place = place_of(value, offset, n);
@@ -120,5 +122,192 @@ fn store_breach(
         Some(RuleCause::PointerAsNumber)
     } else {
         None
+    }
+}
+
+/// The first rule that arithmetic with two operands breaks.
+fn arithmetic_breach(
+    state: &State,
+    width: Width,
+    operator: Operator,
+    dst: Register,
+    source: &Source,
+) -> Option<RuleCause>
+    ensures { result ≡ first_failing (reads (state_of state.now) (operands operator dst source.now) ∷ computes (may_compute width operator (value (state_of state.now) dst) (second (state_of state.now) source.now)) ∷ []) }
+{
+    breach_of_one(
+        are_operands_set(state, operator, dst, source),
+        may_compute(width, operator, state.value(dst), state.second(source)),
+    )
+}
+
+/// The first rule that arithmetic on one register breaks.
+fn register_breach(state: &State, register: Register) -> Option<RuleCause>
+    ensures { result ≡ first_failing (reads (state_of state.now) (register ∷ []) ∷ computes (is_number (value (state_of state.now) register)) ∷ []) }
+{
+    breach_of_one(is_set(state, register), state.value(register).is_number())
+}
+
+/// The first rule that a conditional jump breaks.
+#[tactic(auto, unfolding(crate::specs::Rules::compares))]
+fn branch_breach(
+    state: &State,
+    width: Width,
+    condition: Condition,
+    dst: Register,
+    source: &Source,
+) -> Option<RuleCause>
+    ensures { result ≡ first_failing (reads (state_of state.now) (dst ∷ source_registers source.now) ∷ check RuleCause.PointerAsNumber (compares (state_of state.now) width condition dst source.now) ∷ []) }
+{
+    let first = state.value(dst);
+    if !are_both_set(state, dst, source) {
+        Some(RuleCause::UnsetRegister)
+    } else if is_null_test(width, condition, source, first) {
+        None
+    } else if !first.is_number() || !state.second(source).is_number() {
+        Some(RuleCause::PointerAsNumber)
+    } else {
+        None
+    }
+}
+
+/// The first rule that the end of a program breaks.
+fn exit_breach(state: &State) -> Option<RuleCause>
+    ensures { result ≡ first_failing (reads (state_of state.now) (0 ∷ []) ∷ check RuleCause.PointerAsNumber (is_number (value (state_of state.now) 0)) ∷ []) }
+{
+    let answer = state.at(0);
+    if !answer.is_set() {
+        Some(RuleCause::UnsetRegister)
+    } else if !answer.is_number() {
+        Some(RuleCause::PointerAsNumber)
+    } else {
+        None
+    }
+}
+
+/// The first rule that a call of helper 2 breaks.
+#[tactic(auto, unfolding(crate::specs::Rules::call_rules))]
+fn copy_breach(state: &State) -> Option<RuleCause>
+    ensures { result ≡ first_failing (call_rules (state_of state.now) Helper.Copy) }
+{
+    let (from, to, length) = (state.at(1), state.at(2), state.at(3));
+    if !from.is_set() || !to.is_set() || !length.is_set() {
+        Some(RuleCause::UnsetRegister)
+    } else if !from.is_number() || !to.is_stack() || !length.has_length() {
+        Some(RuleCause::HelperArgument)
+    } else if matches!(place_of(to, 0, length.words().low), Place::Outside) {
+        Some(RuleCause::OutsideRegion)
+    } else {
+        None
+    }
+}
+
+/// The first rule that a call with numbers in these registers breaks.
+fn argument_breach(are_set: bool, are_numbers: bool) -> Option<RuleCause>
+    ensures { result ≡ first_failing (check RuleCause.UnsetRegister are_set ∷ check RuleCause.HelperArgument are_numbers ∷ []) }
+{
+    if !are_set {
+        Some(RuleCause::UnsetRegister)
+    } else if !are_numbers {
+        Some(RuleCause::HelperArgument)
+    } else {
+        None
+    }
+}
+
+/// The first rule that a call of a helper breaks.
+#[tactic(auto, unfolding(crate::specs::Rules::call_rules))]
+fn call_breach(state: &State, helper: Helper) -> Option<RuleCause>
+    ensures { result ≡ first_failing (call_rules (state_of state.now) helper) }
+{
+    let (first, other) = (state.at(1), state.at(2));
+    match helper {
+        Helper::Copy => copy_breach(state),
+        Helper::Same => argument_breach(
+            first.is_set() && other.is_set(),
+            first.is_number() && other.is_number(),
+        ),
+        _ => argument_breach(first.is_set(), first.is_number()),
+    }
+}
+
+/// The first rule that an instruction breaks at a state, in the order of docs/VERIFIER.md, Rules at a
+/// slot.
+#[tactic(auto, unfolding(crate::specs::Rules::rules))]
+pub fn broken_rule(instr: &Instr, state: &State) -> Option<RuleCause>
+    ensures { result ≡ first_failing (rules (state_of state.now) instr.now) }
+{
+    match instr {
+        Instr::Arithmetic {
+            width,
+            operator,
+            dst,
+            source,
+        } => arithmetic_breach(state, *width, *operator, *dst, source),
+        Instr::Negate { dst, .. } => register_breach(state, *dst),
+        Instr::SignExtend { src, .. } => register_breach(state, *src),
+        Instr::ByteOrder { dst, .. } => register_breach(state, *dst),
+        Instr::Jump { .. } | Instr::LongJump { .. } | Instr::LoadImmediate { .. } => None,
+        Instr::Branch {
+            width,
+            condition,
+            dst,
+            source,
+            ..
+        } => branch_breach(state, *width, *condition, *dst, source),
+        Instr::CallHelper { number } => match Helper::of(number.cast_unsigned()) {
+            Some(helper) => call_breach(state, helper),
+            None => None,
+        },
+        Instr::Exit => exit_breach(state),
+        Instr::Load {
+            size,
+            base,
+            offset,
+            ..
+        } => load_breach(state, *base, *offset, byte_count(*size)),
+        Instr::LoadSigned {
+            size,
+            base,
+            offset,
+            ..
+        } => load_breach(state, *base, *offset, byte_count(plain_size(*size))),
+        Instr::StoreImmediate {
+            size,
+            base,
+            offset,
+            immediate,
+        } => store_breach(
+            state,
+            is_set(state, *base),
+            Value::Num(Range::immediate(*immediate)),
+            *base,
+            *offset,
+            byte_count(*size),
+        ),
+        Instr::Store {
+            size,
+            base,
+            offset,
+            src,
+        } => store_breach(
+            state,
+            are_two_set(state, *base, *src),
+            state.value(*src),
+            *base,
+            *offset,
+            byte_count(*size),
+        ),
+    }
+}
+
+/// Whether the rules of an instruction hold at a state, or the first that is broken.
+pub fn check(instr: &Instr, state: &State) -> Result<(), RuleCause>
+    ensures kept { OnOk result (first_failing (rules (state_of state.now) instr.now) ≡ None) }
+    ensures broken { IfErr result (λ cause. first_failing (rules (state_of state.now) instr.now) ≡ Some cause) }
+{
+    match broken_rule(instr, state) {
+        Some(cause) => Err(cause),
+        None => Ok(()),
     }
 }
