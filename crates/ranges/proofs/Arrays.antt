@@ -3,7 +3,7 @@ use Rattle.std.proofs.Common.{◌≡◌, ◌≢◌, ℕ, zero, suc, ◌+◌, ◌
 use Rattle.std.specs.Prelude.{set}
 use Rattle.std.proofs.lemmas.Bool.{cases_lt}
 use Rattle.std.proofs.lemmas.List.{get_or-set_same, get_or-set_other, get_or_default, map-set}
-use Rattle.ranges.specs.Groups.{zip_with}
+use Rattle.ranges.specs.Groups.{zip_with, map_places}
 
 -- the elements below n are right; after one more, those below n + 1
 pub one_more : {X Y : Type 0} (f : X → Y) (right : ℕ → Y) (out : List X) (n : ℕ) (x d : X) → n < length out
@@ -110,3 +110,21 @@ zip_not_same f j a b d lb k u v small not e =
 -- a value is written to an array as what contracts see of it is to their list
 pub mapped_set : {X Y : Type 0} (f : X → Y) (xs : List X) (i : ℕ) (x : X) → map f (set xs i x) ≡ set (map f xs) i (f x)
 mapped_set f xs i x = map-set f xs i x
+
+-- one that holds at each place what the place and another give there
+pub places_filled : {X Y : Type 0} (f : X → Y) (h : ℕ → Y → Y) (a out : List X) (g : ℕ) (d : X) → length out ≡ length a
+    → ((k : ℕ) → k < length a → f (get_or out k d) ≡ h (g + k) (f (get_or a k d)))
+    → map f out ≡ map_places h g (map f a)
+unfolding map_places
+places_filled f h [] [] g d lo e = refl
+places_filled f h [] (o ∷ os) g d lo e = absurd (let bad : suc (length os) ≡ 0 = lo in cc)
+places_filled f h (x ∷ xs) [] g d lo e = absurd (let bad : 0 ≡ suc (length xs) = lo in cc)
+places_filled f h (x ∷ xs) (o ∷ os) g d lo e =
+    let place : g + 0 ≡ g = omega arith in
+    let here : f o ≡ h g (f x) = rw place at (e 0 (omega arith)) in
+    let los : length os ≡ length xs = omega arith in
+    let rest : map f os ≡ map_places h (g + 1) (map f xs) =
+    places_filled f h xs os (g + 1) d los (λ k small.
+    let next : g + suc k ≡ g + 1 + k = omega arith in
+    rw next at (e (suc k) (omega arith))) in
+    rw (here, rest) refl

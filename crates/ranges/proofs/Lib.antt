@@ -1,2 +1,4 @@
 pub mod Arrays
 pub mod Marks
+pub mod Joins
+pub mod Covering

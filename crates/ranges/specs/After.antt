@@ -18,28 +18,29 @@ use Rattle.helpers.specs.declared.helper.Helper.TheVariants as helper
 use Rattle.helpers.specs.Helper.{helper_of}
 use Rattle.machine.specs.Memory.{byte_count}
 use Rattle.intervals.specs.Spans.{Span, span, only}
-use Rattle.intervals.specs.Results.{arithmetic_result, negated_result, extended_result, ordered_result}
+use Rattle.intervals.specs.Results.{result_of}
 use Rattle.ranges.specs.declared.place.Place.{Place}
 use Rattle.ranges.specs.declared.place.Place.TheVariants as place
 use Rattle.ranges.specs.declared.place.Mark.TheVariants as mark
 use Rattle.ranges.specs.Kinds.{Kind, Unset, Num, Ctx, Stack, Sector, SectorOrNull, is_pointer}
-use Rattle.ranges.specs.Groups.{GroupKind, Marked, Spilled}
+use Rattle.ranges.specs.Groups.{GroupKind, Marked, Spilled, map_places}
 use Rattle.ranges.specs.States.{Abstract}
 use Rattle.ranges.specs.Pointers.{moved}
 use Rattle.ranges.specs.Places.{place_of, mark_in, is_mark, is_group}
 use Rattle.ranges.specs.Reading.{value, second, with_value, with_groups, words, any_word}
 use Rattle.ranges.specs.Rules.{length_of}
 
--- what arithmetic makes of numbers
-abbrev pub computed : Width → Operator → Kind → Kind → Kind
-computed w o k l = Num (arithmetic_result w o (words k) (words l))
+-- what arithmetic makes of the words of two numbers
+abbrev pub computed : Instr → Kind → Kind → Kind
+computed i k l = option_map_or (λ x. Num x) (result_of i (words k) (words l)) Unset
 
--- what it makes of two values: a move in 64 bits copies, and pointers move
-unfoldable pub result_kind : Width → Operator → Kind → Kind → Kind
-result_kind width.W64 op.Mov k l = l
-result_kind width.W64 op.Add k l = unwrap_or (moved false k l) (computed width.W64 op.Add k l)
-result_kind width.W64 op.Sub k l = unwrap_or (moved true k l) (computed width.W64 op.Sub k l)
-result_kind w o k l = computed w o k l
+-- what it makes of two values, dst and the second operand: a move in 64 bits copies, and pointers
+-- move
+unfoldable pub result_kind : Instr → Kind → Kind → Kind
+result_kind (instr.Arithmetic width.W64 op.Mov dst from) k l = l
+result_kind (instr.Arithmetic width.W64 op.Add dst from) k l = unwrap_or (moved false k l) (computed (instr.Arithmetic width.W64 op.Add dst from) k l)
+result_kind (instr.Arithmetic width.W64 op.Sub dst from) k l = unwrap_or (moved true k l) (computed (instr.Arithmetic width.W64 op.Sub dst from) k l)
+result_kind i k l = computed i k l
 
 -- an aligned word of the context: the number of sectors, the epoch and the marks, and 0
 abbrev pub context_word : ℕ → ℕ → Kind
@@ -82,13 +83,9 @@ is_touched at n g = nat_lt at (8 * g + 8) && nat_lt (8 * g) (at + n)
 unfoldable pub group_after : ℕ → ℕ → ℕ → GroupKind → GroupKind
 group_after at n g group = if is_touched at n g then Marked (marks_after at n g group) else group
 
--- the groups, from group g on, where n bytes from a place on are written
-unfoldable pub written_from : ℕ → ℕ → ℕ → List GroupKind → List GroupKind
-written_from at n g [] = []
-written_from at n g (group ∷ rest) = group_after at n g group ∷ written_from at n (g + 1) rest
-
+-- the groups where n bytes from a place on are written
 unfoldable pub written : ℕ → ℕ → List GroupKind → List GroupKind
-written at n groups = written_from at n 0 groups
+written at n groups = map_places (group_after at n) 0 groups
 
 -- the groups where the bytes of an access are written
 abbrev pub written_at : List GroupKind → Place → ℕ → List GroupKind
@@ -116,24 +113,32 @@ abbrev pub answered : Abstract → Kind → Abstract
 answered s k =
     with_value (with_value (with_value (with_value (with_value (with_value s 0 k) 1 Unset) 2 Unset) 3 Unset) 4 Unset) 5 Unset
 
+-- helper 2 writes bytes of the stack
+abbrev pub copied_state : Abstract → Abstract
+copied_state s = with_groups s (written_at s.groups (place_of (value s 2) (pos 0) (length_of (value s 3))) (length_of (value s 3)))
+
 unfoldable pub call_after : Abstract → Helper → Abstract
-call_after s helper.Copy =
-    answered (with_groups s (written_at s.groups (place_of (value s 2) (pos 0) (length_of (value s 3))) (length_of (value s 3)))) (answer_kind helper.Copy)
+call_after s helper.Copy = answered (copied_state s) (answer_kind helper.Copy)
 call_after s h = answered s (answer_kind h)
+
+abbrev pub load_after : ℕ → Abstract → ℕ → Size → ℕ → ℤ → Abstract
+load_after sectors s dst size base distance =
+    with_value s dst (loaded_kind sectors s.groups (place_of (value s base) distance (byte_count size)) (byte_count size))
+
+abbrev pub store_after : Abstract → Kind → Size → ℕ → ℤ → Abstract
+store_after s k size base distance =
+    with_groups s (stored_groups k s.groups (place_of (value s base) distance (byte_count size)) (byte_count size))
 
 -- the state behind an instruction that is no jump, on a device of so many sectors
 unfoldable pub after_of : ℕ → Abstract → Instr → Abstract
-after_of sectors s (instr.Arithmetic w o dst from) = with_value s dst (result_kind w o (value s dst) (second s from))
-after_of sectors s (instr.Negate w dst) = with_value s dst (Num (negated_result w (words (value s dst))))
-after_of sectors s (instr.SignExtend e dst src) = with_value s dst (Num (extended_result e (words (value s src))))
-after_of sectors s (instr.ByteOrder o size dst) = with_value s dst (Num (ordered_result o size (words (value s dst))))
-after_of sectors s (instr.Load size dst base distance) =
-    with_value s dst (loaded_kind sectors s.groups (place_of (value s base) distance (byte_count size)) (byte_count size))
+after_of sectors s (instr.Arithmetic w o dst from) = with_value s dst (result_kind (instr.Arithmetic w o dst from) (value s dst) (second s from))
+after_of sectors s (instr.Negate w dst) = with_value s dst (computed (instr.Negate w dst) (value s dst) Unset)
+after_of sectors s (instr.SignExtend e dst src) = with_value s dst (computed (instr.SignExtend e dst src) Unset (value s src))
+after_of sectors s (instr.ByteOrder o size dst) = with_value s dst (computed (instr.ByteOrder o size dst) (value s dst) Unset)
+after_of sectors s (instr.Load size dst base distance) = load_after sectors s dst size base distance
 after_of sectors s (instr.LoadSigned size dst base distance) = with_value s dst (Num any_word)
-after_of sectors s (instr.StoreImmediate size base distance n) =
-    with_groups s (stored_groups (second s (source.Immediate n)) s.groups (place_of (value s base) distance (byte_count size)) (byte_count size))
-after_of sectors s (instr.Store size base distance src) =
-    with_groups s (stored_groups (value s src) s.groups (place_of (value s base) distance (byte_count size)) (byte_count size))
+after_of sectors s (instr.StoreImmediate size base distance n) = store_after s (second s (source.Immediate n)) size base distance
+after_of sectors s (instr.Store size base distance src) = store_after s (value s src) size base distance
 after_of sectors s (instr.LoadImmediate dst x) = with_value s dst (Num (only x))
 after_of sectors s (instr.CallHelper number) = option_map_or (call_after s) (helper_of (cast_unsigned w32 number)) (answered s (Num any_word))
 after_of sectors s _ = s

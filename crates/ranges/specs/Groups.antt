@@ -1,5 +1,5 @@
 -- The bytes of a stack in aligned groups of eight (docs/VERIFIER.md, Abstract states).
-use Rattle.std.specs.Prelude.{◌≡◌, ℕ, zero, suc, ◌/◌, ◌%◌, ◌&&◌, ◌||◌, Bool, true, false, if◌then◌else◌, List, [], ◌∷◌, map, replicate, get_or}
+use Rattle.std.specs.Prelude.{◌≡◌, ℕ, ◌+◌, ◌&&◌, Bool, false, List, [], ◌∷◌, replicate}
 use Rattle.ranges.specs.Kinds.{Kind, Unset, Num, Ctx, Stack, Sector, SectorOrNull, join, round}
 
 -- two lists, element by element
@@ -7,6 +7,11 @@ unfoldable pub zip_with : {A B C : Type 0} → (A → B → C) → List A → Li
 zip_with f [] ys = []
 zip_with f (x ∷ xs) [] = []
 zip_with f (x ∷ xs) (y ∷ ys) = f x y ∷ zip_with f xs ys
+
+-- a list, each element with its place; the first has place n
+unfoldable pub map_places : {A B : Type 0} → (ℕ → A → B) → ℕ → List A → List B
+map_places f n [] = []
+map_places f n (x ∷ xs) = f n x ∷ map_places f (n + 1) xs
 
 -- eight bytes: for each whether it is written, or a pointer that was spilled to all of them
 pub data GroupKind : Type 0 where

@@ -11,3 +11,5 @@ pub mod Reading
 pub mod Rules
 pub mod After
 pub mod Passing
+pub mod Order
+pub mod Laws

@@ -85,7 +85,7 @@ fn contains_groups(x: &[Group; 64], y: &[Group; 64]) -> bool
 
 impl State {
     ghost use Rattle.ranges.specs.States.{join_state, round_state, StateContains, start};
-    ghost use Rattle.std.specs.Prelude.{◌<◌, slice_index_or, []};
+    ghost use Rattle.std.specs.Prelude.{◌<◌, slice_index_or, slice_set, []};
     ghost use Rattle.ranges.specs.Groups.{Marked};
     ghost use Rattle.ranges.specs.Reading.{value, second, with_value, with_groups};
     ghost use Rattle.ranges.specs.SeenStates.{state_of};
@@ -192,6 +192,16 @@ impl State {
     {
         let mut state = *self;
         state.groups = groups;
+        state
+    }
+
+    /// The state with another group n.
+    pub(crate) fn with_group(&self, n: usize, group: Group) -> State
+        requires { n < 64 }
+        ensures { state_of result ≡ with_groups (state_of self.now) (slice_set (state_of self.now).groups n (group_of group)) }
+    {
+        let mut state = *self;
+        state.groups[n] = group;
         state
     }
 }

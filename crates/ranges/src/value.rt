@@ -135,6 +135,13 @@ impl Value {
         }
     }
 
+    /// Whether it is a pointer.
+    pub(crate) fn is_pointer(self) -> bool
+        ensures { result ≡ is_pointer (kind_of self) }
+    {
+        !matches!(self, Value::Unset | Value::Num(_))
+    }
+
     /// Whether it is a range of words.
     pub fn is_number(self) -> bool
         ensures { result ≡ is_number (kind_of self) }

@@ -1,0 +1,62 @@
+-- Which abstract values and states know more than others, in the words of their machine values
+-- (docs/VERIFIER.md, Abstract states), and the bounds that the types of the code keep.
+use Rattle.std.specs.Prelude.{◌≡◌, ℕ, ◌≤◌, ◌-◌, ◌^◌, ◌↔◌, IsTrue, Bool, List, [], ◌∷◌, length}
+use Rattle.intervals.specs.Spans.{Span, IsSpan, Within}
+use Rattle.ranges.specs.Kinds.{Kind, Unset, Num, Ctx, Stack, Sector, SectorOrNull, is_pointer, join, round, Contains}
+use Rattle.ranges.specs.Groups.{GroupKind, Marked, Spilled, unset_marks, join_group, round_group, GroupContains}
+use Rattle.ranges.specs.States.{Abstract, join_state, round_state, StateContains}
+
+-- the second holds all that the first does
+abbrev pub Under : Kind → Kind → Type 0
+Under k Unset = Unit {0}
+Under (Num x) (Num y) = Within x y
+Under (Ctx a) (Ctx b) = a ≡ b
+Under (Stack a) (Stack b) = a ≡ b
+Under (Sector x) (Sector y) = Within x y
+Under SectorOrNull SectorOrNull = Unit {0}
+Under _ _ = ⊥
+
+-- what is written in the second is written in the first
+abbrev pub MarksUnder : List Bool → List Bool → Type 0
+MarksUnder [] [] = Unit {0}
+MarksUnder (x ∷ xs) (y ∷ ys) = (IsTrue y → IsTrue x) × MarksUnder xs ys
+MarksUnder _ _ = ⊥
+
+abbrev pub GroupUnder : GroupKind → GroupKind → Type 0
+GroupUnder (Marked xs) (Marked ys) = MarksUnder xs ys
+GroupUnder (Spilled k) (Marked ys) = ys ≡ unset_marks
+GroupUnder (Spilled k) (Spilled l) = Under k l
+GroupUnder (Marked xs) (Spilled l) = ⊥
+
+-- place by place
+abbrev pub EachUnder : {X : Type 0} → (X → X → Type 0) → List X → List X → Type 0
+EachUnder R [] [] = Unit {0}
+EachUnder R (x ∷ xs) (y ∷ ys) = R x y × EachUnder R xs ys
+EachUnder R _ _ = ⊥
+
+pub record StateUnder (s t : Abstract) : Type 0 where
+  pub values : EachUnder Under s.values t.values
+  pub groups : EachUnder GroupUnder s.groups t.groups
+
+-- the bounds of values, of groups and of states
+abbrev pub IsBounded : Kind → Type 0
+IsBounded Unset = Unit {0}
+IsBounded (Num x) = IsSpan (2 ^ 64 - 1) x
+IsBounded (Ctx o) = o ≤ 32
+IsBounded (Stack o) = o ≤ 512
+IsBounded (Sector x) = IsSpan 65535 x
+IsBounded SectorOrNull = Unit {0}
+
+abbrev pub IsGroup : GroupKind → Type 0
+IsGroup (Marked marks) = length marks ≡ 8
+IsGroup (Spilled k) = IsTrue (is_pointer k) × IsBounded k
+
+abbrev pub Each : {X : Type 0} → (X → Type 0) → List X → Type 0
+Each P [] = Unit {0}
+Each P (x ∷ xs) = P x × Each P xs
+
+pub record IsState (s : Abstract) : Type 0 where
+  pub values : Each IsBounded s.values
+  pub groups : Each IsGroup s.groups
+  pub registers : length s.values ≡ 11
+  pub stack : length s.groups ≡ 64

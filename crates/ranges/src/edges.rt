@@ -1,0 +1,86 @@
+//! What is known on the edges of a conditional jump.
+
+ghost use Rattle.std.specs.Prelude.{◌≡◌, IsTrue};
+ghost use Rattle.std.specs.Option.{option_map};
+ghost use Rattle.intervals.specs.Seen.{span_of, spans_of};
+ghost use Rattle.intervals.specs.Edges.{is_branch};
+ghost use Rattle.ranges.specs.Passing.{is_equal_edge, tested_kind, with_second, with_both, edge_of};
+ghost use Rattle.ranges.specs.Seen.{kind_of};
+ghost use Rattle.ranges.specs.SeenStates.{state_of};
+
+use crate::rules::is_null_test;
+use crate::state::State;
+use crate::value::{SectorOffsets, Value};
+use bpf_isa::instr::{Condition, Instr, Source};
+use bpf_isa::register::Register;
+use intervals::{Range, refine};
+
+/// Whether an edge of a null test says that the register is 0.
+fn is_equal_edge(condition: Condition, taken: bool) -> bool
+    ensures { result ≡ is_equal_edge condition taken }
+{
+    match condition {
+        Condition::Eq => taken,
+        _ => !taken,
+    }
+}
+
+/// The answer of helper 1 behind a null test.
+fn tested_value(is_zero: bool) -> Value
+    ensures { kind_of result ≡ tested_kind is_zero }
+{
+    if is_zero {
+        Value::Num(Range::constant(0))
+    } else {
+        Value::Sector(SectorOffsets { low: 0, high: 0 })
+    }
+}
+
+/// The state with another range in the second operand. An immediate has none of its own.
+fn with_second(state: &State, source: &Source, range: Range) -> State
+    ensures { state_of result ≡ with_second (state_of state.now) source.now (span_of range) }
+{
+    match source {
+        Source::Immediate(_) => *state,
+        Source::Register(register) => state.with_value(*register, Value::Num(range)),
+    }
+}
+
+/// The state with other ranges in both operands.
+fn with_both(state: &State, dst: Register, source: &Source, ranges: (Range, Range)) -> State
+    ensures { state_of result ≡ with_both (state_of state.now) dst source.now (spans_of ranges) }
+{
+    with_second(
+        &state.with_value(dst, Value::Num(ranges.0)),
+        source,
+        ranges.1,
+    )
+}
+
+/// The state on an edge of a conditional jump at whose state no rule is broken, the edge that is taken
+/// where the condition holds or the other; None where no machine goes that way. An instruction that is
+/// no conditional jump leaves the state as it is.
+#[tactic(auto, unfolding(crate::specs::Passing::edge_of))]
+pub fn branch(instr: &Instr, taken: bool, state: &State) -> Option<State>
+    ensures { option_map state_of result ≡ edge_of (state_of state.now) instr.now taken }
+{
+    match instr {
+        Instr::Branch {
+            width,
+            condition,
+            dst,
+            source,
+            ..
+        } => {
+            let (first, other) = (state.value(*dst), state.second(source));
+            if is_null_test(*width, *condition, source, first) {
+                let value = tested_value(is_equal_edge(*condition, taken));
+                Some(state.with_value(*dst, value))
+            } else {
+                let ranges = refine(instr, taken, first.words(), other.words())?;
+                Some(with_both(state, *dst, source, ranges))
+            }
+        }
+        _ => Some(*state),
+    }
+}

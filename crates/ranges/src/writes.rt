@@ -1,0 +1,89 @@
+//! Stores to the stack.
+
+ghost use Rattle.std.specs.Prelude.{◌≡◌, ◌<◌, ◌≤◌, ◌+◌, map};
+ghost use Rattle.ranges.specs.Places.{Fits};
+ghost use Rattle.ranges.specs.After.{mark_after, group_after, written, written_at, stored_groups};
+ghost use Rattle.ranges.specs.Reading.{with_groups};
+ghost use Rattle.ranges.specs.Seen.{kind_of};
+ghost use Rattle.ranges.specs.SeenStates.{group_of, state_of};
+
+use crate::bytes::is_group;
+use crate::group::{Group, UNSET};
+use crate::place::{Mark, Place};
+use crate::spill::Spill;
+use crate::state::State;
+use crate::value::Value;
+
+/// Whether byte k of group g is set where n bytes from a place on are written.
+fn mark_after(at: u64, n: u64, g: usize, group: Group, k: usize) -> bool
+    requires place { at + n ≤ 512 }
+    requires groups { g < 64 }
+    requires byte { k < 8 }
+    ensures { result ≡ mark_after at n g (group_of group) k }
+{
+    let byte = 8 * g as u64 + k as u64;
+    (at <= byte && byte < at + n) || !matches!(group.mark(k), Mark::Unset)
+}
+
+/// Group g where n bytes from a place on are written.
+#[tactic(auto, unfolding(crate::specs::After::group_after))]
+fn group_after(at: u64, n: u64, g: usize, group: Group) -> Group
+    requires place { at + n ≤ 512 }
+    requires groups { g < 64 }
+    ensures { group_of result ≡ group_after at n g (group_of group) }
+{
+    let first = 8 * g as u64;
+    if at < first + 8 && first < at + n {
+        Group::Marked([
+            mark_after(at, n, g, group, 0),
+            mark_after(at, n, g, group, 1),
+            mark_after(at, n, g, group, 2),
+            mark_after(at, n, g, group, 3),
+            mark_after(at, n, g, group, 4),
+            mark_after(at, n, g, group, 5),
+            mark_after(at, n, g, group, 6),
+            mark_after(at, n, g, group, 7),
+        ])
+    } else {
+        group
+    }
+}
+
+/// The groups where n bytes from a place on are written.
+fn written(x: &[Group; 64], at: u64, n: u64) -> [Group; 64]
+    requires { at + n ≤ 512 }
+    ensures { map group_of result ≡ written at n (map group_of x.now) }
+{
+    let mut groups = [UNSET; 64];
+    for g in 0..64 {
+        groups[g] = group_after(at, n, g, x[g]);
+    }
+    groups
+}
+
+/// The state where the bytes of an access are written.
+pub(crate) fn with_written(state: &State, place: Place, n: u64) -> State
+    requires { Fits place n }
+    ensures { state_of result ≡ with_groups (state_of state.now) (written_at (state_of state.now).groups place n) }
+{
+    match place {
+        Place::Stack(at) => state.with_groups(written(&state.groups, at, n)),
+        _ => *state,
+    }
+}
+
+/// The state where a value is stored.
+#[tactic(auto, unfolding(crate::specs::After::stored_groups))]
+pub(crate) fn with_stored(state: &State, value: Value, place: Place, n: u64) -> State
+    requires { Fits place n }
+    ensures { state_of result ≡ with_groups (state_of state.now) (stored_groups (kind_of value) (state_of state.now).groups place n) }
+{
+    match place {
+        Place::Stack(at) => if value.is_pointer() && is_group(at, n) {
+            state.with_group((at / 8) as usize, Group::Spilled(Spill { value }))
+        } else {
+            with_written(state, place, n)
+        },
+        _ => *state,
+    }
+}
