@@ -4,7 +4,7 @@ use Rattle.ranges.specs.Kinds.{Kind, Unset, Num, Ctx, Stack, Sector, SectorOrNul
 use Rattle.ranges.specs.Groups.{GroupKind, Marked, Spilled, zip_with, unset_marks, kept, join_group, round_group, GroupContains}
 use Rattle.ranges.specs.States.{Abstract, join_state, round_state, StateContains}
 use Rattle.ranges.specs.Order.{Under, MarksUnder, GroupUnder, EachUnder, StateUnder, IsBounded, IsGroup, Each, IsState}
-use Rattle.ranges.proofs.Joins.{join_first, join_other, join_least, under_contains, contains_under, round_under, round_mono}
+use Rattle.ranges.proofs.Joins.{join_first, join_other, join_least, under_contains, round_under, round_mono}
 
 and_first : (x y : Bool) → IsTrue (x && y) → IsTrue x
 and_first true y t = refl

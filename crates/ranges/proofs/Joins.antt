@@ -1,8 +1,7 @@
 -- The order of abstract values.
-use Rattle.std.proofs.Common.{◌≡◌, ℕ, ◌+◌, ◌-◌, ◌^◌, ◌≤◌, ◌==◌, Bool, true, false, if◌then◌else◌, ◌⊎◌, inl, inr, min, max, refl, sym, ◌∙◌, arith, ap, subst}
+use Rattle.std.proofs.Common.{◌≡◌, ℕ, ◌-◌, ◌^◌, ◌==◌, Bool, true, false, if◌then◌else◌, inl, inr, min, max, refl, sym, ◌∙◌, arith, ap, subst}
 use Rattle.std.proofs.lemmas.Bool.Decides.{eqb_tells}
-use Rattle.intervals.specs.Spans.{Span, span, IsSpan, Within, hull}
-use Rattle.intervals.specs.Rounding.{rounded}
+use Rattle.intervals.specs.Spans.{Span, IsSpan, Within, hull}
 use Rattle.intervals.proofs.Digits.{rounded_within, rounded_mono}
 use Rattle.ranges.specs.Kinds.{Kind, Unset, Num, Ctx, Stack, Sector, SectorOrNull, join, round, Contains}
 use Rattle.ranges.specs.Order.{Under, IsBounded}

@@ -1,5 +1,5 @@
 -- Bytes of the stack, looked at one after the other.
-use Rattle.std.proofs.Common.{◌≡◌, ℕ, zero, suc, ◌+◌, ◌-◌, ◌<◌, ◌≤◌, Bool, true, false, not, ◌&&◌, List, refl, arith, sym, ◌∙◌}
+use Rattle.std.proofs.Common.{◌≡◌, ℕ, suc, ◌+◌, ◌-◌, ◌<◌, ◌≤◌, Bool, true, false, not, ◌&&◌, List, refl, arith, sym, ◌∙◌}
 use Rattle.ranges.specs.declared.place.Mark.{Mark}
 use Rattle.ranges.specs.Groups.{GroupKind}
 use Rattle.ranges.specs.Places.{mark_at, is_mark, none_is}

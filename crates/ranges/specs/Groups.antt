@@ -1,6 +1,6 @@
 -- The bytes of a stack in aligned groups of eight (docs/VERIFIER.md, Abstract states).
 use Rattle.std.specs.Prelude.{◌≡◌, ℕ, ◌+◌, ◌&&◌, Bool, false, List, [], ◌∷◌, replicate}
-use Rattle.ranges.specs.Kinds.{Kind, Unset, Num, Ctx, Stack, Sector, SectorOrNull, join, round}
+use Rattle.ranges.specs.Kinds.{Kind, Unset, Num, join, round}
 
 -- two lists, element by element
 unfoldable pub zip_with : {A B C : Type 0} → (A → B → C) → List A → List B → List C

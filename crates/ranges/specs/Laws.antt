@@ -1,5 +1,5 @@
 -- What holds of abstract values and states.
-use Rattle.std.specs.Prelude.{◌≡◌, ◌↔◌}
+use Rattle.std.specs.Prelude.{◌↔◌}
 use Rattle.ranges.specs.Kinds.{Kind, join, round, Contains}
 use Rattle.ranges.specs.States.{Abstract, join_state, round_state, StateContains}
 use Rattle.ranges.specs.Order.{Under, StateUnder, IsBounded, IsState}

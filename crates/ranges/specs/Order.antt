@@ -1,10 +1,10 @@
 -- Which abstract values and states know more than others, in the words of their machine values
 -- (docs/VERIFIER.md, Abstract states), and the bounds that the types of the code keep.
-use Rattle.std.specs.Prelude.{◌≡◌, ℕ, ◌≤◌, ◌-◌, ◌^◌, ◌↔◌, IsTrue, Bool, List, [], ◌∷◌, length}
-use Rattle.intervals.specs.Spans.{Span, IsSpan, Within}
-use Rattle.ranges.specs.Kinds.{Kind, Unset, Num, Ctx, Stack, Sector, SectorOrNull, is_pointer, join, round, Contains}
-use Rattle.ranges.specs.Groups.{GroupKind, Marked, Spilled, unset_marks, join_group, round_group, GroupContains}
-use Rattle.ranges.specs.States.{Abstract, join_state, round_state, StateContains}
+use Rattle.std.specs.Prelude.{◌≡◌, ◌≤◌, ◌-◌, ◌^◌, IsTrue, Bool, List, [], ◌∷◌, length}
+use Rattle.intervals.specs.Spans.{IsSpan, Within}
+use Rattle.ranges.specs.Kinds.{Kind, Unset, Num, Ctx, Stack, Sector, SectorOrNull, is_pointer}
+use Rattle.ranges.specs.Groups.{GroupKind, Marked, Spilled, unset_marks}
+use Rattle.ranges.specs.States.{Abstract}
 
 -- the second holds all that the first does
 abbrev pub Under : Kind → Kind → Type 0

@@ -1,13 +1,12 @@
 -- Where accesses fall, and what is known of the bytes there (docs/VERIFIER.md, Rules at a slot, 3 and
 -- 4).
-use Rattle.std.specs.Prelude.{ℕ, zero, suc, ◌≤◌, ◌+◌, ◌-◌, ◌/◌, ◌%◌, ◌==◌, nat_le, ◌&&◌, not, Bool, true, false, if◌then◌else◌, ℤ, pos, negsuc, ◌+ℤ◌, List, [], ◌∷◌, slice_index_or, Option, None, Some, is_some}
+use Rattle.std.specs.Prelude.{ℕ, zero, suc, ◌≤◌, ◌+◌, ◌-◌, ◌/◌, ◌%◌, ◌==◌, nat_le, ◌&&◌, not, Bool, true, false, if◌then◌else◌, ℤ, pos, ◌+ℤ◌, List, [], slice_index_or, Option, None, is_some}
 use Rattle.std.specs.Option.{option_map_or}
-use Rattle.intervals.specs.Spans.{Span}
 use Rattle.ranges.specs.declared.place.Place.{Place}
 use Rattle.ranges.specs.declared.place.Place.TheVariants as place
 use Rattle.ranges.specs.declared.place.Mark.{Mark}
 use Rattle.ranges.specs.declared.place.Mark.TheVariants as mark
-use Rattle.ranges.specs.Kinds.{Kind, Unset, Num, Ctx, Stack, Sector, SectorOrNull}
+use Rattle.ranges.specs.Kinds.{Kind, Ctx, Stack, Sector}
 use Rattle.ranges.specs.Groups.{GroupKind, Marked, Spilled}
 use Rattle.ranges.specs.Pointers.{offset_in}
 

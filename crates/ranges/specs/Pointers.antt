@@ -1,10 +1,10 @@
 -- Pointers that arithmetic moves (docs/VERIFIER.md, Rules at a slot, 2). A pointer moves over whole
 -- numbers, and stays in the range of its kind.
-use Rattle.std.specs.Prelude.{ℕ, nat_le, ◌&&◌, Bool, true, false, if◌then◌else◌, ℤ, pos, negsuc, ◌+ℤ◌, ◌-ℤ◌, Option, None, Some}
+use Rattle.std.specs.Prelude.{ℕ, nat_le, Bool, if◌then◌else◌, ℤ, pos, negsuc, ◌+ℤ◌, ◌-ℤ◌, Option, None, Some}
 use Rattle.std.specs.Option.{option_map, option_and_then}
 use Rattle.std.specs.Int.{cast_signed, w64}
 use Rattle.intervals.specs.Spans.{Span, span, is_constant}
-use Rattle.ranges.specs.Kinds.{Kind, Unset, Num, Ctx, Stack, Sector, SectorOrNull}
+use Rattle.ranges.specs.Kinds.{Kind, Num, Ctx, Stack, Sector}
 
 -- a whole number as an offset of at most `limit`
 abbrev pub offset_in : ℕ → ℤ → Option ℕ

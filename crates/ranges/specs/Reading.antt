@@ -1,12 +1,12 @@
 -- What an instruction reads of a state.
-use Rattle.std.specs.Prelude.{ℕ, ◌^◌, ◌-◌, ◌==◌, not, ◌&&◌, Bool, true, false, List, [], ◌∷◌, slice_index_or, slice_set}
+use Rattle.std.specs.Prelude.{ℕ, ◌^◌, ◌-◌, not, ◌&&◌, Bool, true, false, List, slice_index_or, slice_set}
 use Rattle.std.specs.List.{list_all}
 use Rattle.bpf_isa.specs.declared.instr.Source.{Source}
 use Rattle.bpf_isa.specs.declared.instr.Source.TheVariants as source
 use Rattle.machine.specs.Step.{is_length}
 use Rattle.intervals.specs.Spans.{Span, span, is_constant}
 use Rattle.intervals.specs.Seen.{immediate_span}
-use Rattle.ranges.specs.Kinds.{Kind, Unset, Num, Ctx, Stack, Sector, SectorOrNull, is_unset, is_number}
+use Rattle.ranges.specs.Kinds.{Kind, Unset, Num, Ctx, Stack, Sector, is_unset}
 use Rattle.ranges.specs.Groups.{GroupKind}
 use Rattle.ranges.specs.States.{Abstract}
 

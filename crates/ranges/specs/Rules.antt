@@ -1,5 +1,5 @@
 -- The rules of an instruction at a state, in their order (docs/VERIFIER.md, Rules at a slot).
-use Rattle.std.specs.Prelude.{ℕ, ◌==◌, ◌%◌, ◌&&◌, ◌||◌, Bool, true, false, if◌then◌else◌, ℤ, pos, List, [], ◌∷◌, is_some}
+use Rattle.std.specs.Prelude.{ℕ, ◌&&◌, ◌||◌, Bool, true, false, ℤ, pos, List, [], ◌∷◌, is_some}
 use Rattle.std.specs.Option.{option_map_or}
 use Rattle.std.specs.Ordering.{int_eq}
 use Rattle.std.specs.Int.{cast_unsigned, w32}
@@ -16,7 +16,7 @@ use Rattle.bpf_isa.specs.declared.instr.Condition.{Condition}
 use Rattle.bpf_isa.specs.declared.instr.Condition.TheVariants as cond
 use Rattle.helpers.specs.declared.helper.Helper.{Helper}
 use Rattle.helpers.specs.declared.helper.Helper.TheVariants as helper
-use Rattle.helpers.specs.Helper.{helper_of, arguments}
+use Rattle.helpers.specs.Helper.{helper_of}
 use Rattle.machine.specs.Memory.{byte_count, plain_size}
 use Rattle.machine.specs.Step.{source_registers, operands}
 use Rattle.ranges.specs.declared.cause.RuleCause.{RuleCause}
@@ -25,7 +25,7 @@ use Rattle.ranges.specs.declared.place.Place.{Place}
 use Rattle.ranges.specs.declared.place.Place.TheVariants as place
 use Rattle.ranges.specs.declared.place.Mark.{Mark}
 use Rattle.ranges.specs.declared.place.Mark.TheVariants as mark
-use Rattle.ranges.specs.Kinds.{Kind, Unset, Num, Ctx, Stack, Sector, SectorOrNull, is_number}
+use Rattle.ranges.specs.Kinds.{Kind, SectorOrNull, is_number}
 use Rattle.ranges.specs.Groups.{GroupKind}
 use Rattle.ranges.specs.States.{Abstract}
 use Rattle.ranges.specs.Pointers.{moved}

@@ -1,5 +1,4 @@
 -- How contracts see values.
-use Rattle.std.specs.Prelude.{ℕ}
 use Rattle.intervals.specs.Spans.{Span, span}
 use Rattle.intervals.specs.Seen.{span_of}
 use Rattle.ranges.specs.declared.value.SectorOffsets.{SectorOffsets}

@@ -1,5 +1,5 @@
 -- How contracts see groups and states.
-use Rattle.std.specs.Prelude.{List, map}
+use Rattle.std.specs.Prelude.{map}
 use Rattle.ranges.specs.declared.group.Group.{Group}
 use Rattle.ranges.specs.declared.group.Group.TheVariants as group
 use Rattle.ranges.specs.declared.state.State.{State}

@@ -1,8 +1,8 @@
 -- Abstract states: a value for each register, and what is known of each byte of the stack of the
 -- frame at hand (docs/VERIFIER.md, Abstract states).
-use Rattle.std.specs.Prelude.{◌≡◌, ℕ, List, [], ◌∷◌, map, replicate}
-use Rattle.ranges.specs.Kinds.{Kind, Unset, Num, Ctx, Stack, Sector, SectorOrNull, join, round}
-use Rattle.ranges.specs.Groups.{GroupKind, Marked, Spilled, zip_with, unset_marks, join_group, round_group}
+use Rattle.std.specs.Prelude.{◌≡◌, List, [], ◌∷◌, map, replicate}
+use Rattle.ranges.specs.Kinds.{Kind, Unset, Ctx, Stack, join, round}
+use Rattle.ranges.specs.Groups.{GroupKind, Marked, zip_with, unset_marks, join_group, round_group}
 
 -- eleven values and 64 groups
 pub record Abstract : Type 0 where

@@ -1,4 +1,68 @@
-//! Abstract values.
+//! Abstract values: what a register and a byte of the stack may hold, and how an instruction changes
+//! what is known.
+//!
+//! The verifier walks over a program without a device. At a slot it has a `State`, which says what
+//! each register and each byte of the stack of the frame at hand may hold. This crate knows the values
+//! and the rules at one slot (docs/VERIFIER.md, Abstract values to Rules at a slot); which slots there
+//! are, where states arrive and when they settle is the matter of the crate above.
+//!
+//! | Call | Answer |
+//! |---|---|
+//! | `State::start()` | what is known before the first instruction |
+//! | `s.join(&t)` | what is known where either is |
+//! | `s.contains(&t)` | whether the join of both is the first: it covers all that the other does |
+//! | `s.round()` | the state with its ranges between powers of two, as it is at the head of a loop |
+//! | `check(&instr, &state)` | that each rule of the instruction holds, or the first that is broken |
+//! | `after(&instr, &state, sectors)` | the state behind an instruction that is no conditional jump |
+//! | `branch(&instr, taken, &state)` | the state on an edge of a conditional jump, None where no machine goes that way |
+//!
+//! No call takes memory, and none refuses but by its answer. `after` and `branch` are meant for an
+//! instruction that breaks no rule at the state; at another they answer what their definition says,
+//! which then covers nothing.
+//!
+//! # Place
+//!
+//! On `bpf_isa` and `helpers`, whose instructions and helpers it takes, on `intervals`, which knows
+//! the ranges of numbers, and on the definitions of `machine`. The verifier stands on it.
+//!
+//! # What is proved
+//!
+//! Contracts see a value as a `Kind` (`specs/Kinds.antt`), eight bytes of the stack as a `GroupKind`,
+//! and a state as an `Abstract`, the lists of both; `kind_of`, `group_of` and `state_of` lead there.
+//! The bounds of offsets and ranges are kept by the types `ContextOffset`, `StackOffset`,
+//! `SectorOffsets`, `Range` and `Spill`.
+//!
+//! - `join`, `contains`, `round` and `start` of values, groups and states are exactly those of
+//!   `specs/Kinds.antt`, `specs/Groups.antt` and `specs/States.antt`.
+//! - `check` answers the first failing one of the list `rules` (`specs/Rules.antt`), which has the
+//!   rules of each form of instruction in their order.
+//! - `after` is exactly `after_of` (`specs/After.antt`), and `branch` exactly `edge_of`
+//!   (`specs/Passing.antt`). `passes` there says to which slots what state is passed, for the crate
+//!   above.
+//! - `join_is_least`, `states_join`: a join holds all that either does, and is the least that does;
+//!   one state contains another just where it holds all that the other does, register by register and
+//!   byte by byte (`specs/Order.antt`).
+//! - `round_contains`, `states_round`: rounding loses nothing, and keeps the order.
+//!
+//! That states cover what the machine does is not proved here.
+//!
+//! # How it is written
+//!
+//! - `value`, `spill`, `group`, `state`: the types, with their joins.
+//! - `pointers`: what an addition makes of a pointer. `place`: where an access falls. `bytes`: what is
+//!   known of the bytes there. `writes`: stores.
+//! - `reads`, `rules`, `cause`: the rules, one function a form, and their numbers.
+//! - `effects` and `edges`: `after` and `branch`.
+//! - `laws`: the laws, contracts of functions that do nothing.
+//!
+//! # Example
+//!
+//! ```
+//! // ldxb r0, [r0+0] behind mov64 r1, 0; call 1, without a test against 0
+//! let first = after(&put_zero, &State::start(), 4);
+//! let second = after(&call_sector, &first, 4);
+//! check(&load, &second)        // refused: OutsideRegion, number 52
+//! ```
 #![tactic(auto)]
 
 mod bytes;
@@ -13,6 +77,8 @@ mod reads;
 mod rules;
 mod spill;
 mod state;
+#[cfg(test)]
+mod tests;
 mod value;
 mod writes;
 

@@ -1,5 +1,5 @@
-use Rattle.std.proofs.Common.{◌≡◌, ◌+◌, Bool, true, false, sym, ◌∙◌}
-use Rattle.ranges.specs.Places.{mark_at, is_mark, none_is}
+use Rattle.std.proofs.Common.{◌≡◌, ◌+◌, true, false, sym, ◌∙◌}
+use Rattle.ranges.specs.Places.{mark_at, is_mark}
 use Rattle.ranges.specs.SeenStates.{state_of}
 use Rattle.ranges.proofs.Marks.{none_next, none_here, none_ends}
 use Rattle.ranges.proofs.bytes.none_is.Goals as goal

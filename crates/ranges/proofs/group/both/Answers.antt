@@ -1,4 +1,4 @@
-use Rattle.std.proofs.Common.{rules, ◌≡◌, ◌<◌, ◌&&◌, ℕ, length, Bool, false, sym, ◌∙◌, arith, refl}
+use Rattle.std.proofs.Common.{◌<◌, ◌&&◌, length, false, sym, ◌∙◌, arith, refl}
 use Rattle.std.specs.Prelude.{get_or}
 use Rattle.std.proofs.lemmas.List.{length-set}
 use Rattle.ranges.proofs.Arrays.{one_more, zip_filled_plain}

@@ -1,6 +1,5 @@
-use Rattle.std.proofs.Common.{◌≡◌, ◌<◌, ℕ, length, [], sym, ◌∙◌, refl, arith, Bool, true, false, IsTrue}
+use Rattle.std.proofs.Common.{◌≡◌, ◌<◌, length, [], sym, ◌∙◌, refl, arith, true, false, IsTrue}
 use Rattle.std.specs.Prelude.{get_or}
-use Rattle.std.proofs.lemmas.List.{length-set}
 use Rattle.ranges.proofs.Arrays.{one_more_same, read_both, zip_filled, zip_not_same}
 use Rattle.ranges.specs.Groups.{join_group}
 use Rattle.ranges.specs.SeenStates.{group_of}

@@ -1,4 +1,4 @@
-use Rattle.std.proofs.Common.{◌≡◌, ◌<◌, ℕ, length, []}
+use Rattle.std.proofs.Common.{◌≡◌, ◌<◌, ℕ, []}
 use Rattle.std.specs.Prelude.{get_or}
 use Rattle.ranges.specs.Groups.{join_group}
 use Rattle.ranges.specs.SeenStates.{group_of}

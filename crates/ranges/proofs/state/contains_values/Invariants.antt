@@ -1,4 +1,4 @@
-use Rattle.std.proofs.Common.{◌≡◌, ◌<◌, ℕ, length, []}
+use Rattle.std.proofs.Common.{◌≡◌, ◌<◌, ℕ}
 use Rattle.std.specs.Prelude.{get_or}
 use Rattle.ranges.specs.Kinds.{join}
 use Rattle.ranges.specs.Seen.{kind_of}

@@ -1,4 +1,4 @@
-use Rattle.std.proofs.Common.{◌≡◌, ◌<◌, ℕ, length, [], sym, ◌∙◌, refl, arith, Bool, true, false, IsTrue}
+use Rattle.std.proofs.Common.{◌<◌, length, [], sym, ◌∙◌, arith}
 use Rattle.std.specs.Prelude.{get_or}
 use Rattle.std.proofs.lemmas.List.{length-set}
 use Rattle.ranges.proofs.Arrays.{one_more, read_two, zip_filled}

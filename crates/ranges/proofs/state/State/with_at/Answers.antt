@@ -1,4 +1,4 @@
-use Rattle.std.proofs.Common.{◌≡◌, map}
+use Rattle.std.proofs.Common.{map}
 use Rattle.ranges.specs.Seen.{kind_of}
 use Rattle.ranges.specs.SeenStates.{group_of}
 use Rattle.ranges.proofs.Arrays.{mapped_set}

@@ -1,4 +1,4 @@
-use Rattle.std.proofs.Common.{rules, ◌≤◌, ◌≡◌, ℕ, ◌<◌, ◌^◌, Fits, w16}
+use Rattle.std.proofs.Common.{rules, ◌<◌, ◌^◌}
 use Rattle.ranges.proofs.value.SectorOffsets.round.Goals as goal
 
 -- src/value.rt:127:19
