@@ -1,8 +1,12 @@
 -- What holds of abstract values and states.
-use Rattle.std.specs.Prelude.{◌↔◌}
+use Rattle.std.specs.Prelude.{◌≡◌, ◌↔◌, ℕ, ◌<◌, ◌^◌, Bool}
+use Rattle.bpf_isa.specs.declared.instr.Instr.{Instr}
+use Rattle.bpf_isa.specs.Spelling.{IsInRange}
+use Rattle.ranges.specs.After.{after_of}
+use Rattle.ranges.specs.Passing.{edge_of}
 use Rattle.ranges.specs.Kinds.{Kind, join, round, Contains}
-use Rattle.ranges.specs.States.{Abstract, join_state, round_state, StateContains}
-use Rattle.ranges.specs.Order.{Under, StateUnder, IsBounded, IsState}
+use Rattle.ranges.specs.States.{Abstract, join_state, round_state, StateContains, start}
+use Rattle.ranges.specs.Order.{Under, StateUnder, IsBounded, IsState, Holds}
 
 -- The join of two values is the least value that holds all that either does, and one value contains
 -- another just where it holds all that the other does.
@@ -27,3 +31,15 @@ pub record StatesJoin : Type 0 where
 pub record StatesRound : Type 0 where
   pub contains : (s : Abstract) → IsState s → StateUnder s (round_state s)
   pub monotone : (s t : Abstract) → IsState s → IsState t → StateUnder s t → StateUnder (round_state s) (round_state t)
+
+-- the state at the start is one, and has no ranges that rounding would widen
+pub record StartFits : Type 0 where
+  pub fits : IsState start
+  pub rounded : round_state start ≡ start
+
+-- what is made of states are states: eleven values and 64 groups within their bounds
+pub record StatesFit : Type 0 where
+  pub join : (s t : Abstract) → IsState s → IsState t → IsState (join_state s t)
+  pub round : (s : Abstract) → IsState s → IsState (round_state s)
+  pub after : (sectors : ℕ) (s : Abstract) (i : Instr) → sectors < 2 ^ 64 → IsInRange i → IsState s → IsState (after_of sectors s i)
+  pub edge : (s : Abstract) (i : Instr) (taken : Bool) → IsInRange i → IsState s → Holds IsState (edge_of s i taken)

@@ -1,6 +1,6 @@
 -- Which abstract values and states know more than others, in the words of their machine values
 -- (docs/VERIFIER.md, Abstract states), and the bounds that the types of the code keep.
-use Rattle.std.specs.Prelude.{◌≡◌, ◌≤◌, ◌-◌, ◌^◌, IsTrue, Bool, List, [], ◌∷◌, length}
+use Rattle.std.specs.Prelude.{◌≡◌, ◌≤◌, ◌-◌, ◌^◌, IsTrue, Bool, List, [], ◌∷◌, length, Option, None, Some}
 use Rattle.intervals.specs.Spans.{IsSpan, Within}
 use Rattle.ranges.specs.Kinds.{Kind, Unset, Num, Ctx, Stack, Sector, SectorOrNull, is_pointer}
 use Rattle.ranges.specs.Groups.{GroupKind, Marked, Spilled, unset_marks}
@@ -60,3 +60,8 @@ pub record IsState (s : Abstract) : Type 0 where
   pub groups : Each IsGroup s.groups
   pub registers : length s.values ≡ 11
   pub stack : length s.groups ≡ 64
+
+-- what there is has a property
+abbrev pub Holds : {X : Type 0} → (X → Type 0) → Option X → Type 0
+Holds P None = Unit {0}
+Holds P (Some x) = P x

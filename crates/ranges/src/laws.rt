@@ -1,6 +1,6 @@
 //! Laws of abstract values. The functions do nothing; each contract is a theorem.
 
-ghost use Rattle.ranges.specs.Laws.{JoinIsLeast, RoundContains, StatesJoin, StatesRound};
+ghost use Rattle.ranges.specs.Laws.{JoinIsLeast, RoundContains, StatesJoin, StatesRound, StartFits, StatesFit};
 
 /// The join of two values is the least that holds all that either does.
 pub fn join_is_least()
@@ -20,4 +20,14 @@ pub fn states_join()
 /// A rounded state covers all that the state does, and rounding keeps the order of states.
 pub fn states_round()
     ensures { StatesRound }
+{}
+
+/// The state at the start is within the bounds, and rounding leaves it as it is.
+pub fn start_fits()
+    ensures { StartFits }
+{}
+
+/// What is made of states is within the bounds of states.
+pub fn states_fit()
+    ensures { StatesFit }
 {}

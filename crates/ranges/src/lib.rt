@@ -43,8 +43,11 @@
 //!   one state contains another just where it holds all that the other does, register by register and
 //!   byte by byte (`specs/Order.antt`).
 //! - `round_contains`, `states_round`: rounding loses nothing, and keeps the order.
+//! - `start_fits`, `states_fit`: the state at the start is within the bounds of states (`IsState`), and
+//!   so is what is made of states by joins, rounding, instructions and edges.
 //!
-//! That states cover what the machine does is not proved here.
+//! That states cover what the machine does is not proved here, nor that smaller states break no more
+//! rules and pass smaller states on.
 //!
 //! # How it is written
 //!

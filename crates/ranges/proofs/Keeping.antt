@@ -1,0 +1,330 @@
+-- The bounds are kept by instructions.
+use Rattle.std.proofs.Common.{◌≡◌, ℕ, zero, suc, ◌+◌, ◌-◌, ◌/◌, ◌*◌, ◌^◌, ◌<◌, ◌≤◌, ◌==◌, nat_le, ◌&&◌, ◌||◌, Bool, true, false, if◌then◌else◌, IsTrue, ℤ, pos, negsuc, ◌+ℤ◌, ◌-ℤ◌, ◌≤ℤ◌, List, [], ◌∷◌, length, map, get_or, Option, None, Some, refl, sym, ◌∙◌, arith, ap}
+use Rattle.std.specs.Prelude.{set, unwrap_or}
+use Rattle.std.specs.Option.{option_map, option_map_or, option_and_then}
+use Rattle.std.specs.Int.{cast_unsigned, w32, w64}
+use Rattle.std.proofs.lemmas.Int.{ints}
+use Rattle.std.proofs.lemmas.List.{length-set}
+use Rattle.std.proofs.lemmas.Bool.Decides.{nat_tests}
+use Rattle.bpf_isa.specs.declared.instr.Instr.{Instr}
+use Rattle.bpf_isa.specs.declared.instr.Instr.TheVariants as instr
+use Rattle.bpf_isa.specs.Spelling.{IsInRange, IsSourceInRange}
+use Rattle.intervals.proofs.Signs.{sized_most}
+use Rattle.bpf_isa.specs.declared.instr.Source.{Source}
+use Rattle.bpf_isa.specs.declared.instr.Source.TheVariants as source
+use Rattle.bpf_isa.specs.declared.instr.Width.TheVariants as width
+use Rattle.bpf_isa.specs.declared.instr.Operator.TheVariants as op
+use Rattle.bpf_isa.specs.declared.instr.Size.{Size}
+use Rattle.bpf_isa.specs.declared.instr.Size.TheVariants as size
+use Rattle.helpers.specs.declared.helper.Helper.{Helper}
+use Rattle.helpers.specs.declared.helper.Helper.TheVariants as helper
+use Rattle.helpers.specs.Helper.{helper_of}
+use Rattle.machine.specs.Memory.{byte_count}
+use Rattle.intervals.specs.Spans.{Span, span, only, is_constant, IsSpan}
+use Rattle.intervals.specs.Results.{result_of}
+use Rattle.intervals.proofs.Computations.{arithmetic_fits, negated_fits}
+use Rattle.intervals.proofs.Extensions.{extended_fits}
+use Rattle.intervals.proofs.Orders.{ordered_fits}
+use Rattle.ranges.specs.declared.place.Place.{Place}
+use Rattle.ranges.specs.declared.place.Place.TheVariants as place
+use Rattle.ranges.specs.Kinds.{Kind, Unset, Num, Ctx, Stack, Sector, SectorOrNull, is_pointer}
+use Rattle.ranges.specs.Groups.{GroupKind, Marked, Spilled, map_places}
+use Rattle.ranges.specs.States.{Abstract}
+use Rattle.ranges.specs.Pointers.{offset_in, offsets_in, moved_offset, moved_place, moved_offsets, moved}
+use Rattle.ranges.specs.Reading.{value, second, with_value, with_groups, words, any_word}
+use Rattle.ranges.specs.Places.{place_of, is_group}
+use Rattle.intervals.specs.Edges.{refined}
+use Rattle.intervals.specs.Laws.{Shrinks}
+use Rattle.intervals.proofs.Edges.{refined_shrinks}
+use Rattle.ranges.specs.Rules.{length_of, is_null_test}
+use Rattle.ranges.specs.Passing.{edge_of, with_second, with_both, tested_kind, is_equal_edge}
+use Rattle.ranges.specs.After.{computed, result_kind, context_word, any_of, group_value, loaded_kind, is_touched, marks_after, group_after, written, written_at, stored_groups, answer_kind, answered, copied_state, call_after, load_after, store_after, after_of}
+use Rattle.ranges.specs.Order.{IsBounded, IsGroup, Each, IsState, Holds}
+use Rattle.ranges.proofs.Fitting.{each_set, each_get}
+
+holds_if : {X : Type 0} (P : X → Type 0) (b : Bool) (x : X) → (b ≡ true → P x) → Holds P (if b then Some x else None)
+holds_if P true x f = f refl
+holds_if P false x f = tt
+
+holds_map : {X Y : Type 0} (P : X → Type 0) (Q : Y → Type 0) (f : X → Y) → ((x : X) → P x → Q (f x)) → (m : Option X) → Holds P m → Holds Q (option_map f m)
+holds_map P Q f g None h = tt
+holds_map P Q f g (Some x) h = g x h
+
+holds_or : {X : Type 0} (P : X → Type 0) (m : Option X) (d : X) → Holds P m → P d → P (unwrap_or m d)
+holds_or P None d h e = e
+holds_or P (Some x) d h e = h
+
+-- pointers that move
+
+offset_fits : (limit : ℕ) (z : ℤ) → Holds (λ n. n ≤ limit) (offset_in limit z)
+offset_fits limit (pos n) = holds_if (λ m. m ≤ limit) (nat_le n limit) n (λ t. grind (arith, nat_tests))
+offset_fits limit (negsuc n) = tt
+
+place_fits : (limit : ℕ) (down : Bool) (o : ℕ) (y : Span) → Holds (λ n. n ≤ limit) (moved_place limit down o y)
+unfolding moved_place
+place_fits limit down o y = by_test (is_constant y)
+  where
+    by_test : (b : Bool) → Holds (λ n. n ≤ limit) (if b then offset_in limit (moved_offset down o y) else None)
+    by_test true = offset_fits limit (moved_offset down o y)
+    by_test false = tt
+
+-- numbers
+
+any_fits : IsSpan (2 ^ 64 - 1) any_word
+any_fits = record { ordered = omega arith; most = omega arith }
+
+words_fit : (k : Kind) → IsBounded k → IsSpan (2 ^ 64 - 1) (words k)
+words_fit (Num x) h = h
+words_fit _ h = any_fits
+
+computed_fits : (i : Instr) (k l : Kind) → IsBounded k → IsBounded l → IsBounded (computed i k l)
+unfolding result_of
+computed_fits (instr.Arithmetic w o dst from) k l h g = arithmetic_fits w o (words k) (words l) (words_fit k h) (words_fit l g)
+computed_fits (instr.Negate w dst) k l h g = negated_fits w (words k) (words_fit k h)
+computed_fits (instr.SignExtend e dst src) k l h g = extended_fits e (words l) (words_fit l g)
+computed_fits (instr.ByteOrder o size dst) k l h g = ordered_fits o size (words k) (words_fit k h)
+computed_fits _ k l h g = tt
+
+-- loads
+
+any_of_fits : (s : Size) → IsBounded (any_of (byte_count s))
+any_of_fits size.Byte = record { ordered = omega arith; most = omega arith }
+any_of_fits size.Half = record { ordered = omega arith; most = omega arith }
+any_of_fits size.Word = record { ordered = omega arith; most = omega arith }
+any_of_fits size.Double = record { ordered = omega arith; most = omega arith }
+
+group_value_fits : (g : GroupKind) → IsGroup g → IsBounded (group_value g)
+group_value_fits (Marked marks) h = any_of_fits size.Double
+group_value_fits (Spilled k) h = h.1
+
+-- the value of a group of a stack, whatever stands for one that isn't there
+group_at : (groups : List GroupKind) (i : ℕ) → Each IsGroup groups → IsBounded (group_value (get_or groups i (Marked [])))
+group_at [] i a = any_of_fits size.Double
+group_at (g ∷ groups) zero a = group_value_fits g a.0
+group_at (g ∷ groups) (suc i) a = group_at groups i a.1
+
+-- states
+
+pub with_value_fits : (s : Abstract) (r : ℕ) (k : Kind) → IsBounded k → IsState s → IsState (with_value s r k)
+with_value_fits s r k h a = record {
+  values = each_set IsBounded s.values r k h a.values;
+  groups = a.groups;
+  registers = length-set s.values r k ∙ a.registers;
+  stack = a.stack;
+}
+
+pub value_fits : (s : Abstract) (r : ℕ) → IsState s → IsBounded (value s r)
+value_fits s r a = each_get IsBounded s.values r Unset tt a.values
+
+-- offsets in a sector
+
+offsets_fit : (a b : ℤ) → a ≤ℤ b → Holds (λ x. IsSpan 65535 x) (offsets_in 65535 a b)
+offsets_fit (negsuc m) b h = tt
+offsets_fit (pos m) (negsuc n) h = by_low (nat_le m 65535)
+  where
+    by_low : (c : Bool) → Holds (λ x. IsSpan 65535 x) (option_and_then (λ low. None) (if c then Some m else None))
+    by_low true = tt
+    by_low false = tt
+offsets_fit (pos m) (pos n) h = by_both (nat_le m 65535) (nat_le n 65535) refl
+  where
+    by_both : (c d : Bool) → nat_le n 65535 ≡ d → Holds (λ x. IsSpan 65535 x) (option_and_then (λ low. option_map (λ high. span low high) (if d then Some n else None)) (if c then Some m else None))
+    by_both true true e = record { ordered = omega (arith, ints); most = grind (arith, nat_tests) }
+    by_both true false e = tt
+    by_both false d e = tt
+
+moved_fit : (down : Bool) (x y : Span) → IsSpan 65535 x → IsSpan (2 ^ 64 - 1) y → Holds (λ z. IsSpan 65535 z) (moved_offsets down x y)
+unfolding moved_offsets
+moved_fit down x y h g = by_kind (is_constant y) (nat_le y.high 65535) down
+  where
+    constant : (d : Bool) → moved_offset d x.low y ≤ℤ moved_offset d x.high y
+    constant true = let o = h.ordered in omega (arith, ints)
+    constant false = let o = h.ordered in omega (arith, ints)
+
+    by_way : (d : Bool) → Holds (λ z. IsSpan 65535 z)
+        (if d then offsets_in 65535 (pos x.low -ℤ pos y.high) (pos x.high -ℤ pos y.low)
+        else offsets_in 65535 (pos x.low +ℤ pos y.low) (pos x.high +ℤ pos y.high))
+    by_way true = let o = h.ordered in let p = g.ordered in offsets_fit (pos x.low -ℤ pos y.high) (pos x.high -ℤ pos y.low) (omega (arith, ints))
+    by_way false = let o = h.ordered in let p = g.ordered in offsets_fit (pos x.low +ℤ pos y.low) (pos x.high +ℤ pos y.high) (omega (arith, ints))
+
+    by_kind : (b c d : Bool) → Holds (λ z. IsSpan 65535 z)
+        (if b then offsets_in 65535 (moved_offset d x.low y) (moved_offset d x.high y)
+        else if c then (if d then offsets_in 65535 (pos x.low -ℤ pos y.high) (pos x.high -ℤ pos y.low)
+            else offsets_in 65535 (pos x.low +ℤ pos y.low) (pos x.high +ℤ pos y.high))
+        else None)
+    by_kind true c d = offsets_fit (moved_offset d x.low y) (moved_offset d x.high y) (constant d)
+    by_kind false true d = by_way d
+    by_kind false false d = tt
+
+moved_kind_fits : (down : Bool) (k l : Kind) → IsBounded k → IsBounded l → Holds IsBounded (moved down k l)
+unfolding moved
+moved_kind_fits down (Ctx o) (Num y) h g = holds_map (λ n. n ≤ 32) IsBounded (λ p. Ctx p) (λ n e. e) (moved_place 32 down o y) (place_fits 32 down o y)
+moved_kind_fits down (Stack o) (Num y) h g = holds_map (λ n. n ≤ 512) IsBounded (λ p. Stack p) (λ n e. e) (moved_place 512 down o y) (place_fits 512 down o y)
+moved_kind_fits down (Sector x) (Num y) h g = holds_map (λ z. IsSpan 65535 z) IsBounded (λ z. Sector z) (λ z e. e) (moved_offsets down x y) (moved_fit down x y h g)
+moved_kind_fits down _ _ h g = tt
+
+-- the results of arithmetic, one case for each form that result_kind knows
+result_fits : (i : Instr) (k l : Kind) → IsBounded k → IsBounded l → IsBounded (result_kind i k l)
+unfolding result_kind
+result_fits (instr.Arithmetic width.W64 op.Mov dst from) k l h g = g
+result_fits (instr.Arithmetic width.W64 op.Add dst from) k l h g =
+    holds_or IsBounded (moved false k l) (computed (instr.Arithmetic width.W64 op.Add dst from) k l) (moved_kind_fits false k l h g) (computed_fits (instr.Arithmetic width.W64 op.Add dst from) k l h g)
+result_fits (instr.Arithmetic width.W64 op.Sub dst from) k l h g =
+    holds_or IsBounded (moved true k l) (computed (instr.Arithmetic width.W64 op.Sub dst from) k l) (moved_kind_fits true k l h g) (computed_fits (instr.Arithmetic width.W64 op.Sub dst from) k l h g)
+result_fits (instr.Arithmetic width.W64 o dst from) k l h g = computed_fits (instr.Arithmetic width.W64 o dst from) k l h g
+result_fits (instr.Arithmetic width.W32 o dst from) k l h g = computed_fits (instr.Arithmetic width.W32 o dst from) k l h g
+result_fits i k l h g = computed_fits i k l h g
+
+-- loads and stores
+
+word_fits : (sectors at : ℕ) → sectors < 2 ^ 64 → IsBounded (context_word sectors at)
+word_fits sectors at h = by_place (at == 0) (at == 8) (at == 16)
+  where
+    by_place : (a b c : Bool) → IsBounded (if a then Num (only sectors) else if b || c then Num (span 0 65536) else Num (only 0))
+    by_place true b c = record { ordered = omega arith; most = omega arith }
+    by_place false true c = record { ordered = omega arith; most = omega arith }
+    by_place false false true = record { ordered = omega arith; most = omega arith }
+    by_place false false false = record { ordered = omega arith; most = omega arith }
+
+loaded_fits : (sectors : ℕ) (groups : List GroupKind) (p : Place) (s : Size) → sectors < 2 ^ 64 → Each IsGroup groups
+    → IsBounded (loaded_kind sectors groups p (byte_count s))
+unfolding loaded_kind
+loaded_fits sectors groups (place.Context at) s h a = by_test (is_group at (byte_count s))
+  where
+    by_test : (b : Bool) → IsBounded (if b then context_word sectors at else any_of (byte_count s))
+    by_test true = word_fits sectors at h
+    by_test false = any_of_fits s
+loaded_fits sectors groups (place.Stack at) s h a = by_test (is_group at (byte_count s))
+  where
+    by_test : (b : Bool) → IsBounded (if b then group_value (get_or groups (at / 8) (Marked [])) else any_of (byte_count s))
+    by_test true = group_at groups (at / 8) a
+    by_test false = any_of_fits s
+loaded_fits sectors groups place.Outside s h a = any_of_fits s
+loaded_fits sectors groups place.Sector s h a = any_of_fits s
+
+with_groups_fits : (s : Abstract) (groups : List GroupKind) → IsState s → Each IsGroup groups → length groups ≡ length s.groups → IsState (with_groups s groups)
+with_groups_fits s groups a h e = record { values = a.values; groups = h; registers = a.registers; stack = e ∙ a.stack }
+
+group_after_fits : (at n g : ℕ) (group : GroupKind) → IsGroup group → IsGroup (group_after at n g group)
+unfolding group_after
+group_after_fits at n g group h = by_test (is_touched at n g)
+  where
+    by_test : (b : Bool) → IsGroup (if b then Marked (marks_after at n g group) else group)
+    by_test true = refl
+    by_test false = h
+
+places_fit : (at n g : ℕ) (groups : List GroupKind) → Each IsGroup groups → Each IsGroup (map_places (group_after at n) g groups)
+unfolding map_places
+places_fit at n g [] a = tt
+places_fit at n g (x ∷ xs) a = (group_after_fits at n g x a.0, places_fit at n (g + 1) xs a.1)
+
+places_long : (at n g : ℕ) (groups : List GroupKind) → length (map_places (group_after at n) g groups) ≡ length groups
+unfolding map_places
+places_long at n g [] = refl
+places_long at n g (x ∷ xs) = let rest = places_long at n (g + 1) xs in omega (arith, rest)
+
+written_fits : (s : Abstract) (p : Place) (n : ℕ) → IsState s → IsState (with_groups s (written_at s.groups p n))
+unfolding written
+written_fits s (place.Stack at) n a = with_groups_fits s (map_places (group_after at n) 0 s.groups) a (places_fit at n 0 s.groups a.groups) (places_long at n 0 s.groups)
+written_fits s place.Outside n a = a
+written_fits s (place.Context at) n a = a
+written_fits s place.Sector n a = a
+
+stored_fits : (s : Abstract) (k : Kind) (p : Place) (n : ℕ) → IsBounded k → IsState s → IsState (with_groups s (stored_groups k s.groups p n))
+unfolding stored_groups
+stored_fits s k (place.Stack at) n h a = by_test (is_pointer k) (is_group at n) refl
+  where
+    by_test : (b c : Bool) → is_pointer k ≡ b → IsState (with_groups s (if b && c then set s.groups (at / 8) (Spilled k) else written at n s.groups))
+    by_test true true e = with_groups_fits s (set s.groups (at / 8) (Spilled k)) a (each_set IsGroup s.groups (at / 8) (Spilled k) (e, h) a.groups) (length-set s.groups (at / 8) (Spilled k))
+    by_test true false e = written_fits s (place.Stack at) n a
+    by_test false c e = written_fits s (place.Stack at) n a
+stored_fits s k place.Outside n h a = a
+stored_fits s k (place.Context at) n h a = a
+stored_fits s k place.Sector n h a = a
+
+-- helpers
+
+answer_fits : (h : Helper) → IsBounded (answer_kind h)
+answer_fits helper.Sector = tt
+answer_fits helper.Mix = any_fits
+answer_fits _ = record { ordered = omega arith; most = omega arith }
+
+answered_fits : (s : Abstract) (k : Kind) → IsBounded k → IsState s → IsState (answered s k)
+answered_fits s k h a =
+    let s0 = with_value s 0 k in let a0 = with_value_fits s 0 k h a in
+    let s1 = with_value s0 1 Unset in let a1 = with_value_fits s0 1 Unset tt a0 in
+    let s2 = with_value s1 2 Unset in let a2 = with_value_fits s1 2 Unset tt a1 in
+    let s3 = with_value s2 3 Unset in let a3 = with_value_fits s2 3 Unset tt a2 in
+    let s4 = with_value s3 4 Unset in let a4 = with_value_fits s3 4 Unset tt a3 in
+    with_value_fits s4 5 Unset tt a4
+
+call_fits : (s : Abstract) (h : Helper) → IsState s → IsState (call_after s h)
+unfolding call_after
+call_fits s helper.Copy a =
+    answered_fits (copied_state s) (answer_kind helper.Copy) (answer_fits helper.Copy)
+        (written_fits s (place_of (value s 2) (pos 0) (length_of (value s 3))) (length_of (value s 3)) a)
+call_fits s helper.Sector a = answered_fits s (answer_kind helper.Sector) (answer_fits helper.Sector) a
+call_fits s helper.Again a = answered_fits s (answer_kind helper.Again) (answer_fits helper.Again) a
+call_fits s helper.Report a = answered_fits s (answer_kind helper.Report) (answer_fits helper.Report) a
+call_fits s helper.Zero a = answered_fits s (answer_kind helper.Zero) (answer_fits helper.Zero) a
+call_fits s helper.Mix a = answered_fits s (answer_kind helper.Mix) (answer_fits helper.Mix) a
+call_fits s helper.Same a = answered_fits s (answer_kind helper.Same) (answer_fits helper.Same) a
+
+second_fits : (s : Abstract) (from : Source) → IsSourceInRange from → IsState s → IsBounded (second s from)
+second_fits s (source.Immediate n) h a = record { ordered = omega arith; most = sized_most width.W64 n (grind (arith, ints, nat_tests, h)) }
+second_fits s (source.Register r) h a = value_fits s r a
+
+pub after_fits : (sectors : ℕ) (s : Abstract) (i : Instr) → sectors < 2 ^ 64 → IsInRange i → IsState s → IsState (after_of sectors s i)
+unfolding after_of IsInRange
+after_fits sectors s (instr.Arithmetic w o dst from) h r a =
+    with_value_fits s dst (result_kind (instr.Arithmetic w o dst from) (value s dst) (second s from)) (result_fits (instr.Arithmetic w o dst from) (value s dst) (second s from) (value_fits s dst a) (second_fits s from r.1 a)) a
+after_fits sectors s (instr.Negate w dst) h r a =
+    with_value_fits s dst (computed (instr.Negate w dst) (value s dst) Unset) (computed_fits (instr.Negate w dst) (value s dst) Unset (value_fits s dst a) tt) a
+after_fits sectors s (instr.SignExtend e dst src) h r a =
+    with_value_fits s dst (computed (instr.SignExtend e dst src) Unset (value s src)) (computed_fits (instr.SignExtend e dst src) Unset (value s src) tt (value_fits s src a)) a
+after_fits sectors s (instr.ByteOrder o size dst) h r a =
+    with_value_fits s dst (computed (instr.ByteOrder o size dst) (value s dst) Unset) (computed_fits (instr.ByteOrder o size dst) (value s dst) Unset (value_fits s dst a) tt) a
+after_fits sectors s (instr.Jump distance) h r a = a
+after_fits sectors s (instr.LongJump distance) h r a = a
+after_fits sectors s (instr.Branch w c dst from distance) h r a = a
+after_fits sectors s (instr.CallHelper number) h r a = by_helper (helper_of (cast_unsigned w32 number))
+  where
+    by_helper : (m : Option Helper) → IsState (option_map_or (call_after s) m (answered s (Num any_word)))
+    by_helper None = answered_fits s (Num any_word) any_fits a
+    by_helper (Some x) = call_fits s x a
+after_fits sectors s instr.Exit h r a = a
+after_fits sectors s (instr.Load size dst base distance) h r a =
+    with_value_fits s dst (loaded_kind sectors s.groups (place_of (value s base) distance (byte_count size)) (byte_count size)) (loaded_fits sectors s.groups (place_of (value s base) distance (byte_count size)) size h a.groups) a
+after_fits sectors s (instr.LoadSigned size dst base distance) h r a = with_value_fits s dst (Num any_word) any_fits a
+after_fits sectors s (instr.StoreImmediate size base distance n) h r a =
+    stored_fits s (second s (source.Immediate n)) (place_of (value s base) distance (byte_count size)) (byte_count size) (second_fits s (source.Immediate n) r.2 a) a
+after_fits sectors s (instr.Store size base distance src) h r a =
+    stored_fits s (value s src) (place_of (value s base) distance (byte_count size)) (byte_count size) (value_fits s src a) a
+after_fits sectors s (instr.LoadImmediate dst x) h r a =
+    let small : x < 2 ^ 64 = r.1 in
+    with_value_fits s dst (Num (only x)) (record { ordered = omega arith; most = omega arith }) a
+
+-- edges
+
+refined_state_fits : (s : Abstract) (dst : ℕ) (from : Source) (x y : Span) (m : Option (Span × Span)) → Shrinks m x y → IsState s
+    → Holds IsState (option_map (with_both s dst from) m)
+refined_state_fits s dst from x y None h a = tt
+refined_state_fits s dst (source.Immediate n) x y (Some p) h a = with_value_fits s dst (Num p.0) h.0 a
+refined_state_fits s dst (source.Register r) x y (Some p) h a =
+    with_value_fits (with_value s dst (Num p.0)) r (Num p.1) h.1 (with_value_fits s dst (Num p.0) h.0 a)
+
+tested_fits : (b : Bool) → IsBounded (tested_kind b)
+tested_fits true = record { ordered = omega arith; most = omega arith }
+tested_fits false = record { ordered = omega arith; most = omega arith }
+
+pub edge_fits : (s : Abstract) (i : Instr) (taken : Bool) → IsInRange i → IsState s → Holds IsState (edge_of s i taken)
+unfolding edge_of IsInRange
+edge_fits s (instr.Branch w c dst from distance) taken r a = by_test (is_null_test w c from (value s dst))
+  where
+    by_test : (b : Bool) → Holds IsState
+        (if b then Some (with_value s dst (tested_kind (is_equal_edge c taken)))
+        else option_map (with_both s dst from) (refined (instr.Branch w c dst from distance) taken (words (value s dst)) (words (second s from))))
+    by_test true = with_value_fits s dst (tested_kind (is_equal_edge c taken)) (tested_fits (is_equal_edge c taken)) a
+    by_test false =
+        refined_state_fits s dst from (words (value s dst)) (words (second s from)) (refined (instr.Branch w c dst from distance) taken (words (value s dst)) (words (second s from)))
+            (refined_shrinks (instr.Branch w c dst from distance) taken (words (value s dst)) (words (second s from)) (words_fit (value s dst) (value_fits s dst a)) (words_fit (second s from) (second_fits s from r.1 a))) a
+edge_fits s _ taken r a = a
