@@ -73,7 +73,7 @@ place_fits limit down o y = by_test (is_constant y)
 any_fits : IsSpan (2 ^ 64 - 1) any_word
 any_fits = record { ordered = omega arith; most = omega arith }
 
-words_fit : (k : Kind) → IsBounded k → IsSpan (2 ^ 64 - 1) (words k)
+pub words_fit : (k : Kind) → IsBounded k → IsSpan (2 ^ 64 - 1) (words k)
 words_fit (Num x) h = h
 words_fit _ h = any_fits
 
@@ -149,7 +149,7 @@ moved_fit down x y h g = by_kind (is_constant y) (nat_le y.high 65535) down
     by_kind : (b c d : Bool) → Holds (λ z. IsSpan 65535 z)
         (if b then offsets_in 65535 (moved_offset d x.low y) (moved_offset d x.high y)
         else if c then (if d then offsets_in 65535 (pos x.low -ℤ pos y.high) (pos x.high -ℤ pos y.low)
-            else offsets_in 65535 (pos x.low +ℤ pos y.low) (pos x.high +ℤ pos y.high))
+        else offsets_in 65535 (pos x.low +ℤ pos y.low) (pos x.high +ℤ pos y.high))
         else None)
     by_kind true c d = offsets_fit (moved_offset d x.low y) (moved_offset d x.high y) (constant d)
     by_kind false true d = by_way d
@@ -261,7 +261,7 @@ call_fits : (s : Abstract) (h : Helper) → IsState s → IsState (call_after s 
 unfolding call_after
 call_fits s helper.Copy a =
     answered_fits (copied_state s) (answer_kind helper.Copy) (answer_fits helper.Copy)
-        (written_fits s (place_of (value s 2) (pos 0) (length_of (value s 3))) (length_of (value s 3)) a)
+    (written_fits s (place_of (value s 2) (pos 0) (length_of (value s 3))) (length_of (value s 3)) a)
 call_fits s helper.Sector a = answered_fits s (answer_kind helper.Sector) (answer_fits helper.Sector) a
 call_fits s helper.Again a = answered_fits s (answer_kind helper.Again) (answer_fits helper.Again) a
 call_fits s helper.Report a = answered_fits s (answer_kind helper.Report) (answer_fits helper.Report) a
@@ -269,7 +269,7 @@ call_fits s helper.Zero a = answered_fits s (answer_kind helper.Zero) (answer_fi
 call_fits s helper.Mix a = answered_fits s (answer_kind helper.Mix) (answer_fits helper.Mix) a
 call_fits s helper.Same a = answered_fits s (answer_kind helper.Same) (answer_fits helper.Same) a
 
-second_fits : (s : Abstract) (from : Source) → IsSourceInRange from → IsState s → IsBounded (second s from)
+pub second_fits : (s : Abstract) (from : Source) → IsSourceInRange from → IsState s → IsBounded (second s from)
 second_fits s (source.Immediate n) h a = record { ordered = omega arith; most = sized_most width.W64 n (grind (arith, ints, nat_tests, h)) }
 second_fits s (source.Register r) h a = value_fits s r a
 
@@ -326,5 +326,5 @@ edge_fits s (instr.Branch w c dst from distance) taken r a = by_test (is_null_te
     by_test true = with_value_fits s dst (tested_kind (is_equal_edge c taken)) (tested_fits (is_equal_edge c taken)) a
     by_test false =
         refined_state_fits s dst from (words (value s dst)) (words (second s from)) (refined (instr.Branch w c dst from distance) taken (words (value s dst)) (words (second s from)))
-            (refined_shrinks (instr.Branch w c dst from distance) taken (words (value s dst)) (words (second s from)) (words_fit (value s dst) (value_fits s dst a)) (words_fit (second s from) (second_fits s from r.1 a))) a
+        (refined_shrinks (instr.Branch w c dst from distance) taken (words (value s dst)) (words (second s from)) (words_fit (value s dst) (value_fits s dst a)) (words_fit (second s from) (second_fits s from r.1 a))) a
 edge_fits s _ taken r a = a

@@ -4,3 +4,4 @@ pub mod Joins
 pub mod Covering
 pub mod Fitting
 pub mod Keeping
+pub mod Smaller

@@ -1,12 +1,17 @@
 -- What holds of abstract values and states.
-use Rattle.std.specs.Prelude.{◌≡◌, ◌↔◌, ℕ, ◌<◌, ◌^◌, Bool}
+use Rattle.std.specs.Prelude.{◌≡◌, ◌↔◌, ℕ, ◌<◌, ◌^◌, Bool, ℤ, true}
 use Rattle.bpf_isa.specs.declared.instr.Instr.{Instr}
-use Rattle.bpf_isa.specs.Spelling.{IsInRange}
+use Rattle.bpf_isa.specs.declared.instr.Instr.TheVariants as instr
+use Rattle.bpf_isa.specs.declared.instr.Source.{Source}
+use Rattle.bpf_isa.specs.declared.instr.Width.{Width}
+use Rattle.bpf_isa.specs.declared.instr.Condition.{Condition}
+use Rattle.ranges.specs.Rules.{compares}
+use Rattle.bpf_isa.specs.Spelling.{IsInRange, IsSourceInRange}
 use Rattle.ranges.specs.After.{after_of}
 use Rattle.ranges.specs.Passing.{edge_of}
 use Rattle.ranges.specs.Kinds.{Kind, join, round, Contains}
 use Rattle.ranges.specs.States.{Abstract, join_state, round_state, StateContains, start}
-use Rattle.ranges.specs.Order.{Under, StateUnder, IsBounded, IsState, Holds}
+use Rattle.ranges.specs.Order.{Under, StateUnder, IsBounded, IsState, Holds, EdgeUnder}
 
 -- The join of two values is the least value that holds all that either does, and one value contains
 -- another just where it holds all that the other does.
@@ -43,3 +48,10 @@ pub record StatesFit : Type 0 where
   pub round : (s : Abstract) → IsState s → IsState (round_state s)
   pub after : (sectors : ℕ) (s : Abstract) (i : Instr) → sectors < 2 ^ 64 → IsInRange i → IsState s → IsState (after_of sectors s i)
   pub edge : (s : Abstract) (i : Instr) (taken : Bool) → IsInRange i → IsState s → Holds IsState (edge_of s i taken)
+
+-- where the larger of two states keeps the rule of a conditional jump, the smaller one passes a
+-- smaller state along each edge, and none where the larger passes none
+abbrev pub EdgesAreMonotone : Type 0
+EdgesAreMonotone = (s t : Abstract) (w : Width) (c : Condition) (dst : ℕ) (from : Source) (distance : ℤ) (taken : Bool)
+    → IsSourceInRange from → IsState s → IsState t → StateUnder s t → compares t w c dst from ≡ true
+    → EdgeUnder (edge_of s (instr.Branch w c dst from distance) taken) (edge_of t (instr.Branch w c dst from distance) taken)

@@ -65,3 +65,9 @@ pub record IsState (s : Abstract) : Type 0 where
 abbrev pub Holds : {X : Type 0} → (X → Type 0) → Option X → Type 0
 Holds P None = Unit {0}
 Holds P (Some x) = P x
+
+-- what is passed along an edge, if something is; nothing is under all
+abbrev pub EdgeUnder : Option Abstract → Option Abstract → Type 0
+EdgeUnder None n = Unit {0}
+EdgeUnder (Some s) None = ⊥
+EdgeUnder (Some s) (Some t) = StateUnder s t

@@ -1,6 +1,6 @@
 //! Laws of abstract values. The functions do nothing; each contract is a theorem.
 
-ghost use Rattle.ranges.specs.Laws.{JoinIsLeast, RoundContains, StatesJoin, StatesRound, StartFits, StatesFit};
+ghost use Rattle.ranges.specs.Laws.{JoinIsLeast, RoundContains, StatesJoin, StatesRound, StartFits, StatesFit, EdgesAreMonotone};
 
 /// The join of two values is the least that holds all that either does.
 pub fn join_is_least()
@@ -30,4 +30,9 @@ pub fn start_fits()
 /// What is made of states is within the bounds of states.
 pub fn states_fit()
     ensures { StatesFit }
+{}
+
+/// A smaller state passes smaller states along the edges of a conditional jump.
+pub fn edges_are_monotone()
+    ensures { EdgesAreMonotone }
 {}

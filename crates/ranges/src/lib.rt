@@ -46,8 +46,11 @@
 //! - `start_fits`, `states_fit`: the state at the start is within the bounds of states (`IsState`), and
 //!   so is what is made of states by joins, rounding, instructions and edges.
 //!
-//! That states cover what the machine does is not proved here, nor that smaller states break no more
-//! rules and pass smaller states on.
+//! - `edges_are_monotone`: on the edges of a conditional jump whose rule the larger of two states keeps,
+//!   the smaller one passes a smaller state, and none where the larger passes none.
+//!
+//! That states cover what the machine does is not proved here, nor that a smaller state breaks no rule
+//! which a larger one keeps, nor that `after` keeps the order of states.
 //!
 //! # How it is written
 //!
