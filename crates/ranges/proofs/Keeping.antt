@@ -1,8 +1,8 @@
 -- The bounds are kept by instructions.
-use Rattle.std.proofs.Common.{◌≡◌, ℕ, zero, suc, ◌+◌, ◌-◌, ◌/◌, ◌*◌, ◌^◌, ◌<◌, ◌≤◌, ◌==◌, nat_le, ◌&&◌, ◌||◌, Bool, true, false, if◌then◌else◌, IsTrue, ℤ, pos, negsuc, ◌+ℤ◌, ◌-ℤ◌, ◌≤ℤ◌, List, [], ◌∷◌, length, map, get_or, Option, None, Some, refl, sym, ◌∙◌, arith, ap}
+use Rattle.std.proofs.Common.{◌≡◌, ℕ, zero, suc, ◌+◌, ◌-◌, ◌/◌, ◌^◌, ◌<◌, ◌≤◌, ◌==◌, nat_le, ◌&&◌, ◌||◌, Bool, true, false, if◌then◌else◌, ℤ, pos, negsuc, ◌+ℤ◌, ◌-ℤ◌, ◌≤ℤ◌, List, [], ◌∷◌, length, get_or, Option, None, Some, refl, ◌∙◌, arith}
 use Rattle.std.specs.Prelude.{set, unwrap_or}
 use Rattle.std.specs.Option.{option_map, option_map_or, option_and_then}
-use Rattle.std.specs.Int.{cast_unsigned, w32, w64}
+use Rattle.std.specs.Int.{cast_unsigned, w32}
 use Rattle.std.proofs.lemmas.Int.{ints}
 use Rattle.std.proofs.lemmas.List.{length-set}
 use Rattle.std.proofs.lemmas.Bool.Decides.{nat_tests}
@@ -27,7 +27,7 @@ use Rattle.intervals.proofs.Extensions.{extended_fits}
 use Rattle.intervals.proofs.Orders.{ordered_fits}
 use Rattle.ranges.specs.declared.place.Place.{Place}
 use Rattle.ranges.specs.declared.place.Place.TheVariants as place
-use Rattle.ranges.specs.Kinds.{Kind, Unset, Num, Ctx, Stack, Sector, SectorOrNull, is_pointer}
+use Rattle.ranges.specs.Kinds.{Kind, Unset, Num, Ctx, Stack, Sector, is_pointer}
 use Rattle.ranges.specs.Groups.{GroupKind, Marked, Spilled, map_places}
 use Rattle.ranges.specs.States.{Abstract}
 use Rattle.ranges.specs.Pointers.{offset_in, offsets_in, moved_offset, moved_place, moved_offsets, moved}
@@ -37,8 +37,8 @@ use Rattle.intervals.specs.Edges.{refined}
 use Rattle.intervals.specs.Laws.{Shrinks}
 use Rattle.intervals.proofs.Edges.{refined_shrinks}
 use Rattle.ranges.specs.Rules.{length_of, is_null_test}
-use Rattle.ranges.specs.Passing.{edge_of, with_second, with_both, tested_kind, is_equal_edge}
-use Rattle.ranges.specs.After.{computed, result_kind, context_word, any_of, group_value, loaded_kind, is_touched, marks_after, group_after, written, written_at, stored_groups, answer_kind, answered, copied_state, call_after, load_after, store_after, after_of}
+use Rattle.ranges.specs.Passing.{edge_of, with_both, tested_kind, is_equal_edge}
+use Rattle.ranges.specs.After.{computed, result_kind, context_word, any_of, group_value, loaded_kind, is_touched, marks_after, group_after, written, written_at, stored_groups, answer_kind, answered, copied_state, call_after, after_of}
 use Rattle.ranges.specs.Order.{IsBounded, IsGroup, Each, IsState, Holds}
 use Rattle.ranges.proofs.Fitting.{each_set, each_get}
 

@@ -1,26 +1,23 @@
 -- A smaller state passes smaller states on along the edges of a conditional jump.
-use Rattle.std.proofs.Common.{◌≡◌, ℕ, zero, suc, ◌&&◌, ◌||◌, Bool, true, false, if◌then◌else◌, IsTrue, List, [], ◌∷◌, get_or, Option, None, Some, ℤ, refl, sym, ◌∙◌, arith}
+use Rattle.std.proofs.Common.{◌≡◌, ℕ, zero, suc, ◌&&◌, ◌||◌, Bool, true, false, if◌then◌else◌, List, [], ◌∷◌, get_or, Option, None, Some, ℤ, refl, arith}
 use Rattle.std.specs.Prelude.{set}
 use Rattle.std.specs.Option.{option_map}
-use Rattle.base.specs.Check.{first_failing}
-use Rattle.bpf_isa.specs.Spelling.{IsInRange, IsSourceInRange}
-use Rattle.bpf_isa.specs.declared.instr.Instr.{Instr}
+use Rattle.bpf_isa.specs.Spelling.{IsSourceInRange}
 use Rattle.bpf_isa.specs.declared.instr.Instr.TheVariants as instr
 use Rattle.bpf_isa.specs.declared.instr.Source.{Source}
 use Rattle.bpf_isa.specs.declared.instr.Source.TheVariants as source
 use Rattle.bpf_isa.specs.declared.instr.Width.{Width}
 use Rattle.bpf_isa.specs.declared.instr.Condition.{Condition}
-use Rattle.intervals.specs.Spans.{Span, only, IsSpan, Within}
+use Rattle.intervals.specs.Spans.{Span, Within}
 use Rattle.intervals.specs.Edges.{refined}
 use Rattle.intervals.specs.Laws.{WithinBoth}
 use Rattle.intervals.proofs.Edges.{refined_mono}
-use Rattle.ranges.specs.declared.cause.RuleCause.{RuleCause}
 use Rattle.ranges.specs.Kinds.{Kind, Unset, Num, Ctx, Stack, Sector, SectorOrNull, is_number}
 use Rattle.ranges.specs.States.{Abstract}
-use Rattle.ranges.specs.Reading.{value, second, with_value, words, are_set}
-use Rattle.ranges.specs.Rules.{rules, compares, is_null_test, is_wide, is_equality, is_zero, may_be_null}
-use Rattle.ranges.specs.Passing.{edge_of, with_second, with_both, tested_kind, is_equal_edge}
-use Rattle.ranges.specs.Order.{Under, EachUnder, StateUnder, IsBounded, IsState, EdgeUnder}
+use Rattle.ranges.specs.Reading.{value, second, with_value, words}
+use Rattle.ranges.specs.Rules.{compares, is_null_test, is_wide, is_equality, is_zero, may_be_null}
+use Rattle.ranges.specs.Passing.{edge_of, with_both, tested_kind, is_equal_edge}
+use Rattle.ranges.specs.Order.{Under, EachUnder, StateUnder, IsState, EdgeUnder}
 use Rattle.ranges.proofs.Keeping.{value_fits, second_fits, words_fit}
 
 and_right : (a b : Bool) → (a && b) ≡ true → b ≡ true
