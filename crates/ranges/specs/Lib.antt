@@ -1,5 +1,4 @@
 -- Abstract values and states (docs/VERIFIER.md, Abstract values to Rules at a slot).
-pub mod Causes
 pub mod Kinds
 pub mod Groups
 pub mod States

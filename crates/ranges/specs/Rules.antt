@@ -19,8 +19,8 @@ use Rattle.helpers.specs.declared.helper.Helper.TheVariants as helper
 use Rattle.helpers.specs.Helper.{helper_of}
 use Rattle.machine.specs.Memory.{byte_count, plain_size}
 use Rattle.machine.specs.Step.{source_registers, operands}
-use Rattle.ranges.specs.declared.cause.RuleCause.{RuleCause}
-use Rattle.ranges.specs.declared.cause.RuleCause.TheVariants as cause
+use Rattle.base.specs.declared.causes.VerifierCause.{VerifierCause}
+use Rattle.base.specs.declared.causes.VerifierCause.TheVariants as cause
 use Rattle.ranges.specs.declared.place.Place.{Place}
 use Rattle.ranges.specs.declared.place.Place.TheVariants as place
 use Rattle.ranges.specs.declared.place.Mark.{Mark}
@@ -33,7 +33,7 @@ use Rattle.ranges.specs.Places.{place_of, is_inside, none_is, is_group}
 use Rattle.ranges.specs.Reading.{value, second, are_set, words, is_stack, is_base, has_length}
 
 -- the rule that each of these registers is set
-abbrev pub reads : Abstract → List ℕ → Check RuleCause
+abbrev pub reads : Abstract → List ℕ → Check VerifierCause
 reads s registers = check cause.UnsetRegister (are_set s registers)
 
 -- Whether arithmetic may take these operands: a move in 64 bits takes any, an addition or
@@ -45,7 +45,7 @@ may_compute width.W64 op.Add k l = (is_number k && is_number l) || is_some (move
 may_compute width.W64 op.Sub k l = (is_number k && is_number l) || is_some (moved true k l)
 may_compute _ _ k l = is_number k && is_number l
 
-abbrev pub computes : Bool → Check RuleCause
+abbrev pub computes : Bool → Check VerifierCause
 computes may = check cause.PointerArithmetic may
 
 -- the test of the answer of helper 1 against 0
@@ -74,7 +74,7 @@ unfoldable pub compares : Abstract → Width → Condition → ℕ → Source �
 compares s w c dst from = is_null_test w c from (value s dst) || (is_number (value s dst) && is_number (second s from))
 
 -- the rules of an access to n bytes
-abbrev pub lies : Place → Check RuleCause
+abbrev pub lies : Place → Check VerifierCause
 lies p = check cause.OutsideRegion (is_inside p)
 
 -- whether none of the bytes of an access is of this kind
@@ -87,16 +87,16 @@ abbrev pub is_whole : Place → ℕ → Bool
 is_whole (place.Stack at) n = is_group at n
 is_whole p n = false
 
-unfoldable pub load_rules : Abstract → ℕ → ℤ → ℕ → List (Check RuleCause)
+unfoldable pub load_rules : Abstract → ℕ → ℤ → ℕ → List (Check VerifierCause)
 load_rules s base distance n =
     reads s (base ∷ [])
     ∷ lies (place_of (value s base) distance n)
-    ∷ check cause.UnwrittenByte (has_no mark.Unset s.groups (place_of (value s base) distance n) n)
+    ∷ check cause.UnsetByte (has_no mark.Unset s.groups (place_of (value s base) distance n) n)
     ∷ check cause.PointerAsNumber (is_whole (place_of (value s base) distance n) n || has_no mark.Pointer s.groups (place_of (value s base) distance n) n)
     ∷ []
 
 -- `set` says whether the registers are set that the store reads
-unfoldable pub store_rules : Abstract → Bool → Kind → ℕ → ℤ → ℕ → List (Check RuleCause)
+unfoldable pub store_rules : Abstract → Bool → Kind → ℕ → ℤ → ℕ → List (Check VerifierCause)
 store_rules s set stored base distance n =
     check cause.UnsetRegister set
     ∷ check cause.OutsideRegion (is_base (value s base))
@@ -109,7 +109,7 @@ store_rules s set stored base distance n =
 abbrev pub length_of : Kind → ℕ
 length_of k = (words k).low
 
-unfoldable pub call_rules : Abstract → Helper → List (Check RuleCause)
+unfoldable pub call_rules : Abstract → Helper → List (Check VerifierCause)
 call_rules s helper.Copy =
     reads s (1 ∷ 2 ∷ 3 ∷ [])
     ∷ check cause.HelperArgument (is_number (value s 1) && (is_stack (value s 2) && has_length (value s 3)))
@@ -119,7 +119,7 @@ call_rules s helper.Same = reads s (1 ∷ 2 ∷ []) ∷ check cause.HelperArgume
 call_rules s h = reads s (1 ∷ []) ∷ check cause.HelperArgument (is_number (value s 1)) ∷ []
 
 -- the rules of an instruction; that helpers are known is a rule of shape
-unfoldable pub rules : Abstract → Instr → List (Check RuleCause)
+unfoldable pub rules : Abstract → Instr → List (Check VerifierCause)
 rules s (instr.Arithmetic w o dst from) = reads s (operands o dst from) ∷ computes (may_compute w o (value s dst) (second s from)) ∷ []
 rules s (instr.Negate w dst) = reads s (dst ∷ []) ∷ computes (is_number (value s dst)) ∷ []
 rules s (instr.SignExtend e dst src) = reads s (src ∷ []) ∷ computes (is_number (value s src)) ∷ []

@@ -96,7 +96,7 @@ fn group_value(group: Group) -> Value
     ensures { kind_of result ≡ group_value (group_of group) }
 {
     match group {
-        Group::Marked(_) => Value::Num(Range::FULL),
+        Group::Marked(_) => Value::Num(Range::full()),
         Group::Spilled(spill) => spill.value,
     }
 }
@@ -124,7 +124,7 @@ fn answer_value(helper: Helper) -> Value
         Helper::Sector => Value::SectorOrNull,
         Helper::Copy | Helper::Again | Helper::Report => Value::Num(Range::up_to(1)),
         Helper::Zero | Helper::Same => Value::Num(Range::up_to(2)),
-        Helper::Mix => Value::Num(Range::FULL),
+        Helper::Mix => Value::Num(Range::full()),
     }
 }
 
@@ -208,7 +208,7 @@ pub fn after(instr: &Instr, state: &State, sectors: u32) -> State
             base,
             offset,
         } => load_after(state, sectors, *dst, *size, *base, *offset),
-        Instr::LoadSigned { dst, .. } => state.with_value(*dst, Value::Num(Range::FULL)),
+        Instr::LoadSigned { dst, .. } => state.with_value(*dst, Value::Num(Range::full())),
         Instr::StoreImmediate {
             size,
             base,
@@ -233,7 +233,7 @@ pub fn after(instr: &Instr, state: &State, sectors: u32) -> State
         ),
         Instr::CallHelper { number } => match Helper::of(number.cast_unsigned()) {
             Some(helper) => call_after(state, helper),
-            None => answered(state, Value::Num(Range::FULL)),
+            None => answered(state, Value::Num(Range::full())),
         },
         _ => *state,
     }

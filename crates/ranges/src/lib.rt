@@ -57,7 +57,7 @@
 //! - `value`, `spill`, `group`, `state`: the types, with their joins.
 //! - `pointers`: what an addition makes of a pointer. `place`: where an access falls. `bytes`: what is
 //!   known of the bytes there. `writes`: stores.
-//! - `reads`, `rules`, `cause`: the rules, one function a form, and their numbers.
+//! - `reads`, `rules`: the rules, one function a form. Their causes are those of `base`.
 //! - `effects` and `edges`: `after` and `branch`.
 //! - `laws`: the laws, contracts of functions that do nothing.
 //!
@@ -72,7 +72,6 @@
 #![tactic(auto)]
 
 mod bytes;
-mod cause;
 mod edges;
 mod effects;
 mod group;
@@ -88,7 +87,6 @@ mod tests;
 mod value;
 mod writes;
 
-pub use cause::RuleCause;
 pub use edges::branch;
 pub use effects::after;
 pub use group::Group;

@@ -12,12 +12,12 @@ ghost use Rattle.ranges.specs.Seen.{kind_of};
 ghost use Rattle.ranges.specs.SeenStates.{state_of};
 
 use crate::bytes::{byte_count, has_no, is_whole, plain_size};
-use crate::cause::RuleCause;
 use crate::place::{Mark, Place, place_of};
 use crate::pointers::moved;
 use crate::reads::{are_both_set, are_operands_set, are_two_set, is_set};
 use crate::state::State;
 use crate::value::Value;
+use base::causes::VerifierCause;
 use bpf_isa::instr::{Condition, Instr, Operator, Source, Width};
 use bpf_isa::register::Register;
 use helpers::Helper;
@@ -39,13 +39,13 @@ fn may_compute(width: Width, operator: Operator, first: Value, other: Value) -> 
 }
 
 /// The rules of arithmetic with a register that it reads, and its value.
-fn breach_of_one(is_set: bool, is_number: bool) -> Option<RuleCause>
-    ensures { result ≡ first_failing (check RuleCause.UnsetRegister is_set ∷ computes is_number ∷ []) }
+fn breach_of_one(is_set: bool, is_number: bool) -> Option<VerifierCause>
+    ensures { result ≡ first_failing (check VerifierCause.UnsetRegister is_set ∷ computes is_number ∷ []) }
 {
     if !is_set {
-        Some(RuleCause::UnsetRegister)
+        Some(VerifierCause::UnsetRegister)
     } else if !is_number {
-        Some(RuleCause::PointerArithmetic)
+        Some(VerifierCause::PointerArithmetic)
     } else {
         None
     }
@@ -79,18 +79,18 @@ fn is_zero(source: &Source) -> bool
 
 /// The first rule that a load breaks.
 #[tactic(auto, unfolding(crate::specs::Rules::load_rules))]
-fn load_breach(state: &State, base: Register, offset: i16, n: u64) -> Option<RuleCause>
+fn load_breach(state: &State, base: Register, offset: i16, n: u64) -> Option<VerifierCause>
     ensures { result ≡ first_failing (load_rules (state_of state.now) base offset n) }
 {
     let place = place_of(state.value(base), offset, n);
     if !is_set(state, base) {
-        Some(RuleCause::UnsetRegister)
+        Some(VerifierCause::UnsetRegister)
     } else if matches!(place, Place::Outside) {
-        Some(RuleCause::OutsideRegion)
+        Some(VerifierCause::OutsideRegion)
     } else if !has_no(state, Mark::Unset, place, n) {
-        Some(RuleCause::UnwrittenByte)
+        Some(VerifierCause::UnsetByte)
     } else if !is_whole(place, n) && !has_no(state, Mark::Pointer, place, n) {
-        Some(RuleCause::PointerAsNumber)
+        Some(VerifierCause::PointerAsNumber)
     } else {
         None
     }
@@ -105,21 +105,21 @@ fn store_breach(
     base: Register,
     offset: i16,
     n: u64,
-) -> Option<RuleCause>
+) -> Option<VerifierCause>
     ensures { result ≡ first_failing (store_rules (state_of state.now) set (kind_of stored) base offset n) }
 {
     let value = state.value(base);
     let place = place_of(value, offset, n);
     if !set {
-        Some(RuleCause::UnsetRegister)
+        Some(VerifierCause::UnsetRegister)
     } else if !value.is_base() {
-        Some(RuleCause::OutsideRegion)
+        Some(VerifierCause::OutsideRegion)
     } else if !value.is_stack() {
-        Some(RuleCause::ReadOnly)
+        Some(VerifierCause::ReadOnly)
     } else if matches!(place, Place::Outside) {
-        Some(RuleCause::OutsideRegion)
+        Some(VerifierCause::OutsideRegion)
     } else if !stored.is_number() && !is_whole(place, n) {
-        Some(RuleCause::PointerAsNumber)
+        Some(VerifierCause::PointerAsNumber)
     } else {
         None
     }
@@ -132,7 +132,7 @@ fn arithmetic_breach(
     operator: Operator,
     dst: Register,
     source: &Source,
-) -> Option<RuleCause>
+) -> Option<VerifierCause>
     ensures { result ≡ first_failing (reads (state_of state.now) (operands operator dst source.now) ∷ computes (may_compute width operator (value (state_of state.now) dst) (second (state_of state.now) source.now)) ∷ []) }
 {
     breach_of_one(
@@ -142,7 +142,7 @@ fn arithmetic_breach(
 }
 
 /// The first rule that arithmetic on one register breaks.
-fn register_breach(state: &State, register: Register) -> Option<RuleCause>
+fn register_breach(state: &State, register: Register) -> Option<VerifierCause>
     ensures { result ≡ first_failing (reads (state_of state.now) (register ∷ []) ∷ computes (is_number (value (state_of state.now) register)) ∷ []) }
 {
     breach_of_one(is_set(state, register), state.value(register).is_number())
@@ -156,30 +156,30 @@ fn branch_breach(
     condition: Condition,
     dst: Register,
     source: &Source,
-) -> Option<RuleCause>
-    ensures { result ≡ first_failing (reads (state_of state.now) (dst ∷ source_registers source.now) ∷ check RuleCause.PointerAsNumber (compares (state_of state.now) width condition dst source.now) ∷ []) }
+) -> Option<VerifierCause>
+    ensures { result ≡ first_failing (reads (state_of state.now) (dst ∷ source_registers source.now) ∷ check VerifierCause.PointerAsNumber (compares (state_of state.now) width condition dst source.now) ∷ []) }
 {
     let first = state.value(dst);
     if !are_both_set(state, dst, source) {
-        Some(RuleCause::UnsetRegister)
+        Some(VerifierCause::UnsetRegister)
     } else if is_null_test(width, condition, source, first) {
         None
     } else if !first.is_number() || !state.second(source).is_number() {
-        Some(RuleCause::PointerAsNumber)
+        Some(VerifierCause::PointerAsNumber)
     } else {
         None
     }
 }
 
 /// The first rule that the end of a program breaks.
-fn exit_breach(state: &State) -> Option<RuleCause>
-    ensures { result ≡ first_failing (reads (state_of state.now) (0 ∷ []) ∷ check RuleCause.PointerAsNumber (is_number (value (state_of state.now) 0)) ∷ []) }
+fn exit_breach(state: &State) -> Option<VerifierCause>
+    ensures { result ≡ first_failing (reads (state_of state.now) (0 ∷ []) ∷ check VerifierCause.PointerAsNumber (is_number (value (state_of state.now) 0)) ∷ []) }
 {
     let answer = state.at(0);
     if !answer.is_set() {
-        Some(RuleCause::UnsetRegister)
+        Some(VerifierCause::UnsetRegister)
     } else if !answer.is_number() {
-        Some(RuleCause::PointerAsNumber)
+        Some(VerifierCause::PointerAsNumber)
     } else {
         None
     }
@@ -187,29 +187,29 @@ fn exit_breach(state: &State) -> Option<RuleCause>
 
 /// The first rule that a call of helper 2 breaks.
 #[tactic(auto, unfolding(crate::specs::Rules::call_rules))]
-fn copy_breach(state: &State) -> Option<RuleCause>
+fn copy_breach(state: &State) -> Option<VerifierCause>
     ensures { result ≡ first_failing (call_rules (state_of state.now) Helper.Copy) }
 {
     let (from, to, length) = (state.at(1), state.at(2), state.at(3));
     if !from.is_set() || !to.is_set() || !length.is_set() {
-        Some(RuleCause::UnsetRegister)
+        Some(VerifierCause::UnsetRegister)
     } else if !from.is_number() || !to.is_stack() || !length.has_length() {
-        Some(RuleCause::HelperArgument)
+        Some(VerifierCause::HelperArgument)
     } else if matches!(place_of(to, 0, length.words().low), Place::Outside) {
-        Some(RuleCause::OutsideRegion)
+        Some(VerifierCause::OutsideRegion)
     } else {
         None
     }
 }
 
 /// The first rule that a call with numbers in these registers breaks.
-fn argument_breach(are_set: bool, are_numbers: bool) -> Option<RuleCause>
-    ensures { result ≡ first_failing (check RuleCause.UnsetRegister are_set ∷ check RuleCause.HelperArgument are_numbers ∷ []) }
+fn argument_breach(are_set: bool, are_numbers: bool) -> Option<VerifierCause>
+    ensures { result ≡ first_failing (check VerifierCause.UnsetRegister are_set ∷ check VerifierCause.HelperArgument are_numbers ∷ []) }
 {
     if !are_set {
-        Some(RuleCause::UnsetRegister)
+        Some(VerifierCause::UnsetRegister)
     } else if !are_numbers {
-        Some(RuleCause::HelperArgument)
+        Some(VerifierCause::HelperArgument)
     } else {
         None
     }
@@ -217,7 +217,7 @@ fn argument_breach(are_set: bool, are_numbers: bool) -> Option<RuleCause>
 
 /// The first rule that a call of a helper breaks.
 #[tactic(auto, unfolding(crate::specs::Rules::call_rules))]
-fn call_breach(state: &State, helper: Helper) -> Option<RuleCause>
+fn call_breach(state: &State, helper: Helper) -> Option<VerifierCause>
     ensures { result ≡ first_failing (call_rules (state_of state.now) helper) }
 {
     let (first, other) = (state.at(1), state.at(2));
@@ -234,7 +234,7 @@ fn call_breach(state: &State, helper: Helper) -> Option<RuleCause>
 /// The first rule that an instruction breaks at a state, in the order of docs/VERIFIER.md, Rules at a
 /// slot.
 #[tactic(auto, unfolding(crate::specs::Rules::rules))]
-pub fn broken_rule(instr: &Instr, state: &State) -> Option<RuleCause>
+pub fn broken_rule(instr: &Instr, state: &State) -> Option<VerifierCause>
     ensures { result ≡ first_failing (rules (state_of state.now) instr.now) }
 {
     match instr {
@@ -302,7 +302,7 @@ pub fn broken_rule(instr: &Instr, state: &State) -> Option<RuleCause>
 }
 
 /// Whether the rules of an instruction hold at a state, or the first that is broken.
-pub fn check(instr: &Instr, state: &State) -> Result<(), RuleCause>
+pub fn check(instr: &Instr, state: &State) -> Result<(), VerifierCause>
     ensures kept { OnOk result (first_failing (rules (state_of state.now) instr.now) ≡ None) }
     ensures broken { IfErr result (λ cause. first_failing (rules (state_of state.now) instr.now) ≡ Some cause) }
 {

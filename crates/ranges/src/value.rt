@@ -131,7 +131,7 @@ impl Value {
     {
         match self {
             Value::Num(x) => x,
-            _ => Range::FULL,
+            _ => Range::full(),
         }
     }
 
