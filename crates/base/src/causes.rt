@@ -43,7 +43,7 @@ impl LogCause {
     }
 }
 
-/// Why a request is refused (docs/REPORT.md, Refusals).
+/// Why a request is refused (docs/REPORT.md, All refusals).
 #[derive(Clone, Copy, Debug, PartialEq, Eq, Error)]
 pub enum RequestCause {
     #[error("the log has too many crash images")]
@@ -165,7 +165,7 @@ impl VerifierCause {
     }
 }
 
-/// Why the work on a log was given up (docs/REPORT.md, Refusals).
+/// Why the work on a log was given up (docs/REPORT.md, All refusals).
 #[derive(Clone, Copy, Debug, PartialEq, Eq, Error)]
 pub enum WorkCause {
     #[error("a block was handed over twice")]

@@ -55,7 +55,7 @@ fn shown<'x>(
 }
 
 /// The bytes of the crash image of that number: its sectors one after the other (docs/REPORT.md,
-/// Command line). The programs' options are not asked for.
+/// Commands). The programs' options are not asked for.
 ///
 /// # Errors
 ///

@@ -10,7 +10,7 @@ use std::marker::Model;
 /// The length of a sector, in bytes.
 pub const SECTOR: usize = 512;
 
-/// An entry of a log (docs/LOG-FORMAT.md, Entries).
+/// An entry of a log (docs/LOG-FORMAT.md, Entry header).
 #[derive(Drop)]
 pub struct Entry {
     /// The first sector of the device that the entry covers.
