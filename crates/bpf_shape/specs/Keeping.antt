@@ -11,11 +11,14 @@ pub record IsBrokenAt (program : List (Option Instr)) (rule : VerifierCause) (f 
   pub code : f.code ≡ rule
   pub lowest : IsLowest program rule f.slot
 
--- all rules but two look at one slot
+-- the rules that look at one slot
 abbrev pub IsOfSlots : VerifierCause → Type 0
-IsOfSlots cause.Loop = ⊥
-IsOfSlots cause.Budget = ⊥
-IsOfSlots _ = Unit {0}
+IsOfSlots cause.Target = Unit {0}
+IsOfSlots cause.End = Unit {0}
+IsOfSlots cause.FramePointer = Unit {0}
+IsOfSlots cause.UnknownHelper = Unit {0}
+IsOfSlots cause.AgainForm = Unit {0}
+IsOfSlots _ = ⊥
 
 -- the rules that look at one slot hold; they come first
 pub record KeepsAll (program : List (Option Instr)) : Type 0 where

@@ -6,7 +6,8 @@ use base::causes::VerifierCause;
 use std::alloc::AllocError;
 use thiserror::Error;
 
-/// Why a program is refused, with the slot that is the cause; 0 where the budget or memory is.
+/// Why a program is refused, with the slot that is the cause, which is 0 for the budget and for
+/// want of memory.
 #[derive(Clone, Copy, Debug, PartialEq, Eq, Error)]
 #[error("slot {slot}: {code}")]
 pub struct Fault {

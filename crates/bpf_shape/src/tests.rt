@@ -212,10 +212,10 @@ fn refusals(rt: HostRuntime) -> Result<(), Fail> {
     Ok(())
 }
 
-/// `mov64 r1, 1048576; call 3; jne r0, 0, -3`, so many times `mov64 r0, 0`, then `exit`.
-fn long_program(alloc: Global, moves: usize) -> Result<Program, Fail> {
+/// `mov64 r1, K; call 3; jne r0, 0, -3`, so many times `mov64 r0, 0`, then `exit`.
+fn long_program(alloc: Global, turns: i32, moves: usize) -> Result<Program, Fail> {
     let mut slots: Vec<Slot> = Vec::new(alloc);
-    slots.extend_from_slice(&[(0xb7, 1, 0, 1_048_576), (0x85, 0, 0, 3), (0x55, 0, -3, 0)])?;
+    slots.extend_from_slice(&[(0xb7, 1, 0, turns), (0x85, 0, 0, 3), (0x55, 0, -3, 0)])?;
     for _ in 0..moves {
         slots.extend_from_slice(&[(0xb7, 0, 0, 0)])?;
     }
@@ -225,9 +225,13 @@ fn long_program(alloc: Global, moves: usize) -> Result<Program, Fail> {
 
 #[test]
 fn greatest_budget(rt: HostRuntime) -> Result<(), Fail> {
-    let program = long_program(rt.alloc(), 949)?;
+    let program = long_program(rt.alloc(), 1_048_576, 949)?;
     assert_eq!(rt; answer(rt.alloc(), &program), Ok(999_293_881));
-    let program = long_program(rt.alloc(), 950)?;
+    let program = long_program(rt.alloc(), 1_048_576, 950)?;
+    assert_eq!(rt; answer(rt.alloc(), &program), Err((45, 0)));
+    let program = long_program(rt.alloc(), 999_999, 996)?;
+    assert_eq!(rt; answer(rt.alloc(), &program), Ok(1_000_000_000));
+    let program = long_program(rt.alloc(), 999_000, 997)?;
     assert_eq!(rt; answer(rt.alloc(), &program), Err((45, 0)));
     Ok(())
 }
