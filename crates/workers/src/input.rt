@@ -139,7 +139,7 @@ impl<'a> Input<'a> {
         ensures value { result ≡ block_count self.now }
         ensures few { result ≤ 262144 }
     {
-        self.images.div_ceil(BLOCK) as u32
+        self.image_count().div_ceil(BLOCK) as u32
     }
 
     /// Appends the lines of an image.
