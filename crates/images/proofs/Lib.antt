@@ -6,3 +6,8 @@ pub mod Blank
 pub mod Fates
 pub mod Entries
 pub mod Members
+pub mod Differing
+pub mod Identity
+pub mod Shards
+pub mod Bases
+pub mod Telling

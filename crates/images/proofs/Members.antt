@@ -21,15 +21,16 @@ member_cut plan choice is =
 
 -- the parts of a view, as they are made
 pub shows_view : (log planned : LogValue) (cut : ℕ) (made own : List Departure) (image : List (List ℕ)) (sectors epoch marks : ℕ)
-    → IsLog log → planned ≡ log → image ≡ crash_image log.sectors log.entries cut made → own ≡ made
+    → IsLog log → planned ≡ log → cut ≤ length log.entries → image ≡ crash_image log.sectors log.entries cut made → own ≡ made
     → sectors ≡ log.sectors → epoch ≡ epoch_at planned.entries cut → marks ≡ marks_at planned.entries cut → epoch ≤ 65536 → marks ≤ 65536
     → IsView (record { log = log; cut = cut; departures = own }) image (record { sectors = sectors; epoch = epoch; marks = marks })
 unfolding sectors_of
-shows_view log planned cut made own image sectors epoch marks bounds same is departs size e m small few =
+shows_view log planned cut made own image sectors epoch marks bounds same within is departs size e m small few =
     let epochs : epoch ≡ epoch_at log.entries cut = e ∙ ap (λ (l : LogValue). epoch_at l.entries cut) same in
     let passed : marks ≡ marks_at log.entries cut = m ∙ ap (λ (l : LogValue). marks_at l.entries cut) same in
     record {
       bounds = bounds;
+      within = within;
       shown = is ∙ ap (crash_image log.sectors log.entries cut) (sym departs);
       told = λ i. record { sectors = size i; epoch = epochs i; marks = passed i };
       fits = record { epoch = small; marks = few };

@@ -1,13 +1,17 @@
--- Laws of crash images: what one more unit changes (docs/CRASH-MODEL.md, Crash image).
-use Rattle.std.specs.Prelude.{ℕ, ◌*◌, ◌≡◌, ◌≢◌, ◌<◌, true, false, List, [], ◌∷◌, ◌++◌, filter, take, drop, slice_index}
+-- Laws of crash images: what one more unit changes, and what a key tells (docs/CRASH-MODEL.md, Crash image, Keys of
+-- images).
+use Rattle.std.specs.Prelude.{ℕ, ◌*◌, ◌≡◌, ◌≢◌, ◌<◌, ◌↔◌, true, false, IsTrue, List, [], ◌∷◌, ◌++◌, filter, take, drop, replicate, slice_index, Some}
 use Rattle.logfmt.specs.declared.entry.Entry.{Entry}
 use Rattle.logfmt.specs.Bounds.{LogValue, IsLog}
 use Rattle.epochs.specs.declared.unit.Unit.{Unit as LogUnit}
-use Rattle.epochs.specs.Units.{unit_content}
+use Rattle.epochs.specs.Units.{unit_content, epoch_at}
 use Rattle.epochs.specs.Plan.{IsUnit}
 use Rattle.choices.specs.declared.fate.Fate.TheVariants as fate
 use Rattle.choices.specs.declared.choice.Departure.{Departure}
 use Rattle.images.specs.Images.{is_unit, writes, byte_after, sector_after}
+use Rattle.images.specs.Views.{ViewValue, sectors_of, context_at}
+use Rattle.images.specs.Keys.{KeyValue, base_of, key_of}
+use Rattle.images.specs.Equal.{same_key}
 
 -- a unit behind others: its own byte stands where it writes that byte, and else what the others leave
 pub record LastWriterShows : Type 0 where
@@ -34,3 +38,17 @@ pub record FatesShow : Type 0 where
       → sector_after log.entries (us ++ u ∷ []) ds u.sector ≡ take (64 * t) (unit_content log.entries u) ++ drop (64 * t) (sector_after log.entries us ds u.sector)
   pub elsewhere : (es : List Entry) (us : List LogUnit) (u : LogUnit) (ds : List Departure) (s : ℕ) → s ≢ u.sector
       → sector_after es (us ++ u ∷ []) ds s ≡ sector_after es us ds s
+
+-- cuts of one epoch have one base, and in epoch 0 it is zeros
+pub record EpochHasBase : Type 0 where
+  pub one : (log : LogValue) (j k : ℕ) → epoch_at log.entries j ≡ epoch_at log.entries k → base_of log j ≡ base_of log k
+  pub zeros : (log : LogValue) (k : ℕ) → epoch_at log.entries k ≡ 0 → base_of log k ≡ replicate log.sectors (replicate {A = ℕ} 512 0)
+
+-- two keys of one log are the same exactly where program, context and image are
+abbrev pub KeysTell : Type 0
+KeysTell = (a b : ViewValue) (p q : ℕ) (key other : KeyValue) → a.log ≡ b.log → key_of a p ≡ Some key → key_of b q ≡ Some other
+    → (key ≡ other) ↔ ((p ≡ q) × (context_at a.log a.cut ≡ context_at b.log b.cut) × (sectors_of a ≡ sectors_of b))
+
+-- `==` of keys answers whether they are the same
+abbrev pub EqualKeysAreSame : Type 0
+EqualKeysAreSame = (a b : KeyValue) → IsTrue (same_key a b) ↔ (a ≡ b)

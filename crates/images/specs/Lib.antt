@@ -2,4 +2,6 @@
 pub mod Images
 pub mod Views
 pub mod Whole
+pub mod Keys
+pub mod Equal
 pub mod Laws

@@ -1,6 +1,6 @@
 -- What a view shows: the crash image of a log at a cut with some departures, and its context
 -- (docs/CRASH-MODEL.md, Crash image, Context of an image).
-use Rattle.std.specs.Prelude.{ℕ, ◌≡◌, ◌≤◌, Bool, List, slice_get, Some}
+use Rattle.std.specs.Prelude.{ℕ, ◌≡◌, ◌≤◌, Bool, List, length, slice_get, Some}
 use Rattle.logfmt.specs.Bounds.{LogValue, IsLog}
 use Rattle.epochs.specs.Units.{epoch_at, marks_at}
 use Rattle.epochs.specs.Plan.{PlanValue}
@@ -41,6 +41,7 @@ pub record ContextFits (context : Context) : Type 0 where
 -- what a view keeps
 pub record IsView (view : ViewValue) (image : List (List ℕ)) (context : Context) : Type 0 where
   pub bounds : IsLog view.log
+  pub within : view.cut ≤ length view.log.entries
   pub shown : image ≡ sectors_of view
   pub told : context ≡ context_at view.log view.cut
   pub fits : ContextFits context

@@ -13,7 +13,7 @@ use logfmt::Log;
 use std::alloc::{AllocError, Global};
 
 /// The bytes of a sector.
-type Sector = [u8; 512];
+pub(crate) type Sector = [u8; 512];
 
 /// How many eighths a sector has.
 const WHOLE: u8 = 8;

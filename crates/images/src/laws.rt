@@ -1,6 +1,6 @@
 //! Laws of crash images. The functions do nothing; each contract is a theorem.
 
-ghost use Rattle.images.specs.Laws.{LastWriterShows, FatesShow};
+ghost use Rattle.images.specs.Laws.{LastWriterShows, FatesShow, EpochHasBase, KeysTell, EqualKeysAreSame};
 
 /// A byte of a crash image is that of the last unit that writes it: a unit that is laid over others
 /// shows its own byte where it reaches the device, and else what the others leave.
@@ -12,4 +12,20 @@ pub fn last_writer_shows()
 /// dropped, and where it is torn puts its head before the rest of what the others leave.
 pub fn fates_show()
     ensures { FatesShow }
+{}
+
+/// Cuts of one epoch have one base, and in epoch 0 it is zeros.
+pub fn epoch_has_base()
+    ensures { EpochHasBase }
+{}
+
+/// Two keys of one log are the same exactly where program, context and image are. So images of equal
+/// bytes at cuts of different epochs, or behind different numbers of marks, have different keys.
+pub fn keys_tell()
+    ensures { KeysTell }
+{}
+
+/// `==` of keys answers whether they are the same. So a map finds a key exactly where it has that key.
+pub fn equal_keys_are_same()
+    ensures { EqualKeysAreSame }
 {}

@@ -67,13 +67,16 @@
 //! ```
 #![tactic(auto)]
 
+mod changes;
 mod history;
 mod image;
+mod key;
 mod laws;
 #[cfg(test)]
 mod tests;
 mod view;
 
 pub use history::History;
-pub use laws::{fates_show, last_writer_shows};
+pub use key::{ChangedSector, Key};
+pub use laws::{epoch_has_base, equal_keys_are_same, fates_show, keys_tell, last_writer_shows};
 pub use view::View;

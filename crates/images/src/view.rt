@@ -1,11 +1,14 @@
 //! The view of a crash image.
 
-ghost use Rattle.std.specs.Prelude.{◌≡◌, ◌≤◌};
+ghost use Rattle.std.specs.Prelude.{◌≡◌, ◌≤◌, IfOk};
 
+use crate::changes::{base_of, changed_sectors};
+use crate::key::Key;
 use arrayvec::ArrayVec;
 use choices::Departure;
 use helpers::{Context, Device};
 use logfmt::Log;
+use std::alloc::{AllocError, Global};
 use std::marker::Model;
 
 /// A crash image as a device, with its context (docs/CRASH-MODEL.md).
@@ -32,6 +35,7 @@ impl<'a> Model for View<'a> {
 
 impl<'a> View<'a> {
     ghost use Rattle.images.specs.Views.{context_at};
+    ghost use Rattle.images.specs.Keys.{key_of};
 
     /// The context of the image: how many sectors the device has, the epoch of the cut, and how many
     /// marks stand before it.
@@ -42,6 +46,24 @@ impl<'a> View<'a> {
         ensures marks { result.marks ≤ 65536 }
     {
         self.context
+    }
+
+    /// The key of the image and of the program with that number: `None` where more than 64 sectors
+    /// differ from the base of the cut. The base is formed anew at each call, so a call takes the memory
+    /// of the device, and a copy of a sector for each unit that the last flush has made durable.
+    pub fn key(&self, alloc: Global, program: u8) -> Result<Option<Key>, AllocError>
+        ensures { IfOk result (λ key. key ≡ key_of self.now program) }
+    {
+        let base = base_of(alloc, self.log, self.cut)?;
+        match changed_sectors(alloc, base.as_slice(), self.image.as_slice())? {
+            Some(changed) => Ok(Some(Key {
+                program,
+                epoch: self.context.epoch,
+                marks: self.context.marks,
+                changed,
+            })),
+            None => Ok(None),
+        }
     }
 }
 

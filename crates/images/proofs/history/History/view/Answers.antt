@@ -1,4 +1,4 @@
-use Rattle.std.proofs.Common.{length, ◌∙◌, ap, sym, arith}
+use Rattle.std.proofs.Common.{◌≤◌, length, ◌∙◌, ap, sym, arith}
 use Rattle.logfmt.specs.Bounds.{LogValue}
 use Rattle.epochs.specs.Plan.{PlanValue}
 use Rattle.images.proofs.Members.{member_cut, shows_view}
@@ -21,6 +21,8 @@ marks-requires c =
 
 pub invariant_of-result : goal.invariant_of-result
 invariant_of-result c =
-    shows_view _ _ _ _ _ _ _ _ _ c.sectors.ensures.bounds c.self.invariant c.in_ok-image.ensures
+    let cut = member_cut _ _ c.requires in
+    let within : c.cut-cut.result ≤ length c.self.inside.log.now.entries = omega (arith, cut, c.cut-cut.ensures, ap (λ (p : PlanValue). length p.log.entries) c.self.view_is, ap (λ (l : LogValue). length l.entries) c.self.invariant) in
+    shows_view _ _ _ _ _ _ _ _ _ c.sectors.ensures.bounds c.self.invariant within c.in_ok-image.ensures
     (c.owned.ensures ∙ c.departures-2.ensures.value ∙ sym c.departures.ensures.value)
     c.sectors.ensures.value c.epoch.ensures.value c.marks.ensures.value c.epoch.ensures.bound c.marks.ensures.bound
