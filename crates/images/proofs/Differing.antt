@@ -1,14 +1,11 @@
 -- The sectors that differ from the base, one after the other.
-use Rattle.std.proofs.Common.{ℕ, suc, ◌≡◌, ◌≢◌, ◌+◌, ◌-◌, ◌<◌, ◌≤◌, nat_eq, Bool, true, false, not, cond, if◌then◌else◌, List, [], ◌∷◌, ◌++◌, length, map, filter, slice_get, slice_index_or, Some, refl, sym, ◌∙◌, ap, arith, inl, inr, add-one, length-append}
+use Rattle.std.proofs.Common.{ℕ, ◌≡◌, ◌≢◌, ◌+◌, ◌-◌, ◌<◌, ◌≤◌, nat_eq, Bool, true, false, not, cond, if◌then◌else◌, List, [], ◌∷◌, ◌++◌, length, map, filter, refl, sym, ◌∙◌, ap, arith, inl, inr, length-append}
 use Rattle.std.proofs.lemmas.Bool.{cases_lt}
 use Rattle.std.specs.List.{range_with_len}
-use Rattle.std.specs.Option.{option_map_or}
 use Rattle.std.specs.Cmp.Lexicographic.{pointwise}
 use Rattle.std.proofs.lemmas.List.{map-append, append-nil}
 use Rattle.std.proofs.lemmas.List.Elements.{filter-append}
 use Rattle.base.proofs.Lists.{range_with_len-more, range_with_len-append}
-use Rattle.logfmt.specs.declared.entry.Entry.{Entry}
-use Rattle.epochs.specs.Laws.{last_flush}
 use Rattle.images.specs.declared.key.ChangedSector.{ChangedSector}
 use Rattle.images.specs.Keys.{differs, with_content, content_at, changed_below}
 
@@ -57,7 +54,7 @@ pub too_many : (base image : List (List ℕ)) (n m found : ℕ) → true ≡ dif
     → found < length (changed_below base image m)
 too_many base image n m found flag lt is =
     let more = ap length (one_more_sector base image n ∙ ap (λ b. changed_below base image n ++ (if b then with_content image n ∷ [] else [])) (sym flag))
-        ∙ length-append (changed_below base image n) (with_content image n ∷ []) in
+    ∙ length-append (changed_below base image n) (with_content image n ∷ []) in
     let back : n + 1 + (m - (n + 1)) ≡ m = omega (arith, lt) in
     let rise = rises_by base image (n + 1) (m - (n + 1)) in
     let whole = ap (λ j. length (changed_below base image j)) back in

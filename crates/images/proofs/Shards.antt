@@ -1,5 +1,5 @@
 -- The shard of a key, from a sum that wraps.
-use Rattle.std.proofs.Common.{ℕ, ◌≡◌, ◌+◌, ◌*◌, ◌/◌, ◌%◌, ◌^◌, ◌≤◌, List, length, take, sum_by, sym, ◌∙◌, ap, arith}
+use Rattle.std.proofs.Common.{ℕ, ◌≡◌, ◌+◌, ◌%◌, ◌^◌, ◌≤◌, List, length, take, sum_by, ◌∙◌, ap, arith}
 use Rattle.std.proofs.lemmas.List.{take_all}
 use Rattle.lanes.specs.Sector.{mix}
 use Rattle.images.specs.declared.key.ChangedSector.{ChangedSector}

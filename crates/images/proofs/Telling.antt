@@ -1,6 +1,6 @@
 -- What a key tells: its changed sectors and the base give back the image.
-use Rattle.std.proofs.Common.{ℕ, zero, suc, ◌≡◌, ◌+◌, ◌<◌, ◌≤◌, ◌↔◌, nat_eq, nat_lt, ◌==◌, Bool, true, false, not, cond, if◌then◌else◌, List, [], ◌∷◌, length, map, filter, Some, None, refl, sym, ◌∙◌, ap, inl, inr, arith}
-use Rattle.std.specs.List.{slice_index_or, range_with_len}
+use Rattle.std.proofs.Common.{ℕ, zero, suc, ◌≡◌, ◌+◌, ◌<◌, ◌≤◌, nat_eq, nat_lt, ◌==◌, Bool, true, false, not, cond, if◌then◌else◌, List, [], ◌∷◌, length, map, filter, Some, None, refl, sym, ◌∙◌, ap, inl, inr, arith}
+use Rattle.std.specs.List.{range_with_len}
 use Rattle.std.specs.Cmp.Lexicographic.{pointwise, same_text}
 use Rattle.std.proofs.lemmas.Bool.{cases_lt, eq-eqb, ne_eqb}
 use Rattle.std.proofs.lemmas.List.{same_lists, get_or_default}
@@ -109,11 +109,12 @@ tells a b p q same is =
     let marks : marks_at a.log.entries a.cut ≡ marks_at b.log.entries b.cut = ap (λ (key : KeyValue). key.marks) is in
     let size : a.log.sectors ≡ b.log.sectors = ap (λ (log : LogValue). log.sectors) same in
     let listed : changed (base_of a.log a.cut) (sectors_of a) ≡ changed (base_of b.log b.cut) (sectors_of b) = ap (λ (key : KeyValue). key.changed) is in
-    let base = one_base_of a b same epoch in
-    (ap (λ (key : KeyValue). key.program) is,
-    λ i. record { sectors = size i; epoch = epoch i; marks = marks i },
-    images_told (base_of b.log b.cut) (sectors_of a) (sectors_of b) (length_view a ∙ size ∙ sym (length_view b))
-    (ap (λ durable. changed durable (sectors_of a)) (sym base) ∙ listed))
+    let base = one_base_of a b same epoch in (
+      ap (λ (key : KeyValue). key.program) is,
+      λ i. record { sectors = size i; epoch = epoch i; marks = marks i },
+      images_told (base_of b.log b.cut) (sectors_of a) (sectors_of b) (length_view a ∙ size ∙ sym (length_view b))
+          (ap (λ durable. changed durable (sectors_of a)) (sym base) ∙ listed),
+    )
 
 told_by : (a b : ViewValue) (p q : ℕ) → a.log ≡ b.log → p ≡ q → context_at a.log a.cut ≡ context_at b.log b.cut → sectors_of a ≡ sectors_of b
     → identity_of a p ≡ identity_of b q
@@ -127,6 +128,7 @@ told_by a b p q same program context image =
 pub keys_tell : KeysTell
 keys_tell a b p q key other same one two =
     let first = key_of_view a p key one in
-    let second = key_of_view b q other two in
-    (λ is. tells a b p q same (first ∙ is ∙ sym second),
-    λ all. sym first ∙ told_by a b p q same all.0 all.1 all.2 ∙ second)
+    let second = key_of_view b q other two in (
+      λ is. tells a b p q same (first ∙ is ∙ sym second),
+      λ all. sym first ∙ told_by a b p q same all.0 all.1 all.2 ∙ second,
+    )

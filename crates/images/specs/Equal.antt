@@ -39,12 +39,13 @@ sector_itself a = both (a.number == a.number) (pointwise nat_eq a.content a.cont
 -- equality of sectors is sameness
 pub sector_decides : (a b : ChangedSector) → Decides (same_sector a b) (a ≡ b)
 unfolding same_sector
-sector_decides a b =
-    (λ e.
-    let number : a.number ≡ b.number = (Decides-eqb a.number b.number).0 (first_so (a.number == b.number) (pointwise nat_eq a.content b.content) e) in
-    let content : a.content ≡ b.content = (same_content a.content b.content).0 (second_so (a.number == b.number) (pointwise nat_eq a.content b.content) e) in
-    λ i. record { number = number i; content = content i },
-    λ e. ap (same_sector a) (sym e) ∙ sector_itself a)
+sector_decides a b = (
+  λ e.
+      let number : a.number ≡ b.number = (Decides-eqb a.number b.number).0 (first_so (a.number == b.number) (pointwise nat_eq a.content b.content) e) in
+      let content : a.content ≡ b.content = (same_content a.content b.content).0 (second_so (a.number == b.number) (pointwise nat_eq a.content b.content) e) in
+      λ i. record { number = number i; content = content i },
+  λ e. ap (same_sector a) (sym e) ∙ sector_itself a,
+)
 
 key_itself : (a : KeyValue) → same_key a a ≡ true
 unfolding same_key
@@ -56,18 +57,19 @@ key_itself a =
 -- equality of keys is sameness
 pub key_decides : (a b : KeyValue) → Decides (same_key a b) (a ≡ b)
 unfolding same_key
-key_decides a b =
-    (λ e.
-    let rest = second_so (a.program == b.program) ((a.epoch == b.epoch) && ((a.marks == b.marks) && pointwise same_sector a.changed b.changed)) e in
-    let last = second_so (a.epoch == b.epoch) ((a.marks == b.marks) && pointwise same_sector a.changed b.changed) rest in
-    let program : a.program ≡ b.program =
-    (Decides-eqb a.program b.program).0 (first_so (a.program == b.program) ((a.epoch == b.epoch) && ((a.marks == b.marks) && pointwise same_sector a.changed b.changed)) e) in
-    let epoch : a.epoch ≡ b.epoch = (Decides-eqb a.epoch b.epoch).0 (first_so (a.epoch == b.epoch) ((a.marks == b.marks) && pointwise same_sector a.changed b.changed) rest) in
-    let marks : a.marks ≡ b.marks = (Decides-eqb a.marks b.marks).0 (first_so (a.marks == b.marks) (pointwise same_sector a.changed b.changed) last) in
-    let changed : a.changed ≡ b.changed =
-    (pointwise_decides sector_decides a.changed b.changed).0 (second_so (a.marks == b.marks) (pointwise same_sector a.changed b.changed) last) in
-    λ i. record { program = program i; epoch = epoch i; marks = marks i; changed = changed i },
-    λ e. ap (same_key a) (sym e) ∙ key_itself a)
+key_decides a b = (
+  λ e.
+      let rest = second_so (a.program == b.program) ((a.epoch == b.epoch) && ((a.marks == b.marks) && pointwise same_sector a.changed b.changed)) e in
+      let last = second_so (a.epoch == b.epoch) ((a.marks == b.marks) && pointwise same_sector a.changed b.changed) rest in
+      let program : a.program ≡ b.program =
+      (Decides-eqb a.program b.program).0 (first_so (a.program == b.program) ((a.epoch == b.epoch) && ((a.marks == b.marks) && pointwise same_sector a.changed b.changed)) e) in
+      let epoch : a.epoch ≡ b.epoch = (Decides-eqb a.epoch b.epoch).0 (first_so (a.epoch == b.epoch) ((a.marks == b.marks) && pointwise same_sector a.changed b.changed) rest) in
+      let marks : a.marks ≡ b.marks = (Decides-eqb a.marks b.marks).0 (first_so (a.marks == b.marks) (pointwise same_sector a.changed b.changed) last) in
+      let changed : a.changed ≡ b.changed =
+      (pointwise_decides sector_decides a.changed b.changed).0 (second_so (a.marks == b.marks) (pointwise same_sector a.changed b.changed) last) in
+      λ i. record { program = program i; epoch = epoch i; marks = marks i; changed = changed i },
+  λ e. ap (same_key a) (sym e) ∙ key_itself a,
+)
 
 -- a test of sameness is an equivalence
 equivalence : {K : Type 0} (E : K → K → Bool) → ((x y : K) → Decides (E x y) (x ≡ y)) → IsEquivalence E

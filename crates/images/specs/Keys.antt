@@ -1,6 +1,6 @@
 -- Keys of images (docs/CRASH-MODEL.md, Keys of images): a program, a context, and the sectors of an image that differ
 -- from what a flush has made durable.
-use Rattle.std.specs.Prelude.{ℕ, ◌+◌, ◌%◌, ◌==◌, nat_eq, nat_lt, Bool, not, ◌&&◌, if◌then◌else◌, List, [], length, map, filter, sum_by, Option, Some, None}
+use Rattle.std.specs.Prelude.{ℕ, ◌+◌, ◌%◌, nat_eq, nat_lt, Bool, not, if◌then◌else◌, List, [], length, map, filter, sum_by, Option, Some, None}
 use Rattle.std.specs.List.{slice_index_or, range_with_len}
 use Rattle.std.specs.Cmp.Lexicographic.{pointwise}
 use Rattle.lanes.specs.Sector.{mix}

@@ -1,4 +1,5 @@
-//! Crash images: what a crash leaves on the device, as devices that a checker can read.
+//! Crash images: what a crash leaves on the device, as devices that a checker can read, and keys by
+//! which equal images are known.
 //!
 //! A crash image is what the device holds after a crash at a cut of a log, where a choice says which
 //! of the last writes were lost or torn. Each byte of it is that of the last unit before the cut which
@@ -13,19 +14,29 @@
 //! A discard is a write of zeros, and can be dropped and torn as a write can. So the rest of a torn
 //! sector comes from an earlier write that reached the device, and that may be a torn one too.
 //!
+//! A key stands for an image together with the program that is run on it: it has the number of the
+//! program, the epoch of the cut and the marks before it, and the sectors of the image that differ from
+//! the base of the cut. The base is what the last flush before the cut has made durable: the image of
+//! all units of entries before that flush entry, zeros where there is none. An image of which more than
+//! 64 sectors differ has no key.
+//!
 //! | Call | Answer |
 //! |---|---|
 //! | `History::new(alloc, plan, log)` | the crash images of a log, of which a plan says the cuts |
 //! | `history.view(alloc, choice)` | the crash image of a choice |
 //! | `view.context()` | the number of sectors, the epoch of the cut, the marks before it |
 //! | `view.sectors()`, `view.sector(n)` | the image as a `helpers::Device` |
+//! | `view.key(alloc, program)` | the key of the image and a program, or `None` |
+//! | `key.program()`, `key.epoch()`, `key.marks()`, `key.changed()` | the parts of a key |
+//! | `key.shard()` | which of 16 shards has the key |
 //!
 //! # Place
 //!
 //! The fifth layer. It stands on `epochs` and `choices`, whose plan and choices it takes, on `logfmt`
-//! for the contents of the units, on `lanes` for torn sectors, and on `helpers`, whose trait `Device` a
-//! view implements. Programs are run on views. The rules are those of docs/CRASH-MODEL.md, 'Fates and
-//! choices', 'Crash image' and 'Context of an image'.
+//! for the contents of the units, on `lanes` to form torn sectors and to compare sectors, and on
+//! `helpers`, whose trait `Device` a view implements. Programs are run on views, and a cache of their
+//! outcomes goes by keys. The rules are those of docs/CRASH-MODEL.md, 'Fates and choices', 'Crash
+//! image', 'Context of an image' and 'Keys of images'.
 //!
 //! # What is proved
 //!
@@ -40,10 +51,21 @@
 //!   (`IsMember`, `specs/Views.antt`): such as `choices::nth` and `choices::next` give.
 //! - `View::context` is that of the cut: the log's number of sectors, its flush entries and its marks
 //!   before the cut, each at most 65,536.
-//! - Two laws stand over the definition (`specs/Laws.antt`): a byte is that of its last writer
-//!   (`last_writer_shows`), and what one more unit changes is the table above (`fates_show`).
+//! - `View::key` is `key_of` of the view and the program (`specs/Keys.antt`), which is none exactly where
+//!   more than 64 sectors differ from the base, and `Key::shard` is `shard_of`.
+//! - `==` of keys is `same_key` and a hash is fed `key_input` (`specs/Equal.antt`). Sectors are compared
+//!   byte by byte, and hashed by their mixes.
 //!
-//! Where memory is refused `view` answers `AllocError`. Nothing else is refused.
+//! These laws stand over the definitions (`specs/Laws.antt`):
+//!
+//! - A byte is that of its last writer (`last_writer_shows`), and what one more unit changes is the table
+//!   above (`fates_show`).
+//! - Cuts of one epoch have one base (`epoch_has_base`).
+//! - Two keys of one log are the same exactly where program, context and image are (`keys_tell`).
+//! - `==` answers whether two keys are the same (`equal_keys_are_same`), so a map finds a key exactly
+//!   where it has that key.
+//!
+//! Where memory is refused `view` and `key` answer `AllocError`. Nothing else is refused.
 //!
 //! # How it is written
 //!
@@ -51,6 +73,9 @@
 //! over them, entry after entry: a unit's sector becomes `lanes::splice` of its content and of what
 //! stands there, with as many eighths of the content as its departures keep, 8 for a whole unit. So a
 //! view takes the memory of the device, and a copy of a sector for each unit.
+//!
+//! `changes` forms the base by `image` too, anew for each key, and compares it with the image, sector by
+//! sector. So a key costs about as much as its view. `key` has the type and how it is compared.
 //!
 //! # Example
 //!
@@ -64,6 +89,8 @@
 //! let view = history.view(alloc, &nth(&plan, 1, true, 20))?;
 //! // the cut behind both, the second write torn behind its first eighth: bytes 0 to 63 of
 //! // view.sector(0) are 0x22, and bytes 64 to 511 are 0x11
+//! let key = view.key(alloc, 0)?;
+//! // there is no flush, so the base is zeros, and the key has one changed sector
 //! ```
 #![tactic(auto)]
 

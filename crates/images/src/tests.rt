@@ -2,13 +2,17 @@
 
 ghost use Rattle.std.specs.Prelude.{◌≡◌, ◌≤◌};
 
-use super::{History, View, fates_show, last_writer_shows};
+use super::{
+    History, Key, View, epoch_has_base, equal_keys_are_same, fates_show, keys_tell,
+    last_writer_shows,
+};
 use base::numbers::{put_u32, put_u64, put_zeros};
 use choices::{count, nth};
 use epochs::{Cuts, Plan};
 use helpers::{Context, Device};
 use logfmt::read;
 use std::alloc::{AllocError, Global};
+use std::collections::HashMap;
 use std::process::Abort;
 use std::test::Fail;
 
@@ -274,5 +278,184 @@ fn contexts_count_what_was_passed(rt: HostRuntime) -> Result<(), Fail> {
     }
     last_writer_shows();
     fates_show();
+    epoch_has_base();
+    keys_tell();
+    equal_keys_are_same();
+    Ok(())
+}
+
+/// The key of an image, without torn writes, and of a program.
+fn key_of(
+    alloc: Global,
+    plan: &Plan,
+    history: &History,
+    number: u64,
+    program: u8,
+) -> Result<Option<Key>, Fail>
+    requires history { history.now ≡ plan.now }
+{
+    if count(plan, 1, false).is_ok_and(|counted| number < counted) {
+        let choice = nth(plan, 1, false, number);
+        Ok(history.view(alloc, &choice)?.key(alloc, program)?)
+    } else {
+        Err("no such image".into())
+    }
+}
+
+/// An image, a program, and how many sectors the key of both has.
+type Told = (u64, u8, usize);
+
+/// Two of them, and whether their keys are equal.
+type Pair = (Told, Told, bool);
+
+fn told_key(
+    alloc: Global,
+    plan: &Plan,
+    history: &History,
+    told: Told,
+    rt: &impl Abort,
+) -> Result<Key, Fail>
+    requires history { history.now ≡ plan.now }
+{
+    let (number, program, changed) = told;
+    let Some(key) = key_of(alloc, plan, history, number, program)? else {
+        return Err("no key".into());
+    };
+    assert_eq!(rt; key.program(), program);
+    assert_eq!(rt; key.changed().len(), changed, "image {number}");
+    Ok(key)
+}
+
+fn check_pair(
+    rt: &impl Abort,
+    alloc: Global,
+    plan: &Plan,
+    history: &History,
+    pair: Pair,
+) -> Result<(), Fail>
+    requires history { history.now ≡ plan.now }
+{
+    let (first, second, same) = pair;
+    let one = told_key(alloc, plan, history, first, rt)?;
+    let other = told_key(alloc, plan, history, second, rt)?;
+    assert_eq!(rt; one == other, same, "images {} and {}", first.0, second.0);
+    let mut known = HashMap::new(alloc);
+    known.insert(one, first.0)?;
+    assert_eq!(rt; known.get(&other).copied(), same.then_some(first.0));
+    Ok(())
+}
+
+fn check_pairs(rt: &impl Abort, alloc: Global, items: &[Item], pairs: &[Pair]) -> Result<(), Fail> {
+    let text = text_of(alloc, items)?;
+    let log = read(alloc, &text, SECTORS)?;
+    let plan = Plan::new(alloc, &log, Cuts::All)?;
+    let history = History::new(alloc, &plan, &log)?;
+    for pair in pairs {
+        check_pair(rt, alloc, &plan, &history, *pair)?;
+    }
+    Ok(())
+}
+
+#[test]
+fn keys_tell_images(rt: HostRuntime) -> Result<(), Fail> {
+    // forced_write: image 0 is cut 0, 1 and 2 are cut 1, 3 and 4 are cut 2
+    check_pairs(
+        &rt,
+        rt.alloc(),
+        &[(0, 1, 0, 0x11), (0, 1, FUA, 0xbb)],
+        &[
+            ((0, 0, 0), (2, 0, 0), true),
+            ((3, 0, 1), (4, 0, 1), true),
+            ((0, 0, 0), (1, 0, 1), false),
+            ((1, 0, 1), (3, 0, 1), false),
+            // another program
+            ((3, 0, 1), (4, 1, 1), false),
+        ],
+    )?;
+    // a write of zeros
+    check_pairs(
+        &rt,
+        rt.alloc(),
+        &[(0, 1, 0, 0)],
+        &[((0, 0, 0), (1, 0, 0), true), ((1, 0, 0), (2, 0, 0), true)],
+    )?;
+    // marks
+    check_pairs(
+        &rt,
+        rt.alloc(),
+        &[(0, 0, MARK, 0)],
+        &[((0, 0, 0), (1, 0, 0), false)],
+    )?;
+    // flush_with_data: zeros in epoch 0 and in epoch 1
+    check_pairs(
+        &rt,
+        rt.alloc(),
+        &[(0, 1, FLUSH, 0x33)],
+        &[((0, 0, 0), (2, 0, 0), false), ((1, 0, 1), (2, 0, 0), false)],
+    )?;
+    // two_epochs: images 3 to 5 stand behind the flush, with 0xaa in their base
+    check_pairs(
+        &rt,
+        rt.alloc(),
+        &[(0, 1, 0, 0xaa), (0, 0, FLUSH, 0), (0, 1, 0, 0xbb)],
+        &[
+            ((1, 0, 1), (3, 0, 0), false),
+            ((3, 0, 0), (5, 0, 0), true),
+            ((4, 0, 1), (5, 0, 0), false),
+        ],
+    )?;
+    Ok(())
+}
+
+fn check_many(rt: &impl Abort, alloc: Global, written: u64) -> Result<Option<usize>, Fail> {
+    let text = text_of(alloc, &[(0, written, 0, 0xaa)])?;
+    let log = read(alloc, &text, 65)?;
+    let plan = Plan::new(alloc, &log, Cuts::All)?;
+    let history = History::new(alloc, &plan, &log)?;
+    let key = key_of(alloc, &plan, &history, 1, 0)?;
+    let Some(key) = key else {
+        return Ok(None);
+    };
+    assert_eq!(rt; key.epoch(), 0);
+    assert_eq!(rt; key.marks(), 0);
+    let mut number: u32 = 0;
+    let mut wanted: u8 = 0xaa;
+    for sector in key.changed() {
+        assert_eq!(rt; sector.number, number);
+        assert!(rt;
+            sector.content.iter().all(|byte| *byte == wanted),
+            "sector {number}"
+        );
+        number = number.wrapping_add(1);
+        wanted = wanted.wrapping_add(1);
+    }
+    Ok(Some(key.changed().len()))
+}
+
+#[test]
+fn key_has_64_sectors(rt: HostRuntime) -> Result<(), Fail> {
+    assert_eq!(rt; check_many(&rt, rt.alloc(), 64)?, Some(64));
+    assert_eq!(rt; check_many(&rt, rt.alloc(), 65)?, None);
+    Ok(())
+}
+
+/// The shard of the key at cut 1 of a log that writes sector 3, where one byte is 1.
+fn shard_of(alloc: Global, at: u16, program: u8) -> Result<Option<u8>, Fail> {
+    let mut text = text_of(alloc, &[(3, 1, 0, 0)])?;
+    if let Some(byte) = text.as_mut_slice().get_mut(1024 + usize::from(at)) {
+        *byte = 1;
+    }
+    let log = read(alloc, &text, SECTORS)?;
+    let plan = Plan::new(alloc, &log, Cuts::All)?;
+    let history = History::new(alloc, &plan, &log)?;
+    Ok(key_of(alloc, &plan, &history, 1, program)?.map(|key| key.shard()))
+}
+
+#[test]
+fn shards_sum_mixes(rt: HostRuntime) -> Result<(), Fail> {
+    // the mixes are 1, 16777619 and 1000003: docs/MACHINE.md, Mixing a sector
+    for (at, program, shard) in [(504, 0, 4), (496, 0, 6), (440, 0, 6), (504, 13, 1)] {
+        assert_eq!(rt; shard_of(rt.alloc(), at, program)?, Some(shard));
+    }
     Ok(())
 }

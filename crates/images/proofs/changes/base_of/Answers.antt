@@ -1,4 +1,4 @@
-use Rattle.std.proofs.Common.{ℕ, List, [], ◌≡◌, ◌∙◌, ap, subst}
+use Rattle.std.proofs.Common.{[], ◌≡◌, ◌∙◌, ap, subst}
 use Rattle.std.specs.Result.{IfOk}
 use Rattle.epochs.specs.Laws.{last_flush}
 use Rattle.images.specs.Images.{crash_image}

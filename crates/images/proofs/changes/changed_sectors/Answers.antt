@@ -1,5 +1,5 @@
-use Rattle.std.proofs.Common.{rules, ◌≡◌, ◌≤◌, ◌+◌, ◌++◌, ◌∷◌, [], length, sym, ◌∙◌, ap, arith}
-use Rattle.images.specs.Keys.{changed_below, with_content}
+use Rattle.std.proofs.Common.{rules, ◌≡◌, ◌++◌, ◌∷◌, [], length, sym, ◌∙◌, ap, arith}
+use Rattle.images.specs.Keys.{with_content}
 use Rattle.images.proofs.Differing.{no_sector, changed_here, same_here, too_many, one_more_fits}
 use Rattle.images.proofs.changes.changed_sectors.Goals as goal
 use Rattle.images.proofs.changes.changed_sectors.Goals.{then-differs+else-len-eq-MOST_CHANGED+in_ok-push, else-differs}
@@ -22,7 +22,7 @@ loop-number-preserved c =
     elim c.if-differs.branch [
       | then-differs+else-len-eq-MOST_CHANGED+in_ok-push w ↦
           let items = w.in_ok-push.ensures.items ∙ ap (λ xs. xs ++ with_content image n ∷ []) before.0
-              ∙ changed_here base image n (sym w.if-differs.true ∙ c.differs.ensures) in
+          ∙ changed_here base image n (sym w.if-differs.true ∙ c.differs.ensures) in
           let long : w.len.result ≡ length c.loop-number.sectors.items = search rules in
           let room = one_more_fits c.loop-number.sectors.items _ _ w.len.result w.in_ok-push.ensures.items before.1 long w.if-len-eq-MOST_CHANGED.false in
           rw w.sectors-is (items, room)

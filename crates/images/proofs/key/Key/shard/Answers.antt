@@ -1,6 +1,5 @@
-use Rattle.std.proofs.Common.{◌≡◌, ◌+◌, ◌%◌, ◌^◌, take, sum_by, ◌∙◌, ap, sym}
-use Rattle.lanes.specs.Sector.{mix}
-use Rattle.images.specs.Keys.{KeyValue, shard_of}
+use Rattle.std.proofs.Common.{◌∙◌, ap}
+use Rattle.images.specs.Keys.{KeyValue}
 use Rattle.images.proofs.Shards.{sum_of_all}
 use Rattle.images.proofs.key.Key.shard.Goals as goal
 

@@ -1,8 +1,8 @@
-use Rattle.std.proofs.Common.{◌≡◌, ◌≤◌, ◌<◌, length, refl, sym, subst, ◌∙◌, ap, arith}
+use Rattle.std.proofs.Common.{◌≡◌, ◌≤◌, ◌<◌, length, sym, subst, ◌∙◌, ap, arith}
 use Rattle.std.specs.Option.{MatchOption}
-use Rattle.images.specs.Views.{ViewValue, sectors_of}
+use Rattle.images.specs.Views.{ViewValue}
 use Rattle.images.specs.Whole.{length_view}
-use Rattle.images.specs.Keys.{base_of, changed, key_of, most_changed}
+use Rattle.images.specs.Keys.{changed, key_of, most_changed}
 use Rattle.images.proofs.Identity.{length-base_of, has_key, no_key}
 use Rattle.images.proofs.view.View.key.Goals as goal
 
@@ -23,7 +23,7 @@ returns-in-Some c =
     let image = c.as_slice-2.result.now in
     let found =
     subst (λ o. MatchOption o (most_changed < length (changed base image)) (λ sectors. (sectors.items ≡ changed base image) × (length sectors.items ≤ most_changed)))
-        c.in-Some.is c.in_ok-changed.ensures in
+    c.in-Some.is c.in_ok-changed.ensures in
     has_key _ c.args.program c.self.inside.context base image _ c.self.invariant.told
     (c.as_slice.ensures.value ∙ c.in_ok-base.ensures) (c.as_slice-2.ensures.value ∙ c.self.invariant.shown) found.0 found.1
     ∙ ap (λ (v : ViewValue). key_of v c.args.program) c.self.view_is
@@ -34,6 +34,6 @@ returns c =
     let image = c.as_slice-2.result.now in
     let many =
     subst (λ o. MatchOption o (most_changed < length (changed base image)) (λ sectors. (sectors.items ≡ changed base image) × (length sectors.items ≤ most_changed)))
-        c.in-None.is c.in_ok-changed.ensures in
+    c.in-None.is c.in_ok-changed.ensures in
     no_key _ c.args.program base image (c.as_slice.ensures.value ∙ c.in_ok-base.ensures) (c.as_slice-2.ensures.value ∙ c.self.invariant.shown) many
     ∙ ap (λ (v : ViewValue). key_of v c.args.program) c.self.view_is
