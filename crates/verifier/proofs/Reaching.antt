@@ -1,0 +1,100 @@
+-- What a slot passes on are states, at slots of the program.
+use Rattle.std.proofs.Common.{◌≡◌, ◌<◌, ◌^◌, ◌≤◌, ℕ, zero, suc, Bool, true, false, if◌then◌else◌, List, [], ◌∷◌, ◌++◌, length, map, flat_map, slice_get, get_or, Option, Some, None, refl, sym, ◌∙◌, ap, inl, inr, arith}
+use Rattle.std.specs.Option.{option_map, option_map_or, option_and_then, option_to_list}
+use Rattle.bpf_isa.specs.declared.instr.Instr.{Instr}
+use Rattle.bpf_isa.specs.declared.instr.Instr.TheVariants as instr
+use Rattle.bpf_isa.specs.Spelling.{IsInRange, second_of}
+use Rattle.bpf_isa.specs.Program.{entry, halves, slots_of, AllInRange, IsProgram}
+use Rattle.bpf_shape.specs.Edges.{at, edges_of, control}
+use Rattle.bpf_shape.specs.Paths.{Leads}
+use Rattle.bpf_shape.specs.Rules.{IsShaped}
+use Rattle.bpf_shape.specs.Keeping.{KeepsAll}
+use Rattle.bpf_shape.specs.Again.{heads}
+use Rattle.bpf_shape.proofs.Kept.{control_fits, at_past}
+use Rattle.ranges.specs.States.{Abstract, round_state}
+use Rattle.ranges.specs.Passing.{passes, edge_of}
+use Rattle.ranges.specs.Order.{IsState, Each, Holds}
+use Rattle.ranges.proofs.Fitting.{round_state_fits}
+use Rattle.ranges.proofs.Keeping.{after_fits, edge_fits}
+use Rattle.verifier.specs.Tables.{state_at, arriving, arrival, passed_on, rule_at, sent_from}
+use Rattle.verifier.specs.Passing.{next_state, along, AreStates, Arrive}
+use Rattle.verifier.proofs.Edges.{by_edges}
+
+pub each_append : {X : Type 0} (P : X → Type 0) (xs ys : List X) → Each P xs → Each P ys → Each P (xs ++ ys)
+each_append P [] ys a b = b
+each_append P (x ∷ xs) ys a b = (a.0, each_append P xs ys a.1 b)
+
+pub each_left : {X : Type 0} (P : X → Type 0) (xs ys : List X) → Each P (xs ++ ys) → Each P xs
+each_left P [] ys a = tt
+each_left P (x ∷ xs) ys a = (a.0, each_left P xs ys a.1)
+
+pub each_right : {X : Type 0} (P : X → Type 0) (xs ys : List X) → Each P (xs ++ ys) → Each P ys
+each_right P [] ys a = a
+each_right P (x ∷ xs) ys a = each_right P xs ys a.1
+
+-- the instructions of a program are in range
+
+each_mapped : {X : Type 0} (f : X → Option Instr) → ((x : X) → Holds IsInRange (f x)) → (xs : List X) → Each (Holds IsInRange) (map f xs)
+each_mapped f h [] = tt
+each_mapped f h (x ∷ xs) = (h x, each_mapped f h xs)
+
+all_in_range : (instrs : List Instr) → AllInRange instrs → Each (Holds IsInRange) (slots_of instrs)
+all_in_range [] a = tt
+all_in_range (i ∷ rest) a = (a.0, each_append (Holds IsInRange) (halves i) (slots_of rest) (each_mapped (λ _. None) (λ _. tt) (second_of i)) (all_in_range rest a.1))
+
+found : {X : Type 0} (P : X → Type 0) (xs : List (Option X)) (k : ℕ) (x : X) → Each (Holds P) xs → option_and_then (λ i. i) (slice_get xs k) ≡ Some x → P x
+found P [] k x a e = absurd (let bad : None ≡ Some x = e in cc)
+found P (None ∷ ys) zero x a e = absurd (let bad : None ≡ Some x = e in cc)
+found P (Some y ∷ ys) zero x a e = let same : y ≡ x = (let f : Some y ≡ Some x = e in cc) in rw same at a.0
+found P (y ∷ ys) (suc k) x a e = found P ys k x a.1 e
+
+pub in_range : (program : List (Option Instr)) (slot : ℕ) (i : Instr) → IsProgram program → at program slot ≡ Some i → IsInRange i
+in_range program slot i h e =
+    let all : Each (Holds IsInRange) program = rw h.whole.listed (all_in_range h.whole.instrs h.whole.ranges) in
+    found IsInRange program slot i all e
+
+-- what arrives along an edge
+
+arriving_fits : (b : Bool) (s : Abstract) → IsState s → IsState (if b then round_state s else s)
+arriving_fits true s a = round_state_fits s a
+arriving_fits false s a = a
+
+along_fits : (n : ℕ) (marks : List Bool) (edge : Option ℕ) (m : Option Abstract) → ((t : ℕ) → edge ≡ Some t → t < n) → Holds IsState m
+    → Arrive n (option_to_list (along marks edge m))
+along_fits n marks None m inside h = tt
+along_fits n marks (Some slot) None inside h = tt
+along_fits n marks (Some slot) (Some s) inside h = ((inside slot refl, arriving_fits (get_or marks slot false) s h), tt)
+
+next_fits : (sectors : ℕ) (s : Abstract) (i : Instr) → sectors < 2 ^ 64 → IsInRange i → IsState s → Holds IsState (next_state sectors s i)
+unfolding next_state
+next_fits sectors s (instr.Branch w c dst from distance) few r a = edge_fits s (instr.Branch w c dst from distance) false r a
+next_fits sectors s i few r a = after_fits sectors s i few r a
+
+keeps_all : (program : List (Option Instr)) → IsShaped program → KeepsAll program
+keeps_all program h = record { targets = h.targets; ends = h.ends; frame_pointer = h.frame_pointer; helpers = h.helpers; again = h.again }
+
+passed_fits : (n sectors slot : ℕ) (marks : List Bool) (s : Abstract) (i : Instr) → sectors < 2 ^ 64 → IsInRange i → IsState s
+    → ((t : ℕ) → Leads (edges_of slot i) t → t < n) → Arrive n (map (arrival marks) (passes sectors s slot i))
+passed_fits n sectors slot marks s i few r a inside =
+    rw (← by_edges marks sectors slot s i)
+    (each_append (λ p. (p.0 < n) × IsState p.1) _ _
+    (along_fits n marks (edges_of slot i).next (next_state sectors s i) (λ t e. inside t (inl e)) (next_fits sectors s i few r a))
+    (along_fits n marks (edges_of slot i).target (edge_of s i true) (λ t e. inside t (inr e)) (edge_fits s i true r a)))
+
+pub sent_fits : (program : List (Option Instr)) (sectors : ℕ) (table : List (Option Abstract)) (slot : ℕ) → sectors < 2 ^ 64 → IsProgram program → IsShaped program → AreStates table
+    → Arrive (length program) (sent_from program sectors table slot)
+unfolding sent_from control
+sent_fits program sectors table slot few p h states = cases (at program slot) (state_at table slot) refl (states slot)
+  where
+    cases : (i : Option Instr) (s : Option Abstract) → at program slot ≡ i → Holds IsState s → Arrive (length program) (passed_on (heads program) sectors slot i s)
+    cases None s e a = tt
+    cases (Some i) None e a = tt
+    cases (Some i) (Some s) e a =
+        passed_fits (length program) sectors slot (heads program) s i few (in_range program slot i p e) a
+        (λ t leads. let there : Leads (control program slot) t = rw e leads in control_fits program (keeps_all program h) slot t there)
+
+-- past the end there is nothing
+pub nothing_past : (program : List (Option Instr)) (sectors : ℕ) (table : List (Option Abstract)) (slot : ℕ) → length program ≤ slot
+    → (rule_at program table slot ≡ None) × (sent_from program sectors table slot ≡ [])
+unfolding rule_at sent_from
+nothing_past program sectors table slot past = (rw (at_past program slot past) refl, rw (at_past program slot past) refl)

@@ -1,0 +1,151 @@
+-- The tables of the rounds, and what holds where a round changes nothing.
+use Rattle.std.proofs.Common.{◌≡◌, ◌<◌, ◌^◌, ◌≤◌, ◌+◌, ℕ, zero, suc, Bool, true, false, if◌then◌else◌, is_some, List, [], ◌∷◌, ◌++◌, append-nil, length, replicate, flat_map, get_or, Option, Some, None, refl, sym, ◌∙◌, ap, inl, inr, arith}
+use Rattle.std.specs.Prelude.{set}
+use Rattle.std.specs.List.{fold, range_with_len}
+use Rattle.std.proofs.lemmas.Bool.{cases_eq, cases_lt}
+use Rattle.std.proofs.lemmas.List.{length-set, get_or-set_same, get_or-set_other, length-replicate, get_or_past}
+use Rattle.std.proofs.lemmas.List.Concat.{flat_map-cons}
+use Rattle.std.proofs.lemmas.Grind.{flat_map-append}
+use Rattle.base.proofs.Lists.{range_with_len-more}
+use Rattle.base.specs.declared.causes.VerifierCause.{VerifierCause}
+use Rattle.bpf_isa.specs.declared.instr.Instr.{Instr}
+use Rattle.bpf_isa.specs.Program.{IsProgram}
+use Rattle.bpf_shape.specs.Rules.{IsShaped}
+use Rattle.ranges.specs.States.{Abstract, start}
+use Rattle.ranges.specs.Order.{IsState, Each, Holds}
+use Rattle.ranges.proofs.Fitting.{start_fits}
+use Rattle.verifier.specs.Tables.{state_at, Covers, CoversAll, rule_at, sent_from}
+use Rattle.verifier.specs.Good.{IsGoodAt, IsGood}
+use Rattle.verifier.specs.Breaches.{KeepsRules}
+use Rattle.verifier.specs.Rounds.{receive, passed_by, passed, round_of, first_table, rounds, IsSame, IsSettled}
+use Rattle.verifier.specs.Passing.{AreStates, Arrive, IsRound, Arrived}
+use Rattle.verifier.specs.Laws.{SettledIsGood}
+use Rattle.verifier.proofs.Chains.{contains_self}
+use Rattle.verifier.proofs.Arriving.{all_long, all_fit, all_keep, same_covers}
+use Rattle.verifier.proofs.Reaching.{each_append, each_left, each_right, sent_fits, nothing_past}
+
+-- what holds of what all slots pass on holds of what each does, and the other way round
+
+each_of_range : {X : Type 0} (P : X → Type 0) (f : ℕ → List X) (a n k : ℕ) → a ≤ k → k < a + n → Each P (flat_map f (range_with_len a n)) → Each P (f k)
+each_of_range P f a zero k least most h = absurd (let bad : k < k = omega (arith, least, most) in omega (arith, bad))
+each_of_range P f a (suc n) k least most h =
+    let parts : Each P (f a ++ flat_map f (range_with_len (a + 1) n)) = rw (flat_map-cons f a (range_with_len (a + 1) n)) at h in
+    elim (cases_eq a k) [
+      | inl same ↦ rw (← same) (each_left P (f a) (flat_map f (range_with_len (a + 1) n)) parts)
+      | inr other ↦
+          each_of_range P f (a + 1) n k (omega (arith, least, other)) (omega (arith, most)) (each_right P (f a) (flat_map f (range_with_len (a + 1) n)) parts)
+    ]
+
+each_in_range : {X : Type 0} (P : X → Type 0) (f : ℕ → List X) (a n : ℕ) → ((k : ℕ) → Each P (f k)) → Each P (flat_map f (range_with_len a n))
+each_in_range P f a zero h = tt
+each_in_range P f a (suc n) h =
+    rw (flat_map-cons f a (range_with_len (a + 1) n)) (each_append P (f a) (flat_map f (range_with_len (a + 1) n)) (h a) (each_in_range P f (a + 1) n h))
+
+-- what the slots up to one pass on, and what that one does
+flat_map_one : {X : Type 0} (f : ℕ → List X) (n : ℕ) → flat_map f (n ∷ []) ≡ f n
+flat_map_one f n = flat_map-cons f n [] ∙ append-nil (f n)
+
+pub one_slot_more : {X : Type 0} (f : ℕ → List X) (n : ℕ) (xs : List X) → xs ≡ flat_map f (range_with_len 0 n) → xs ++ f n ≡ flat_map f (range_with_len 0 (n + 1))
+one_slot_more f n xs e =
+    let zero_plus : 0 + n ≡ n = omega arith in
+    let one : flat_map f (n ∷ []) ≡ f n = flat_map_one f n in
+    rw (range_with_len-more 0 n, zero_plus, flat_map-append f (range_with_len 0 n) (n ∷ []), one, e) refl
+
+pub passed_fits : (program : List (Option Instr)) (sectors : ℕ) (table : List (Option Abstract)) → sectors < 2 ^ 64 → IsProgram program → IsShaped program → AreStates table
+    → Arrive (length program) (passed program sectors table)
+unfolding passed
+passed_fits program sectors table few p h states =
+    each_in_range (λ q. (q.0 < length program) × IsState q.1) (passed_by program sectors table) 0 (length program)
+    (λ slot. pick (is_some (rule_at program table slot)) slot)
+  where
+    pick : (b : Bool) (slot : ℕ) → Arrive (length program) (if b then [] else sent_from program sectors table slot)
+    pick true slot = tt
+    pick false slot = sent_fits program sectors table slot few p h states
+
+-- the tables of the rounds are of states, as long as the program, and have the start in slot 0
+
+pub first_long : (n : ℕ) → length (first_table n) ≡ n
+unfolding first_table
+first_long n = length-set (replicate {A = Option Abstract} n None) 0 (Some start) ∙ length-replicate {A = Option Abstract} n None
+
+no_state : (n slot : ℕ) → state_at (replicate {A = Option Abstract} n None) slot ≡ None
+no_state zero slot = refl
+no_state (suc n) zero = refl
+no_state (suc n) (suc slot) = no_state n slot
+
+first_fits : (n : ℕ) → AreStates (first_table n)
+unfolding first_table
+first_fits zero slot = tt
+first_fits (suc n) zero = start_fits
+first_fits (suc n) (suc slot) = rw (no_state n slot) tt
+
+first_starts : (n : ℕ) → 0 < n → Covers (state_at (first_table n) 0) start
+unfolding first_table
+first_starts zero some = absurd (omega (arith, some))
+first_starts (suc n) some = contains_self start start_fits
+
+pub next_round : (program : List (Option Instr)) (sectors : ℕ) (table : List (Option Abstract)) → sectors < 2 ^ 64 → IsProgram program → IsShaped program
+    → IsRound (length program) table → IsRound (length program) (round_of program sectors table)
+unfolding round_of
+next_round program sectors table few p h r =
+    let arrive : Arrive (length table) (passed program sectors table) = rw r.long (passed_fits program sectors table few p h r.states) in
+    record {
+      long = all_long table (passed program sectors table) ∙ r.long;
+      states = all_fit table (passed program sectors table) r.states arrive;
+      starts = all_keep table (passed program sectors table) 0 start r.states arrive start_fits r.starts;
+    }
+
+pub each_round : (program : List (Option Instr)) (sectors : ℕ) (turns : ℕ) → sectors < 2 ^ 64 → IsProgram program → IsShaped program
+    → IsRound (length program) (rounds program sectors turns)
+each_round program sectors zero few p h =
+    record { long = first_long (length program); states = first_fits (length program); starts = first_starts (length program) p.count.some }
+each_round program sectors (suc n) few p h = next_round program sectors (rounds program sectors n) few p h (each_round program sectors n few p h)
+
+-- where a round changes nothing, all that is passed on is covered
+
+pub settled_covers : (program : List (Option Instr)) (sectors : ℕ) (table : List (Option Abstract)) → sectors < 2 ^ 64 → IsProgram program → IsShaped program
+    → IsRound (length program) table → IsSame program sectors table → CoversAll table (passed program sectors table)
+unfolding round_of
+settled_covers program sectors table few p h r same =
+    let arrive : Arrive (length table) (passed program sectors table) = rw r.long (passed_fits program sectors table few p h r.states) in
+    same_covers table (passed program sectors table) r.states arrive same
+
+-- a round by what arrived
+
+pub made_round : (program : List (Option Instr)) (sectors : ℕ) (table new : List (Option Abstract)) (arrivals : List (ℕ × Abstract)) (more : Bool)
+    → arrivals ≡ passed program sectors table → Arrived table arrivals new more → new ≡ round_of program sectors table
+unfolding round_of
+made_round program sectors table new arrivals more e a = a.table ∙ ap (λ ps. fold receive table ps) e
+
+pub round_changes : (program : List (Option Instr)) (sectors : ℕ) (table new : List (Option Abstract)) (arrivals : List (ℕ × Abstract)) (more : Bool)
+    → sectors < 2 ^ 64 → IsProgram program → IsShaped program → IsRound (length program) table
+    → arrivals ≡ passed program sectors table → Arrived table arrivals new more → more ≡ true → IsSame program sectors table → ⊥
+round_changes program sectors table new arrivals more few p h r e a t same =
+    a.left_out t (rw e (settled_covers program sectors table few p h r same))
+
+slot_covers : (program : List (Option Instr)) (sectors : ℕ) (table : List (Option Abstract)) (slot : ℕ) → slot < length program
+    → CoversAll table (passed program sectors table) → CoversAll table (passed_by program sectors table slot)
+unfolding passed
+slot_covers program sectors table slot inside h =
+    each_of_range (λ q. Covers (state_at table q.0) q.1) (passed_by program sectors table) 0 (length program) slot (omega arith) (omega (arith, inside)) h
+
+pub good_past : (program : List (Option Instr)) (sectors : ℕ) (table : List (Option Abstract)) (slot : ℕ) → length program ≤ slot → IsGoodAt program sectors table slot
+good_past program sectors table slot past =
+    let none = nothing_past program sectors table slot past in
+    record { rules = none.0; edges = rw none.1 tt }
+
+pub settled_is_good : SettledIsGood
+settled_is_good program sectors table few p h s kept =
+    let round : IsRound (length program) table = rw s.is (each_round program sectors s.turns few p h) in
+    let covered = settled_covers program sectors table few p h round s.same in
+    record {
+      long = round.long;
+      start = round.starts;
+      slots = λ slot. elim (cases_lt slot (length program)) [
+        | inl inside ↦
+            let part = slot_covers program sectors table slot inside covered in
+            let here : CoversAll table (sent_from program sectors table slot) = rw (kept slot) at part in
+            record { rules = kept slot; edges = here }
+        | inr past ↦ good_past program sectors table slot past
+      ];
+    }

@@ -1,0 +1,27 @@
+-- Tables of states as contracts see them.
+use Rattle.std.proofs.Common.{◌≡◌, ℕ, zero, suc, List, [], ◌∷◌, map, replicate, Option, Some, None, refl, ◌∙◌, ap}
+use Rattle.std.specs.Prelude.{set}
+use Rattle.std.specs.Option.{option_map}
+use Rattle.ranges.specs.declared.state.State.{State}
+use Rattle.ranges.specs.States.{Abstract, start}
+use Rattle.ranges.specs.SeenStates.{state_of}
+use Rattle.ranges.proofs.Arrays.{mapped_set}
+use Rattle.verifier.specs.Tables.{state_at}
+use Rattle.verifier.specs.Seen.{table_of}
+use Rattle.verifier.specs.Rounds.{joined, receive, first_table}
+
+pub table_set : (states : List (Option State)) (slot : ℕ) (s : State) → table_of (set states slot (Some s)) ≡ set (table_of states) slot (Some (state_of s))
+table_set states slot s = mapped_set (option_map state_of) states slot (Some s)
+
+nothing_known : (slots : ℕ) → table_of (replicate {A = Option State} slots None) ≡ replicate {A = Option Abstract} slots None
+nothing_known zero = refl
+nothing_known (suc n) = ap (λ t. None ∷ t) (nothing_known n)
+
+pub first_is : (slots : ℕ) (states : List (Option State)) → states ≡ replicate {A = Option State} slots None → set (table_of states) 0 (Some start) ≡ first_table slots
+unfolding first_table
+first_is slots states e = rw (e, nothing_known slots) refl
+
+-- a state arrives at a slot
+pub received : (states : List (Option State)) (table : List (Option Abstract)) (slot : ℕ) (s known : State) → table_of states ≡ table
+    → state_of known ≡ joined (state_at table slot) (state_of s) → table_of (set states slot (Some known)) ≡ receive table (slot, state_of s)
+received states table slot s known e k = table_set states slot known ∙ rw (e, k) refl

@@ -1,0 +1,6 @@
+use Rattle.std.proofs.Common.{◌≡◌, ◌<◌, ℕ, None}
+use Rattle.verifier.specs.Good.{IsGoodAt}
+use Rattle.verifier.proofs.check.check_slots.Given as goal
+
+abbrev pub invariant-loop-slot : goal.invariant-loop-slot
+invariant-loop-slot l = (s : ℕ) → s < l.slot → IsGoodAt l.program l.sectors l.table s

@@ -1,0 +1,9 @@
+use Rattle.std.proofs.Common.{◌≡◌}
+use Rattle.ranges.specs.SeenStates.{state_of}
+use Rattle.verifier.proofs.Edges.{by_edges}
+use Rattle.verifier.proofs.passing.passed_on.Goals as goal
+
+pub returns : goal.returns
+returns c =
+    rw (c.along.ensures, c.along-2.ensures, c.next_state.ensures, c.branch-instr.ensures, c.edges_of-edges.ensures)
+    (by_edges c.args.shape.now.heads c.args.sectors c.args.slot (state_of c.args.state.now) c.args.instr.now)

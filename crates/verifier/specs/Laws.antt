@@ -1,0 +1,25 @@
+-- What holds of tables.
+use Rattle.std.specs.Prelude.{◌≡◌, ◌<◌, ◌^◌, ℕ, List, Option}
+use Rattle.base.specs.declared.causes.VerifierCause.{VerifierCause}
+use Rattle.bpf_isa.specs.declared.instr.Instr.{Instr}
+use Rattle.bpf_isa.specs.Program.{IsProgram}
+use Rattle.bpf_shape.specs.Rules.{IsShaped}
+use Rattle.ranges.specs.States.{Abstract}
+use Rattle.verifier.specs.Good.{IsGood}
+use Rattle.verifier.specs.Breaches.{FirstBreach, KeepsRules}
+use Rattle.verifier.specs.Rounds.{IsSettled}
+
+-- a good table has no first breach
+abbrev pub GoodHasNoBreach : Type 0
+GoodHasNoBreach = (program : List (Option Instr)) (sectors : ℕ) (table : List (Option Abstract)) (c : VerifierCause) (slot : ℕ)
+    → IsGood program sectors table → FirstBreach program sectors table c slot → ⊥
+
+-- a table has one first breach at most
+abbrev pub OneBreach : Type 0
+OneBreach = (program : List (Option Instr)) (sectors : ℕ) (table : List (Option Abstract)) (c d : VerifierCause) (s t : ℕ)
+    → FirstBreach program sectors table c s → FirstBreach program sectors table d t → (c ≡ d) × (s ≡ t)
+
+-- a settled table on which each slot keeps its rules is good
+abbrev pub SettledIsGood : Type 0
+SettledIsGood = (program : List (Option Instr)) (sectors : ℕ) (table : List (Option Abstract)) → sectors < 2 ^ 64 → IsProgram program → IsShaped program
+    → IsSettled program sectors table → KeepsRules program table → IsGood program sectors table

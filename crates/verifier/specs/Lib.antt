@@ -1,0 +1,10 @@
+-- Tables, good and inferred (docs/VERIFIER.md, Good table and Inference).
+pub mod Tables
+pub mod Seen
+pub mod Good
+pub mod Breaches
+pub mod Rounds
+pub mod Verdicts
+pub mod Passing
+
+pub mod Laws

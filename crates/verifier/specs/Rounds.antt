@@ -1,0 +1,55 @@
+-- Inference by rounds (docs/VERIFIER.md, Inference).
+use Rattle.std.specs.Prelude.{◌≡◌, ◌≢◌, ◌<◌, ℕ, zero, suc, if◌then◌else◌, List, [], length, replicate, set, Option, None, Some, is_some}
+use Rattle.std.specs.List.{fold, flat_map, range_with_len}
+use Rattle.bpf_isa.specs.declared.instr.Instr.{Instr}
+use Rattle.ranges.specs.States.{Abstract, join_state, start}
+use Rattle.verifier.specs.Tables.{state_at, rule_at, sent_from}
+
+-- what is known at a slot once a state has arrived
+abbrev pub joined : Option Abstract → Abstract → Abstract
+joined None s = s
+joined (Some t) s = join_state t s
+
+-- a table once a state has arrived
+abbrev pub receive : List (Option Abstract) → ℕ × Abstract → List (Option Abstract)
+receive table p = set table p.0 (Some (joined (state_at table p.0) p.1))
+
+-- what a slot passes on in a round: nothing, where a rule is broken
+abbrev pub passed_by : List (Option Instr) → ℕ → List (Option Abstract) → ℕ → List (ℕ × Abstract)
+passed_by program sectors table slot = if is_some (rule_at program table slot) then [] else sent_from program sectors table slot
+
+-- what all slots pass on
+unfoldable pub passed : List (Option Instr) → ℕ → List (Option Abstract) → List (ℕ × Abstract)
+passed program sectors table = flat_map (passed_by program sectors table) (range_with_len 0 (length program))
+
+-- a round: all that is passed by the table before arrives
+unfoldable pub round_of : List (Option Instr) → ℕ → List (Option Abstract) → List (Option Abstract)
+round_of program sectors table = fold receive table (passed program sectors table)
+
+-- the start in slot 0, and no other state
+unfoldable pub first_table : ℕ → List (Option Abstract)
+first_table slots = set (replicate slots None) 0 (Some start)
+
+-- the table of so many rounds
+abbrev pub rounds : List (Option Instr) → ℕ → ℕ → List (Option Abstract)
+rounds program sectors zero = first_table (length program)
+rounds program sectors (suc n) = round_of program sectors (rounds program sectors n)
+
+-- a round changes nothing
+abbrev pub IsSame : List (Option Instr) → ℕ → List (Option Abstract) → Type 0
+IsSame program sectors table = round_of program sectors table ≡ table
+
+-- how many rounds are made at most
+abbrev pub most_rounds : ℕ
+most_rounds = 1000000
+
+-- the table that one of these rounds doesn't change
+pub record IsSettled (program : List (Option Instr)) (sectors : ℕ) (table : List (Option Abstract)) : Type 0 where
+  pub turns : ℕ
+  pub few : turns < most_rounds
+  pub is : table ≡ rounds program sectors turns
+  pub same : IsSame program sectors table
+
+-- each of these rounds changes the table
+abbrev pub IsUnsettled : List (Option Instr) → ℕ → Type 0
+IsUnsettled program sectors = (turns : ℕ) → turns < most_rounds → IsSame program sectors (rounds program sectors turns) → ⊥

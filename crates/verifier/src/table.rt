@@ -1,0 +1,120 @@
+//! Tables: what is known at each slot of a program.
+
+ghost use Rattle.std.specs.Prelude.{◌≡◌, ◌<◌, ◌↔◌, IsTrue, IfOk, length, map, set, None, Some};
+ghost use Rattle.std.specs.Option.{option_map};
+ghost use Rattle.ranges.specs.States.{start};
+ghost use Rattle.ranges.specs.SeenStates.{state_of};
+ghost use Rattle.verifier.specs.Tables.{state_at, Covers};
+ghost use Rattle.verifier.specs.Seen.{table_of};
+ghost use Rattle.verifier.specs.Rounds.{joined, receive, first_table};
+
+use ranges::State;
+use std::alloc::{AllocError, Global};
+use std::marker::Model;
+
+/// What is known at each slot of a program (docs/VERIFIER.md, Good table). In a second half, and in a
+/// slot that no run reaches, there mostly is no state.
+///
+/// Contracts see the list of the states, None where there is none.
+#[derive(Drop)]
+pub struct Table {
+    states: Vec<Option<State>>,
+}
+
+impl Model for Table {
+    ghost use Rattle.std.specs.Prelude.{List, Option};
+    ghost use Rattle.ranges.specs.States.{Abstract};
+    ghost use Rattle.verifier.specs.Seen.{table_of};
+
+    ghost Value = { List (Option Abstract) };
+
+    ghost view = { λ t. table_of t.states.items };
+}
+
+impl Table {
+    /// The table of these states, the first that of slot 0.
+    pub fn of(states: Vec<Option<State>>) -> Table
+        ensures { result ≡ table_of states.items }
+    {
+        Table { states }
+    }
+
+    /// Its states, which are moved out.
+    pub fn into_states(self) -> Vec<Option<State>>
+        ensures { table_of result.items ≡ self }
+    {
+        self.states
+    }
+
+    /// Its states.
+    pub fn states(&self) -> &[Option<State>]
+        ensures { table_of result.now ≡ self.now }
+    {
+        self.states.as_slice()
+    }
+
+    /// For how many slots it has a state or none.
+    pub fn slots(&self) -> usize
+        ensures { result ≡ length self.now }
+    {
+        self.states.len()
+    }
+
+    /// What is known at a slot; None where it has no state, and past the end.
+    pub fn state(&self, slot: usize) -> Option<&State>
+        ensures { option_map (λ s. state_of s.now) result ≡ state_at self.now slot }
+    {
+        match self.states.get(slot) {
+            Some(Some(state)) => Some(state),
+            _ => None,
+        }
+    }
+
+    /// Whether what is known at a slot contains a state.
+    pub(crate) fn covers(&self, slot: usize, state: &State) -> bool
+        ensures { IsTrue result ↔ Covers (state_at self.now slot) (state_of state.now) }
+    {
+        match self.state(slot) {
+            Some(known) => known.contains(state),
+            None => false,
+        }
+    }
+
+    /// The table of so many slots with the start in slot 0 and no other state.
+    pub(crate) fn first(alloc: Global, slots: usize) -> Result<Table, AllocError>
+        ensures { IfOk result (λ table. table ≡ first_table slots) }
+    {
+        let mut states = Vec::new(alloc);
+        states.resize(slots, None)?;
+        put_start(&mut states);
+        Ok(Table { states })
+    }
+
+    /// A state arrives at a slot: it is joined to what is known there.
+    pub(crate) fn receive(&mut self, slot: usize, state: &State)
+        requires { slot < length self.old }
+        ensures { self.new ≡ receive self.old (slot, state_of state.now) }
+    {
+        let known = joined(self.state(slot), state);
+        self.states[slot] = Some(known);
+    }
+}
+
+/// What is known at a slot once a state has arrived.
+fn joined(known: Option<&State>, state: &State) -> State
+    ensures { state_of result ≡ joined (option_map (λ s. state_of s.now) known.entry) (state_of state.now) }
+{
+    match known {
+        Some(known) => known.join(state),
+        None => *state,
+    }
+}
+
+/// Puts the start into slot 0, if there is one.
+fn put_start(states: &mut Vec<Option<State>>)
+    ensures { table_of states.new.items ≡ set (table_of states.old.items) 0 (Some start) }
+{
+    if !states.is_empty() {
+        states[0] = Some(State::start());
+    }
+}
