@@ -1,11 +1,11 @@
 -- States that arrive at the slots of a table.
-use Rattle.std.proofs.Common.{◌≡◌, ◌<◌, ◌+◌, ℕ, zero, suc, map, take, Bool, true, false, ◌||◌, List, [], ◌∷◌, ◌++◌, length, get_or, Option, Some, None, refl, sym, ◌∙◌, inl, inr, arith, subst, ap}
+use Rattle.std.proofs.Common.{◌≡◌, ◌<◌, ◌+◌, ℕ, zero, suc, map, take, Bool, true, false, List, [], ◌∷◌, ◌++◌, length, get_or, Option, Some, None, refl, sym, ◌∙◌, inl, inr, arith, subst, ap}
 use Rattle.std.specs.Prelude.{set}
 use Rattle.std.specs.List.{fold}
 use Rattle.std.proofs.lemmas.Bool.{cases_eq, cases_Bool}
 use Rattle.std.proofs.lemmas.List.Sums.{fold-append}
 use Rattle.std.proofs.lemmas.List.{length-set, set-get_or, get_or-set_same, get_or-set_other, take_more, map-append}
-use Rattle.ranges.specs.States.{Abstract, join_state}
+use Rattle.ranges.specs.States.{Abstract}
 use Rattle.ranges.specs.Order.{IsState, Each, Holds}
 use Rattle.ranges.proofs.Fitting.{join_state_fits}
 use Rattle.verifier.specs.Tables.{state_at, Covers, CoversAll}

@@ -1,13 +1,11 @@
 -- First breaches.
-use Rattle.std.proofs.Common.{◌≡◌, ◌<◌, ℕ, List, length, Option, Some, None, refl, sym, ◌∙◌, inl, inr, arith}
+use Rattle.std.proofs.Common.{◌≡◌, ◌<◌, ℕ, List, Option, Some, None, refl, sym, ◌∙◌, inl, inr, arith}
 use Rattle.std.proofs.lemmas.Bool.{cases_lt}
 use Rattle.base.specs.declared.causes.VerifierCause.{VerifierCause}
-use Rattle.base.specs.declared.causes.VerifierCause.TheVariants as cause
 use Rattle.bpf_isa.specs.declared.instr.Instr.{Instr}
 use Rattle.ranges.specs.States.{Abstract}
-use Rattle.verifier.specs.Tables.{rule_at}
-use Rattle.verifier.specs.Good.{IsGoodAt, IsGood}
-use Rattle.verifier.specs.Breaches.{BreaksAt, FirstBreach, wrong_length, no_start, at_slot}
+use Rattle.verifier.specs.Good.{IsGoodAt}
+use Rattle.verifier.specs.Breaches.{BreaksAt, wrong_length, no_start, at_slot}
 use Rattle.verifier.specs.Laws.{GoodHasNoBreach, OneBreach}
 
 good_breaks_nothing : (program : List (Option Instr)) (sectors : ℕ) (table : List (Option Abstract)) (slot : ℕ) (c : VerifierCause)

@@ -1,12 +1,12 @@
 -- What an instruction passes on, edge by edge.
-use Rattle.std.proofs.Common.{◌≡◌, ℕ, Bool, true, false, List, [], ◌∷◌, ◌++◌, map, Option, Some, None, refl}
-use Rattle.std.specs.Option.{option_map, option_to_list}
+use Rattle.std.proofs.Common.{◌≡◌, ℕ, Bool, true, List, ◌++◌, map, Option, Some, None, refl}
+use Rattle.std.specs.Option.{option_to_list}
 use Rattle.bpf_isa.specs.declared.instr.Instr.{Instr}
 use Rattle.bpf_isa.specs.declared.instr.Instr.TheVariants as instr
 use Rattle.bpf_shape.specs.Edges.{edges_of}
 use Rattle.ranges.specs.States.{Abstract}
 use Rattle.ranges.specs.Passing.{passes, edge_of, sent}
-use Rattle.verifier.specs.Tables.{arrival, passed_on}
+use Rattle.verifier.specs.Tables.{arrival}
 use Rattle.verifier.specs.Passing.{next_state, along}
 
 two : (heads : List Bool) (a b : ℕ) (m n : Option Abstract) → option_to_list (along heads (Some a) m) ++ option_to_list (along heads (Some b) n) ≡ map (arrival heads) (sent a m ++ sent b n)

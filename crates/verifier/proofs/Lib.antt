@@ -6,3 +6,4 @@ pub mod Arriving
 pub mod Reaching
 pub mod Settled
 pub mod Accepting
+pub mod Verdict

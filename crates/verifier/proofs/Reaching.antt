@@ -1,10 +1,10 @@
 -- What a slot passes on are states, at slots of the program.
-use Rattle.std.proofs.Common.{◌≡◌, ◌<◌, ◌^◌, ◌≤◌, ℕ, zero, suc, Bool, true, false, if◌then◌else◌, List, [], ◌∷◌, ◌++◌, length, map, flat_map, slice_get, get_or, Option, Some, None, refl, sym, ◌∙◌, ap, inl, inr, arith}
-use Rattle.std.specs.Option.{option_map, option_map_or, option_and_then, option_to_list}
+use Rattle.std.proofs.Common.{◌≡◌, ◌<◌, ◌^◌, ◌≤◌, ℕ, zero, suc, Bool, true, false, if◌then◌else◌, List, [], ◌∷◌, ◌++◌, length, map, slice_get, get_or, Option, Some, None, refl, inl, inr}
+use Rattle.std.specs.Option.{option_and_then, option_to_list}
 use Rattle.bpf_isa.specs.declared.instr.Instr.{Instr}
 use Rattle.bpf_isa.specs.declared.instr.Instr.TheVariants as instr
 use Rattle.bpf_isa.specs.Spelling.{IsInRange, second_of}
-use Rattle.bpf_isa.specs.Program.{entry, halves, slots_of, AllInRange, IsProgram}
+use Rattle.bpf_isa.specs.Program.{halves, slots_of, AllInRange, IsProgram}
 use Rattle.bpf_shape.specs.Edges.{at, edges_of, control}
 use Rattle.bpf_shape.specs.Paths.{Leads}
 use Rattle.bpf_shape.specs.Rules.{IsShaped}
@@ -16,7 +16,7 @@ use Rattle.ranges.specs.Passing.{passes, edge_of}
 use Rattle.ranges.specs.Order.{IsState, Each, Holds}
 use Rattle.ranges.proofs.Fitting.{round_state_fits}
 use Rattle.ranges.proofs.Keeping.{after_fits, edge_fits}
-use Rattle.verifier.specs.Tables.{state_at, arriving, arrival, passed_on, rule_at, sent_from}
+use Rattle.verifier.specs.Tables.{state_at, arrival, passed_on, rule_at, sent_from}
 use Rattle.verifier.specs.Passing.{next_state, along, AreStates, Arrive}
 use Rattle.verifier.proofs.Edges.{by_edges}
 

@@ -1,23 +1,20 @@
 -- The tables of the rounds, and what holds where a round changes nothing.
-use Rattle.std.proofs.Common.{◌≡◌, ◌<◌, ◌^◌, ◌≤◌, ◌+◌, ℕ, zero, suc, Bool, true, false, if◌then◌else◌, is_some, List, [], ◌∷◌, ◌++◌, append-nil, length, replicate, flat_map, get_or, Option, Some, None, refl, sym, ◌∙◌, ap, inl, inr, arith}
-use Rattle.std.specs.Prelude.{set}
+use Rattle.std.proofs.Common.{◌≡◌, ◌<◌, ◌^◌, ◌≤◌, ◌+◌, ℕ, zero, suc, Bool, true, false, if◌then◌else◌, is_some, List, [], ◌∷◌, ◌++◌, append-nil, length, replicate, flat_map, Option, Some, None, refl, ◌∙◌, ap, inl, inr, arith}
 use Rattle.std.specs.List.{fold, range_with_len}
 use Rattle.std.proofs.lemmas.Bool.{cases_eq, cases_lt}
-use Rattle.std.proofs.lemmas.List.{length-set, get_or-set_same, get_or-set_other, length-replicate, get_or_past}
+use Rattle.std.proofs.lemmas.List.{length-set, length-replicate}
 use Rattle.std.proofs.lemmas.List.Concat.{flat_map-cons}
 use Rattle.std.proofs.lemmas.Grind.{flat_map-append}
 use Rattle.base.proofs.Lists.{range_with_len-more}
-use Rattle.base.specs.declared.causes.VerifierCause.{VerifierCause}
 use Rattle.bpf_isa.specs.declared.instr.Instr.{Instr}
 use Rattle.bpf_isa.specs.Program.{IsProgram}
 use Rattle.bpf_shape.specs.Rules.{IsShaped}
 use Rattle.ranges.specs.States.{Abstract, start}
-use Rattle.ranges.specs.Order.{IsState, Each, Holds}
+use Rattle.ranges.specs.Order.{IsState, Each}
 use Rattle.ranges.proofs.Fitting.{start_fits}
 use Rattle.verifier.specs.Tables.{state_at, Covers, CoversAll, rule_at, sent_from}
-use Rattle.verifier.specs.Good.{IsGoodAt, IsGood}
-use Rattle.verifier.specs.Breaches.{KeepsRules}
-use Rattle.verifier.specs.Rounds.{receive, passed_by, passed, round_of, first_table, rounds, IsSame, IsSettled}
+use Rattle.verifier.specs.Good.{IsGoodAt}
+use Rattle.verifier.specs.Rounds.{receive, passed_by, passed, round_of, first_table, rounds, IsSame}
 use Rattle.verifier.specs.Passing.{AreStates, Arrive, IsRound, Arrived}
 use Rattle.verifier.specs.Laws.{SettledIsGood}
 use Rattle.verifier.proofs.Chains.{contains_self}

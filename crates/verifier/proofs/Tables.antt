@@ -1,5 +1,5 @@
 -- Tables of states as contracts see them.
-use Rattle.std.proofs.Common.{◌≡◌, ℕ, zero, suc, List, [], ◌∷◌, map, replicate, Option, Some, None, refl, ◌∙◌, ap}
+use Rattle.std.proofs.Common.{◌≡◌, ℕ, zero, suc, List, ◌∷◌, replicate, Option, Some, None, refl, ◌∙◌, ap}
 use Rattle.std.specs.Prelude.{set}
 use Rattle.std.specs.Option.{option_map}
 use Rattle.ranges.specs.declared.state.State.{State}

@@ -8,6 +8,7 @@ use Rattle.ranges.specs.States.{Abstract}
 use Rattle.verifier.specs.Good.{IsGood}
 use Rattle.verifier.specs.Breaches.{FirstBreach, KeepsRules}
 use Rattle.verifier.specs.Rounds.{IsSettled}
+use Rattle.verifier.specs.Verdicts.{VerifiedValue, IsVerified, Refused}
 
 -- a good table has no first breach
 abbrev pub GoodHasNoBreach : Type 0
@@ -23,3 +24,12 @@ OneBreach = (program : List (Option Instr)) (sectors : ℕ) (table : List (Optio
 abbrev pub SettledIsGood : Type 0
 SettledIsGood = (program : List (Option Instr)) (sectors : ℕ) (table : List (Option Abstract)) → sectors < 2 ^ 64 → IsProgram program → IsShaped program
     → IsSettled program sectors table → KeepsRules program table → IsGood program sectors table
+
+-- A program has one verdict for a number of sectors, want of memory aside: one refusal, or one budget
+-- and one table.
+pub record OneVerdict : Type 0 where
+  pub refusal : (program : List (Option Instr)) (sectors : ℕ) (c d : VerifierCause) (s t : ℕ)
+      → Refused program sectors c s → Refused program sectors d t → (c ≡ d) × (s ≡ t)
+  pub accepted : (v w : VerifiedValue) → IsVerified v → IsVerified w → v.program ≡ w.program → v.sectors ≡ w.sectors
+      → (v.budget ≡ w.budget) × (v.table ≡ w.table)
+  pub not_both : (v : VerifiedValue) (c : VerifierCause) (s : ℕ) → IsVerified v → Refused v.program v.sectors c s → ⊥

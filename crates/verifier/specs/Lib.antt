@@ -6,5 +6,4 @@ pub mod Breaches
 pub mod Rounds
 pub mod Verdicts
 pub mod Passing
-
 pub mod Laws

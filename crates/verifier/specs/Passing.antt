@@ -1,5 +1,5 @@
 -- What is passed, edge by edge, and how it arrives. Only this crate's own contracts cite it.
-use Rattle.std.specs.Prelude.{◌≡◌, ◌<◌, ℕ, Bool, true, false, List, [], map, length, Option, None, Some}
+use Rattle.std.specs.Prelude.{◌≡◌, ◌<◌, ℕ, Bool, true, false, List, length, Option, None, Some}
 use Rattle.std.specs.Option.{option_map}
 use Rattle.bpf_isa.specs.declared.instr.Instr.{Instr}
 use Rattle.bpf_isa.specs.declared.instr.Instr.TheVariants as instr

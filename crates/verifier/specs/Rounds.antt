@@ -1,5 +1,5 @@
 -- Inference by rounds (docs/VERIFIER.md, Inference).
-use Rattle.std.specs.Prelude.{◌≡◌, ◌≢◌, ◌<◌, ℕ, zero, suc, if◌then◌else◌, List, [], length, replicate, set, Option, None, Some, is_some}
+use Rattle.std.specs.Prelude.{◌≡◌, ◌<◌, ℕ, zero, suc, if◌then◌else◌, List, [], length, replicate, set, Option, None, Some, is_some}
 use Rattle.std.specs.List.{fold, flat_map, range_with_len}
 use Rattle.bpf_isa.specs.declared.instr.Instr.{Instr}
 use Rattle.ranges.specs.States.{Abstract, join_state, start}

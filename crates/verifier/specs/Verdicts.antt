@@ -1,5 +1,5 @@
 -- Which programs are accepted, and how the others are refused (docs/VERIFIER.md).
-use Rattle.std.specs.Prelude.{◌≡◌, ◌≤◌, ℕ, List, Option}
+use Rattle.std.specs.Prelude.{◌≤◌, ℕ, List, Option}
 use Rattle.base.specs.declared.causes.VerifierCause.{VerifierCause}
 use Rattle.base.specs.declared.causes.VerifierCause.TheVariants as cause
 use Rattle.bpf_isa.specs.declared.instr.Instr.{Instr}

@@ -56,12 +56,7 @@ fn breach_at(
 }
 
 /// Tests all slots, in rising order.
-fn check_slots(
-    program: &Program,
-    shape: &Shape,
-    sectors: u32,
-    table: &Table,
-) -> Result<(), Fault>
+fn check_slots(program: &Program, shape: &Shape, sectors: u32, table: &Table) -> Result<(), Fault>
     requires { IsShapeOf program.now shape.now }
     ensures good { OnOk result ((slot : ℕ) → IsGoodAt program.now sectors table.now slot) }
     ensures breach { IfErr result (λ f. FirstSlot program.now sectors table.now f.code f.slot) }

@@ -1,6 +1,8 @@
 //! Laws of tables. The functions do nothing; each contract is a theorem.
 
-ghost use Rattle.verifier.specs.Laws.{GoodHasNoBreach, OneBreach, SettledIsGood};
+ghost use Rattle.verifier.specs.Laws.{GoodHasNoBreach, OneBreach, SettledIsGood, OneVerdict};
+
+use bpf_shape::laws::{no_fault_in_shaped, one_fault};
 
 /// A good table has no first breach.
 pub fn good_has_no_breach()
@@ -16,3 +18,11 @@ pub fn one_breach()
 pub fn settled_is_good()
     ensures { SettledIsGood }
 {}
+
+/// A program has one verdict at most: one refusal, or one budget and one table.
+pub fn one_verdict()
+    ensures { OneVerdict }
+{
+    one_fault();
+    no_fault_in_shaped();
+}

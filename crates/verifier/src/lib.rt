@@ -1,4 +1,66 @@
-//! Tables.
+//! The verifier: which programs are accepted for devices of some size, with which budget, and why the
+//! others are refused (docs/VERIFIER.md, Good table to Refusals).
+//!
+//! A `Table` says what is known at each slot of a program: an abstract state, or none. A table is good
+//! where the start is known at slot 0, no rule is broken at any slot, and what each slot passes on is
+//! known where it arrives. `check_table` tests that. `verify` finds such a table by rounds, each of
+//! which passes on all that is known, and joins it to what is known where it arrives, until a round
+//! changes nothing.
+//!
+//! | Call | Answer |
+//! |---|---|
+//! | `verify(alloc, &program, sectors)` | the program with its budget and its table, or why it is refused |
+//! | `check_table(&program, &shape, sectors, &table)` | that a table is good, or its first breach; takes no memory |
+//! | `Verified`: `program`, `sectors`, `budget`, `table` | what was accepted, for which devices, how many steps a run takes at most, and what is known |
+//! | `Table`: `of`, `into_states`, `states`, `slots`, `state` | a table by its states |
+//!
+//! # Place
+//!
+//! On `bpf_shape`, which knows the edges, the heads and the budget, and whose `Fault` is the refusal
+//! here too; and on `ranges`, which knows what an instruction makes of a state. This crate says where
+//! states arrive and when they settle. A program is run without tests only as a `Verified`.
+//!
+//! # What is proved
+//!
+//! A contract sees a program as the list of its slots and a table as the list of its states. The
+//! definitions are in `specs/`:
+//!
+//! - `Tables`: `rule_at`, the first rule that is broken at a slot, and `sent_from`, what a slot passes
+//!   on to which slots as it arrives there, rounded at heads. All else is said by these two.
+//! - `Good`: `IsGood`. `Breaches`: `FirstBreach` of a table, in the order of the document.
+//! - `Rounds`: `round_of`, the table of so many `rounds`, and `IsSettled`: the table of fewer than
+//!   1,000,000 rounds that a round doesn't change.
+//! - `Verdicts`: `IsVerified`, what holds of each `Verified`, and `Refused`, by cases.
+//!
+//! The contracts, in words:
+//!
+//! - `check_table` answers Ok exactly where the table is good, else its first breach. Which breach that
+//!   is is determined, and a good table has none (`laws`).
+//! - What `verify` accepts has right shape, the budget of its longest path, and the settled table of the
+//!   rounds, which is good, so that `check_table` takes it.
+//! - What it refuses, want of memory aside, breaks this shape rule first; or it breaks this rule first on
+//!   its settled table; or its rounds don't settle in time. No program is both accepted and refused, and
+//!   there is one budget, one table and one refusal at most (`laws`).
+//!
+//! That the settled table is the least of all good tables is not proved here, nor that a run of an
+//! accepted program meets no fault.
+//!
+//! # How it is written
+//!
+//! - `table`: `Table`. `passing`: the rules and edges of one slot. `check`: `check_table`.
+//! - `rounds`: a round lists all that is passed on by the table as it is, and then lets it arrive, so no
+//!   copy of the table is made. What is known already is not joined again.
+//! - `verified`: `Verified` and `verify`. `laws`: the laws, contracts of functions that do nothing.
+//!
+//! # Example
+//!
+//! ```text
+//! // mov64 r0, 0; exit
+//! let verified = verify(alloc, &program, 4)?;
+//! verified.budget()       // 2
+//! // mov64 r1, 0; call 1; ldxb r0, [r0+0]; exit, without a test against 0
+//! verify(alloc, &other, 4)    // refused: OutsideRegion, number 52, at slot 2
+//! ```
 #![tactic(auto)]
 
 mod check;

@@ -2,7 +2,7 @@
 
 ghost use Rattle.bpf_shape.specs.Shape.{IsShapeOf};
 
-use crate::laws::{good_has_no_breach, one_breach, settled_is_good};
+use crate::laws::{good_has_no_breach, one_breach, one_verdict, settled_is_good};
 use crate::{Table, check_table, verify};
 use bpf_isa::codec::decode;
 use bpf_isa::program::Program;
@@ -276,4 +276,5 @@ fn laws() {
     good_has_no_breach();
     one_breach();
     settled_is_good();
+    one_verdict();
 }

@@ -1,4 +1,4 @@
-use Rattle.std.proofs.Common.{◌≡◌, ◌<◌, ℕ, None}
+use Rattle.std.proofs.Common.{◌<◌, ℕ}
 use Rattle.verifier.specs.Good.{IsGoodAt}
 use Rattle.verifier.proofs.check.check_slots.Given as goal
 

@@ -13,9 +13,9 @@ pub returns-then-not-covers-clause-breach : goal.returns-then-not-covers-clause-
 returns-then-not-covers-clause-breach c =
     let long : length c.args.table.now ≡ length c.args.program.now = search rules in
     rw c.refused-then-not-covers.ensures (no_start long (λ h.
-      let there : Covers (state_at c.args.table.now 0) (state_of c.start.result) = rw c.start.ensures h in
-      let bad : false ≡ true = sym c.if-not-covers.true ∙ c.covers.ensures.1 there in
-      cc))
+    let there : Covers (state_at c.args.table.now 0) (state_of c.start.result) = rw c.start.ensures h in
+    let bad : false ≡ true = sym c.if-not-covers.true ∙ c.covers.ensures.1 there in
+    cc))
 
 pub returns-clause-breach : goal.returns-clause-breach
 returns-clause-breach c =

@@ -1,4 +1,3 @@
-use Rattle.std.proofs.Common.{◌≡◌}
 use Rattle.ranges.specs.SeenStates.{state_of}
 use Rattle.verifier.proofs.Edges.{by_edges}
 use Rattle.verifier.proofs.passing.passed_on.Goals as goal

@@ -1,4 +1,4 @@
-use Rattle.std.proofs.Common.{◌≡◌, ◌<◌, ◌^◌, sym, arith, rules}
+use Rattle.std.proofs.Common.{arith}
 use Rattle.verifier.proofs.Settled.{each_round}
 use Rattle.verifier.proofs.rounds.infer.Goals as goal
 

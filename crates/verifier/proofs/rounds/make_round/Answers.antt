@@ -1,4 +1,4 @@
-use Rattle.std.proofs.Common.{◌≡◌, ◌∙◌, ◌<◌, ◌^◌, sym, arith, map}
+use Rattle.std.proofs.Common.{◌≡◌, ◌∙◌, sym, arith, map}
 use Rattle.verifier.specs.Seen.{arrival_of}
 use Rattle.verifier.specs.Rounds.{passed}
 use Rattle.verifier.proofs.Settled.{passed_fits, made_round, round_changes}

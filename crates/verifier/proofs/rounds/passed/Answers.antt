@@ -1,4 +1,4 @@
-use Rattle.std.proofs.Common.{◌≡◌, ◌∙◌, map}
+use Rattle.std.proofs.Common.{◌∙◌, map}
 use Rattle.verifier.specs.Seen.{arrival_of}
 use Rattle.verifier.specs.Rounds.{passed_by}
 use Rattle.verifier.proofs.Settled.{one_slot_more}
