@@ -8,9 +8,9 @@ use Rattle.std.proofs.lemmas.List.{length-set, set-get_or, get_or-set_same, get_
 use Rattle.ranges.specs.States.{Abstract}
 use Rattle.ranges.specs.Order.{IsState, Each, Holds}
 use Rattle.ranges.proofs.Fitting.{join_state_fits}
-use Rattle.verifier.specs.Tables.{state_at, Covers, CoversAll}
+use Rattle.verifier.specs.Tables.{state_at, Covers, CoversAll, AreStates}
 use Rattle.verifier.specs.Rounds.{joined, receive}
-use Rattle.verifier.specs.Passing.{AreStates, Arrive, Arrived}
+use Rattle.verifier.specs.Passing.{Arrive, Arrived}
 use Rattle.verifier.proofs.Chains.{contains_other, contains_more, contains_self}
 
 joined_fits : (m : Option Abstract) (s : Abstract) → Holds IsState m → IsState s → IsState (joined m s)

@@ -16,8 +16,8 @@ use Rattle.ranges.specs.Passing.{passes, edge_of}
 use Rattle.ranges.specs.Order.{IsState, Each, Holds}
 use Rattle.ranges.proofs.Fitting.{round_state_fits}
 use Rattle.ranges.proofs.Keeping.{after_fits, edge_fits}
-use Rattle.verifier.specs.Tables.{state_at, arrival, passed_on, rule_at, sent_from}
-use Rattle.verifier.specs.Passing.{next_state, along, AreStates, Arrive}
+use Rattle.verifier.specs.Tables.{state_at, arrival, passed_on, rule_at, sent_from, AreStates}
+use Rattle.verifier.specs.Passing.{next_state, along, Arrive}
 use Rattle.verifier.proofs.Edges.{by_edges}
 
 pub each_append : {X : Type 0} (P : X → Type 0) (xs ys : List X) → Each P xs → Each P ys → Each P (xs ++ ys)

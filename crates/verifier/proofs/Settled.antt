@@ -12,10 +12,10 @@ use Rattle.bpf_shape.specs.Rules.{IsShaped}
 use Rattle.ranges.specs.States.{Abstract, start}
 use Rattle.ranges.specs.Order.{IsState, Each}
 use Rattle.ranges.proofs.Fitting.{start_fits}
-use Rattle.verifier.specs.Tables.{state_at, Covers, CoversAll, rule_at, sent_from}
+use Rattle.verifier.specs.Tables.{state_at, Covers, CoversAll, rule_at, sent_from, AreStates}
 use Rattle.verifier.specs.Good.{IsGoodAt}
 use Rattle.verifier.specs.Rounds.{receive, passed_by, passed, round_of, first_table, rounds, IsSame}
-use Rattle.verifier.specs.Passing.{AreStates, Arrive, IsRound, Arrived}
+use Rattle.verifier.specs.Passing.{Arrive, IsRound, Arrived}
 use Rattle.verifier.specs.Laws.{SettledIsGood}
 use Rattle.verifier.proofs.Chains.{contains_self}
 use Rattle.verifier.proofs.Arriving.{all_long, all_fit, all_keep, same_covers}

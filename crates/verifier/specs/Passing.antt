@@ -6,9 +6,9 @@ use Rattle.bpf_isa.specs.declared.instr.Instr.TheVariants as instr
 use Rattle.ranges.specs.States.{Abstract, start}
 use Rattle.ranges.specs.After.{after_of}
 use Rattle.ranges.specs.Passing.{edge_of}
-use Rattle.ranges.specs.Order.{IsState, Each, Holds}
+use Rattle.ranges.specs.Order.{IsState, Each}
 use Rattle.std.specs.List.{fold}
-use Rattle.verifier.specs.Tables.{state_at, Covers, CoversAll, arriving}
+use Rattle.verifier.specs.Tables.{state_at, Covers, CoversAll, AreStates, arriving}
 use Rattle.verifier.specs.Rounds.{receive}
 
 -- the state on the edge to the next slot
@@ -20,10 +20,6 @@ next_state sectors s i = Some (after_of sectors s i)
 abbrev pub along : List Bool → Option ℕ → Option Abstract → Option (ℕ × Abstract)
 along heads None m = None
 along heads (Some slot) m = option_map (λ s. (slot, arriving heads slot s)) m
-
--- what a table has are states
-abbrev pub AreStates : List (Option Abstract) → Type 0
-AreStates table = (slot : ℕ) → Holds IsState (state_at table slot)
 
 -- what arrives are states, at slots of the table
 abbrev pub Arrive : ℕ → List (ℕ × Abstract) → Type 0

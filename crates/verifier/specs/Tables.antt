@@ -9,7 +9,7 @@ use Rattle.bpf_shape.specs.Again.{heads}
 use Rattle.ranges.specs.States.{Abstract, round_state, StateContains}
 use Rattle.ranges.specs.Rules.{rules}
 use Rattle.ranges.specs.Passing.{passes}
-use Rattle.ranges.specs.Order.{Each}
+use Rattle.ranges.specs.Order.{Each, Holds, IsState}
 
 -- what is known at a slot; None where it has no state
 abbrev pub state_at : List (Option Abstract) → ℕ → Option Abstract
@@ -23,6 +23,10 @@ Covers (Some t) s = StateContains t s
 -- each of these states is contained in the one at the slot to which it is passed
 abbrev pub CoversAll : List (Option Abstract) → List (ℕ × Abstract) → Type 0
 CoversAll table arrivals = Each (λ p. Covers (state_at table p.0) p.1) arrivals
+
+-- its states are within the bounds of states
+abbrev pub AreStates : List (Option Abstract) → Type 0
+AreStates table = (slot : ℕ) → Holds IsState (state_at table slot)
 
 -- a state as it arrives at a slot: rounded where the slot is marked as a head
 abbrev pub arriving : List Bool → ℕ → Abstract → Abstract

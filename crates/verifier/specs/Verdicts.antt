@@ -3,9 +3,11 @@ use Rattle.std.specs.Prelude.{◌≤◌, ℕ, List, Option}
 use Rattle.base.specs.declared.causes.VerifierCause.{VerifierCause}
 use Rattle.base.specs.declared.causes.VerifierCause.TheVariants as cause
 use Rattle.bpf_isa.specs.declared.instr.Instr.{Instr}
+use Rattle.bpf_isa.specs.Program.{IsProgram}
 use Rattle.bpf_shape.specs.Budget.{IsBudget, most_steps}
 use Rattle.bpf_shape.specs.Rules.{IsShaped, FirstBroken}
 use Rattle.ranges.specs.States.{Abstract}
+use Rattle.verifier.specs.Tables.{AreStates}
 use Rattle.verifier.specs.Good.{IsGood}
 use Rattle.verifier.specs.Breaches.{FirstRule}
 use Rattle.verifier.specs.Rounds.{IsSettled, IsUnsettled}
@@ -17,14 +19,17 @@ pub record VerifiedValue : Type 0 where
   pub budget : ℕ
   pub table : List (Option Abstract)
 
--- it has right shape, this is its budget, and the table that was inferred is good
+-- it has right shape, this is its budget, and the table that was inferred, of states within their
+-- bounds, is good
 pub record IsVerified (v : VerifiedValue) : Type 0 where
   pub some : 1 ≤ v.sectors
   pub device : v.sectors ≤ 16384
+  pub program : IsProgram v.program
   pub shape : IsShaped v.program
   pub budget : IsBudget v.program v.budget
   pub limit : v.budget ≤ most_steps
   pub settled : IsSettled v.program v.sectors v.table
+  pub states : AreStates v.table
   pub good : IsGood v.program v.sectors v.table
 
 -- A program that isn't: the first broken shape rule; of a program of right shape the first rule that is
