@@ -9,6 +9,7 @@ use crate::options::{Options, option_refusal_at};
 use crate::showing::image;
 use crate::source::no_memory;
 use crate::survey::survey;
+use crate::verifying::verified;
 use crate::words::{OptionWords, Request, Words};
 use epochs::Cuts;
 use shares::Refusal;
@@ -118,9 +119,6 @@ fn act_explore(
     ensures status { IfOk result (λ answer. (answer.1 ≡ 0) ⊎ (answer.1 ≡ 1)) }
 {
     let options = options_of(words)?;
-    if options.checked().is_none() {
-        return Err(option_refusal_at(5));
-    }
     if let Some(place) = first_unreadable(files) {
         return Err(unreadable(place));
     }
@@ -173,6 +171,19 @@ fn act_image(
     Ok((bytes, 0))
 }
 
+/// What the verifier says of a program.
+fn act_verify(
+    alloc: Global,
+    words: OptionWords,
+    files: &[Option<Vec<u8>>],
+) -> Result<(Vec<u8>, u8), Refusal>
+    ensures status { IfOk result (λ answer. answer.1 ≡ 0) }
+{
+    let options = options_of(words)?;
+    let text = verified(alloc, first_of(files)?, &options)?;
+    Ok((text, 0))
+}
+
 /// The program of a source text, as bytes.
 fn act_asm(alloc: Global, files: &[Option<Vec<u8>>]) -> Result<(Vec<u8>, u8), Refusal>
     ensures status { IfOk result (λ answer. answer.1 ≡ 0) }
@@ -209,6 +220,7 @@ pub fn act(
         Request::Explore(options) => act_explore(alloc, options, files),
         Request::Images(options) => act_images(alloc, options, files),
         Request::Image(options, number) => act_image(alloc, options, number, files),
+        Request::Verify(options) => act_verify(alloc, options, files),
         Request::Asm => act_asm(alloc, files),
         Request::List => act_list(alloc, files),
     }

@@ -35,7 +35,7 @@ fn text_refusal_of(fault: AsmFault) -> Refusal
 }
 
 /// The refusal of the bytes of a program.
-fn bytes_refusal_of(fault: CodeFault) -> Refusal
+pub(crate) fn bytes_refusal_of(fault: CodeFault) -> Refusal
     ensures { result ≡ bytes_refusal fault.code fault.slot }
 {
     Refusal {

@@ -215,7 +215,7 @@ const JOURNAL: [u8; 264] = [
 const TWO_SLOTS_RIGHT: [&str; 4] = [
     "crash report 1",
     "sectors 4 entries 12 cuts all bound 2 tears yes first no",
-    "program 0 slots 39 limit 1000",
+    "program 0 slots 39 budget 87",
     "images 61 failing 0 lines 0",
 ];
 
@@ -223,7 +223,7 @@ const TWO_SLOTS_RIGHT: [&str; 4] = [
 const TWO_SLOTS_WRONG: [&str; 28] = [
     "crash report 1",
     "sectors 4 entries 12 cuts all bound 2 tears yes first no",
-    "program 0 slots 39 limit 1000",
+    "program 0 slots 39 budget 87",
     "image 11 cut 2 program 0 answer 1 codes 1 choice 0.0:drop",
     "image 12 cut 2 program 0 answer 1 codes 1 choice 0.0:head1",
     "image 13 cut 2 program 0 answer 1 codes 1 choice 0.0:head2",
@@ -255,7 +255,7 @@ const TWO_SLOTS_WRONG: [&str; 28] = [
 const JOURNAL_RIGHT: [&str; 4] = [
     "crash report 1",
     "sectors 8 entries 10 cuts all bound 2 tears yes first no",
-    "program 0 slots 33 limit 1000",
+    "program 0 slots 33 budget 144",
     "images 123 failing 0 lines 0",
 ];
 
@@ -263,7 +263,7 @@ const JOURNAL_RIGHT: [&str; 4] = [
 const JOURNAL_WRONG: [&str; 11] = [
     "crash report 1",
     "sectors 8 entries 10 cuts all bound 1 tears no first no",
-    "program 0 slots 33 limit 1000",
+    "program 0 slots 33 budget 144",
     "image 1 cut 1 program 0 answer 1 codes 1 choice -",
     "image 3 cut 2 program 0 answer 1 codes 2 choice -",
     "image 5 cut 2 program 0 answer 1 codes 1 choice 1.0:drop",
@@ -383,7 +383,7 @@ fn explored(
     log: Vec<u8>,
     checker: &[u8],
 ) -> Result<(Vec<u8>, u8), Fail> {
-    let line = format!(in alloc; "explore log checker {options} --checked 1000")?;
+    let line = format!(in alloc; "explore log checker {options}")?;
     let mut words = Vec::new(alloc);
     for word in line.as_str().split_whitespace() {
         words.push(word.to_string(alloc)?)?;
@@ -437,7 +437,7 @@ fn the_checker_in_c_judges_as_the_other(rt: HostRuntime) -> Result<(), Fail> {
     let options = "--sectors 4 --bound 2 --tears";
     let (report, status) = explored(alloc, options, two_slots(alloc, 0)?, &TWO_SLOTS_IN_C)?;
     let mut wanted = TWO_SLOTS_WRONG;
-    wanted[2] = "program 0 slots 42 limit 1000";
+    wanted[2] = "program 0 slots 42 budget 111";
     assert_eq!(rt; report.as_slice(), text_of(alloc, &wanted)?.as_slice());
     assert_eq!(rt; status, 1);
     Ok(())

@@ -7,12 +7,14 @@ ghost use Rattle.std.specs.List.Sorted.{IsNonDecreasing};
 ghost use Rattle.choices.specs.Choices.{IsFirstPast};
 ghost use Rattle.workers.specs.Failing.{failing_lines};
 ghost use Rattle.crashbpf.specs.Source.{plan_of, images_of, images_refusal, work_refusal, RefusesPlan};
-ghost use Rattle.crashbpf.specs.Explore.{HasReport, IsReport, Refuses, RefusesCode, AreSpelledBy, IsCodeFault, code_refusal, checker_of, program_head, subject_of, head_of, report_of};
+ghost use Rattle.crashbpf.specs.Explore.{HasReport, IsReport, Refuses, program_head, subject_of, head_of, report_of};
+ghost use Rattle.crashbpf.specs.Programs.{IsRunWithin, IsCodeFault, IsUnaccepted, code_refusal, verifier_refusal, AreDecoded, AreFirstMade, RefusesOneOf};
 
 use crate::options::{Options, option_refusal_at};
 use crate::source::{images_refusal_of, no_memory, planned, read_log};
 use bpf_isa::codec::decode;
 use bpf_isa::program::{CodeFault, Program};
+use bpf_shape::Fault;
 use epochs::Plan;
 use images::History;
 use interp::Checker;
@@ -20,6 +22,7 @@ use logfmt::Log;
 use report::{Head, ProgramHead, write_report};
 use shares::{Cause, Refusal};
 use std::alloc::{AllocError, Global};
+use verifier::verify;
 use workers::{Gate, Input, OpenGate, Work, explore_all};
 
 /// What a run answers.
@@ -33,15 +36,22 @@ pub struct Explored {
     pub failing: bool,
 }
 
-/// The refusal that says a fault of a program.
+/// The refusal of a program, at one of its slots.
+fn program_refusal(number: u8, code: Cause, slot: u64) -> Refusal
+    ensures { result ≡ record { code = code; at = slot; program = Some number } }
+{
+    Refusal {
+        code,
+        at: slot,
+        program: Some(number),
+    }
+}
+
+/// The refusal that says a fault of a program's bytes.
 fn code_refusal_of(number: u8, fault: CodeFault) -> Refusal
     ensures { result ≡ code_refusal number fault.code fault.slot }
 {
-    Refusal {
-        code: Cause::Code(fault.code),
-        at: fault.slot,
-        program: Some(number),
-    }
+    program_refusal(number, Cause::Code(fault.code), fault.slot)
 }
 
 /// The program that these bytes spell.
@@ -67,31 +77,90 @@ fn push_program(programs: &mut Vec<Program>, program: Program) -> Result<(), Ref
     }
 }
 
-/// The programs that these bytes spell.
-fn decode_all(alloc: Global, files: &[Vec<u8>]) -> Result<Vec<Program>, Refusal>
+/// The programs that were decoded, up to the first that can't be, and its refusal.
+#[derive(Drop)]
+struct Decoded {
+    programs: Vec<Program>,
+    refusal: Option<Refusal>,
+}
+
+/// Decodes the programs in their order, up to the first that can't be decoded.
+fn decode_all(alloc: Global, files: &[Vec<u8>]) -> Result<Decoded, Refusal>
     requires { length files.now ≤ 8 }
-    ensures spelled { IfOk result (λ programs. AreSpelledBy (map (λ f. f.items) files.now) programs.items) }
-    ensures refused { IfErr result (RefusesCode (map (λ f. f.items) files.now)) }
+    ensures decoded { IfOk result (λ d. AreDecoded (map (λ f. f.items) files.now) d.programs.items d.refusal) }
+    ensures refused { IfErr result (λ r. r ≡ work_refusal) }
 {
     let mut programs = Vec::new(alloc);
     for (number, file) in files.iter().enumerate() {
-        let program = decode_one(alloc, number as u8, file.as_slice())?;
-        push_program(&mut programs, program)?;
+        match decode_one(alloc, number as u8, file.as_slice()) {
+            Ok(program) => push_program(&mut programs, program)?,
+            Err(refusal) => {
+                return Ok(Decoded {
+                    programs,
+                    refusal: Some(refusal),
+                });
+            }
+        }
     }
-    Ok(programs)
+    Ok(Decoded {
+        programs,
+        refusal: None,
+    })
 }
 
-/// The programs as checkers with a limit of steps.
+/// The refusal that says why the verifier refuses a program.
+fn verifier_refusal_of(number: u8, fault: Fault) -> Refusal
+    ensures { result ≡ verifier_refusal number fault.code fault.slot }
+{
+    program_refusal(number, Cause::Verifier(fault.code), fault.slot)
+}
+
+/// A program as a checker: with the limit of steps that is asked for, or verified.
+fn checker_of<'p>(
+    alloc: Global,
+    number: u8,
+    program: &'p Program,
+    options: &Options,
+) -> Result<Checker<'p>, Refusal>
+    ensures program { IfOk result (λ c. c.program ≡ program.now) }
+    ensures within { IfOk result (λ c. IsRunWithin options.now.checked options.now.sectors c) }
+    ensures refused { IfErr result (IsUnaccepted options.now number program.now) }
+{
+    match options.checked() {
+        Some(limit) => Ok(Checker::limited(program, limit)),
+        None => match verify(alloc, program, options.sectors()) {
+            Ok(verified) => Ok(Checker::verified(&verified)),
+            Err(fault) => Err(verifier_refusal_of(number, fault)),
+        },
+    }
+}
+
+/// Appends a checker.
+fn push_checker<'p>(checkers: &mut Vec<Checker<'p>>, checker: Checker<'p>) -> Result<(), Refusal>
+    ensures pushed { OnOk result (checkers.new.items ≡ checkers.old.items ++ checker.entry ∷ []) }
+    ensures refused { IfErr result (λ r. r ≡ work_refusal) }
+{
+    match checkers.push(checker) {
+        Ok(()) => Ok(()),
+        Err(_failed) => Err(no_memory()),
+    }
+}
+
+/// The programs as checkers.
 fn checkers_of<'p>(
     alloc: Global,
     programs: &'p [Program],
-    limit: u64,
-) -> Result<Vec<Checker<'p>>, AllocError>
-    ensures { IfOk result (λ checkers. checkers.items ≡ map (checker_of limit) programs.now) }
+    options: &Options,
+) -> Result<Vec<Checker<'p>>, Refusal>
+    requires few { length programs.now ≤ 8 }
+    ensures made { IfOk result (λ checkers. AreFirstMade options.now programs.now checkers.items) }
+    ensures all { IfOk result (λ checkers. length checkers.items ≡ length programs.now) }
+    ensures refused { IfErr result (RefusesOneOf options.now programs.now) }
 {
     let mut checkers = Vec::new(alloc);
-    for program in programs {
-        checkers.push(Checker::limited(program, limit))?;
+    for (number, program) in programs.iter().enumerate() {
+        let checker = checker_of(alloc, number as u8, program, options)?;
+        push_checker(&mut checkers, checker)?;
     }
     Ok(checkers)
 }
@@ -105,6 +174,7 @@ fn program_heads(alloc: Global, checkers: &[Checker<'_>]) -> Result<Vec<ProgramH
         heads.push(ProgramHead {
             slots: checker.slots(),
             limit: checker.limit(),
+            verified: checker.is_verified(),
         })?;
     }
     Ok(heads)
@@ -185,12 +255,13 @@ fn judged<'x, G: Gate>(
 }
 
 /// Explores the crash images of a log: judges each by the programs, and reports those that fail
-/// (docs/REPORT.md). `gate` is told of each block of images before and after it is judged.
+/// (docs/REPORT.md). Without a limit of steps each program has to be accepted by the verifier. `gate` is
+/// told of each block of images before and after it is judged.
 ///
 /// # Errors
 ///
-/// The first refusal in the order of docs/REPORT.md: want of a limit of steps, the number of programs,
-/// the log, the number of its images, then each program; or want of memory.
+/// The first refusal in the order of docs/REPORT.md: the number of programs, the log, the number of its
+/// images, then each program; or want of memory.
 pub fn explore_with<G: Gate>(
     alloc: Global,
     gate: &G,
@@ -202,10 +273,6 @@ pub fn explore_with<G: Gate>(
     ensures hits { IfOk result (λ e. e.hits ≡ 0) }
     ensures refused { IfErr result (Refuses log.now (map (λ f. f.items) programs.now) options.now) }
 {
-    let limit = match options.checked() {
-        Some(limit) => limit,
-        None => return Err(option_refusal_at(5)),
-    };
     if programs.len() != 1 {
         return Err(option_refusal_at(6));
     }
@@ -217,14 +284,17 @@ pub fn explore_with<G: Gate>(
         Ok(planned) => planned,
         Err(refusal) => return Err(refusal),
     };
-    let programs = match decode_all(alloc, programs) {
-        Ok(programs) => programs,
+    let decoded = match decode_all(alloc, programs) {
+        Ok(decoded) => decoded,
         Err(refusal) => return Err(refusal),
     };
-    let checkers = match checkers_of(alloc, programs.as_slice(), limit) {
+    let checkers = match checkers_of(alloc, decoded.programs.as_slice(), options) {
         Ok(checkers) => checkers,
-        Err(_error) => return Err(no_memory()),
+        Err(refusal) => return Err(refusal),
     };
+    if let Some(refusal) = decoded.refusal {
+        return Err(refusal);
+    }
     match judged(alloc, gate, &log, &plan, checkers.as_slice(), options) {
         Ok(explored) => Ok(explored),
         Err(refusal) => Err(refusal),

@@ -9,13 +9,15 @@
 //! # Place
 //!
 //! The top layer. `logfmt` reads the log, `epochs` says its cuts, `choices` and `images` its crash
-//! images, `bpf_isa` decodes the checkers, `bpf_asm` assembles and lists them, `workers` judges the images by `interp`, `report` has the
-//! lines, `shares` the type of a refusal. What stands here:
+//! images, `bpf_isa` decodes the checkers, `verifier` accepts them, `bpf_asm` assembles and lists them,
+//! `workers` judges the images by `interp`, `report` has the lines, `shares` the type of a refusal. What
+//! stands here:
 //!
 //! - `options`: `Options`, the options of a run, tested in their order.
 //! - `source`: what each command reads of a log, with the refusals in their order.
 //! - `explorer`: `explore_with` and `explore`, from bytes to the bytes of the report.
 //! - `showing` and `survey`: the bytes of one image, and the number of images cut by cut.
+//! - `verifying`: what the verifier says of a program by itself.
 //! - `assembly`: a program from a source text, and the listing of a program.
 //! - `words`, `action` and `refused`: the words of the command line, what a command answers, and the
 //!   line of a refusal. `main` does no more than read files, call these and print.
@@ -24,12 +26,15 @@
 //!
 //! Where `explore` answers `Ok`, its bytes are `report_bytes` of the log's failing lines
 //! (`workers/specs/Failing.antt`): of all images and programs whose outcome, by the definition of the
-//! machine on the definition of the image, is not a verdict with answer 0. `image` answers the bytes of
+//! machine on the definition of the image, is not a verdict with answer 0. A program runs within the limit
+//! of steps that is asked for, or, without one, within the budget with which the verifier accepts it for
+//! the device; what it doesn't accept is refused (`specs/Programs.antt`). `image` answers the bytes of
 //! the image of a number, and `survey` the text of `specs/Survey.antt`. Where one of them answers `Err`,
 //! the refusal is the first in the order of docs/REPORT.md (`specs/Explore.antt`, `specs/Image.antt`,
 //! `specs/Survey.antt`), or memory ran out.
 //!
-//! What `asm` answers spells the program that the source text says, and what `list` answers is the
+//! What `verify` answers is the budget of an accepted program (`specs/Verifying.antt`). What `asm` answers
+//! spells the program that the source text says, and what `list` answers is the
 //! listing of the program that the bytes spell (`specs/Assembly.antt`).
 //!
 //! So far a run has one program and one worker. What is not built is refused.
@@ -58,6 +63,9 @@ mod source;
 mod survey;
 #[cfg(test)]
 mod tests;
+#[cfg(test)]
+mod verified;
+mod verifying;
 mod words;
 #[cfg(test)]
 mod written;

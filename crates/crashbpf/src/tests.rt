@@ -260,12 +260,6 @@ fn refuses_with_number_and_place(rt: HostRuntime) -> Result<(), Fail> {
             "refused 13 at 4\n",
         ),
         (
-            "explore log program --sectors 1 --bound 0",
-            512,
-            ANSWER_1.as_slice(),
-            "refused 13 at 5\n",
-        ),
-        (
             "explore log program --sectors 1 --bound 0 --checked 1000000001",
             512,
             ANSWER_1.as_slice(),
@@ -349,7 +343,7 @@ fn refuses_options_then_files_then_counts(rt: HostRuntime) -> Result<(), Fail> {
         (two, [true, false, false].as_slice(), "refused 14 at 1\n"),
         (two, [true, true, false].as_slice(), "refused 14 at 2\n"),
         (bad, [false, false].as_slice(), "refused 13 at 1\n"),
-        (unlimited, [false, false].as_slice(), "refused 13 at 5\n"),
+        (unlimited, [false, false].as_slice(), "refused 14 at 0\n"),
         (two, [true, true, true].as_slice(), "refused 13 at 6\n"),
         (one, [true, true].as_slice(), "refused 1 at 0\n"),
     ];

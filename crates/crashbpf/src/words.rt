@@ -33,6 +33,8 @@ pub(crate) enum Request {
     Images(OptionWords),
     /// `image LOG N`, with the number of the image.
     Image(OptionWords, u64),
+    /// `verify PROGRAM`, of which the number of sectors counts.
+    Verify(OptionWords),
     /// `asm SOURCE`
     Asm,
     /// `list PROGRAM`
@@ -64,13 +66,17 @@ fn number_option<'a>(alloc: Global, name: &'a str, default: &'a str, help: &'a s
         .help(help)
 }
 
-/// A command on a log, with the options that say which of its crash images are meant.
-fn log_command<'a>(alloc: Global, name: &'a str) -> Result<Command<'a>, AllocError> {
-    let sectors = Arg::new(alloc, "sectors")
+/// The option that says the size of the device.
+fn sectors_option<'a>(alloc: Global) -> Arg<'a> {
+    Arg::new(alloc, "sectors")
         .long("sectors")
         .required(true)
         .value_parser(clap::value_parser!(u64))
-        .help("sectors of the device, 1 to 16384");
+        .help("sectors of the device, 1 to 16384")
+}
+
+/// A command on a log, with the options that say which of its crash images are meant.
+fn log_command<'a>(alloc: Global, name: &'a str) -> Result<Command<'a>, AllocError> {
     let cuts = Arg::new(alloc, "cuts")
         .long("cuts")
         .default_value("all")
@@ -81,7 +87,7 @@ fn log_command<'a>(alloc: Global, name: &'a str) -> Result<Command<'a>, AllocErr
         .help("let sectors be torn");
     let log = Arg::new(alloc, "file").required(true).value_name("LOG");
     Command::new(alloc, name)
-        .arg(sectors)?
+        .arg(sectors_option(alloc))?
         .arg(cuts)?
         .arg(number_option(alloc, "bound", "1", "units that may depart, 0 to 3"))?
         .arg(tears)?
@@ -93,7 +99,7 @@ fn explore_command<'a>(alloc: Global) -> Result<Command<'a>, AllocError> {
     let checked = Arg::new(alloc, "checked")
         .long("checked")
         .value_parser(clap::value_parser!(u64))
-        .help("run programs with every check, for at most so many steps");
+        .help("verify no program, and run each for at most so many steps");
     let first = Arg::new(alloc, "first")
         .long("first")
         .action(ArgAction::SetTrue)
@@ -129,6 +135,11 @@ fn file_command<'a>(
     Command::new(alloc, name).arg(file)
 }
 
+/// The command `verify`.
+fn verify_command<'a>(alloc: Global) -> Result<Command<'a>, AllocError> {
+    file_command(alloc, "verify", "PROGRAM")?.arg(sectors_option(alloc))
+}
+
 /// All commands.
 fn commands<'a>(alloc: Global) -> Result<Command<'a>, AllocError> {
     Command::new(alloc, "crashbpf")
@@ -137,6 +148,7 @@ fn commands<'a>(alloc: Global) -> Result<Command<'a>, AllocError> {
         .subcommand(explore_command(alloc)?)?
         .subcommand(log_command(alloc, "images")?)?
         .subcommand(image_command(alloc)?)?
+        .subcommand(verify_command(alloc)?)?
         .subcommand(file_command(alloc, "asm", "SOURCE")?)?
         .subcommand(file_command(alloc, "list", "PROGRAM")?)
 }
@@ -151,17 +163,27 @@ fn cuts_of(word: Option<&str>) -> Option<Cuts> {
     }
 }
 
-/// The options of a command on a log.
-fn log_words(matches: &ArgMatches<'_>) -> OptionWords {
+/// The options of `verify`: the number of sectors, and what stands for the others.
+fn device_words(matches: &ArgMatches<'_>) -> OptionWords {
     OptionWords {
         sectors: matches.get_one::<u64>("sectors").unwrap_or(0),
-        cuts: cuts_of(matches.get_str("cuts")),
-        bound: matches.get_one::<u64>("bound").unwrap_or(1),
-        tears: matches.get_flag("tears"),
+        cuts: Some(Cuts::All),
+        bound: 1,
+        tears: false,
         workers: 1,
         cache: 0,
         checked: None,
         first: false,
+    }
+}
+
+/// The options of a command on a log.
+fn log_words(matches: &ArgMatches<'_>) -> OptionWords {
+    OptionWords {
+        cuts: cuts_of(matches.get_str("cuts")),
+        bound: matches.get_one::<u64>("bound").unwrap_or(1),
+        tears: matches.get_flag("tears"),
+        ..device_words(matches)
     }
 }
 
@@ -184,6 +206,7 @@ fn request_of(name: &str, matches: &ArgMatches<'_>) -> Request {
             log_words(matches),
             matches.get_one::<u64>("number").unwrap_or(0),
         ),
+        "verify" => Request::Verify(device_words(matches)),
         "asm" => Request::Asm,
         "list" => Request::List,
         _ => Request::Explore(explore_words(matches)),

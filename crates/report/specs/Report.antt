@@ -1,5 +1,5 @@
 -- The bytes of the report (docs/REPORT.md). Each line ends with one newline; numbers are decimal.
-use Rattle.std.specs.Prelude.{ℕ, ◌+◌, ◌==◌, Bool, if◌then◌else◌, List, [], ◌∷◌, ◌++◌, length, map, codes}
+use Rattle.std.specs.Prelude.{ℕ, ◌+◌, ◌==◌, Bool, true, false, if◌then◌else◌, List, [], ◌∷◌, ◌++◌, length, map, codes}
 use Rattle.std.specs.Fmt.{decimal}
 use Rattle.std.specs.List.{flat_map, list_any}
 use Rattle.epochs.specs.declared.cuts.Cuts.{Cuts}
@@ -30,10 +30,15 @@ choices_text h =
 abbrev pub options_line : HeadValue → List ℕ
 options_line h = device_text h ++ choices_text h
 
+-- what the most steps of a run are called
+abbrev pub steps_word : Bool → List ℕ
+steps_word true = codes "budget"
+steps_word false = codes "limit"
+
 -- the line of a program, with its number
 unfoldable pub program_line : ℕ → ProgramHead → List ℕ
 program_line number p =
-    codes "program " ++ decimal number ++ codes " slots " ++ decimal p.slots ++ codes " limit " ++ decimal p.limit ++ codes "\n"
+    codes "program " ++ decimal number ++ codes " slots " ++ decimal p.slots ++ codes " " ++ steps_word p.verified ++ codes " " ++ decimal p.limit ++ codes "\n"
 
 abbrev pub program_lines : ℕ → List ProgramHead → List ℕ
 program_lines number [] = []

@@ -7,8 +7,10 @@ use std::marker::Model;
 #[derive(Clone, Copy, Drop)]
 pub struct ProgramHead {
     pub slots: u32,
-    /// The limit of steps.
+    /// The most steps of a run: the limit that was asked for, or the budget of a verified program.
     pub limit: u64,
+    /// Whether the verifier accepted the program.
+    pub verified: bool,
 }
 
 /// What the report says at its head, and how many images there are.

@@ -6,7 +6,7 @@ ghost use Rattle.std.specs.List.Sorted.{IsNonDecreasing};
 ghost use Rattle.interp.specs.Ending.{ending_of};
 ghost use Rattle.report.specs.Lines.{line_value, is_image};
 ghost use Rattle.report.specs.Text.{yes_or_no, cuts_word, codes_text, ending_text, fate_text, departure_text, next_departure_text, choice_text};
-ghost use Rattle.report.specs.Report.{device_text, choices_text, program_line, program_lines, line_text, totals_line, failing_images, report_bytes};
+ghost use Rattle.report.specs.Report.{device_text, choices_text, steps_word, program_line, program_lines, line_text, totals_line, failing_images, report_bytes};
 
 use crate::head::{Head, ProgramHead};
 use crate::line::{Line, Lines};
@@ -29,6 +29,13 @@ fn word_of_cuts(cuts: Cuts) -> &'static str
         Cuts::BeforeFlush => "flush",
         Cuts::AfterMark => "mark",
     }
+}
+
+/// What the most steps of a run are called.
+fn word_of_steps(verified: bool) -> &'static str
+    ensures { result.now ≡ steps_word verified }
+{
+    if verified { "budget" } else { "limit" }
 }
 
 /// Appends the device, the length of the log and the cuts.
@@ -59,9 +66,10 @@ fn put_choices(out: &mut String, head: &Head) -> Result<(), AllocError>
 fn put_program(out: &mut String, number: usize, program: ProgramHead) -> Result<(), AllocError>
     ensures { OnOk result (string_bytes out.new ≡ string_bytes out.old ++ program_line number program) }
 {
+    let steps = word_of_steps(program.verified);
     write!(
         out,
-        "program {number} slots {} limit {}\n",
+        "program {number} slots {} {steps} {}\n",
         program.slots, program.limit
     )
 }

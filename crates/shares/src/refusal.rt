@@ -3,7 +3,7 @@
 ghost use Rattle.std.specs.Prelude.{◌≡◌};
 ghost use Rattle.shares.specs.Numbers.{cause_number};
 
-use base::causes::{AsmCause, CodeCause, LogCause, RequestCause, WorkCause};
+use base::causes::{AsmCause, CodeCause, LogCause, RequestCause, VerifierCause, WorkCause};
 
 /// The cause of a refusal, by what was refused.
 #[derive(Clone, Copy, Debug, PartialEq, Eq)]
@@ -12,6 +12,7 @@ pub enum Cause {
     Request(RequestCause),
     Code(CodeCause),
     Asm(AsmCause),
+    Verifier(VerifierCause),
     Work(WorkCause),
 }
 
@@ -25,6 +26,7 @@ impl Cause {
             Cause::Request(cause) => cause.number(),
             Cause::Code(cause) => cause.number(),
             Cause::Asm(cause) => cause.number(),
+            Cause::Verifier(cause) => cause.number(),
             Cause::Work(cause) => cause.number(),
         }
     }

@@ -39,3 +39,8 @@ pub data Refused (program : List (Option Instr)) (sectors : ℕ) : VerifierCause
   rule : (c : VerifierCause) (slot : ℕ) (table : List (Option Abstract)) → IsShaped program → IsSettled program sectors table
       → FirstRule program table c slot → Refused program sectors c slot
   endless : IsShaped program → IsUnsettled program sectors → Refused program sectors cause.Unsettled 0
+
+-- a program is accepted for so many sectors, with that budget
+abbrev pub IsAccepted : List (Option Instr) → ℕ → ℕ → Type 0
+IsAccepted program sectors budget =
+    (table : List (Option Abstract)) × IsVerified (record { program = program; sectors = sectors; budget = budget; table = table })

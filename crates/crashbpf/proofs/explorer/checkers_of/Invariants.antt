@@ -1,6 +1,6 @@
-use Rattle.std.proofs.Common.{◌≡◌, map, take}
-use Rattle.crashbpf.specs.Explore.{checker_of}
+use Rattle.std.proofs.Common.{◌≡◌, length}
+use Rattle.crashbpf.specs.Programs.{AreFirstMade}
 use Rattle.crashbpf.proofs.explorer.checkers_of.Given as goal
 
-abbrev pub invariant-loop-program : goal.invariant-loop-program
-invariant-loop-program l = l.checkers.items ≡ map (checker_of l.limit) (take l.program-index l.programs)
+abbrev pub invariant-loop-number : goal.invariant-loop-number
+invariant-loop-number l = AreFirstMade l.options l.programs l.checkers.items × (length l.checkers.items ≡ l.number)
