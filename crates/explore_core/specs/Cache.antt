@@ -1,0 +1,12 @@
+-- The cache: outcomes by key (docs/GUARANTEES.md, The exploration as a list of events).
+use Rattle.std.specs.Prelude.{ℕ, ◌==◌, not, List, filter, find, Option, option_map}
+use Rattle.std.specs.List.{list_any}
+use Rattle.explore_core.specs.declared.cache.Entry.{Entry}
+
+-- the outcome that the cache has for a key
+abbrev pub cached : List Entry → ℕ → Option ℕ
+cached cache key = option_map (λ (e : Entry). e.outcome) (find (λ (e : Entry). e.key == key) cache)
+
+-- the entries whose keys aren't among those
+abbrev pub without : List ℕ → List Entry → List Entry
+without gone cache = filter (λ (e : Entry). not (list_any (λ key. key == e.key) gone)) cache

@@ -1,0 +1,130 @@
+-- The state of an exploration, and what each event makes of it
+-- (docs/GUARANTEES.md, The exploration as a list of events).
+use Rattle.std.specs.Prelude.{ℕ, ◌+◌, ◌-◌, ◌==◌, nat_lt, min, Bool, true, false, not, if◌then◌else◌, List, [], ◌∷◌, ◌++◌, length, filter, find, replicate, Option, None, Some, slice_get, slice_set, unwrap_or, option_map}
+use Rattle.explore_core.specs.declared.job.Job.{Job}
+use Rattle.explore_core.specs.declared.hand.Hand.{Hand}
+use Rattle.explore_core.specs.declared.hand.Hand.TheVariants.{Idle, Holding, Ended, Lost}
+use Rattle.explore_core.specs.declared.piece.Piece.{Piece}
+use Rattle.explore_core.specs.declared.piece.Found.TheVariants.{Lines, Passed}
+use Rattle.explore_core.specs.declared.event.Event.{Event}
+use Rattle.explore_core.specs.declared.event.Event.TheVariants.{Draw, Look, Put, Post, Pass, Done, Quit}
+use Rattle.explore_core.specs.Jobs.{block_at, failing, first_failing_image, lies_after}
+use Rattle.explore_core.specs.declared.cache.Entry.{Entry}
+use Rattle.explore_core.specs.Cache.{cached, without}
+
+pub record State : Type 0 where
+  -- the jobs, in blocks
+  pub blocks : List (List Job)
+  -- whether only the first failing image is looked for
+  pub first : Bool
+  -- how many blocks were asked for
+  pub next : ℕ
+  -- the least image that was posted
+  pub least : Option ℕ
+  -- outcomes by key
+  pub cache : List Entry
+  -- what was handed over
+  pub pieces : List Piece
+  -- what each worker has in hand
+  pub hands : List Hand
+
+-- nothing is drawn, and every worker is idle
+abbrev pub start : List (List Job) → ℕ → Bool → State
+start blocks workers first =
+    record { blocks = blocks; first = first; next = 0; least = None; cache = []; pieces = []; hands = replicate workers Idle }
+
+-- the state with another hand of that worker
+abbrev pub with_hand : State → ℕ → Hand → State
+with_hand s w hand = record s { hands = slice_set s.hands w hand }
+
+-- Draw: an idle worker gets the next block, or ends where none is left
+
+-- the hand after a draw that found that number
+abbrev pub hand_drawn : ℕ → ℕ → Hand
+hand_drawn blocks next = if nat_lt next blocks then Holding next [] else Ended
+
+abbrev pub drawn : State → ℕ → Option Hand → State
+drawn s w (Some Idle) = record s { next = s.next + 1; hands = slice_set s.hands w (hand_drawn (length s.blocks) s.next) }
+drawn s w hand = s
+
+-- Look: a worker takes the outcome of the next job of its block
+
+-- the job with the outcome that the cache has for its key, or else with its own
+abbrev pub taken : List Entry → Job → Job
+taken cache job = record job { outcome = unwrap_or (cached cache job.key) job.outcome }
+
+-- the first job of the block in hand that isn't judged yet, if there is one
+abbrev pub next_job : List (List Job) → Option Hand → Option Job
+next_job blocks (Some (Holding block judged)) = slice_get (block_at blocks block) (length judged)
+next_job blocks hand = None
+
+-- the hand with one more judged job
+abbrev pub judging : Job → Hand → Hand
+judging job (Holding block judged) = Holding block (judged ++ job ∷ [])
+judging job hand = hand
+
+abbrev pub looked : State → ℕ → Option Hand → Option Job → State
+looked s w (Some hand) (Some job) = with_hand s w (judging (taken s.cache job) hand)
+looked s w hand job = s
+
+-- Put: the pair of what a worker judged last enters the cache, and then pairs leave it
+
+abbrev pub last_judged : Option Hand → Option Job
+last_judged (Some (Holding block judged)) = slice_get judged (length judged - 1)
+last_judged hand = None
+
+abbrev pub put : State → List ℕ → Option Job → State
+put s gone (Some job) = record s { cache = without gone (s.cache ++ record { key = job.key; outcome = job.outcome } ∷ []) }
+put s gone None = s
+
+-- Post: the least image is lowered to the first failing one in hand
+
+-- the lower of the least image so far and another
+abbrev pub lowered : Option ℕ → Option ℕ → Option ℕ
+lowered least None = least
+lowered None (Some image) = Some image
+lowered (Some least) (Some image) = Some (min least image)
+
+abbrev pub posted : State → Option Hand → State
+posted s (Some (Holding block judged)) = record s { least = lowered s.least (first_failing_image judged) }
+posted s hand = s
+
+-- Pass and Done: a worker hands over a piece of its block, and is idle
+
+abbrev pub handed_over : State → ℕ → Option Piece → State
+handed_over s w (Some piece) = record s { pieces = s.pieces ++ piece ∷ []; hands = slice_set s.hands w Idle }
+handed_over s w None = s
+
+-- with `first`: the piece that names the least image, where the block in hand lies wholly after it
+abbrev pub piece_passed : List (List Job) → Bool → Option ℕ → Option Hand → Option Piece
+piece_passed blocks true (Some image) (Some (Holding block judged)) =
+    if lies_after image (block_at blocks block) then Some (record { block = block; found = Passed image }) else None
+piece_passed blocks first least hand = None
+
+-- the piece with the failing jobs of the block in hand, where it is wholly judged
+abbrev pub piece_done : List (List Job) → Option Hand → Option Piece
+piece_done blocks (Some (Holding block judged)) =
+    if length judged == length (block_at blocks block) then Some (record { block = block; found = Lines (failing judged) }) else None
+piece_done blocks hand = None
+
+-- Quit: a worker ends, and the block in its hand is lost
+
+abbrev pub quit : State → ℕ → Option Hand → State
+quit s w (Some Idle) = with_hand s w Ended
+quit s w (Some (Holding block judged)) = with_hand s w (Lost block)
+quit s w hand = s
+
+-- the state after an event; where there is no such worker, or the event's condition fails, it is the state before
+abbrev pub after : State → Event → State
+after s (Draw w) = drawn s w (slice_get s.hands w)
+after s (Look w) = looked s w (slice_get s.hands w) (next_job s.blocks (slice_get s.hands w))
+after s (Put w gone) = put s gone (last_judged (slice_get s.hands w))
+after s (Post w) = posted s (slice_get s.hands w)
+after s (Pass w) = handed_over s w (piece_passed s.blocks s.first s.least (slice_get s.hands w))
+after s (Done w) = handed_over s w (piece_done s.blocks (slice_get s.hands w))
+after s (Quit w) = quit s w (slice_get s.hands w)
+
+-- the state after a list of events
+abbrev pub after_all : State → List Event → State
+after_all s [] = s
+after_all s (e ∷ es) = after_all (after s e) es

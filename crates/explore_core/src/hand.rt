@@ -1,0 +1,33 @@
+//! What a worker has in hand.
+
+ghost use Rattle.std.specs.Prelude.{◌≡◌, OnOk, OnErr};
+ghost use Rattle.explore_core.specs.State.{judging};
+
+use crate::job::{Job, JobList};
+use std::alloc::AllocError;
+
+/// What a worker has in hand.
+#[derive(Drop)]
+pub enum Hand {
+    /// Nothing: it may draw.
+    Idle,
+    /// A block, and its jobs that are judged so far, each with the outcome that was taken for it.
+    Holding { block: usize, judged: JobList },
+    /// Nothing: it has ended.
+    Ended,
+    /// It has ended, and this block is lost.
+    Lost { block: usize },
+}
+
+impl Hand {
+    /// Adds a judged job to those of the block in hand. Where memory is wanting, nothing changes.
+    pub(crate) fn judge(&mut self, job: Job) -> Result<(), AllocError>
+        ensures judged { OnOk result (self.new ≡ judging job self.old) }
+        ensures kept { OnErr result (self.new ≡ self.old) }
+    {
+        match self {
+            Hand::Holding { block: _, judged } => judged.push(job),
+            _ => Ok(()),
+        }
+    }
+}

@@ -1,0 +1,221 @@
+//! What is judged: jobs in blocks.
+
+ghost use Rattle.std.specs.Prelude.{◌≡◌, ◌<◌, ◌^◌, ◌++◌, ◌∷◌, [], IfOk, OnOk, OnErr, length, slice_get, map, filter, find, unwrap_or, MatchOption, is_some, Vec, option_copied, IfSome, IfNone};
+ghost use Rattle.std.specs.List.{list_all};
+ghost use Rattle.explore_core.specs.Agreement.{agrees, last_image};
+ghost use Rattle.explore_core.specs.Jobs.{AreJobs, Rise, Agree, all_jobs, block_at, failing, first_failing_image, lies_after};
+
+use std::alloc::{AllocError, Global};
+use std::marker::Model;
+
+/// A job: an image with a checker that is to judge it.
+#[derive(Clone, Copy, Debug, PartialEq, Eq)]
+pub struct Job {
+    /// The number of the image.
+    pub image: u64,
+    /// Under what the cache keeps its outcome.
+    pub key: u64,
+    /// What the checker ends in on the image.
+    pub outcome: u64,
+    /// Whether the checker finds the image bad.
+    pub fails: bool,
+}
+
+/// Jobs one after the other. Contracts see the list.
+#[derive(Drop)]
+pub struct JobList {
+    items: Vec<Job>,
+}
+
+impl Model for JobList {
+    ghost use Rattle.std.specs.Prelude.{List};
+    ghost use Rattle.explore_core.specs.declared.job.Job.{Job};
+
+    ghost Value = { List Job };
+
+    ghost view = { λ l. l.items.items };
+}
+
+impl JobList {
+    /// No job.
+    pub fn new(alloc: Global) -> JobList
+        ensures { result ≡ [] }
+    {
+        JobList {
+            items: Vec::new(alloc),
+        }
+    }
+
+    /// The jobs as a slice.
+    pub fn as_slice(&self) -> &[Job]
+        ensures { result.now ≡ self.now }
+    {
+        self.items.as_slice()
+    }
+
+    /// Adds a job at the end. Where memory is wanting, the list stays as it was.
+    pub fn push(&mut self, job: Job) -> Result<(), AllocError>
+        ensures added { OnOk result (self.new ≡ self.old ++ job ∷ []) }
+        ensures kept { OnErr result (self.new ≡ self.old) }
+    {
+        self.items.push(job)?;
+        Ok(())
+    }
+
+    /// The failing jobs of the list.
+    pub(crate) fn into_failing(self) -> JobList
+        ensures { result ≡ failing self }
+    {
+        let JobList { mut items } = self;
+        keep_failing(&mut items);
+        JobList { items }
+    }
+}
+
+/// Leaves the failing jobs in a list.
+fn keep_failing(jobs: &mut Vec<Job>)
+    ensures { jobs.new.items ≡ failing jobs.old.items }
+{
+    jobs.retain(
+        |job: &Job| -> bool
+            ensures { result ≡ job.now.fails }
+        { job.fails },
+    );
+}
+
+/// The image of the first failing job of a list.
+pub(crate) fn first_failing_image(jobs: &[Job]) -> Option<u64>
+    ensures { result ≡ first_failing_image jobs.now }
+{
+    first_failing(jobs).map(|job| job.image)
+}
+
+fn first_failing(jobs: &[Job]) -> Option<&Job>
+    ensures { option_copied result ≡ find (λ j. j.fails) jobs.now }
+{
+    jobs.iter().find(|job| job.fails)
+}
+
+/// Whether each image of a list comes after that one.
+pub(crate) fn lies_after(image: u64, jobs: &[Job]) -> bool
+    ensures { result ≡ lies_after image jobs.now }
+{
+    jobs.iter().all(|job| image < job.image)
+}
+
+/// Jobs in blocks: images never fall from job to job, and equal keys have equal outcomes. Contracts
+/// see the blocks, each a list of jobs.
+#[derive(Drop)]
+pub struct Jobs {
+    blocks: Vec<Vec<Job>>,
+}
+
+impl Model for Jobs {
+    ghost use Rattle.std.specs.Prelude.{List, map};
+    ghost use Rattle.explore_core.specs.declared.job.Job.{Job};
+    ghost use Rattle.explore_core.specs.Jobs.{AreJobs};
+
+    ghost Value = { List (List Job) };
+
+    ghost view = { λ j. map (λ b. b.items) j.blocks.items };
+
+    ghost invariant = { λ j. AreJobs (map (λ b. b.items) j.blocks.items) };
+}
+
+/// Whether images never fall from job to job.
+fn images_rise(blocks: &[Vec<Job>]) -> bool
+    ensures { result ≡ is_some (last_image 0 (all_jobs (map (λ b. b.items) blocks.now))) }
+{
+    let mut last = 0;
+    for block in blocks {
+        match last_image(last, block.as_slice()) {
+            Some(image) => last = image,
+            None => return false,
+        }
+    }
+    true
+}
+
+/// The last image of a list, or `before` where there is none; none where an image falls.
+fn last_image(before: u64, jobs: &[Job]) -> Option<u64>
+    ensures { result ≡ last_image before jobs.now }
+{
+    let mut last = before;
+    for job in jobs {
+        if job.image < last {
+            return None;
+        }
+        last = job.image;
+    }
+    Some(last)
+}
+
+/// Whether equal keys have equal outcomes.
+fn outcomes_agree(blocks: &[Vec<Job>]) -> bool
+    ensures { result ≡ list_all (λ own. list_all (λ job. list_all (λ b. agrees b.items job) blocks.now) own.items) blocks.now }
+{
+    blocks.iter().all(|own| all_agree(blocks, own.as_slice()))
+}
+
+/// Whether the jobs with the key of one of these have its outcome.
+fn all_agree(blocks: &[Vec<Job>], jobs: &[Job]) -> bool
+    ensures { result ≡ list_all (λ job. list_all (λ b. agrees b.items job) blocks.now) jobs.now }
+{
+    jobs.iter().all(|job| agrees_with(blocks, job))
+}
+
+/// Whether the jobs of all blocks with the key of that one have its outcome.
+fn agrees_with(blocks: &[Vec<Job>], job: &Job) -> bool
+    ensures { result ≡ list_all (λ b. agrees b.items job.now) blocks.now }
+{
+    blocks.iter().all(|block| agrees(block.as_slice(), job))
+}
+
+/// Whether the jobs of a list with the key of that one have its outcome.
+fn agrees(jobs: &[Job], job: &Job) -> bool
+    ensures { result ≡ agrees jobs.now job.now }
+{
+    jobs.iter().all(|other| other.key != job.key || other.outcome == job.outcome)
+}
+
+impl Jobs {
+    /// Those blocks of jobs; none exactly where an image falls from job to job, or equal keys have
+    /// unequal outcomes.
+    pub fn new(blocks: Vec<Vec<Job>>) -> Option<Jobs>
+        ensures some { IfSome result (λ jobs. (jobs ≡ map (λ b. b.items) blocks.items) × AreJobs jobs) }
+        ensures none { IfNone result (AreJobs (map (λ b. b.items) blocks.items) → ⊥) }
+    {
+        if !images_rise(blocks.as_slice()) {
+            return None;
+        }
+        if !outcomes_agree(blocks.as_slice()) {
+            return None;
+        }
+        Some(Jobs { blocks })
+    }
+
+    /// The number of blocks.
+    pub fn block_count(&self) -> usize
+        ensures blocks { result ≡ length self.now }
+        ensures small { result < 2 ^ 63 }
+    {
+        self.blocks.as_slice().len()
+    }
+
+    /// The jobs of a block: none past the last block.
+    pub fn block(&self, block: usize) -> &[Job]
+        ensures { result.now ≡ block_at self.now block }
+    {
+        match self.blocks.get(block) {
+            Some(jobs) => jobs.as_slice(),
+            None => &[],
+        }
+    }
+
+    /// That images never fall, and that equal keys have equal outcomes.
+    pub fn are_jobs(&self)
+        ensures { AreJobs self.now }
+    {
+        let _blocks = &self.blocks;
+    }
+}
