@@ -1,5 +1,5 @@
 -- How often workers have ended.
-use Rattle.std.proofs.Common.{ℕ, zero, suc, ◌≡◌, ◌+◌, ◌<◌, ◌≤◌, Bool, true, false, List, [], ◌∷◌, ◌++◌, length, cond, get_or, slice_set, slice_get, Option, None, Some, length-set, refl, sym, ◌∙◌, ap, arith}
+use Rattle.std.proofs.Common.{ℕ, ◌≡◌, ◌≤◌, Bool, true, false, List, cond, get_or, slice_set, slice_get, Option, None, Some, length-set, refl, arith}
 use Rattle.std.specs.List.{count_by}
 use Rattle.std.proofs.lemmas.List.Sums.{sum_by-set}
 use Rattle.std.proofs.lemmas.Option.{slice_get_within, get_or_from_slice_get}

@@ -1,3 +1,8 @@
 -- Lemmas on hands, events and whole runs.
 pub mod Agreement
 pub mod Hands
+pub mod Each
+pub mod Places
+pub mod Sound
+pub mod Whole
+pub mod May

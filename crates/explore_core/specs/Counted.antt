@@ -1,7 +1,7 @@
 -- How often a next block was asked for.
 use Rattle.std.specs.Prelude.{ℕ, ◌+◌, ◌<◌, ◌≤◌, Bool, true, false, List, length, count_by}
 use Rattle.explore_core.specs.declared.hand.Hand.{Hand}
-use Rattle.explore_core.specs.declared.hand.Hand.TheVariants.{Idle, Holding, Ended, Lost}
+use Rattle.explore_core.specs.declared.hand.Hand.TheVariants.{Ended}
 
 abbrev pub has_ended : Hand → Bool
 has_ended Ended = true

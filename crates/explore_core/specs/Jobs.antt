@@ -1,5 +1,5 @@
 -- Jobs in blocks (docs/GUARANTEES.md, The exploration as a list of events).
-use Rattle.std.specs.Prelude.{ℕ, ◌≡◌, ◌≤◌, nat_lt, Bool, if◌then◌else◌, List, [], ◌∷◌, ◌++◌, filter, find, Option, option_map, None, Some, slice_get, unwrap_or}
+use Rattle.std.specs.Prelude.{ℕ, ◌≡◌, ◌≤◌, nat_lt, Bool, List, [], ◌∷◌, filter, find, Option, option_map, Some, slice_get, unwrap_or}
 use Rattle.std.specs.List.{flat_map, list_all}
 use Rattle.explore_core.specs.declared.job.Job.{Job}
 

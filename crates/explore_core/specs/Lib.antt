@@ -4,3 +4,5 @@ pub mod Agreement
 pub mod Cache
 pub mod Counted
 pub mod State
+pub mod Sound
+pub mod May

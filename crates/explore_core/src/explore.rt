@@ -2,6 +2,7 @@
 
 ghost use Rattle.std.specs.Prelude.{◌≡◌, ◌<◌, IfOk, OnOk, OnErr, slice_get, length, option_copied, OnSome, is_some, Some, None, if◌then◌else◌, true};
 ghost use Rattle.explore_core.specs.Jobs.{lies_after};
+ghost use Rattle.explore_core.specs.Sound.{IsSound};
 ghost use Rattle.explore_core.specs.declared.piece.Found.TheVariants.{Passed};
 ghost use Rattle.explore_core.specs.State.{start, after, after_all, hand_drawn, taken, lowered, drawn, next_job, looked, last_judged, put, posted, piece_passed, piece_done, handed_over, quit};
 
@@ -14,7 +15,7 @@ use std::alloc::{AllocError, Global};
 use std::marker::Model;
 use std::mem;
 
-/// An exploration under way. Contracts see its state.
+/// An exploration under way. Contracts see its state (`specs/State.antt`).
 #[derive(Drop)]
 pub struct Explore<'a> {
     jobs: &'a Jobs,
@@ -268,7 +269,7 @@ pub fn step(alloc: Global, explore: &mut Explore, event: &Event) -> Result<(), A
     Ok(())
 }
 
-/// The exploration after a list of events.
+/// The exploration after a list of events, with all that holds after every such list.
 ///
 /// # Errors
 ///
@@ -280,8 +281,10 @@ pub fn run<'a>(
     first: bool,
     events: &[Event],
 ) -> Result<Explore<'a>, AllocError>
-    ensures { IfOk result (λ explore. explore ≡ after_all (start jobs.now workers first) events.now) }
+    ensures state { IfOk result (λ explore. explore ≡ after_all (start jobs.now workers first) events.now) }
+    ensures sound { IfOk result (λ explore. IsSound explore) }
 {
+    jobs.are_jobs();
     let mut explore = Explore::new(alloc, jobs, workers, first)?;
     for event in events {
         step(alloc, &mut explore, event)?;

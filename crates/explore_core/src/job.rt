@@ -38,7 +38,7 @@ impl Model for JobList {
 
 impl JobList {
     /// No job.
-    pub fn new(alloc: Global) -> JobList
+    pub(crate) fn new(alloc: Global) -> JobList
         ensures { result ≡ [] }
     {
         JobList {
@@ -54,7 +54,7 @@ impl JobList {
     }
 
     /// Adds a job at the end. Where memory is wanting, the list stays as it was.
-    pub fn push(&mut self, job: Job) -> Result<(), AllocError>
+    pub(crate) fn push(&mut self, job: Job) -> Result<(), AllocError>
         ensures added { OnOk result (self.new ≡ self.old ++ job ∷ []) }
         ensures kept { OnErr result (self.new ≡ self.old) }
     {

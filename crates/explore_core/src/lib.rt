@@ -1,4 +1,55 @@
 //! The exploration of a run as a list of events, without threads.
+//!
+//! Workers draw blocks of jobs, judge them by a shared cache of outcomes, and hand over what they found.
+//! Here the whole of it is a plain state, and each atomic step of a worker is an event. A schedule of
+//! threads is then a list of events, and what holds after every list holds under every schedule
+//! (docs/GUARANTEES.md, The exploration as a list of events).
+//!
+//! | Type or call | What it is |
+//! |---|---|
+//! | `Job` | an image with a checker: the image's number, a key, the outcome, and whether it fails |
+//! | `Jobs::new(blocks)` | jobs in blocks; none exactly where an image falls, or equal keys have unequal outcomes |
+//! | `Event` | `Draw`, `Look`, `Put`, `Post`, `Pass`, `Done`, `Quit`, each of a worker |
+//! | `Explore::new(alloc, jobs, workers, first)` | the state at its start: all workers are idle |
+//! | `step(alloc, explore, event)` | one event; unchanged where memory is wanting |
+//! | `run(alloc, jobs, workers, first, events)` | the state after a list of events |
+//! | `next()`, `least()`, `pieces()` | how often a block was asked for, the least image posted, what was handed over |
+//!
+//! # Place
+//!
+//! It stands on `base` alone and has no thread, lock or device. The layers with threads answer to it: a
+//! draw of the board of `shares` is one `Draw`, a post one `Post`, the load of the least image that in
+//! `Pass`, and a look or a put on a locked shard of the cache is one `Look` or `Put`.
+//!
+//! # What is proved
+//!
+//! `after` (`specs/State.antt`) says by cases what each event makes of the state. `step` gives it, `run`
+//! gives it after a whole list, and where an event's condition fails, as where there is no such worker,
+//! nothing changes (`unless_it_may`). After every list of events (`IsSound` in `specs/Sound.antt`):
+//!
+//! - every entry of the cache is true: jobs with its key have its outcome;
+//! - the least image posted is that of a failing job;
+//! - lines handed over are the failing jobs of their block, and a piece that was passed over names a
+//!   failing image before all of its block;
+//! - each block that was drawn is in one hand, in one piece or lost by one worker that quit.
+//!
+//! Where all blocks are drawn and none is held or lost, the pieces by block are all failing jobs in order
+//! (`whole_is_failing`), or, where some were passed over, begin with the lines of the first failing image
+//! (`whole_begins_with_first`).
+//!
+//! # How it is written
+//!
+//! `explore` has a method for each event. It looks at the worker's hand first, asks for memory before it
+//! changes anything, and puts another hand in place. `job` tests jobs without memory, each against all.
+//!
+//! # Example
+//!
+//! ```text
+//! let jobs = Jobs::new(blocks)?;                 // two blocks
+//! let mut explore = Explore::new(alloc, &jobs, 2, false)?;
+//! step(alloc, &mut explore, &Event::Draw(0))?;   // worker 0 has block 0 in hand
+//! step(alloc, &mut explore, &Event::Done(0))?;   // nothing changes: its jobs aren't judged yet
+//! ```
 #![tactic(auto)]
 
 mod cache;
@@ -6,10 +57,14 @@ mod event;
 mod explore;
 mod hand;
 mod job;
+mod laws;
 mod piece;
+#[cfg(test)]
+mod tests;
 
 pub use event::{Event, Keys};
-pub use explore::Explore;
+pub use explore::{Explore, run, step};
 pub use hand::Hand;
 pub use job::{Job, JobList, Jobs};
+pub use laws::{every_run_is_sound, unless_it_may, whole_begins_with_first, whole_is_failing};
 pub use piece::{Found, Piece};

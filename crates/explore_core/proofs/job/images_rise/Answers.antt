@@ -1,4 +1,4 @@
-use Rattle.std.proofs.Common.{◌≡◌, sym, ◌∙◌, ap}
+use Rattle.std.proofs.Common.{sym, ◌∙◌, ap}
 use Rattle.explore_core.specs.Agreement.{last_image}
 use Rattle.explore_core.proofs.Agreement.{none_left, one_less}
 use Rattle.explore_core.proofs.job.images_rise.Goals as goal

@@ -1,5 +1,4 @@
 use Rattle.std.proofs.Common.{◌≡◌, replicate}
-use Rattle.explore_core.specs.declared.hand.Hand.{Hand}
 use Rattle.explore_core.specs.declared.hand.Hand.TheVariants.{Idle}
 use Rattle.explore_core.proofs.explore.Explore.new.Given as goal
 

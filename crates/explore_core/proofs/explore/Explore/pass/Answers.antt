@@ -1,4 +1,3 @@
-use Rattle.std.proofs.Common.{◌≡◌}
 use Rattle.explore_core.proofs.Hands.{counted_passed}
 use Rattle.explore_core.proofs.explore.Explore.pass.Goals as goal
 

@@ -1,4 +1,4 @@
-use Rattle.std.proofs.Common.{◌≡◌, refl, sym, ◌∙◌}
+use Rattle.std.proofs.Common.{refl, sym, ◌∙◌}
 use Rattle.explore_core.proofs.Agreement.{jobs_are, images_fall, outcomes_differ}
 use Rattle.explore_core.proofs.job.Jobs.new.Goals as goal
 
