@@ -51,8 +51,7 @@ impl<'a> Explore<'a> {
         ensures { IfOk result (λ e. e ≡ start jobs.now workers first) }
     {
         let mut hands = Vec::new(alloc);
-        for worker in 0..workers {
-            let _worker = worker;
+        for _worker in 0..workers {
             hands.push(Hand::Idle)?;
         }
         Ok(Explore {

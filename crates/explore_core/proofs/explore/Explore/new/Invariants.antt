@@ -3,4 +3,4 @@ use Rattle.explore_core.specs.declared.hand.Hand.TheVariants.{Idle}
 use Rattle.explore_core.proofs.explore.Explore.new.Given as goal
 
 abbrev pub invariant-loop-worker : goal.invariant-loop-worker
-invariant-loop-worker l = l.hands.items ≡ replicate l.worker Idle
+invariant-loop-worker l = l.hands.items ≡ replicate l._worker Idle
