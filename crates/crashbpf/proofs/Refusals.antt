@@ -44,9 +44,10 @@ first-push (f ∷ fs) (p ∷ ps) bytes slots h there spelled clean =
 pub first_next : (files : List (List ℕ)) (programs : List (List (Option Instr))) (n : ℕ) (bytes : List ℕ) (slots : List (Option Instr))
     → AreFirstOf files programs × (length programs ≡ n) → slice_get files n ≡ Some bytes → IsSpelledBy bytes slots → HasNoFault bytes
     → AreFirstOf files (programs ++ slots ∷ []) × (length (programs ++ slots ∷ []) ≡ n + 1)
-first_next files programs n bytes slots h there spelled clean =
-    (first-push files programs bytes slots h.0 (subst (λ k. slice_get files k ≡ Some bytes) (sym h.1) there) spelled clean,
-    omega (arith, h.1, length-append programs (slots ∷ [])))
+first_next files programs n bytes slots h there spelled clean = (
+  first-push files programs bytes slots h.0 (subst (λ k. slice_get files k ≡ Some bytes) (sym h.1) there) spelled clean,
+  omega (arith, h.1, length-append programs (slots ∷ [])),
+)
 
 -- the first program that can't be decoded
 pub decoded_until : (files : List (List ℕ)) (programs : List (List (Option Instr))) (n : ℕ) (bytes : List ℕ) (r : Refusal)
@@ -69,9 +70,10 @@ made-push s (p ∷ ps) (d ∷ ds) slots c h there same within =
 pub made_next : (s : Settings) (programs : List (List (Option Instr))) (checkers : List CheckerValue) (n : ℕ) (slots : List (Option Instr)) (c : CheckerValue)
     → AreFirstMade s programs checkers × (length checkers ≡ n) → slice_get programs n ≡ Some slots → c.program ≡ slots → IsRunWithin s.checked s.sectors c
     → AreFirstMade s programs (checkers ++ c ∷ []) × (length (checkers ++ c ∷ []) ≡ n + 1)
-made_next s programs checkers n slots c h there same within =
-    (made-push s programs checkers slots c h.0 (subst (λ k. slice_get programs k ≡ Some slots) (sym h.1) there) same within,
-    omega (arith, h.1, length-append checkers (c ∷ [])))
+made_next s programs checkers n slots c h there same within = (
+  made-push s programs checkers slots c h.0 (subst (λ k. slice_get programs k ≡ Some slots) (sym h.1) there) same within,
+  omega (arith, h.1, length-append checkers (c ∷ [])),
+)
 
 -- the first program that isn't accepted
 pub refused_at : (s : Settings) (programs : List (List (Option Instr))) (checkers : List CheckerValue) (n : ℕ) (slots : List (Option Instr)) (r : Refusal)

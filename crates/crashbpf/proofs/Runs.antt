@@ -26,11 +26,11 @@ pub reported : (text : List ℕ) (files : List (List ℕ)) (s : Settings) (log :
     → IsTrue failing ↔ (failing_lines (subject_of s log now) ≢ []) → IsReport text files s bytes failing
 reported text files s log checkers now bytes failing one source made same report fails =
     record {
-        count = one;
-        value = log;
-        source = source;
-        checkers = now;
-        made = subst (AreCheckersOf s files) (sym same) made;
-        report = report;
-        fails = fails;
+      count = one;
+      value = log;
+      source = source;
+      checkers = now;
+      made = subst (AreCheckersOf s files) (sym same) made;
+      report = report;
+      fails = fails;
     }

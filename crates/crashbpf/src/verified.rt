@@ -58,12 +58,7 @@ fn explores_with_verified_programs(rt: HostRuntime) -> Result<(), Fail> {
             "crash report 1\nsectors 1 entries 0 cuts mark bound 1 tears no first no\nprogram 0 slots 2 budget 2\nimages 0 failing 0 lines 0\n",
             0,
         ),
-        (
-            "--sectors 4",
-            "exit\n",
-            "refused 50 at 0 of program 0\n",
-            2,
-        ),
+        ("--sectors 4", "exit\n", "refused 50 at 0 of program 0\n", 2),
         (
             "--sectors 4",
             "ldxdw r0, [r1+8]\njeq r0, 0, +1\nstb [r10-1], 7\nldxb r0, [r10-1]\nexit\n",
@@ -148,12 +143,7 @@ fn verifies(rt: HostRuntime) -> Result<(), Fail> {
     ];
     for (text, wanted, status) in rows {
         let program = program_of(alloc, text)?;
-        let (bytes, found) = acted(
-            alloc,
-            "verify program --sectors 4",
-            program,
-            [].as_slice(),
-        )?;
+        let (bytes, found) = acted(alloc, "verify program --sectors 4", program, [].as_slice())?;
         assert_eq!(rt; bytes.as_slice(), wanted.as_bytes(), "{text}");
         assert_eq!(rt; found, status, "{text}");
     }

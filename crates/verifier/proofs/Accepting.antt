@@ -16,13 +16,13 @@ pub accepted : (program : List (Option Instr)) (sectors budget : ℕ) (table : L
 accepted program sectors budget table shape some device few p h e settled kept =
     let round : IsRound (length program) table = rw settled.is (each_round program sectors settled.turns few p h.rules) in
     record {
-  some = some;
-  device = device;
-  program = p;
-  shape = h.rules;
-  budget = rw e h.budget;
-  limit = rw e h.limit;
-  settled = settled;
-  states = round.states;
-  good = settled_is_good program sectors table few p h.rules settled kept;
-}
+      some = some;
+      device = device;
+      program = p;
+      shape = h.rules;
+      budget = rw e h.budget;
+      limit = rw e h.limit;
+      settled = settled;
+      states = round.states;
+      good = settled_is_good program sectors table few p h.rules settled kept;
+    }
