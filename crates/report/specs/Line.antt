@@ -1,5 +1,5 @@
 -- A failing line: an image on which a checker does not answer 0 (docs/REPORT.md, The report).
-use Rattle.std.specs.Prelude.{ℕ, ◌==◌, Bool, true, not, List}
+use Rattle.std.specs.Prelude.{ℕ, ◌==◌, Bool, true, not, List, [], ◌∷◌, filter}
 use Rattle.machine.specs.Outcome.{Ending, Verdict, Stopped, OutOfSteps}
 use Rattle.choices.specs.declared.choice.Departure.{Departure}
 
@@ -17,3 +17,8 @@ abbrev pub fails : Ending → Bool
 fails (Verdict answer codes) = not (answer == 0)
 fails (Stopped cause slot) = true
 fails OutOfSteps = true
+
+-- the lines of the first failing image, of lines by image
+abbrev pub first_lines : List FailingLine → List FailingLine
+first_lines [] = []
+first_lines (l ∷ ls) = filter (λ (m : FailingLine). m.image == l.image) (l ∷ ls)

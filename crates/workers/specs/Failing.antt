@@ -1,6 +1,6 @@
 -- The failing lines of a run: each image with each checker that does not answer 0 there (docs/REPORT.md,
 -- The report; docs/CRASH-MODEL.md, Order and numbers of the images).
-use Rattle.std.specs.Prelude.{ℕ, ◌+◌, ◌-◌, ◌*◌, ◌==◌, min, Bool, if◌then◌else◌, List, [], ◌∷◌, length, filter, Option, None, Some, slice_get}
+use Rattle.std.specs.Prelude.{ℕ, ◌+◌, ◌-◌, ◌*◌, ◌==◌, min, Bool, if◌then◌else◌, List, [], ◌∷◌, length, Option, None, Some, slice_get}
 use Rattle.std.specs.Option.{option_and_then}
 use Rattle.std.specs.List.{filter_map, flat_map, range_with_len}
 use Rattle.epochs.specs.Plan.{PlanValue}
@@ -58,8 +58,3 @@ failing_lines s = lines_from s 0 (image_count s)
 -- the lines of a block: of 64 images in a row, or of those that are left
 unfoldable pub part : Subject → ℕ → List FailingLine
 part s block = lines_from s (64 * block) (min 64 (image_count s - 64 * block))
-
--- the lines of the first failing image
-abbrev pub first_lines : List FailingLine → List FailingLine
-first_lines [] = []
-first_lines (l ∷ ls) = filter (λ (m : FailingLine). m.image == l.image) (l ∷ ls)
