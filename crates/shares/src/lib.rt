@@ -1,20 +1,76 @@
-//! What the workers of a run share, and how a run refuses.
+//! What the workers of a run share, the board of blocks, and how a run refuses.
 //!
-//! For now the crate has one thing, the type of a refusal: a cause, a place and, where a program is
-//! at fault, its number. Every refusal of the product, from a log that is cut short to memory that
-//! ran out in the midst of the work, reaches the user as one `Refusal`, printed as a single line
-//! `refused NN at K`, with ` of program P` behind it where a program is at fault.
+//! **The board** deals the blocks of a run out to its workers, each block once, and keeps the least
+//! failing image that one of them posted. It is two atomic words, `next` and `least`. Threads share a
+//! `Board` by reference, and each has a `Seat` of its own, which keeps in contracts the steps that were
+//! made with it, in order, each with the number that it found. No call waits for another thread, and
+//! only `Board::new` takes memory.
 //!
-//! The crate stands low, on the causes of `base`, so that any layer can answer a refusal.
+//! | Call | Its one step | Answer |
+//! |---|---|---|
+//! | `Board::new(alloc, blocks, seats)` | | a board of which no block is drawn, and its seats, at least one |
+//! | `board.draw(&mut seat)` | fetch_add of `next` | the next block, or none where all are drawn |
+//! | `board.post(&mut seat, image)` | fetch_min of `least` | |
+//! | `board.least(&mut seat)` | load of `least` | the least image posted by now |
+//! | `board.left(&mut seat)` | load of `next` | how many blocks nobody drew by now |
+//! | `board.gather(seats)` | | the end of the board: the least image posted, or a refusal |
 //!
-//! Its contract, in words: `Cause::number` is the number that docs/REPORT.md lists for the cause.
+//! **A refusal** is a cause, a place and, where a program is at fault, its number. Every refusal of the
+//! product, from a log that is cut short to memory that ran out in the midst of the work, reaches the
+//! user as one `Refusal`, printed as a single line `refused NN at K`, with ` of program P` behind it
+//! where a program is at fault. `Cause::number` is the number that docs/REPORT.md lists for the cause.
+//!
+//! # Place
+//!
+//! It stands low, on the causes of `base` and on the kit's `atomic_table`, which proves that single
+//! steps on words keep a rule. `workers` draws and posts by it, and any layer can answer a refusal.
+//!
+//! # What is proved
+//!
+//! The board rule (`BoardRule` in `specs/Board.antt`) holds between any two steps of any threads:
+//!
+//! - the numbers below `next` are drawn, each in one seat's steps, once, and no others are;
+//! - `least` is the smallest image that a seat posted, or none;
+//! - nothing that a seat saw in `next` is above it, and nothing that it saw in `least` is below it.
+//!
+//! Contracts see a seat as its board and its steps (`specs/Seats.antt`), and each call adds just its own:
+//!
+//! - `draw` gives a block below the number of blocks, at or above all that the seat saw before. It gives
+//!   none only where a step of this seat found no block left, and a seat that got none makes no further
+//!   step there.
+//! - `least` and `left` answer what their step found, which is never above, or below, what the seat
+//!   posted or saw before.
+//! - `gather` refuses with 73 at the number of seats that are missing, tested first, and with 71 at the
+//!   first block that nobody drew, exactly where there is one. Else each block was drawn once in the
+//!   steps of those seats, and the answer is the least image that they posted.
+//!
+//! Nothing is said of the order in time of two threads' calls.
+//!
+//! # How it is written
+//!
+//! `view` has what a seat knows, `rule` the rule and what each kind of step tells, and `board` the calls.
+//! Each seat has one part of the right to know the whole. `gather` joins the seats into one, and who has
+//! every part knows that nobody else drew or posted: one load of each word then tells the rest.
+//!
+//! # Example
 //!
 //! ```text
-//! let refusal = Refusal { code: Cause::Log(LogCause::CutShort), at: 7, program: None };
-//! refusal.code.number()            // 5, printed as `refused 5 at 7`
+//! let (board, seats) = Board::new(alloc, 2, 2)?;
+//! board.draw(&mut first)                  // Some(0)
+//! board.draw(&mut second)                 // Some(1)
+//! board.post(&mut first, 20);
+//! board.least(&mut second)                // Some(20)
+//! board.gather(seats)                     // Ok(Some(20))
 //! ```
 #![tactic(auto)]
 
+mod board;
 mod refusal;
+mod rule;
+#[cfg(test)]
+mod tests;
+mod view;
 
+pub use board::{Board, Seat};
 pub use refusal::{Cause, Refusal};
+pub use view::SeatStep;

@@ -1,0 +1,176 @@
+-- The board rule holds of a new board, and is kept where seats come, where they are joined, and where the last one looks.
+use Rattle.std.proofs.Common.{◌≡◌, ℕ, zero, suc, ◌+◌, ◌<◌, ◌≤◌, min, List, [], ◌∷◌, ◌++◌, slice_index, slice_set, sym, refl, ap, ◌∙◌, subst, subst₂, ⊎_elim, arith}
+use mathlib.Core.Option.{some, some-injective, some-ne-none}
+use lib.ListN.{get_elem?}
+use Rattle.atomic_table.specs.Table.{State, Step, Allows, Splits, Joins, Enters, opening, keeps}
+use Rattle.atomic_table.proofs.Lists.{at_snoc, set_else, set_again}
+use Rattle.shares.specs.declared.view.View.{View}
+use Rattle.shares.specs.declared.view.Limits.{Limits}
+use Rattle.shares.specs.Steps.{total, least_of, drew, drew_late, image_posted, shown_next, shown_least, draws, late_draws, least_posted, none_posted}
+use Rattle.shares.specs.Board.{known, DrewBelow, Fits, BoardRule}
+use Rattle.shares.specs.Moves.{opened, newcomer, one_part, less_one, joined, entered, learned_next, learned_least}
+use Rattle.shares.proofs.Lists.{total_append, total_snoc, total_set, greatest_append, least_bound, least_snoc, least_append, least_set, least_out, least_part, total_alone, least_alone}
+use Rattle.shares.proofs.Moves.{each_after, least_within}
+
+-- a seat that made no step fits whatever words
+fits_new : (limits : Limits) (next least parts : ℕ) → least ≤ none_posted → Fits limits next least (known parts [])
+fits_new limits next least parts bound = record { late = omega arith; idle = λ e. refl; below = omega arith; above = bound }
+
+pub begins : (limits : Limits) → limits.blocks + limits.seats < 8589934592 → BoardRule limits (opening (0 ∷ none_posted ∷ []) [] (opened limits))
+begins limits small = record {
+  next = 0;
+  least = none_posted;
+  words = refl;
+  small = small;
+  parts = omega arith;
+  once = λ b. ((λ lt. absurd (omega arith)), (λ le. refl));
+  late = omega arith;
+  lowest = refl;
+  each = only;
+}
+  where
+    only : (j : ℕ) (v : View) → get_elem? (opened limits ∷ []) j ≡ some v → Fits limits 0 none_posted v
+    only zero v at = subst (Fits limits 0 none_posted) (some-injective (opened limits) v at) (fits_new limits 0 none_posted limits.seats (omega arith))
+    only (suc j) v at = absurd (some-ne-none v (sym at))
+
+-- a seat comes that made no step, where the others know together what they knew
+module _ (limits : Limits) (s : State (Unit {0}) View) (h : BoardRule limits s) (parts : ℕ) (views : List View) where
+  comes : total (λ (u : View). u.parts) views + parts ≡ limits.seats
+      → ((b : ℕ) → total (λ (u : View). draws b u.steps) views ≡ total (λ (u : View). draws b u.steps) s.views)
+      → total (λ (u : View). late_draws limits.blocks u.steps) views ≡ total (λ (u : View). late_draws limits.blocks u.steps) s.views
+      → least_of (λ (u : View). least_posted u.steps) views ≡ least_of (λ (u : View). least_posted u.steps) s.views
+      → ((j : ℕ) (u : View) → get_elem? views j ≡ some u → Fits limits h.next h.least u)
+      → BoardRule limits (record { words = s.words; homes = s.homes; views = views ++ known parts [] ∷ [] })
+  comes seats same_draws same_late same_least each = record {
+    next = h.next;
+    least = h.least;
+    words = h.words;
+    small = h.small;
+    parts = omega (arith, total_snoc (λ (u : View). u.parts) views new, seats);
+    once = λ b.
+        let same : total (λ (u : View). draws b u.steps) (views ++ new ∷ []) ≡ total (λ (u : View). draws b u.steps) s.views =
+        omega (arith, total_snoc (λ (u : View). draws b u.steps) views new, same_draws b) in
+        let was = h.once b in
+        ((λ lt. same ∙ was.0 lt), (λ le. same ∙ was.1 le));
+    late = omega (arith, total_snoc (λ (u : View). late_draws limits.blocks u.steps) views new, same_late, h.late);
+    lowest = omega (arith, least_snoc (λ (u : View). least_posted u.steps) views new, same_least, h.lowest, least_within limits s h);
+    each = λ j u at. ⊎_elim (each j u) (λ e. subst (Fits limits h.next h.least) e (fits_new limits h.next h.least parts (least_within limits s h))) (at_snoc views new u j at);
+  }
+    where
+      new : View
+      new = known parts []
+
+pub enters : (limits : Limits) (slots : ℕ) (st : Step (Unit {0})) (c : View × List (ℕ × Unit {0})) → Enters (BoardRule limits) slots 0 (λ n w. entered st c n (w, []))
+enters limits slots st c s h count fits = (newcomer, comes limits s h 0 s.views (omega (arith, h.parts)) (λ b. refl) refl refl h.each, refl)
+
+pub gives : (limits : Limits) (id : ℕ) (v : View) → v.steps ≡ [] → 0 < v.parts → Splits (BoardRule limits) id v (less_one v) one_part
+gives limits id v no_step some_part s h at = comes limits s h 1 (slice_set s.views id (less_one v))
+    (omega (arith, total_set (λ (u : View). u.parts) s.views id v (less_one v) at, h.parts))
+    (λ b. omega (arith, total_set (λ (u : View). draws b u.steps) s.views id v (less_one v) at))
+    (omega (arith, total_set (λ (u : View). late_draws limits.blocks u.steps) s.views id v (less_one v) at))
+    (omega (arith, least_set (λ (u : View). least_posted u.steps) s.views id v (less_one v) none_posted at (omega (arith, least_bound image_posted v.steps)), least_bound (λ (u : View). least_posted u.steps) s.views))
+    (each_after limits h.next h.least h.next h.least s.views id (less_one v) (omega arith) (omega arith) fewer h.each)
+  where
+    none_late : late_draws limits.blocks v.steps ≡ 0
+    none_late = ap (late_draws limits.blocks) no_step
+
+    fewer : Fits limits h.next h.least (less_one v)
+    fewer = record { late = omega (arith, none_late); idle = λ e. no_step; below = (h.each id v at).below; above = (h.each id v at).above }
+
+-- the element that was put at a place is there
+here : (xs : List View) (i : ℕ) (a b : View) → get_elem? xs i ≡ some b → get_elem? (slice_set xs i a) i ≡ some a
+here [] i a b at = absurd (some-ne-none b (sym at))
+here (x ∷ xs) zero a b at = refl
+here (x ∷ xs) (suc i) a b at = here xs i a b at
+
+-- a seat takes in what another knows, which is left with nothing
+pub takes_in : (limits : Limits) (id : ℕ) (v : View) (other : ℕ) (w : View) → Joins (BoardRule limits) id v other w (joined v w) newcomer
+takes_in limits id v other w s h at apart at_other = record {
+  next = h.next;
+  least = h.least;
+  words = h.words;
+  small = h.small;
+  parts = omega (arith, twice (λ (u : View). u.parts), h.parts);
+  once = λ b.
+      let same : total (λ (u : View). draws b u.steps) after ≡ total (λ (u : View). draws b u.steps) s.views =
+      omega (arith, twice (λ (u : View). draws b u.steps), total_append (drew b) v.steps w.steps) in
+      let was = h.once b in
+      ((λ lt. same ∙ was.0 lt), (λ le. same ∙ was.1 le));
+  late = omega (arith, twice (λ (u : View). late_draws limits.blocks u.steps), total_append (drew_late limits.blocks) v.steps w.steps, h.late);
+  lowest = h.lowest ∙ sym same_least;
+  each = each_after limits h.next h.least h.next h.least one_set other newcomer (omega arith) (omega arith) (fits_new limits h.next h.least 0 (least_within limits s h))
+      (each_after limits h.next h.least h.next h.least s.views id both (omega arith) (omega arith) fits_both h.each);
+}
+  where
+    both : View
+    both = joined v w
+
+    one_set : List View
+    one_set = slice_set s.views id both
+
+    after : List View
+    after = slice_set one_set other newcomer
+
+    was_there : get_elem? s.views other ≡ some w
+    was_there = sym (set_else s.views id other both apart) ∙ at_other
+
+    twice : (f : View → ℕ) → total f after + f w + f v ≡ total f s.views + f both + f newcomer
+    twice f = omega (arith, total_set f s.views id v both at, total_set f one_set other w newcomer at_other)
+
+    posted_by_both : least_posted both.steps ≡ min (least_posted v.steps) (least_posted w.steps)
+    posted_by_both = least_append image_posted v.steps w.steps
+
+    same_least : least_of (λ (u : View). least_posted u.steps) after ≡ least_of (λ (u : View). least_posted u.steps) s.views
+    same_least = omega (
+      arith,
+      least_set (λ (u : View). least_posted u.steps) s.views id v both (least_posted w.steps) at posted_by_both,
+      least_part (λ (u : View). least_posted u.steps) s.views other w was_there,
+      least_out (λ (u : View). least_posted u.steps) one_set id other both w newcomer (here s.views id both v at) at_other (λ e. apart (sym e)) (omega (arith, posted_by_both)) refl,
+    )
+
+    fits_both : Fits limits h.next h.least both
+    fits_both =
+        let mine = h.each id v at in
+        let others = h.each other w was_there in
+        record {
+          late = omega (arith, mine.late, others.late, total_append (drew_late limits.blocks) v.steps w.steps);
+          idle = λ none_left. λ i. mine.idle (omega arith) i ++ others.idle (omega arith) i;
+          below = omega (arith, mine.below, others.below, greatest_append shown_next v.steps w.steps);
+          above = omega (arith, mine.above, others.above, least_append shown_least v.steps w.steps);
+        }
+
+-- nothing changes where the seat that looks keeps its view
+same_rule : (limits : Limits) (s : State (Unit {0}) View) (words : List ℕ) (views : List View) → words ≡ s.words → views ≡ s.views → BoardRule limits s
+    → BoardRule limits (record { words = words; homes = s.homes; views = views })
+same_rule limits s words views same_words same_views h = subst₂ (λ ws vs. BoardRule limits (record { words = ws; homes = s.homes; views = vs })) (sym same_words) (sym same_views) h
+
+module _ (limits : Limits) (slots id : ℕ) (v : View) (c : List (ℕ × Unit {0})) (st : Step (Unit {0})) (all : limits.seats ≤ v.parts) where
+  -- who has every part knows how often each number was drawn
+  all_draws : (s : State (Unit {0}) View) (h : BoardRule limits s) → get_elem? s.views id ≡ some v → DrewBelow h.next (λ b. draws b v.steps)
+  all_draws s h at b =
+      let mine : total (λ (u : View). draws b u.steps) s.views ≡ draws b v.steps =
+      total_alone (λ (u : View). u.parts) (λ (u : View). draws b u.steps) s.views id v at (omega (arith, h.parts)) (λ i u there none_left. ap (draws b) ((h.each i u there).idle none_left)) in
+      let was = h.once b in
+      ((λ lt. sym mine ∙ was.0 lt), (λ le. sym mine ∙ was.1 le))
+
+  pub learns_next : Allows (BoardRule limits) slots id (v, c) 0 (λ n. n) (learned_next st (v, c))
+  learns_next s h count at fits =
+      let found : slice_index s.words 0 ≡ h.next = ap (λ (ws : List ℕ). slice_index ws 0) h.words in (
+        v,
+        keeps,
+        tt,
+        same_rule limits s (slice_set s.words 0 (slice_index s.words 0)) (slice_set s.views id v) ((λ i. slice_set (h.words i) 0 (slice_index (h.words i) 0)) ∙ sym h.words) (set_again s.views id v at) h,
+        (refl, subst (λ n. DrewBelow n (λ b. draws b v.steps)) (sym found) (all_draws s h at)),
+      )
+
+  pub learns_least : Allows (BoardRule limits) slots id (v, c) 1 (λ n. n) (learned_least st (v, c))
+  learns_least s h count at fits =
+      let found : slice_index s.words 1 ≡ h.least = ap (λ (ws : List ℕ). slice_index ws 1) h.words in
+      let mine = least_alone (λ (u : View). u.parts) (λ (u : View). least_posted u.steps) s.views id v at (omega (arith, h.parts)) (least_bound image_posted v.steps)
+      (λ i u there none_left. ap least_posted ((h.each i u there).idle none_left)) in (
+        v,
+        keeps,
+        tt,
+        same_rule limits s (slice_set s.words 1 (slice_index s.words 1)) (slice_set s.views id v) ((λ i. slice_set (h.words i) 1 (slice_index (h.words i) 1)) ∙ sym h.words) (set_again s.views id v at) h,
+        (refl, found ∙ h.lowest ∙ mine),
+      )

@@ -1,0 +1,47 @@
+-- The board and its seats, as contracts see them.
+use Rattle.std.specs.Prelude.{◌≡◌, ℕ, ◌<◌, ◌≤◌, List, [], ◌∷◌, ◌++◌, flat_map}
+use Rattle.atomic_table.specs.Seated.{TableId}
+use Rattle.shares.specs.declared.view.SeatStep.{SeatStep}
+use Rattle.shares.specs.declared.view.SeatStep.TheVariants.{Drew}
+use Rattle.shares.specs.Steps.{draws, late_draws}
+
+-- which board it is, and its number of blocks
+pub record BoardName : Type 0 where
+  pub table : TableId
+  pub blocks : ℕ
+
+abbrev pub board_name : TableId → ℕ → BoardName
+board_name table blocks = record { table = table; blocks = blocks }
+
+pub record BoardValue : Type 0 where
+  pub name : BoardName
+  pub seats : ℕ
+
+-- a seat: its board, and the steps that it made, in order
+pub record SeatValue : Type 0 where
+  pub board : BoardName
+  pub steps : List SeatStep
+
+-- a draw of the seat found no block left
+abbrev pub HasEnded : SeatValue → Type 0
+HasEnded seat = 0 < late_draws seat.board.blocks seat.steps
+
+-- a seat that draws none: it had ended and makes no step, or its one step finds every block drawn
+abbrev pub DrawsNone : SeatValue → SeatValue → Type 0
+DrawsNone before after =
+    (HasEnded before → after.steps ≡ before.steps)
+    × (¬ HasEnded before → (found : ℕ) × (before.board.blocks ≤ found) × (after.steps ≡ before.steps ++ Drew found ∷ []))
+
+-- the steps of all seats
+abbrev pub all_steps : List SeatValue → List SeatStep
+all_steps seats = flat_map (λ (s : SeatValue). s.steps) seats
+
+-- of that many blocks this is the first that no step drew
+pub record IsFirstUndrawn (blocks : ℕ) (steps : List SeatStep) (block : ℕ) : Type 0 where
+  pub there : block < blocks
+  pub undrawn : draws block steps ≡ 0
+  pub before : (b : ℕ) → b < block → draws b steps ≡ 1
+
+-- each of that many blocks was drawn in those steps, once
+pub record AreDrawnOnce (blocks : ℕ) (steps : List SeatStep) : Type 0 where
+  pub once : (b : ℕ) → b < blocks → draws b steps ≡ 1

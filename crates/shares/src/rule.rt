@@ -1,0 +1,82 @@
+//! The rule of a board's words, and what each kind of step tells the seat that makes it.
+
+ghost use Rattle.shares.specs.Board.{BoardRule};
+ghost use Rattle.shares.specs.Moves.{opened, one_part, less_one, joined, newcomer, drawn, posted, saw_least, saw_next, entered, learned_next, learned_least};
+
+use crate::view::{Limits, View};
+use atomic_table::{Join, Play, Split, TableRule};
+
+pub struct Rule;
+
+impl TableRule<(), View, Limits> for Rule {
+    ghost holds = { BoardRule };
+
+    ghost first = { opened };
+}
+
+/// A draw: one fetch_add of the next block.
+pub(crate) struct Draw;
+
+impl Play<(), View> for Draw {
+    ghost then = { drawn };
+}
+
+/// A post: one fetch_min of the least image.
+pub(crate) struct Post;
+
+impl Play<(), View> for Post {
+    ghost then = { posted };
+}
+
+/// One load of the least image.
+pub(crate) struct LoadLeast;
+
+impl Play<(), View> for LoadLeast {
+    ghost then = { saw_least };
+}
+
+/// One load of the next block.
+pub(crate) struct LoadNext;
+
+impl Play<(), View> for LoadNext {
+    ghost then = { saw_next };
+}
+
+/// A seat is made that knows nothing.
+pub(crate) struct Enter;
+
+impl Play<(), View> for Enter {
+    ghost then = { entered };
+}
+
+/// The seat with every part learns which blocks were drawn.
+pub(crate) struct LearnNext;
+
+impl Play<(), View> for LearnNext {
+    ghost then = { learned_next };
+}
+
+/// The seat with every part learns the least image posted.
+pub(crate) struct LearnLeast;
+
+impl Play<(), View> for LearnLeast {
+    ghost then = { learned_least };
+}
+
+/// One part for a new seat.
+pub(crate) struct OnePart;
+
+impl Split<View> for OnePart {
+    ghost left = { less_one };
+
+    ghost right = { λ v. one_part };
+}
+
+/// What two seats know, in one.
+pub(crate) struct Together;
+
+impl Join<View> for Together {
+    ghost both = { joined };
+
+    ghost spent = { newcomer };
+}
