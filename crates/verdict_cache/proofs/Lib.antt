@@ -1,0 +1,4 @@
+-- Lemmas of the crate.
+pub mod Telling
+pub mod Listed
+pub mod Truth

@@ -1,0 +1,15 @@
+-- How the entries of a cache are spread over its shards (docs/GUARANTEES.md, Verdict cache).
+use Rattle.std.specs.Prelude.{ℕ, ◌+◌, ◌/◌, ◌%◌, nat_lt, if◌then◌else◌, List, [], map}
+use Rattle.std.specs.List.{range_with_len}
+use Rattle.verdict_cache.specs.Shard.{ShardValue}
+
+-- how many entries a shard may have in a cache of that size
+abbrev pub share_of : ℕ → ℕ → ℕ
+share_of size number = size / 16 + (if nat_lt number (size % 16) then 1 else 0)
+
+abbrev pub empty_shard : ℕ → ShardValue
+empty_shard capacity = record { entries = []; capacity = capacity; hits = 0 }
+
+-- the first n shards of a cache of that size, at the start
+abbrev pub first_shards : ℕ → ℕ → List ShardValue
+first_shards size n = map (λ number. empty_shard (share_of size number)) (range_with_len 0 n)

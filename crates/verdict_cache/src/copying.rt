@@ -1,0 +1,35 @@
+//! Copies of outcomes, which take no memory.
+
+ghost use Rattle.std.specs.Prelude.{◌≡◌, ◌≤◌, length};
+
+use arrayvec::ArrayVec;
+use interp::{Outcome, Verdict};
+
+/// The same outcome.
+pub(crate) fn copy_of(outcome: &Outcome) -> Outcome
+    ensures { result ≡ outcome.now }
+{
+    match outcome {
+        Outcome::Verdict(verdict) => Outcome::Verdict(Verdict {
+            answer: verdict.answer,
+            codes: copied(verdict.codes.as_slice()),
+        }),
+        Outcome::Fault { code, slot } => Outcome::Fault {
+            code: *code,
+            slot: *slot,
+        },
+        Outcome::OutOfSteps => Outcome::OutOfSteps,
+    }
+}
+
+/// The same codes.
+fn copied(codes: &[u64]) -> ArrayVec<u64, 16>
+    requires { length codes.now ≤ 16 }
+    ensures { result.items ≡ codes.now }
+{
+    let mut copy = ArrayVec::new();
+    for code in codes {
+        copy.push(*code);
+    }
+    copy
+}

@@ -1,0 +1,73 @@
+//! The verdict cache: what checkers ended in, by the keys of images, in sixteen shards.
+//!
+//! Crash images of one log often show a checker the same: another choice, or another cut, leaves the
+//! same bytes behind, with the same epoch and the same marks. Such images have one key (`images`), and
+//! a checker ends on all of them in the same. So a worker that is to judge an image looks for its key
+//! first, and runs the checker only where no one has judged that key lately.
+//!
+//! | Call | Does |
+//! |---|---|
+//! | `shards(alloc, history, checkers, size)` | makes the shards of a run, empty, each behind a lock |
+//! | `shard.look(key)` | answers the outcome that is listed for a key, which becomes the most recently used |
+//! | `shard.put(key, outcome)` | lists an outcome for a key, and says what became of it (`Kept`) |
+//! | `shard.hits()` | answers how many looks have found an entry |
+//!
+//! # Place
+//!
+//! It stands on `images`, whose keys it goes by, on `interp`, whose outcomes it keeps, and on the library
+//! `lru`, a map of bounded size. Those who judge images stand above it: a key belongs to the shard with
+//! the number `key.shard()`, and a shard is used while its lock is held. An image without a key is
+//! judged without the cache. The rules are those of docs/GUARANTEES.md, 'Verdict cache', and
+//! docs/CRASH-MODEL.md, 'Keys of images'.
+//!
+//! # What is proved
+//!
+//! Contracts see a shard as a list of entries, the most recently used first, a capacity, and a count of
+//! hits (`specs/Shard.antt`).
+//!
+//! - Each entry is true: its outcome is what the checker ends in on every image of the run that has the
+//!   key together with that checker (`IsEndingOf`, `specs/Endings.antt`). A shard's type keeps that, so
+//!   whoever gets the lock finds it so, whatever other threads have done, and may take what `look`
+//!   answers for the outcome of his own image. `put` asks for it; by the law `one_image_tells` whoever
+//!   has judged one image has it.
+//! - `look` answers the listed outcome, brings its entry to the front and counts one hit more, or answers
+//!   `None` and changes nothing. It takes no memory.
+//! - `put` brings the entry to the front. Its answer is determined by the entries, the capacity and the
+//!   key (`Answers`, `specs/Puts.antt`), but that memory for a new key may be refused; the entries after
+//!   it are `entries_after` that answer.
+//! - `shards` answers sixteen. That shard i begins without entries and with the capacity `size / 16`,
+//!   and one more where i is below `size % 16`, is the contract of the private function that makes them
+//!   (`first_shards`, `specs/Sizes.antt`): no contract can speak of what lies under a lock.
+//!
+//! A trait, `Run`, names the plan and the checkers in the types of the shards. Only contracts read it.
+//!
+//! # Example
+//!
+//! ```
+//! let shards = shards::<J>(alloc, &history, checkers, 1_000)?;
+//! let Some(key) = view.key(alloc, program)? else {
+//!     return Ok(checker.judge(&view.context(), &view));
+//! };
+//! let shard = &shards[usize::from(key.shard())];
+//! if let Some(outcome) = shard.lock(rt).look(&key) {
+//!     return Ok(outcome);
+//! }
+//! let outcome = checker.judge(&view.context(), &view);
+//! shard.lock(rt).put(key, ..)     // `Kept::New`, and the next look for that key answers the outcome
+//! ```
+#![tactic(auto)]
+
+mod copying;
+mod kept;
+mod laws;
+mod making;
+mod run;
+mod shard;
+#[cfg(test)]
+mod tests;
+
+pub use kept::Kept;
+pub use laws::one_image_tells;
+pub use making::shards;
+pub use run::Run;
+pub use shard::Shard;

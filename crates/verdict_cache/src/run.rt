@@ -1,0 +1,27 @@
+//! A run, as contracts name it.
+
+use std::marker::Brand;
+
+/// A run, as contracts name it: the plan whose crash images are judged, and the checkers that judge
+/// them.
+///
+/// Only contracts read it, so that a shard of one run can't be taken for that of another. A caller
+/// picks it at one call, which passes `std::marker::Brand`.
+pub trait Run {
+    ghost use Rattle.std.specs.Prelude.{List};
+    ghost use Rattle.epochs.specs.Plan.{PlanValue};
+    ghost use Rattle.interp.specs.Checker.{CheckerValue};
+
+    ghost plan: { PlanValue };
+
+    ghost checkers: { List CheckerValue };
+}
+
+impl Run for Brand {
+    ghost use Rattle.std.specs.Prelude.{[]};
+    ghost use Rattle.epochs.specs.declared.cuts.Cuts.TheVariants.{All};
+
+    ghost plan = { record { log = record { sectors = 0; entries = [] }; kind = All } };
+
+    ghost checkers = { [] };
+}

@@ -1,0 +1,128 @@
+//! A shard: outcomes by key.
+
+ghost use Rattle.std.specs.Prelude.{◌≡◌, ◌<◌, IfOk, IfSome, IfNone};
+ghost use Rattle.interp.specs.Ending.{ending_of};
+ghost use Rattle.lru.specs.LruCache.{lru_cache};
+ghost use Rattle.images.specs.Equal.{same_key};
+ghost use Rattle.verdict_cache.specs.Endings.{IsEndingOf};
+ghost use Rattle.verdict_cache.specs.Shard.{listed, to_front, after_look};
+ghost use Rattle.verdict_cache.specs.Puts.{Answers, entries_after, after_put};
+ghost use Rattle.verdict_cache.specs.Sizes.{empty_shard};
+
+use crate::copying::copy_of;
+use crate::kept::Kept;
+use crate::run::Run;
+use images::Key;
+use interp::Outcome;
+use lru::LruCache;
+use std::alloc::{AllocError, Global};
+use std::marker::{Model, PhantomData};
+use std::num::NonZeroUsize;
+
+/// A shard of the verdict cache of a run: outcomes by key, at most so many, the most recently used
+/// first (docs/GUARANTEES.md, Verdict cache). Each is what its key ends in, in that run.
+///
+/// Contracts see its entries, its capacity, and how many looks have found an entry.
+#[derive(Drop)]
+pub struct Shard<J: Run> {
+    /// The entries; there is no map where the capacity is 0.
+    cache: Option<LruCache<Key, Outcome>>,
+    hits: u64,
+    run: PhantomData<J>,
+}
+
+impl<J: Run> Model for Shard<J> {
+    ghost use Rattle.verdict_cache.specs.Endings.{AreTrue};
+    ghost use Rattle.verdict_cache.specs.Shard.{ShardValue, entries_of, shard_value};
+
+    ghost Value = { ShardValue };
+
+    ghost view = { λ s. shard_value s.cache s.hits };
+
+    ghost invariant = { λ s. AreTrue J.plan J.checkers (entries_of s.cache) };
+}
+
+impl<J: Run> Shard<J> {
+    /// A shard without entries. Memory for entries is taken as they come.
+    pub(crate) fn new(alloc: Global, capacity: u32) -> Result<Shard<J>, AllocError>
+        ensures { IfOk result (λ shard. shard ≡ empty_shard capacity) }
+    {
+        let cache = match NonZeroUsize::new(capacity as usize) {
+            Some(capacity) => Some(LruCache::sparse(alloc, capacity)?),
+            None => None,
+        };
+        Ok(Shard {
+            cache,
+            hits: 0,
+            run: PhantomData,
+        })
+    }
+
+    /// The outcome that is listed for a key. Its entry becomes the most recently used.
+    pub fn look(&mut self, key: &Key) -> Option<Outcome>
+        ensures answer { result ≡ listed self.old.entries key.now }
+        ensures found { IfSome result (λ outcome. self.new ≡ after_look self.old key.now outcome) }
+        ensures missing { IfNone result (self.new ≡ self.old) }
+        ensures told { IfSome result (λ outcome. IsEndingOf J.plan J.checkers key.now (ending_of outcome)) }
+    {
+        let Some(cache) = &mut self.cache else {
+            return None;
+        };
+        let outcome = used(cache, key)?;
+        self.hits = self.hits.saturating_add(1);
+        Some(outcome)
+    }
+
+    /// Lists an outcome for a key, as the most recently used entry.
+    pub fn put(&mut self, key: Key, outcome: Outcome) -> Kept
+        requires { IsEndingOf J.plan J.checkers key (ending_of outcome) }
+        ensures answer { Answers result self.old.entries self.old.capacity key }
+        ensures kept { self.new ≡ after_put result self.old key outcome }
+    {
+        match &mut self.cache {
+            Some(cache) => put_in(cache, key, outcome),
+            None => Kept::Off,
+        }
+    }
+
+    /// How many looks have found an entry, at most 2^64 - 1.
+    pub fn hits(&self) -> u64
+        ensures { result ≡ self.now.hits }
+    {
+        self.hits
+    }
+}
+
+/// The outcome of a key, whose entry becomes the most recently used.
+fn used(cache: &mut LruCache<Key, Outcome>, key: &Key) -> Option<Outcome>
+    ensures answer { result ≡ listed cache.old.entries key.now }
+    ensures found { IfSome result (λ outcome. cache.new ≡ lru_cache (to_front cache.old.entries key.now outcome) cache.old.cap) }
+    ensures missing { IfNone result (cache.new ≡ cache.old) }
+{
+    let outcome = match cache.peek(key) {
+        Some(outcome) => copy_of(outcome),
+        None => return None,
+    };
+    cache.promote(key);
+    Some(outcome)
+}
+
+/// Puts an entry into a map of bounded size.
+fn put_in(cache: &mut LruCache<Key, Outcome>, key: Key, outcome: Outcome) -> Kept
+    ensures answer { Answers result cache.old.entries cache.old.cap key }
+    ensures kept { cache.new ≡ lru_cache (entries_after result cache.old.entries cache.old.cap key outcome) cache.old.cap }
+    ensures some { 0 < cache.old.cap }
+{
+    let was_there = cache.contains(&key);
+    let is_full = cache.len() == cache.cap().get();
+    if cache.put(key, outcome).is_err() {
+        return Kept::NoMemory;
+    }
+    if was_there {
+        return Kept::Again;
+    }
+    if is_full {
+        return Kept::Evicted;
+    }
+    Kept::New
+}
