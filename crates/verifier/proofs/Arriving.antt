@@ -29,7 +29,7 @@ joined_keeps (Some t) s x h a b c = contains_more t s x h a b c
 here : (table : List (Option Abstract)) (p : ℕ × Abstract) → p.0 < length table → state_at (receive table p) p.0 ≡ Some (joined (state_at table p.0) p.1)
 here table p inside = get_or-set_same table p.0 (Some (joined (state_at table p.0) p.1)) None inside
 
-elsewhere : (table : List (Option Abstract)) (p : ℕ × Abstract) (slot : ℕ) → (slot ≡ p.0 → ⊥) → state_at (receive table p) slot ≡ state_at table slot
+pub elsewhere : (table : List (Option Abstract)) (p : ℕ × Abstract) (slot : ℕ) → (slot ≡ p.0 → ⊥) → state_at (receive table p) slot ≡ state_at table slot
 elsewhere table p slot other = get_or-set_other table p.0 slot (Some (joined (state_at table p.0) p.1)) None other
 
 pub receive_long : (table : List (Option Abstract)) (p : ℕ × Abstract) → length (receive table p) ≡ length table

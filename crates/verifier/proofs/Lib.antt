@@ -5,5 +5,6 @@ pub mod Chains
 pub mod Arriving
 pub mod Reaching
 pub mod Settled
+pub mod Marks
 pub mod Accepting
 pub mod Verdict

@@ -15,7 +15,7 @@ use Rattle.ranges.proofs.Fitting.{start_fits}
 use Rattle.verifier.specs.Tables.{state_at, Covers, CoversAll, rule_at, sent_from, AreStates}
 use Rattle.verifier.specs.Good.{IsGoodAt}
 use Rattle.verifier.specs.Rounds.{receive, passed_by, passed, round_of, first_table, rounds, IsSame}
-use Rattle.verifier.specs.Passing.{Arrive, IsRound, Arrived}
+use Rattle.verifier.specs.Passing.{Arrive, IsRound}
 use Rattle.verifier.specs.Laws.{SettledIsGood}
 use Rattle.verifier.proofs.Chains.{contains_self}
 use Rattle.verifier.proofs.Arriving.{all_long, all_fit, all_keep, same_covers}
@@ -33,7 +33,7 @@ each_of_range P f a (suc n) k least most h =
           each_of_range P f (a + 1) n k (omega (arith, least, other)) (omega (arith, most)) (each_right P (f a) (flat_map f (range_with_len (a + 1) n)) parts)
     ]
 
-each_in_range : {X : Type 0} (P : X → Type 0) (f : ℕ → List X) (a n : ℕ) → ((k : ℕ) → Each P (f k)) → Each P (flat_map f (range_with_len a n))
+pub each_in_range : {X : Type 0} (P : X → Type 0) (f : ℕ → List X) (a n : ℕ) → ((k : ℕ) → Each P (f k)) → Each P (flat_map f (range_with_len a n))
 each_in_range P f a zero h = tt
 each_in_range P f a (suc n) h =
     rw (flat_map-cons f a (range_with_len (a + 1) n)) (each_append P (f a) (flat_map f (range_with_len (a + 1) n)) (h a) (each_in_range P f (a + 1) n h))
@@ -48,16 +48,20 @@ one_slot_more f n xs e =
     let one : flat_map f (n ∷ []) ≡ f n = flat_map_one f n in
     rw (range_with_len-more 0 n, zero_plus, flat_map-append f (range_with_len 0 n) (n ∷ []), one, e) refl
 
+pub slot_fits : (program : List (Option Instr)) (sectors : ℕ) (table : List (Option Abstract)) (slot : ℕ) → sectors < 2 ^ 64 → IsProgram program → IsShaped program → AreStates table
+    → Arrive (length program) (passed_by program sectors table slot)
+slot_fits program sectors table slot few p h states = pick (is_some (rule_at program table slot))
+  where
+    pick : (b : Bool) → Arrive (length program) (if b then [] else sent_from program sectors table slot)
+    pick true = tt
+    pick false = sent_fits program sectors table slot few p h states
+
 pub passed_fits : (program : List (Option Instr)) (sectors : ℕ) (table : List (Option Abstract)) → sectors < 2 ^ 64 → IsProgram program → IsShaped program → AreStates table
     → Arrive (length program) (passed program sectors table)
 unfolding passed
 passed_fits program sectors table few p h states =
     each_in_range (λ q. (q.0 < length program) × IsState q.1) (passed_by program sectors table) 0 (length program)
-    (λ slot. pick (is_some (rule_at program table slot)) slot)
-  where
-    pick : (b : Bool) (slot : ℕ) → Arrive (length program) (if b then [] else sent_from program sectors table slot)
-    pick true slot = tt
-    pick false slot = sent_fits program sectors table slot few p h states
+    (λ slot. slot_fits program sectors table slot few p h states)
 
 -- the tables of the rounds are of states, as long as the program, and have the start in slot 0
 
@@ -107,24 +111,19 @@ settled_covers program sectors table few p h r same =
     let arrive : Arrive (length table) (passed program sectors table) = rw r.long (passed_fits program sectors table few p h r.states) in
     same_covers table (passed program sectors table) r.states arrive same
 
--- a round by what arrived
+-- past the end nothing is passed on
+pub passed_past : (program : List (Option Instr)) (sectors : ℕ) (table : List (Option Abstract)) (slot : ℕ) → length program ≤ slot → passed_by program sectors table slot ≡ []
+passed_past program sectors table slot past = let none = nothing_past program sectors table slot past in rw (none.0, none.1) refl
 
-pub made_round : (program : List (Option Instr)) (sectors : ℕ) (table new : List (Option Abstract)) (arrivals : List (ℕ × Abstract)) (more : Bool)
-    → arrivals ≡ passed program sectors table → Arrived table arrivals new more → new ≡ round_of program sectors table
-unfolding round_of
-made_round program sectors table new arrivals more e a = a.table ∙ ap (λ ps. fold receive table ps) e
-
-pub round_changes : (program : List (Option Instr)) (sectors : ℕ) (table new : List (Option Abstract)) (arrivals : List (ℕ × Abstract)) (more : Bool)
-    → sectors < 2 ^ 64 → IsProgram program → IsShaped program → IsRound (length program) table
-    → arrivals ≡ passed program sectors table → Arrived table arrivals new more → more ≡ true → IsSame program sectors table → ⊥
-round_changes program sectors table new arrivals more few p h r e a t same =
-    a.left_out t (rw e (settled_covers program sectors table few p h r same))
-
-slot_covers : (program : List (Option Instr)) (sectors : ℕ) (table : List (Option Abstract)) (slot : ℕ) → slot < length program
-    → CoversAll table (passed program sectors table) → CoversAll table (passed_by program sectors table slot)
+-- what each slot passes on is covered, where all that is passed on is
+pub slot_covers : (program : List (Option Instr)) (sectors : ℕ) (table new : List (Option Abstract)) (slot : ℕ) → CoversAll new (passed program sectors table)
+    → CoversAll new (passed_by program sectors table slot)
 unfolding passed
-slot_covers program sectors table slot inside h =
-    each_of_range (λ q. Covers (state_at table q.0) q.1) (passed_by program sectors table) 0 (length program) slot (omega arith) (omega (arith, inside)) h
+slot_covers program sectors table new slot h =
+    elim (cases_lt slot (length program)) [
+      | inl inside ↦ each_of_range (λ q. Covers (state_at new q.0) q.1) (passed_by program sectors table) 0 (length program) slot (omega arith) (omega (arith, inside)) h
+      | inr past ↦ rw (passed_past program sectors table slot past) tt
+    ]
 
 pub good_past : (program : List (Option Instr)) (sectors : ℕ) (table : List (Option Abstract)) (slot : ℕ) → length program ≤ slot → IsGoodAt program sectors table slot
 good_past program sectors table slot past =
@@ -140,7 +139,7 @@ settled_is_good program sectors table few p h s kept =
       start = round.starts;
       slots = λ slot. elim (cases_lt slot (length program)) [
         | inl inside ↦
-            let part = slot_covers program sectors table slot inside covered in
+            let part = slot_covers program sectors table table slot covered in
             let here : CoversAll table (sent_from program sectors table slot) = rw (kept slot) at part in
             record { rules = kept slot; edges = here }
         | inr past ↦ good_past program sectors table slot past

@@ -1,5 +1,5 @@
 -- What is passed, edge by edge, and how it arrives. Only this crate's own contracts cite it.
-use Rattle.std.specs.Prelude.{◌≡◌, ◌<◌, ℕ, Bool, true, false, List, length, Option, None, Some}
+use Rattle.std.specs.Prelude.{◌≡◌, ◌<◌, ℕ, Bool, true, false, if◌then◌else◌, List, [], length, get_or, Option, None, Some}
 use Rattle.std.specs.Option.{option_map}
 use Rattle.bpf_isa.specs.declared.instr.Instr.{Instr}
 use Rattle.bpf_isa.specs.declared.instr.Instr.TheVariants as instr
@@ -7,9 +7,9 @@ use Rattle.ranges.specs.States.{Abstract, start}
 use Rattle.ranges.specs.After.{after_of}
 use Rattle.ranges.specs.Passing.{edge_of}
 use Rattle.ranges.specs.Order.{IsState, Each}
-use Rattle.std.specs.List.{fold}
+use Rattle.std.specs.List.{fold, flat_map, range_with_len}
 use Rattle.verifier.specs.Tables.{state_at, Covers, CoversAll, AreStates, arriving}
-use Rattle.verifier.specs.Rounds.{receive}
+use Rattle.verifier.specs.Rounds.{receive, passed_by}
 
 -- the state on the edge to the next slot
 unfoldable pub next_state : ℕ → Abstract → Instr → Option Abstract
@@ -38,3 +38,22 @@ pub record Arrived (old : List (Option Abstract)) (arrivals : List (ℕ × Abstr
   pub left_out : more ≡ true → CoversAll old arrivals → ⊥
   pub same : more ≡ false → new ≡ old
   pub covered : more ≡ false → CoversAll old arrivals
+
+-- what a slot passes on that is marked; nothing, where it isn't
+abbrev pub passed_if : List (Option Instr) → ℕ → List (Option Abstract) → List Bool → ℕ → List (ℕ × Abstract)
+passed_if program sectors table marks slot = if get_or marks slot false then passed_by program sectors table slot else []
+
+-- what the marked slots pass on
+unfoldable pub passed_again : List (Option Instr) → ℕ → List (Option Abstract) → List Bool → List (ℕ × Abstract)
+passed_again program sectors table marks = flat_map (passed_if program sectors table marks) (range_with_len 0 (length program))
+
+-- What a slot without a mark passes on is contained where it arrives, so it need not be passed on.
+pub record IsMarked (program : List (Option Instr)) (sectors : ℕ) (table : List (Option Abstract)) (marks : List Bool) : Type 0 where
+  pub long : length marks ≡ length program
+  pub rest : (slot : ℕ) → get_or marks slot false ≡ false → CoversAll table (passed_by program sectors table slot)
+
+-- From one table with marks to another: a slot without a mark had none, and knows what it knew.
+pub record Kept (old : List (Option Abstract)) (before : List Bool) (new : List (Option Abstract)) (after : List Bool) : Type 0 where
+  pub long : length after ≡ length before
+  pub unmarked : (slot : ℕ) → get_or after slot false ≡ false → get_or before slot false ≡ false
+  pub same : (slot : ℕ) → get_or after slot false ≡ false → state_at new slot ≡ state_at old slot

@@ -1,14 +1,17 @@
 //! Inference: rounds, until one changes nothing.
+//!
+//! In a round only the slots with a mark pass on what they know: those at which the round before learned
+//! something. What the others pass on is contained where it arrives since they passed it on last.
 
-ghost use Rattle.std.specs.Prelude.{◌≡◌, ◌<◌, ◌⊎◌, ◌++◌, [], ◌∷◌, IsTrue, IsFalse, OnOk, IfOk, IfErr, length, map};
+ghost use Rattle.std.specs.Prelude.{◌≡◌, ◌<◌, ◌⊎◌, ◌++◌, [], ◌∷◌, IsTrue, IsFalse, OnOk, IfOk, IfErr, if◌then◌else◌, true, false, get_or, length, map, replicate};
 ghost use Rattle.bpf_isa.specs.Program.{IsProgram};
 ghost use Rattle.bpf_shape.specs.Fault.{memory_fault};
 ghost use Rattle.bpf_shape.specs.Shape.{IsShapeOf};
 ghost use Rattle.verifier.specs.Tables.{sent_from};
 ghost use Rattle.verifier.specs.Seen.{arrival_of, arrivals_of};
 ghost use Rattle.verifier.specs.Breaches.{unsettled_at};
-ghost use Rattle.verifier.specs.Rounds.{passed_by, passed, round_of, IsSame, IsSettled, IsUnsettled};
-ghost use Rattle.verifier.specs.Passing.{Arrive, IsRound, Arrived};
+ghost use Rattle.verifier.specs.Rounds.{passed_by, round_of, IsSame, IsSettled, IsUnsettled};
+ghost use Rattle.verifier.specs.Passing.{Arrive, IsRound, Arrived, IsMarked, Kept, passed_if, passed_again};
 
 use crate::check::refused;
 use crate::passing::{Arrival, Arrivals, rule_at, sent_from};
@@ -34,86 +37,125 @@ fn push_arrivals(waiting: &mut Vec<Arrival>, arrivals: Arrivals) -> Result<(), A
     Ok(())
 }
 
-/// Appends what a slot passes on in a round: nothing, where a rule is broken.
+/// Whether a slot has a mark.
+fn is_marked(marks: &[bool], slot: usize) -> bool
+    ensures { result ≡ get_or marks.now slot false }
+{
+    slot < marks.len() && marks[slot]
+}
+
+/// Appends what a slot passes on in a round: nothing, where it has no mark or a rule is broken.
 fn push_passed(
     waiting: &mut Vec<Arrival>,
     program: &Program,
     shape: &Shape,
     sectors: u32,
     table: &Table,
+    marks: &[bool],
     slot: usize,
 ) -> Result<(), AllocError>
     requires { IsShapeOf program.now shape.now }
-    ensures { OnOk result (map arrival_of waiting.new.items ≡ map arrival_of waiting.old.items ++ passed_by program.now sectors table.now slot) }
+    ensures { OnOk result (map arrival_of waiting.new.items ≡ map arrival_of waiting.old.items ++ passed_if program.now sectors table.now marks.now slot) }
 {
+    if !is_marked(marks, slot) {
+        return Ok(());
+    }
     if rule_at(program, table, slot).is_some() {
         return Ok(());
     }
     push_arrivals(waiting, sent_from(program, shape, sectors, table, slot))
 }
 
-/// What all slots pass on.
-#[tactic(auto, unfolding(crate::specs::Rounds::passed))]
+/// What all slots with a mark pass on.
+#[tactic(auto, unfolding(crate::specs::Passing::passed_again))]
 fn passed(
     alloc: Global,
     program: &Program,
     shape: &Shape,
     sectors: u32,
     table: &Table,
+    marks: &[bool],
 ) -> Result<Vec<Arrival>, AllocError>
     requires { IsShapeOf program.now shape.now }
-    ensures passed { IfOk result (λ waiting. map arrival_of waiting.items ≡ passed program.now sectors table.now) }
+    ensures passed { IfOk result (λ waiting. map arrival_of waiting.items ≡ passed_again program.now sectors table.now marks.now) }
     ensures program { OnOk result (IsProgram program.now) }
 {
     let mut waiting = Vec::new(alloc);
     for slot in 0..program.slots() {
-        push_passed(&mut waiting, program, shape, sectors, table, slot)?;
+        push_passed(&mut waiting, program, shape, sectors, table, marks, slot)?;
     }
     Ok(waiting)
 }
 
-/// A state arrives, if it isn't contained in what is known. Whether it was not.
-fn arrive(table: &mut Table, arrival: &Arrival) -> bool
-    requires { arrival.now.slot < length table.old }
-    ensures { Arrived table.old (arrival_of arrival.now ∷ []) table.new result }
+/// A mark for each slot.
+fn all_marked(alloc: Global, slots: usize) -> Result<Vec<bool>, AllocError>
+    ensures { IfOk result (λ marks. marks.items ≡ replicate slots true) }
+{
+    let mut marks = Vec::new(alloc);
+    marks.resize(slots, true)?;
+    Ok(marks)
+}
+
+/// Takes all marks away.
+fn clear(marks: &mut Vec<bool>)
+    ensures { marks.new.items ≡ replicate (length marks.old.items) false }
+{
+    marks.fill(false);
+}
+
+/// A state arrives and its slot is marked, if it isn't contained in what is known. Whether it was not.
+#[tactic(auto, using(crate::proofs::Marks::kept_self, crate::proofs::Marks::kept_marked))]
+fn arrive(table: &mut Table, marks: &mut Vec<bool>, arrival: &Arrival) -> bool
+    requires slot { arrival.now.slot < length table.old }
+    requires marks { length marks.old.items ≡ length table.old }
+    ensures arrived { Arrived table.old (arrival_of arrival.now ∷ []) table.new result }
+    ensures kept { Kept table.old marks.old.items table.new marks.new.items }
 {
     if table.covers(arrival.slot, &arrival.state) {
         return false;
     }
     table.receive(arrival.slot, &arrival.state);
+    marks[arrival.slot] = true;
     true
 }
 
 /// All that is passed on arrives. Whether some of it was not contained in what was known.
-fn arrive_all(table: &mut Table, waiting: &[Arrival]) -> bool
-    requires { Arrive (length table.old) (map arrival_of waiting.now) }
-    ensures { Arrived table.old (map arrival_of waiting.now) table.new result }
+fn arrive_all(table: &mut Table, marks: &mut Vec<bool>, waiting: &[Arrival]) -> bool
+    requires waiting { Arrive (length table.old) (map arrival_of waiting.now) }
+    requires marks { length marks.old.items ≡ length table.old }
+    ensures arrived { Arrived table.old (map arrival_of waiting.now) table.new result }
+    ensures kept { Kept table.old marks.old.items table.new marks.new.items }
 {
     let mut changed = false;
     for arrival in waiting {
-        if arrive(table, arrival) {
+        if arrive(table, marks, arrival) {
             changed = true;
         }
     }
     changed
 }
 
-/// A round. Whether it changes the table.
+/// A round: what the marked slots pass on arrives, and the marks are set anew. Whether it changes the
+/// table.
 fn make_round(
     alloc: Global,
     program: &Program,
     shape: &Shape,
     sectors: u32,
     table: &mut Table,
+    marks: &mut Vec<bool>,
 ) -> Result<bool, AllocError>
     requires shape { IsShapeOf program.now shape.now }
     requires round { IsRound (length program.now) table.old }
+    requires marks { IsMarked program.now sectors table.old marks.old.items }
     ensures table { OnOk result (table.new ≡ round_of program.now sectors table.old) }
+    ensures marks { OnOk result (IsMarked program.now sectors table.new marks.new.items) }
     ensures changed { IfOk result (λ changed. IsTrue changed → IsSame program.now sectors table.old → ⊥) }
     ensures same { IfOk result (λ changed. IsFalse changed → IsSame program.now sectors table.old) }
 {
-    let waiting = passed(alloc, program, shape, sectors, table)?;
-    Ok(arrive_all(table, waiting.as_slice()))
+    let waiting = passed(alloc, program, shape, sectors, table, marks.as_slice())?;
+    clear(marks);
+    Ok(arrive_all(table, marks, waiting.as_slice()))
 }
 
 /// The table that the rounds don't change any more.
@@ -129,8 +171,9 @@ pub(crate) fn infer(
     ensures refused { IfErr result (λ f. (f ≡ memory_fault) ⊎ ((f ≡ unsettled_at 0) × IsUnsettled program.now sectors)) }
 {
     let mut table = Table::first(alloc, program.slots())?;
+    let mut marks = all_marked(alloc, program.slots())?;
     for _ in 0..MOST_ROUNDS {
-        if !make_round(alloc, program, shape, sectors, &mut table)? {
+        if !make_round(alloc, program, shape, sectors, &mut table, &mut marks)? {
             return Ok(table);
         }
     }

@@ -1,10 +1,10 @@
 use Rattle.std.proofs.Common.{◌∙◌, map}
 use Rattle.verifier.specs.Seen.{arrival_of}
-use Rattle.verifier.specs.Rounds.{passed_by}
+use Rattle.verifier.specs.Passing.{passed_if}
 use Rattle.verifier.proofs.Settled.{one_slot_more}
 use Rattle.verifier.proofs.rounds.passed.Goals as goal
 
 pub loop-slot-preserved : goal.loop-slot-preserved
 loop-slot-preserved c =
     c.in_ok-push_passed.ensures
-    ∙ one_slot_more (passed_by c.args.program.now c.args.sectors c.args.table.now) c.loop-slot.slot (map arrival_of c.loop-slot.waiting.items) c.loop-slot.invariant
+    ∙ one_slot_more (passed_if c.args.program.now c.args.sectors c.args.table.now c.args.marks.now) c.loop-slot.slot (map arrival_of c.loop-slot.waiting.items) c.loop-slot.invariant

@@ -1,0 +1,161 @@
+-- Rounds in which only marked slots pass on what they know.
+use Rattle.std.proofs.Common.{◌≡◌, ◌<◌, ◌≤◌, ◌^◌, ◌+◌, ℕ, zero, suc, Bool, true, false, if◌then◌else◌, List, [], ◌∷◌, length, replicate, get_or, flat_map, Option, refl, sym, ◌∙◌, ap, subst, inl, inr, arith}
+use Rattle.std.specs.Prelude.{set}
+use Rattle.std.specs.List.{fold, range_with_len}
+use Rattle.std.proofs.lemmas.Bool.{cases_eq, cases_lt}
+use Rattle.std.proofs.lemmas.List.{length-set, length-replicate, get_or-set_same, get_or-set_other}
+use Rattle.std.proofs.lemmas.List.Concat.{flat_map-cons}
+use Rattle.std.proofs.lemmas.List.Sums.{fold-append}
+use Rattle.bpf_isa.specs.declared.instr.Instr.{Instr}
+use Rattle.bpf_isa.specs.Program.{IsProgram}
+use Rattle.bpf_shape.specs.Rules.{IsShaped}
+use Rattle.ranges.specs.States.{Abstract}
+use Rattle.ranges.specs.Order.{IsState}
+use Rattle.verifier.specs.Tables.{state_at, Covers, CoversAll, AreStates, rule_at, sent_from}
+use Rattle.verifier.specs.Rounds.{receive, passed_by, passed, round_of, IsSame}
+use Rattle.verifier.specs.Passing.{Arrive, Arrived, IsRound, IsMarked, Kept, passed_if, passed_again}
+use Rattle.verifier.proofs.Arriving.{elsewhere, all_long, all_fit, all_keep, all_covered, covered_same}
+use Rattle.verifier.proofs.Settled.{each_in_range, slot_fits, passed_fits, passed_past, slot_covers, settled_covers}
+
+-- what is contained where it arrives changes nothing
+covered_all_same : (table : List (Option Abstract)) (ps : List (ℕ × Abstract)) → CoversAll table ps → fold receive table ps ≡ table
+covered_all_same table [] h = refl
+covered_all_same table (p ∷ ps) h = ap (λ t. fold receive t ps) (covered_same table p h.0) ∙ covered_all_same table ps h.1
+
+-- and stays contained, whatever arrives
+keep_covers : (table : List (Option Abstract)) (ps qs : List (ℕ × Abstract)) → AreStates table → Arrive (length table) ps → Arrive (length table) qs
+    → CoversAll table qs → CoversAll (fold receive table ps) qs
+keep_covers table ps [] h a b c = tt
+keep_covers table ps (q ∷ qs) h a b c = (all_keep table ps q.0 q.1 h a b.0.1 c.0, keep_covers table ps qs h a b.1 c.1)
+
+-- so it may be left out
+
+left_out : (b : Bool) (table : List (Option Abstract)) (ps : List (ℕ × Abstract)) → (b ≡ false → CoversAll table ps)
+    → fold receive table (if b then ps else []) ≡ fold receive table ps
+left_out true table ps c = refl
+left_out false table ps c = sym (covered_all_same table ps (c refl))
+
+all_left_out : (marked : ℕ → Bool) (f : ℕ → List (ℕ × Abstract)) (a n : ℕ) (table : List (Option Abstract)) → AreStates table → ((k : ℕ) → Arrive (length table) (f k))
+    → ((k : ℕ) → marked k ≡ false → CoversAll table (f k))
+    → fold receive table (flat_map (λ k. if marked k then f k else []) (range_with_len a n)) ≡ fold receive table (flat_map f (range_with_len a n))
+all_left_out marked f a zero table h r c = refl
+all_left_out marked f a (suc n) table h r c =
+    let next = all_left_out marked f (a + 1) n (fold receive table (f a)) (all_fit table (f a) h (r a)) (λ k. rw (all_long table (f a)) (r k))
+    (λ k e. keep_covers table (f a) (f k) h (r a) (r k) (c k e)) in
+    rw (
+      flat_map-cons (λ k. if marked k then f k else []) a (range_with_len (a + 1) n),
+      flat_map-cons f a (range_with_len (a + 1) n),
+      fold-append receive table (if marked a then f a else []) (flat_map (λ k. if marked k then f k else []) (range_with_len (a + 1) n)),
+      fold-append receive table (f a) (flat_map f (range_with_len (a + 1) n)),
+      left_out (marked a) table (f a) (c a),
+    ) next
+
+-- a round in which only the marked slots pass on
+
+pub again_fits : (program : List (Option Instr)) (sectors : ℕ) (table : List (Option Abstract)) (marks : List Bool) → sectors < 2 ^ 64 → IsProgram program → IsShaped program
+    → AreStates table → Arrive (length program) (passed_again program sectors table marks)
+unfolding passed_again
+again_fits program sectors table marks few p h states =
+    each_in_range (λ q. (q.0 < length program) × IsState q.1) (passed_if program sectors table marks) 0 (length program)
+    (λ slot. pick (get_or marks slot false) (passed_by program sectors table slot) (slot_fits program sectors table slot few p h states))
+  where
+    pick : (b : Bool) (ps : List (ℕ × Abstract)) → Arrive (length program) ps → Arrive (length program) (if b then ps else [])
+    pick true ps a = a
+    pick false ps a = tt
+
+again_covers : (program : List (Option Instr)) (sectors : ℕ) (table : List (Option Abstract)) (marks : List Bool) → CoversAll table (passed program sectors table)
+    → CoversAll table (passed_again program sectors table marks)
+unfolding passed_again
+again_covers program sectors table marks h =
+    each_in_range (λ q. Covers (state_at table q.0) q.1) (passed_if program sectors table marks) 0 (length program)
+    (λ slot. pick (get_or marks slot false) (passed_by program sectors table slot) (slot_covers program sectors table table slot h))
+  where
+    pick : (b : Bool) (ps : List (ℕ × Abstract)) → CoversAll table ps → CoversAll table (if b then ps else [])
+    pick true ps a = a
+    pick false ps a = tt
+
+again_round : (program : List (Option Instr)) (sectors : ℕ) (table : List (Option Abstract)) (marks : List Bool) → sectors < 2 ^ 64 → IsProgram program → IsShaped program
+    → IsRound (length program) table → IsMarked program sectors table marks → fold receive table (passed_again program sectors table marks) ≡ round_of program sectors table
+unfolding passed_again round_of passed
+again_round program sectors table marks few p h r m =
+    all_left_out (λ k. get_or marks k false) (passed_by program sectors table) 0 (length program) table r.states
+    (λ k. rw r.long (slot_fits program sectors table k few p h r.states)) m.rest
+
+pub made_round : (program : List (Option Instr)) (sectors : ℕ) (table new : List (Option Abstract)) (marks : List Bool) (arrivals : List (ℕ × Abstract)) (more : Bool)
+    → sectors < 2 ^ 64 → IsProgram program → IsShaped program → IsRound (length program) table → IsMarked program sectors table marks
+    → arrivals ≡ passed_again program sectors table marks → Arrived table arrivals new more → new ≡ round_of program sectors table
+made_round program sectors table new marks arrivals more few p h r m e a =
+    a.table ∙ ap (λ ps. fold receive table ps) e ∙ again_round program sectors table marks few p h r m
+
+pub round_changes : (program : List (Option Instr)) (sectors : ℕ) (table new : List (Option Abstract)) (marks : List Bool) (arrivals : List (ℕ × Abstract)) (more : Bool)
+    → sectors < 2 ^ 64 → IsProgram program → IsShaped program → IsRound (length program) table
+    → arrivals ≡ passed_again program sectors table marks → Arrived table arrivals new more → more ≡ true → IsSame program sectors table → ⊥
+round_changes program sectors table new marks arrivals more few p h r e a t same =
+    a.left_out t (rw e (again_covers program sectors table marks (settled_covers program sectors table few p h r same)))
+
+-- the marks of the next round
+
+same_passed : (program : List (Option Instr)) (sectors : ℕ) (old new : List (Option Abstract)) (slot : ℕ) → state_at new slot ≡ state_at old slot
+    → passed_by program sectors new slot ≡ passed_by program sectors old slot
+unfolding rule_at sent_from
+same_passed program sectors old new slot e = rw e refl
+
+round_covers : (program : List (Option Instr)) (sectors : ℕ) (table : List (Option Abstract)) → sectors < 2 ^ 64 → IsProgram program → IsShaped program → IsRound (length program) table
+    → CoversAll (round_of program sectors table) (passed program sectors table)
+unfolding round_of
+round_covers program sectors table few p h r =
+    all_covered table (passed program sectors table) r.states (rw r.long (passed_fits program sectors table few p h r.states))
+
+pub next_marks : (program : List (Option Instr)) (sectors : ℕ) (table new : List (Option Abstract)) (before after : List Bool) → sectors < 2 ^ 64 → IsProgram program → IsShaped program
+    → IsRound (length program) table → length before ≡ length program → new ≡ round_of program sectors table → Kept table before new after → IsMarked program sectors new after
+next_marks program sectors table new before after few p h r long e k =
+    let covered : CoversAll new (passed program sectors table) = rw e (round_covers program sectors table few p h r) in
+    record {
+      long = k.long ∙ long;
+      rest = λ slot none.
+          subst (λ ps. CoversAll new ps) (sym (same_passed program sectors table new slot (k.same slot none))) (slot_covers program sectors table new slot covered);
+    }
+
+-- in the first round all slots are marked
+
+in_replicate : (n slot : ℕ) → slot < n → get_or (replicate n true) slot false ≡ true
+in_replicate zero slot inside = absurd (omega (arith, inside))
+in_replicate (suc n) zero inside = refl
+in_replicate (suc n) (suc slot) inside = in_replicate n slot (omega (arith, inside))
+
+pub first_marks : (program : List (Option Instr)) (sectors : ℕ) (table : List (Option Abstract)) (marks : List Bool) → marks ≡ replicate (length program) true
+    → IsMarked program sectors table marks
+first_marks program sectors table marks e = record {
+  long = rw e (length-replicate {A = Bool} (length program) true);
+  rest = λ slot none. elim (cases_lt slot (length program)) [
+    | inl inside ↦
+        let there : get_or (replicate (length program) true) slot false ≡ false = rw e at none in
+        absurd (let bad : true ≡ false = sym (in_replicate (length program) slot inside) ∙ there in cc)
+    | inr past ↦ rw (passed_past program sectors table slot past) tt
+  ];
+}
+
+-- marks and states that arrive
+
+pub kept_self : (table : List (Option Abstract)) (marks : List Bool) → Kept table marks table marks
+kept_self table marks = record { long = refl; unmarked = λ _ e. e; same = λ _ _. refl }
+
+pub kept_more : (s t u : List (Option Abstract)) (l m n : List Bool) → Kept s l t m → Kept t m u n → Kept s l u n
+kept_more s t u l m n a b = record {
+  long = b.long ∙ a.long;
+  unmarked = λ slot e. a.unmarked slot (b.unmarked slot e);
+  same = λ slot e. b.same slot e ∙ a.same slot (b.unmarked slot e);
+}
+
+pub kept_marked : (table : List (Option Abstract)) (marks : List Bool) (p : ℕ × Abstract) → p.0 < length marks → Kept table marks (receive table p) (set marks p.0 true)
+kept_marked table marks p inside = record {
+  long = length-set marks p.0 true;
+  unmarked = λ slot e. sym (get_or-set_other marks p.0 slot true false (other slot e)) ∙ e;
+  same = λ slot e. elsewhere table p slot (other slot e);
+}
+  where
+    other : (slot : ℕ) → get_or (set marks p.0 true) slot false ≡ false → slot ≡ p.0 → ⊥
+    other slot e same =
+        let there : get_or (set marks p.0 true) p.0 false ≡ false = rw same at e in
+        let bad : true ≡ false = sym (get_or-set_same marks p.0 true false inside) ∙ there in
+        cc
