@@ -1,8 +1,8 @@
 -- Rounds in which only marked slots pass on what they know.
-use Rattle.std.proofs.Common.{◌≡◌, ◌<◌, ◌≤◌, ◌^◌, ◌+◌, ℕ, zero, suc, Bool, true, false, if◌then◌else◌, List, [], ◌∷◌, length, replicate, get_or, flat_map, Option, refl, sym, ◌∙◌, ap, subst, inl, inr, arith}
+use Rattle.std.proofs.Common.{◌≡◌, ◌<◌, ◌^◌, ◌+◌, ℕ, zero, suc, Bool, true, false, if◌then◌else◌, List, [], ◌∷◌, length, replicate, get_or, flat_map, Option, refl, sym, ◌∙◌, ap, subst, inl, inr, arith}
 use Rattle.std.specs.Prelude.{set}
 use Rattle.std.specs.List.{fold, range_with_len}
-use Rattle.std.proofs.lemmas.Bool.{cases_eq, cases_lt}
+use Rattle.std.proofs.lemmas.Bool.{cases_lt}
 use Rattle.std.proofs.lemmas.List.{length-set, length-replicate, get_or-set_same, get_or-set_other}
 use Rattle.std.proofs.lemmas.List.Concat.{flat_map-cons}
 use Rattle.std.proofs.lemmas.List.Sums.{fold-append}
@@ -12,8 +12,8 @@ use Rattle.bpf_shape.specs.Rules.{IsShaped}
 use Rattle.ranges.specs.States.{Abstract}
 use Rattle.ranges.specs.Order.{IsState}
 use Rattle.verifier.specs.Tables.{state_at, Covers, CoversAll, AreStates, rule_at, sent_from}
-use Rattle.verifier.specs.Rounds.{receive, passed_by, passed, round_of, IsSame}
-use Rattle.verifier.specs.Passing.{Arrive, Arrived, IsRound, IsMarked, Kept, passed_if, passed_again}
+use Rattle.verifier.specs.Rounds.{receive, passed_by, passed, round_of}
+use Rattle.verifier.specs.Passing.{Arrive, Arrived, IsRound, IsMarked, MadeRound, Kept, passed_if, passed_again}
 use Rattle.verifier.proofs.Arriving.{elsewhere, all_long, all_fit, all_keep, all_covered, covered_same}
 use Rattle.verifier.proofs.Settled.{each_in_range, slot_fits, passed_fits, passed_past, slot_covers, settled_covers}
 
@@ -81,18 +81,6 @@ again_round program sectors table marks few p h r m =
     all_left_out (λ k. get_or marks k false) (passed_by program sectors table) 0 (length program) table r.states
     (λ k. rw r.long (slot_fits program sectors table k few p h r.states)) m.rest
 
-pub made_round : (program : List (Option Instr)) (sectors : ℕ) (table new : List (Option Abstract)) (marks : List Bool) (arrivals : List (ℕ × Abstract)) (more : Bool)
-    → sectors < 2 ^ 64 → IsProgram program → IsShaped program → IsRound (length program) table → IsMarked program sectors table marks
-    → arrivals ≡ passed_again program sectors table marks → Arrived table arrivals new more → new ≡ round_of program sectors table
-made_round program sectors table new marks arrivals more few p h r m e a =
-    a.table ∙ ap (λ ps. fold receive table ps) e ∙ again_round program sectors table marks few p h r m
-
-pub round_changes : (program : List (Option Instr)) (sectors : ℕ) (table new : List (Option Abstract)) (marks : List Bool) (arrivals : List (ℕ × Abstract)) (more : Bool)
-    → sectors < 2 ^ 64 → IsProgram program → IsShaped program → IsRound (length program) table
-    → arrivals ≡ passed_again program sectors table marks → Arrived table arrivals new more → more ≡ true → IsSame program sectors table → ⊥
-round_changes program sectors table new marks arrivals more few p h r e a t same =
-    a.left_out t (rw e (again_covers program sectors table marks (settled_covers program sectors table few p h r same)))
-
 -- the marks of the next round
 
 same_passed : (program : List (Option Instr)) (sectors : ℕ) (old new : List (Option Abstract)) (slot : ℕ) → state_at new slot ≡ state_at old slot
@@ -106,14 +94,23 @@ unfolding round_of
 round_covers program sectors table few p h r =
     all_covered table (passed program sectors table) r.states (rw r.long (passed_fits program sectors table few p h r.states))
 
-pub next_marks : (program : List (Option Instr)) (sectors : ℕ) (table new : List (Option Abstract)) (before after : List Bool) → sectors < 2 ^ 64 → IsProgram program → IsShaped program
-    → IsRound (length program) table → length before ≡ length program → new ≡ round_of program sectors table → Kept table before new after → IsMarked program sectors new after
-next_marks program sectors table new before after few p h r long e k =
-    let covered : CoversAll new (passed program sectors table) = rw e (round_covers program sectors table few p h r) in
+-- a round by what arrived
+pub made_round : (program : List (Option Instr)) (sectors : ℕ) (table new : List (Option Abstract)) (marks before after : List Bool) (arrivals : List (ℕ × Abstract)) (more : Bool)
+    → sectors < 2 ^ 64 → IsProgram program → IsShaped program → IsRound (length program) table → IsMarked program sectors table marks
+    → arrivals ≡ passed_again program sectors table marks → length before ≡ length program → Arrived table arrivals new more → Kept table before new after
+    → MadeRound program sectors table new after more
+made_round program sectors table new marks before after arrivals more few p h r m e long a k =
+    let made : new ≡ round_of program sectors table = a.table ∙ ap (λ ps. fold receive table ps) e ∙ again_round program sectors table marks few p h r m in
+    let covered : CoversAll new (passed program sectors table) = rw made (round_covers program sectors table few p h r) in
     record {
-      long = k.long ∙ long;
-      rest = λ slot none.
-          subst (λ ps. CoversAll new ps) (sym (same_passed program sectors table new slot (k.same slot none))) (slot_covers program sectors table new slot covered);
+      table = made;
+      marks = record {
+        long = k.long ∙ long;
+        rest = λ slot none.
+            subst (λ ps. CoversAll new ps) (sym (same_passed program sectors table new slot (k.same slot none))) (slot_covers program sectors table new slot covered);
+      };
+      changes = λ t same. a.left_out t (rw e (again_covers program sectors table marks (settled_covers program sectors table few p h r same)));
+      same = λ f. sym made ∙ a.same f;
     }
 
 -- in the first round all slots are marked

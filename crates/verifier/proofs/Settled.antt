@@ -1,6 +1,6 @@
 -- The tables of the rounds, and what holds where a round changes nothing.
-use Rattle.std.proofs.Common.{◌≡◌, ◌<◌, ◌^◌, ◌≤◌, ◌+◌, ℕ, zero, suc, Bool, true, false, if◌then◌else◌, is_some, List, [], ◌∷◌, ◌++◌, append-nil, length, replicate, flat_map, Option, Some, None, refl, ◌∙◌, ap, inl, inr, arith}
-use Rattle.std.specs.List.{fold, range_with_len}
+use Rattle.std.proofs.Common.{◌≡◌, ◌<◌, ◌^◌, ◌≤◌, ◌+◌, ℕ, zero, suc, Bool, true, false, if◌then◌else◌, is_some, List, [], ◌∷◌, ◌++◌, append-nil, length, replicate, flat_map, Option, Some, None, refl, ◌∙◌, inl, inr, arith}
+use Rattle.std.specs.List.{range_with_len}
 use Rattle.std.proofs.lemmas.Bool.{cases_eq, cases_lt}
 use Rattle.std.proofs.lemmas.List.{length-set, length-replicate}
 use Rattle.std.proofs.lemmas.List.Concat.{flat_map-cons}
@@ -14,7 +14,7 @@ use Rattle.ranges.specs.Order.{IsState, Each}
 use Rattle.ranges.proofs.Fitting.{start_fits}
 use Rattle.verifier.specs.Tables.{state_at, Covers, CoversAll, rule_at, sent_from, AreStates}
 use Rattle.verifier.specs.Good.{IsGoodAt}
-use Rattle.verifier.specs.Rounds.{receive, passed_by, passed, round_of, first_table, rounds, IsSame}
+use Rattle.verifier.specs.Rounds.{passed_by, passed, round_of, first_table, rounds, IsSame}
 use Rattle.verifier.specs.Passing.{Arrive, IsRound}
 use Rattle.verifier.specs.Laws.{SettledIsGood}
 use Rattle.verifier.proofs.Chains.{contains_self}

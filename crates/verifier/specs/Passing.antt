@@ -9,7 +9,7 @@ use Rattle.ranges.specs.Passing.{edge_of}
 use Rattle.ranges.specs.Order.{IsState, Each}
 use Rattle.std.specs.List.{fold, flat_map, range_with_len}
 use Rattle.verifier.specs.Tables.{state_at, Covers, CoversAll, AreStates, arriving}
-use Rattle.verifier.specs.Rounds.{receive, passed_by}
+use Rattle.verifier.specs.Rounds.{receive, passed_by, round_of, IsSame}
 
 -- the state on the edge to the next slot
 unfoldable pub next_state : ℕ → Abstract → Instr → Option Abstract
@@ -57,3 +57,10 @@ pub record Kept (old : List (Option Abstract)) (before : List Bool) (new : List 
   pub long : length after ≡ length before
   pub unmarked : (slot : ℕ) → get_or after slot false ≡ false → get_or before slot false ≡ false
   pub same : (slot : ℕ) → get_or after slot false ≡ false → state_at new slot ≡ state_at old slot
+
+-- what a round makes of a table, with the marks for the next, and whether it changes it
+pub record MadeRound (program : List (Option Instr)) (sectors : ℕ) (old : List (Option Abstract)) (new : List (Option Abstract)) (after : List Bool) (changed : Bool) : Type 0 where
+  pub table : new ≡ round_of program sectors old
+  pub marks : IsMarked program sectors new after
+  pub changes : changed ≡ true → IsSame program sectors old → ⊥
+  pub same : changed ≡ false → IsSame program sectors old

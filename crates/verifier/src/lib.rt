@@ -4,8 +4,8 @@
 //! A `Table` says what is known at each slot of a program: an abstract state, or none. A table is good
 //! where the start is known at slot 0, no rule is broken at any slot, and what each slot passes on is
 //! known where it arrives. `check_table` tests that. `verify` finds such a table by rounds, each of
-//! which passes on all that is known, and joins it to what is known where it arrives, until a round
-//! changes nothing.
+//! which passes on what is known, and joins it to what is known where it arrives, until a round changes
+//! nothing.
 //!
 //! | Call | Answer |
 //! |---|---|
@@ -18,7 +18,8 @@
 //!
 //! On `bpf_shape`, which knows the edges, the heads and the budget, and whose `Fault` is the refusal
 //! here too; and on `ranges`, which knows what an instruction makes of a state. This crate says where
-//! states arrive and when they settle. A program is run without tests only as a `Verified`.
+//! states arrive and when they settle. Above it a `Verified` gives the program and the limit of its
+//! steps; it is run with every test, as all programs are.
 //!
 //! # What is proved
 //!
@@ -49,7 +50,10 @@
 //!
 //! - `table`: `Table`. `passing`: the rules and edges of one slot. `check`: `check_table`.
 //! - `rounds`: a round lists all that is passed on by the table as it is, and then lets it arrive, so no
-//!   copy of the table is made. What is known already is not joined again.
+//!   copy of the table is made. What is known already is not joined again. Each slot that learns something
+//!   gets a mark, and only the marked slots pass on in the next round: what the others pass on is contained
+//!   where it arrives, so it would change nothing. The table after each round is still exactly that of the
+//!   definition, in which all slots pass on.
 //! - `verified`: `Verified` and `verify`. `laws`: the laws, contracts of functions that do nothing.
 //!
 //! # Example

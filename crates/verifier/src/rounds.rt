@@ -3,15 +3,15 @@
 //! In a round only the slots with a mark pass on what they know: those at which the round before learned
 //! something. What the others pass on is contained where it arrives since they passed it on last.
 
-ghost use Rattle.std.specs.Prelude.{◌≡◌, ◌<◌, ◌⊎◌, ◌++◌, [], ◌∷◌, IsTrue, IsFalse, OnOk, IfOk, IfErr, if◌then◌else◌, true, false, get_or, length, map, replicate};
+ghost use Rattle.std.specs.Prelude.{◌≡◌, ◌<◌, ◌⊎◌, ◌++◌, [], ◌∷◌, OnOk, IfOk, IfErr, true, false, get_or, length, map, replicate};
 ghost use Rattle.bpf_isa.specs.Program.{IsProgram};
 ghost use Rattle.bpf_shape.specs.Fault.{memory_fault};
 ghost use Rattle.bpf_shape.specs.Shape.{IsShapeOf};
 ghost use Rattle.verifier.specs.Tables.{sent_from};
 ghost use Rattle.verifier.specs.Seen.{arrival_of, arrivals_of};
 ghost use Rattle.verifier.specs.Breaches.{unsettled_at};
-ghost use Rattle.verifier.specs.Rounds.{passed_by, round_of, IsSame, IsSettled, IsUnsettled};
-ghost use Rattle.verifier.specs.Passing.{Arrive, IsRound, Arrived, IsMarked, Kept, passed_if, passed_again};
+ghost use Rattle.verifier.specs.Rounds.{IsSettled, IsUnsettled};
+ghost use Rattle.verifier.specs.Passing.{Arrive, IsRound, Arrived, IsMarked, MadeRound, Kept, passed_if, passed_again};
 
 use crate::check::refused;
 use crate::passing::{Arrival, Arrivals, rule_at, sent_from};
@@ -148,10 +148,7 @@ fn make_round(
     requires shape { IsShapeOf program.now shape.now }
     requires round { IsRound (length program.now) table.old }
     requires marks { IsMarked program.now sectors table.old marks.old.items }
-    ensures table { OnOk result (table.new ≡ round_of program.now sectors table.old) }
-    ensures marks { OnOk result (IsMarked program.now sectors table.new marks.new.items) }
-    ensures changed { IfOk result (λ changed. IsTrue changed → IsSame program.now sectors table.old → ⊥) }
-    ensures same { IfOk result (λ changed. IsFalse changed → IsSame program.now sectors table.old) }
+    ensures { IfOk result (λ changed. MadeRound program.now sectors table.old table.new marks.new.items changed) }
 {
     let waiting = passed(alloc, program, shape, sectors, table, marks.as_slice())?;
     clear(marks);

@@ -1,8 +1,8 @@
-use Rattle.std.proofs.Common.{◌≡◌, ◌∙◌, sym, arith, map, length, Bool, false}
+use Rattle.std.proofs.Common.{◌≡◌, ◌∙◌, arith, map, length, Bool, false}
 use Rattle.std.proofs.lemmas.List.{length-replicate}
 use Rattle.verifier.specs.Seen.{arrival_of}
 use Rattle.verifier.specs.Passing.{passed_again}
-use Rattle.verifier.proofs.Marks.{again_fits, made_round, round_changes, next_marks}
+use Rattle.verifier.proofs.Marks.{again_fits, made_round}
 use Rattle.verifier.proofs.rounds.make_round.Goals as goal
 
 pub arrive_all-requires-clause-waiting : goal.arrive_all-requires-clause-waiting
@@ -10,35 +10,12 @@ arrive_all-requires-clause-waiting c =
     rw (c.as_slice-2.ensures.value, c.in_ok-waiting.ensures.passed, c.requires.round.long)
     (again_fits c.args.program.now c.args.sectors c.args.table.now c.as_slice.result.now (omega (arith, c.ranges.sectors.fits)) c.in_ok-waiting.ensures.program c.requires.shape.rules c.requires.round.states)
 
-pub returns-clause-table : goal.returns-clause-table
-returns-clause-table c =
+pub returns : goal.returns
+returns c =
     let all : map arrival_of c.as_slice-2.result.now ≡ passed_again c.args.program.now c.args.sectors c.args.table.now c.args.marks.now.items =
     rw (c.as_slice-2.ensures.value, ← c.as_slice.ensures.value) c.in_ok-waiting.ensures.passed in
-    made_round c.args.program.now c.args.sectors c.args.table.now c.arrive_all.new.table c.args.marks.now.items (map arrival_of c.as_slice-2.result.now) c.arrive_all.result
-    (omega (arith, c.ranges.sectors.fits)) c.in_ok-waiting.ensures.program c.requires.shape.rules c.requires.round c.requires.marks all c.arrive_all.ensures.arrived
-
-pub returns-clause-marks : goal.returns-clause-marks
-returns-clause-marks c =
-    let all : map arrival_of c.as_slice-2.result.now ≡ passed_again c.args.program.now c.args.sectors c.args.table.now c.args.marks.now.items =
-    rw (c.as_slice-2.ensures.value, ← c.as_slice.ensures.value) c.in_ok-waiting.ensures.passed in
-    let made = made_round c.args.program.now c.args.sectors c.args.table.now c.arrive_all.new.table c.args.marks.now.items (map arrival_of c.as_slice-2.result.now) c.arrive_all.result
-    (omega (arith, c.ranges.sectors.fits)) c.in_ok-waiting.ensures.program c.requires.shape.rules c.requires.round c.requires.marks all c.arrive_all.ensures.arrived in
     let long : length c.clear.new.marks.items ≡ length c.args.program.now =
     rw c.clear.ensures (length-replicate {A = Bool} (length c.args.marks.now.items) false ∙ c.requires.marks.long) in
-    next_marks c.args.program.now c.args.sectors c.args.table.now c.arrive_all.new.table c.clear.new.marks.items c.arrive_all.new.marks.items
-    (omega (arith, c.ranges.sectors.fits)) c.in_ok-waiting.ensures.program c.requires.shape.rules c.requires.round long made c.arrive_all.ensures.kept
-
-pub returns-clause-changed : goal.returns-clause-changed
-returns-clause-changed c =
-    let all : map arrival_of c.as_slice-2.result.now ≡ passed_again c.args.program.now c.args.sectors c.args.table.now c.args.marks.now.items =
-    rw (c.as_slice-2.ensures.value, ← c.as_slice.ensures.value) c.in_ok-waiting.ensures.passed in
-    round_changes c.args.program.now c.args.sectors c.args.table.now c.arrive_all.new.table c.args.marks.now.items (map arrival_of c.as_slice-2.result.now) c.arrive_all.result
-    (omega (arith, c.ranges.sectors.fits)) c.in_ok-waiting.ensures.program c.requires.shape.rules c.requires.round all c.arrive_all.ensures.arrived
-
-pub returns-clause-same : goal.returns-clause-same
-returns-clause-same c = λ f.
-    let all : map arrival_of c.as_slice-2.result.now ≡ passed_again c.args.program.now c.args.sectors c.args.table.now c.args.marks.now.items =
-    rw (c.as_slice-2.ensures.value, ← c.as_slice.ensures.value) c.in_ok-waiting.ensures.passed in
-    sym (made_round c.args.program.now c.args.sectors c.args.table.now c.arrive_all.new.table c.args.marks.now.items (map arrival_of c.as_slice-2.result.now) c.arrive_all.result
-    (omega (arith, c.ranges.sectors.fits)) c.in_ok-waiting.ensures.program c.requires.shape.rules c.requires.round c.requires.marks all c.arrive_all.ensures.arrived)
-    ∙ c.arrive_all.ensures.arrived.same f
+    made_round c.args.program.now c.args.sectors c.args.table.now c.arrive_all.new.table c.args.marks.now.items c.clear.new.marks.items c.arrive_all.new.marks.items
+    (map arrival_of c.as_slice-2.result.now) c.arrive_all.result (omega (arith, c.ranges.sectors.fits)) c.in_ok-waiting.ensures.program c.requires.shape.rules
+    c.requires.round c.requires.marks all long c.arrive_all.ensures.arrived c.arrive_all.ensures.kept
