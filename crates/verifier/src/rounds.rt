@@ -10,7 +10,7 @@ ghost use Rattle.bpf_shape.specs.Shape.{IsShapeOf};
 ghost use Rattle.verifier.specs.Tables.{sent_from};
 ghost use Rattle.verifier.specs.Seen.{arrival_of, arrivals_of};
 ghost use Rattle.verifier.specs.Breaches.{unsettled_at};
-ghost use Rattle.verifier.specs.Rounds.{IsSettled, IsUnsettled};
+ghost use Rattle.verifier.specs.Rounds.{passed_by, IsSettled, IsUnsettled};
 ghost use Rattle.verifier.specs.Passing.{Arrive, IsRound, Arrived, IsMarked, MadeRound, Kept, passed_if, passed_again};
 
 use crate::check::refused;
@@ -44,8 +44,27 @@ fn is_marked(marks: &[bool], slot: usize) -> bool
     slot < marks.len() && marks[slot]
 }
 
-/// Appends what a slot passes on in a round: nothing, where it has no mark or a rule is broken.
+/// Appends what a slot passes on in a round: nothing, where a rule is broken.
+#[inline(never)]
 fn push_passed(
+    waiting: &mut Vec<Arrival>,
+    program: &Program,
+    shape: &Shape,
+    sectors: u32,
+    table: &Table,
+    slot: usize,
+) -> Result<(), AllocError>
+    requires { IsShapeOf program.now shape.now }
+    ensures { OnOk result (map arrival_of waiting.new.items ≡ map arrival_of waiting.old.items ++ passed_by program.now sectors table.now slot) }
+{
+    if rule_at(program, table, slot).is_some() {
+        return Ok(());
+    }
+    push_arrivals(waiting, sent_from(program, shape, sectors, table, slot))
+}
+
+/// The same of a slot with a mark; nothing, where it has none.
+fn push_marked(
     waiting: &mut Vec<Arrival>,
     program: &Program,
     shape: &Shape,
@@ -60,10 +79,7 @@ fn push_passed(
     if !is_marked(marks, slot) {
         return Ok(());
     }
-    if rule_at(program, table, slot).is_some() {
-        return Ok(());
-    }
-    push_arrivals(waiting, sent_from(program, shape, sectors, table, slot))
+    push_passed(waiting, program, shape, sectors, table, slot)
 }
 
 /// What all slots with a mark pass on.
@@ -82,7 +98,7 @@ fn passed(
 {
     let mut waiting = Vec::new(alloc);
     for slot in 0..program.slots() {
-        push_passed(&mut waiting, program, shape, sectors, table, marks, slot)?;
+        push_marked(&mut waiting, program, shape, sectors, table, marks, slot)?;
     }
     Ok(waiting)
 }
