@@ -11,6 +11,7 @@
 //! | `shard.look(key)` | answers the outcome that is listed for a key, which becomes the most recently used |
 //! | `shard.put(key, outcome)` | lists an outcome for a key, and says what became of it (`Kept`) |
 //! | `shard.hits()` | answers how many looks have found an entry |
+//! | `copy_of(outcome)` | answers the same outcome, for those who put one and keep one |
 //!
 //! # Place
 //!
@@ -53,7 +54,8 @@
 //!     return Ok(outcome);
 //! }
 //! let outcome = checker.judge(&view.context(), &view);
-//! shard.lock(rt).put(key, ..)     // `Kept::New`, and the next look for that key answers the outcome
+//! shard.lock(rt).put(key, copy_of(&outcome));     // the next look for that key answers the outcome
+//! Ok(outcome)
 //! ```
 #![tactic(auto)]
 
@@ -66,6 +68,7 @@ mod shard;
 #[cfg(test)]
 mod tests;
 
+pub use copying::copy_of;
 pub use kept::Kept;
 pub use laws::one_image_tells;
 pub use making::shards;

@@ -94,6 +94,7 @@ impl<J: Run> Shard<J> {
 }
 
 /// The outcome of a key, whose entry becomes the most recently used.
+#[tactic(auto, using(crate::proofs::Listed::promoted_is))]
 fn used(cache: &mut LruCache<Key, Outcome>, key: &Key) -> Option<Outcome>
     ensures answer { result ≡ listed cache.old.entries key.now }
     ensures found { IfSome result (λ outcome. cache.new ≡ lru_cache (to_front cache.old.entries key.now outcome) cache.old.cap) }
