@@ -14,7 +14,7 @@ use std::sync::Mutex;
 const SHARDS: u32 = 16;
 
 /// The sixteen shards of a run, each behind a lock, for a cache of at most so many entries: 0 to
-/// 65,536. All are empty.
+/// 65,536. All are empty. The history and the checkers name the run; only the contract reads them.
 ///
 /// # Errors
 ///
