@@ -14,19 +14,19 @@ use Rattle.workers.specs.Failing.{Subject, choices_of, image_count, ending_at, l
 use Rattle.workers.specs.Laws.{IsFailing, Precedes, ListsFailing}
 use Rattle.workers.proofs.JudgedLines.{line_is}
 
-abbrev Each : (FailingLine → Type 0) → List FailingLine → Type 0
+abbrev pub Each : (FailingLine → Type 0) → List FailingLine → Type 0
 Each P [] = Unit {0}
 Each P (l ∷ ls) = P l × Each P ls
 
-abbrev Ordered : List FailingLine → Type 0
+abbrev pub Ordered : List FailingLine → Type 0
 Ordered [] = Unit {0}
 Ordered (l ∷ ls) = Each (Precedes l) ls × Ordered ls
 
-each_append : (P : FailingLine → Type 0) (xs ys : List FailingLine) → Each P xs → Each P ys → Each P (xs ++ ys)
+pub each_append : (P : FailingLine → Type 0) (xs ys : List FailingLine) → Each P xs → Each P ys → Each P (xs ++ ys)
 each_append P [] ys h g = g
 each_append P (x ∷ xs) ys h g = (h.0, each_append P xs ys h.1 g)
 
-each_then : (P Q : FailingLine → Type 0) (xs : List FailingLine) → ((l : FailingLine) → P l → Q l) → Each P xs → Each Q xs
+pub each_then : (P Q : FailingLine → Type 0) (xs : List FailingLine) → ((l : FailingLine) → P l → Q l) → Each P xs → Each Q xs
 each_then P Q [] f h = tt
 each_then P Q (x ∷ xs) f h = (f x h.0, each_then P Q xs f h.1)
 
@@ -131,6 +131,19 @@ of_images s a (suc n) = step (image_lines s a) (lines_from s (a + 1) n) (lines_h
           (λ x is. each_then (IsFrom s (a + 1)) (Precedes x) ys (λ y js. inl (omega (arith, is.1, js.1))) g.0) h.0),
     )
 
+-- the lines of some images are of those images
+pub of_range : (s : Subject) (a n : ℕ) → Each (λ l. (a ≤ l.image) × (l.image < a + n)) (lines_from s a n)
+of_range s a zero = tt
+of_range s a (suc n) = step (image_lines s a) (lines_from s (a + 1) n) (lines_here s a).0 (of_range s (a + 1) n)
+  where
+    step : (xs ys : List FailingLine) → Each (IsOf s a 0) xs → Each (λ l. (a + 1 ≤ l.image) × (l.image < a + 1 + n)) ys
+        → Each (λ l. (a ≤ l.image) × (l.image < a + suc n)) (xs ++ ys)
+    step xs ys h g =
+        each_append (λ l. (a ≤ l.image) × (l.image < a + suc n)) xs ys
+        (each_then (IsOf s a 0) (λ l. (a ≤ l.image) × (l.image < a + suc n)) xs (λ l is. (omega (arith, is.1), omega (arith, is.1))) h)
+        (each_then (λ l. (a + 1 ≤ l.image) × (l.image < a + 1 + n)) (λ l. (a ≤ l.image) × (l.image < a + suc n)) ys
+        (λ l is. (omega (arith, is.0), omega (arith, is.1))) g)
+
 -- where a failing line stands
 
 option_line : (s : Subject) (l : FailingLine) → IsFailing s l → line_of s l.image l.program ≡ Some l
@@ -202,6 +215,9 @@ rises (l ∷ ls) zero (suc j) d h le lt = lowest l ls j d h.0 (omega (arith, lt)
 rises (l ∷ ls) (suc i) zero d h le lt = absurd (omega (arith, le))
 rises (l ∷ ls) (suc i) (suc j) d h le lt = rises ls i j d h.1 (omega (arith, le)) (omega (arith, lt))
 
-pub images_rise : (s : Subject) → IsNonDecreasing (map (λ (l : FailingLine). l.image) (failing_lines s))
+pub images_rise : (ls : List FailingLine) → Ordered ls → IsNonDecreasing (map (λ (l : FailingLine). l.image) ls)
+images_rise ls h = λ i j d le lt. rises ls i j d h le lt
+
+pub all_ordered : (s : Subject) → Ordered (failing_lines s)
 unfolding failing_lines
-images_rise s = λ i j d le lt. rises (lines_from s 0 (image_count s)) i j d (of_images s 0 (image_count s)).1 le lt
+all_ordered s = (of_images s 0 (image_count s)).1

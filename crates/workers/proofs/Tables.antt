@@ -1,69 +1,47 @@
 -- The table of pieces, as one more piece is put into it.
-use Rattle.std.proofs.Common.{ℕ, zero, suc, ◌≡◌, ◌≢◌, ◌+◌, ◌==◌, ◌<◌, ◌≤◌, ◌⊎◌, inl, inr, min, Bool, true, false, if◌then◌else◌, List, [], ◌∷◌, ◌++◌, length, filter, replicate, Option, None, Some, slice_get, slice_set, is_some, All, refl, sym, ◌∙◌, ap, subst, arith, append-nil}
-use Rattle.std.specs.List.{flat_map}
+use Rattle.std.proofs.Common.{ℕ, zero, suc, ◌≡◌, ◌≢◌, ◌+◌, ◌==◌, ◌<◌, ◌≤◌, ◌⊎◌, inl, inr, min, Bool, true, false, List, [], ◌∷◌, ◌++◌, length, filter, replicate, Option, None, Some, slice_get, slice_set, is_some, All, refl, sym, ◌∙◌, ap, subst, arith, append-nil, length-append}
 use Rattle.std.proofs.Math.ListN.{length-replicate}
 use Rattle.std.proofs.lemmas.Bool.Decides.{eqb_tells, leb_tells}
 use Rattle.std.proofs.lemmas.List.Elements.{filter-append}
-use Rattle.std.proofs.lemmas.Grind.{flat_map-append}
 use Rattle.std.proofs.lemmas.Option.{get_or_from_slice_get, slice_get_within}
-use Rattle.base.proofs.Lists.{count_by-push, slice_get-append_right}
-use Rattle.report.specs.Line.{FailingLine}
-use Rattle.workers.specs.Pieces.{PieceValue, pieces_at, lines_at, IsFirstTwice}
-use Rattle.workers.specs.Table.{IsRow, IsTwice, AreRows, first_of}
+use Rattle.base.proofs.Lists.{slice_get-append_right}
+use Rattle.workers.specs.Least.{lower, least_image}
+use Rattle.workers.specs.Pieces.{PieceValue, of_block, pieces_at, lines_of, full_lines, IsFirstTwice}
+use Rattle.workers.specs.Table.{IsTwice, AreRows, first_of}
+use Rattle.workers.proofs.Least.{least_of_push}
 
 abbrev Row : Type 0
-Row = Option (List FailingLine)
+Row = Option PieceValue
 
-abbrev one_if : Bool → ℕ
-one_if b = if b then 1 else 0
+-- the pieces of a block with one more
+
+own_push : (ps : List PieceValue) (p : PieceValue) (b : ℕ) → p.block ≡ b → of_block (ps ++ p ∷ []) b ≡ of_block ps b ++ p ∷ []
+own_push ps p b e = elim (eqb_tells p.block b) [
+  | inl own ↦ rw (filter-append (λ (q : PieceValue). q.block == b) ps (p ∷ []), own.0) refl
+  | inr differ ↦ absurd (differ.1 e)
+]
+
+other_push : (ps : List PieceValue) (p : PieceValue) (b : ℕ) → p.block ≢ b → of_block (ps ++ p ∷ []) b ≡ of_block ps b
+other_push ps p b e = elim (eqb_tells p.block b) [
+  | inl own ↦ absurd (e own.1)
+  | inr differ ↦ rw (filter-append (λ (q : PieceValue). q.block == b) ps (p ∷ []), differ.0) (append-nil (of_block ps b))
+]
 
 own_count : (ps : List PieceValue) (p : PieceValue) (b : ℕ) → p.block ≡ b → pieces_at (ps ++ p ∷ []) b ≡ pieces_at ps b + 1
-own_count ps p b e = elim (eqb_tells p.block b) [
-  | inl own ↦ count_by-push (λ (q : PieceValue). q.block == b) ps p ∙ ap (λ (t : Bool). pieces_at ps b + one_if t) own.0
-  | inr differ ↦ absurd (differ.1 e)
-]
+own_count ps p b e = ap length (own_push ps p b e) ∙ length-append (of_block ps b) (p ∷ [])
 
 other_count : (ps : List PieceValue) (p : PieceValue) (b : ℕ) → p.block ≢ b → pieces_at (ps ++ p ∷ []) b ≡ pieces_at ps b
-other_count ps p b e = elim (eqb_tells p.block b) [
-  | inl own ↦ absurd (e own.1)
-  | inr differ ↦
-      let zero_more : pieces_at ps b + 0 ≡ pieces_at ps b = omega arith in
-      count_by-push (λ (q : PieceValue). q.block == b) ps p ∙ ap (λ (t : Bool). pieces_at ps b + one_if t) differ.0 ∙ zero_more
-]
+other_count ps p b e = ap length (other_push ps p b e)
 
-lines_of : PieceValue → List FailingLine
-lines_of p = p.lines
+-- the first of them
 
-lines_push : (ps : List PieceValue) (p : PieceValue) (b : ℕ) → lines_at (ps ++ p ∷ []) b ≡ lines_at ps b ++ lines_at (p ∷ []) b
-lines_push ps p b =
-    rw (filter-append (λ (q : PieceValue). q.block == b) ps (p ∷ [])) (flat_map-append (λ (q : PieceValue). q.lines) (filter (λ (q : PieceValue). q.block == b) ps) (filter (λ (q : PieceValue). q.block == b) (p ∷ [])))
+first_push : (xs : List PieceValue) (p x : PieceValue) → Some x ≡ slice_get xs 0 → Some x ≡ slice_get (xs ++ p ∷ []) 0
+first_push [] p x h = absurd (let bad : Some x ≡ None = h in cc)
+first_push (y ∷ ys) p x h = h
 
-own_lines : (ps : List PieceValue) (p : PieceValue) (b : ℕ) → p.block ≡ b → lines_at ps b ≡ [] → lines_at (ps ++ p ∷ []) b ≡ p.lines
-own_lines ps p b e none = elim (eqb_tells p.block b) [
-  | inl own ↦ rw (lines_push ps p b, none, own.0) (append-nil p.lines)
-  | inr differ ↦ absurd (differ.1 e)
-]
-
-other_lines : (ps : List PieceValue) (p : PieceValue) (b : ℕ) → p.block ≢ b → lines_at (ps ++ p ∷ []) b ≡ lines_at ps b
-other_lines ps p b e = elim (eqb_tells p.block b) [
-  | inl own ↦ absurd (e own.1)
-  | inr differ ↦ rw (lines_push ps p b, differ.0) (append-nil (lines_at ps b))
-]
-
--- the rows
-
-row_again : (ps : List PieceValue) (p : PieceValue) (b : ℕ) (row : Row) (lines : List FailingLine) → p.block ≡ b → row ≡ Some lines → IsRow ps b row → IsRow (ps ++ p ∷ []) b row
-row_again ps p b None lines e s h = absurd (let bad : None ≡ Some lines = s in cc)
-row_again ps p b (Some ls) lines e s h =
-    let more = own_count ps p b e in (omega (arith, more, h.0), λ one. absurd (omega (arith, more, h.0, one)))
-
-row_first : (ps : List PieceValue) (p : PieceValue) (b : ℕ) → p.block ≡ b → IsRow ps b None → IsRow (ps ++ p ∷ []) b (Some p.lines)
-row_first ps p b e h = let more = own_count ps p b e in (omega (arith, more, h.0), λ one. own_lines ps p b e h.1)
-
-row_other : (ps : List PieceValue) (p : PieceValue) (b : ℕ) (row : Row) → p.block ≢ b → IsRow ps b row → IsRow (ps ++ p ∷ []) b row
-row_other ps p b None e h = (other_count ps p b e ∙ h.0, other_lines ps p b e ∙ h.1)
-row_other ps p b (Some ls) e h =
-    let same = other_count ps p b e in (omega (arith, same, h.0), λ one. other_lines ps p b e ∙ h.1 (sym same ∙ one))
+no_first : (xs : List PieceValue) → None ≡ slice_get xs 0 → xs ≡ []
+no_first [] h = refl
+no_first (y ∷ ys) h = absurd (let bad : None ≡ Some y = h in cc)
 
 -- the first block with two pieces
 
@@ -146,58 +124,66 @@ length_set [] (suc n) y = refl
 length_set (x ∷ xs) zero y = refl
 length_set (x ∷ xs) (suc n) y = ap suc (length_set xs n y)
 
-count_of_row : (ps : List PieceValue) (b : ℕ) (row : Row) (lines : List FailingLine) → row ≡ Some lines → IsRow ps b row → 1 ≤ pieces_at ps b
-count_of_row ps b None lines e h = absurd (let bad : None ≡ Some lines = e in cc)
-count_of_row ps b (Some ls) lines e h = h.0
-
 same_row : (rows : List Row) (b : ℕ) (x y : Row) → slice_get rows b ≡ Some x → slice_get rows b ≡ Some y → x ≡ y
 same_row rows b x y h g = let e : Some x ≡ Some y = sym h ∙ g in cc
 
 -- a piece of a block that has one
-put_again : (ps : List PieceValue) (p : PieceValue) (blocks : ℕ) (rows : List Row) (twice : Option ℕ) (lines : List FailingLine)
-    → AreRows ps blocks rows twice → p.block < length rows → slice_get rows p.block ≡ Some (Some lines)
-    → AreRows (ps ++ p ∷ []) blocks rows (Some (first_of twice p.block))
-put_again ps p blocks rows twice lines h lt at = record {
-  count = h.count;
-  each = λ b row there. elim (eqb_tells p.block b) [
-    | inl own ↦
-        let here : slice_get rows b ≡ Some (Some lines) = rw (← own.1) at in
-        row_again ps p b row lines own.1 (same_row rows b row (Some lines) there here) (h.each b row there)
-    | inr differ ↦ row_other ps p b row differ.1 (h.each b row there)
-  ];
-  first = twice_again ps p blocks twice h.first (omega (arith, lt, h.count)) (count_of_row ps p.block (Some lines) lines refl (h.each p.block (Some lines) at));
-}
+put_again : (ps : List PieceValue) (p q : PieceValue) (blocks : ℕ) (rows : List Row) (twice least : Option ℕ)
+    → AreRows ps blocks rows twice least → slice_get rows p.block ≡ Some (Some q)
+    → AreRows (ps ++ p ∷ []) blocks rows (Some (first_of twice p.block)) (lower least (least_image (lines_of p.found)))
+put_again ps p q blocks rows twice least h at =
+    let lt : p.block < length rows = slice_get_within rows p.block (Some q) at in
+    let was : Some q ≡ slice_get (of_block ps p.block) 0 = h.each p.block (Some q) at in
+    let one : 1 ≤ pieces_at ps p.block = omega (arith, slice_get_within (of_block ps p.block) 0 q (sym was)) in
+    record {
+      count = h.count;
+      each = λ b row there. elim (eqb_tells p.block b) [
+        | inl own ↦
+            let here : slice_get rows b ≡ Some (Some q) = rw (← own.1) at in
+            let same : row ≡ Some q = same_row rows b row (Some q) there here in
+            let first : Some q ≡ slice_get (of_block ps b) 0 = rw (← own.1) was in
+            rw (same, own_push ps p b own.1) (first_push (of_block ps b) p q first)
+        | inr differ ↦ h.each b row there ∙ ap (λ (qs : List PieceValue). slice_get qs 0) (sym (other_push ps p b differ.1))
+      ];
+      first = twice_again ps p blocks twice h.first (omega (arith, lt, h.count)) one;
+      lowest = rw h.lowest (least_of_push ps p);
+    }
 
 -- the first piece of a block
-put_first : (ps : List PieceValue) (p : PieceValue) (blocks : ℕ) (rows : List Row) (twice : Option ℕ)
-    → AreRows ps blocks rows twice → p.block < length rows → slice_get rows p.block ≡ Some None
-    → AreRows (ps ++ p ∷ []) blocks (slice_set rows p.block (Some p.lines)) twice
-put_first ps p blocks rows twice h lt at = record {
-  count = length_set rows p.block (Some p.lines) ∙ h.count;
-  each = λ b row there. elim (eqb_tells p.block b) [
-    | inl own ↦
-        let here : slice_get (slice_set rows p.block (Some p.lines)) b ≡ Some (Some p.lines) =
-        rw (← own.1) (set_here rows p.block (Some p.lines) lt) in
-        let same : row ≡ Some p.lines = same_row (slice_set rows p.block (Some p.lines)) b row (Some p.lines) there here in
-        let none : IsRow ps b None = rw (← own.1) (h.each p.block None at) in
-        rw same (row_first ps p b own.1 none)
-    | inr differ ↦ row_other ps p b row differ.1 (h.each b row (sym (set_there rows p.block b (Some p.lines) differ.1) ∙ there))
-  ];
-  first = twice_first ps p blocks twice h.first (h.each p.block None at).0;
-}
+put_first : (ps : List PieceValue) (p : PieceValue) (blocks : ℕ) (rows : List Row) (twice least : Option ℕ)
+    → AreRows ps blocks rows twice least → slice_get rows p.block ≡ Some None
+    → AreRows (ps ++ p ∷ []) blocks (slice_set rows p.block (Some p)) twice (lower least (least_image (lines_of p.found)))
+put_first ps p blocks rows twice least h at =
+    let lt : p.block < length rows = slice_get_within rows p.block None at in
+    let none : of_block ps p.block ≡ [] = no_first (of_block ps p.block) (h.each p.block None at) in
+    record {
+      count = length_set rows p.block (Some p) ∙ h.count;
+      each = λ b row there. elim (eqb_tells p.block b) [
+        | inl own ↦
+            let here : slice_get (slice_set rows p.block (Some p)) b ≡ Some (Some p) = rw (← own.1) (set_here rows p.block (Some p) lt) in
+            let same : row ≡ Some p = same_row (slice_set rows p.block (Some p)) b row (Some p) there here in
+            let first : of_block ps b ≡ [] = rw (← own.1) none in
+            rw (same, own_push ps p b own.1, first) refl
+        | inr differ ↦
+            h.each b row (sym (set_there rows p.block b (Some p) differ.1) ∙ there)
+            ∙ ap (λ (qs : List PieceValue). slice_get qs 0) (sym (other_push ps p b differ.1))
+      ];
+      first = twice_first ps p blocks twice h.first (ap length none);
+      lowest = rw h.lowest (least_of_push ps p);
+    }
 
 -- the same over the row that was found
-pub put_more : (ps : List PieceValue) (p : PieceValue) (blocks : ℕ) (rows : List Row) (twice : Option ℕ) (row : Row)
-    → AreRows ps blocks rows twice → slice_get rows p.block ≡ Some row → is_some row ≡ true
-    → AreRows (ps ++ p ∷ []) blocks rows (Some (first_of twice p.block))
-put_more ps p blocks rows twice None h at found = absurd (let bad : false ≡ true = found in cc)
-put_more ps p blocks rows twice (Some lines) h at found = put_again ps p blocks rows twice lines h (slice_get_within rows p.block (Some lines) at) at
+pub put_more : (ps : List PieceValue) (p : PieceValue) (blocks : ℕ) (rows : List Row) (twice least : Option ℕ) (row : Row)
+    → AreRows ps blocks rows twice least → slice_get rows p.block ≡ Some row → is_some row ≡ true
+    → AreRows (ps ++ p ∷ []) blocks rows (Some (first_of twice p.block)) (lower least (least_image (lines_of p.found)))
+put_more ps p blocks rows twice least None h at found = absurd (let bad : false ≡ true = found in cc)
+put_more ps p blocks rows twice least (Some q) h at found = put_again ps p q blocks rows twice least h at
 
-pub put_new : (ps : List PieceValue) (p : PieceValue) (blocks : ℕ) (rows : List Row) (twice : Option ℕ) (row : Row)
-    → AreRows ps blocks rows twice → slice_get rows p.block ≡ Some row → is_some row ≡ false
-    → AreRows (ps ++ p ∷ []) blocks (slice_set rows p.block (Some p.lines)) twice
-put_new ps p blocks rows twice None h at found = put_first ps p blocks rows twice h (slice_get_within rows p.block None at) at
-put_new ps p blocks rows twice (Some lines) h at found = absurd (let bad : true ≡ false = found in cc)
+pub put_new : (ps : List PieceValue) (p : PieceValue) (blocks : ℕ) (rows : List Row) (twice least : Option ℕ) (row : Row)
+    → AreRows ps blocks rows twice least → slice_get rows p.block ≡ Some row → is_some row ≡ false
+    → AreRows (ps ++ p ∷ []) blocks (slice_set rows p.block (Some p)) twice (lower least (least_image (lines_of p.found)))
+put_new ps p blocks rows twice least None h at found = put_first ps p blocks rows twice least h at
+put_new ps p blocks rows twice least (Some q) h at found = absurd (let bad : true ≡ false = found in cc)
 
 -- before the first piece
 
@@ -206,15 +192,12 @@ element_of_blank zero b row h = absurd (let bad : None ≡ Some row = h in cc)
 element_of_blank (suc n) zero row h = let e : Some None ≡ Some row = h in cc
 element_of_blank (suc n) (suc b) row h = element_of_blank n b row h
 
-blank_row : (b : ℕ) (row : Row) → row ≡ None → IsRow [] b row
-blank_row b None e = (refl, refl)
-blank_row b (Some lines) e = absurd (let bad : Some lines ≡ None = e in cc)
-
-pub blank_rows : (blocks : ℕ) (rows : List Row) → rows ≡ replicate blocks None → AreRows [] blocks rows None
+pub blank_rows : (blocks : ℕ) (rows : List Row) → rows ≡ replicate blocks None → AreRows [] blocks rows None None
 blank_rows blocks rows e = record {
   count = rw e (length-replicate {A = Row} blocks None);
-  each = λ b row there. blank_row b row (element_of_blank blocks b row (rw (← e) there));
+  each = λ b row there. element_of_blank blocks b row (rw (← e) there);
   first = λ b lt. omega arith;
+  lowest = refl;
 }
 
 -- an element between others

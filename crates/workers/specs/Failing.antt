@@ -10,12 +10,14 @@ use Rattle.interp.specs.Checker.{CheckerValue, judged}
 use Rattle.images.specs.Views.{view_of, sectors_of, context_at}
 use Rattle.report.specs.Line.{FailingLine, fails}
 
--- what is judged: the images of a plan with at most `bound` departures, torn writes or none, by checkers
+-- what is judged: the images of a plan with at most `bound` departures, torn writes or none, by checkers;
+-- and whether the first failing image is all that is asked for
 pub record Subject : Type 0 where
   pub plan : PlanValue
   pub checkers : List CheckerValue
   pub bound : ℕ
   pub tears : Bool
+  pub first : Bool
 
 -- the choices of which the images are: image n is that of choice n
 abbrev pub choices_of : Subject → List ChoiceValue

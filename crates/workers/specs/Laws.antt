@@ -1,10 +1,10 @@
 -- The failing lines are the set of those that fail, in their order.
-use Rattle.std.specs.Prelude.{ℕ, ◌≡◌, ◌<◌, ◌⊎◌, IsTrue, List, slice_get, Some}
+use Rattle.std.specs.Prelude.{ℕ, ◌≡◌, ◌<◌, ◌⊎◌, IsTrue, List, [], ◌∷◌, ◌++◌, slice_get, Some}
 use Rattle.choices.specs.Choices.{ChoiceValue}
 use Rattle.interp.specs.Checker.{CheckerValue}
-use Rattle.report.specs.Line.{FailingLine, fails}
+use Rattle.report.specs.Line.{FailingLine, fails, first_lines}
 use Rattle.workers.specs.Failing.{Subject, choices_of, ending_at, failing_lines}
-use Rattle.workers.specs.Pieces.{PieceValue, ArePieces, AreWhole, block_count, collected}
+use Rattle.workers.specs.Pieces.{PieceValue, ArePieces, AreFull, AreWhole, block_count, collected}
 
 -- the line tells truly of an image and a checker of the run, and the checker does not answer 0 there
 pub record IsFailing (s : Subject) (l : FailingLine) : Type 0 where
@@ -30,7 +30,25 @@ pub record ListsFailing (s : Subject) (ls : List FailingLine) : Type 0 where
 abbrev pub LinesAreSet : Type 0
 LinesAreSet = (s : Subject) → ListsFailing s (failing_lines s)
 
--- the pieces of a run, one of each block, have its failing lines
+-- the pieces of a run, one of each block and none passed over, have its failing lines
 abbrev pub CollectionIsFailing : Type 0
-CollectionIsFailing = (s : Subject) (pieces : List PieceValue) → ArePieces s pieces → AreWhole pieces (block_count s)
+CollectionIsFailing = (s : Subject) (pieces : List PieceValue) → ArePieces s pieces → AreFull pieces → AreWhole pieces (block_count s)
     → collected pieces (block_count s) ≡ failing_lines s
+
+-- some of the lines, in their order
+abbrev pub AreSomeOf : List FailingLine → List FailingLine → Type 0
+AreSomeOf some [] = some ≡ []
+AreSomeOf some (l ∷ ls) = AreSomeOf some ls ⊎ ((rest : List FailingLine) × (some ≡ l ∷ rest) × AreSomeOf rest ls)
+
+-- the lines are all lines of the first failing image, and then some of the others
+pub record BeginsWithFirst (all lines : List FailingLine) : Type 0 where
+  pub others : List FailingLine
+  pub kept : List FailingLine
+  pub all_lines : all ≡ first_lines all ++ others
+  pub these : lines ≡ first_lines all ++ kept
+  pub some : AreSomeOf kept others
+
+-- with passed pieces, they have those of its first failing image, and then some of the others
+abbrev pub CollectionBeginsWithFirst : Type 0
+CollectionBeginsWithFirst = (s : Subject) (pieces : List PieceValue) → ArePieces s pieces → AreWhole pieces (block_count s)
+    → BeginsWithFirst (failing_lines s) (collected pieces (block_count s))

@@ -1,22 +1,23 @@
 //! From pieces of the work to all lines.
 
-ghost use Rattle.std.specs.Prelude.{◌≡◌, ◌+◌, ◌<◌, ◌++◌, ◌∷◌, [], ℕ, All, List, length, position, is_none, unwrap_or, IfOk, IfErr, OnOk, None, min};
+ghost use Rattle.std.specs.Prelude.{◌≡◌, ◌<◌, ◌++◌, ◌∷◌, [], ℕ, All, List, length, position, IfOk, IfErr, OnOk};
 ghost use Rattle.std.specs.List.{flat_map};
-ghost use Rattle.report.specs.Line.{FailingLine};
 ghost use Rattle.workers.specs.Pieces.{PieceValue, AreWhole, collected, RefusesPieces, work_refusal};
-ghost use Rattle.workers.specs.Table.{AreRows, row_lines, first_of};
+ghost use Rattle.workers.specs.Table.{AreRows, first_of, is_missing, row_lines};
 
+use crate::lines::lower;
 use crate::piece::Piece;
 use base::causes::WorkCause;
 use report::Lines;
 use shares::{Cause, Refusal};
 use std::alloc::{AllocError, Global};
 
-/// The lines of each block so far, and the first block that came twice.
+/// The piece of each block so far, the first block that came twice, and the least failing image.
 #[derive(Drop)]
 struct Table {
-    rows: Vec<Option<Lines>>,
+    rows: Vec<Option<Piece>>,
     twice: Option<u32>,
+    least: Option<u64>,
 }
 
 /// The refusal of the work for that cause, at a block.
@@ -43,26 +44,31 @@ fn first_of(seen: Option<u32>, block: u32) -> u32
 impl Table {
     /// A table of so many blocks, of which none has a piece.
     fn new(alloc: Global, blocks: u32) -> Result<Table, AllocError>
-        ensures { IfOk result (λ table. AreRows [] blocks table.rows.items table.twice) }
+        ensures { IfOk result (λ table. AreRows [] blocks table.rows.items table.twice table.least) }
     {
         let mut rows = Vec::new(alloc);
         for _block in 0..blocks {
             rows.push(None)?;
         }
-        Ok(Table { rows, twice: None })
+        Ok(Table {
+            rows,
+            twice: None,
+            least: None,
+        })
     }
 
     /// Puts one more piece into its row.
     fn put(&mut self, piece: Piece)
         requires { piece.block < length self.old.rows.items }
-        ensures { (pieces : List PieceValue) (blocks : ℕ) → AreRows pieces blocks self.old.rows.items self.old.twice
-            → AreRows (pieces ++ piece ∷ []) blocks self.new.rows.items self.new.twice }
+        ensures { (pieces : List PieceValue) (blocks : ℕ) → AreRows pieces blocks self.old.rows.items self.old.twice self.old.least
+            → AreRows (pieces ++ piece ∷ []) blocks self.new.rows.items self.new.twice self.new.least }
     {
         let block = piece.block();
+        self.least = lower(self.least, piece.least_image());
         if self.rows[block as usize].is_some() {
             self.twice = Some(first_of(self.twice, block));
         } else {
-            self.rows[block as usize] = Some(piece.into_lines());
+            self.rows[block as usize] = Some(piece);
         }
     }
 }
@@ -70,7 +76,7 @@ impl Table {
 /// The table of those pieces.
 fn table_of(alloc: Global, pieces: Vec<Piece>, blocks: u32) -> Result<Table, AllocError>
     requires { All (λ piece. piece.block < blocks) pieces.items }
-    ensures { IfOk result (λ table. AreRows pieces.items blocks table.rows.items table.twice) }
+    ensures { IfOk result (λ table. AreRows pieces.items blocks table.rows.items table.twice table.least) }
 {
     let mut table = Table::new(alloc, blocks)?;
     for piece in pieces {
@@ -79,28 +85,39 @@ fn table_of(alloc: Global, pieces: Vec<Piece>, blocks: u32) -> Result<Table, All
     Ok(table)
 }
 
-/// The first block without a piece.
-fn first_missing(rows: &[Option<Lines>]) -> Option<usize>
-    ensures { result ≡ position is_none rows.now }
+/// Whether a row has no piece that counts.
+fn is_missing(row: &Option<Piece>, least: Option<u64>) -> bool
+    ensures { result ≡ is_missing least row.now }
 {
-    rows.iter().position(|row| row.is_none())
+    match row {
+        Some(piece) => !piece.counts(least),
+        None => true,
+    }
+}
+
+/// The first block without a piece that counts.
+fn first_missing(rows: &[Option<Piece>], least: Option<u64>) -> Option<usize>
+    ensures { result ≡ position (is_missing least) rows.now }
+{
+    rows.iter().position(|row| is_missing(row, least))
 }
 
 /// The lines of all rows, one after the other.
-fn joined(alloc: Global, rows: Vec<Option<Lines>>) -> Result<Lines, AllocError>
+fn joined(alloc: Global, rows: Vec<Option<Piece>>) -> Result<Lines, AllocError>
     ensures { IfOk result (λ lines. lines ≡ flat_map row_lines rows.items) }
 {
     let mut all = Lines::new(alloc);
     for row in rows {
-        if let Some(lines) = row {
-            all = all.followed_by(lines)?;
+        if let Some(piece) = row {
+            all = piece.appended_to(all)?;
         }
     }
     Ok(all)
 }
 
 /// The lines of the pieces of a run, by block. The pieces come in any order; there are to be as many
-/// as blocks, one of each.
+/// as blocks, one of each. A passed piece counts as none where the image that it names is not before
+/// all of its block, or precedes every failing image of the full pieces.
 ///
 /// # Errors
 ///
@@ -116,8 +133,8 @@ pub fn collect(alloc: Global, pieces: Vec<Piece>, blocks: u32) -> Result<Lines, 
         Ok(table) => table,
         Err(_error) => return Err(work_refusal_at(WorkCause::Memory, 0)),
     };
-    let Table { rows, twice } = table;
-    match (twice, first_missing(rows.as_slice())) {
+    let Table { rows, twice, least } = table;
+    match (twice, first_missing(rows.as_slice(), least)) {
         (Some(block), _) => Err(work_refusal_at(WorkCause::PieceTwice, block)),
         (None, Some(block)) => Err(work_refusal_at(WorkCause::PieceMissing, block as u32)),
         (None, None) => match joined(alloc, rows) {

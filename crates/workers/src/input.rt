@@ -8,22 +8,21 @@ ghost use Rattle.report.specs.Line.{fails};
 ghost use Rattle.workers.specs.Failing.{Subject, choices_of, image_count, ending_at, line_if, image_lines, lines_from, part};
 ghost use Rattle.workers.specs.Pieces.{block_count, piece_of};
 ghost use Rattle.workers.specs.Input.{line_list};
+ghost use Rattle.workers.specs.Exploring.{passes_over};
 
-use crate::piece::Piece;
+use crate::lines::BlockLines;
+use crate::piece::{BLOCK, Piece};
 use arrayvec::ArrayVec;
 use choices::{Choice, Departure, TooMany, count, next, nth};
 use epochs::Plan;
 use images::{History, View};
 use interp::{Checker, Outcome};
-use report::{Line, Lines};
+use report::Line;
 use std::alloc::{AllocError, Global};
 use std::marker::Model;
 
-/// How many images, in a row, are one piece of work.
-const BLOCK: u64 = 64;
-
 /// What is judged: the crash images of a plan with at most `bound` departures, torn writes or none,
-/// by checkers in their order.
+/// by checkers in their order; and whether the first failing image is all that is asked for.
 #[derive(Drop)]
 pub struct Input<'a> {
     plan: &'a Plan<'a>,
@@ -31,6 +30,7 @@ pub struct Input<'a> {
     checkers: &'a [Checker<'a>],
     bound: u8,
     tears: bool,
+    first: bool,
     images: u64,
 }
 
@@ -40,9 +40,9 @@ impl<'a> Model for Input<'a> {
 
     ghost Value = { Subject };
 
-    ghost view = { λ i. record { plan = i.plan.now; checkers = i.checkers.now; bound = i.bound; tears = i.tears } };
+    ghost view = { λ i. record { plan = i.plan.now; checkers = i.checkers.now; bound = i.bound; tears = i.tears; first = i.first } };
 
-    ghost invariant = { λ i. IsInput (record { plan = i.plan.now; checkers = i.checkers.now; bound = i.bound; tears = i.tears }) i.history.now i.images };
+    ghost invariant = { λ i. IsInput (record { plan = i.plan.now; checkers = i.checkers.now; bound = i.bound; tears = i.tears; first = i.first }) i.history.now i.images };
 }
 
 /// Whether an outcome makes a line of the report.
@@ -71,7 +71,7 @@ fn owned(departures: &[Departure]) -> ArrayVec<Departure, 3>
 /// Appends the line of an image and a checker, if it fails there.
 #[tactic(auto, unfolding(crate::specs::Failing::ending_at))]
 fn judge_checker(
-    lines: &mut Lines,
+    lines: &mut BlockLines,
     image: u64,
     choice: &Choice,
     view: &View<'_>,
@@ -95,7 +95,8 @@ fn judge_checker(
 }
 
 impl<'a> Input<'a> {
-    /// What is judged by a run. The history is that of the plan.
+    /// What is judged by a run. The history is that of the plan. With `first` the run looks for the
+    /// first failing image alone.
     ///
     /// # Errors
     ///
@@ -106,11 +107,12 @@ impl<'a> Input<'a> {
         checkers: &'a [Checker<'a>],
         bound: u8,
         tears: bool,
+        first: bool,
     ) -> Result<Input<'a>, TooMany>
         requires history { history.now ≡ plan.now }
         requires checkers { length checkers.now ≤ 8 }
         requires bound { bound ≤ 3 }
-        ensures made { IfOk result (λ input. input ≡ record { plan = plan.now; checkers = checkers.now; bound = bound; tears = tears }) }
+        ensures made { IfOk result (λ input. input ≡ record { plan = plan.now; checkers = checkers.now; bound = bound; tears = tears; first = first }) }
         ensures past { IfErr result (λ fault. IsFirstPast plan.now bound tears fault.at) }
     {
         match count(plan, bound, tears) {
@@ -120,6 +122,7 @@ impl<'a> Input<'a> {
                 checkers,
                 bound,
                 tears,
+                first,
                 images,
             }),
             Err(fault) => Err(fault),
@@ -142,11 +145,19 @@ impl<'a> Input<'a> {
         self.image_count().div_ceil(BLOCK) as u32
     }
 
+    /// Whether a block is passed over after that failing image: where the first is all that is asked
+    /// for, and all of the block lies after it.
+    pub(crate) fn passes_over(&self, block: u32, image: u64) -> bool
+        ensures { result ≡ passes_over self.now block image }
+    {
+        self.first && image < BLOCK * u64::from(block)
+    }
+
     /// Appends the lines of an image.
     fn judge_image(
         &self,
         alloc: Global,
-        lines: &mut Lines,
+        lines: &mut BlockLines,
         image: u64,
         choice: &Choice,
     ) -> Result<(), AllocError>
@@ -164,7 +175,7 @@ impl<'a> Input<'a> {
     fn judge_row(
         &self,
         alloc: Global,
-        lines: &mut Lines,
+        lines: &mut BlockLines,
         first: u64,
         end: u64,
     ) -> Result<(), AllocError>
@@ -191,7 +202,7 @@ pub fn judge_block(alloc: Global, input: &Input<'_>, block: u32) -> Result<Piece
 {
     let first = BLOCK * u64::from(block);
     let end = input.image_count().min(first + BLOCK);
-    let mut lines = Lines::new(alloc);
+    let mut lines = BlockLines::new(alloc);
     input.judge_row(alloc, &mut lines, first, end)?;
     Ok(Piece::of(block, lines))
 }

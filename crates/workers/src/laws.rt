@@ -1,6 +1,6 @@
 //! Laws of the failing lines. The functions do nothing; each contract is a theorem.
 
-ghost use Rattle.workers.specs.Laws.{LinesAreSet, CollectionIsFailing};
+ghost use Rattle.workers.specs.Laws.{LinesAreSet, CollectionIsFailing, CollectionBeginsWithFirst};
 
 /// The failing lines of a run are those that docs/REPORT.md says, no other, each once, by image and
 /// then by program.
@@ -8,7 +8,14 @@ pub fn lines_are_set()
     ensures { LinesAreSet }
 {}
 
-/// What is collected of the pieces of a run, one of each block, are its failing lines.
+/// What is collected of the pieces of a run, one of each block and none passed over, are its failing
+/// lines.
 pub fn collection_is_failing()
     ensures { CollectionIsFailing }
+{}
+
+/// Where some were passed over, it is the lines of the first failing image, and then some of the
+/// others.
+pub fn collection_begins_with_first()
+    ensures { CollectionBeginsWithFirst }
 {}

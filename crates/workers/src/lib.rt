@@ -40,9 +40,11 @@
 
 mod collecting;
 mod exploring;
+mod found;
 mod gate;
 mod input;
 mod laws;
+mod lines;
 mod piece;
 #[cfg(test)]
 mod tests;
@@ -51,5 +53,5 @@ pub use collecting::collect;
 pub use exploring::{Work, explore_all};
 pub use gate::{Gate, OpenGate};
 pub use input::{Input, judge_block};
-pub use laws::{collection_is_failing, lines_are_set};
+pub use laws::{collection_begins_with_first, collection_is_failing, lines_are_set};
 pub use piece::Piece;

@@ -1,15 +1,26 @@
 //! A piece of the work.
 
-ghost use Rattle.std.specs.Prelude.{◌≡◌};
+ghost use Rattle.std.specs.Prelude.{◌≡◌, ◌++◌, IfOk};
+ghost use Rattle.workers.specs.declared.found.Found.TheVariants as held;
+ghost use Rattle.workers.specs.Counting.{counts_with};
+ghost use Rattle.workers.specs.Least.{least_image};
+ghost use Rattle.workers.specs.Pieces.{lines_of};
 
+use crate::found::Found;
+use crate::lines::BlockLines;
 use report::Lines;
+use std::alloc::AllocError;
 use std::marker::Model;
 
-/// The lines of one block of images. Contracts see the block and the lines.
+/// How many images, in a row, are one piece of work.
+pub(crate) const BLOCK: u64 = 64;
+
+/// What one block of images has: its failing lines, or the failing image after which it was passed
+/// over. Contracts see the block and which of the two.
 #[derive(Drop)]
 pub struct Piece {
     block: u32,
-    lines: Lines,
+    found: Found,
 }
 
 impl Model for Piece {
@@ -17,15 +28,29 @@ impl Model for Piece {
 
     ghost Value = { PieceValue };
 
-    ghost view = { λ p. record { block = p.block; lines = p.lines } };
+    ghost view = { λ p. record { block = p.block; found = p.found } };
 }
 
 impl Piece {
-    /// The piece of a block that has those lines.
-    pub(crate) fn of(block: u32, lines: Lines) -> Piece
-        ensures { result ≡ record { block = block; lines = lines } }
+    /// The full piece of a block that has those lines.
+    pub(crate) fn of(block: u32, lines: BlockLines) -> Piece
+        ensures { result ≡ record { block = block; found = held.Lines lines } }
     {
-        Piece { block, lines }
+        Piece {
+            block,
+            found: Found::Lines(lines),
+        }
+    }
+
+    /// The piece of a block that was passed over, since that failing image comes before all of it.
+    /// `collect` takes it only where this is so.
+    pub fn passed(block: u32, image: u64) -> Piece
+        ensures { result ≡ record { block = block; found = held.Passed image } }
+    {
+        Piece {
+            block,
+            found: Found::Passed(image),
+        }
     }
 
     /// The number of its block.
@@ -35,11 +60,39 @@ impl Piece {
         self.block
     }
 
-    /// Its lines.
-    pub(crate) fn into_lines(self) -> Lines
-        ensures { result ≡ self.lines }
+    /// The least failing image that was found in its block.
+    pub fn least_image(&self) -> Option<u64>
+        ensures { result ≡ least_image (lines_of self.now.found) }
     {
-        let Piece { block: _, lines } = self;
-        lines
+        match &self.found {
+            Found::Lines(lines) => lines.least_image(),
+            Found::Passed(_) => None,
+        }
+    }
+
+    /// Whether it counts where that is the least failing image of the full pieces. A full piece
+    /// always does; a passed one where the image that it names comes before all of its block, and is
+    /// the least failing image or comes after it.
+    pub(crate) fn counts(&self, least: Option<u64>) -> bool
+        ensures { result ≡ counts_with least self.now.block self.now.found }
+    {
+        match &self.found {
+            Found::Lines(_) => true,
+            Found::Passed(image) => {
+                *image < BLOCK * u64::from(self.block)
+                    && least.is_some_and(|least| least <= *image)
+            }
+        }
+    }
+
+    /// Those lines, and then its own.
+    pub(crate) fn appended_to(self, lines: Lines) -> Result<Lines, AllocError>
+        ensures { IfOk result (λ all. all ≡ lines ++ lines_of self.found) }
+    {
+        let Piece { block: _, found } = self;
+        match found {
+            Found::Lines(own) => lines.followed_by(own.into_lines()),
+            Found::Passed(_) => Ok(lines),
+        }
     }
 }

@@ -1,6 +1,6 @@
-use Rattle.std.proofs.Common.{◌≡◌, ◌∙◌, ap, subst, sym, position, is_none, Some, None, Option, List}
-use Rattle.report.specs.Line.{FailingLine}
+use Rattle.std.proofs.Common.{◌≡◌, ◌∙◌, ap, sym, position, Some, None}
 use Rattle.workers.specs.Pieces.{two_pieces, no_piece, no_memory}
+use Rattle.workers.specs.Table.{is_missing}
 use Rattle.workers.proofs.Collected.{twice_there, none_twice, missing_there, whole_rows, lines_of_rows}
 use Rattle.workers.proofs.collecting.collect.Goals as goal
 
@@ -10,26 +10,24 @@ returns-in-Err-clause-refused c = rw c.work_refusal_at.ensures no_memory
 pub returns-in-Some-default-clause-refused : goal.returns-in-Some-default-clause-refused
 returns-in-Some-default-clause-refused c =
     rw c.work_refusal_at-in-Some-default.ensures
-    (two_pieces c.in-Some-default.block (twice_there _ _ _ _ _ c.in-Ok.ensures c.in-Some-default.is-0))
+    (two_pieces c.in-Some-default.block (twice_there _ _ _ _ _ _ c.in-Ok.ensures c.in-Some-default.is-0))
 
 pub returns-in-None-Some-clause-refused : goal.returns-in-None-Some-clause-refused
 returns-in-None-Some-clause-refused c =
-    let here : position is_none c.in-Ok.table.rows.items ≡ Some c.in-None-Some.block =
-    ap (position (is_none {T = List FailingLine})) (sym c.as_slice.ensures.value) ∙ sym c.first_missing.ensures ∙ c.in-None-Some.is-1 in
+    let here : position (is_missing c.in-Ok.table.least) c.in-Ok.table.rows.items ≡ Some c.in-None-Some.block =
+    ap (position (is_missing c.in-Ok.table.least)) (sym c.as_slice.ensures.value) ∙ sym c.first_missing.ensures ∙ c.in-None-Some.is-1 in
     rw c.work_refusal_at-in-None-Some.ensures
-    (no_piece c.in-None-Some.block (missing_there _ _ _ _ (none_twice _ _ _ _ c.in-Ok.ensures c.in-None-Some.is-0) here))
+    (no_piece c.in-None-Some.block (missing_there _ _ _ _ _ (none_twice _ _ _ _ _ c.in-Ok.ensures c.in-None-Some.is-0) here))
 
 pub returns-in-Ok-joined-clause-whole : goal.returns-in-Ok-joined-clause-whole
 returns-in-Ok-joined-clause-whole c =
-    let none : position is_none c.in-Ok.table.rows.items ≡ None =
-    ap (position (is_none {T = List FailingLine})) (sym c.as_slice.ensures.value) ∙ sym c.first_missing.ensures ∙ c.in-None-None.is-1 in
-    whole_rows _ _ _ (none_twice _ _ _ _ c.in-Ok.ensures c.in-None-None.is-0) none
+    let none : position (is_missing c.in-Ok.table.least) c.in-Ok.table.rows.items ≡ None =
+    ap (position (is_missing c.in-Ok.table.least)) (sym c.as_slice.ensures.value) ∙ sym c.first_missing.ensures ∙ c.in-None-None.is-1 in
+    whole_rows _ _ _ _ (none_twice _ _ _ _ _ c.in-Ok.ensures c.in-None-None.is-0) none
 
 pub returns-in-Ok-joined-clause-lines : goal.returns-in-Ok-joined-clause-lines
 returns-in-Ok-joined-clause-lines c =
-    let none : position is_none c.in-Ok.table.rows.items ≡ None =
-    ap (position (is_none {T = List FailingLine})) (sym c.as_slice.ensures.value) ∙ sym c.first_missing.ensures ∙ c.in-None-None.is-1 in
-    c.in-Ok-joined.ensures ∙ lines_of_rows _ _ _ (none_twice _ _ _ _ c.in-Ok.ensures c.in-None-None.is-0) none
+    c.in-Ok-joined.ensures ∙ lines_of_rows _ _ _ _ (none_twice _ _ _ _ _ c.in-Ok.ensures c.in-None-None.is-0)
 
 pub returns-in-Err-joined-clause-refused : goal.returns-in-Err-joined-clause-refused
 returns-in-Err-joined-clause-refused c = rw c.work_refusal_at-in-Err-joined.ensures no_memory

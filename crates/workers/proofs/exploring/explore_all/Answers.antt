@@ -1,31 +1,38 @@
-use Rattle.std.proofs.Common.{◌≡◌, ◌∙◌, ◌≤◌, map, subst, arith}
-use Rattle.std.specs.List.{range_with_len}
-use Rattle.workers.specs.Pieces.{block_count, piece_of, ArePieces}
-use Rattle.workers.proofs.Collected.{made_pieces, collection, only_memory}
+use Rattle.std.proofs.Common.{◌≡◌, ◌∙◌, ap}
+use Rattle.report.specs.Line.{first_lines}
+use Rattle.workers.specs.Pieces.{AreWhole, block_count, collected}
+use Rattle.workers.proofs.Runs.{without_passed, with_passed, same_first_lines, lines_ordered, only_memory}
 use Rattle.workers.proofs.Sets.{images_rise}
 use Rattle.workers.proofs.exploring.explore_all.Goals as goal
 
-pub collect-requires : goal.collect-requires
-collect-requires g c = λ k d lt.
-    let few : block_count c.args.input.now ≤ block_count c.args.input.now = omega arith in
-    let are = made_pieces c.args.input.now (block_count c.args.input.now) c.in-Ok.pieces.items few c.in-Ok.ensures in
-    rw c.block_count.ensures.value (are k d lt).0
-
-pub returns-in-Ok-collect-clause-lines : goal.returns-in-Ok-collect-clause-lines
-returns-in-Ok-collect-clause-lines g c =
-    let few : block_count c.args.input.now ≤ block_count c.args.input.now = omega arith in
-    let are = made_pieces c.args.input.now (block_count c.args.input.now) c.in-Ok.pieces.items few c.in-Ok.ensures in
+pub returns-in-Ok-collect-clause-whole : goal.returns-in-Ok-collect-clause-whole
+returns-in-Ok-collect-clause-whole g c = λ all.
+    let s = c.args.input.now in
+    let whole : AreWhole c.in-Ok.pieces.items (block_count s) = rw (← c.block_count.ensures.value) c.in-Ok-collect.ensures.whole in
     c.in-Ok-collect.ensures.lines
-    ∙ rw c.block_count.ensures.value (collection c.args.input.now c.in-Ok.pieces.items are (rw (← c.block_count.ensures.value) c.in-Ok-collect.ensures.whole))
+    ∙ rw c.block_count.ensures.value (without_passed s c.in-Ok.pieces.items c.in-Ok.ensures.own (c.in-Ok.ensures.full all) whole)
+
+pub returns-in-Ok-collect-clause-first : goal.returns-in-Ok-collect-clause-first
+returns-in-Ok-collect-clause-first g c =
+    let s = c.args.input.now in
+    let whole : AreWhole c.in-Ok.pieces.items (block_count s) = rw (← c.block_count.ensures.value) c.in-Ok-collect.ensures.whole in
+    ap first_lines c.in-Ok-collect.ensures.lines
+    ∙ rw c.block_count.ensures.value (same_first_lines s c.in-Ok.pieces.items c.in-Ok.ensures.own whole)
+
+pub returns-in-Ok-collect-clause-begins : goal.returns-in-Ok-collect-clause-begins
+returns-in-Ok-collect-clause-begins g c =
+    let s = c.args.input.now in
+    let whole : AreWhole c.in-Ok.pieces.items (block_count s) = rw (← c.block_count.ensures.value) c.in-Ok-collect.ensures.whole in
+    rw (c.in-Ok-collect.ensures.lines, c.block_count.ensures.value) (with_passed s c.in-Ok.pieces.items c.in-Ok.ensures.own whole)
 
 pub returns-in-Ok-collect-clause-order : goal.returns-in-Ok-collect-clause-order
 returns-in-Ok-collect-clause-order g c =
-    let few : block_count c.args.input.now ≤ block_count c.args.input.now = omega arith in
-    let are = made_pieces c.args.input.now (block_count c.args.input.now) c.in-Ok.pieces.items few c.in-Ok.ensures in
-    rw (c.in-Ok-collect.ensures.lines, c.block_count.ensures.value, collection c.args.input.now c.in-Ok.pieces.items are (rw (← c.block_count.ensures.value) c.in-Ok-collect.ensures.whole))
-    (images_rise c.args.input.now)
+    let s = c.args.input.now in
+    let whole : AreWhole c.in-Ok.pieces.items (block_count s) = rw (← c.block_count.ensures.value) c.in-Ok-collect.ensures.whole in
+    rw (c.in-Ok-collect.ensures.lines, c.block_count.ensures.value)
+    (images_rise (collected c.in-Ok.pieces.items (block_count s)) (lines_ordered s c.in-Ok.pieces.items c.in-Ok.ensures.own whole))
 
 pub returns-in-Err-collect-clause-refused : goal.returns-in-Err-collect-clause-refused
 returns-in-Err-collect-clause-refused g c =
-    only_memory c.args.input.now (block_count c.args.input.now) c.in-Err-collect.refusal
-    (rw (← c.in-Ok.ensures, ← c.block_count.ensures.value) c.in-Err-collect.ensures.refused)
+    only_memory c.args.input.now (block_count c.args.input.now) c.in-Ok.pieces.items _ c.in-Err-collect.refusal c.in-Ok.ensures
+    (rw (← c.block_count.ensures.value) c.in-Err-collect.ensures.refused)

@@ -1,0 +1,326 @@
+-- The pieces of a run.
+use Rattle.std.proofs.Common.{ℕ, zero, suc, ◌≡◌, ◌≢◌, ◌+◌, ◌-◌, ◌*◌, ◌==◌, ◌<◌, ◌≤◌, ◌⊎◌, inl, inr, min, Bool, true, false, not, ◌&&◌, ◌||◌, cond, if◌then◌else◌, nat_lt, nat_le, List, [], ◌∷◌, ◌++◌, length, map, filter, All, get_or, Option, None, Some, slice_get, refl, sym, ◌∙◌, ap, subst, arith, append-nil}
+use Rattle.std.specs.List.{flat_map, range_with_len, list_any}
+use Rattle.std.proofs.lemmas.Bool.Decides.{eqb_tells, nat_tests}
+use Rattle.std.proofs.lemmas.List.{map-append}
+use Rattle.std.proofs.lemmas.Option.{slice_get-get_or}
+use Rattle.base.proofs.Lists.{range_with_len-more, slice_get_of_push}
+use Rattle.base.specs.declared.causes.WorkCause.TheVariants as work
+use Rattle.shares.specs.declared.refusal.Refusal.{Refusal}
+use Rattle.report.specs.Line.{FailingLine, first_lines}
+use Rattle.workers.specs.declared.found.Found.{Found}
+use Rattle.workers.specs.declared.found.Found.TheVariants.{Lines, Passed}
+use Rattle.workers.specs.Counting.{reaches, counts_with}
+use Rattle.workers.specs.Exploring.{passes_over, found_after, ArePiecesUpTo}
+use Rattle.workers.specs.Failing.{Subject, image_count, lines_from, failing_lines, part}
+use Rattle.workers.specs.Laws.{AreSomeOf, BeginsWithFirst}
+use Rattle.workers.specs.Least.{lower, least_image}
+use Rattle.workers.specs.Pieces.{PieceValue, EachPiece, ArePieces, AreFull, AreWhole, HasPart, passes, block_count, of_block, pieces_at, counted_at, lines_at, lines_of, full_lines, counts, collected, work_refusal, RefusesPieces, two_pieces, no_piece, no_memory}
+use Rattle.workers.proofs.JudgedLines.{all_parts}
+use Rattle.workers.proofs.Least.{lines_push, least_of_push, counts_by_least}
+use Rattle.workers.proofs.Sets.{Each, Ordered, each_then, all_ordered, of_range}
+use Rattle.workers.proofs.SomeLines.{AreIn, IsKept, begins, some_ordered, some_of_blocks, first_of_blocks}
+
+-- the one piece of a block
+
+of_tail : (P : PieceValue → Type 0) (p : PieceValue) (ps : List PieceValue) → EachPiece P (p ∷ ps) → EachPiece P ps
+of_tail P p ps h i q there = h (suc i) q there
+
+each_filter : (P : PieceValue → Type 0) (test : PieceValue → Bool) (ps : List PieceValue) → EachPiece P ps → EachPiece (λ p. P p × (test p ≡ true)) (filter test ps)
+each_filter P test [] h i q there = absurd (let bad : None ≡ Some q = there in cc)
+each_filter P test (p ∷ ps) h i q there = step (test p) refl (each_filter P test ps (of_tail P p ps h)) i there
+  where
+    step : (b : Bool) → test p ≡ b → EachPiece (λ p. P p × (test p ≡ true)) (filter test ps) → (i : ℕ) → slice_get (cond b (p ∷ filter test ps) (filter test ps)) i ≡ Some q
+        → P q × (test q ≡ true)
+    step true e rest zero at = let same : p ≡ q = (let s : Some p ≡ Some q = at in cc) in subst (λ (x : PieceValue). P x × (test x ≡ true)) same (h 0 p refl, e)
+    step true e rest (suc i) at = rest i q at
+    step false e rest i at = rest i q at
+
+alone : (ps : List PieceValue) → length ps ≡ 1 → (p : PieceValue) × (ps ≡ p ∷ [])
+alone [] h = absurd (omega (arith, h))
+alone (p ∷ []) h = (p, refl)
+alone (p ∷ q ∷ ps) h = absurd (omega (arith, h))
+
+-- the piece of a block of which there is one
+abbrev IsOne : (PieceValue → Type 0) → List PieceValue → ℕ → Type 0
+IsOne P ps b = (p : PieceValue) × P p × (p.block ≡ b) × (of_block ps b ≡ p ∷ [])
+
+one_piece : (P : PieceValue → Type 0) (ps : List PieceValue) (b : ℕ) → EachPiece P ps → pieces_at ps b ≡ 1 → IsOne P ps b
+one_piece P ps b h one =
+    let p = alone (of_block ps b) one in
+    let first : slice_get (of_block ps b) 0 ≡ Some p.0 = ap (λ (qs : List PieceValue). slice_get qs 0) p.1 in
+    let is = each_filter P (λ (q : PieceValue). q.block == b) ps h 0 p.0 first in
+    (p.0, is.0, (grind (arith, nat_tests, is.1)), p.1)
+
+-- where none was passed over
+
+full_part : (s : Subject) (b : ℕ) (found : Found) → HasPart s b found → passes found ≡ false → lines_of found ≡ part s b
+full_part s b (Lines own) h full = h
+full_part s b (Passed image) h full = absurd (let bad : true ≡ false = full in cc)
+
+own_part : (s : Subject) (ps : List PieceValue) (b : ℕ) → ArePieces s ps → AreFull ps → pieces_at ps b ≡ 1 → lines_at ps b ≡ part s b
+own_part s ps b h full one =
+    let p = one_piece (λ p. ((p.block < block_count s) × HasPart s p.block p.found) × (passes p.found ≡ false)) ps b (λ i q at. (h i q at, full i q at)) one in
+    ap full_lines p.3 ∙ append-nil (lines_of p.0.found) ∙ full_part s p.0.block p.0.found p.1.0.1 p.1.1 ∙ ap (part s) p.2
+
+alike : (f g : ℕ → List FailingLine) (a n : ℕ) → ((b : ℕ) → b < a + n → f b ≡ g b) → flat_map f (range_with_len a n) ≡ flat_map g (range_with_len a n)
+alike f g a zero h = refl
+alike f g a (suc n) h = rw (h a (omega arith), alike f g (a + 1) n (λ b lt. h b (omega (arith, lt)))) refl
+
+pub without_passed : (s : Subject) (ps : List PieceValue) → ArePieces s ps → AreFull ps → AreWhole ps (block_count s) → collected ps (block_count s) ≡ failing_lines s
+unfolding collected
+without_passed s ps h full whole =
+    alike (lines_at ps) (part s) 0 (block_count s) (λ b lt. own_part s ps b h full (whole b (omega (arith, lt))).0) ∙ all_parts s
+
+-- where some were
+
+part_in : (s : Subject) (b : ℕ) → AreIn b (part s b)
+unfolding part
+part_in s b = step (of_range s (64 * b) (min 64 (image_count s - 64 * b)))
+  where
+    step : Each (λ l. (64 * b ≤ l.image) × (l.image < 64 * b + min 64 (image_count s - 64 * b))) (lines_from s (64 * b) (min 64 (image_count s - 64 * b)))
+        → AreIn b (lines_from s (64 * b) (min 64 (image_count s - 64 * b)))
+    step h = each_then _ _ _ (λ l is. (is.0, omega (arith, is.1))) h
+
+any_in : (P : FailingLine → Type 0) (test : FailingLine → Bool) (ls : List FailingLine) → Each P ls → list_any test ls ≡ true
+    → (l : FailingLine) × P l × (test l ≡ true)
+any_in P test [] h e = absurd (let bad : false ≡ true = e in cc)
+any_in P test (l ∷ ls) h e = step (test l) refl (any_in P test ls h.1) e
+  where
+    step : (b : Bool) → test l ≡ b → (list_any test ls ≡ true → (k : FailingLine) × P k × (test k ≡ true)) → (b || list_any test ls) ≡ true → (k : FailingLine) × P k × (test k ≡ true)
+    step true is rest g = (l, h.0, is)
+    step false is rest g = rest g
+
+any_append : (test : FailingLine → Bool) (xs ys : List FailingLine) → list_any test (xs ++ ys) ≡ true → (list_any test xs ≡ true) ⊎ (list_any test ys ≡ true)
+any_append test [] ys e = inr e
+any_append test (x ∷ xs) ys e = step (test x) (any_append test xs ys) e
+  where
+    step : (b : Bool) → (list_any test (xs ++ ys) ≡ true → (list_any test xs ≡ true) ⊎ (list_any test ys ≡ true))
+        → (b || list_any test (xs ++ ys)) ≡ true → ((b || list_any test xs) ≡ true) ⊎ (list_any test ys ≡ true)
+    step true rest g = inl refl
+    step false rest g = rest g
+
+any_more : (test : FailingLine → Bool) (xs ys : List FailingLine) → list_any test xs ≡ true → list_any test (xs ++ ys) ≡ true
+any_more test [] ys e = absurd (let bad : false ≡ true = e in cc)
+any_more test (x ∷ xs) ys e = step (test x) (any_more test xs ys) e
+  where
+    step : (b : Bool) → (list_any test xs ≡ true → list_any test (xs ++ ys) ≡ true) → (b || list_any test xs) ≡ true → (b || list_any test (xs ++ ys)) ≡ true
+    step true rest g = refl
+    step false rest g = rest g
+
+-- some piece has a line that passes the test
+abbrev HasLine : (FailingLine → Bool) → List PieceValue → Type 0
+HasLine test ps = (i : ℕ) × ((p : PieceValue) × (slice_get ps i ≡ Some p) × (list_any test (lines_of p.found) ≡ true))
+
+line_of_piece : (test : FailingLine → Bool) (ps : List PieceValue) → list_any test (full_lines ps) ≡ true → HasLine test ps
+line_of_piece test [] e = absurd (let bad : false ≡ true = e in cc)
+line_of_piece test (p ∷ ps) e = step (line_of_piece test ps) (any_append test (lines_of p.found) (full_lines ps) e)
+  where
+    later : HasLine test ps → HasLine test (p ∷ ps)
+    later h = (suc h.0, h.1)
+
+    step : (list_any test (full_lines ps) ≡ true → HasLine test ps) → (list_any test (lines_of p.found) ≡ true) ⊎ (list_any test (full_lines ps) ≡ true)
+        → HasLine test (p ∷ ps)
+    step rest (inl here) = (0, (p, refl, here))
+    step rest (inr there) = later (rest there)
+
+append_empty : (xs ys : List FailingLine) → xs ++ ys ≡ [] → (xs ≡ []) × (ys ≡ [])
+append_empty [] ys e = (refl, e)
+append_empty (x ∷ xs) ys e = absurd (let bad : x ∷ (xs ++ ys) ≡ [] = e in cc)
+
+no_lines : (ps : List PieceValue) (c : ℕ) → lines_at ps c ≡ [] → EachPiece (λ p. p.block ≡ c → lines_of p.found ≡ []) ps
+no_lines [] c e i q there = absurd (let bad : None ≡ Some q = there in cc)
+no_lines (p ∷ ps) c e i q there = elim (eqb_tells p.block c) [
+  | inl own ↦
+      let both = append_empty (lines_of p.found) (lines_at ps c) (rw own.0 at e) in
+      here both.0 (no_lines ps c both.1) i there
+  | inr differ ↦ here_not differ.1 (no_lines ps c (rw differ.0 at e)) i there
+]
+  where
+    here : lines_of p.found ≡ [] → EachPiece (λ p. p.block ≡ c → lines_of p.found ≡ []) ps → (i : ℕ) → slice_get (p ∷ ps) i ≡ Some q → q.block ≡ c → lines_of q.found ≡ []
+    here none rest zero at own = let same : p ≡ q = (let s : Some p ≡ Some q = at in cc) in subst (λ (x : PieceValue). lines_of x.found ≡ []) same none
+    here none rest (suc i) at own = rest i q at own
+
+    here_not : p.block ≢ c → EachPiece (λ p. p.block ≡ c → lines_of p.found ≡ []) ps → (i : ℕ) → slice_get (p ∷ ps) i ≡ Some q → q.block ≡ c → lines_of q.found ≡ []
+    here_not other rest zero at own = let same : p ≡ q = (let s : Some p ≡ Some q = at in cc) in absurd (other (ap (λ (x : PieceValue). x.block) same ∙ own))
+    here_not other rest (suc i) at own = rest i q at own
+
+-- a full piece that has a line at or before an image has a block at or before it
+block_of_line : (s : Subject) (image c : ℕ) (found : Found) → HasPart s c found → list_any (λ (l : FailingLine). nat_le l.image image) (lines_of found) ≡ true → 64 * c ≤ image
+block_of_line s image c (Passed other) h e = absurd (let bad : false ≡ true = e in cc)
+block_of_line s image c (Lines own) h e =
+    let within : AreIn c own = subst (AreIn c) (sym h) (part_in s c) in
+    let l = any_in (λ l. (64 * c ≤ l.image) × (l.image < 64 * c + 64)) (λ (l : FailingLine). nat_le l.image image) own within e in
+    let le : l.0.image ≤ image = grind (arith, nat_tests, l.2) in
+    omega (arith, le, l.1.0)
+
+earlier : (s : Subject) (ps : List PieceValue) (b image : ℕ) → ArePieces s ps → counts (full_lines ps) b (Passed image) ≡ true
+    → (c : ℕ) × (c < b) × (lines_at ps c ≢ [])
+earlier s ps b image h e =
+    let two = both (nat_lt image (64 * b)) (list_any (λ (l : FailingLine). nat_le l.image image) (full_lines ps)) e in
+    let lt : image < 64 * b = grind (arith, nat_tests, two.0) in
+    let q = line_of_piece (λ (l : FailingLine). nat_le l.image image) ps two.1 in
+    let le = block_of_line s image q.1.0.block q.1.0.found (h q.0 q.1.0 q.1.1).1 q.1.2 in
+    (
+      q.1.0.block,
+      omega (arith, lt, le),
+      λ none.
+          let empty : lines_of q.1.0.found ≡ [] = no_lines ps q.1.0.block none q.0 q.1.0 q.1.1 refl in
+          let bad : false ≡ true = sym (ap (list_any (λ (l : FailingLine). nat_le l.image image)) empty) ∙ q.1.2 in
+          cc,
+    )
+  where
+    both : (a b : Bool) → (a && b) ≡ true → (a ≡ true) × (b ≡ true)
+    both true b h = (refl, h)
+    both false b h = absurd (let bad : false ≡ true = h in cc)
+
+one_counts : (lines : List FailingLine) (p : PieceValue) → length (filter (λ (q : PieceValue). counts lines q.block q.found) (p ∷ [])) ≡ 1 → counts lines p.block p.found ≡ true
+one_counts lines p e = step (counts lines p.block p.found) e
+  where
+    step : (b : Bool) → length (cond b (p ∷ []) []) ≡ 1 → b ≡ true
+    step true h = refl
+    step false h = absurd (omega (arith, h))
+
+kept_part : (s : Subject) (ps : List PieceValue) (b : ℕ) (found : Found) → ArePieces s ps → HasPart s b found → counts (full_lines ps) b found ≡ true
+    → lines_at ps b ≡ lines_of found → IsKept (lines_at ps) (part s) b
+kept_part s ps b (Lines own) h has count e = inl (e ∙ has)
+kept_part s ps b (Passed image) h has count e = inr (e, earlier s ps b image h count)
+
+kept : (s : Subject) (ps : List PieceValue) (b : ℕ) → ArePieces s ps → pieces_at ps b ≡ 1 → counted_at ps b ≡ 1 → IsKept (lines_at ps) (part s) b
+kept s ps b h one count =
+    let p = one_piece (λ p. (p.block < block_count s) × HasPart s p.block p.found) ps b h one in
+    let lines : lines_at ps b ≡ lines_of p.0.found = ap full_lines p.3 ∙ append-nil (lines_of p.0.found) in
+    let counted : counts (full_lines ps) p.0.block p.0.found ≡ true =
+    one_counts (full_lines ps) p.0 (ap (λ (qs : List PieceValue). length (filter (λ (q : PieceValue). counts (full_lines ps) q.block q.found) qs)) (sym p.3) ∙ count) in
+    kept_part s ps b p.0.found h (rw p.2 at p.1.1) (rw p.2 at counted) lines
+
+pub some_lines : (s : Subject) (ps : List PieceValue) → ArePieces s ps → AreWhole ps (block_count s) → AreSomeOf (collected ps (block_count s)) (failing_lines s)
+unfolding collected
+some_lines s ps h whole =
+    rw (← all_parts s)
+    (some_of_blocks (lines_at ps) (part s) 0 (block_count s)
+    (λ b lt. let at = whole b (omega (arith, lt)) in kept s ps b h at.0 at.1))
+
+pub same_first_lines : (s : Subject) (ps : List PieceValue) → ArePieces s ps → AreWhole ps (block_count s) → first_lines (collected ps (block_count s)) ≡ first_lines (failing_lines s)
+unfolding collected
+same_first_lines s ps h whole =
+    first_of_blocks (lines_at ps) (part s) 0 (block_count s) (part_in s)
+    (λ b lt. let at = whole b (omega (arith, lt)) in kept s ps b h at.0 at.1)
+    (λ b lt. absurd (omega (arith, lt)))
+    ∙ ap first_lines (all_parts s)
+
+pub with_passed : (s : Subject) (ps : List PieceValue) → ArePieces s ps → AreWhole ps (block_count s) → BeginsWithFirst (failing_lines s) (collected ps (block_count s))
+with_passed s ps h whole =
+    begins (failing_lines s) (collected ps (block_count s)) (all_ordered s) (some_lines s ps h whole) (same_first_lines s ps h whole)
+
+pub lines_ordered : (s : Subject) (ps : List PieceValue) → ArePieces s ps → AreWhole ps (block_count s) → Ordered (collected ps (block_count s))
+lines_ordered s ps h whole = some_ordered (collected ps (block_count s)) (failing_lines s) (all_ordered s) (some_lines s ps h whole)
+
+-- the pieces of the first blocks, one after the other
+
+counts_more : (xs ys : List FailingLine) (b : ℕ) (found : Found) → counts xs b found ≡ true → counts (xs ++ ys) b found ≡ true
+counts_more xs ys b (Lines own) e = refl
+counts_more xs ys b (Passed image) e = step (nat_lt image (64 * b)) e
+  where
+    step : (t : Bool) → (t && list_any (λ (l : FailingLine). nat_le l.image image) xs) ≡ true → (t && list_any (λ (l : FailingLine). nat_le l.image image) (xs ++ ys)) ≡ true
+    step true h = any_more (λ (l : FailingLine). nat_le l.image image) xs ys h
+    step false h = h
+
+-- what is found of the next block
+abbrev IsNext : Subject → ℕ → List PieceValue → Found → Type 0
+IsNext s n ps found = HasPart s n found × (counts (full_lines ps) n found ≡ true) × (s.first ≡ false → passes found ≡ false)
+
+found_next : (s : Subject) (n : ℕ) (ps : List PieceValue) (least : Option ℕ) → least ≡ least_image (full_lines ps) → IsNext s n ps (found_after s n least)
+found_next s n ps None e = (refl, refl, λ all. refl)
+found_next s n ps (Some image) e = step s.first (nat_lt image (64 * n)) refl refl
+  where
+    step : (a b : Bool) → s.first ≡ a → nat_lt image (64 * n) ≡ b → IsNext s n ps (if a && b then Passed image else Lines (part s n))
+    step false b first before = (refl, refl, λ all. refl)
+    step true false first before = (refl, refl, λ all. refl)
+    step true true first before =
+        let same : nat_le image image ≡ true = grind (arith, nat_tests) in
+        let reached : counts_with (Some image) n (Passed image) ≡ true = rw (before, same) refl in
+        let counted = sym (counts_by_least (full_lines ps) n (Passed image)) ∙ ap (λ l. counts_with l n (Passed image)) (sym e) ∙ reached in
+        (tt, counted, λ all. absurd (let bad : true ≡ false = sym first ∙ all in cc))
+
+pub no_piece_yet : (s : Subject) → ArePiecesUpTo s 0 [] None
+no_piece_yet s = record {
+  each = refl;
+  own = λ i p there. absurd (let bad : None ≡ Some p = there in cc);
+  counted = λ i p there. absurd (let bad : None ≡ Some p = there in cc);
+  full = λ all i p there. absurd (let bad : None ≡ Some p = there in cc);
+  lowest = refl;
+}
+
+each_push : (P : PieceValue → Type 0) (ps : List PieceValue) (p : PieceValue) → EachPiece P ps → P p → EachPiece P (ps ++ p ∷ [])
+each_push P ps p h own i q there = elim (slice_get_of_push ps p i q there) [
+  | inl was ↦ h i q was
+  | inr last ↦ subst P (sym last.1) own
+]
+
+pub piece_more : (s : Subject) (n : ℕ) (ps : List PieceValue) (least : Option ℕ) → ArePiecesUpTo s n ps least → n < block_count s
+    → ArePiecesUpTo s (n + 1) (ps ++ record { block = n; found = found_after s n least } ∷ []) (lower least (least_image (lines_of (found_after s n least))))
+piece_more s n ps least h lt =
+    let p : PieceValue = record { block = n; found = found_after s n least } in
+    let next = found_next s n ps least h.lowest in
+    let z : 0 + n ≡ n = omega arith in
+    record {
+      each = rw (range_with_len-more 0 n, z, map-append, h.each) refl;
+      own = each_push (λ q. (q.block < block_count s) × HasPart s q.block q.found) ps p h.own (lt, next.0);
+      counted = subst (λ (ls : List FailingLine). EachPiece (λ q. counts ls q.block q.found ≡ true) (ps ++ p ∷ [])) (sym (lines_push ps p))
+          (each_push (λ q. counts (full_lines ps ++ lines_of p.found) q.block q.found ≡ true) ps p
+          (λ i q there. counts_more (full_lines ps) (lines_of p.found) q.block q.found (h.counted i q there))
+          (counts_more (full_lines ps) (lines_of p.found) p.block p.found next.1));
+      full = λ all. each_push (λ q. passes q.found ≡ false) ps p (h.full all) (next.2 all);
+      lowest = ap (λ (o : Option ℕ). lower o (least_image (lines_of p.found))) h.lowest ∙ least_of_push ps p;
+    }
+
+pub blocks_below : (s : Subject) (ps : List PieceValue) → ArePieces s ps → All (λ (p : PieceValue). p.block < block_count s) ps
+blocks_below s ps h k d lt = (h k (get_or ps k d) (slice_get-get_or ps k d lt)).0
+
+-- these are never refused but for want of memory
+
+count_blocks : (ps : List PieceValue) (b : ℕ) → pieces_at ps b ≡ length (filter (λ (n : ℕ). n == b) (map (λ (p : PieceValue). p.block) ps))
+count_blocks [] b = refl
+count_blocks (p ∷ ps) b = step (p.block == b) (count_blocks ps b)
+  where
+    step : (t : Bool) → pieces_at ps b ≡ length (filter (λ (n : ℕ). n == b) (map (λ (p : PieceValue). p.block) ps))
+        → length (cond t (p ∷ of_block ps b) (of_block ps b))
+            ≡ length (cond t (p.block ∷ filter (λ (n : ℕ). n == b) (map (λ (p : PieceValue). p.block) ps)) (filter (λ (n : ℕ). n == b) (map (λ (p : PieceValue). p.block) ps)))
+    step true h = ap suc h
+    step false h = h
+
+none_before : (a n b : ℕ) → b < a → length (filter (λ (n : ℕ). n == b) (range_with_len a n)) ≡ 0
+none_before a zero b lt = refl
+none_before a (suc n) b lt =
+    let other : (a == b) ≡ false = grind (arith, nat_tests, lt) in
+    rw other (none_before (a + 1) n b (omega (arith, lt)))
+
+once : (a n b : ℕ) → a ≤ b → b < a + n → length (filter (λ (n : ℕ). n == b) (range_with_len a n)) ≡ 1
+once a zero b low high = absurd (omega (arith, low, high))
+once a (suc n) b low high = elim (eqb_tells a b) [
+  | inl own ↦ rw own.0 (ap suc (none_before (a + 1) n b (omega (arith, own.1))))
+  | inr differ ↦ rw differ.0 (once (a + 1) n b (omega (arith, low, differ.1)) (omega (arith, high)))
+]
+
+all_count : (test : PieceValue → Bool) (ps : List PieceValue) (b : ℕ) → EachPiece (λ p. test p ≡ true) ps → length (filter test (of_block ps b)) ≡ pieces_at ps b
+all_count test [] b h = refl
+all_count test (p ∷ ps) b h = step (p.block == b) (all_count test ps b (of_tail (λ p. test p ≡ true) p ps h))
+  where
+    step : (t : Bool) → length (filter test (of_block ps b)) ≡ pieces_at ps b
+        → length (filter test (cond t (p ∷ of_block ps b) (of_block ps b))) ≡ length (cond t (p ∷ of_block ps b) (of_block ps b))
+    step true e = let this : test p ≡ true = h 0 p refl in rw this (ap suc e)
+    step false e = e
+
+pub only_memory : (s : Subject) (n : ℕ) (ps : List PieceValue) (least : Option ℕ) (r : Refusal) → ArePiecesUpTo s n ps least → RefusesPieces ps n r
+    → r ≡ work_refusal work.Memory 0
+only_memory s n ps least r are (two_pieces block h) =
+    let one : pieces_at ps block ≡ 1 =
+    count_blocks ps block ∙ ap (λ (bs : List ℕ). length (filter (λ (k : ℕ). k == block) bs)) are.each ∙ once 0 n block (omega arith) (omega (arith, h.within)) in
+    absurd (omega (arith, one, h.twice))
+only_memory s n ps least r are (no_piece block h) =
+    let one : pieces_at ps block ≡ 1 =
+    count_blocks ps block ∙ ap (λ (bs : List ℕ). length (filter (λ (k : ℕ). k == block) bs)) are.each ∙ once 0 n block (omega arith) (omega (arith, h.within)) in
+    let counted = all_count (λ (p : PieceValue). counts (full_lines ps) p.block p.found) ps block are.counted in
+    absurd (omega (arith, one, counted, h.missing))
+only_memory s n ps least r are no_memory = refl

@@ -1,0 +1,14 @@
+-- Which pieces count, by the least failing image.
+use Rattle.std.specs.Prelude.{ℕ, ◌*◌, Bool, true, false, ◌&&◌, nat_lt, nat_le, Option, None, Some}
+use Rattle.workers.specs.declared.found.Found.{Found}
+use Rattle.workers.specs.declared.found.Found.TheVariants.{Lines, Passed}
+
+-- whether the least image is that one or comes before it
+abbrev pub reaches : Option ℕ → ℕ → Bool
+reaches None image = false
+reaches (Some least) image = nat_le least image
+
+-- whether what was found of a block counts, where that is the least image of the full pieces' lines
+abbrev pub counts_with : Option ℕ → ℕ → Found → Bool
+counts_with least block (Lines own) = true
+counts_with least block (Passed image) = nat_lt image (64 * block) && reaches least image

@@ -1,0 +1,12 @@
+//! What a piece of the work holds.
+
+use crate::lines::BlockLines;
+
+/// What was found of a block.
+#[derive(Drop)]
+pub(crate) enum Found {
+    /// All its failing lines.
+    Lines(BlockLines),
+    /// Nothing: the block was passed over, since this failing image comes before all of it.
+    Passed(u64),
+}
