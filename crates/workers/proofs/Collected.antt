@@ -1,15 +1,14 @@
 -- What a table of pieces says of their collection.
-use Rattle.std.proofs.Common.{ℕ, zero, suc, ◌≡◌, ◌+◌, ◌==◌, ◌<◌, ◌≤◌, inl, inr, Bool, true, false, not, if◌then◌else◌, List, [], ◌∷◌, ◌++◌, length, map, filter, Option, None, Some, slice_get, position, get_or, refl, sym, ◌∙◌, ap, subst, arith, append-nil}
+use Rattle.std.proofs.Common.{ℕ, suc, ◌≡◌, ◌+◌, ◌<◌, ◌≤◌, Bool, true, false, not, if◌then◌else◌, List, [], ◌∷◌, length, filter, Option, None, Some, slice_get, position, get_or, refl, sym, ◌∙◌, ap, subst, arith, append-nil}
 use Rattle.std.specs.List.{flat_map, range_with_len, position_or_len}
 use Rattle.std.specs.Option.{option_to_list}
 use Rattle.std.proofs.lemmas.Option.{slice_get_within, get_or_from_slice_get, slice_get-get_or}
 use Rattle.std.proofs.lemmas.List.Quantifiers.{position-Some}
 use Rattle.std.proofs.lemmas.List.Sums.{fails_before_first}
 use Rattle.std.proofs.lemmas.Grind.{common_steps}
-use Rattle.base.proofs.Lists.{filter_alike}
 use Rattle.report.specs.Line.{FailingLine}
 use Rattle.workers.specs.Least.{least_image}
-use Rattle.workers.specs.Pieces.{PieceValue, AreWhole, of_block, pieces_at, counted_at, lines_at, lines_of, full_lines, counts, collected, IsFirstTwice, IsFirstMissing}
+use Rattle.workers.specs.Pieces.{PieceValue, AreWhole, of_block, counted_at, lines_at, lines_of, full_lines, counts, collected, IsFirstTwice, IsFirstMissing}
 use Rattle.workers.specs.Table.{AreRows, is_missing, row_lines}
 use Rattle.workers.proofs.Least.{counts_by_least}
 

@@ -1,15 +1,14 @@
 -- The failing lines after one more checker, image or block.
-use Rattle.std.proofs.Common.{ℕ, zero, suc, ◌≡◌, ◌+◌, ◌*◌, ◌-◌, ◌/◌, ◌<◌, ◌≤◌, inl, inr, min, Bool, true, false, IsTrue, IsFalse, List, [], ◌∷◌, ◌++◌, length, map, Option, None, Some, slice_get, refl, sym, ◌∙◌, ap, subst, arith, append_assoc, append-nil}
-use Rattle.std.specs.Option.{option_and_then}
+use Rattle.std.proofs.Common.{ℕ, zero, suc, ◌≡◌, ◌+◌, ◌*◌, ◌-◌, ◌<◌, ◌≤◌, inl, inr, min, Bool, true, false, IsTrue, IsFalse, List, [], ◌∷◌, ◌++◌, length, Option, None, Some, slice_get, refl, ◌∙◌, ap, subst, arith, append_assoc, append-nil}
 use Rattle.std.specs.List.{filter_map, flat_map, range_with_len}
 use Rattle.std.proofs.lemmas.Bool.{cases_lt}
 use Rattle.std.proofs.lemmas.List.Elements.{filter_map-append}
 use Rattle.std.proofs.lemmas.Grind.{flat_map-append}
-use Rattle.base.proofs.Lists.{range_with_len-more, range_with_len-push, range_with_len-append}
+use Rattle.base.proofs.Lists.{range_with_len-more, range_with_len-append}
 use Rattle.choices.specs.Choices.{ChoiceValue}
 use Rattle.interp.specs.Checker.{CheckerValue}
 use Rattle.report.specs.Line.{FailingLine}
-use Rattle.workers.specs.Failing.{Subject, choices_of, image_count, ending_at, line_if, line_at, line_of, image_lines, lines_from, failing_lines, part}
+use Rattle.workers.specs.Failing.{Subject, choices_of, image_count, ending_at, line_if, line_of, image_lines, lines_from, failing_lines, part}
 use Rattle.workers.specs.Input.{line_list}
 use Rattle.workers.specs.Pieces.{block_count}
 

@@ -1,5 +1,5 @@
 -- The pieces of a run.
-use Rattle.std.proofs.Common.{ℕ, zero, suc, ◌≡◌, ◌≢◌, ◌+◌, ◌-◌, ◌*◌, ◌==◌, ◌<◌, ◌≤◌, ◌⊎◌, inl, inr, min, Bool, true, false, not, ◌&&◌, ◌||◌, cond, if◌then◌else◌, nat_lt, nat_le, List, [], ◌∷◌, ◌++◌, length, map, filter, All, get_or, Option, None, Some, slice_get, refl, sym, ◌∙◌, ap, subst, arith, append-nil}
+use Rattle.std.proofs.Common.{ℕ, zero, suc, ◌≡◌, ◌≢◌, ◌+◌, ◌-◌, ◌*◌, ◌==◌, ◌<◌, ◌≤◌, ◌⊎◌, inl, inr, min, Bool, true, false, ◌&&◌, ◌||◌, cond, if◌then◌else◌, nat_lt, nat_le, List, [], ◌∷◌, ◌++◌, length, map, filter, All, get_or, Option, None, Some, slice_get, refl, sym, ◌∙◌, ap, subst, arith, append-nil}
 use Rattle.std.specs.List.{flat_map, range_with_len, list_any}
 use Rattle.std.proofs.lemmas.Bool.Decides.{eqb_tells, nat_tests}
 use Rattle.std.proofs.lemmas.List.{map-append}
@@ -10,8 +10,8 @@ use Rattle.shares.specs.declared.refusal.Refusal.{Refusal}
 use Rattle.report.specs.Line.{FailingLine, first_lines}
 use Rattle.workers.specs.declared.found.Found.{Found}
 use Rattle.workers.specs.declared.found.Found.TheVariants.{Lines, Passed}
-use Rattle.workers.specs.Counting.{reaches, counts_with}
-use Rattle.workers.specs.Exploring.{passes_over, found_after, ArePiecesUpTo}
+use Rattle.workers.specs.Counting.{counts_with}
+use Rattle.workers.specs.Exploring.{found_after, ArePiecesUpTo}
 use Rattle.workers.specs.Failing.{Subject, image_count, lines_from, failing_lines, part}
 use Rattle.workers.specs.Laws.{AreSomeOf, BeginsWithFirst}
 use Rattle.workers.specs.Least.{lower, least_image}
@@ -160,8 +160,7 @@ earlier s ps b image h e =
     let two = both (nat_lt image (64 * b)) (list_any (λ (l : FailingLine). nat_le l.image image) (full_lines ps)) e in
     let lt : image < 64 * b = grind (arith, nat_tests, two.0) in
     let q = line_of_piece (λ (l : FailingLine). nat_le l.image image) ps two.1 in
-    let le = block_of_line s image q.1.0.block q.1.0.found (h q.0 q.1.0 q.1.1).1 q.1.2 in
-    (
+    let le = block_of_line s image q.1.0.block q.1.0.found (h q.0 q.1.0 q.1.1).1 q.1.2 in (
       q.1.0.block,
       omega (arith, lt, le),
       λ none.
@@ -286,7 +285,7 @@ count_blocks (p ∷ ps) b = step (p.block == b) (count_blocks ps b)
   where
     step : (t : Bool) → pieces_at ps b ≡ length (filter (λ (n : ℕ). n == b) (map (λ (p : PieceValue). p.block) ps))
         → length (cond t (p ∷ of_block ps b) (of_block ps b))
-            ≡ length (cond t (p.block ∷ filter (λ (n : ℕ). n == b) (map (λ (p : PieceValue). p.block) ps)) (filter (λ (n : ℕ). n == b) (map (λ (p : PieceValue). p.block) ps)))
+        ≡ length (cond t (p.block ∷ filter (λ (n : ℕ). n == b) (map (λ (p : PieceValue). p.block) ps)) (filter (λ (n : ℕ). n == b) (map (λ (p : PieceValue). p.block) ps)))
     step true h = ap suc h
     step false h = h
 

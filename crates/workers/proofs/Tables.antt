@@ -1,12 +1,12 @@
 -- The table of pieces, as one more piece is put into it.
-use Rattle.std.proofs.Common.{ℕ, zero, suc, ◌≡◌, ◌≢◌, ◌+◌, ◌==◌, ◌<◌, ◌≤◌, ◌⊎◌, inl, inr, min, Bool, true, false, List, [], ◌∷◌, ◌++◌, length, filter, replicate, Option, None, Some, slice_get, slice_set, is_some, All, refl, sym, ◌∙◌, ap, subst, arith, append-nil, length-append}
+use Rattle.std.proofs.Common.{ℕ, zero, suc, ◌≡◌, ◌≢◌, ◌+◌, ◌==◌, ◌<◌, ◌≤◌, ◌⊎◌, inl, inr, min, true, false, List, [], ◌∷◌, ◌++◌, length, replicate, Option, None, Some, slice_get, slice_set, is_some, All, refl, sym, ◌∙◌, ap, subst, arith, append-nil, length-append}
 use Rattle.std.proofs.Math.ListN.{length-replicate}
 use Rattle.std.proofs.lemmas.Bool.Decides.{eqb_tells, leb_tells}
 use Rattle.std.proofs.lemmas.List.Elements.{filter-append}
 use Rattle.std.proofs.lemmas.Option.{get_or_from_slice_get, slice_get_within}
 use Rattle.base.proofs.Lists.{slice_get-append_right}
 use Rattle.workers.specs.Least.{lower, least_image}
-use Rattle.workers.specs.Pieces.{PieceValue, of_block, pieces_at, lines_of, full_lines, IsFirstTwice}
+use Rattle.workers.specs.Pieces.{PieceValue, of_block, pieces_at, lines_of, IsFirstTwice}
 use Rattle.workers.specs.Table.{IsTwice, AreRows, first_of}
 use Rattle.workers.proofs.Least.{least_of_push}
 

@@ -1,6 +1,6 @@
 -- The failing lines of a run: each image with each checker that does not answer 0 there (docs/REPORT.md,
 -- The report; docs/CRASH-MODEL.md, Order and numbers of the images).
-use Rattle.std.specs.Prelude.{ℕ, ◌+◌, ◌-◌, ◌*◌, ◌==◌, min, Bool, if◌then◌else◌, List, [], ◌∷◌, length, Option, None, Some, slice_get}
+use Rattle.std.specs.Prelude.{ℕ, ◌-◌, ◌*◌, min, Bool, if◌then◌else◌, List, length, Option, None, Some, slice_get}
 use Rattle.std.specs.Option.{option_and_then}
 use Rattle.std.specs.List.{filter_map, flat_map, range_with_len}
 use Rattle.epochs.specs.Plan.{PlanValue}

@@ -6,11 +6,15 @@
 //!
 //! | Type or call | What it is |
 //! |---|---|
-//! | `Input::new(plan, history, checkers, bound, tears)` | what is judged; refused where there are too many images |
+//! | `Input::new(plan, history, checkers, bound, tears, first)` | what is judged; refused where there are too many images |
 //! | `judge_block(alloc, input, block)` | the piece of a block: its lines, by image and then by checker |
+//! | `Piece::passed(block, image)` | the piece of a block that was passed over after a failing image |
 //! | `collect(alloc, pieces, blocks)` | all lines, of pieces in any order; refused where a block has two pieces or none |
-//! | `explore_all(alloc, gate, input)` | the work as a whole: all failing lines, in order |
-//! | `Gate` | is told of each block before and after it is judged |
+//! | `explore_all(alloc, gate, input)` | the work as a whole: the failing lines, in order |
+//! | `Gate` | is told of each block before and after it is taken |
+//!
+//! With `first` a run looks for the first failing image alone. A block whose images all lie after a
+//! failing image is then passed over: none of its images is formed, and its piece names that image.
 //!
 //! # Place
 //!
@@ -27,15 +31,20 @@
 //!
 //! - `judge_block` gives exactly the block's part of it.
 //! - `collect` gives the lines of the pieces by block. It is refused at the lowest block with two pieces,
-//!   or else at the lowest without one. Pieces of a run, one of each block, have its failing lines
-//!   (`collection_is_failing`).
-//! - `explore_all` gives all failing lines. It is refused for want of memory alone.
+//!   or else at the lowest without one. A passed piece counts as none where the image that it names is
+//!   not before all of its block, or precedes every failing image of the full pieces. Full pieces of a
+//!   run, one of each block, have its failing lines (`collection_is_failing`); where some were passed,
+//!   what is collected is all lines of the first failing image, and then some of the others
+//!   (`collection_begins_with_first`).
+//! - `explore_all` gives all failing lines, or with `first` all those of the first failing image and
+//!   some of the others. It is refused for want of memory alone.
 //!
 //! # How it is written
 //!
 //! `input` finds the first choice of a block by its number, and then goes on from choice to choice.
-//! `collecting` puts the pieces into a table with a row for each block, and notes the lowest block that
-//! comes twice. So far the caller judges all blocks, one after the other.
+//! `lines` keeps the least image beside the lines of a block. `collecting` puts the pieces into a table
+//! with a row for each block, and notes the lowest block that comes twice and the least failing image.
+//! So far the caller takes all blocks, one after the other.
 #![tactic(auto)]
 
 mod collecting;

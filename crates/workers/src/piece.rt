@@ -79,8 +79,7 @@ impl Piece {
         match &self.found {
             Found::Lines(_) => true,
             Found::Passed(image) => {
-                *image < BLOCK * u64::from(self.block)
-                    && least.is_some_and(|least| least <= *image)
+                *image < BLOCK * u64::from(self.block) && least.is_some_and(|least| least <= *image)
             }
         }
     }

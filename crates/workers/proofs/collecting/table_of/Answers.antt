@@ -1,7 +1,7 @@
-use Rattle.std.proofs.Common.{◌≡◌, ◌∙◌, ◌∷◌, [], ◌<◌, length, All, append_assoc, refl, sym, ap, arith}
+use Rattle.std.proofs.Common.{◌≡◌, ◌∙◌, ◌∷◌, [], ◌<◌, length, append_assoc, ap, arith}
 use Rattle.std.specs.Vec.Iter.{into_iter_items}
 use Rattle.workers.specs.Pieces.{PieceValue}
-use Rattle.workers.proofs.Tables.{blank_rows, all_middle}
+use Rattle.workers.proofs.Tables.{all_middle}
 use Rattle.workers.proofs.collecting.table_of.Goals as goal
 
 pub put-requires : goal.put-requires

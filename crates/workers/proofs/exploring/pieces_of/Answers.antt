@@ -1,4 +1,4 @@
-use Rattle.std.proofs.Common.{◌≡◌, ◌<◌, arith}
+use Rattle.std.proofs.Common.{◌<◌, arith}
 use Rattle.workers.specs.Pieces.{block_count}
 use Rattle.workers.proofs.Runs.{piece_more}
 use Rattle.workers.proofs.exploring.pieces_of.Goals as goal

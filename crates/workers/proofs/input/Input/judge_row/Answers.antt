@@ -1,4 +1,4 @@
-use Rattle.std.proofs.Common.{◌≡◌, ◌∙◌, ◌<◌, arith}
+use Rattle.std.proofs.Common.{◌∙◌, ◌<◌, arith}
 use Rattle.workers.specs.Failing.{image_count}
 use Rattle.workers.proofs.JudgedLines.{image_next, choice_next}
 use Rattle.workers.proofs.input.Input.judge_row.Goals as goal

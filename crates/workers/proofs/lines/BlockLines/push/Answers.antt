@@ -1,4 +1,4 @@
-use Rattle.std.proofs.Common.{◌≡◌, ◌∙◌, Some, Option, ℕ, ap, sym}
+use Rattle.std.proofs.Common.{◌∙◌, Some, Option, ℕ, ap, sym}
 use Rattle.report.specs.Lines.{line_value}
 use Rattle.workers.specs.Least.{least_image, lower}
 use Rattle.workers.proofs.Least.{least_push}
