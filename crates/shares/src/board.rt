@@ -239,11 +239,11 @@ impl Board {
         ensures drawn { IfOk result (λ _. AreDrawnOnce self.now.name.blocks whole.old.me.0.steps) }
         ensures least { IfOk result (λ least. least ≡ image_or_none (least_posted whole.old.me.0.steps)) }
     {
-        let next = self.table.shared.load::<LearnNext>(whole, NEXT);
-        if next < u64::from(self.blocks) {
-            return Err(refusal_of(WorkCause::PieceMissing, next));
+        let drawn = self.table.shared.load::<LearnNext>(whole, NEXT);
+        if drawn < u64::from(self.blocks) {
+            return Err(refusal_of(WorkCause::PieceMissing, drawn));
         }
-        let word = self.table.shared.load::<LearnLeast>(whole, LEAST);
-        Ok(image_in(word))
+        let least = self.table.shared.load::<LearnLeast>(whole, LEAST);
+        Ok(image_in(least))
     }
 }
