@@ -45,6 +45,7 @@ fn is_marked(marks: &[bool], slot: usize) -> bool
 }
 
 /// Appends what a slot passes on in a round: nothing, where a rule is broken.
+// States make its frame large, so it stays out of the loop over the slots without a mark.
 #[inline(never)]
 fn push_passed(
     waiting: &mut Vec<Arrival>,

@@ -214,6 +214,19 @@ fn greatest_budget(rt: HostRuntime) -> Result<(), Fail> {
     Ok(())
 }
 
+#[test]
+fn row_of_jumps(rt: HostRuntime) -> Result<(), Fail> {
+    // 4,095 times ja +0, then exit: what is known goes one slot further in each round
+    let mut slots: Vec<Slot> = Vec::new(rt.alloc());
+    for _ in 0..4095 {
+        slots.extend_from_slice(&[(0x05, 0, 0, 0)])?;
+    }
+    slots.extend_from_slice(&[EXIT])?;
+    let program = program_of(rt.alloc(), slots.as_slice())?;
+    assert_eq!(rt; answer(rt.alloc(), &program), Err((50, 4095)));
+    Ok(())
+}
+
 /// A table without the state of a slot.
 fn without(alloc: Global, table: &Table, missing: usize) -> Result<Table, Fail> {
     let mut states = Vec::new(alloc);
