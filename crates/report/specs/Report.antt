@@ -4,7 +4,7 @@ use Rattle.std.specs.Fmt.{decimal}
 use Rattle.std.specs.List.{flat_map, list_any}
 use Rattle.epochs.specs.declared.cuts.Cuts.{Cuts}
 use Rattle.report.specs.declared.head.ProgramHead.{ProgramHead}
-use Rattle.report.specs.Line.{FailingLine}
+use Rattle.report.specs.Line.{FailingLine, first_lines}
 use Rattle.report.specs.Text.{yes_or_no, cuts_word, ending_text, choice_text}
 
 -- what the report says at its head, and how many images there are
@@ -63,6 +63,19 @@ unfoldable pub totals_line : ℕ → List FailingLine → List ℕ
 totals_line images ls =
     codes "images " ++ decimal images ++ codes " failing " ++ decimal (failing_images ls) ++ codes " lines " ++ decimal (length ls) ++ codes "\n"
 
+-- the image of the first line, where there is one
+abbrev pub first_image_text : List FailingLine → List ℕ
+first_image_text [] = codes "none"
+first_image_text (l ∷ ls) = decimal l.image
+
+unfoldable pub first_line : ℕ → List FailingLine → List ℕ
+first_line images ls = codes "images " ++ decimal images ++ codes " first " ++ first_image_text ls ++ codes "\n"
+
+-- the lines of the failing images and a last line: all of them, or those of the first failing image alone
+abbrev pub findings_text : Bool → ℕ → List FailingLine → List ℕ
+findings_text false images ls = flat_map line_text ls ++ totals_line images ls
+findings_text true images ls = flat_map line_text (first_lines ls) ++ first_line images (first_lines ls)
+
 unfoldable pub report_bytes : HeadValue → List FailingLine → List ℕ
 report_bytes h ls =
-    codes "crash report 1\n" ++ options_line h ++ program_lines 0 h.programs ++ flat_map line_text ls ++ totals_line h.images ls
+    codes "crash report 1\n" ++ options_line h ++ program_lines 0 h.programs ++ findings_text h.first h.images ls

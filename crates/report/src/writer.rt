@@ -1,12 +1,12 @@
 //! The report of a run, line by line (docs/REPORT.md).
 
-ghost use Rattle.std.specs.Prelude.{◌≡◌, ◌++◌, ◌+◌, ◌<◌, ◌^◌, if◌then◌else◌, map, OnOk, IfOk, codes, string_bytes};
+ghost use Rattle.std.specs.Prelude.{◌≡◌, ◌++◌, ◌+◌, ◌<◌, ◌^◌, ◌==◌, ◌∷◌, [], true, if◌then◌else◌, filter, map, OnOk, IfOk, codes, string_bytes};
 ghost use Rattle.std.specs.List.{flat_map};
 ghost use Rattle.std.specs.List.Sorted.{IsNonDecreasing};
 ghost use Rattle.interp.specs.Ending.{ending_of};
 ghost use Rattle.report.specs.Lines.{line_value, is_image};
 ghost use Rattle.report.specs.Text.{yes_or_no, cuts_word, codes_text, ending_text, fate_text, departure_text, next_departure_text, choice_text};
-ghost use Rattle.report.specs.Report.{device_text, choices_text, steps_word, program_line, program_lines, line_text, totals_line, failing_images, report_bytes};
+ghost use Rattle.report.specs.Report.{device_text, choices_text, steps_word, program_line, program_lines, line_text, totals_line, failing_images, findings_text, report_bytes};
 
 use crate::head::{Head, ProgramHead};
 use crate::line::{Line, Lines};
@@ -224,7 +224,56 @@ fn put_totals(out: &mut String, images: u64, lines: &Lines) -> Result<(), AllocE
     )
 }
 
-/// The bytes of the report (docs/REPORT.md). The lines are in the order of their images.
+/// Appends a failing line if it is of this image.
+fn put_line_of(out: &mut String, image: u64, line: &Line) -> Result<(), AllocError>
+    ensures { OnOk result (string_bytes out.new ≡ string_bytes out.old ++ flat_map line_text (filter (λ l. l.image == image) (line_value line.now ∷ []))) }
+{
+    if line.image == image {
+        put_line(out, line)?;
+    }
+    Ok(())
+}
+
+/// Appends the failing lines of an image.
+fn put_lines_of(out: &mut String, image: u64, lines: &Lines) -> Result<(), AllocError>
+    ensures { OnOk result (string_bytes out.new ≡ string_bytes out.old ++ flat_map line_text (filter (λ l. l.image == image) lines.now)) }
+{
+    for line in lines.lines.iter() {
+        put_line_of(out, image, line)?;
+    }
+    Ok(())
+}
+
+/// Appends the lines of the first failing image, and its number.
+#[tactic(auto, unfolding(crate::specs::Report::first_line))]
+fn put_first(out: &mut String, images: u64, lines: &Lines) -> Result<(), AllocError>
+    ensures { OnOk result (string_bytes out.new ≡ string_bytes out.old ++ findings_text true images lines.now) }
+{
+    match lines.lines.as_slice() {
+        [] => write!(out, "images {images} first none\n"),
+        [first, ..] => {
+            put_lines_of(out, first.image, lines)?;
+            write!(out, "images {images} first {}\n", first.image)
+        }
+    }
+}
+
+/// Appends the failing lines and the totals, or what stands for them where the first failing image
+/// alone was asked for.
+fn put_findings(out: &mut String, head: &Head, lines: &Lines) -> Result<(), AllocError>
+    requires { IsNonDecreasing (map (λ l. l.image) lines.now) }
+    ensures { OnOk result (string_bytes out.new ≡ string_bytes out.old ++ findings_text head.now.first head.now.images lines.now) }
+{
+    if head.first {
+        put_first(out, head.images, lines)
+    } else {
+        put_lines(out, lines)?;
+        put_totals(out, head.images, lines)
+    }
+}
+
+/// The bytes of the report (docs/REPORT.md). The lines are in the order of their images. Where the first
+/// failing image alone was asked for, lines of other images are left out.
 #[tactic(auto, unfolding(crate::specs::Report::report_bytes))]
 pub fn write_report(alloc: Global, head: &Head, lines: &Lines) -> Result<Vec<u8>, AllocError>
     requires { IsNonDecreasing (map (λ l. l.image) lines.now) }
@@ -235,7 +284,6 @@ pub fn write_report(alloc: Global, head: &Head, lines: &Lines) -> Result<Vec<u8>
     put_device(&mut out, head)?;
     put_choices(&mut out, head)?;
     put_programs(&mut out, head.programs.as_slice())?;
-    put_lines(&mut out, lines)?;
-    put_totals(&mut out, head.images, lines)?;
+    put_findings(&mut out, head, lines)?;
     Ok(out.into_bytes())
 }
