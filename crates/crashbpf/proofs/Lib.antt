@@ -1,3 +1,4 @@
+pub mod Findings
 pub mod Plans
 pub mod Refusals
 pub mod Runs

@@ -15,7 +15,7 @@ use Rattle.interp.specs.Checker.{CheckerValue}
 use Rattle.crashbpf.specs.Settings.{Settings}
 use Rattle.crashbpf.specs.Source.{log_refusal, RefusesLog, with_fault, no_memory}
 use Rattle.crashbpf.specs.Programs.{IsRunWithin, AreFirstOf, AreFirstMade, AreDecoded, IsUndecoded, IsUnaccepted, IsVerifierFault, RefusesOneOf, unaccepted, no_checkers_memory, code_refusal, verifier_refusal}
-use Rattle.crashbpf.specs.Explore.{IsCheckerOf, AreCheckersOf, RefusesProgram, with_code_fault, with_verifier_fault, no_code_memory, no_verifier_memory, no_list_memory}
+use Rattle.crashbpf.specs.Explore.{IsProgramCount, IsCheckerOf, AreCheckersOf, RefusesProgram, with_code_fault, with_verifier_fault, no_code_memory, no_verifier_memory, no_list_memory}
 
 -- what `read` answers
 pub log_refused : (text : List ℕ) (sectors : ℕ) (f : LogFault) → (f ≡ record { code = log.Memory; at = 0 }) ⊎ log_fault.FirstFault text sectors f.code f.at
@@ -133,6 +133,13 @@ pub length_of_bytes : {V : Type 0} (items : V → List ℕ) (files : List V) →
 length_of_bytes items [] = refl
 length_of_bytes items (f ∷ fs) = ap suc (length_of_bytes items fs)
 
+-- the files are as many as the programs that were handed in
+pub counted : {V : Type 0} (items : V → List ℕ) (files : List V) → IsProgramCount (length files) → IsProgramCount (length (map items files))
+counted items files h = rw (length_of_bytes items files) h
+
+pub uncounted : {V : Type 0} (items : V → List ℕ) (files : List V) → IsProgramCount (length (map items files)) → IsProgramCount (length files)
+uncounted items files h = rw (← length_of_bytes items files) h
+
 -- there are no more programs than files
 pub no_more_programs : (files : List (List ℕ)) (programs : List (List (Option Instr))) → AreFirstOf files programs → length programs ≤ length files
 no_more_programs files [] h = omega arith
@@ -144,10 +151,10 @@ pub first_decoded : (files : List (List ℕ)) (programs : List (List (Option Ins
 first_decoded files programs None h = h.0
 first_decoded files programs (Some r) h = h.0
 
-pub few_decoded : (files : List (List ℕ)) (programs now : List (List (Option Instr))) (refusal : Option Refusal) → length files ≡ 1 → now ≡ programs
+pub few_decoded : (files : List (List ℕ)) (programs now : List (List (Option Instr))) (refusal : Option Refusal) → length files ≤ 8 → now ≡ programs
     → AreDecoded files programs refusal → length now ≤ 8
-few_decoded files programs now refusal one same h =
-    omega (arith, one, ap (length {A = List (Option Instr)}) same, no_more_programs files programs (first_decoded files programs refusal h))
+few_decoded files programs now refusal few same h =
+    omega (arith, few, ap (length {A = List (Option Instr)}) same, no_more_programs files programs (first_decoded files programs refusal h))
 
 pub unaccepted_of : (s : Settings) (files : List (List ℕ)) (programs now : List (List (Option Instr))) (refusal : Option Refusal) (r : Refusal) → now ≡ programs
     → AreDecoded files programs refusal → RefusesOneOf s now r → RefusesProgram s files r

@@ -8,7 +8,7 @@ use Rattle.crashbpf.specs.Settings.{Settings}
 use Rattle.crashbpf.specs.Source.{IsLogOf, HasImages, images_of, RefusesLog, for_log}
 use Rattle.interp.specs.Checker.{CheckerValue}
 use Rattle.workers.specs.Failing.{failing_lines}
-use Rattle.crashbpf.specs.Explore.{Refuses, for_source, AreCheckersOf, subject_of, report_of, IsReport}
+use Rattle.crashbpf.specs.Explore.{Refuses, for_source, AreCheckersOf, subject_of, report_of, IsProgramCount, IsReport}
 
 pub is_log : (text : List ℕ) (s : Settings) (log : LogValue) (sectors : ℕ) → log.sectors ≡ sectors → sectors ≡ s.sectors → LogText text log → IsLogOf text s log
 is_log text s log sectors e f h = record { device = e ∙ f; of_log = h }
@@ -17,16 +17,16 @@ pub has_images : (text : List ℕ) (s : Settings) (log : LogValue) (sectors imag
     → images ≡ length (images_of s log) → images ≤ limit → HasImages text s log
 has_images text s log sectors images e f h count few = record { reads = is_log text s log sectors e f h; few = omega (arith, count, few) }
 
-pub of_log : (text : List ℕ) (files : List (List ℕ)) (s : Settings) (sectors : ℕ) (r : Refusal) → length files ≡ 1 → sectors ≡ s.sectors → RefusesLog text sectors r → Refuses text files s r
-of_log text files s sectors r one e h = for_source r one (for_log r (rw (← e) h))
+pub of_log : (text : List ℕ) (files : List (List ℕ)) (s : Settings) (sectors : ℕ) (r : Refusal) → IsProgramCount (length files) → sectors ≡ s.sectors → RefusesLog text sectors r → Refuses text files s r
+of_log text files s sectors r count e h = for_source r count (for_log r (rw (← e) h))
 
 -- the report of a run
 pub reported : (text : List ℕ) (files : List (List ℕ)) (s : Settings) (log : LogValue) (checkers now : List CheckerValue) (bytes : List ℕ) (failing : Bool)
-    → length files ≡ 1 → HasImages text s log → AreCheckersOf s files checkers → now ≡ checkers → bytes ≡ report_of s log now
+    → IsProgramCount (length files) → HasImages text s log → AreCheckersOf s files checkers → now ≡ checkers → bytes ≡ report_of s log now
     → IsTrue failing ↔ (failing_lines (subject_of s log now) ≢ []) → IsReport text files s bytes failing
-reported text files s log checkers now bytes failing one source made same report fails =
+reported text files s log checkers now bytes failing count source made same report fails =
     record {
-      count = one;
+      count = count;
       value = log;
       source = source;
       checkers = now;

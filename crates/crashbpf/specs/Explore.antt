@@ -1,5 +1,5 @@
 -- What a run answers, and when it refuses (docs/REPORT.md).
-use Rattle.std.specs.Prelude.{ℕ, ◌≡◌, ◌≢◌, ◌<◌, Bool, IsTrue, ◌↔◌, List, [], ◌∷◌, length, map, take, Option, None, Some, is_some, slice_get}
+use Rattle.std.specs.Prelude.{ℕ, ◌≡◌, ◌≢◌, ◌<◌, ◌≤◌, Bool, IsTrue, ◌↔◌, List, [], ◌∷◌, length, map, take, Option, None, Some, is_some, slice_get}
 use Rattle.base.specs.declared.causes.CodeCause.TheVariants as code
 use Rattle.base.specs.declared.causes.VerifierCause.TheVariants as verifier
 use Rattle.shares.specs.declared.refusal.Refusal.{Refusal}
@@ -13,6 +13,11 @@ use Rattle.workers.specs.Failing.{Subject, failing_lines}
 use Rattle.crashbpf.specs.Settings.{Settings, option_refusal}
 use Rattle.crashbpf.specs.Programs.{IsRunWithin, code_refusal, IsCodeFault, verifier_refusal, IsVerifierFault}
 use Rattle.crashbpf.specs.Source.{plan_of, images_of, HasImages, RefusesSource, work_refusal}
+
+-- a run has one program to eight
+pub record IsProgramCount (n : ℕ) : Type 0 where
+  pub some : 1 ≤ n
+  pub few : n ≤ 8
 
 -- the checker that a run makes of the bytes of a program
 pub record IsCheckerOf (s : Settings) (bytes : List ℕ) (c : CheckerValue) : Type 0 where
@@ -29,7 +34,7 @@ AreCheckersOf s (bytes ∷ files) (c ∷ checkers) = IsCheckerOf s bytes c × Ar
 
 -- what is judged, and what stands at the head of the report
 abbrev pub subject_of : Settings → LogValue → List CheckerValue → Subject
-subject_of s value checkers = record { plan = plan_of s value; checkers = checkers; bound = s.bound; tears = s.tears }
+subject_of s value checkers = record { plan = plan_of s value; checkers = checkers; bound = s.bound; tears = s.tears; first = s.first }
 
 abbrev pub program_head : CheckerValue → ProgramHead
 program_head checker = record { slots = length checker.program; limit = checker.limit; verified = is_some checker.verified }
@@ -46,13 +51,13 @@ head_of s value checkers = record {
   images = length (images_of s value);
 }
 
--- the report of a log and of checkers
+-- the report of a log and of checkers: of all failing lines, or of the first failing image alone
 abbrev pub report_of : Settings → LogValue → List CheckerValue → List ℕ
 report_of s value checkers = report_bytes (head_of s value checkers) (failing_lines (subject_of s value checkers))
 
--- the bytes report every failing image of the log, and no other
+-- the bytes report every failing image of the log and no other, or the first alone where that is asked for
 pub record IsReport (text : List ℕ) (files : List (List ℕ)) (s : Settings) (bytes : List ℕ) (failing : Bool) : Type 0 where
-  pub count : length files ≡ 1
+  pub count : IsProgramCount (length files)
   pub value : LogValue
   pub source : HasImages text s value
   pub checkers : List CheckerValue
@@ -78,6 +83,6 @@ pub data RefusesProgram (s : Settings) (files : List (List ℕ)) : Refusal → T
 -- the refusals in their order: the number of programs, the log, the number of its images, then each
 -- program. Want of memory may come wherever a list has to grow.
 pub data Refuses (text : List ℕ) (files : List (List ℕ)) (s : Settings) : Refusal → Type 0 where
-  for_count : length files ≢ 1 → Refuses text files s (option_refusal 6)
-  for_source : (r : Refusal) → length files ≡ 1 → RefusesSource text s r → Refuses text files s r
-  for_program : (r : Refusal) (value : LogValue) → length files ≡ 1 → HasImages text s value → RefusesProgram s files r → Refuses text files s r
+  for_count : (IsProgramCount (length files) → ⊥) → Refuses text files s (option_refusal 6)
+  for_source : (r : Refusal) → IsProgramCount (length files) → RefusesSource text s r → Refuses text files s r
+  for_program : (r : Refusal) (value : LogValue) → IsProgramCount (length files) → HasImages text s value → RefusesProgram s files r → Refuses text files s r

@@ -1,5 +1,5 @@
 -- The options of a run, and which are refused (docs/REPORT.md, Options).
-use Rattle.std.specs.Prelude.{ℕ, ◌≡◌, ◌==◌, ◌≤◌, Bool, true, not, ◌&&◌, nat_le, List, [], ◌∷◌, Option, None}
+use Rattle.std.specs.Prelude.{ℕ, ◌≡◌, ◌==◌, ◌≤◌, Bool, true, ◌&&◌, nat_le, List, [], ◌∷◌, Option, None}
 use Rattle.std.specs.Option.{option_map_or}
 use Rattle.base.specs.Check.{Check, check, first_failing}
 use Rattle.base.specs.declared.causes.RequestCause.TheVariants as request
@@ -23,7 +23,7 @@ abbrev pub option_refusal : ℕ → Refusal
 option_refusal at = record { code = Request request.Option; at = at; program = None }
 
 -- the checks of the options; the cause of each is its place. What is not built yet is refused: more than
--- one worker, a cache, and a report of the first failing image alone.
+-- one worker, and a cache.
 unfoldable pub option_checks : Settings → List (Check ℕ)
 option_checks s =
     check 1 (nat_le 1 s.sectors && nat_le s.sectors 16384)
@@ -31,7 +31,6 @@ option_checks s =
     ∷ check 3 (s.workers == 1)
     ∷ check 4 (nat_le s.cache 0)
     ∷ check 5 (option_map_or (λ limit. nat_le limit 1000000000) s.checked true)
-    ∷ check 8 (not s.first)
     ∷ []
 
 -- options that no check refuses

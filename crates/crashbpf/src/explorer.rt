@@ -5,9 +5,10 @@ ghost use Rattle.base.specs.declared.causes.CodeCause.TheVariants as code;
 ghost use Rattle.bpf_isa.specs.Program.{IsSpelledBy, HasNoFault};
 ghost use Rattle.std.specs.List.Sorted.{IsNonDecreasing};
 ghost use Rattle.choices.specs.Choices.{IsFirstPast};
+ghost use Rattle.report.specs.Report.{report_bytes};
 ghost use Rattle.workers.specs.Failing.{failing_lines};
 ghost use Rattle.crashbpf.specs.Source.{plan_of, images_of, images_refusal, work_refusal, RefusesPlan};
-ghost use Rattle.crashbpf.specs.Explore.{HasReport, IsReport, Refuses, program_head, subject_of, head_of, report_of};
+ghost use Rattle.crashbpf.specs.Explore.{HasReport, IsReport, IsProgramCount, Refuses, program_head, subject_of, head_of, report_of};
 ghost use Rattle.crashbpf.specs.Programs.{IsRunWithin, IsCodeFault, IsUnaccepted, code_refusal, verifier_refusal, AreDecoded, AreFirstMade, RefusesOneOf};
 
 use crate::options::{Options, option_refusal_at};
@@ -25,15 +26,25 @@ use std::alloc::{AllocError, Global};
 use verifier::verify;
 use workers::{Gate, Input, OpenGate, Work, explore_all};
 
+/// The most programs of a run.
+const MAX_PROGRAMS: usize = 8;
+
 /// What a run answers.
 #[derive(Drop)]
 pub struct Explored {
-    /// The report.
+    /// The report, of the first failing image alone where that was asked for.
     pub bytes: Vec<u8>,
     /// How many judgements were taken from a cache.
     pub hits: u64,
     /// Whether there is a failing image.
     pub failing: bool,
+}
+
+/// Whether a run may have so many programs.
+fn is_program_count(count: usize) -> bool
+    ensures { IsTrue result ↔ IsProgramCount count }
+{
+    count >= 1 && count <= MAX_PROGRAMS
 }
 
 /// The refusal of a program, at one of its slots.
@@ -192,9 +203,8 @@ fn reported(
 ) -> Result<Vec<u8>, AllocError>
     requires images { images ≡ length (images_of options.now log.now) }
     requires device { log.now.sectors ≡ options.now.sectors }
-    requires lines { work.now.lines ≡ failing_lines (subject_of options.now log.now checkers.now) }
     requires order { IsNonDecreasing (map (λ l. l.image) work.now.lines) }
-    ensures { IfOk result (λ bytes. bytes.items ≡ report_of options.now log.now checkers.now) }
+    ensures { IfOk result (λ bytes. bytes.items ≡ report_bytes (head_of options.now log.now checkers.now) work.now.lines) }
 {
     let head = Head {
         sectors: options.sectors(),
@@ -236,6 +246,7 @@ fn judged<'x, G: Gate>(
         &*checkers,
         options.bound(),
         options.tears(),
+        options.first(),
     ) {
         Ok(input) => input,
         Err(fault) => return Err(images_refusal_of(fault)),
@@ -254,9 +265,9 @@ fn judged<'x, G: Gate>(
     }
 }
 
-/// Explores the crash images of a log: judges each by the programs, and reports those that fail
-/// (docs/REPORT.md). Without a limit of steps each program has to be accepted by the verifier. `gate` is
-/// told of each block of images before and after it is judged.
+/// Explores the crash images of a log: judges each by the one to eight programs, and reports those that
+/// fail, or the first of them alone (docs/REPORT.md). Without a limit of steps each program has to be
+/// accepted by the verifier. `gate` is told of each block of images before and after it is judged.
 ///
 /// # Errors
 ///
@@ -273,7 +284,7 @@ pub fn explore_with<G: Gate>(
     ensures hits { IfOk result (λ e. e.hits ≡ 0) }
     ensures refused { IfErr result (Refuses log.now (map (λ f. f.items) programs.now) options.now) }
 {
-    if programs.len() != 1 {
+    if !is_program_count(programs.len()) {
         return Err(option_refusal_at(6));
     }
     let log = match read_log(alloc, log, options.sectors()) {

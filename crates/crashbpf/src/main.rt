@@ -26,7 +26,8 @@
 //!
 //! Where `explore` answers `Ok`, its bytes are `report_bytes` of the log's failing lines
 //! (`workers/specs/Failing.antt`): of all images and programs whose outcome, by the definition of the
-//! machine on the definition of the image, is not a verdict with answer 0. A program runs within the limit
+//! machine on the definition of the image, is not a verdict with answer 0. With the option `first` they
+//! are the report of the first failing image alone. A program runs within the limit
 //! of steps that is asked for, or, without one, within the budget with which the verifier accepts it for
 //! the device; what it doesn't accept is refused (`specs/Programs.antt`). `image` answers the bytes of
 //! the image of a number, and `survey` the text of `specs/Survey.antt`. Where one of them answers `Err`,
@@ -37,7 +38,7 @@
 //! spells the program that the source text says, and what `list` answers is the
 //! listing of the program that the bytes spell (`specs/Assembly.antt`).
 //!
-//! So far a run has one program and one worker. What is not built is refused.
+//! A run has one program to eight. So far it has one worker and no cache; more is refused.
 //!
 //! # Example
 //!

@@ -43,7 +43,7 @@ impl Model for Options {
 }
 
 /// The refusal of an option, by its place: 1 sectors, 2 bound, 3 workers, 4 cache, 5 checked,
-/// 6 number of programs, 7 cuts, 8 first, 9 number of an image.
+/// 6 number of programs, 7 cuts, 9 number of an image.
 pub(crate) fn option_refusal_at(place: u64) -> Refusal
     ensures { result ≡ option_refusal place }
 {
@@ -99,9 +99,6 @@ impl Options {
         }
         if is_too_long(checked) {
             return Err(option_refusal_at(5));
-        }
-        if first {
-            return Err(option_refusal_at(8));
         }
         Ok(Options {
             sectors: sectors as u32,

@@ -6,13 +6,13 @@ use std::alloc::Global;
 use std::cell::Cell;
 use std::test::Fail;
 
-const ANSWER_0: [u8; 16] = [0xb7, 0, 0, 0, 0, 0, 0, 0, 0x95, 0, 0, 0, 0, 0, 0, 0];
+pub(crate) const ANSWER_0: [u8; 16] = [0xb7, 0, 0, 0, 0, 0, 0, 0, 0x95, 0, 0, 0, 0, 0, 0, 0];
 
 pub(crate) const ANSWER_1: [u8; 16] = [0xb7, 0, 0, 0, 1, 0, 0, 0, 0x95, 0, 0, 0, 0, 0, 0, 0];
 
 const MOVE_ALONE: [u8; 8] = [0xb7, 0, 0, 0, 1, 0, 0, 0];
 
-const EXIT_ALONE: [u8; 8] = [0x95, 0, 0, 0, 0, 0, 0, 0];
+pub(crate) const EXIT_ALONE: [u8; 8] = [0x95, 0, 0, 0, 0, 0, 0, 0];
 
 const MOVE_TO_R10: [u8; 16] = [0xb7, 10, 0, 0, 0, 0, 0, 0, 0x95, 0, 0, 0, 0, 0, 0, 0];
 
@@ -90,10 +90,22 @@ pub(crate) fn acted(
     log: Vec<u8>,
     program: &[u8],
 ) -> Result<(Vec<u8>, u8), Fail> {
+    acted_by_all(alloc, line, log, &[program])
+}
+
+/// The same of a command with several programs.
+pub(crate) fn acted_by_all(
+    alloc: Global,
+    line: &str,
+    log: Vec<u8>,
+    programs: &[&[u8]],
+) -> Result<(Vec<u8>, u8), Fail> {
     let words = words_of(alloc, line)?;
     let mut files = Vec::new(alloc);
     files.push(Some(log))?;
-    files.push(Some(program.to_vec(alloc)?))?;
+    for program in programs {
+        files.push(Some(program.to_vec(alloc)?))?;
+    }
     match act(alloc, &words, files.as_slice()) {
         Ok(answer) => Ok(answer),
         Err(refusal) => Ok((fault_line(alloc, &refusal)?, 2)),
@@ -271,12 +283,6 @@ fn refuses_with_number_and_place(rt: HostRuntime) -> Result<(), Fail> {
             ANSWER_1.as_slice(),
             "refused 13 at 7\n",
         ),
-        (
-            "explore log program --sectors 1 --bound 0 --checked 2 --first",
-            512,
-            ANSWER_1.as_slice(),
-            "refused 13 at 8\n",
-        ),
         (usual, 511, ANSWER_1.as_slice(), "refused 1 at 0\n"),
         (usual, 512, [].as_slice(), "refused 21 at 0 of program 0\n"),
         (
@@ -336,6 +342,8 @@ fn refuses_options_then_files_then_counts(rt: HostRuntime) -> Result<(), Fail> {
     let alloc = rt.alloc();
     let one = "explore log program --sectors 1 --bound 0 --checked 2";
     let two = "explore log program other --sectors 1 --bound 0 --checked 2";
+    let eight = "explore log a b c d e f g h --sectors 1";
+    let nine = "explore log a b c d e f g h i --sectors 1";
     let bad = "explore log program --sectors 0 --bound 0 --checked 2";
     let unlimited = "explore log program --sectors 1";
     let rows = [
@@ -344,7 +352,9 @@ fn refuses_options_then_files_then_counts(rt: HostRuntime) -> Result<(), Fail> {
         (two, [true, true, false].as_slice(), "refused 14 at 2\n"),
         (bad, [false, false].as_slice(), "refused 13 at 1\n"),
         (unlimited, [false, false].as_slice(), "refused 14 at 0\n"),
-        (two, [true, true, true].as_slice(), "refused 13 at 6\n"),
+        (two, [true, true, true].as_slice(), "refused 1 at 0\n"),
+        (eight, [true; 9].as_slice(), "refused 1 at 0\n"),
+        (nine, [true; 10].as_slice(), "refused 13 at 6\n"),
         (one, [true, true].as_slice(), "refused 1 at 0\n"),
     ];
     for (line, readable, wanted) in rows {

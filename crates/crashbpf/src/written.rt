@@ -1,6 +1,9 @@
 //! Runs over logs that write: reports, surveys and images; and the commands on single programs.
 
-use crate::tests::{ANSWER_1, MARKS_PASSED, REPORT_CODES, acted, put_sector, words_of};
+use crate::tests::{
+    ANSWER_0, ANSWER_1, EXIT_ALONE, MARKS_PASSED, REPORT_CODES, acted, acted_by_all, put_sector,
+    words_of,
+};
 use crate::{act, fault_line};
 use std::alloc::Global;
 use std::test::Fail;
@@ -230,6 +233,76 @@ fn reports_sixteen_codes_of_every_image(rt: HostRuntime) -> Result<(), Fail> {
     assert!(rt; text.contains(middle));
     assert!(rt; text.ends_with(last));
     assert_eq!(rt; status, 1);
+    Ok(())
+}
+
+#[test]
+fn reports_the_first_failing_image_alone(rt: HostRuntime) -> Result<(), Fail> {
+    let alloc = rt.alloc();
+    let rows = [
+        (
+            "explore log program --sectors 1 --first",
+            [].as_slice(),
+            ANSWER_0.as_slice(),
+            "crash report 1\nsectors 1 entries 0 cuts all bound 1 tears no first yes\nprogram 0 slots 2 budget 2\nimages 1 first none\n",
+            0,
+        ),
+        (
+            "explore log program --sectors 4 --tears --first",
+            [(0, 1, 0, 0xaa)].as_slice(),
+            ENDS_AGREE.as_slice(),
+            "crash report 1\nsectors 4 entries 1 cuts all bound 1 tears yes first yes\nprogram 0 slots 11 budget 9\nimage 3 cut 1 program 0 answer 1 codes - choice 0.0:head1\nimages 10 first 3\n",
+            1,
+        ),
+        (
+            "explore log program --sectors 4 --cuts flush --bound 2 --tears --first",
+            [(0, 2, 0, 0xaa)].as_slice(),
+            REPORT_CODES.as_slice(),
+            "crash report 1\nsectors 4 entries 1 cuts flush bound 2 tears yes first yes\nprogram 0 slots 10 budget 162\nimage 0 cut 1 program 0 answer 1 codes 0,1,2,3,4,5,6,7,8,9,10,11,12,13,14,15 choice -\nimages 81 first 0\n",
+            1,
+        ),
+    ];
+    for (line, entries, program, wanted, failing) in rows {
+        let (bytes, status) = acted(alloc, line, log_of(alloc, entries)?, program)?;
+        assert_eq!(rt; bytes.as_slice(), wanted.as_bytes(), "{line}");
+        assert_eq!(rt; status, failing, "{line}");
+    }
+    Ok(())
+}
+
+#[test]
+fn judges_by_two_programs(rt: HostRuntime) -> Result<(), Fail> {
+    let alloc = rt.alloc();
+    let usual = "explore log program other --sectors 4";
+    let first = "explore log program other --sectors 4 --first";
+    let rows = [
+        (
+            usual,
+            [FIRST_BYTE.as_slice(), BYTE_64.as_slice()],
+            "crash report 1\nsectors 4 entries 1 cuts all bound 1 tears no first no\nprogram 0 slots 7 budget 5\nprogram 1 slots 7 budget 5\nimage 1 cut 1 program 0 answer 51 codes - choice -\nimage 1 cut 1 program 1 answer 51 codes - choice -\nimages 3 failing 1 lines 2\n",
+        ),
+        (
+            first,
+            [FIRST_BYTE.as_slice(), BYTE_64.as_slice()],
+            "crash report 1\nsectors 4 entries 1 cuts all bound 1 tears no first yes\nprogram 0 slots 7 budget 5\nprogram 1 slots 7 budget 5\nimage 1 cut 1 program 0 answer 51 codes - choice -\nimage 1 cut 1 program 1 answer 51 codes - choice -\nimages 3 first 1\n",
+        ),
+        // each program is tested wholly before the next
+        (
+            usual,
+            [FIRST_BYTE.as_slice(), EXIT_ALONE.as_slice()],
+            "refused 50 at 0 of program 1\n",
+        ),
+        (
+            usual,
+            [EXIT_ALONE.as_slice(), [].as_slice()],
+            "refused 50 at 0 of program 0\n",
+        ),
+    ];
+    for (line, programs, wanted) in rows {
+        let log = log_of(alloc, &[(0, 1, FLUSH, 0x33)])?;
+        let (bytes, _status) = acted_by_all(alloc, line, log, programs.as_slice())?;
+        assert_eq!(rt; bytes.as_slice(), wanted.as_bytes(), "{line}");
+    }
     Ok(())
 }
 

@@ -28,9 +28,9 @@
 //!
 //! `write_report` gives exactly `report_bytes` of what head and lines say (`specs/Report.antt`,
 //! `specs/Text.antt`), byte by byte, where the lines stand in the order of their images; its one error
-//! is want of memory. Contracts see `Lines` as a list of `FailingLine`, what the lines say
-//! (`specs/Line.antt`): `push` adds to its end, and `followed_by` puts two lists together. That only the first failing image was
-//! asked for is printed in the head, and so far changes nothing else.
+//! is want of memory. Where the first failing image alone was asked for, these are its lines, and then a
+//! last line with its number, or with `none`. Contracts see `Lines` as a list of `FailingLine`, what the
+//! lines say (`specs/Line.antt`): `push` adds to its end, and `followed_by` puts two lists together.
 //!
 //! # How it is written
 //!
