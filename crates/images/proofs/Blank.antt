@@ -1,23 +1,16 @@
 -- The device before the first unit.
-use Rattle.std.proofs.Common.{ℕ, zero, suc, ◌≡◌, ◌+◌, List, [], ◌∷◌, ◌++◌, length, map, replicate, refl, sym, ◌∙◌, ap, add-one}
+use Rattle.std.proofs.Common.{ℕ, ◌≡◌, List, [], ◌∷◌, length, map, replicate, refl, sym, ◌∙◌, ap}
 use Rattle.std.specs.List.{range_with_len}
 use Rattle.std.proofs.lemmas.List.FromFn.{length-range_with_len}
 use Rattle.logfmt.specs.declared.entry.Entry.{Entry}
 use Rattle.choices.specs.declared.choice.Departure.{Departure}
 use Rattle.images.specs.Images.{byte_after, sector_after, device_after, crash_image}
 
-replicate-push : (n : ℕ) (x : List ℕ) → replicate n x ++ x ∷ [] ≡ replicate (suc n) x
-replicate-push zero x = refl
-replicate-push (suc n) x = ap (λ xs. x ∷ xs) (replicate-push n x)
-
-pub replicate-more : (n : ℕ) (x : List ℕ) → replicate n x ++ x ∷ [] ≡ replicate (n + 1) x
-replicate-more n x = rw (add-one n) (replicate-push n x)
-
 map_same : {X : Type 0} (x : X) (ns : List ℕ) → map (λ (_ : ℕ). x) ns ≡ replicate (length ns) x
 map_same x [] = refl
 map_same x (n ∷ ns) = ap (λ xs. x ∷ xs) (map_same x ns)
 
-zero_sector : (es : List Entry) (ds : List Departure) (s : ℕ) → sector_after es [] ds s ≡ replicate {A = ℕ} 512 0
+pub zero_sector : (es : List Entry) (ds : List Departure) (s : ℕ) → sector_after es [] ds s ≡ replicate {A = ℕ} 512 0
 unfolding sector_after byte_after
 zero_sector es ds s = map_same {X = ℕ} 0 (range_with_len 0 512) ∙ ap (λ n. replicate {A = ℕ} n 0) (length-range_with_len 0 512)
 

@@ -1,18 +1,10 @@
 -- The key of a view, from what a view keeps.
-use Rattle.std.proofs.Common.{ℕ, ◌≡◌, ◌<◌, ◌≤◌, if◌then◌else◌, List, [], length, Some, None, sym, ◌∙◌, ap, arith}
+use Rattle.std.proofs.Common.{ℕ, ◌≡◌, ◌<◌, ◌≤◌, if◌then◌else◌, List, length, Some, None, sym, ◌∙◌, ap, arith}
 use Rattle.std.proofs.lemmas.Bool.{lt-ltb, le-ltb}
-use Rattle.logfmt.specs.Bounds.{LogValue}
-use Rattle.epochs.specs.Units.{units_before}
-use Rattle.epochs.specs.Laws.{last_flush}
 use Rattle.helpers.specs.declared.device.Context.{Context}
 use Rattle.images.specs.declared.key.ChangedSector.{ChangedSector}
 use Rattle.images.specs.Views.{ViewValue, sectors_of, context_at}
 use Rattle.images.specs.Keys.{base_of, changed, most_changed, KeyValue, identity_of, key_of}
-use Rattle.images.proofs.Laying.{length-device_after}
-
-pub length-base_of : (log : LogValue) (k : ℕ) → length (base_of log k) ≡ log.sectors
-unfolding base_of
-length-base_of log k = length-device_after log.sectors log.entries (units_before log.entries (last_flush log.entries k)) []
 
 -- the changed sectors, over another name of the base and of the image
 pub has_key : (view : ViewValue) (program : ℕ) (context : Context) (base image : List (List ℕ)) (found : List ChangedSector)

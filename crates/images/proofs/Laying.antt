@@ -1,10 +1,9 @@
 -- A unit that is laid over what the units before it have left.
-use Rattle.std.proofs.Common.{ℕ, ◌≡◌, ◌≢◌, ◌+◌, ◌-◌, ◌*◌, ◌<◌, ◌≤◌, false, nat_lt, ◌&&◌, if◌then◌else◌, List, [], ◌∷◌, ◌++◌, length, map, take, drop, slice_index_or, slice_set, refl, sym, ◌∙◌, ap, arith, inl, inr}
+use Rattle.std.proofs.Common.{ℕ, ◌≡◌, ◌≢◌, ◌+◌, ◌-◌, ◌*◌, ◌<◌, ◌≤◌, false, nat_lt, ◌&&◌, if◌then◌else◌, List, [], ◌∷◌, ◌++◌, length, map, take, drop, refl, sym, ◌∙◌, ap, arith, inl, inr}
 use Rattle.std.specs.List.{range_with_len, slice_index}
 use Rattle.std.proofs.lemmas.Bool.{cases_lt, lt-ltb, le-ltb, eq-eqb, ne_eqb}
-use Rattle.std.proofs.lemmas.Bool.Decides.{eqb_tells}
 use Rattle.std.proofs.lemmas.Grind.{same_number_lists}
-use Rattle.std.proofs.lemmas.List.{same_lists, length-append, length-take-le, length-drop, length-set, get_or-take, get_or-drop, get_or_append_left, get_or-append_right, get_or-set_same, get_or-set_other}
+use Rattle.std.proofs.lemmas.List.{length-append, length-take-le, length-drop, get_or-take, get_or-drop, get_or_append_left, get_or-append_right}
 use Rattle.std.proofs.lemmas.List.FromFn.{length-map-range_with_len, get_or-map-range_with_len}
 use Rattle.logfmt.specs.declared.entry.Entry.{Entry}
 use Rattle.epochs.specs.declared.unit.Unit.{Unit as LogUnit}
@@ -66,38 +65,6 @@ sector_here es us u ds new old n le content long below kept =
     ∙ sym (byte_after-push es us u ds u.sector i)
     ∙ sym (get_or-map-range_with_len byte 0 512 i i 0 within here))
 
--- the device with that sector in its place
-pub laid : (sectors : ℕ) (es : List Entry) (us : List LogUnit) (u : LogUnit) (ds : List Departure) (image : List (List ℕ)) (sector : List ℕ)
-    → u.sector < sectors → image ≡ device_after sectors es us ds → sector ≡ sector_after es (us ++ u ∷ []) ds u.sector
-    → slice_set image u.sector sector ≡ device_after sectors es (us ++ u ∷ []) ds
-unfolding device_after
-laid sectors es us u ds image sector lt is own =
-    let f : ℕ → List ℕ = sector_after es us ds in
-    let g : ℕ → List ℕ = sector_after es (us ++ u ∷ []) ds in
-    let long : length image ≡ sectors = ap length is ∙ length-map-range_with_len f 0 sectors in
-    let size : length (slice_set image u.sector sector) ≡ sectors = length-set image u.sector sector ∙ long in
-    same_lists _ _ (size ∙ sym (length-map-range_with_len g 0 sectors)) (λ k d lower.
-    let within : k < sectors = omega (arith, lower, size) in
-    let here : 0 + k ≡ k = omega arith in
-    let right : slice_index_or (map g (range_with_len 0 sectors)) k d ≡ g k = get_or-map-range_with_len g 0 sectors k k d within here in
-    elim (eqb_tells k u.sector) [
-      | inl same ↦
-          ap (λ n. slice_index_or (slice_set image u.sector sector) n d) same.1
-          ∙ get_or-set_same image u.sector sector d (omega (arith, long, lt)) ∙ own ∙ ap g (sym same.1) ∙ sym right
-      | inr other ↦
-          get_or-set_other image u.sector k sector d other.1
-          ∙ ap (λ xs. slice_index_or xs k d) is ∙ get_or-map-range_with_len f 0 sectors k k d within here
-          ∙ sector_elsewhere es us u ds k other.1 ∙ sym right
-    ])
-
 pub length-device_after : (sectors : ℕ) (es : List Entry) (us : List LogUnit) (ds : List Departure) → length (device_after sectors es us ds) ≡ sectors
 unfolding device_after
 length-device_after sectors es us ds = length-map-range_with_len (sector_after es us ds) 0 sectors
-
--- what lies below a unit
-pub sector_below : (sectors : ℕ) (es : List Entry) (us : List LogUnit) (ds : List Departure) (s : ℕ) (image : List (List ℕ)) (old : List ℕ)
-    → s < sectors → image ≡ device_after sectors es us ds → old ≡ slice_index_or image s old → old ≡ sector_after es us ds s
-unfolding device_after
-sector_below sectors es us ds s image old lt is read =
-    let here : 0 + s ≡ s = omega arith in
-    read ∙ ap (λ xs. slice_index_or xs s old) is ∙ get_or-map-range_with_len (sector_after es us ds) 0 sectors s s old lt here

@@ -11,7 +11,7 @@ use Rattle.choices.specs.declared.choice.Departure.{Departure}
 use Rattle.images.specs.Images.{writes, byte_after}
 use Rattle.images.specs.Laws.{LastWriterShows}
 
-last_or-push : (o : Option LogUnit) (us : List LogUnit) (u : LogUnit) → last_or o (us ++ u ∷ []) ≡ Some u
+pub last_or-push : (o : Option LogUnit) (us : List LogUnit) (u : LogUnit) → last_or o (us ++ u ∷ []) ≡ Some u
 last_or-push o [] u = refl
 last_or-push o (x ∷ xs) u = last_or-push (Some x) xs u
 

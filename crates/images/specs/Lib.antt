@@ -1,6 +1,7 @@
 -- The crash images of a log.
 pub mod Images
 pub mod Views
+pub mod Table
 pub mod Whole
 pub mod Keys
 pub mod Equal

@@ -1,7 +1,7 @@
 -- What a view shows: the crash image of a log at a cut with some departures, and its context
 -- (docs/CRASH-MODEL.md, Crash image, Context of an image).
-use Rattle.std.specs.Prelude.{ℕ, ◌≡◌, ◌≤◌, Bool, List, length, slice_get, Some}
-use Rattle.logfmt.specs.Bounds.{LogValue, IsLog}
+use Rattle.std.specs.Prelude.{ℕ, ◌≡◌, ◌≤◌, Bool, List, slice_get, Some}
+use Rattle.logfmt.specs.Bounds.{LogValue}
 use Rattle.epochs.specs.Units.{epoch_at, marks_at}
 use Rattle.epochs.specs.Plan.{PlanValue}
 use Rattle.choices.specs.declared.choice.Departure.{Departure}
@@ -37,11 +37,3 @@ context_at log cut = record { sectors = log.sectors; epoch = epoch_at log.entrie
 pub record ContextFits (context : Context) : Type 0 where
   pub epoch : context.epoch ≤ 65536
   pub marks : context.marks ≤ 65536
-
--- what a view keeps
-pub record IsView (view : ViewValue) (image : List (List ℕ)) (context : Context) : Type 0 where
-  pub bounds : IsLog view.log
-  pub within : view.cut ≤ length view.log.entries
-  pub shown : image ≡ sectors_of view
-  pub told : context ≡ context_at view.log view.cut
-  pub fits : ContextFits context

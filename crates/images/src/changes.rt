@@ -1,16 +1,22 @@
 //! The sectors of an image that differ from the base of its cut.
 
-ghost use Rattle.std.specs.Prelude.{◌≡◌, ◌<◌, ◌≤◌, length, IfOk, MatchOption};
+ghost use Rattle.std.specs.Prelude.{◌≡◌, ◌≢◌, ◌+◌, ◌<◌, ◌≤◌, ℕ, false, length, slice_get, Some, IfOk, MatchOption};
 ghost use Rattle.epochs.specs.Laws.{last_flush};
-ghost use Rattle.images.specs.Keys.{base_of, differs, changed, most_changed};
+ghost use Rattle.epochs.specs.Units.{units_before};
+ghost use Rattle.images.specs.Keys.{base_of, changed, most_changed};
+ghost use Rattle.images.specs.Table.{covering, AreSpared};
+ghost use Rattle.images.specs.Views.{sectors_of};
 
-use crate::image::{Sector, image_of};
 use crate::key::ChangedSector;
+use crate::view::View;
 use logfmt::{Entry, Log};
 use std::alloc::{AllocError, Global};
 
 /// How many sectors a key has at most.
 const MOST_CHANGED: usize = 64;
+
+/// How many sectors a device has at most.
+pub(crate) const MOST_SECTORS: usize = 16384;
 
 /// The last flush entry before a cut, or 0 where there is none.
 fn last_flush(entries: &[Entry], cut: u32) -> u32
@@ -28,43 +34,51 @@ fn last_flush(entries: &[Entry], cut: u32) -> u32
     0
 }
 
-/// The base of a cut: what its last flush entry has made durable.
-pub(crate) fn base_of(alloc: Global, log: &Log, cut: u32) -> Result<Vec<Sector>, AllocError>
-    requires { cut ≤ length log.now.entries }
-    ensures { IfOk result (λ base. base.items ≡ base_of log.now cut) }
+/// Marks the sectors that an entry covers.
+fn mark(marks: &mut [bool; MOST_SECTORS], entry: &Entry)
+    requires { 0 < entry.now.count → entry.now.sector + entry.now.count ≤ 16384 }
+    ensures { (n : ℕ) → slice_get marks.new n ≡ Some false
+        → (slice_get marks.old n ≡ Some false) × ((j : ℕ) → j < entry.now.count → entry.now.sector + j ≢ n) }
 {
-    image_of(alloc, log, last_flush(log.entries(), cut), &[])
+    for place in 0..entry.count {
+        marks[(entry.sector + place) as usize] = true;
+    }
 }
 
-/// Whether a sector of an image has another content than in the base.
-fn differs(base: &[Sector], image: &[Sector], number: usize) -> bool
-    requires base { number < length base.now }
-    requires image { number < length image.now }
-    ensures { result ≡ differs base.now image.now number }
+/// Marks the sectors that the entries from one on and before a cut cover.
+fn touched(log: &Log, first: u32, cut: u32) -> [bool; MOST_SECTORS]
+    requires order { first ≤ cut }
+    requires cut { cut ≤ length log.now.entries }
+    ensures { AreSpared log.now first cut result }
 {
-    !lanes::same(&base[number], &image[number])
+    let mut marks = [false; MOST_SECTORS];
+    for number in first..cut {
+        mark(&mut marks, &log.entries()[number as usize]);
+    }
+    marks
 }
 
-/// The sectors that differ from the base, rising, or `None` where there are more than a key has.
+/// The sectors that differ from the base, rising, or `None` where there are more than a key has. It
+/// looks only at sectors that an entry from the last flush on covers.
 pub(crate) fn changed_sectors(
     alloc: Global,
-    base: &[Sector],
-    image: &[Sector],
+    view: &View<'_>,
 ) -> Result<Option<Vec<ChangedSector>>, AllocError>
-    requires size { length base.now ≡ length image.now }
-    requires device { length image.now ≤ 16384 }
-    ensures { IfOk result (λ found. MatchOption found (most_changed < length (changed base.now image.now))
-        (λ sectors. (sectors.items ≡ changed base.now image.now) × (length sectors.items ≤ most_changed))) }
+    ensures { IfOk result (λ found. MatchOption found (most_changed < length (changed (base_of view.now.log view.now.cut) (sectors_of view.now)))
+        (λ sectors. (sectors.items ≡ changed (base_of view.now.log view.now.cut) (sectors_of view.now)) × (length sectors.items ≤ most_changed))) }
 {
+    let log = view.log();
+    let flush = last_flush(log.entries(), view.cut());
+    let marks = touched(log, flush, view.cut());
     let mut sectors = Vec::new(alloc);
-    for number in 0..image.len() {
-        if differs(base, image, number) {
+    for number in 0..log.sectors() {
+        if view.is_changed(number, flush, &marks) {
             if sectors.len() == MOST_CHANGED {
                 return Ok(None);
             }
             sectors.push(ChangedSector {
-                number: number as u32,
-                content: image[number],
+                number,
+                content: *view.shown(number),
             })?;
         }
     }

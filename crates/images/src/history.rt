@@ -1,61 +1,68 @@
 //! What a log may leave behind, choice after choice.
 
-ghost use Rattle.std.specs.Prelude.{◌≡◌, ◌≤◌, length, IfOk};
+ghost use Rattle.std.specs.Prelude.{◌≡◌, ◌≤◌, length, IfOk, IsOk};
 
-use crate::image::image_of;
+use crate::torn::torn_sectors;
+use crate::versions::{Versions, rows_of};
 use crate::view::View;
 use arrayvec::ArrayVec;
 use choices::{Choice, Departure};
-use epochs::Plan;
+use epochs::{Plan, Unit};
 use helpers::Context;
 use logfmt::Log;
 use std::alloc::{AllocError, Global};
 use std::marker::Model;
 
-/// The crash images of a log, of which a plan says the wanted cuts.
+/// The crash images of a log, of which a plan says the wanted cuts. It keeps for each sector of the
+/// device the units that cover it, and no content.
 ///
 /// Contracts see a history as its plan.
 #[derive(Drop)]
 pub struct History<'a> {
     plan: &'a Plan<'a>,
     log: &'a Log,
+    rows: Vec<Vec<Unit>>,
 }
 
 impl<'a> Model for History<'a> {
-    ghost use Rattle.std.specs.Prelude.{◌≡◌};
+    ghost use Rattle.std.specs.Prelude.{◌≡◌, map};
     ghost use Rattle.epochs.specs.Plan.{PlanValue};
+    ghost use Rattle.images.specs.Table.{IsTable};
 
     ghost Value = { PlanValue };
 
     ghost view = { λ h. h.plan.now };
 
-    ghost invariant = { λ h. h.plan.now.log ≡ h.log.now };
+    ghost invariant = { λ h. (h.plan.now.log ≡ h.log.now) × IsTable h.log.now (map (λ r. r.items) h.rows.items) };
 }
 
 impl<'a> History<'a> {
     ghost use Rattle.images.specs.Views.{IsMember, view_of};
 
-    /// The crash images of a plan's log.
-    pub fn new(_alloc: Global, plan: &'a Plan<'a>, log: &'a Log) -> Result<History<'a>, AllocError>
+    /// The crash images of a plan's log. It takes time and memory for each unit and for each sector.
+    pub fn new(alloc: Global, plan: &'a Plan<'a>, log: &'a Log) -> Result<History<'a>, AllocError>
         requires { plan.now.log ≡ log.now }
         ensures { IfOk result (λ history. history ≡ plan.now) }
     {
-        Ok(History { plan, log })
+        let rows = rows_of(alloc, log)?;
+        Ok(History { plan, log, rows })
     }
 
-    /// The crash image of a choice of the plan, as a device. It takes the memory of the device, and a
-    /// copy of a sector for each unit before the cut.
-    pub fn view(&self, alloc: Global, choice: &Choice) -> Result<View<'a>, AllocError>
+    /// The crash image of a choice of the plan, as a device. It borrows the sectors of the log, takes
+    /// no memory, and never refuses.
+    pub fn view(&self, _alloc: Global, choice: &Choice) -> Result<View<'_>, AllocError>
         requires { IsMember self.now choice.now }
-        ensures { IfOk result (λ view. view ≡ view_of self.now choice.now) }
+        ensures value { IfOk result (λ view. view ≡ view_of self.now choice.now) }
+        ensures always { IsOk result }
     {
         let cut = choice.cut();
-        let image = image_of(alloc, self.log, cut, choice.departures())?;
+        let versions = Versions::of(&*self.log, self.rows.as_slice());
+        let torn = torn_sectors(&versions, cut, choice.departures());
         Ok(View {
-            log: self.log,
+            versions,
             cut,
             departures: owned(choice.departures()),
-            image,
+            torn,
             context: Context {
                 sectors: self.log.sectors(),
                 epoch: self.plan.epoch(cut),

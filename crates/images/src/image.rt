@@ -1,22 +1,25 @@
-//! The sectors of a crash image: the units before a cut, laid over zeros one after the other.
+//! What units leave on a sector of a crash image.
 
-ghost use Rattle.std.specs.Prelude.{◌≡◌, ◌+◌, ◌*◌, ◌<◌, ◌≤◌, ◌++◌, ◌∷◌, [], ℕ, List, length, replicate, nat_lt, not, ◌||◌, IfOk};
+ghost use Rattle.std.specs.Prelude.{◌≡◌, ◌+◌, ◌*◌, ◌<◌, ◌≤◌, ℕ, length, slice_get, nat_lt, not, ◌||◌, Some};
 ghost use Rattle.std.specs.List.{slice_range};
 ghost use Rattle.epochs.specs.declared.unit.Unit.{Unit as LogUnit};
 ghost use Rattle.epochs.specs.Plan.{IsUnit};
 ghost use Rattle.epochs.specs.Units.{unit_content};
-ghost use Rattle.images.specs.Images.{is_unit, keeps, survives, device_after, crash_image};
+ghost use Rattle.images.specs.Images.{is_unit, keeps, survives, sector_after};
+ghost use Rattle.images.specs.Table.{showing};
 
 use choices::{Departure, Fate};
 use epochs::Unit;
 use logfmt::Log;
-use std::alloc::{AllocError, Global};
 
 /// The bytes of a sector.
 pub(crate) type Sector = [u8; 512];
 
+/// The sector that no unit has written, and the content of each unit of a discard.
+pub(crate) static ZEROS: Sector = [0; 512];
+
 /// How many eighths a sector has.
-const WHOLE: u8 = 8;
+pub(crate) const WHOLE: u8 = 8;
 
 /// How many eighths of a unit a departure leaves, from the unit's first byte on: all where it is one
 /// of another unit.
@@ -35,7 +38,7 @@ fn kept_by(departure: &Departure, unit: Unit) -> u8
 }
 
 /// How many eighths of a unit reach the device, from its first byte on.
-fn kept(departures: &[Departure], unit: Unit) -> u8
+pub(crate) fn kept(departures: &[Departure], unit: Unit) -> u8
     ensures bound { result ≤ 8 }
     ensures value { (i : ℕ) → i < 512 → survives departures.now i unit ≡ nat_lt i (64 * result) }
 {
@@ -57,72 +60,49 @@ fn sector_at(content: &[u8], place: usize) -> &Sector
 }
 
 /// The content of a unit: its sector of the data of its entry, zeros for a discard.
-fn content_of(log: &Log, unit: Unit) -> Sector
+pub(crate) fn content_of(log: &Log, unit: Unit) -> &Sector
     requires { IsUnit log.now unit }
-    ensures value { result ≡ unit_content log.now.entries unit }
-    ensures size { length result ≡ 512 }
+    ensures value { result.now ≡ unit_content log.now.entries unit }
+    ensures size { length result.now ≡ 512 }
 {
     let entry = &log.entries()[unit.entry as usize];
     if entry.flags.discard {
-        [0; 512]
+        &ZEROS
     } else {
-        *sector_at(entry.content.as_slice(), unit.place as usize)
+        sector_at(entry.content.as_slice(), unit.place as usize)
     }
 }
 
-/// Lays a unit over what the units before it have left.
-fn lay(image: &mut Vec<Sector>, log: &Log, unit: Unit, departures: &[Departure])
-    requires unit { IsUnit log.now unit }
-    requires size { length image.old.items ≡ log.now.sectors }
-    ensures { (us : List LogUnit) → image.old.items ≡ device_after log.now.sectors log.now.entries us departures.now
-        → image.new.items ≡ device_after log.now.sectors log.now.entries (us ++ unit ∷ []) departures.now }
+/// The unit that shows, of units that cover one sector: the last that is not dropped.
+pub(crate) fn showing(row: &[Unit], departures: &[Departure]) -> Option<Unit>
+    ensures { result ≡ showing departures.now row.now }
 {
+    let mut left = row.len();
+    while left > 0 {
+        left -= 1;
+        let unit = row[left];
+        if kept(departures, unit) > 0 {
+            return Some(unit);
+        }
+    }
+    None
+}
+
+/// What units that cover one sector leave on it, formed anew. It goes back to the last whole unit.
+pub(crate) fn formed(log: &Log, row: &[Unit], departures: &[Departure]) -> Sector
+    requires { (i : ℕ) (u : LogUnit) → slice_get row.now i ≡ Some u → IsUnit log.now u }
+    ensures { (s : ℕ) → ((i : ℕ) (u : LogUnit) → slice_get row.now i ≡ Some u → u.sector ≡ s)
+        → result ≡ sector_after log.now.entries row.now departures.now s }
+{
+    if row.is_empty() {
+        return ZEROS;
+    }
+    let last = row.len() - 1;
+    let unit = row[last];
     let content = content_of(log, unit);
-    let below = &mut image[unit.sector as usize];
-    *below = lanes::splice(&content, below, kept(departures, unit));
-}
-
-/// Lays the units of an entry over the crash image of the cut before it.
-fn lay_entry(image: &mut Vec<Sector>, log: &Log, number: u32, departures: &[Departure])
-    requires entry { number < length log.now.entries }
-    requires below { image.old.items ≡ crash_image log.now.sectors log.now.entries number departures.now }
-    ensures { image.new.items ≡ crash_image log.now.sectors log.now.entries (number + 1) departures.now }
-{
-    let entry = &log.entries()[number as usize];
-    for place in 0..entry.count {
-        let unit = Unit {
-            entry: number,
-            place: place as u32,
-            sector: (entry.sector + place) as u32,
-        };
-        lay(image, log, unit, departures);
+    let eighths = kept(departures, unit);
+    if eighths == WHOLE {
+        return *content;
     }
-}
-
-/// A device of so many sectors of zeros.
-fn blank(alloc: Global, sectors: u32) -> Result<Vec<Sector>, AllocError>
-    ensures { IfOk result (λ image. image.items ≡ replicate sectors (replicate 512 0)) }
-{
-    let mut image = Vec::with_capacity(alloc, sectors as usize)?;
-    for _ in 0..sectors {
-        image.push([0; 512])?;
-    }
-    Ok(image)
-}
-
-/// The crash image of a cut with those departures.
-pub(crate) fn image_of(
-    alloc: Global,
-    log: &Log,
-    cut: u32,
-    departures: &[Departure],
-) -> Result<Vec<Sector>, AllocError>
-    requires { cut ≤ length log.now.entries }
-    ensures { IfOk result (λ image. image.items ≡ crash_image log.now.sectors log.now.entries cut departures.now) }
-{
-    let mut image = blank(alloc, log.sectors())?;
-    for number in 0..cut {
-        lay_entry(&mut image, log, number, departures);
-    }
-    Ok(image)
+    lanes::splice(content, &formed(log, &row[..last], departures), eighths)
 }

@@ -46,7 +46,7 @@
 //! - The sectors of a view are `crash_image` of the log, the cut and the departures
 //!   (`specs/Images.antt`): byte i of sector s is byte i of the last of the units before the cut that
 //!   write it, `filter (writes ..) (units_before ..)`, and 0 where no unit does. The definition is a
-//!   filter of a list of units, byte by byte; the code lays whole sectors.
+//!   filter of a list of units, byte by byte; the code finds a unit and borrows its sector.
 //! - `History::view` answers the view of exactly its choice, which has to be one of the plan
 //!   (`IsMember`, `specs/Views.antt`): such as `choices::nth` and `choices::next` give.
 //! - `View::context` is that of the cut: the log's number of sectors, its flush entries and its marks
@@ -65,17 +65,24 @@
 //! - `==` answers whether two keys are the same (`equal_keys_are_same`), so a map finds a key exactly
 //!   where it has that key.
 //!
-//! Where memory is refused `view` and `key` answer `AllocError`. Nothing else is refused.
+//! `view` takes no memory and always answers `Ok`. Where memory is refused `new` and `key` answer
+//! `AllocError`. Nothing else is refused.
 //!
 //! # How it is written
 //!
-//! A view is a full copy of its device. `image` begins with zeros and lays the units before the cut
-//! over them, entry after entry: a unit's sector becomes `lanes::splice` of its content and of what
-//! stands there, with as many eighths of the content as its departures keep, 8 for a whole unit. So a
-//! view takes the memory of the device, and a copy of a sector for each unit.
+//! A history keeps a version table (`versions`): for each sector of the device a row, the units that
+//! cover it in their order (`specs/Table.antt`). It has no content, and is filled in one pass over the
+//! entries. A search by halves finds the units of a row before a cut.
 //!
-//! `changes` forms the base by `image` too, anew for each key, and compares it with the image, sector by
-//! sector. So a key costs about as much as its view. `key` has the type and how it is compared.
+//! A view borrows the table. A sector of it is the content of the last of those units that is not
+//! dropped, where it lies in the log, or the one sector of zeros (`lent`). Where that unit is torn the
+//! view owns the sector: `torn` forms these when the view is made, at most three, by `lanes::splice` of
+//! the unit's content and of what the units before it leave, back to the last whole one (`formed` in
+//! `image`).
+//!
+//! `changes` makes a key. It marks the sectors that entries from the last flush on cover, and compares
+//! only these with the base, of which it finds each sector in the same row: the last unit before the
+//! flush entry. `key` has the type and how it is compared.
 //!
 //! # Example
 //!
@@ -101,6 +108,8 @@ mod key;
 mod laws;
 #[cfg(test)]
 mod tests;
+mod torn;
+mod versions;
 mod view;
 
 pub use history::History;

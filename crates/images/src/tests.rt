@@ -7,10 +7,10 @@ use super::{
     last_writer_shows,
 };
 use base::numbers::{put_u32, put_u64, put_zeros};
-use choices::{count, nth};
+use choices::{Choice, Departure, Fate, count, nth};
 use epochs::{Cuts, Plan};
 use helpers::{Context, Device};
-use logfmt::read;
+use logfmt::{Entry, read};
 use std::alloc::{AllocError, Global};
 use std::collections::HashMap;
 use std::process::Abort;
@@ -116,6 +116,92 @@ fn check_case(
     Ok(())
 }
 
+/// How many bytes of a unit reach the device.
+fn kept_bytes(departures: &[Departure], entry: u32, place: u64) -> u64 {
+    let mut kept = 512;
+    for departure in departures {
+        if departure.unit.entry == entry && u64::from(departure.unit.place) == place {
+            kept = match departure.fate {
+                Fate::Drop => 0,
+                Fate::Head(eighths) => 64 * u64::from(eighths.count()),
+            };
+        }
+    }
+    kept
+}
+
+/// Lays a byte of an entry over an image.
+fn copy_byte(image: &mut [u8], entry: &Entry, place: u64, number: u64) {
+    let from = place.wrapping_mul(512).wrapping_add(number);
+    let to = entry.sector.wrapping_mul(512).wrapping_add(from);
+    let byte = entry.content.as_slice().get(from as usize);
+    if let Some(cell) = image.get_mut(to as usize) {
+        *cell = byte.copied().unwrap_or(0);
+    }
+}
+
+/// Lays the units of an entry over an image.
+fn copy_entry(image: &mut [u8], entry: &Entry, number: u32, departures: &[Departure]) {
+    for place in 0..entry.count {
+        for byte in 0..kept_bytes(departures, number, place) {
+            copy_byte(image, entry, place, byte);
+        }
+    }
+}
+
+/// The slow form of a crash image: a full copy of the device, over which each unit before the cut is
+/// laid in turn, byte by byte.
+fn full_copy(alloc: Global, log: &logfmt::Log, choice: &Choice) -> Result<Vec<u8>, AllocError> {
+    let mut image = Vec::new(alloc);
+    for _ in 0..log.sectors() {
+        image.extend_from_slice(&[0; 512])?;
+    }
+    for number in 0..choice.cut() {
+        if let Some(entry) = log.entries().get(number as usize) {
+            copy_entry(image.as_mut_slice(), entry, number, choice.departures());
+        }
+    }
+    Ok(image)
+}
+
+/// Checks each sector of a view against the slow form.
+fn check_copy(rt: &impl Abort, view: &View, image: &[u8], number: u64) {
+    let mut start: usize = 0;
+    for sector in 0..view.sectors() {
+        let end = start.wrapping_add(512);
+        let shown = view.sector(sector).map(|bytes| bytes.as_slice());
+        assert!(rt;
+            shown == image.get(start..end),
+            "image {number}, sector {sector}"
+        );
+        start = end;
+    }
+}
+
+fn check_number(
+    rt: &impl Abort,
+    alloc: Global,
+    plan: &Plan,
+    history: &History,
+    read: &logfmt::Log,
+    log: Log,
+    number: u64,
+) -> Result<(), Fail>
+    requires history { history.now ≡ plan.now }
+{
+    let Log(_, bound, tears, _, _) = log;
+    if bound > 3 {
+        return Err("a bound above 3".into());
+    }
+    if count(plan, bound, tears).is_ok_and(|counted| number < counted) {
+        let choice = nth(plan, bound, tears, number);
+        let view = history.view(alloc, &choice)?;
+        let image = full_copy(alloc, read, &choice)?;
+        check_copy(rt, &view, image.as_slice(), number);
+    }
+    Ok(())
+}
+
 fn check_log(rt: &impl Abort, alloc: Global, log: Log) -> Result<(), Fail> {
     let text = text_of(alloc, log.0)?;
     let read = read(alloc, &text, SECTORS)?;
@@ -124,12 +210,43 @@ fn check_log(rt: &impl Abort, alloc: Global, log: Log) -> Result<(), Fail> {
     for case in log.4 {
         check_case(rt, alloc, &plan, &history, log, *case)?;
     }
+    for number in 0..log.3 {
+        check_number(rt, alloc, &plan, &history, &read, log, number)?;
+    }
     Ok(())
 }
 
 #[test]
 fn images_are_those_of_the_model(rt: HostRuntime) -> Result<(), Fail> {
     let logs = [
+        // two_epochs
+        Log(
+            &[(0, 1, 0, 0xaa), (0, 0, FLUSH, 0), (0, 1, 0, 0xbb)],
+            1,
+            true,
+            20,
+            &[
+                Case(10, 2, &[(0, 0, 512, 0xaa)]),
+                Case(19, 3, &[(0, 0, 448, 0xbb), (0, 448, 512, 0xaa)]),
+            ],
+        ),
+        // two torn sectors
+        Log(
+            &[(0, 2, 0, 0xaa)],
+            2,
+            true,
+            82,
+            &[Case(
+                81,
+                1,
+                &[
+                    (0, 0, 448, 0xaa),
+                    (0, 448, 512, 0),
+                    (1, 0, 448, 0xab),
+                    (1, 448, 512, 0),
+                ],
+            )],
+        ),
         // overwritten_sector
         Log(
             &[(0, 1, 0, 0x11), (0, 1, 0, 0x22)],
@@ -436,6 +553,23 @@ fn check_many(rt: &impl Abort, alloc: Global, written: u64) -> Result<Option<usi
 fn key_has_64_sectors(rt: HostRuntime) -> Result<(), Fail> {
     assert_eq!(rt; check_many(&rt, rt.alloc(), 64)?, Some(64));
     assert_eq!(rt; check_many(&rt, rt.alloc(), 65)?, None);
+    Ok(())
+}
+
+#[test]
+fn last_sector_of_a_large_device_changes(rt: HostRuntime) -> Result<(), Fail> {
+    let text = text_of(rt.alloc(), &[(16383, 1, 0, 0x11)])?;
+    let log = read(rt.alloc(), &text, 16384)?;
+    let plan = Plan::new(rt.alloc(), &log, Cuts::All)?;
+    let history = History::new(rt.alloc(), &plan, &log)?;
+    let Some(key) = key_of(rt.alloc(), &plan, &history, 1, 0)? else {
+        return Err("no key".into());
+    };
+    assert_eq!(rt; key.changed().len(), 1);
+    for sector in key.changed() {
+        assert_eq!(rt; sector.number, 16383);
+        assert!(rt; sector.content.iter().all(|byte| *byte == 0x11));
+    }
     Ok(())
 }
 

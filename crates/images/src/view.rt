@@ -1,9 +1,12 @@
 //! The view of a crash image.
 
-ghost use Rattle.std.specs.Prelude.{◌≡◌, ◌≤◌, IfOk};
+ghost use Rattle.std.specs.Prelude.{◌≡◌, ◌<◌, ◌≤◌, length, slice_get, Some, IfOk};
 
-use crate::changes::{base_of, changed_sectors};
+use crate::changes::{MOST_SECTORS, changed_sectors};
+use crate::image::Sector;
 use crate::key::Key;
+use crate::torn::{TornSector, torn_content};
+use crate::versions::Versions;
 use arrayvec::ArrayVec;
 use choices::Departure;
 use helpers::{Context, Device};
@@ -11,31 +14,35 @@ use logfmt::Log;
 use std::alloc::{AllocError, Global};
 use std::marker::Model;
 
-/// A crash image as a device, with its context (docs/CRASH-MODEL.md).
+/// A crash image as a device, with its context (docs/CRASH-MODEL.md). It borrows its sectors from the
+/// log, but those in which a torn unit shows.
 ///
 /// Contracts see a view as a log, a cut and the departures.
 #[derive(Drop)]
 pub struct View<'a> {
-    pub(crate) log: &'a Log,
+    pub(crate) versions: Versions<'a>,
     pub(crate) cut: u32,
     pub(crate) departures: ArrayVec<Departure, 3>,
-    pub(crate) image: Vec<[u8; 512]>,
+    pub(crate) torn: ArrayVec<TornSector, 3>,
     pub(crate) context: Context,
 }
 
 impl<'a> Model for View<'a> {
-    ghost use Rattle.images.specs.Views.{ViewValue, IsView};
+    ghost use Rattle.images.specs.Views.{ViewValue};
+    ghost use Rattle.images.specs.Table.{IsView};
 
     ghost Value = { ViewValue };
 
-    ghost view = { λ v. record { log = v.log.now; cut = v.cut; departures = v.departures.items } };
+    ghost view = { λ v. record { log = v.versions; cut = v.cut; departures = v.departures.items } };
 
-    ghost invariant = { λ v. IsView (record { log = v.log.now; cut = v.cut; departures = v.departures.items }) v.image.items v.context };
+    ghost invariant = { λ v. IsView (record { log = v.versions; cut = v.cut; departures = v.departures.items }) v.torn.items v.context };
 }
 
 impl<'a> View<'a> {
-    ghost use Rattle.images.specs.Views.{context_at};
-    ghost use Rattle.images.specs.Keys.{key_of};
+    ghost use Rattle.epochs.specs.Laws.{last_flush};
+    ghost use Rattle.images.specs.Views.{context_at, sectors_of};
+    ghost use Rattle.images.specs.Keys.{base_of, differs, key_of};
+    ghost use Rattle.images.specs.Table.{AreSpared};
 
     /// The context of the image: how many sectors the device has, the epoch of the cut, and how many
     /// marks stand before it.
@@ -48,14 +55,57 @@ impl<'a> View<'a> {
         self.context
     }
 
+    /// The log.
+    pub(crate) fn log(&self) -> &Log
+        ensures { result.now ≡ self.now.log }
+    {
+        self.versions.log()
+    }
+
+    /// The cut.
+    pub(crate) fn cut(&self) -> u32
+        ensures value { result ≡ self.now.cut }
+        ensures within { result ≤ length self.now.log.entries }
+    {
+        self.cut
+    }
+
+    /// A sector of the image.
+    pub(crate) fn shown(&self, number: u32) -> &Sector
+        requires { number < self.now.log.sectors }
+        ensures { slice_get (sectors_of self.now) number ≡ Some result.now }
+    {
+        match self
+            .versions
+            .lent(number, self.cut, self.departures.as_slice())
+        {
+            Some(sector) => sector,
+            None => torn_content(self.torn.as_slice(), number),
+        }
+    }
+
+    /// Whether a sector of the image has another content than in the base, where marks tell which sectors
+    /// entries from the last flush on cover.
+    pub(crate) fn is_changed(&self, number: u32, flush: u32, marks: &[bool; MOST_SECTORS]) -> bool
+        requires number { number < self.now.log.sectors }
+        requires flush { flush ≡ last_flush self.now.log.entries self.now.cut }
+        requires marks { AreSpared self.now.log flush self.now.cut marks.now }
+        ensures { result ≡ differs (base_of self.now.log self.now.cut) (sectors_of self.now) number }
+    {
+        let versions = &self.versions;
+        if !marks[number as usize] {
+            return false;
+        }
+        !lanes::same(versions.durable(number, flush), self.shown(number))
+    }
+
     /// The key of the image and of the program with that number: `None` where more than 64 sectors
-    /// differ from the base of the cut. The base is formed anew at each call, so a call takes the memory
-    /// of the device, and a copy of a sector for each unit that the last flush has made durable.
+    /// differ from the base of the cut. A call looks at the sectors that were touched behind the last
+    /// flush, and takes memory for those that differ.
     pub fn key(&self, alloc: Global, program: u8) -> Result<Option<Key>, AllocError>
         ensures { IfOk result (λ key. key ≡ key_of self.now program) }
     {
-        let base = base_of(alloc, self.log, self.cut)?;
-        match changed_sectors(alloc, base.as_slice(), self.image.as_slice())? {
+        match changed_sectors(alloc, self)? {
             Some(changed) => Ok(Some(Key {
                 program,
                 epoch: self.context.epoch,
@@ -74,11 +124,15 @@ impl<'a> Device for View<'a> {
     ghost content = { λ v. sectors_of v };
 
     fn sectors(&self) -> u32 {
-        self.log.sectors()
+        self.log().sectors()
     }
 
     fn sector(&self, n: u32) -> Option<&[u8; 512]> {
-        self.image.get(n as usize)
+        if n < self.context.sectors {
+            Some(self.shown(n))
+        } else {
+            None
+        }
     }
 
     ghost whole = { λ v n s h. whole_view v n s h };

@@ -1,13 +1,32 @@
-use Rattle.std.proofs.Common.{◌≤◌, length, ◌∙◌, ap, sym, arith}
-use Rattle.logfmt.specs.Bounds.{LogValue}
-use Rattle.epochs.specs.Plan.{PlanValue}
-use Rattle.images.proofs.Members.{member_cut, shows_view}
+use Rattle.std.proofs.Common.{ℕ, ◌≡◌, List, length, slice_get, ◌∙◌, ap, sym, subst, arith}
+use Rattle.logfmt.specs.Bounds.{LogValue, IsLog}
+use Rattle.epochs.specs.Plan.{PlanValue, IsUnit}
+use Rattle.choices.specs.declared.choice.Departure.{Departure}
+use Rattle.images.specs.Table.{AreVolatile}
+use Rattle.images.proofs.Members.{member_cut, member_departs, volatile_unit, shows_view}
 use Rattle.images.proofs.history.History.view.Goals as goal
 
-pub image_of-requires : goal.image_of-requires
-image_of-requires c =
+pub torn_sectors-torn-requires-clause-bounds : goal.torn_sectors-torn-requires-clause-bounds
+torn_sectors-torn-requires-clause-bounds c =
+    let P : LogValue → Type 0 = λ l. IsLog l in
+    subst P (sym c.of-versions.ensures) c.self.invariant.1.bounds
+
+pub torn_sectors-torn-requires-clause-cut : goal.torn_sectors-torn-requires-clause-cut
+torn_sectors-torn-requires-clause-cut c =
     let cut = member_cut _ _ c.requires in
-    omega (arith, cut, c.cut-cut.ensures, ap (λ (p : PlanValue). length p.log.entries) c.self.view_is, ap (λ (l : LogValue). length l.entries) c.self.invariant)
+    let one = ap (λ (p : PlanValue). length p.log.entries) c.self.view_is in
+    let two = ap (λ (l : LogValue). length l.entries) c.self.invariant.0 in
+    let three = ap (λ (l : LogValue). length l.entries) c.of-versions.ensures in
+    omega (arith, cut, c.cut-cut.ensures, one, two, three)
+
+pub torn_sectors-torn-requires-clause-units : goal.torn_sectors-torn-requires-clause-units
+torn_sectors-torn-requires-clause-units c = λ i d there.
+    let same : c.args.self.now.log ≡ c.of-versions.result = ap (λ (p : PlanValue). p.log) (sym c.self.view_is) ∙ c.self.invariant.0 ∙ sym c.of-versions.ensures in
+    let P : LogValue → Type 0 = λ l. IsLog l in
+    let Q : LogValue → Type 0 = λ l. IsUnit l d.unit in
+    let bounds = subst P (sym (ap (λ (p : PlanValue). p.log) (sym c.self.view_is) ∙ c.self.invariant.0)) c.self.invariant.1.bounds in
+    let own = ap (λ ds. slice_get ds i) (sym c.departures.ensures.value) ∙ there in
+    subst Q same (volatile_unit c.args.self.now.log c.args.choice.now.cut d.unit bounds (member_departs c.args.self.now c.args.choice.now c.requires i d own))
 
 pub epoch-requires : goal.epoch-requires
 epoch-requires c =
@@ -21,8 +40,20 @@ marks-requires c =
 
 pub invariant_of-result : goal.invariant_of-result
 invariant_of-result c =
+    let choice = c.args.choice.now in
+    let log = c.of-versions.result in
+    let planned : c.self.inside.plan.now.log ≡ log = c.self.invariant.0 ∙ sym c.of-versions.ensures in
+    let same : c.args.self.now.log ≡ log = ap (λ (p : PlanValue). p.log) (sym c.self.view_is) ∙ planned in
+    let P : LogValue → Type 0 = λ l. AreVolatile l choice.cut choice.departures in
+    let Q : ℕ → Type 0 = λ k. AreVolatile log k choice.departures in
+    let R : List Departure → Type 0 = λ ds. AreVolatile log c.cut-cut.result ds in
+    let S : LogValue → Type 0 = λ l. IsLog l in
+    let volatile = subst R (sym c.departures.ensures.value) (subst Q (sym c.cut-cut.ensures) (subst P same (member_departs c.args.self.now choice c.requires))) in
     let cut = member_cut _ _ c.requires in
-    let within : c.cut-cut.result ≤ length c.self.inside.log.now.entries = omega (arith, cut, c.cut-cut.ensures, ap (λ (p : PlanValue). length p.log.entries) c.self.view_is, ap (λ (l : LogValue). length l.entries) c.self.invariant) in
-    shows_view _ _ _ _ _ _ _ _ _ c.sectors.ensures.bounds c.self.invariant within c.in_ok-image.ensures
+    let long = ap (λ (l : LogValue). length l.entries) same in
+    shows_view log c.self.inside.plan.now.log c.cut-cut.result c.owned.result.items c.departures.result.now c.torn_sectors-torn.result.items
+    c.sectors.result c.epoch.result c.marks.result
+    (subst S (sym c.of-versions.ensures) c.self.invariant.1.bounds) planned (omega (arith, cut, c.cut-cut.ensures, long)) volatile c.torn_sectors-torn.ensures
     (c.owned.ensures ∙ c.departures-2.ensures.value ∙ sym c.departures.ensures.value)
-    c.sectors.ensures.value c.epoch.ensures.value c.marks.ensures.value c.epoch.ensures.bound c.marks.ensures.bound
+    (c.sectors.ensures.value ∙ ap (λ (l : LogValue). l.sectors) (sym c.of-versions.ensures))
+    c.epoch.ensures.value c.marks.ensures.value c.epoch.ensures.bound c.marks.ensures.bound

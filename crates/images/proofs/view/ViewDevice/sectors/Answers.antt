@@ -1,10 +1,7 @@
 use Rattle.std.proofs.Common.{◌∙◌, sym, ap}
-use Rattle.images.specs.Views.{ViewValue}
+use Rattle.logfmt.specs.Bounds.{LogValue}
 use Rattle.images.specs.Whole.{length_view}
 use Rattle.images.proofs.view.ViewDevice.sectors.Goals as goal
 
 pub returns : goal.returns
-returns c =
-    c.sectors.ensures.value
-    ∙ ap (λ (v : ViewValue). v.log.sectors) c.self.view_is
-    ∙ sym (length_view c.args.self.now)
+returns c = c.sectors.ensures.value ∙ ap (λ (l : LogValue). l.sectors) c.log.ensures ∙ sym (length_view c.args.self.now)

@@ -1,0 +1,131 @@
+-- What units that cover one sector leave on it: the last of them over what the others leave.
+use Rattle.std.proofs.Common.{ℕ, zero, suc, ◌≡◌, ◌≢◌, ◌*◌, ◌<◌, ◌≤◌, ◌==◌, nat_lt, Bool, true, false, not, cond, List, [], ◌∷◌, ◌++◌, length, map, filter, take, drop, replicate, slice_get, Some, None, refl, sym, subst, ◌∙◌, ap, arith}
+use Rattle.std.specs.List.{last_or, slice_index, range_with_len}
+use Rattle.std.specs.Option.{option_map_or}
+use Rattle.std.proofs.lemmas.Bool.{le-ltb}
+use Rattle.std.proofs.lemmas.List.{append-nil, take_all, drop_all, get_or-replicate, length-replicate}
+use Rattle.std.proofs.lemmas.Option.{get_or_from_slice_get, slice_get_within}
+use Rattle.base.proofs.Lists.{take-suc_place}
+use Rattle.logfmt.specs.declared.entry.Entry.{Entry}
+use Rattle.logfmt.specs.Bounds.{LogValue, IsLog}
+use Rattle.epochs.specs.declared.unit.Unit.{Unit as LogUnit}
+use Rattle.epochs.specs.Units.{units_before, unit_content}
+use Rattle.epochs.specs.Plan.{IsUnit}
+use Rattle.choices.specs.declared.choice.Departure.{Departure}
+use Rattle.images.specs.Images.{survives, writes, byte_after, sector_after}
+use Rattle.images.specs.Whole.{length-sector_after}
+use Rattle.images.specs.Table.{covering, versions, showing, is_torn}
+use Rattle.images.proofs.Blank.{zero_sector}
+use Rattle.images.proofs.Laying.{sector_here}
+use Rattle.images.proofs.Rows.{units_of_log}
+use Rattle.images.proofs.Showing.{shows, sector_by_bytes}
+
+-- a list in two parts, the last element and those before it
+in_front : (row : List LogUnit) (last : ℕ) (u : LogUnit) → suc last ≡ length row → slice_get row last ≡ Some u → take last row ++ u ∷ [] ≡ row
+in_front row last u long there = sym (take-suc_place row last u there) ∙ take_all (suc last) row (omega (arith, long))
+
+pub spliced : (es : List Entry) (row : List LogUnit) (ds : List Departure) (s last : ℕ) (u : LogUnit) (new old : List ℕ) (n : ℕ)
+    → suc last ≡ length row → slice_get row last ≡ Some u → u.sector ≡ s → n ≤ 8
+    → new ≡ unit_content es u → length new ≡ 512 → old ≡ sector_after es (take last row) ds s
+    → ((i : ℕ) → i < 512 → survives ds i u ≡ nat_lt i (64 * n))
+    → take (64 * n) new ++ drop (64 * n) old ≡ sector_after es row ds s
+spliced es row ds s last u new old n long there here le content size below kept =
+    sector_here es (take last row) u ds new old n le content size (below ∙ ap (sector_after es (take last row) ds) (sym here)) kept
+    ∙ ap (sector_after es (take last row ++ u ∷ []) ds) here ∙ ap (λ us. sector_after es us ds s) (in_front row last u long there)
+
+pub whole_last : (es : List Entry) (row : List LogUnit) (ds : List Departure) (s last : ℕ) (u : LogUnit) (new : List ℕ) (n : ℕ)
+    → suc last ≡ length row → slice_get row last ≡ Some u → u.sector ≡ s → n ≡ 8
+    → new ≡ unit_content es u → length new ≡ 512
+    → ((i : ℕ) → i < 512 → survives ds i u ≡ nat_lt i (64 * n))
+    → new ≡ sector_after es row ds s
+whole_last es row ds s last u new n long there here all content size kept =
+    let old : List ℕ = sector_after es (take last row) ds s in
+    let old_long : length old ≡ 512 = length-sector_after es (take last row) ds s in
+    let full : (i : ℕ) → i < 512 → survives ds i u ≡ nat_lt i 512 = λ i lt. kept i lt ∙ ap (λ m. nat_lt i (64 * m)) all in
+    let front : take 512 new ≡ new = take_all 512 new (omega (arith, size)) in
+    let behind : drop 512 old ≡ [] = drop_all 512 old (omega (arith, old_long)) in
+    sym front ∙ sym (append-nil (take 512 new)) ∙ ap (λ xs. take 512 new ++ xs) (sym behind)
+    ∙ spliced es row ds s last u new old 8 long there here (omega arith) content size refl full
+
+pub nothing : (es : List Entry) (row : List LogUnit) (ds : List Departure) (s : ℕ) → length row ≡ 0 → replicate {A = ℕ} 512 0 ≡ sector_after es row ds s
+nothing es [] ds s none = sym (zero_sector es ds s)
+nothing es (u ∷ us) ds s none = absurd (omega (arith, none))
+
+pub in_take : (n : ℕ) (us : List LogUnit) (i : ℕ) (u : LogUnit) → slice_get (take n us) i ≡ Some u → slice_get us i ≡ Some u
+in_take zero us i u h = absurd (let bad : None ≡ Some u = h in cc)
+in_take (suc n) [] i u h = absurd (let bad : None ≡ Some u = h in cc)
+in_take (suc n) (v ∷ vs) zero u h = h
+in_take (suc n) (v ∷ vs) (suc i) u h = in_take n vs i u h
+
+-- units of other sectors leave nothing on a sector
+narrowed : (w p : LogUnit → Bool) → ((v : LogUnit) → p v ≡ false → w v ≡ false) → (us : List LogUnit) → filter w (filter p us) ≡ filter w us
+narrowed w p off [] = refl
+narrowed w p off (v ∷ vs) =
+    let rest = narrowed w p off vs in
+    let by : (b : Bool) → p v ≡ b → filter w (cond b (v ∷ filter p vs) (filter p vs)) ≡ cond (w v) (v ∷ filter w vs) (filter w vs) =
+    λ b. elim b as (λ c. p v ≡ c → filter w (cond c (v ∷ filter p vs) (filter p vs)) ≡ cond (w v) (v ∷ filter w vs) (filter w vs)) [
+      | true ↦ λ e. ap (λ xs. cond (w v) (v ∷ xs) xs) rest
+      | false ↦ λ e. rest ∙ sym (ap (λ c. cond c (v ∷ filter w vs) (filter w vs)) (off v e))
+    ] in
+    by (p v) refl
+
+no_writer : (ds : List Departure) (s i : ℕ) (v : LogUnit) → (v.sector == s) ≡ false → writes ds s i v ≡ false
+unfolding writes
+no_writer ds s i v other = rw other refl
+
+pub sector_of_row : (es : List Entry) (us : List LogUnit) (ds : List Departure) (s : ℕ) → sector_after es (covering s us) ds s ≡ sector_after es us ds s
+unfolding sector_after byte_after covering
+sector_of_row es us ds s =
+    ap (λ (f : ℕ → ℕ). map f (range_with_len 0 512))
+    (λ j i. ap (λ (vs : List LogUnit). option_map_or (λ (u : LogUnit). slice_index (unit_content es u) i) (last_or None vs) 0)
+    (narrowed (writes ds s i) (λ (u : LogUnit). u.sector == s) (no_writer ds s i) us) j)
+
+-- a sector that is lent
+pub lent_zeros : (es : List Entry) (k s : ℕ) (ds : List Departure) → showing ds (versions es k s) ≡ None
+    → replicate {A = ℕ} 512 0 ≡ sector_after es (units_before es k) ds s
+lent_zeros es k s ds none =
+    let zeros : List ℕ = replicate {A = ℕ} 512 0 in
+    let all = shows es ds s (units_before es k) in
+    sector_by_bytes es (units_before es k) ds s zeros (length-replicate {A = ℕ} 512 0)
+    (λ i lt. all.nobody none i ∙ sym (get_or-replicate {A = ℕ} 512 i 0 0 lt))
+
+pub lent_whole : (es : List Entry) (k s : ℕ) (ds : List Departure) (u : LogUnit) (content : List ℕ) (n : ℕ) → showing ds (versions es k s) ≡ Some u
+    → ((i : ℕ) → i < 512 → survives ds i u ≡ nat_lt i (64 * n)) → n ≡ 8 → content ≡ unit_content es u → length content ≡ 512
+    → content ≡ sector_after es (units_before es k) ds s
+lent_whole es k s ds u content n at kept all is long =
+    let own = shows es ds s (units_before es k) in
+    let full : survives ds 511 u ≡ true = kept 511 (omega arith) ∙ ap (λ m. nat_lt 511 (64 * m)) all in
+    sector_by_bytes es (units_before es k) ds s content long
+    (λ i lt. own.whole u at full i lt ∙ ap (λ bytes. slice_index bytes i) (sym is))
+
+-- whether a torn unit shows
+pub not_torn_zeros : (ds : List Departure) (row : List LogUnit) → showing ds row ≡ None → false ≡ is_torn ds row
+unfolding is_torn
+not_torn_zeros ds row none = sym (ap (λ o. option_map_or (λ (u : LogUnit). not (survives ds 511 u)) o false) none)
+
+torn_by : (ds : List Departure) (row : List LogUnit) (u : LogUnit) → showing ds row ≡ Some u → is_torn ds row ≡ not (survives ds 511 u)
+unfolding is_torn
+torn_by ds row u at = ap (λ o. option_map_or (λ (v : LogUnit). not (survives ds 511 v)) o false) at
+
+pub not_torn_whole : (ds : List Departure) (row : List LogUnit) (u : LogUnit) (n : ℕ) → showing ds row ≡ Some u
+    → ((i : ℕ) → i < 512 → survives ds i u ≡ nat_lt i (64 * n)) → n ≡ 8 → false ≡ is_torn ds row
+not_torn_whole ds row u n at kept all =
+    let full : survives ds 511 u ≡ true = kept 511 (omega arith) ∙ ap (λ m. nat_lt 511 (64 * m)) all in
+    sym (torn_by ds row u at ∙ ap not full)
+
+pub torn_shows : (ds : List Departure) (row : List LogUnit) (u : LogUnit) (n : ℕ) → showing ds row ≡ Some u
+    → ((i : ℕ) → i < 512 → survives ds i u ≡ nat_lt i (64 * n)) → n ≤ 8 → n ≢ 8 → true ≡ is_torn ds row
+torn_shows ds row u n at kept le other =
+    let part : survives ds 511 u ≡ false = kept 511 (omega arith) ∙ le-ltb 511 (64 * n) (omega (arith, le, other)) in
+    sym (torn_by ds row u at ∙ ap not part)
+
+-- the unit that shows is one of the log
+pub unit_showing : (log : LogValue) (k s : ℕ) (ds : List Departure) (u : LogUnit) → IsLog log → k ≤ length log.entries
+    → showing ds (versions log.entries k s) ≡ Some u → IsUnit log u × (u.sector ≡ s)
+unit_showing log k s ds u is le at =
+    let us = units_before log.entries k in
+    let place = (shows log.entries ds s us).there u at in
+    let P : LogUnit → Type 0 = λ v. IsUnit log v × (v.entry < k) in
+    let read = get_or_from_slice_get us place.0 u u place.1 in
+    let unit = subst P read (units_of_log log k is le place.0 u (slice_get_within us place.0 u place.1)) in
+    (unit.0, place.2)

@@ -1,0 +1,146 @@
+-- The sectors in which a torn unit shows: each has a departure of that unit.
+use Rattle.std.proofs.Common.{ℕ, suc, ◌≡◌, ◌+◌, ◌<◌, ◌≤◌, ◌==◌, Bool, true, false, not, ◌&&◌, ◌||◌, List, [], ◌∷◌, ◌++◌, length, slice_get, Option, Some, None, refl, sym, subst, ◌∙◌, ap, inl, inr, arith, length-append}
+use Rattle.std.specs.Option.{option_map_or, is_some, is_none}
+use Rattle.std.specs.Cmp.{first_so, second_so}
+use Rattle.std.proofs.lemmas.Bool.{cases_lt, eqb-true}
+use Rattle.std.proofs.lemmas.Option.{slice_get_within, same_Some}
+use Rattle.base.proofs.Lists.{slice_get-append_left, slice_get-push, slice_get_of_push}
+use Rattle.logfmt.specs.declared.entry.Entry.{Entry}
+use Rattle.logfmt.specs.Bounds.{LogValue, IsLog}
+use Rattle.epochs.specs.declared.unit.Unit.{Unit as LogUnit}
+use Rattle.epochs.specs.Units.{units_before}
+use Rattle.epochs.specs.Plan.{IsUnit}
+use Rattle.choices.specs.declared.choice.Departure.{Departure}
+use Rattle.images.specs.declared.torn.TornSector.{TornSector}
+use Rattle.images.specs.Images.{is_unit, keeps, survives, sector_after}
+use Rattle.images.specs.Table.{versions, showing, is_torn, HasSector, AreTorn}
+use Rattle.images.proofs.Spliced.{unit_showing}
+
+-- what is torn by the first n departures
+pub record TornSoFar (log : LogValue) (cut : ℕ) (ds : List Departure) (n : ℕ) (torn : List TornSector) : Type 0 where
+  pub few : length torn ≤ n
+  pub bytes : (j : ℕ) (t : TornSector) → slice_get torn j ≡ Some t
+      → t.content ≡ sector_after log.entries (units_before log.entries cut) ds t.number
+  pub each : (i : ℕ) (d : Departure) → i < n → slice_get ds i ≡ Some d → is_torn ds (versions log.entries cut d.unit.sector) ≡ true
+      → HasSector torn d.unit.sector
+
+pub none_torn : (log : LogValue) (cut : ℕ) (ds : List Departure) (torn : List TornSector) → torn ≡ [] → TornSoFar log cut ds 0 torn
+none_torn log cut ds torn none =
+    let first : TornSoFar log cut ds 0 [] = record {
+      few = omega arith;
+      bytes = λ j t there. absurd (let bad : None ≡ Some t = there in cc);
+      each = λ i d lt there shows. absurd (omega (arith, lt));
+    } in
+    let P : List TornSector → Type 0 = λ ts. TornSoFar log cut ds 0 ts in
+    subst P (sym none) first
+
+-- a departure of a unit that isn't torn or doesn't show
+pub not_torn : (log : LogValue) (cut : ℕ) (ds : List Departure) (n : ℕ) (torn : List TornSector) (d : Departure) → TornSoFar log cut ds n torn
+    → slice_get ds n ≡ Some d → false ≡ is_torn ds (versions log.entries cut d.unit.sector) → TornSoFar log cut ds (n + 1) torn
+not_torn log cut ds n torn d was here whole = record {
+  few = let few = was.few in omega (arith, few);
+  bytes = was.bytes;
+  each = λ i e lt there shows. elim (cases_lt i n) [
+    | inl less ↦ was.each i e less there shows
+    | inr past ↦
+        let same : i ≡ n = omega (arith, lt, past) in
+        let one : e ≡ d = same_Some e d (sym there ∙ ap (slice_get ds) same ∙ here) in
+        let bad : false ≡ true = whole ∙ ap (λ (f : Departure). is_torn ds (versions log.entries cut f.unit.sector)) (sym one) ∙ shows in
+        absurd (let b : false ≡ true = bad in cc)
+  ];
+}
+
+pub one_torn : (log : LogValue) (cut : ℕ) (ds : List Departure) (n : ℕ) (torn more : List TornSector) (d : Departure) (t : TornSector)
+    → TornSoFar log cut ds n torn → slice_get ds n ≡ Some d → more ≡ torn ++ t ∷ [] → t.number ≡ d.unit.sector
+    → t.content ≡ sector_after log.entries (units_before log.entries cut) ds d.unit.sector → TornSoFar log cut ds (n + 1) more
+one_torn log cut ds n torn more d t was here is number content =
+    let long = ap length is ∙ length-append torn (t ∷ []) in
+    record {
+      few = let few = was.few in omega (arith, few, long);
+      bytes = λ j s there. elim (slice_get_of_push torn t j s (ap (λ ts. slice_get ts j) (sym is) ∙ there)) [
+        | inl old ↦ was.bytes j s old
+        | inr last ↦ ap (λ (x : TornSector). x.content) last.1 ∙ content
+            ∙ ap (sector_after log.entries (units_before log.entries cut) ds) (sym number ∙ ap (λ (x : TornSector). x.number) (sym last.1))
+      ];
+      each = λ i e lt there shows. elim (cases_lt i n) [
+        | inl less ↦
+            let has = was.each i e less there shows in
+            (has.0, has.1, ap (λ ts. slice_get ts has.0) is ∙ slice_get-append_left torn (t ∷ []) has.0 (slice_get_within torn has.0 has.1 has.2) ∙ has.2, has.3)
+        | inr past ↦
+            let same : i ≡ n = omega (arith, lt, past) in
+            let one : e ≡ d = same_Some e d (sym there ∙ ap (slice_get ds) same ∙ here) in
+            (length torn, t, ap (λ ts. slice_get ts (length torn)) is ∙ slice_get-push torn t, number ∙ ap (λ (f : Departure). f.unit.sector) (sym one))
+      ];
+    }
+
+-- a unit of which a byte is lost has a departure
+some_departure : (ds : List Departure) (u : LogUnit) (i : ℕ) → survives ds i u ≡ false
+    → (j : ℕ) × (d : Departure) × (slice_get ds j ≡ Some d) × (is_unit d.unit u ≡ true)
+unfolding survives
+some_departure [] u i lost = absurd (let bad : true ≡ false = lost in cc)
+some_departure (d ∷ ds) u i lost =
+    let by : (b : Bool) → is_unit d.unit u ≡ b → (j : ℕ) × (e : Departure) × (slice_get (d ∷ ds) j ≡ Some e) × (is_unit e.unit u ≡ true) =
+    λ b. elim b as (λ c. is_unit d.unit u ≡ c → (j : ℕ) × (e : Departure) × (slice_get (d ∷ ds) j ≡ Some e) × (is_unit e.unit u ≡ true)) [
+      | true ↦ λ e. (0, d, refl, e)
+      | false ↦ λ e.
+          let rest = some_departure ds u i (sym (ap (λ c. (not c || keeps d.fate i) && survives ds i u) e) ∙ lost) in
+          (suc rest.0, rest.1, rest.2, rest.3)
+    ] in
+    by (is_unit d.unit u) refl
+
+-- units of one entry and place are of one sector
+one_sector : (log : LogValue) (a b : LogUnit) → IsUnit log a → IsUnit log b → is_unit a b ≡ true → a.sector ≡ b.sector
+one_sector log a b one two same =
+    let entry : a.entry ≡ b.entry = eqb-true a.entry b.entry (first_so (a.entry == b.entry) (a.place == b.place) same) in
+    let place : a.place ≡ b.place = eqb-true a.place b.place (second_so (a.entry == b.entry) (a.place == b.place) same) in
+    let own : one.entry ≡ two.entry = same_Some one.entry two.entry (sym one.there ∙ ap (slice_get log.entries) entry ∙ two.there) in
+    let first = ap (λ (e : Entry). e.sector) own in
+    let left = one.sector in
+    let right = two.sector in
+    omega (arith, first, left, right, place)
+
+untold : (b : Bool) → not b ≡ true → b ≡ false
+untold true h = sym h
+untold false h = refl
+
+unit_torn : (ds : List Departure) (row : List LogUnit) → is_torn ds row ≡ true → (u : LogUnit) × (showing ds row ≡ Some u) × (survives ds 511 u ≡ false)
+unfolding is_torn
+unit_torn ds row torn =
+    let of : (o : Option LogUnit) → showing ds row ≡ o → option_map_or (λ (u : LogUnit). not (survives ds 511 u)) o false ≡ true
+    → (u : LogUnit) × (showing ds row ≡ Some u) × (survives ds 511 u ≡ false) =
+    λ o. elim o as (λ p. showing ds row ≡ p → option_map_or (λ (u : LogUnit). not (survives ds 511 u)) p false ≡ true
+    → (u : LogUnit) × (showing ds row ≡ Some u) × (survives ds 511 u ≡ false)) [
+      | None ↦ λ e h. absurd (let bad : false ≡ true = h in cc)
+      | Some u ↦ λ e h. (u, e, untold (survives ds 511 u) h)
+    ] in
+    of (showing ds row) refl torn
+
+pub all_torn : (log : LogValue) (cut : ℕ) (ds : List Departure) (n : ℕ) (torn : List TornSector) → IsLog log → cut ≤ length log.entries
+    → ((i : ℕ) (d : Departure) → slice_get ds i ≡ Some d → IsUnit log d.unit) → length ds ≤ n
+    → TornSoFar log cut ds n torn → AreTorn log cut ds torn
+all_torn log cut ds n torn is le units all so = record {
+  bytes = so.bytes;
+  all = λ s lt torn_there.
+      let shown = unit_torn ds (versions log.entries cut s) torn_there in
+      let unit = unit_showing log cut s ds shown.0 is le shown.1 in
+      let departs = some_departure ds shown.0 511 shown.2 in
+      let d = departs.1 in
+      let sector : d.unit.sector ≡ s = one_sector log d.unit shown.0 (units departs.0 d departs.2) unit.0 departs.3 ∙ unit.1 in
+      let within = slice_get_within ds departs.0 d departs.2 in
+      let has = so.each departs.0 d (omega (arith, within, all)) departs.2 (ap (λ m. is_torn ds (versions log.entries cut m)) sector ∙ torn_there) in
+      (has.0, has.1, has.2, has.3 ∙ sector);
+}
+
+pub torn_if : {A : Type 0} (o : Option A) (t b : Bool) → is_some o ≡ not b → is_none o ≡ t → b ≡ t
+torn_if None t true some none = none
+torn_if None t false some none = absurd (let bad : false ≡ true = some in cc)
+torn_if (Some x) t true some none = absurd (let bad : true ≡ false = some in cc)
+torn_if (Some x) t false some none = none
+
+-- no torn unit shows where nothing departs
+pub none_departs : (row : List LogUnit) → is_torn [] row ≡ false
+unfolding is_torn survives
+none_departs row =
+    let of : (o : Option LogUnit) → option_map_or (λ (u : LogUnit). not (survives [] 511 u)) o false ≡ false =
+    λ o. elim o as (λ p. option_map_or (λ (u : LogUnit). not (survives [] 511 u)) p false ≡ false) [ None ↦ refl | Some u ↦ refl ] in
+    of (showing [] row)

@@ -1,0 +1,33 @@
+use Rattle.std.proofs.Common.{refl, sym, ◌∙◌}
+use Rattle.std.proofs.lemmas.Option.{slice_get_read}
+use Rattle.images.proofs.Tears.{not_torn, one_torn, all_torn, torn_if}
+use Rattle.images.proofs.torn.torn_sectors.Goals as goal
+use Rattle.images.proofs.torn.torn_sectors.Goals.{then-is_none, else-is_none}
+
+pub lent-requires-clause-number : goal.lent-requires-clause-number
+lent-requires-clause-number c =
+    let there = slice_get_read c.args.departures.now _ c.loop-departure.departure-index _ refl c.loop-departure-test.true c.departure-item.is in
+    (c.requires.units c.loop-departure.departure-index _ there).device
+
+pub formed-requires-clause-number : goal.formed-requires-clause-number
+formed-requires-clause-number c =
+    let there = slice_get_read c.args.departures.now _ c.loop-departure.departure-index _ refl c.loop-departure-test.true c.departure-item.is in
+    (c.requires.units c.loop-departure.departure-index _ there).device
+
+pub loop-departure-preserved : goal.loop-departure-preserved
+loop-departure-preserved c =
+    let log = c.args.versions.now in
+    let ds = c.args.departures.now in
+    let there = slice_get_read ds _ c.loop-departure.departure-index _ refl c.loop-departure-test.true c.departure-item.is in
+    elim c.if-is_none.branch [
+      | then-is_none w ↦
+          rw w.torn-is (one_torn log c.args.cut ds c.loop-departure.departure-index c.loop-departure.torn.items _ c.departure-item.result _ c.loop-departure.invariant there w.push.ensures.items refl w.formed.ensures)
+      | else-is_none w ↦
+          rw w.torn-is (not_torn log c.args.cut ds c.loop-departure.departure-index c.loop-departure.torn.items c.departure-item.result c.loop-departure.invariant there
+          (sym w.if-is_none.false ∙ torn_if c.lent.result _ c.is_none.result c.is_none.ensures c.lent.ensures.torn))
+    ]
+
+pub returns : goal.returns
+returns c =
+    all_torn c.args.versions.now c.args.cut c.args.departures.now c.loop-departure.departure-index c.loop-departure.torn.items
+    c.requires.bounds c.requires.cut c.requires.units c.loop-departure-test.false c.loop-departure.invariant

@@ -1,0 +1,45 @@
+use Rattle.std.proofs.Common.{length, sym, ◌∙◌, ap, arith}
+use Rattle.logfmt.specs.Bounds.{LogValue}
+use Rattle.epochs.specs.Units.{units_before}
+use Rattle.images.specs.Images.{sector_after}
+use Rattle.images.specs.Table.{versions, showing}
+use Rattle.images.proofs.Spliced.{lent_zeros, lent_whole, not_torn_zeros, not_torn_whole, torn_shows, unit_showing}
+use Rattle.images.proofs.versions.Versions.lent.Goals as goal
+
+pub returns-in_default-clause-lent : goal.returns-in_default-clause-lent
+returns-in_default-clause-lent c =
+    lent_zeros c.args.self.now.entries c.args.cut c.args.number c.args.departures.now
+    (sym (c.showing.ensures ∙ ap (showing c.args.departures.now) c.before-2.ensures) ∙ c.in_default.is)
+
+pub returns-in_default-clause-torn : goal.returns-in_default-clause-torn
+returns-in_default-clause-torn c =
+    not_torn_zeros c.args.departures.now (versions c.args.self.now.entries c.args.cut c.args.number)
+    (sym (c.showing.ensures ∙ ap (showing c.args.departures.now) c.before-2.ensures) ∙ c.in_default.is)
+
+pub content_of-requires : goal.content_of-requires
+content_of-requires c =
+    let at = sym (c.showing.ensures ∙ ap (showing c.args.departures.now) c.before-2.ensures) ∙ c.in-Some.is in
+    let inside = ap (λ (l : LogValue). showing c.args.departures.now (versions l.entries c.args.cut c.args.number)) c.self.view_is ∙ at in
+    let long = ap (λ (l : LogValue). length l.entries) c.self.view_is in
+    let cut = c.requires.cut in
+    (unit_showing c.self.inside.log.now c.args.cut c.args.number c.args.departures.now _ c.self.invariant.bounds (omega (arith, long, cut)) inside).0
+
+pub returns-then-kept-eq-WHOLE-clause-lent : goal.returns-then-kept-eq-WHOLE-clause-lent
+returns-then-kept-eq-WHOLE-clause-lent c =
+    let at = sym (c.showing.ensures ∙ ap (showing c.args.departures.now) c.before-2.ensures) ∙ c.in-Some.is in
+    let inside = ap (λ (l : LogValue). showing c.args.departures.now (versions l.entries c.args.cut c.args.number)) c.self.view_is ∙ at in
+    lent_whole c.self.inside.log.now.entries c.args.cut c.args.number c.args.departures.now _ _ c.kept.result inside c.kept.ensures.value c.if-kept-eq-WHOLE.true
+    c.content_of.ensures.value c.content_of.ensures.size
+    ∙ ap (λ (l : LogValue). sector_after l.entries (units_before l.entries c.args.cut) c.args.departures.now c.args.number) c.self.view_is
+
+pub returns-then-kept-eq-WHOLE-clause-torn : goal.returns-then-kept-eq-WHOLE-clause-torn
+returns-then-kept-eq-WHOLE-clause-torn c =
+    not_torn_whole c.args.departures.now (versions c.args.self.now.entries c.args.cut c.args.number) _ c.kept.result
+    (sym (c.showing.ensures ∙ ap (showing c.args.departures.now) c.before-2.ensures) ∙ c.in-Some.is)
+    c.kept.ensures.value c.if-kept-eq-WHOLE.true
+
+pub returns-else-kept-eq-WHOLE-clause-torn : goal.returns-else-kept-eq-WHOLE-clause-torn
+returns-else-kept-eq-WHOLE-clause-torn c =
+    torn_shows c.args.departures.now (versions c.args.self.now.entries c.args.cut c.args.number) _ c.kept.result
+    (sym (c.showing.ensures ∙ ap (showing c.args.departures.now) c.before-2.ensures) ∙ c.in-Some.is)
+    c.kept.ensures.value c.kept.ensures.bound c.if-kept-eq-WHOLE.false

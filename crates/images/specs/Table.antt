@@ -1,0 +1,67 @@
+-- The version table of a log: for each sector of the device the units that cover it, in order; and what a view keeps
+-- beside its log, cut and departures.
+use Rattle.std.specs.Prelude.{ℕ, ◌==◌, ◌≡◌, ◌<◌, ◌≤◌, Bool, true, false, not, List, length, map, filter, slice_get, Option, Some, None}
+use Rattle.std.specs.List.{last_or, range_with_len}
+use Rattle.std.specs.Option.{option_map_or}
+use Rattle.logfmt.specs.declared.entry.Entry.{Entry}
+use Rattle.logfmt.specs.Bounds.{LogValue, IsLog}
+use Rattle.epochs.specs.declared.unit.Unit.{Unit as LogUnit}
+use Rattle.epochs.specs.Units.{units_before}
+use Rattle.epochs.specs.Laws.{IsVolatile}
+use Rattle.choices.specs.declared.choice.Departure.{Departure}
+use Rattle.helpers.specs.declared.device.Context.{Context}
+use Rattle.images.specs.declared.torn.TornSector.{TornSector}
+use Rattle.images.specs.Images.{survives, sector_after}
+use Rattle.images.specs.Views.{ViewValue, context_at, ContextFits}
+
+-- the units of a list that cover sector s
+unfoldable pub covering : ℕ → List LogUnit → List LogUnit
+covering s us = filter (λ (u : LogUnit). u.sector == s) us
+
+-- a row for each sector of a device
+unfoldable pub rows_of : ℕ → List LogUnit → List (List LogUnit)
+rows_of sectors us = map (λ s. covering s us) (range_with_len 0 sectors)
+
+-- the rows of all units of a log
+pub record IsTable (log : LogValue) (rows : List (List LogUnit)) : Type 0 where
+  pub bounds : IsLog log
+  pub filled : rows ≡ rows_of log.sectors (units_before log.entries (length log.entries))
+
+-- the units before cut k that cover sector s
+abbrev pub versions : List Entry → ℕ → ℕ → List LogUnit
+versions es k s = covering s (units_before es k)
+
+-- the unit that shows, of units that cover one sector: the last of which the first byte reaches the device
+unfoldable pub showing : List Departure → List LogUnit → Option LogUnit
+showing ds us = last_or None (filter (survives ds 0) us)
+
+-- a torn unit shows: the last byte of the unit that shows doesn't reach the device
+unfoldable pub is_torn : List Departure → List LogUnit → Bool
+is_torn ds us = option_map_or (λ (u : LogUnit). not (survives ds 511 u)) (showing ds us) false
+
+-- one of the sectors has that number
+abbrev pub HasSector : List TornSector → ℕ → Type 0
+HasSector torn n = (j : ℕ) × (t : TornSector) × (slice_get torn j ≡ Some t) × (t.number ≡ n)
+
+-- each has its bytes of the image, and each sector in which a torn unit shows is there
+pub record AreTorn (log : LogValue) (cut : ℕ) (ds : List Departure) (torn : List TornSector) : Type 0 where
+  pub bytes : (j : ℕ) (t : TornSector) → slice_get torn j ≡ Some t
+      → t.content ≡ sector_after log.entries (units_before log.entries cut) ds t.number
+  pub all : (n : ℕ) → n < log.sectors → is_torn ds (versions log.entries cut n) ≡ true → HasSector torn n
+
+-- departures of volatile units of a cut
+abbrev pub AreVolatile : LogValue → ℕ → List Departure → Type 0
+AreVolatile log cut ds = (i : ℕ) (d : Departure) → slice_get ds i ≡ Some d → IsVolatile log.entries cut d.unit
+
+-- what a view keeps
+pub record IsView (view : ViewValue) (torn : List TornSector) (context : Context) : Type 0 where
+  pub bounds : IsLog view.log
+  pub within : view.cut ≤ length view.log.entries
+  pub departs : AreVolatile view.log view.cut view.departures
+  pub owned : AreTorn view.log view.cut view.departures torn
+  pub told : context ≡ context_at view.log view.cut
+  pub fits : ContextFits context
+
+-- a sector without mark is covered by no unit of an entry from `first` on and before the cut
+abbrev pub AreSpared : LogValue → ℕ → ℕ → List Bool → Type 0
+AreSpared log first cut marks = (n : ℕ) → slice_get marks n ≡ Some false → versions log.entries cut n ≡ versions log.entries first n

@@ -1,0 +1,167 @@
+//! The version table of a log: for each sector of the device the units that cover it, in order.
+
+ghost use Rattle.std.specs.Prelude.{◌≡◌, ◌+◌, ◌<◌, ◌≤◌, ◌++◌, ◌∷◌, [], ℕ, List, length, map, replicate, slice_index_or, true, IfOk, OnOk};
+ghost use Rattle.std.specs.List.Sorted.{IsNonDecreasingBy};
+ghost use Rattle.epochs.specs.declared.unit.Unit.{Unit as LogUnit};
+ghost use Rattle.epochs.specs.Plan.{IsUnit};
+ghost use Rattle.epochs.specs.Units.{units_before};
+ghost use Rattle.images.specs.Table.{rows_of, IsTable};
+
+use crate::image::{Sector, WHOLE, ZEROS, content_of, formed, kept, showing};
+use choices::Departure;
+use epochs::Unit;
+use logfmt::Log;
+use std::alloc::{AllocError, Global};
+use std::marker::Model;
+
+/// The units of a log that cover each sector of its device.
+///
+/// Contracts see them as the log.
+#[derive(Drop)]
+pub(crate) struct Versions<'a> {
+    log: &'a Log,
+    rows: &'a [Vec<Unit>],
+}
+
+impl<'a> Model for Versions<'a> {
+    ghost use Rattle.std.specs.Prelude.{map};
+    ghost use Rattle.logfmt.specs.Bounds.{LogValue};
+    ghost use Rattle.images.specs.Table.{IsTable};
+
+    ghost Value = { LogValue };
+
+    ghost view = { λ v. v.log.now };
+
+    ghost invariant = { λ v. IsTable v.log.now (map (λ r. r.items) v.rows.now) };
+}
+
+impl<'a> Versions<'a> {
+    ghost use Rattle.std.specs.Prelude.{IfSome};
+    ghost use Rattle.std.specs.Option.{is_none};
+    ghost use Rattle.images.specs.Images.{sector_after};
+    ghost use Rattle.images.specs.Table.{versions, is_torn};
+
+    /// The units of a log by these rows.
+    pub(crate) fn of(log: &'a Log, rows: &'a [Vec<Unit>]) -> Versions<'a>
+        requires { IsTable log.now (map (λ r. r.items) rows.now) }
+        ensures { result ≡ log.now }
+    {
+        Versions { log, rows }
+    }
+
+    /// The log.
+    pub(crate) fn log(&self) -> &Log
+        ensures { result.now ≡ self.now }
+    {
+        self.log
+    }
+
+    /// The units before a cut that cover a sector, in order. It takes a search by halves.
+    fn before(&self, number: u32, cut: u32) -> &[Unit]
+        requires number { number < self.now.sectors }
+        requires cut { cut ≤ length self.now.entries }
+        ensures { result.now ≡ versions self.now.entries cut number }
+    {
+        let row = self.rows[number as usize].as_slice();
+        &row[..count_before(row, cut)]
+    }
+
+    /// A sector of a crash image, where the log or a sector of zeros has it; `None` where a torn unit
+    /// shows in it.
+    pub(crate) fn lent(&self, number: u32, cut: u32, departures: &[Departure]) -> Option<&Sector>
+        requires number { number < self.now.sectors }
+        requires cut { cut ≤ length self.now.entries }
+        ensures lent { IfSome result (λ sector. sector.now ≡ sector_after self.now.entries (units_before self.now.entries cut) departures.now number) }
+        ensures torn { is_none result ≡ is_torn departures.now (versions self.now.entries cut number) }
+    {
+        let Some(unit) = showing(self.before(number, cut), departures) else {
+            return Some(&ZEROS);
+        };
+        if kept(departures, unit) == WHOLE {
+            Some(content_of(self.log, unit))
+        } else {
+            None
+        }
+    }
+
+    /// A sector as all units before a cut leave it.
+    pub(crate) fn durable(&self, number: u32, cut: u32) -> &Sector
+        requires number { number < self.now.sectors }
+        requires cut { cut ≤ length self.now.entries }
+        ensures { result.now ≡ sector_after self.now.entries (units_before self.now.entries cut) [] number }
+    {
+        match self.lent(number, cut, &[]) {
+            Some(sector) => sector,
+            None => unreachable!(),
+        }
+    }
+
+    /// A sector of a crash image, formed anew.
+    pub(crate) fn formed(&self, number: u32, cut: u32, departures: &[Departure]) -> Sector
+        requires number { number < self.now.sectors }
+        requires cut { cut ≤ length self.now.entries }
+        ensures { result ≡ sector_after self.now.entries (units_before self.now.entries cut) departures.now number }
+    {
+        formed(self.log, self.before(number, cut), departures)
+    }
+}
+
+/// How many units of a row stand before a cut.
+fn count_before(row: &[Unit], cut: u32) -> usize
+    requires { IsNonDecreasingBy (λ (u : LogUnit). u.entry) row.now }
+    ensures bound { result ≤ length row.now }
+    ensures before { (k : ℕ) (d : LogUnit) → k < result → (slice_index_or row.now k d).entry < cut }
+    ensures behind { (k : ℕ) (d : LogUnit) → result ≤ k → k < length row.now → cut ≤ (slice_index_or row.now k d).entry }
+{
+    row.partition_point(|unit| unit.entry < cut)
+}
+
+/// A row without units for each sector.
+fn empty_rows(alloc: Global, sectors: u32) -> Result<Vec<Vec<Unit>>, AllocError>
+    ensures { IfOk result (λ rows. map (λ r. r.items) rows.items ≡ rows_of sectors []) }
+{
+    let mut rows = Vec::with_capacity(alloc, sectors as usize)?;
+    for _ in 0..sectors {
+        rows.push(Vec::new(alloc))?;
+    }
+    Ok(rows)
+}
+
+/// Adds a unit to the row of its sector.
+fn put_unit(rows: &mut Vec<Vec<Unit>>, unit: Unit) -> Result<(), AllocError>
+    requires { unit.sector < length rows.old.items }
+    ensures { (us : List LogUnit) → map (λ r. r.items) rows.old.items ≡ rows_of (length rows.old.items) us
+        → OnOk result (map (λ r. r.items) rows.new.items ≡ rows_of (length rows.old.items) (us ++ unit ∷ [])) }
+{
+    rows[unit.sector as usize].push(unit)?;
+    Ok(())
+}
+
+/// Adds the units of an entry to the rows of the units before it.
+fn put_entry(rows: &mut Vec<Vec<Unit>>, log: &Log, number: u32) -> Result<(), AllocError>
+    requires entry { number < length log.now.entries }
+    requires rows { map (λ r. r.items) rows.old.items ≡ rows_of log.now.sectors (units_before log.now.entries number) }
+    ensures { OnOk result (map (λ r. r.items) rows.new.items ≡ rows_of log.now.sectors (units_before log.now.entries (number + 1))) }
+{
+    let entry = &log.entries()[number as usize];
+    for place in 0..entry.count {
+        let unit = Unit {
+            entry: number,
+            place: place as u32,
+            sector: (entry.sector + place) as u32,
+        };
+        put_unit(rows, unit)?;
+    }
+    Ok(())
+}
+
+/// The rows of all units of a log. It takes time about linear in the number of units and sectors.
+pub(crate) fn rows_of(alloc: Global, log: &Log) -> Result<Vec<Vec<Unit>>, AllocError>
+    ensures { IfOk result (λ rows. IsTable log.now (map (λ r. r.items) rows.items)) }
+{
+    let mut rows = empty_rows(alloc, log.sectors())?;
+    for number in 0..log.entries().len() as u32 {
+        put_entry(&mut rows, log, number)?;
+    }
+    Ok(rows)
+}
