@@ -1,0 +1,3 @@
+-- What holds of the runs of accepted programs.
+pub mod Reaching
+pub mod Ending
