@@ -1,5 +1,5 @@
 -- A run goes on from each state that it reaches.
-use Rattle.std.proofs.Common.{ℕ, zero, suc, ◌≡◌, ◌+◌, List, Option, refl, sym, ◌∙◌, ap, arith, add-one}
+use Rattle.std.proofs.Common.{ℕ, zero, suc, ◌≡◌, ◌+◌, List, Option, refl, sym, ◌∙◌, ap, arith}
 use Rattle.base.specs.declared.causes.MachineFault.{MachineFault}
 use Rattle.bpf_isa.specs.declared.instr.Instr.{Instr}
 use Rattle.machine.specs.State.{State, start}

@@ -1,1 +1,5 @@
 mod Going
+mod Steps
+mod Halves
+mod Coming
+mod Counts
