@@ -3,3 +3,4 @@ mod Steps
 mod Halves
 mod Coming
 mod Counts
+mod Running

@@ -1,5 +1,5 @@
 -- What a step that leads on has done: it went along a control edge, and only a call of `again` counts.
-use Rattle.std.proofs.Common.{ℕ, ℤ, pos, ◌+ℤ◌, ◌≡◌, ◌+◌, ◌<◌, ◌&&◌, ◌==◌, Bool, true, false, if◌then◌else◌, List, [], ◌∷◌, length, slice_index_or, slice_set, Option, Some, None, refl, sym, ◌∙◌, ap, subst, inl, inr, arith}
+use Rattle.std.proofs.Common.{ℕ, ℤ, pos, ◌+ℤ◌, ◌≡◌, ◌+◌, ◌<◌, ◌⊎◌, ◌&&◌, ◌==◌, Bool, true, false, if◌then◌else◌, List, [], ◌∷◌, length, slice_index_or, slice_set, Option, Some, None, refl, sym, ◌∙◌, ap, subst, inl, inr, arith}
 use Rattle.std.specs.Option.{option_map_or}
 use Rattle.std.specs.Int.{cast_unsigned, w32, w64}
 use Rattle.std.specs.Ordering.{int_eq}
@@ -104,6 +104,11 @@ effect_moves bytes device s (instr.LoadSigned size dst base distance) h =
 effect_moves bytes device s (instr.StoreImmediate size base distance n) h = record { leads = inl refl; width = refl; counts = refl }
 effect_moves bytes device s (instr.Store size base distance src) h = record { leads = inl refl; width = refl; counts = refl }
 effect_moves bytes device s (instr.LoadImmediate dst x) h = set_moves s (instr.LoadImmediate dst x) 2 dst x refl
+
+-- a call of a helper, or none
+pub kind_of : (i : Instr) → (helper_number i ≡ None) ⊎ ((number : ℤ) × (i ≡ instr.CallHelper number))
+kind_of (instr.CallHelper number) = inr (number, refl)
+kind_of _ = inl refl
 
 length_answered : (rs : List (Option ℕ)) (a : ℕ) → length (with_answer rs a) ≡ length rs
 length_answered rs a =

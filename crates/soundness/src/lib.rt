@@ -3,4 +3,4 @@
 
 mod ending;
 
-pub use ending::{faults_are_of_steps, runs_go_on};
+pub use ending::{faults_are_of_steps, run_ends_within_budget, runs_go_on};
