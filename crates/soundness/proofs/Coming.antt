@@ -1,5 +1,5 @@
 -- How a run comes to a call of `again` and to the test behind it: from the slot before.
-use Rattle.std.proofs.Common.{ℕ, suc, ◌≡◌, ◌≢◌, ◌+◌, ◌-◌, ◌<◌, ◌==◌, Bool, true, false, if◌then◌else◌, List, length, Option, Some, None, is_some, refl, sym, ◌∙◌, ap, inl, inr, arith}
+use Rattle.std.proofs.Common.{ℕ, suc, ◌≡◌, ◌≢◌, ◌+◌, ◌-◌, ◌<◌, ◌==◌, Bool, true, false, if◌then◌else◌, List, length, Option, Some, None, refl, sym, ◌∙◌, ap, inl, inr, arith}
 use Rattle.std.specs.Option.{option_map_or, option_and_then}
 use Rattle.std.proofs.lemmas.Bool.{cases_lt}
 use Rattle.std.proofs.lemmas.Bool.Decides.{eqb_tells}
@@ -124,6 +124,7 @@ call_there program s e = by_slot (at program s) refl e
     by_number : (i : Instr) (n : Option ℕ) → at program s ≡ Some i → helper_number i ≡ n → option_map_or (λ m. m == 3) n false ≡ true → Calls program s
     by_number i None is named e = absurd (let bad : false ≡ true = e in cc)
     by_number i (Some m) is named e = record { instr = i; there = is; number = m; helper = named; is = e }
+
     by_slot : (o : Option Instr) → at program s ≡ o → option_map_or (λ m. m == 3) (option_and_then helper_number o) false ≡ true → Calls program s
     by_slot None is e = absurd (let bad : false ≡ true = e in cc)
     by_slot (Some i) is e = by_number i (helper_number i) is refl e

@@ -15,7 +15,7 @@ pub left_at_most : (k : ℕ → ℕ) (ts : List ℕ) (n : ℕ) → left_of k ts 
 left_at_most k ts zero = omega arith
 left_at_most k ts (suc n) =
     let more : sum (map k (range_with_len 0 (suc n))) ≡ sum (map k (range_with_len 0 n)) + k n =
-        ap (λ (m : ℕ). sum (map k (range_with_len 0 m))) (sym (add-one n)) ∙ sum_more k n in
+    ap (λ (m : ℕ). sum (map k (range_with_len 0 m))) (sym (add-one n)) ∙ sum_more k n in
     let before = left_at_most k ts n in
     omega (arith, more, before)
 

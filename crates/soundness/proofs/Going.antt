@@ -4,8 +4,8 @@ use Rattle.base.specs.declared.causes.MachineFault.{MachineFault}
 use Rattle.bpf_isa.specs.declared.instr.Instr.{Instr}
 use Rattle.machine.specs.State.{State, start}
 use Rattle.machine.specs.Step.{Stepped, Next, Done, Fault, step}
-use Rattle.machine.specs.Outcome.{Ending, Verdict, Stopped, OutOfSteps, after, run}
-use Rattle.soundness.specs.Reaching.{Reached, StepsWithoutFault, NeverFaults, RunsGoOn, FaultsAreOfSteps}
+use Rattle.machine.specs.Outcome.{Verdict, Stopped, OutOfSteps, after, run}
+use Rattle.soundness.specs.Reaching.{Reached, StepsWithoutFault, RunsGoOn, FaultsAreOfSteps}
 
 pub runs_go_on : RunsGoOn
 unfolding run

@@ -1,9 +1,9 @@
 -- Behind a 64-bit immediate stands its second half, in which no instruction begins.
-use Rattle.std.proofs.Common.{ℕ, zero, suc, ◌≡◌, ◌+◌, List, [], ◌∷◌, ◌++◌, map, Option, Some, None, refl, sym, ◌∙◌, ap, subst, arith}
+use Rattle.std.proofs.Common.{ℕ, zero, suc, ◌≡◌, List, [], ◌∷◌, ◌++◌, map, Option, Some, None, refl, sym, subst}
 use Rattle.bpf_isa.specs.declared.instr.Instr.{Instr}
 use Rattle.bpf_isa.specs.declared.instr.Instr.TheVariants as instr
 use Rattle.bpf_isa.specs.Spelling.{second_of}
-use Rattle.bpf_isa.specs.Program.{halves, slots_of, IsProgram}
+use Rattle.bpf_isa.specs.Program.{slots_of, IsProgram}
 use Rattle.machine.specs.Step.{at}
 
 -- behind each 64-bit immediate no instruction begins

@@ -3,4 +3,6 @@ mod Steps
 mod Halves
 mod Coming
 mod Counts
-mod Running
+mod Room
+mod Progress
+mod Within

@@ -1,12 +1,12 @@
 -- What a step that leads on has done: it went along a control edge, and only a call of `again` counts.
-use Rattle.std.proofs.Common.{ℕ, ℤ, pos, ◌+ℤ◌, ◌≡◌, ◌+◌, ◌<◌, ◌⊎◌, ◌&&◌, ◌==◌, Bool, true, false, if◌then◌else◌, List, [], ◌∷◌, length, slice_index_or, slice_set, Option, Some, None, refl, sym, ◌∙◌, ap, subst, inl, inr, arith}
+use Rattle.std.proofs.Common.{ℕ, ℤ, pos, ◌≡◌, ◌+◌, ◌<◌, ◌⊎◌, ◌&&◌, ◌==◌, Bool, true, false, if◌then◌else◌, List, [], ◌∷◌, length, slice_index_or, slice_set, Option, Some, None, refl, sym, ◌∙◌, ap, subst, inl, inr, arith}
 use Rattle.std.specs.Option.{option_map_or}
 use Rattle.std.specs.Int.{cast_unsigned, w32, w64}
 use Rattle.std.specs.Ordering.{int_eq}
 use Rattle.std.proofs.lemmas.Bool.{and_parts}
 use Rattle.std.proofs.lemmas.Bool.Decides.{eqb_tells, Decides-int_eq}
 use Rattle.std.proofs.lemmas.List.{length-set, get_or-set_same}
-use Rattle.base.specs.Check.{Check, check, first_failing}
+use Rattle.base.specs.Check.{check, first_failing}
 use Rattle.base.specs.declared.causes.MachineFault.{MachineFault}
 use Rattle.base.specs.declared.causes.MachineFault.TheVariants as fault
 use Rattle.bpf_isa.specs.declared.instr.Instr.{Instr}
@@ -19,15 +19,15 @@ use Rattle.bpf_isa.specs.declared.instr.Condition.TheVariants as cond
 use Rattle.helpers.specs.declared.helper.Helper.{Helper}
 use Rattle.helpers.specs.declared.helper.Helper.TheVariants as helper
 use Rattle.helpers.specs.Helper.{helper_of}
-use Rattle.helpers.specs.Answers.{sector_answer, copied, copy_answer, again_answer, report_answer, reported, zero_answer, mix_answer, same_answer}
-use Rattle.bpf_shape.specs.Edges.{edges, edges_of, landing}
+use Rattle.helpers.specs.Answers.{sector_answer, copy_answer, again_answer, report_answer, zero_answer, mix_answer, same_answer}
+use Rattle.bpf_shape.specs.Edges.{edges, edges_of}
 use Rattle.bpf_shape.specs.Again.{helper_number, limit_of, zero_test, others_of}
 use Rattle.bpf_shape.specs.Paths.{Leads}
 use Rattle.machine.specs.declared.ByteAt.{ByteAt}
 use Rattle.machine.specs.Arithmetic.{arithmetic, computed, extended, in_order, holds, compared}
-use Rattle.machine.specs.Memory.{byte_count, plain_size, extension_of, loaded, stored}
+use Rattle.machine.specs.Memory.{byte_count, plain_size, extension_of, loaded}
 use Rattle.machine.specs.State.{State, register, word}
-use Rattle.machine.specs.Step.{Stepped, Next, Done, Fault, at, second, target, branch_slot, address, memory, checks, call_checks, with_answer, answered, set_and_go, go_to, store, turns_here, counted, effect, call_effect, tested, step_of, step}
+use Rattle.machine.specs.Step.{Stepped, Next, Done, Fault, at, second, target, address, memory, checks, call_checks, with_answer, set_and_go, turns_here, counted, effect, call_effect, tested, step_of, step}
 
 -- an instruction that goes along an edge of its slot and counts nothing
 pub record Moves (s : State) (i : Instr) (t : State) : Type 0 where

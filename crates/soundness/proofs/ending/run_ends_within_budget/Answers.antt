@@ -1,4 +1,4 @@
-use Rattle.soundness.proofs.Running.{runs_end}
+use Rattle.soundness.proofs.Within.{runs_end}
 use Rattle.soundness.proofs.ending.run_ends_within_budget.Goals as goal
 
 pub returns : goal.returns

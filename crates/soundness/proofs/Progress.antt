@@ -1,90 +1,27 @@
--- A run without faults ends within the budget: each step takes one of the room on the path at hand, and
--- each again edge a turn that a call has counted.
-use Rattle.std.proofs.Common.{ℕ, zero, suc, ◌≡◌, ◌+◌, ◌-◌, ◌*◌, ◌<◌, ◌≤◌, ◌⊎◌, ◌==◌, ℤ, Bool, true, false, if◌then◌else◌, nat_lt, List, [], ◌∷◌, length, replicate, slice_index, slice_set, Option, Some, None, refl, sym, ◌∙◌, ap, inl, inr, arith, unwrap_or, suc-mul, mul-le-mul_right}
+-- Each step takes one of the room on the path at hand, and each again edge a turn that a call has counted.
+use Rattle.std.proofs.Common.{ℕ, suc, ◌≡◌, ◌+◌, ◌-◌, ◌*◌, ◌<◌, ◌≤◌, ◌⊎◌, ◌==◌, ℤ, Bool, true, false, if◌then◌else◌, nat_lt, List, length, slice_index, slice_set, Option, Some, None, refl, sym, ◌∙◌, ap, inl, inr, arith, unwrap_or, suc-mul}
 use Rattle.std.specs.Int.{cast_unsigned, w32}
 use Rattle.std.specs.Option.{option_map_or, option_and_then}
 use Rattle.std.proofs.lemmas.Bool.{cases_Bool, ltb-true}
-use Rattle.std.proofs.lemmas.List.{length-set, length-replicate}
-use Rattle.base.specs.declared.causes.MachineFault.{MachineFault}
+use Rattle.std.proofs.lemmas.List.{length-set}
 use Rattle.bpf_isa.specs.declared.instr.Instr.{Instr}
 use Rattle.bpf_isa.specs.declared.instr.Instr.TheVariants as instr
 use Rattle.bpf_isa.specs.declared.instr.Condition.{Condition}
 use Rattle.bpf_isa.specs.Program.{IsProgram}
-use Rattle.bpf_shape.specs.declared.edges.Edges.{Edges}
 use Rattle.bpf_shape.specs.Edges.{at, edges_of, control}
-use Rattle.bpf_shape.specs.Again.{helper_number, calls_again, limit_before, answer_test, others_of, plain, turns_at, turns}
-use Rattle.bpf_shape.specs.Paths.{Leads, IsPath, IsReached}
-use Rattle.bpf_shape.specs.Budget.{IsLongest, IsBudget}
+use Rattle.bpf_shape.specs.Again.{helper_number, calls_again, answer_test, others_of, plain, turns_at}
+use Rattle.bpf_shape.specs.Paths.{Leads}
+use Rattle.bpf_shape.specs.Budget.{IsLongest}
 use Rattle.bpf_shape.specs.Rules.{IsShaped}
 use Rattle.bpf_shape.specs.Laws.{AgainHasForm}
-use Rattle.bpf_shape.proofs.Walks.{reaches_more, stays}
+use Rattle.bpf_shape.proofs.Walks.{reaches_more}
 use Rattle.helpers.specs.Answers.{again_answer}
-use Rattle.machine.specs.State.{State, start, register, word, no_turns}
-use Rattle.machine.specs.Step.{Stepped, Next, Done, Fault, memory, with_answer, turns_here, counted, step_of, step}
-use Rattle.machine.specs.Outcome.{Ending, Verdict, Stopped, after, run}
-use Rattle.soundness.specs.Reaching.{NeverFaults}
-use Rattle.soundness.specs.Ending.{EndsWithin, RunsEndWithinBudget}
-use Rattle.soundness.proofs.Steps.{Moves, Asks, Taken, Called, CallsHelper, in_next, taken, effect_moves, answer_there, helper_called, again_asks, other_moves, kind_of, HasLimit, sets_limit, Passes, passes_test}
-use Rattle.soundness.proofs.Coming.{inside, control_there, call_comes, Test, test_there, Calls, call_there, test_comes}
-use Rattle.soundness.proofs.Counts.{left_of, left_at_most, one_less}
-
--- no path from slot s has more than k slots
-pub record Bounded (program : List (Option Instr)) (s k : ℕ) : Type 0 where
-  pub most : (p : List ℕ) → IsPath program s p → suc (length p) ≤ k
-
-bounded_next : (program : List (Option Instr)) (s t k : ℕ) → Bounded program s k → Leads (plain program s) t → Bounded program t (k - 1)
-bounded_next program s t k b leads = record {
-  most = λ p path.
-      let more : suc (suc (length p)) ≤ k = b.most (t ∷ p) (leads, path) in
-      omega (arith, more);
-}
-
-positive : (program : List (Option Instr)) (s k : ℕ) → Bounded program s k → 1 ≤ k
-positive program s k b = b.most [] tt
-
-from_reached : (program : List (Option Instr)) (s n : ℕ) → IsLongest program n → IsReached program s → Bounded program s n
-from_reached program s n l reached = record {
-  most = λ p path. l.most (suc (length p)) (record { start = s; rest = p; reached = reached; path = path; long = refl });
-}
-
--- what holds of a state that the machine has reached
-pub record Arrived (program : List (Option Instr)) (s : State) : Type 0 where
-  pub registers : length s.registers ≡ 11
-  pub counts : length s.turns ≡ 4096
-  pub reached : IsReached program s.slot
-  pub limit : (k : ℕ) → calls_again program s.slot ≡ true → limit_before program s.slot ≡ Some k → register s 1 ≡ Some k
-
--- how often `again` may still answer 1
-abbrev pub left : List (Option Instr) → List ℕ → ℕ
-left program ts = left_of (turns_at program) ts (length program)
-
-same_total : (program : List (Option Instr)) (u v : List ℕ) (room longest steps : ℕ) → u ≡ v → left program v * longest + room ≤ steps
-    → left program u * longest + 0 + room ≤ steps
-same_total program u v room longest steps same total =
-    let there : left program v * longest + 0 + room ≤ steps = omega (arith, total) in
-    rw same there
-
--- what holds before each step, with so many steps to go: the room bounds the path at hand; where the
--- answer of a call is tested it is 0, or a whole path is pending
-pub record Runs (program : List (Option Instr)) (longest : ℕ) (s : State) (steps : ℕ) : Type 0 where
-  pub arrived : Arrived program s
-  pub room : ℕ
-  pub bounded : Bounded program s.slot room
-  pub pending : ℕ
-  pub waits : (c : Condition) → answer_test program s.slot ≡ Some c → (word s 0 ≡ 0) ⊎ (longest ≤ pending)
-  pub total : left program s.turns * longest + pending + room ≤ steps
-
--- room for the path from the next slot
-pub record Space (program : List (Option Instr)) (s t : State) (longest steps : ℕ) : Type 0 where
-  pub room : ℕ
-  pub bounded : Bounded program t.slot room
-  pub total : left program s.turns * longest + room ≤ steps
-
-step_taken : (l p r steps : ℕ) → l + p + r ≤ suc steps → 1 ≤ r → l + (r - 1) ≤ steps
-step_taken l p r steps total room = omega (arith, total, room)
-
-path_taken : (l p r longest steps : ℕ) → l + p + r ≤ suc steps → 1 ≤ r → longest ≤ p → l + longest ≤ steps
-path_taken l p r longest steps total room enough = omega (arith, total, room, enough)
+use Rattle.machine.specs.State.{State, register, word}
+use Rattle.machine.specs.Step.{Next, memory, turns_here, counted, step_of, step}
+use Rattle.soundness.proofs.Steps.{Moves, Asks, in_next, taken, effect_moves, answer_there, helper_called, again_asks, other_moves, kind_of, HasLimit, sets_limit, Passes, passes_test}
+use Rattle.soundness.proofs.Coming.{inside, control_there, call_comes, test_there, test_comes}
+use Rattle.soundness.proofs.Counts.{one_less}
+use Rattle.soundness.proofs.Room.{bounded_next, positive, from_reached, Arrived, left, same_total, Runs, Space, step_taken, path_taken}
 
 module _ (program : List (Option Instr)) (context : List ℕ) (device : List (List ℕ)) (longest : ℕ)
     (p : IsProgram program) (shaped : IsShaped program) (is_longest : IsLongest program longest) (form : AgainHasForm) where
@@ -130,15 +67,15 @@ module _ (program : List (Option Instr)) (context : List ℕ) (device : List (Li
       let l = left program s.turns * longest in
       elim (onward s t i r.pending r.waits there came leads) [
         | inl along ↦ record {
-            room = r.room - 1;
-            bounded = bounded_next program s.slot t.slot r.room r.bounded along;
-            total = step_taken l r.pending r.room steps r.total one;
-          }
+          room = r.room - 1;
+          bounded = bounded_next program s.slot t.slot r.room r.bounded along;
+          total = step_taken l r.pending r.room steps r.total one;
+        }
         | inr enough ↦ record {
-            room = longest;
-            bounded = from_reached program t.slot longest is_longest arrived.reached;
-            total = path_taken l r.pending r.room longest steps r.total one enough;
-          }
+          room = longest;
+          bounded = from_reached program t.slot longest is_longest arrived.reached;
+          total = path_taken l r.pending r.room longest steps r.total one enough;
+        }
       ]
 
   -- a step that counts nothing
@@ -207,8 +144,10 @@ module _ (program : List (Option Instr)) (context : List ℕ) (device : List (Li
     where
       arrived : Arrived program t
       arrived = arrive s t i r.arrived there came m.leads m.width (ap length m.counts ∙ length_counted s (word s 1) (nat_lt (turns_here s) (word s 1)))
+
       here : Space program s t longest steps
       here = space s t i steps r arrived there came m.leads
+
       by_test : (b : Bool) → nat_lt (turns_here s) (word s 1) ≡ b → Runs program longest t steps
       by_test true is =
           let more : counted s (word s 1) ≡ slice_set s.turns s.slot (turns_here s + 1) = rw is refl in
@@ -238,7 +177,7 @@ module _ (program : List (Option Instr)) (context : List ℕ) (device : List (Li
       ]
 
   -- each step that leads on
-  progress : (s t : State) (steps : ℕ) → Runs program longest s (suc steps) → step program context device s ≡ Next t → Runs program longest t steps
+  pub progress : (s t : State) (steps : ℕ) → Runs program longest s (suc steps) → step program context device s ≡ Next t → Runs program longest t steps
   progress s t steps r e =
       let at_hand = taken program context device s t e in
       by_kind at_hand.instr (kind_of at_hand.instr) at_hand.there at_hand.came
@@ -249,67 +188,3 @@ module _ (program : List (Option Instr)) (context : List ℕ) (device : List (Li
           let calls : calls_again program s.slot ≡ false = calls_of s i there ∙ ap (λ (o : Option ℕ). option_map_or (λ n. n == 3) o false) none in
           moves_on s t i steps r there came calls (in_next (Moves s i) program context device s t i (effect_moves (memory context device s) device s i none) came)
       by_kind i (inr call) there came = call_on s t call.0 steps r (rw call.1 at there) (rw call.1 at came)
-
-  -- within so many steps from a state the program ends in a verdict
-  pub record Ends (s : State) (steps : ℕ) : Type 0 where
-    pub answer : ℕ
-    pub codes : List ℕ
-    pub verdict : run program context device steps s ≡ Verdict answer codes
-
-  abbrev HasNoFault : State → Type 0
-  HasNoFault s = (n : ℕ) (cause : MachineFault) (slot : ℕ) → run program context device n s ≡ Stopped cause slot → ⊥
-
-  pub ends : (steps : ℕ) (s : State) → Runs program longest s steps → HasNoFault s → Ends s steps
-  unfolding run
-  ends zero s r fine =
-      let one = positive program s.slot r.room r.bounded in
-      let none : left program s.turns * longest + r.pending + r.room ≤ 0 = r.total in
-      absurd (omega (arith, one, none))
-  ends (suc n) s r fine = by_step (ends n) (step program context device s) refl
-    where
-      by_step : ((t : State) → Runs program longest t n → HasNoFault t → Ends t n) → (x : Stepped) → step program context device s ≡ x → Ends s (suc n)
-      by_step later (Next t) e =
-          let rest = later t (progress s t n r e) (λ m cause slot stop. fine (suc m) cause slot (ap (after (run program context device m)) e ∙ stop)) in
-          record { answer = rest.answer; codes = rest.codes; verdict = ap (after (run program context device n)) e ∙ rest.verdict }
-      by_step later (Done a codes) e = record { answer = a; codes = codes; verdict = ap (after (run program context device n)) e }
-      by_step later (Fault cause slot) e = absurd (fine 1 cause slot (ap (after (run program context device 0)) e))
-
--- the start
-
-arrived_first : (program : List (Option Instr)) → Arrived program start
-unfolding start no_turns limit_before
-arrived_first program = record {
-  registers = refl;
-  counts = length-replicate {A = ℕ} 4096 0;
-  reached = stays (control program) 0;
-  limit = λ k calls is. absurd (let bad : None ≡ Some k = is in cc);
-}
-
-no_test_first : (program : List (Option Instr)) (c : Condition) → answer_test program start.slot ≡ Some c → ⊥
-unfolding start answer_test
-no_test_first program c is = let bad : None ≡ Some c = is in cc
-
-left_first : (program : List (Option Instr)) → left program start.turns ≤ turns program
-unfolding turns
-left_first program = left_at_most (turns_at program) start.turns (length program)
-
-runs_first : (program : List (Option Instr)) (budget : ℕ) (b : IsBudget program budget) → Runs program b.longest start budget
-runs_first program budget b =
-    let arrived = arrived_first program in
-    let all : left program start.turns * b.longest ≤ turns program * b.longest = mul-le-mul_right b.longest (left_first program) in
-    let whole : 1 + turns program ≡ suc (turns program) = omega arith in
-    let product : budget ≡ turns program * b.longest + b.longest =
-        b.product ∙ ap (λ (n : ℕ). n * b.longest) whole ∙ suc-mul (turns program) b.longest in
-    record {
-      arrived = arrived;
-      room = b.longest;
-      bounded = from_reached program start.slot b.longest b.path arrived.reached;
-      pending = 0;
-      waits = λ c is. absurd (no_test_first program c is);
-      total = omega (arith, all, product);
-    }
-
-pub runs_end : AgainHasForm → RunsEndWithinBudget
-runs_end form program context device budget p shaped b never =
-    let e = ends program context device b.longest p shaped b.path form budget start (runs_first program budget b) never in
-    record { answer = e.answer; codes = e.codes; verdict = e.verdict }
