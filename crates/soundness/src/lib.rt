@@ -15,6 +15,7 @@
 //!   `StepsWithoutFault`: no step from a reached state is a fault. `NeverFaults`: the run stops at none,
 //!   however many steps are made.
 //! - `Ending`: `EndsWithin`: within so many steps from the start the program ends in a verdict.
+//! - `Worked`: the program nested_loops.
 //!
 //! # What is proved
 //!
@@ -24,6 +25,7 @@
 //!   its budget, on every device and in every context.
 //! - `faults_are_of_steps`: the run never faults exactly where no step from a reached state is a fault.
 //! - `runs_go_on`: a run of n + m steps is the run of m steps from the state that n steps reach.
+//! - `worked_loops`: the program nested_loops of docs/ASSEMBLY.md ends at its 29th step.
 //!
 //! # Why it ends
 //!
@@ -38,11 +40,10 @@
 //! # Example
 //!
 //! ```text
-//! // mov64 r1, 2; call 3; jeq r0, 0, +1; ja -4; exit
-//! // budget: one more than K = 2, times the 5 slots of the longest path, which is 15 steps
+//! run nested_loops context device 29 start    // Verdict 0 []; its budget is 54 steps
 //! ```
 #![tactic(auto)]
 
 mod ending;
 
-pub use ending::{faults_are_of_steps, run_ends_within_budget, runs_go_on};
+pub use ending::{faults_are_of_steps, run_ends_within_budget, runs_go_on, worked_loops};
