@@ -1,8 +1,25 @@
-mod Going
-mod Steps
-mod Halves
-mod Coming
-mod Counts
-mod Room
-mod Progress
-mod Within
+pub mod Checks
+pub mod Meanings
+pub mod Standing
+pub mod Shifts
+pub mod Pointers
+pub mod Memory
+pub mod Computing
+pub mod Places
+pub mod Loads
+pub mod Stacks
+pub mod Stores
+pub mod Branches
+pub mod Calls
+pub mod Programs
+pub mod Steps
+pub mod Tables
+pub mod Going
+pub mod Taken
+pub mod Halves
+pub mod Coming
+pub mod Counts
+pub mod Room
+pub mod Progress
+pub mod Within
+pub mod Safe

@@ -18,7 +18,7 @@ use Rattle.bpf_shape.proofs.Walks.{reaches_more}
 use Rattle.helpers.specs.Answers.{again_answer}
 use Rattle.machine.specs.State.{State, register, word}
 use Rattle.machine.specs.Step.{Next, memory, turns_here, counted, step_of, step}
-use Rattle.soundness.proofs.Steps.{Moves, Asks, in_next, taken, effect_moves, answer_there, helper_called, again_asks, other_moves, kind_of, HasLimit, sets_limit, Passes, passes_test}
+use Rattle.soundness.proofs.Taken.{Moves, Asks, in_next, taken, effect_moves, answer_there, helper_called, again_asks, other_moves, kind_of, HasLimit, sets_limit, Passes, passes_test}
 use Rattle.soundness.proofs.Coming.{inside, control_there, call_comes, test_there, test_comes}
 use Rattle.soundness.proofs.Counts.{one_less}
 use Rattle.soundness.proofs.Room.{bounded_next, positive, from_reached, Arrived, left, same_total, Runs, Space, step_taken, path_taken}

@@ -1,270 +1,247 @@
--- What a step that leads on has done: it went along a control edge, and only a call of `again` counts.
-use Rattle.std.proofs.Common.{ℕ, ℤ, pos, ◌≡◌, ◌+◌, ◌<◌, ◌⊎◌, ◌&&◌, ◌==◌, Bool, true, false, if◌then◌else◌, List, [], ◌∷◌, length, slice_index_or, slice_set, Option, Some, None, refl, sym, ◌∙◌, ap, subst, inl, inr, arith}
+-- A step, by the form of its instruction.
+use Rattle.std.proofs.Common.{◌≡◌, ◌<◌, ℕ, ◌+◌, ◌^◌, ◌==◌, ◌&&◌, nat_le, Bool, true, false, if◌then◌else◌, ℤ, List, [], ◌∷◌, ◌++◌, length, map, get_or, Option, None, Some, is_some, refl, sym, ap, ◌∙◌, inl, inr, ◌⊎◌, arith}
+use Rattle.std.specs.Prelude.{set, unwrap_or}
 use Rattle.std.specs.Option.{option_map_or}
 use Rattle.std.specs.Int.{cast_unsigned, w32, w64}
-use Rattle.std.specs.Ordering.{int_eq}
-use Rattle.std.proofs.lemmas.Bool.{and_parts}
-use Rattle.std.proofs.lemmas.Bool.Decides.{eqb_tells, Decides-int_eq}
-use Rattle.std.proofs.lemmas.List.{length-set, get_or-set_same}
-use Rattle.base.specs.Check.{check, first_failing}
+use Rattle.std.proofs.lemmas.List.{get_or-set_same}
+use Rattle.std.proofs.lemmas.Bool.Decides.{nat_tests}
+use Rattle.base.specs.Check.{Check, check, first_failing}
 use Rattle.base.specs.declared.causes.MachineFault.{MachineFault}
 use Rattle.base.specs.declared.causes.MachineFault.TheVariants as fault
 use Rattle.bpf_isa.specs.declared.instr.Instr.{Instr}
 use Rattle.bpf_isa.specs.declared.instr.Instr.TheVariants as instr
+use Rattle.bpf_isa.specs.declared.instr.Source.TheVariants as source
 use Rattle.bpf_isa.specs.declared.instr.Width.TheVariants as width
 use Rattle.bpf_isa.specs.declared.instr.Operator.TheVariants as op
-use Rattle.bpf_isa.specs.declared.instr.Source.TheVariants as source
-use Rattle.bpf_isa.specs.declared.instr.Condition.{Condition}
-use Rattle.bpf_isa.specs.declared.instr.Condition.TheVariants as cond
+use Rattle.bpf_isa.specs.Spelling.{IsInRange}
+use Rattle.helpers.specs.declared.device.Context.{Context}
 use Rattle.helpers.specs.declared.helper.Helper.{Helper}
 use Rattle.helpers.specs.declared.helper.Helper.TheVariants as helper
 use Rattle.helpers.specs.Helper.{helper_of}
-use Rattle.helpers.specs.Answers.{sector_answer, copy_answer, again_answer, report_answer, zero_answer, mix_answer, same_answer}
-use Rattle.bpf_shape.specs.Edges.{edges, edges_of}
-use Rattle.bpf_shape.specs.Again.{helper_number, limit_of, zero_test, others_of}
-use Rattle.bpf_shape.specs.Paths.{Leads}
-use Rattle.machine.specs.declared.ByteAt.{ByteAt}
-use Rattle.machine.specs.Arithmetic.{arithmetic, computed, extended, in_order, holds, compared}
-use Rattle.machine.specs.Memory.{byte_count, plain_size, extension_of, loaded}
+use Rattle.machine.specs.Arithmetic.{arithmetic, computed}
 use Rattle.machine.specs.State.{State, register, word}
-use Rattle.machine.specs.Step.{Stepped, Next, Done, Fault, at, second, target, address, memory, checks, call_checks, with_answer, set_and_go, turns_here, counted, effect, call_effect, tested, step_of, step}
+use Rattle.machine.specs.Memory.{context_bytes, byte_at}
+use Rattle.machine.specs.declared.ByteAt.{ByteAt}
+use Rattle.machine.specs.Step as step
+use Rattle.machine.specs.Step.{at, target, checks, effect, step_of, tested, Stepped, Next, Done, Fault, call_checks, call_effect, is_limit}
+use Rattle.bpf_shape.specs.Edges.{edges_of}
+use Rattle.bpf_shape.specs.Again.{limit_of}
+use Rattle.bpf_shape.specs.Paths.{Leads}
+use Rattle.bpf_shape.specs.Rules.{IsShaped}
+use Rattle.ranges.specs.States.{Abstract, round_state}
+use Rattle.ranges.specs.Order.{Each, Holds, IsState}
+use Rattle.ranges.specs.Rules.{rules, call_rules}
+use Rattle.ranges.specs.After.{after_of, call_after, answered}
+use Rattle.ranges.specs.Reading.{any_word}
+use Rattle.ranges.specs.Kinds.{Num}
+use Rattle.ranges.specs.Passing.{passes, edge_of, sent}
+use Rattle.ranges.proofs.Keeping.{after_fits, edge_fits}
+use Rattle.ranges.proofs.Covering.{state_round}
+use Rattle.verifier.specs.Tables.{arrival}
+use Rattle.soundness.specs.Meaning.{Covers}
+use Rattle.soundness.specs.Machines.{IsSetting, HasLimit}
+use Rattle.soundness.specs.Laws.{Arrives}
+use Rattle.soundness.proofs.Meanings.{covers_under}
+use Rattle.soundness.proofs.Standing.{Parts, machine, frames_of, Goes}
+use Rattle.soundness.proofs.Computing.{Site, arithmetic_goes, negate_goes, extend_goes, order_goes, immediate_goes}
+use Rattle.soundness.proofs.Loads.{load_goes, signed_load_goes}
+use Rattle.soundness.proofs.Stores.{store_goes, store_immediate_goes}
+use Rattle.soundness.proofs.Branches.{branch_goes, jump_goes, exit_goes}
+use Rattle.soundness.proofs.Calls.{helper_goes}
+use Rattle.soundness.proofs.Programs.{free_at, helper_known, begins_at, calls_at, limit_taken, before_again}
 
--- an instruction that goes along an edge of its slot and counts nothing
-pub record Moves (s : State) (i : Instr) (t : State) : Type 0 where
-  pub leads : Leads (edges_of s.slot i) t.slot
-  pub width : length t.registers ≡ length s.registers
-  pub counts : t.turns ≡ s.turns
+-- the argument of `again`
+limit_here : (program : List (Option Instr)) (m : Parts) (number : ℤ) → IsShaped program → at program m.slot ≡ Some (instr.CallHelper number)
+    → HasLimit program (machine m) → helper_of (cast_unsigned w32 number) ≡ Some helper.Again → is_limit (word (machine m) 1) ≡ true
+limit_here program m number shaped e limit is =
+    let calls = calls_at program m.slot number e is in
+    let before = before_again program m.slot shaped calls in
+    let has : get_or m.registers 1 None ≡ Some before.number = limit before.number calls before.is in
+    ap (λ (c : Option ℕ). is_limit (unwrap_or c 0)) has ∙ limit_taken program m.slot before.number before.is
 
--- a call of `again`
-pub record Asks (s : State) (i : Instr) (t : State) : Type 0 where
-  pub leads : Leads (edges_of s.slot i) t.slot
-  pub width : length t.registers ≡ length s.registers
-  pub counts : t.turns ≡ counted s (word s 1)
-  pub answer : t.registers ≡ with_answer s.registers (again_answer (turns_here s) (word s 1))
-
--- what a predicate of next states says of a step
-abbrev pub OnNext : (State → Type 0) → Stepped → Type 0
-OnNext P (Next t) = P t
-OnNext P (Done a codes) = Unit {0}
-OnNext P (Fault c slot) = Unit {0}
-
--- where the checks pass, the effect comes
-passed : (s : State) (o : Option MachineFault) (done : Stepped) (t : State) → option_map_or (λ cause. Fault cause s.slot) o done ≡ Next t → done ≡ Next t
-passed s None done t e = e
-passed s (Some c) done t e = absurd (let bad : Fault c s.slot ≡ Next t = e in cc)
-
-pub in_next : (P : State → Type 0) (program : List (Option Instr)) (context : List ℕ) (device : List (List ℕ)) (s t : State) (i : Instr)
-    → OnNext P (effect (memory context device s) device s i) → step_of program context device s i ≡ Next t → P t
-unfolding step_of
-in_next P program context device s t i here e =
-    let done = effect (memory context device s) device s i in
-    let came : done ≡ Next t = passed s (first_failing (checks program (memory context device s) s i)) done t e in
-    subst (OnNext P) came here
-
--- the instruction that was at hand
-pub record Taken (program : List (Option Instr)) (context : List ℕ) (device : List (List ℕ)) (s t : State) : Type 0 where
-  pub instr : Instr
-  pub there : at program s.slot ≡ Some instr
-  pub came : step_of program context device s instr ≡ Next t
-
-pub taken : (program : List (Option Instr)) (context : List ℕ) (device : List (List ℕ)) (s t : State) → step program context device s ≡ Next t
-    → Taken program context device s t
-taken program context device s t e = by_slot (at program s.slot) refl e
+call_goes : (program : List (Option Instr)) (sectors : ℕ) (device : List (List ℕ)) (context : Context) (known : Abstract) (m : Parts) (number : ℤ)
+    → IsSetting program sectors device context → Site sectors known m → at program m.slot ≡ Some (instr.CallHelper number) → HasLimit program (machine m)
+    → first_failing (rules known (instr.CallHelper number)) ≡ None
+    → Goes sectors (passes sectors known m.slot (instr.CallHelper number)) (step_of program (context_bytes context) device (machine m) (instr.CallHelper number))
+unfolding rules passes after_of step_of checks effect edges_of
+call_goes program sectors device context known m number set site e limit keeps =
+    by (helper_of (cast_unsigned w32 number)) refl keeps
   where
-    by_slot : (o : Option Instr) → at program s.slot ≡ o → option_map_or (step_of program context device s) o (Fault fault.NoInstruction s.slot) ≡ Next t
-        → Taken program context device s t
-    by_slot None is e = absurd (let bad : Fault fault.NoInstruction s.slot ≡ Next t = e in cc)
-    by_slot (Some i) is e = record { instr = i; there = is; came = e }
+    bytes : ℕ → ByteAt
+    bytes = byte_at (context_bytes context) device (frames_of m.stack)
 
--- one of two slots comes
-either : (b : Bool) (slot to : ℕ) → Leads (edges (Some (slot + 1)) (Some to)) (if b then to else slot + 1)
-either true slot to = inr refl
-either false slot to = inl refl
+    by : (h : Option Helper) → helper_of (cast_unsigned w32 number) ≡ h → first_failing (option_map_or (call_rules known) h []) ≡ None
+        → Goes sectors ((m.slot + 1, option_map_or (call_after known) h (answered known (Num any_word))) ∷ [])
+        (tested (machine m) (option_map_or (call_checks program bytes (machine m)) h (check fault.UnknownHelper false ∷ []))
+        (option_map_or (call_effect device (machine m)) h (Next (machine m))))
+    by None f k = absurd (let there = helper_known program m.slot number set.shaped e in let bad : false ≡ true = rw f at there in cc)
+    by (Some h) f k =
+        helper_goes program sectors device context known m h set site (begins_at program m.slot (m.slot + 1) (instr.CallHelper number) set.shaped e (inl refl))
+        (λ again. limit_here program m number set.shaped e limit (f ∙ ap (λ x. Some x) again)) k
 
-set_moves : (s : State) (i : Instr) (n r x : ℕ) → (edges_of s.slot i).next ≡ Some (s.slot + n) → OnNext (Moves s i) (set_and_go n s r x)
-set_moves s i n r x e = record { leads = inl e; width = length-set s.registers r (Some x); counts = refl }
+jump_step : (program : List (Option Instr)) (context : List ℕ) (device : List (List ℕ)) (sectors : ℕ) (known : Abstract) (m : Parts) (distance : ℤ) → Site sectors known m
+    → is_some (at program (target m.slot distance)) ≡ true
+    → Goes sectors (passes sectors known m.slot (instr.Jump distance)) (step_of program context device (machine m) (instr.Jump distance))
+unfolding passes step_of checks effect
+jump_step program context device sectors known m distance site begins = jump_goes program sectors known m (target m.slot distance) site begins
 
--- each instruction but a call
-pub effect_moves : (bytes : ℕ → ByteAt) (device : List (List ℕ)) (s : State) (i : Instr) → helper_number i ≡ None → OnNext (Moves s i) (effect bytes device s i)
-unfolding effect edges_of
-effect_moves bytes device s (instr.Arithmetic w o dst from) h = set_moves s (instr.Arithmetic w o dst from) 1 dst (arithmetic w o (word s dst) (second s from)) refl
-effect_moves bytes device s (instr.Negate w dst) h = set_moves s (instr.Negate w dst) 1 dst (arithmetic w op.Sub 0 (word s dst)) refl
-effect_moves bytes device s (instr.SignExtend e dst src) h = set_moves s (instr.SignExtend e dst src) 1 dst (extended e (word s src)) refl
-effect_moves bytes device s (instr.ByteOrder o size dst) h = set_moves s (instr.ByteOrder o size dst) 1 dst (in_order o size (word s dst)) refl
-effect_moves bytes device s (instr.Jump distance) h = record { leads = inr refl; width = refl; counts = refl }
-effect_moves bytes device s (instr.LongJump distance) h = record { leads = inr refl; width = refl; counts = refl }
-effect_moves bytes device s (instr.Branch w c dst from distance) h =
-    record { leads = either (holds w c (word s dst) (second s from)) s.slot (target s.slot distance); width = refl; counts = refl }
-effect_moves bytes device s (instr.CallHelper number) h = absurd (let bad : Some (cast_unsigned w32 number) ≡ None = h in cc)
-effect_moves bytes device s instr.Exit h = tt
-effect_moves bytes device s (instr.Load size dst base distance) h =
-    set_moves s (instr.Load size dst base distance) 1 dst (loaded bytes (address s base distance) (byte_count size)) refl
-effect_moves bytes device s (instr.LoadSigned size dst base distance) h =
-    set_moves s (instr.LoadSigned size dst base distance) 1 dst (extended (extension_of size) (loaded bytes (address s base distance) (byte_count (plain_size size)))) refl
-effect_moves bytes device s (instr.StoreImmediate size base distance n) h = record { leads = inl refl; width = refl; counts = refl }
-effect_moves bytes device s (instr.Store size base distance src) h = record { leads = inl refl; width = refl; counts = refl }
-effect_moves bytes device s (instr.LoadImmediate dst x) h = set_moves s (instr.LoadImmediate dst x) 2 dst x refl
+long_jump_step : (program : List (Option Instr)) (context : List ℕ) (device : List (List ℕ)) (sectors : ℕ) (known : Abstract) (m : Parts) (distance : ℤ) → Site sectors known m
+    → is_some (at program (target m.slot distance)) ≡ true
+    → Goes sectors (passes sectors known m.slot (instr.LongJump distance)) (step_of program context device (machine m) (instr.LongJump distance))
+unfolding passes step_of checks effect
+long_jump_step program context device sectors known m distance site begins = jump_goes program sectors known m (target m.slot distance) site begins
 
--- a call of a helper, or none
-pub kind_of : (i : Instr) → (helper_number i ≡ None) ⊎ ((number : ℤ) × (i ≡ instr.CallHelper number))
-kind_of (instr.CallHelper number) = inr (number, refl)
-kind_of _ = inl refl
+-- each form
+pub instr_goes : (program : List (Option Instr)) (sectors : ℕ) (device : List (List ℕ)) (context : Context) (known : Abstract) (m : Parts) (i : Instr)
+    → IsSetting program sectors device context → Site sectors known m → at program m.slot ≡ Some i → IsInRange i → HasLimit program (machine m)
+    → first_failing (rules known i) ≡ None
+    → Goes sectors (passes sectors known m.slot i) (step_of program (context_bytes context) device (machine m) i)
+unfolding IsInRange edges_of
+instr_goes program sectors device context known m (instr.Arithmetic w o dst from) set site e range limit keeps =
+    arithmetic_goes program (context_bytes context) device sectors known m w o dst from site range.1 (free_at program m.slot (instr.Arithmetic w o dst from) set.shaped e)
+    (begins_at program m.slot (m.slot + 1) (instr.Arithmetic w o dst from) set.shaped e (inl refl)) keeps
+instr_goes program sectors device context known m (instr.Negate w dst) set site e range limit keeps =
+    negate_goes program (context_bytes context) device sectors known m w dst site (free_at program m.slot (instr.Negate w dst) set.shaped e)
+    (begins_at program m.slot (m.slot + 1) (instr.Negate w dst) set.shaped e (inl refl)) keeps
+instr_goes program sectors device context known m (instr.SignExtend x dst src) set site e range limit keeps =
+    extend_goes program (context_bytes context) device sectors known m x dst src site (free_at program m.slot (instr.SignExtend x dst src) set.shaped e)
+    (begins_at program m.slot (m.slot + 1) (instr.SignExtend x dst src) set.shaped e (inl refl)) keeps
+instr_goes program sectors device context known m (instr.ByteOrder o size dst) set site e range limit keeps =
+    order_goes program (context_bytes context) device sectors known m o size dst site (free_at program m.slot (instr.ByteOrder o size dst) set.shaped e)
+    (begins_at program m.slot (m.slot + 1) (instr.ByteOrder o size dst) set.shaped e (inl refl)) keeps
+instr_goes program sectors device context known m (instr.Jump distance) set site e range limit keeps =
+    jump_step program (context_bytes context) device sectors known m distance site (begins_at program m.slot (target m.slot distance) (instr.Jump distance) set.shaped e (inr refl))
+instr_goes program sectors device context known m (instr.LongJump distance) set site e range limit keeps =
+    long_jump_step program (context_bytes context) device sectors known m distance site (begins_at program m.slot (target m.slot distance) (instr.LongJump distance) set.shaped e (inr refl))
+instr_goes program sectors device context known m (instr.Branch w c dst from distance) set site e range limit keeps =
+    branch_goes program (context_bytes context) device sectors known m w c dst from distance site
+    (begins_at program m.slot (m.slot + 1) (instr.Branch w c dst from distance) set.shaped e (inl refl))
+    (begins_at program m.slot (target m.slot distance) (instr.Branch w c dst from distance) set.shaped e (inr refl)) keeps
+instr_goes program sectors device context known m (instr.CallHelper number) set site e range limit keeps = call_goes program sectors device context known m number set site e limit keeps
+instr_goes program sectors device context known m instr.Exit set site e range limit keeps = exit_goes program (context_bytes context) device sectors known m site keeps
+instr_goes program sectors device context known m (instr.Load size dst base distance) set site e range limit keeps =
+    load_goes program sectors device context known m size dst base distance set site range.2 (free_at program m.slot (instr.Load size dst base distance) set.shaped e)
+    (begins_at program m.slot (m.slot + 1) (instr.Load size dst base distance) set.shaped e (inl refl)) keeps
+instr_goes program sectors device context known m (instr.LoadSigned size dst base distance) set site e range limit keeps =
+    signed_load_goes program sectors device context known m size dst base distance set site range.2 (free_at program m.slot (instr.LoadSigned size dst base distance) set.shaped e)
+    (begins_at program m.slot (m.slot + 1) (instr.LoadSigned size dst base distance) set.shaped e (inl refl)) keeps
+instr_goes program sectors device context known m (instr.StoreImmediate size base distance z) set site e range limit keeps =
+    store_immediate_goes program (context_bytes context) device sectors known m size base distance z site range.1 range.2
+    (begins_at program m.slot (m.slot + 1) (instr.StoreImmediate size base distance z) set.shaped e (inl refl)) keeps
+instr_goes program sectors device context known m (instr.Store size base distance src) set site e range limit keeps =
+    store_goes program (context_bytes context) device sectors known m size base distance src site range.1
+    (begins_at program m.slot (m.slot + 1) (instr.Store size base distance src) set.shaped e (inl refl)) keeps
+instr_goes program sectors device context known m (instr.LoadImmediate dst x) set site e range limit keeps =
+    immediate_goes program (context_bytes context) device sectors known m dst x site range.1 (free_at program m.slot (instr.LoadImmediate dst x) set.shaped e)
+    (begins_at program m.slot (m.slot + 2) (instr.LoadImmediate dst x) set.shaped e (inl refl))
 
-length_answered : (rs : List (Option ℕ)) (a : ℕ) → length (with_answer rs a) ≡ length rs
-length_answered rs a =
-    let first = slice_set rs 0 (Some a) in
-    let second = slice_set first 1 None in
-    let third = slice_set second 2 None in
-    let fourth = slice_set third 3 None in
-    let fifth = slice_set fourth 4 None in
-    length-set fifth 5 None ∙ length-set fourth 4 None ∙ length-set third 3 None ∙ length-set second 2 None ∙ length-set first 1 None ∙ length-set rs 0 (Some a)
+-- what arrives does so along an edge
 
--- register 0 has the answer
-pub answer_there : (rs : List (Option ℕ)) (a : ℕ) → 0 < length rs → slice_index_or (with_answer rs a) 0 None ≡ Some a
-answer_there [] a h = absurd (omega (arith, h))
-answer_there (x ∷ xs) a h = refl
+sent_slot : (sectors slot : ℕ) (passed : Option Abstract) (t : State) → Arrives sectors (sent slot passed) t → t.slot ≡ slot
+sent_slot sectors slot None t a = absurd a
+sent_slot sectors slot (Some s) t (inl h) = sym h.0
+sent_slot sectors slot (Some s) t (inr h) = absurd h
 
--- a state after a helper's answer that counts nothing
-answer_moves : (s : State) (number : ℤ) (t : State) (a : ℕ) → t.slot ≡ s.slot + 1 → t.registers ≡ with_answer s.registers a → t.turns ≡ s.turns
-    → Moves s (instr.CallHelper number) t
-unfolding edges_of
-answer_moves s number t a slot registers counts =
-    record { leads = inl (ap Some (sym slot)); width = ap length registers ∙ length_answered s.registers a; counts = counts }
+arrives_of : (sectors : ℕ) (xs ys : List (ℕ × Abstract)) (t : State) → Arrives sectors (xs ++ ys) t → Arrives sectors xs t ⊎ Arrives sectors ys t
+arrives_of sectors [] ys t a = inr a
+arrives_of sectors (x ∷ xs) ys t (inl h) = inl (inl h)
+arrives_of sectors (x ∷ xs) ys t (inr h) = elim (arrives_of sectors xs ys t h) [ inl a ↦ inl (inr a) | inr a ↦ inr a ]
 
--- what the call of a helper has done
-abbrev pub Called : State → ℤ → Helper → State → Type 0
-Called s number helper.Again t = Asks s (instr.CallHelper number) t
-Called s number _ t = Moves s (instr.CallHelper number) t
+one_slot : (sectors slot : ℕ) (s : Abstract) (t : State) → Arrives sectors ((slot, s) ∷ []) t → t.slot ≡ slot
+one_slot sectors slot s t (inl h) = sym h.0
+one_slot sectors slot s t (inr h) = absurd h
 
-call_moves : (device : List (List ℕ)) (s : State) (number : ℤ) (h : Helper) → OnNext (Called s number h) (call_effect device s h)
-unfolding call_effect edges_of
-call_moves device s number helper.Sector = answer_moves s number _ (sector_answer device (word s 1)) refl refl refl
-call_moves device s number helper.Copy = answer_moves s number _ (copy_answer device (word s 1) (word s 3)) refl refl refl
-call_moves device s number helper.Again =
-    record { leads = inl refl; width = length_answered s.registers (again_answer (turns_here s) (word s 1)); counts = refl; answer = refl }
-call_moves device s number helper.Report = answer_moves s number _ (report_answer s.codes) refl refl refl
-call_moves device s number helper.Zero = answer_moves s number _ (zero_answer device (word s 1)) refl refl refl
-call_moves device s number helper.Mix = answer_moves s number _ (mix_answer device (word s 1)) refl refl refl
-call_moves device s number helper.Same = answer_moves s number _ (same_answer device (word s 1) (word s 2)) refl refl refl
+next_leads : (e : Option ℕ) (a b : ℕ) → b ≡ a → (Some a ≡ Some b) ⊎ (e ≡ Some b)
+next_leads e a b h = inl (ap (λ (n : ℕ). Some n) (sym h))
 
--- the helper that was called
-pub record CallsHelper (s : State) (number : ℤ) (t : State) : Type 0 where
-  pub helper : Helper
-  pub named : helper_of (cast_unsigned w32 number) ≡ Some helper
-  pub called : Called s number helper t
+target_leads : (e : Option ℕ) (a b : ℕ) → b ≡ a → (e ≡ Some b) ⊎ (Some a ≡ Some b)
+target_leads e a b h = inr (ap (λ (n : ℕ). Some n) (sym h))
 
-pub helper_called : (program : List (Option Instr)) (context : List ℕ) (device : List (List ℕ)) (s t : State) (number : ℤ)
-    → step_of program context device s (instr.CallHelper number) ≡ Next t → CallsHelper s number t
-unfolding step_of checks effect
-helper_called program context device s t number e = by_name (helper_of (cast_unsigned w32 number)) refl e
+pub arrives_edge : (sectors : ℕ) (known : Abstract) (slot : ℕ) (i : Instr) (t : State) → Arrives sectors (passes sectors known slot i) t → Leads (edges_of slot i) t.slot
+unfolding passes edges_of
+arrives_edge sectors known slot instr.Exit t a = absurd a
+arrives_edge sectors known slot (instr.Jump distance) t a = target_leads None (target slot distance) t.slot (one_slot sectors (target slot distance) known t a)
+arrives_edge sectors known slot (instr.LongJump distance) t a = target_leads None (target slot distance) t.slot (one_slot sectors (target slot distance) known t a)
+arrives_edge sectors known slot (instr.Branch w c dst from distance) t a =
+    elim (arrives_of sectors (sent (slot + 1) (edge_of known (instr.Branch w c dst from distance) false)) (sent (target slot distance) (edge_of known (instr.Branch w c dst from distance) true)) t a) [
+      | inl left ↦ next_leads (Some (target slot distance)) (slot + 1) t.slot (sent_slot sectors (slot + 1) (edge_of known (instr.Branch w c dst from distance) false) t left)
+      | inr right ↦ target_leads (Some (slot + 1)) (target slot distance) t.slot (sent_slot sectors (target slot distance) (edge_of known (instr.Branch w c dst from distance) true) t right)
+    ]
+arrives_edge sectors known slot (instr.LoadImmediate dst x) t a =
+    next_leads None (slot + 2) t.slot (one_slot sectors (slot + 2) (after_of sectors known (instr.LoadImmediate dst x)) t a)
+arrives_edge sectors known slot i t a = next_leads None (slot + 1) t.slot (one_slot sectors (slot + 1) (after_of sectors known i) t a)
+
+-- the limit of `again` is set before it
+
+move_is : (a b : ℕ) → arithmetic width.W64 op.Mov a b ≡ b
+unfolding arithmetic computed
+move_is a b = refl
+
+next_same : (s t : State) → Next s ≡ Next t → s ≡ t
+next_same s t e = cc
+
+pub limit_set : (program : List (Option Instr)) (context : List ℕ) (device : List (List ℕ)) (m : Parts) (i : Instr) (k : ℕ) (t : State) → length m.registers ≡ 11
+    → limit_of i ≡ Some k → step_of program context device (machine m) i ≡ Next t → register t 1 ≡ Some k
+unfolding limit_of step_of effect
+limit_set program context device m (instr.Arithmetic width.W64 op.Mov dst (source.Immediate n)) k t long e stepped =
+    by ((dst == 1) && (nat_le 1 (cast_unsigned w64 n) && nat_le (cast_unsigned w64 n) 1048576)) refl e
   where
-    by_name : (o : Option Helper) → helper_of (cast_unsigned w32 number) ≡ o
-        → tested s (option_map_or (call_checks program (memory context device s) s) o (check fault.UnknownHelper false ∷ [])) (option_map_or (call_effect device s) o (Next s)) ≡ Next t
-        → CallsHelper s number t
-    by_name None is e = absurd (let bad : Fault fault.UnknownHelper s.slot ≡ Next t = e in cc)
-    by_name (Some h) is e =
-        let came = passed s (first_failing (call_checks program (memory context device s) s h)) (call_effect device s h) t e in
-        record { helper = h; named = is; called = subst (OnNext (Called s number h)) came (call_moves device s number h) }
+    list : List (Check MachineFault)
+    list = checks program (step.memory context device (machine m)) (machine m) (instr.Arithmetic width.W64 op.Mov dst (source.Immediate n))
 
--- the number of `again`
-third : (a b c d e f g : Bool)
-    → (if a then Some helper.Sector
-    else if b then Some helper.Copy
-    else if c then Some helper.Again
-    else if d then Some helper.Report
-    else if e then Some helper.Zero
-    else if f then Some helper.Mix
-    else if g then Some helper.Same
-    else None)
-    ≡ Some helper.Again
-    → c ≡ true
-third true b c d e f g is = cc
-third false true c d e f g is = cc
-third false false true d e f g is = refl
-third false false false true e f g is = cc
-third false false false false true f g is = cc
-third false false false false false true g is = cc
-third false false false false false false true is = cc
-third false false false false false false false is = cc
+    x : ℕ
+    x = arithmetic width.W64 op.Mov (word (machine m) dst) (cast_unsigned w64 n)
 
-again_number : (n : ℕ) → helper_of n ≡ Some helper.Again → (n == 3) ≡ true
-again_number n is = third (n == 1) (n == 2) (n == 3) (n == 4) (n == 5) (n == 6) (n == 7) is
+    came : (f : Option MachineFault) → option_map_or (λ cause. Fault cause m.slot) f (step.set_and_go 1 (machine m) dst x) ≡ Next t → step.set_and_go 1 (machine m) dst x ≡ Next t
+    came None h = h
+    came (Some c) h = absurd (let bad : Fault c m.slot ≡ Next t = h in cc)
 
-number_again : (n : ℕ) → (n == 3) ≡ true → helper_of n ≡ Some helper.Again
-number_again n is =
-    elim (eqb_tells n 3) [
-      | inl same ↦ rw same.1 refl
-      | inr other ↦ absurd (let bad : false ≡ true = sym other.0 ∙ is in cc)
-    ]
+    first : (a b : Bool) → (a && b) ≡ true → a ≡ true
+    first true b f = refl
+    first false b f = absurd (let bad : false ≡ true = f in cc)
 
-pub again_asks : (s : State) (number : ℤ) (t : State) → CallsHelper s number t → (cast_unsigned w32 number == 3) ≡ true → Asks s (instr.CallHelper number) t
-again_asks s number t c is =
-    let named : Some c.helper ≡ Some helper.Again = sym c.named ∙ number_again (cast_unsigned w32 number) is in
-    let same : c.helper ≡ helper.Again = cc in
-    subst (λ (h : Helper). Called s number h t) same c.called
+    by : (b : Bool) → ((dst == 1) && (nat_le 1 (cast_unsigned w64 n) && nat_le (cast_unsigned w64 n) 1048576)) ≡ b
+        → (if b then Some (cast_unsigned w64 n) else None) ≡ Some k → register t 1 ≡ Some k
+    by true f g =
+        let one = first (dst == 1) (nat_le 1 (cast_unsigned w64 n) && nat_le (cast_unsigned w64 n) 1048576) f in
+        let is : dst ≡ 1 = grind (arith, nat_tests) in
+        let next : step.set_and_go 1 (machine m) dst x ≡ Next t = came (first_failing list) stepped in
+        let to : State = record { slot = m.slot + 1; registers = set m.registers dst (Some x); frames = frames_of m.stack; turns = m.turns; codes = m.codes } in
+        let same : Next to ≡ Next t = next in
+        let there : to ≡ t = next_same to t same in
+        ap (λ (s : State). register s 1) (sym there) ∙ ap (λ (d : ℕ). get_or (set m.registers d (Some x)) 1 None) is
+        ∙ get_or-set_same m.registers 1 (Some x) None (omega (arith, long)) ∙ ap (λ (v : ℕ). Some v) (move_is (word (machine m) dst) (cast_unsigned w64 n)) ∙ g
+    by false f g = absurd (let bad : None ≡ Some k = g in cc)
+limit_set program context device m i k t long e stepped = absurd (let bad : None ≡ Some k = e in cc)
 
-pub other_moves : (s : State) (number : ℤ) (t : State) → CallsHelper s number t → (cast_unsigned w32 number == 3) ≡ false → Moves s (instr.CallHelper number) t
-other_moves s number t c is = by_helper c.helper c.named c.called
+-- states that arrive, rounded
+
+pub arrives_rounded : (sectors : ℕ) (heads : List Bool) (xs : List (ℕ × Abstract)) (t : State) → Each (λ (p : ℕ × Abstract). IsState p.1) xs → Arrives sectors xs t
+    → Arrives sectors (map (arrival heads) xs) t
+arrives_rounded sectors heads [] t fits a = absurd a
+arrives_rounded sectors heads (p ∷ xs) t fits (inl h) = inl (h.0, by (get_or heads p.0 false))
   where
-    by_helper : (h : Helper) → helper_of (cast_unsigned w32 number) ≡ Some h → Called s number h t → Moves s (instr.CallHelper number) t
-    by_helper helper.Again named done =
-        absurd (let bad : false ≡ true = sym is ∙ again_number (cast_unsigned w32 number) named in cc)
-    by_helper _ named done = done
+    by : (b : Bool) → Covers sectors (if b then round_state p.1 else p.1) t
+    by true = covers_under sectors p.1 (round_state p.1) t (state_round p.1 fits.0) h.1
+    by false = h.1
+arrives_rounded sectors heads (p ∷ xs) t fits (inr h) = inr (arrives_rounded sectors heads xs t fits.1 h)
 
--- `mov64 r1, K` sets register 1 to K
+each_append : (xs ys : List (ℕ × Abstract)) → Each (λ (p : ℕ × Abstract). IsState p.1) xs → Each (λ (p : ℕ × Abstract). IsState p.1) ys → Each (λ (p : ℕ × Abstract). IsState p.1) (xs ++ ys)
+each_append [] ys a b = b
+each_append (x ∷ xs) ys a b = (a.0, each_append xs ys a.1 b)
 
-if_some : {X : Type 0} (b : Bool) (x y : X) → (if b then Some x else None) ≡ Some y → (b ≡ true) × (x ≡ y)
-if_some true x y h = let same : Some x ≡ Some y = h in (refl, cc)
-if_some false x y h = absurd (let bad : None ≡ Some y = h in cc)
+each_sent : (slot : ℕ) (o : Option Abstract) → Holds IsState o → Each (λ (p : ℕ × Abstract). IsState p.1) (sent slot o)
+each_sent slot None h = tt
+each_sent slot (Some s) h = (h, tt)
 
-set_there : (rs : List (Option ℕ)) (dst x k : ℕ) → (dst == 1) ≡ true → x ≡ k → 1 < length rs → slice_index_or (slice_set rs dst (Some x)) 1 None ≡ Some k
-set_there rs dst x k is same inside =
-    elim (eqb_tells dst 1) [
-      | inl one ↦ rw (one.1, same) (get_or-set_same rs 1 (Some k) None inside)
-      | inr other ↦ absurd (let bad : false ≡ true = sym other.0 ∙ is in cc)
-    ]
-
--- register 1 has that word
-abbrev pub HasLimit : ℕ → State → Type 0
-HasLimit k t = register t 1 ≡ Some k
-
-pub sets_limit : (bytes : ℕ → ByteAt) (device : List (List ℕ)) (s : State) (i : Instr) (k : ℕ) → limit_of i ≡ Some k → 1 < length s.registers
-    → OnNext (HasLimit k) (effect bytes device s i)
-unfolding effect limit_of arithmetic computed
-sets_limit bytes device s (instr.Arithmetic width.W64 op.Mov dst (source.Immediate n)) k is inside =
-    let a = if_some _ (cast_unsigned w64 n) k is in
-    let b = and_parts (dst == 1) _ a.0 in
-    set_there s.registers dst (cast_unsigned w64 n) k b.0 a.1 inside
-sets_limit bytes device s i k is inside = absurd (let bad : None ≡ Some k = is in cc)
-
--- a test of r0 that finds 0 takes no again edge
-
-goes_by : (c : Condition) (slot to : ℕ) → Leads (others_of (Some c) (edges (Some (slot + 1)) (Some to))) (if holds width.W64 c 0 0 then to else slot + 1)
-unfolding holds compared
-goes_by cond.Eq slot to = inr refl
-goes_by cond.Ne slot to = inl refl
-goes_by c slot to = either (holds width.W64 c 0 0) slot to
-
-goes : (b c : Condition) (x y slot to : ℕ) → b ≡ c → x ≡ 0 → y ≡ 0
-    → Leads (others_of (Some c) (edges (Some (slot + 1)) (Some to))) (if holds width.W64 b x y then to else slot + 1)
-goes b c x y slot to e f g = rw (e, f, g) (goes_by c slot to)
-
--- the next slot is reached along one of the other edges
-abbrev pub Passes : State → Instr → Condition → State → Type 0
-Passes s i c t = Leads (others_of (Some c) (edges_of s.slot i)) t.slot
-
-pub passes_test : (bytes : ℕ → ByteAt) (device : List (List ℕ)) (s : State) (i : Instr) (c : Condition) → zero_test i ≡ Some c → word s 0 ≡ 0
-    → OnNext (Passes s i c) (effect bytes device s i)
-unfolding effect edges_of zero_test
-passes_test bytes device s (instr.Branch width.W64 b dst (source.Immediate n) distance) c is zero_there =
-    let a = if_some ((dst == 0) && int_eq n (pos 0)) b c is in
-    let d = and_parts (dst == 0) (int_eq n (pos 0)) a.0 in
-    let number : n ≡ pos 0 = (Decides-int_eq n (pos 0)).0 d.1 in
-    let constant : cast_unsigned w64 n ≡ 0 = rw number refl in
-    elim (eqb_tells dst 0) [
-      | inl first ↦
-          let tested_word : word s dst ≡ 0 = ap (word s) first.1 ∙ zero_there in
-          goes b c (word s dst) (cast_unsigned w64 n) s.slot (target s.slot distance) a.1 tested_word constant
-      | inr other ↦ absurd (let bad : false ≡ true = sym other.0 ∙ d.0 in cc)
-    ]
-passes_test bytes device s i c is zero_there = absurd (let bad : None ≡ Some c = is in cc)
+pub passes_fit : (sectors : ℕ) (known : Abstract) (slot : ℕ) (i : Instr) → sectors < 2 ^ 64 → IsInRange i → IsState known → Each (λ (p : ℕ × Abstract). IsState p.1) (passes sectors known slot i)
+unfolding passes
+passes_fit sectors known slot instr.Exit few range fits = tt
+passes_fit sectors known slot (instr.Jump distance) few range fits = (fits, tt)
+passes_fit sectors known slot (instr.LongJump distance) few range fits = (fits, tt)
+passes_fit sectors known slot (instr.Branch w c dst from distance) few range fits =
+    each_append (sent (slot + 1) (edge_of known (instr.Branch w c dst from distance) false)) (sent (target slot distance) (edge_of known (instr.Branch w c dst from distance) true))
+    (each_sent (slot + 1) (edge_of known (instr.Branch w c dst from distance) false) (edge_fits known (instr.Branch w c dst from distance) false range fits))
+    (each_sent (target slot distance) (edge_of known (instr.Branch w c dst from distance) true) (edge_fits known (instr.Branch w c dst from distance) true range fits))
+passes_fit sectors known slot (instr.LoadImmediate dst x) few range fits = (after_fits sectors known (instr.LoadImmediate dst x) few range fits, tt)
+passes_fit sectors known slot i few range fits = (after_fits sectors known i few range fits, tt)

@@ -1,4 +1,8 @@
--- What holds of the runs of accepted programs.
+-- What the tables of the verifier say of the machine, and how runs of accepted programs end.
+pub mod Meaning
+pub mod Machines
 pub mod Reaching
+pub mod Laws
 pub mod Ending
+pub mod Accepted
 pub mod Worked

@@ -1,49 +1,83 @@
-//! Runs of accepted programs. The crate has no code that runs.
+//! The soundness of the verifier: what an accepted program does on the machine. It has no code that runs.
 //!
-//! What the verifier accepts has to be safe: on the machine no step is a fault, and the program ends
-//! within its budget. This crate proves the second half of that from the shape of a program: where a
-//! run meets no fault, it reaches `exit` within the budget (docs/VERIFIER.md, Shape rules and Budget).
+//! The verifier walks over a program with abstract states and never sees a device. This crate says what
+//! those states mean of the machine on which the program runs, and proves that a program which is accepted
+//! runs safely: on each image of the size for which it was accepted no step is a fault, and the run ends in
+//! a verdict within the budget (docs/GUARANTEES.md, Verifier soundness; docs/VERIFIER.md). It speaks of
+//! programs without functions of their own, which are all that there are so far.
 //!
 //! # Place
 //!
-//! On `machine`, whose runs it speaks of, and on `bpf_shape`, which says what right shape and the budget
-//! are. Nothing here looks at tables or ranges.
+//! On `machine`, whose steps and runs it speaks of, on `intervals` and `ranges`, which say what abstract
+//! values are and what an instruction makes of them, on `bpf_shape` for the rules of shape and the budget,
+//! and on `verifier`, which says what a good table is and which programs are accepted. What stands above it
+//! needs only its laws.
 //!
 //! # The definitions
 //!
+//! - `Meaning`: `Means` says what an abstract value says of a register: a number of a range, an address of
+//!   the context, of the stack of the frame at hand or of a sector, or 0 or the address of a sector; of
+//!   `Unset` it says nothing. `Covers` says that an abstract state covers a state of the machine: register
+//!   by register, and the bytes of the stack by groups of eight. Bytes that are called written are set, and
+//!   a spilled pointer says what it says of the number that its eight bytes hold. The frame at hand is the
+//!   last one.
+//! - `Machines`: `IsSetting` is a program of right shape with a device of 512-byte sectors and a context
+//!   that tells of it. `IsMachine` says how a machine with one frame looks between two steps, and
+//!   `HasLimit` that register 1 holds the limit of a call of `again` that comes next. That is a fact about
+//!   the program and not about the table, whose state at the call may know less.
 //! - `Reaching`: `Reached program context device n s` says that n steps lead from the start to state s.
 //!   `StepsWithoutFault`: no step from a reached state is a fault. `NeverFaults`: the run stops at none,
 //!   however many steps are made.
 //! - `Ending`: `EndsWithin`: within so many steps from the start the program ends in a verdict.
-//! - `Worked`: the program nested_loops.
+//! - `Accepted`: `IsImage` is what may be asked of a device and a context of a size, and `IsSafeRun` what is
+//!   promised of a run on it.
 //!
 //! # What is proved
 //!
-//! The crate's functions do nothing; each is a law.
+//! The crate's functions do nothing; each is a law of the definitions.
 //!
-//! - `run_ends_within_budget`: a program of right shape whose run never faults ends in a verdict within
-//!   its budget, on every device and in every context.
+//! - `accepted_runs_safely`: a program that the verifier accepts for a number of sectors, with a budget, runs
+//!   safely on each image of that size: no step from a reached state is a fault, and the outcome within the
+//!   budget is a verdict.
+//! - `order_keeps_meaning`: a state that knows less covers all that one does which knows more. So joins and
+//!   rounding lose no machine.
+//! - `step_is_covered`: where a slot breaks no rule, the step of a machine that its state covers is the end,
+//!   or it goes on along a control edge to a machine which a state covers that the slot sends there. It is
+//!   never a fault. This holds for each instruction.
+//! - `step_is_safe`: the same over a good table: the machine behind the step is covered by the table again.
+//! - `table_covers`: so a good table covers each machine that is reached in any number of steps, and no step
+//!   of any of them is a fault.
+//! - `run_ends_within_budget`: a program of right shape whose run never faults ends in a verdict within its
+//!   budget, on every device and in every context.
 //! - `faults_are_of_steps`: the run never faults exactly where no step from a reached state is a fault.
 //! - `runs_go_on`: a run of n + m steps is the run of m steps from the state that n steps reach.
-//! - `worked_loops`: the program nested_loops of docs/ASSEMBLY.md ends at its 29th step.
 //!
-//! # Why it ends
+//! # How it is proved
 //!
-//! Before each step three numbers are kept: how often the calls of `again` may still answer 1, a room
-//! that bounds each path from the slot at hand, and what is pending. A step along an edge of paths takes
-//! one of the room. A call that answers 1 takes a turn, and a longest path is pending for it; its again
-//! edge takes what is pending and makes it the room. So the turns left times the longest path, what is
-//! pending and the room fall together with each step, and the room is never 0. The form of `again`
-//! matters twice: no jump leads to a call, so register 1 has its K, and none to the test behind it, so
-//! register 0 has its answer.
+//! Each form of instruction has a lemma over plain variables, `.._goes`, which says that its step goes to a
+//! machine that its states cover: `Computing` and `Pointers` (arithmetic), `Loads`, `Stores` and `Stacks`,
+//! `Branches`, `Calls`. `Steps` puts them together, and `Tables` leads from one step to all of them.
+//!
+//! That a run ends is another matter, of shape alone. Before each step three numbers are kept: how often the
+//! calls of `again` may still answer 1, a room that bounds each path from the slot at hand, and what is
+//! pending. A step along an edge of paths takes one of the room. A call that answers 1 takes a turn, and a
+//! longest path is pending for it; its again edge takes what is pending and makes it the room. So the turns
+//! left times the longest path, what is pending and the room fall together with each step, and the room is
+//! never 0. The form of `again` matters twice: no jump leads to a call, so register 1 has its K, and none to
+//! the test behind it, so register 0 has its answer (`Room`, `Progress`, `Within`).
 //!
 //! # Example
 //!
 //! ```text
-//! run nested_loops context device 29 start    // Verdict 0 []; its budget is 54 steps
+//! // mov64 r1, 2; call 3; jeq r0, 0, +1; ja -4; exit
+//! // budget: one more than K = 2, times the 5 slots of the longest path, which is 15 steps
 //! ```
 #![tactic(auto)]
 
+mod accepted;
 mod ending;
+mod laws;
 
+pub use accepted::accepted_runs_safely;
 pub use ending::{faults_are_of_steps, run_ends_within_budget, runs_go_on, worked_loops};
+pub use laws::{order_keeps_meaning, step_is_covered, step_is_safe, table_covers};

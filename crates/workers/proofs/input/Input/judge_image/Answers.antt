@@ -19,6 +19,6 @@ loop-number-preserved c =
     slice_get_read checkers (length checkers) c.loop-number.number c.checker-item.result refl c.loop-number-test.true c.checker-item.is in
     let same : c.self.inside.plan.now ≡ c.args.self.now.plan = ap (λ (s : Subject). s.plan) c.self.view_is in
     let shown : c.in_ok-view.view ≡ view_of c.args.self.now.plan c.args.choice.now =
-    c.in_ok-view.ensures ∙ ap (λ (plan : PlanValue). view_of plan c.args.choice.now) (c.self.invariant.history ∙ same) in
+    c.in_ok-view.ensures.value ∙ ap (λ (plan : PlanValue). view_of plan c.args.choice.now) (c.self.invariant.history ∙ same) in
     c.in_ok-judge_checker.ensures c.args.self.now shown
     ∙ checker_next c.args.self.now c.args.image c.loop-number.number c.args.choice.now c.checker-item.result c.args.lines.now c.loop-number.lines c.requires (rw (← c.self.view_is) there) c.loop-number.invariant

@@ -1,0 +1,98 @@
+-- What values, groups and states mean.
+use Rattle.std.proofs.Common.{◌≡◌, ℕ, zero, suc, Bool, true, false, List, [], ◌∷◌, replicate, get_or, Option, Some, refl, sym, ◌∙◌, arith}
+use Rattle.machine.specs.State.{State, register}
+use Rattle.intervals.specs.Spans.{Span, Has, Within}
+use Rattle.ranges.specs.Kinds.{Kind, Unset, Num, Ctx, Stack, Sector, SectorOrNull, is_unset}
+use Rattle.ranges.specs.Groups.{GroupKind, Marked, Spilled}
+use Rattle.ranges.specs.States.{Abstract}
+use Rattle.ranges.specs.Order.{Under, MarksUnder, GroupUnder, EachUnder, StateUnder}
+use Rattle.ranges.specs.Reading.{value}
+use Rattle.soundness.specs.Meaning.{Describes, Means, GroupMeans, Covers}
+
+-- a set value is that of a word
+pub means_word : (sectors frame : ℕ) (k : Kind) (c : Option ℕ) → is_unset k ≡ false → Means sectors frame k c
+    → (w : ℕ) × (c ≡ Some w) × Describes sectors frame k w
+means_word sectors frame Unset c e m = absurd (let bad : true ≡ false = e in cc)
+means_word sectors frame (Num x) c e m = m
+means_word sectors frame (Ctx o) c e m = m
+means_word sectors frame (Stack o) c e m = m
+means_word sectors frame (Sector x) c e m = m
+means_word sectors frame SectorOrNull c e m = m
+
+pub word_means : (sectors frame : ℕ) (k : Kind) (w : ℕ) → Describes sectors frame k w → Means sectors frame k (Some w)
+word_means sectors frame Unset w d = tt
+word_means sectors frame (Num x) w d = (w, refl, d)
+word_means sectors frame (Ctx o) w d = (w, refl, d)
+word_means sectors frame (Stack o) w d = (w, refl, d)
+word_means sectors frame (Sector x) w d = (w, refl, d)
+word_means sectors frame SectorOrNull w d = (w, refl, d)
+
+-- the order of values
+
+has_within : (x y : Span) (a : ℕ) → Within x y → Has x a → Has y a
+has_within x y a p h = record { from = omega (arith, p.from, h.from); upto = omega (arith, p.upto, h.upto) }
+
+described_under : (sectors frame : ℕ) (k l : Kind) (w : ℕ) → Under k l → Describes sectors frame k w → Describes sectors frame l w
+described_under sectors frame k Unset w p d = tt
+described_under sectors frame (Num x) (Num y) w p d = has_within x y w p d
+described_under sectors frame (Ctx a) (Ctx b) w p d = rw (← p) d
+described_under sectors frame (Stack a) (Stack b) w p d = rw (← p) d
+described_under sectors frame (Sector x) (Sector y) w p d = (d.0, d.1, d.2, has_within x y d.1 p d.3, d.4)
+described_under sectors frame SectorOrNull SectorOrNull w p d = d
+described_under sectors frame k l w p d = absurd p
+
+never_unset : (k l : Kind) → is_unset l ≡ false → Under k l → is_unset k ≡ false
+never_unset Unset l e p = by l e p
+  where
+    by : (l : Kind) → is_unset l ≡ false → Under Unset l → is_unset Unset ≡ false
+    by Unset e p = e
+    by _ e p = absurd p
+never_unset _ l e p = refl
+
+means_some : (sectors frame : ℕ) (l : Kind) (c : Option ℕ) → (is_unset l ≡ false → (w : ℕ) × (c ≡ Some w) × Describes sectors frame l w) → Means sectors frame l c
+means_some sectors frame Unset c f = tt
+means_some sectors frame (Num x) c f = f refl
+means_some sectors frame (Ctx o) c f = f refl
+means_some sectors frame (Stack o) c f = f refl
+means_some sectors frame (Sector x) c f = f refl
+means_some sectors frame SectorOrNull c f = f refl
+
+pub means_under : (sectors frame : ℕ) (k l : Kind) (c : Option ℕ) → Under k l → Means sectors frame k c → Means sectors frame l c
+means_under sectors frame k l c p m =
+    means_some sectors frame l c (λ e. let h = means_word sectors frame k c (never_unset k l e p) m in (h.0, h.1, described_under sectors frame k l h.0 p h.2))
+
+-- the order of groups
+
+unset_at : (n k : ℕ) → get_or (replicate n false) k false ≡ false
+unset_at zero k = refl
+unset_at (suc n) zero = refl
+unset_at (suc n) (suc k) = unset_at n k
+
+mark_under : (xs ys : List Bool) (k : ℕ) → MarksUnder xs ys → get_or ys k false ≡ true → get_or xs k false ≡ true
+mark_under [] [] k p e = e
+mark_under [] (y ∷ ys) k p e = absurd p
+mark_under (x ∷ xs) [] k p e = absurd p
+mark_under (x ∷ xs) (y ∷ ys) zero p e = p.0 e
+mark_under (x ∷ xs) (y ∷ ys) (suc k) p e = mark_under xs ys k p.1 e
+
+group_under : (sectors frame : ℕ) (g h : GroupKind) (stack : List (Option ℕ)) (i : ℕ) → GroupUnder g h → GroupMeans sectors frame g stack i → GroupMeans sectors frame h stack i
+group_under sectors frame (Marked xs) (Marked ys) stack i p m = λ k lt e. m k lt (mark_under xs ys k p e)
+group_under sectors frame (Spilled x) (Marked ys) stack i p m =
+    λ k lt e. absurd (let none : get_or ys k false ≡ false = rw p (unset_at 8 k) in let bad : true ≡ false = sym e ∙ none in cc)
+group_under sectors frame (Spilled x) (Spilled y) stack i p m = (m.0, means_under sectors frame x y _ p m.1)
+group_under sectors frame (Marked xs) (Spilled y) stack i p m = absurd p
+
+-- the order of states
+
+pub each_at : {X : Type 0} (R : X → X → Type 0) (xs ys : List X) (i : ℕ) (d : X) → R d d → EachUnder R xs ys → R (get_or xs i d) (get_or ys i d)
+each_at R [] [] i d h p = h
+each_at R [] (y ∷ ys) i d h p = absurd p
+each_at R (x ∷ xs) [] i d h p = absurd p
+each_at R (x ∷ xs) (y ∷ ys) zero d h p = p.0
+each_at R (x ∷ xs) (y ∷ ys) (suc i) d h p = each_at R xs ys i d h p.1
+
+pub covers_under : (sectors : ℕ) (known less : Abstract) (s : State) → StateUnder known less → Covers sectors known s → Covers sectors less s
+covers_under sectors known less s p c = record {
+  registers = λ r. means_under sectors _ (value known r) (value less r) (register s r) (each_at Under known.values less.values r Unset tt p.values) (c.registers r);
+  groups = λ g. group_under sectors _ (get_or known.groups g (Marked [])) (get_or less.groups g (Marked [])) _ g (each_at GroupUnder known.groups less.groups g (Marked []) tt p.groups) (c.groups g);
+}

@@ -1,0 +1,239 @@
+-- What a program of right shape has at a slot.
+use Rattle.std.proofs.Common.{◌≡◌, ◌<◌, ℕ, zero, suc, ◌+◌, ◌-◌, ◌==◌, ◌&&◌, nat_le, not, Bool, true, false, if◌then◌else◌, ℤ, List, [], ◌∷◌, ◌++◌, length, map, is_some, slice_get, Option, None, Some, refl, sym, ap, ◌∙◌, inl, inr, subst, arith}
+use Rattle.std.specs.Option.{option_map_or, option_and_then}
+use Rattle.std.specs.Int.{cast_unsigned, w32, w64}
+use Rattle.std.proofs.lemmas.Bool.{cases_lt}
+use Rattle.std.proofs.lemmas.Bool.Decides.{nat_tests}
+use Rattle.base.proofs.Lists.{slice_get_of_append, slice_get-append_right}
+use Rattle.bpf_isa.specs.declared.instr.Instr.{Instr}
+use Rattle.bpf_isa.specs.declared.instr.Instr.TheVariants as instr
+use Rattle.bpf_isa.specs.declared.instr.Source.TheVariants as source
+use Rattle.bpf_isa.specs.declared.instr.Width.TheVariants as width
+use Rattle.bpf_isa.specs.declared.instr.Operator.TheVariants as op
+use Rattle.bpf_isa.specs.Program.{halves, slots_of, AllInRange, IsProgram}
+use Rattle.bpf_isa.specs.Spelling.{second_of, IsInRange}
+use Rattle.helpers.specs.declared.helper.Helper.TheVariants as helper
+use Rattle.helpers.specs.Helper.{helper_of}
+use Rattle.machine.specs.Step.{at, is_limit}
+use Rattle.bpf_shape.specs.declared.edges.Edges.{Edges}
+use Rattle.bpf_shape.specs.Edges.{edges_of, control}
+use Rattle.bpf_shape.specs.Again.{helper_number, calls_again, limit_of, limit_before, answer_test, is_slot, is_target}
+use Rattle.bpf_shape.specs.Paths.{Leads}
+use Rattle.bpf_shape.specs.Rules.{written, is_equality, has_form, keeps, Breaks, IsShaped}
+use Rattle.soundness.proofs.Checks.{and_parts}
+use Rattle.soundness.proofs.Standing.{not_unset}
+use Rattle.bpf_shape.proofs.Ranges.{any_at}
+use Rattle.bpf_shape.proofs.Kept.{at_past, edges_begin}
+
+-- an instruction of a program is in range
+
+no_half : {Y : Type 0} (f : Y → Option Instr) (ys : List Y) (s : ℕ) (i : Instr) → ((y : Y) → f y ≡ None) → slice_get (map f ys) s ≡ Some (Some i) → ⊥
+no_half f [] s i none e = let bad : None ≡ Some (Some i) = e in cc
+no_half f (y ∷ ys) zero i none e = let this : f y ≡ None = none y in let bad : Some (f y) ≡ Some (Some i) = e in cc
+no_half f (y ∷ ys) (suc s) i none e = no_half f ys s i none e
+
+range_in : (instrs : List Instr) (s : ℕ) (i : Instr) → AllInRange instrs → slice_get (slots_of instrs) s ≡ Some (Some i) → IsInRange i
+range_in [] s i all e = absurd (let bad : None ≡ Some (Some i) = e in cc)
+range_in (x ∷ rest) zero i all e = let same : Some (Some x) ≡ Some (Some i) = e in let is : x ≡ i = cc in subst IsInRange is all.0
+range_in (x ∷ rest) (suc s) i all e =
+    elim (slice_get_of_append (halves x) (slots_of rest) s (Some i) e) [
+      | inl half ↦ absurd (no_half (λ _. None) (second_of x) s i (λ y. refl) half.1)
+      | inr more ↦ range_in rest (s - length (halves x)) i all.1 more.1
+    ]
+
+-- behind a 64-bit immediate its second half stands
+half_in : (instrs : List Instr) (s dst v : ℕ) → slice_get (slots_of instrs) s ≡ Some (Some (instr.LoadImmediate dst v)) → slice_get (slots_of instrs) (suc s) ≡ Some None
+half_in [] s dst v e = absurd (let bad : None ≡ Some (Some (instr.LoadImmediate dst v)) = e in cc)
+half_in (x ∷ rest) zero dst v e =
+    let same : Some (Some x) ≡ Some (Some (instr.LoadImmediate dst v)) = e in
+    let is : x ≡ instr.LoadImmediate dst v = cc in
+    subst (λ y. slice_get (halves y ++ slots_of rest) 0 ≡ Some None) (sym is) refl
+half_in (x ∷ rest) (suc s) dst v e =
+    elim (slice_get_of_append (halves x) (slots_of rest) s (Some (instr.LoadImmediate dst v)) e) [
+      | inl half ↦ absurd (no_half (λ _. None) (second_of x) s (instr.LoadImmediate dst v) (λ y. refl) half.1)
+      | inr more ↦
+          let next = half_in rest (s - length (halves x)) dst v more.1 in
+          let place : length (halves x) + suc (s - length (halves x)) ≡ suc s = omega (arith, more.0) in
+          ap (slice_get (halves x ++ slots_of rest)) (sym place) ∙ slice_get-append_right (halves x) (slots_of rest) (suc (s - length (halves x))) ∙ next
+    ]
+
+listed : (program : List (Option Instr)) (s : ℕ) (i : Instr) → at program s ≡ Some i → slice_get program s ≡ Some (Some i)
+listed program s i e = by (slice_get program s) e
+  where
+    by : (o : Option (Option Instr)) → option_and_then (λ j. j) o ≡ Some i → o ≡ Some (Some i)
+    by None f = absurd (let bad : None ≡ Some i = f in cc)
+    by (Some o) f = ap (λ (j : Option Instr). Some j) f
+
+pub range_at : (program : List (Option Instr)) (s : ℕ) (i : Instr) → IsProgram program → at program s ≡ Some i → IsInRange i
+range_at program s i is e = range_in is.whole.instrs s i is.whole.ranges (ap (λ (p : List (Option Instr)). slice_get p s) (sym is.whole.listed) ∙ listed program s i e)
+
+half_at : (program : List (Option Instr)) (s dst v : ℕ) → IsProgram program → at program s ≡ Some (instr.LoadImmediate dst v) → at program (s + 1) ≡ None
+half_at program s dst v is e =
+    let one : s + 1 ≡ suc s = omega arith in
+    let there = half_in is.whole.instrs s dst v (ap (λ (p : List (Option Instr)). slice_get p s) (sym is.whole.listed) ∙ listed program s (instr.LoadImmediate dst v) e) in
+    let none : slice_get program (suc s) ≡ Some None = ap (λ (p : List (Option Instr)). slice_get p (suc s)) is.whole.listed ∙ there in
+    rw one (ap (λ (o : Option (Option Instr)). option_and_then (λ (j : Option Instr). j) o) none)
+
+-- rules of shape
+
+holds_true : (b : Bool) → (b ≡ false → ⊥) → b ≡ true
+holds_true true h = refl
+holds_true false h = absurd (h refl)
+
+pub free_at : (program : List (Option Instr)) (s : ℕ) (i : Instr) → IsShaped program → at program s ≡ Some i → option_map_or (λ r. not (r == 10)) (written i) true ≡ true
+unfolding Breaks keeps
+free_at program s i shaped e =
+    let kept = holds_true (option_map_or (λ r. not (r == 10)) (option_and_then written (at program s)) true) (shaped.frame_pointer s) in
+    ap (λ (o : Option Instr). option_map_or (λ r. not (r == 10)) (option_and_then written o) true) (sym e) ∙ kept
+
+known_number : (n : ℕ) → (nat_le 1 n && nat_le n 7) ≡ true → is_some (helper_of n) ≡ true
+known_number zero e = absurd (let bad : false ≡ true = e in cc)
+known_number (suc zero) e = refl
+known_number (suc (suc zero)) e = refl
+known_number (suc (suc (suc zero))) e = refl
+known_number (suc (suc (suc (suc zero)))) e = refl
+known_number (suc (suc (suc (suc (suc zero))))) e = refl
+known_number (suc (suc (suc (suc (suc (suc zero)))))) e = refl
+known_number (suc (suc (suc (suc (suc (suc (suc zero))))))) e = refl
+known_number (suc (suc (suc (suc (suc (suc (suc (suc n)))))))) e = absurd (grind (arith, nat_tests))
+
+pub helper_known : (program : List (Option Instr)) (s : ℕ) (number : ℤ) → IsShaped program → at program s ≡ Some (instr.CallHelper number)
+    → is_some (helper_of (cast_unsigned w32 number)) ≡ true
+unfolding Breaks keeps
+helper_known program s number shaped e =
+    let kept = holds_true (option_map_or (λ n. nat_le 1 n && nat_le n 7) (option_and_then helper_number (at program s)) true) (shaped.helpers s) in
+    known_number (cast_unsigned w32 number) (ap (λ (o : Option Instr). option_map_or (λ n. nat_le 1 n && nat_le n 7) (option_and_then helper_number o) true) (sym e) ∙ kept)
+
+-- control edges
+
+control_is : (program : List (Option Instr)) (s : ℕ) (i : Instr) → at program s ≡ Some i → control program s ≡ edges_of s i
+unfolding control
+control_is program s i e = rw e refl
+
+pub leads_at : (program : List (Option Instr)) (s t : ℕ) (i : Instr) → at program s ≡ Some i → Leads (edges_of s i) t → Leads (control program s) t
+leads_at program s t i e h = subst (λ (x : Edges). Leads x t) (sym (control_is program s i e)) h
+
+pub begins_at : (program : List (Option Instr)) (s t : ℕ) (i : Instr) → IsShaped program → at program s ≡ Some i → Leads (edges_of s i) t → is_some (at program t) ≡ true
+begins_at program s t i shaped e h = edges_begin program shaped.targets shaped.ends s t (leads_at program s t i e h)
+
+-- calls of `again`
+
+third : (a b c d e f g : Bool)
+    → (if a then Some helper.Sector
+    else if b then Some helper.Copy
+    else if c then Some helper.Again
+    else if d then Some helper.Report
+    else if e then Some helper.Zero
+    else if f then Some helper.Mix
+    else if g then Some helper.Same
+    else None)
+    ≡ Some helper.Again
+    → c ≡ true
+third true b c d e f g is = cc
+third false true c d e f g is = cc
+third false false true d e f g is = refl
+third false false false true e f g is = cc
+third false false false false true f g is = cc
+third false false false false false true g is = cc
+third false false false false false false true is = cc
+third false false false false false false false is = cc
+
+pub calls_at : (program : List (Option Instr)) (s : ℕ) (number : ℤ) → at program s ≡ Some (instr.CallHelper number)
+    → helper_of (cast_unsigned w32 number) ≡ Some helper.Again → calls_again program s ≡ true
+unfolding calls_again
+calls_at program s number e is =
+    let n : ℕ = cast_unsigned w32 number in
+    let three : (n == 3) ≡ true = third (n == 1) (n == 2) (n == 3) (n == 4) (n == 5) (n == 6) (n == 7) is in
+    rw e three
+
+limit_small : (i : Instr) (k : ℕ) → limit_of i ≡ Some k → is_limit k ≡ true
+unfolding limit_of
+limit_small (instr.Arithmetic width.W64 op.Mov dst (source.Immediate n)) k e =
+    by ((dst == 1) && (nat_le 1 (cast_unsigned w64 n) && nat_le (cast_unsigned w64 n) 1048576)) refl e
+  where
+    second : (a b : Bool) → (a && b) ≡ true → b ≡ true
+    second true b f = f
+    second false b f = absurd (let bad : false ≡ true = f in cc)
+
+    by : (b : Bool) → ((dst == 1) && (nat_le 1 (cast_unsigned w64 n) && nat_le (cast_unsigned w64 n) 1048576)) ≡ b
+        → (if b then Some (cast_unsigned w64 n) else None) ≡ Some k → is_limit k ≡ true
+    by true f g =
+        let same : cast_unsigned w64 n ≡ k = cc in
+        rw (← same) (second (dst == 1) (nat_le 1 (cast_unsigned w64 n) && nat_le (cast_unsigned w64 n) 1048576) f)
+    by false f g = absurd (let bad : None ≡ Some k = g in cc)
+limit_small _ k e = absurd (let bad : None ≡ Some k = e in cc)
+
+-- the limit of a call is one that the helper takes
+pub limit_taken : (program : List (Option Instr)) (s k : ℕ) → limit_before program s ≡ Some k → is_limit k ≡ true
+unfolding limit_before
+limit_taken program s k e = by (s == 0) e
+  where
+    by_instr : (o : Option Instr) → option_and_then limit_of o ≡ Some k → is_limit k ≡ true
+    by_instr None f = absurd (let bad : None ≡ Some k = f in cc)
+    by_instr (Some i) f = limit_small i k f
+
+    by : (b : Bool) → (if b then None else option_and_then limit_of (at program (s - 1))) ≡ Some k → is_limit k ≡ true
+    by true f = absurd (let bad : None ≡ Some k = f in cc)
+    by false f = by_instr (at program (s - 1)) f
+
+-- the limit before a slot is that of the instruction in the slot before
+pub limit_is : (program : List (Option Instr)) (s k : ℕ) (i : Instr) → at program s ≡ Some i → limit_before program (s + 1) ≡ Some k → limit_of i ≡ Some k
+unfolding limit_before
+limit_is program s k i e f =
+    let some : (s + 1 == 0) ≡ false = grind (arith, nat_tests) in
+    let back : s + 1 - 1 ≡ s = omega arith in
+    let g : option_and_then limit_of (at program s) ≡ Some k = rw (some, back) at f in
+    ap (λ (o : Option Instr). option_and_then limit_of o) (sym e) ∙ g
+
+-- no limit is set in a second half
+pub no_limit : (program : List (Option Instr)) (s k dst v : ℕ) → IsProgram program → at program s ≡ Some (instr.LoadImmediate dst v) → limit_before program (s + 2) ≡ Some k → ⊥
+unfolding limit_before
+no_limit program s k dst v is e f =
+    let some : (s + 2 == 0) ≡ false = grind (arith, nat_tests) in
+    let back : s + 2 - 1 ≡ s + 1 = omega arith in
+    let g : option_and_then limit_of (at program (s + 1)) ≡ Some k = rw (some, back) at f in
+    let none : at program (s + 1) ≡ None = half_at program s dst v is e in
+    let bad : None ≡ Some k = ap (λ (o : Option Instr). option_and_then limit_of o) (sym none) ∙ g in
+    cc
+
+-- what stands before a call of `again`
+pub record Before (program : List (Option Instr)) (s : ℕ) : Type 0 where
+  pub number : ℕ
+  pub is : limit_before program s ≡ Some number
+  pub free : is_target program s ≡ false
+
+some_number : (o : Option ℕ) → is_some o ≡ true → (k : ℕ) × (o ≡ Some k)
+some_number None e = absurd (let bad : false ≡ true = e in cc)
+some_number (Some k) e = (k, refl)
+
+pub before_again : (program : List (Option Instr)) (s : ℕ) → IsShaped program → calls_again program s ≡ true → Before program s
+unfolding Breaks keeps has_form
+before_again program s shaped calls =
+    let kept = holds_true (if calls_again program s then has_form program s else true) (shaped.again s) in
+    let form : has_form program s ≡ true = ap (λ (b : Bool). if b then has_form program s else true) (sym calls) ∙ kept in
+    let one = and_parts (is_some (limit_before program s)) (is_equality (answer_test program (s + 1)) && (not (is_target program s) && not (is_target program (s + 1)))) form in
+    let two = and_parts (is_equality (answer_test program (s + 1))) (not (is_target program s) && not (is_target program (s + 1))) one.1 in
+    let three = and_parts (not (is_target program s)) (not (is_target program (s + 1))) two.1 in
+    let limit = some_number (limit_before program s) one.0 in
+    record { number = limit.0; is = limit.1; free = not_unset (is_target program s) three.0 }
+
+-- a jump leads to no call of `again`
+pub target_marked : (program : List (Option Instr)) (s t : ℕ) (i : Instr) → at program s ≡ Some i → (edges_of s i).target ≡ Some t → is_target program t ≡ true
+unfolding is_target
+target_marked program s t i e h =
+    any_at (λ q. is_slot t (control program q).target) (length program) s inside
+    (ap (λ (x : Edges). is_slot t x.target) (control_is program s i e) ∙ ap (is_slot t) h ∙ same t)
+  where
+    same : (t : ℕ) → (t == t) ≡ true
+    same t = grind (arith, nat_tests)
+
+    inside : s < length program
+    inside = elim (cases_lt s (length program)) [
+      | inl less ↦ less
+      | inr past ↦ absurd (let bad : None ≡ Some i = sym (at_past program s past) ∙ e in cc)
+    ]
+
+pub no_target : (program : List (Option Instr)) (s t : ℕ) (i : Instr) → IsShaped program → at program s ≡ Some i → (edges_of s i).target ≡ Some t → calls_again program t ≡ true → ⊥
+no_target program s t i shaped e h calls =
+    let bad : true ≡ false = sym (target_marked program s t i e h) ∙ (before_again program t shaped calls).free in
+    cc

@@ -1,0 +1,270 @@
+-- What a step that leads on has done: it went along a control edge, and only a call of `again` counts.
+use Rattle.std.proofs.Common.{ℕ, ℤ, pos, ◌≡◌, ◌+◌, ◌<◌, ◌⊎◌, ◌&&◌, ◌==◌, Bool, true, false, if◌then◌else◌, List, [], ◌∷◌, length, slice_index_or, slice_set, Option, Some, None, refl, sym, ◌∙◌, ap, subst, inl, inr, arith}
+use Rattle.std.specs.Option.{option_map_or}
+use Rattle.std.specs.Int.{cast_unsigned, w32, w64}
+use Rattle.std.specs.Ordering.{int_eq}
+use Rattle.std.proofs.lemmas.Bool.{and_parts}
+use Rattle.std.proofs.lemmas.Bool.Decides.{eqb_tells, Decides-int_eq}
+use Rattle.std.proofs.lemmas.List.{length-set, get_or-set_same}
+use Rattle.base.specs.Check.{check, first_failing}
+use Rattle.base.specs.declared.causes.MachineFault.{MachineFault}
+use Rattle.base.specs.declared.causes.MachineFault.TheVariants as fault
+use Rattle.bpf_isa.specs.declared.instr.Instr.{Instr}
+use Rattle.bpf_isa.specs.declared.instr.Instr.TheVariants as instr
+use Rattle.bpf_isa.specs.declared.instr.Width.TheVariants as width
+use Rattle.bpf_isa.specs.declared.instr.Operator.TheVariants as op
+use Rattle.bpf_isa.specs.declared.instr.Source.TheVariants as source
+use Rattle.bpf_isa.specs.declared.instr.Condition.{Condition}
+use Rattle.bpf_isa.specs.declared.instr.Condition.TheVariants as cond
+use Rattle.helpers.specs.declared.helper.Helper.{Helper}
+use Rattle.helpers.specs.declared.helper.Helper.TheVariants as helper
+use Rattle.helpers.specs.Helper.{helper_of}
+use Rattle.helpers.specs.Answers.{sector_answer, copy_answer, again_answer, report_answer, zero_answer, mix_answer, same_answer}
+use Rattle.bpf_shape.specs.Edges.{edges, edges_of}
+use Rattle.bpf_shape.specs.Again.{helper_number, limit_of, zero_test, others_of}
+use Rattle.bpf_shape.specs.Paths.{Leads}
+use Rattle.machine.specs.declared.ByteAt.{ByteAt}
+use Rattle.machine.specs.Arithmetic.{arithmetic, computed, extended, in_order, holds, compared}
+use Rattle.machine.specs.Memory.{byte_count, plain_size, extension_of, loaded}
+use Rattle.machine.specs.State.{State, register, word}
+use Rattle.machine.specs.Step.{Stepped, Next, Done, Fault, at, second, target, address, memory, checks, call_checks, with_answer, set_and_go, turns_here, counted, effect, call_effect, tested, step_of, step}
+
+-- an instruction that goes along an edge of its slot and counts nothing
+pub record Moves (s : State) (i : Instr) (t : State) : Type 0 where
+  pub leads : Leads (edges_of s.slot i) t.slot
+  pub width : length t.registers ≡ length s.registers
+  pub counts : t.turns ≡ s.turns
+
+-- a call of `again`
+pub record Asks (s : State) (i : Instr) (t : State) : Type 0 where
+  pub leads : Leads (edges_of s.slot i) t.slot
+  pub width : length t.registers ≡ length s.registers
+  pub counts : t.turns ≡ counted s (word s 1)
+  pub answer : t.registers ≡ with_answer s.registers (again_answer (turns_here s) (word s 1))
+
+-- what a predicate of next states says of a step
+abbrev pub OnNext : (State → Type 0) → Stepped → Type 0
+OnNext P (Next t) = P t
+OnNext P (Done a codes) = Unit {0}
+OnNext P (Fault c slot) = Unit {0}
+
+-- where the checks pass, the effect comes
+passed : (s : State) (o : Option MachineFault) (done : Stepped) (t : State) → option_map_or (λ cause. Fault cause s.slot) o done ≡ Next t → done ≡ Next t
+passed s None done t e = e
+passed s (Some c) done t e = absurd (let bad : Fault c s.slot ≡ Next t = e in cc)
+
+pub in_next : (P : State → Type 0) (program : List (Option Instr)) (context : List ℕ) (device : List (List ℕ)) (s t : State) (i : Instr)
+    → OnNext P (effect (memory context device s) device s i) → step_of program context device s i ≡ Next t → P t
+unfolding step_of
+in_next P program context device s t i here e =
+    let done = effect (memory context device s) device s i in
+    let came : done ≡ Next t = passed s (first_failing (checks program (memory context device s) s i)) done t e in
+    subst (OnNext P) came here
+
+-- the instruction that was at hand
+pub record Taken (program : List (Option Instr)) (context : List ℕ) (device : List (List ℕ)) (s t : State) : Type 0 where
+  pub instr : Instr
+  pub there : at program s.slot ≡ Some instr
+  pub came : step_of program context device s instr ≡ Next t
+
+pub taken : (program : List (Option Instr)) (context : List ℕ) (device : List (List ℕ)) (s t : State) → step program context device s ≡ Next t
+    → Taken program context device s t
+taken program context device s t e = by_slot (at program s.slot) refl e
+  where
+    by_slot : (o : Option Instr) → at program s.slot ≡ o → option_map_or (step_of program context device s) o (Fault fault.NoInstruction s.slot) ≡ Next t
+        → Taken program context device s t
+    by_slot None is e = absurd (let bad : Fault fault.NoInstruction s.slot ≡ Next t = e in cc)
+    by_slot (Some i) is e = record { instr = i; there = is; came = e }
+
+-- one of two slots comes
+either : (b : Bool) (slot to : ℕ) → Leads (edges (Some (slot + 1)) (Some to)) (if b then to else slot + 1)
+either true slot to = inr refl
+either false slot to = inl refl
+
+set_moves : (s : State) (i : Instr) (n r x : ℕ) → (edges_of s.slot i).next ≡ Some (s.slot + n) → OnNext (Moves s i) (set_and_go n s r x)
+set_moves s i n r x e = record { leads = inl e; width = length-set s.registers r (Some x); counts = refl }
+
+-- each instruction but a call
+pub effect_moves : (bytes : ℕ → ByteAt) (device : List (List ℕ)) (s : State) (i : Instr) → helper_number i ≡ None → OnNext (Moves s i) (effect bytes device s i)
+unfolding effect edges_of
+effect_moves bytes device s (instr.Arithmetic w o dst from) h = set_moves s (instr.Arithmetic w o dst from) 1 dst (arithmetic w o (word s dst) (second s from)) refl
+effect_moves bytes device s (instr.Negate w dst) h = set_moves s (instr.Negate w dst) 1 dst (arithmetic w op.Sub 0 (word s dst)) refl
+effect_moves bytes device s (instr.SignExtend e dst src) h = set_moves s (instr.SignExtend e dst src) 1 dst (extended e (word s src)) refl
+effect_moves bytes device s (instr.ByteOrder o size dst) h = set_moves s (instr.ByteOrder o size dst) 1 dst (in_order o size (word s dst)) refl
+effect_moves bytes device s (instr.Jump distance) h = record { leads = inr refl; width = refl; counts = refl }
+effect_moves bytes device s (instr.LongJump distance) h = record { leads = inr refl; width = refl; counts = refl }
+effect_moves bytes device s (instr.Branch w c dst from distance) h =
+    record { leads = either (holds w c (word s dst) (second s from)) s.slot (target s.slot distance); width = refl; counts = refl }
+effect_moves bytes device s (instr.CallHelper number) h = absurd (let bad : Some (cast_unsigned w32 number) ≡ None = h in cc)
+effect_moves bytes device s instr.Exit h = tt
+effect_moves bytes device s (instr.Load size dst base distance) h =
+    set_moves s (instr.Load size dst base distance) 1 dst (loaded bytes (address s base distance) (byte_count size)) refl
+effect_moves bytes device s (instr.LoadSigned size dst base distance) h =
+    set_moves s (instr.LoadSigned size dst base distance) 1 dst (extended (extension_of size) (loaded bytes (address s base distance) (byte_count (plain_size size)))) refl
+effect_moves bytes device s (instr.StoreImmediate size base distance n) h = record { leads = inl refl; width = refl; counts = refl }
+effect_moves bytes device s (instr.Store size base distance src) h = record { leads = inl refl; width = refl; counts = refl }
+effect_moves bytes device s (instr.LoadImmediate dst x) h = set_moves s (instr.LoadImmediate dst x) 2 dst x refl
+
+-- a call of a helper, or none
+pub kind_of : (i : Instr) → (helper_number i ≡ None) ⊎ ((number : ℤ) × (i ≡ instr.CallHelper number))
+kind_of (instr.CallHelper number) = inr (number, refl)
+kind_of _ = inl refl
+
+length_answered : (rs : List (Option ℕ)) (a : ℕ) → length (with_answer rs a) ≡ length rs
+length_answered rs a =
+    let first = slice_set rs 0 (Some a) in
+    let second = slice_set first 1 None in
+    let third = slice_set second 2 None in
+    let fourth = slice_set third 3 None in
+    let fifth = slice_set fourth 4 None in
+    length-set fifth 5 None ∙ length-set fourth 4 None ∙ length-set third 3 None ∙ length-set second 2 None ∙ length-set first 1 None ∙ length-set rs 0 (Some a)
+
+-- register 0 has the answer
+pub answer_there : (rs : List (Option ℕ)) (a : ℕ) → 0 < length rs → slice_index_or (with_answer rs a) 0 None ≡ Some a
+answer_there [] a h = absurd (omega (arith, h))
+answer_there (x ∷ xs) a h = refl
+
+-- a state after a helper's answer that counts nothing
+answer_moves : (s : State) (number : ℤ) (t : State) (a : ℕ) → t.slot ≡ s.slot + 1 → t.registers ≡ with_answer s.registers a → t.turns ≡ s.turns
+    → Moves s (instr.CallHelper number) t
+unfolding edges_of
+answer_moves s number t a slot registers counts =
+    record { leads = inl (ap Some (sym slot)); width = ap length registers ∙ length_answered s.registers a; counts = counts }
+
+-- what the call of a helper has done
+abbrev pub Called : State → ℤ → Helper → State → Type 0
+Called s number helper.Again t = Asks s (instr.CallHelper number) t
+Called s number _ t = Moves s (instr.CallHelper number) t
+
+call_moves : (device : List (List ℕ)) (s : State) (number : ℤ) (h : Helper) → OnNext (Called s number h) (call_effect device s h)
+unfolding call_effect edges_of
+call_moves device s number helper.Sector = answer_moves s number _ (sector_answer device (word s 1)) refl refl refl
+call_moves device s number helper.Copy = answer_moves s number _ (copy_answer device (word s 1) (word s 3)) refl refl refl
+call_moves device s number helper.Again =
+    record { leads = inl refl; width = length_answered s.registers (again_answer (turns_here s) (word s 1)); counts = refl; answer = refl }
+call_moves device s number helper.Report = answer_moves s number _ (report_answer s.codes) refl refl refl
+call_moves device s number helper.Zero = answer_moves s number _ (zero_answer device (word s 1)) refl refl refl
+call_moves device s number helper.Mix = answer_moves s number _ (mix_answer device (word s 1)) refl refl refl
+call_moves device s number helper.Same = answer_moves s number _ (same_answer device (word s 1) (word s 2)) refl refl refl
+
+-- the helper that was called
+pub record CallsHelper (s : State) (number : ℤ) (t : State) : Type 0 where
+  pub helper : Helper
+  pub named : helper_of (cast_unsigned w32 number) ≡ Some helper
+  pub called : Called s number helper t
+
+pub helper_called : (program : List (Option Instr)) (context : List ℕ) (device : List (List ℕ)) (s t : State) (number : ℤ)
+    → step_of program context device s (instr.CallHelper number) ≡ Next t → CallsHelper s number t
+unfolding step_of checks effect
+helper_called program context device s t number e = by_name (helper_of (cast_unsigned w32 number)) refl e
+  where
+    by_name : (o : Option Helper) → helper_of (cast_unsigned w32 number) ≡ o
+        → tested s (option_map_or (call_checks program (memory context device s) s) o (check fault.UnknownHelper false ∷ [])) (option_map_or (call_effect device s) o (Next s)) ≡ Next t
+        → CallsHelper s number t
+    by_name None is e = absurd (let bad : Fault fault.UnknownHelper s.slot ≡ Next t = e in cc)
+    by_name (Some h) is e =
+        let came = passed s (first_failing (call_checks program (memory context device s) s h)) (call_effect device s h) t e in
+        record { helper = h; named = is; called = subst (OnNext (Called s number h)) came (call_moves device s number h) }
+
+-- the number of `again`
+third : (a b c d e f g : Bool)
+    → (if a then Some helper.Sector
+    else if b then Some helper.Copy
+    else if c then Some helper.Again
+    else if d then Some helper.Report
+    else if e then Some helper.Zero
+    else if f then Some helper.Mix
+    else if g then Some helper.Same
+    else None)
+    ≡ Some helper.Again
+    → c ≡ true
+third true b c d e f g is = cc
+third false true c d e f g is = cc
+third false false true d e f g is = refl
+third false false false true e f g is = cc
+third false false false false true f g is = cc
+third false false false false false true g is = cc
+third false false false false false false true is = cc
+third false false false false false false false is = cc
+
+again_number : (n : ℕ) → helper_of n ≡ Some helper.Again → (n == 3) ≡ true
+again_number n is = third (n == 1) (n == 2) (n == 3) (n == 4) (n == 5) (n == 6) (n == 7) is
+
+number_again : (n : ℕ) → (n == 3) ≡ true → helper_of n ≡ Some helper.Again
+number_again n is =
+    elim (eqb_tells n 3) [
+      | inl same ↦ rw same.1 refl
+      | inr other ↦ absurd (let bad : false ≡ true = sym other.0 ∙ is in cc)
+    ]
+
+pub again_asks : (s : State) (number : ℤ) (t : State) → CallsHelper s number t → (cast_unsigned w32 number == 3) ≡ true → Asks s (instr.CallHelper number) t
+again_asks s number t c is =
+    let named : Some c.helper ≡ Some helper.Again = sym c.named ∙ number_again (cast_unsigned w32 number) is in
+    let same : c.helper ≡ helper.Again = cc in
+    subst (λ (h : Helper). Called s number h t) same c.called
+
+pub other_moves : (s : State) (number : ℤ) (t : State) → CallsHelper s number t → (cast_unsigned w32 number == 3) ≡ false → Moves s (instr.CallHelper number) t
+other_moves s number t c is = by_helper c.helper c.named c.called
+  where
+    by_helper : (h : Helper) → helper_of (cast_unsigned w32 number) ≡ Some h → Called s number h t → Moves s (instr.CallHelper number) t
+    by_helper helper.Again named done =
+        absurd (let bad : false ≡ true = sym is ∙ again_number (cast_unsigned w32 number) named in cc)
+    by_helper _ named done = done
+
+-- `mov64 r1, K` sets register 1 to K
+
+if_some : {X : Type 0} (b : Bool) (x y : X) → (if b then Some x else None) ≡ Some y → (b ≡ true) × (x ≡ y)
+if_some true x y h = let same : Some x ≡ Some y = h in (refl, cc)
+if_some false x y h = absurd (let bad : None ≡ Some y = h in cc)
+
+set_there : (rs : List (Option ℕ)) (dst x k : ℕ) → (dst == 1) ≡ true → x ≡ k → 1 < length rs → slice_index_or (slice_set rs dst (Some x)) 1 None ≡ Some k
+set_there rs dst x k is same inside =
+    elim (eqb_tells dst 1) [
+      | inl one ↦ rw (one.1, same) (get_or-set_same rs 1 (Some k) None inside)
+      | inr other ↦ absurd (let bad : false ≡ true = sym other.0 ∙ is in cc)
+    ]
+
+-- register 1 has that word
+abbrev pub HasLimit : ℕ → State → Type 0
+HasLimit k t = register t 1 ≡ Some k
+
+pub sets_limit : (bytes : ℕ → ByteAt) (device : List (List ℕ)) (s : State) (i : Instr) (k : ℕ) → limit_of i ≡ Some k → 1 < length s.registers
+    → OnNext (HasLimit k) (effect bytes device s i)
+unfolding effect limit_of arithmetic computed
+sets_limit bytes device s (instr.Arithmetic width.W64 op.Mov dst (source.Immediate n)) k is inside =
+    let a = if_some _ (cast_unsigned w64 n) k is in
+    let b = and_parts (dst == 1) _ a.0 in
+    set_there s.registers dst (cast_unsigned w64 n) k b.0 a.1 inside
+sets_limit bytes device s i k is inside = absurd (let bad : None ≡ Some k = is in cc)
+
+-- a test of r0 that finds 0 takes no again edge
+
+goes_by : (c : Condition) (slot to : ℕ) → Leads (others_of (Some c) (edges (Some (slot + 1)) (Some to))) (if holds width.W64 c 0 0 then to else slot + 1)
+unfolding holds compared
+goes_by cond.Eq slot to = inr refl
+goes_by cond.Ne slot to = inl refl
+goes_by c slot to = either (holds width.W64 c 0 0) slot to
+
+goes : (b c : Condition) (x y slot to : ℕ) → b ≡ c → x ≡ 0 → y ≡ 0
+    → Leads (others_of (Some c) (edges (Some (slot + 1)) (Some to))) (if holds width.W64 b x y then to else slot + 1)
+goes b c x y slot to e f g = rw (e, f, g) (goes_by c slot to)
+
+-- the next slot is reached along one of the other edges
+abbrev pub Passes : State → Instr → Condition → State → Type 0
+Passes s i c t = Leads (others_of (Some c) (edges_of s.slot i)) t.slot
+
+pub passes_test : (bytes : ℕ → ByteAt) (device : List (List ℕ)) (s : State) (i : Instr) (c : Condition) → zero_test i ≡ Some c → word s 0 ≡ 0
+    → OnNext (Passes s i c) (effect bytes device s i)
+unfolding effect edges_of zero_test
+passes_test bytes device s (instr.Branch width.W64 b dst (source.Immediate n) distance) c is zero_there =
+    let a = if_some ((dst == 0) && int_eq n (pos 0)) b c is in
+    let d = and_parts (dst == 0) (int_eq n (pos 0)) a.0 in
+    let number : n ≡ pos 0 = (Decides-int_eq n (pos 0)).0 d.1 in
+    let constant : cast_unsigned w64 n ≡ 0 = rw number refl in
+    elim (eqb_tells dst 0) [
+      | inl first ↦
+          let tested_word : word s dst ≡ 0 = ap (word s) first.1 ∙ zero_there in
+          goes b c (word s dst) (cast_unsigned w64 n) s.slot (target s.slot distance) a.1 tested_word constant
+      | inr other ↦ absurd (let bad : false ≡ true = sym other.0 ∙ d.0 in cc)
+    ]
+passes_test bytes device s i c is zero_there = absurd (let bad : None ≡ Some c = is in cc)

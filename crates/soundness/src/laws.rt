@@ -1,0 +1,25 @@
+//! Laws of the states that the verifier passes on. The functions do nothing; each contract is a theorem.
+
+ghost use Rattle.soundness.specs.Laws.{OrderKeepsMeaning, StepIsCovered, StepIsSafe, TableCovers};
+
+/// A state that knows less covers all that a state covers which knows more.
+pub fn order_keeps_meaning()
+    ensures { OrderKeepsMeaning }
+{}
+
+/// Where a slot breaks no rule, the step of a machine that its state covers is no fault, and what the
+/// slot sends covers the machine behind it.
+pub fn step_is_covered()
+    ensures { StepIsCovered }
+{}
+
+/// Over a good table the step of a covered machine is no fault, and leads along a control edge to a
+/// machine that the table covers again.
+pub fn step_is_safe()
+    ensures { StepIsSafe }
+{}
+
+/// A good table covers each machine that is reached from the start, and none of their steps is a fault.
+pub fn table_covers()
+    ensures { TableCovers }
+{}
