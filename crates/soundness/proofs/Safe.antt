@@ -1,11 +1,10 @@
 -- Accepted programs run safely: a good table covers the machine, and so the run has no fault and ends.
-use Rattle.std.proofs.Common.{◌≡◌, ◌≤◌, ℕ, List, Option, subst}
+use Rattle.std.proofs.Common.{◌≡◌, ℕ, List, Option, subst}
 use Rattle.base.specs.declared.causes.MachineFault.{MachineFault}
 use Rattle.bpf_isa.specs.declared.instr.Instr.{Instr}
 use Rattle.helpers.specs.declared.device.Context.{Context}
-use Rattle.machine.specs.State.{start}
 use Rattle.machine.specs.Memory.{context_bytes}
-use Rattle.machine.specs.Outcome.{Verdict, outcome, run}
+use Rattle.machine.specs.Outcome.{outcome}
 use Rattle.machine.specs.Step.{Stepped, Fault}
 use Rattle.verifier.specs.Verdicts.{VerifiedValue, IsVerified}
 use Rattle.soundness.specs.Machines.{IsSetting}
