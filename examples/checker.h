@@ -38,7 +38,8 @@ static u64 (*const report)(u64 code) = (u64 (*)(u64))4;
 /* 1 if sector n is all zeros, else 0; 2 past the device. */
 static u64 (*const zero)(u64 n) = (u64 (*)(u64))5;
 
-/* The mix, a sum of all words, of sector n; 0 past the device. */
+/* The mix of sector n, a number made of all its words, each of which counts by its place
+ * (docs/MACHINE.md); 0 past the device. Different sectors may have the same one. */
 static u64 (*const mix)(u64 n) = (u64 (*)(u64))6;
 
 /* 1 if the sectors a and b are equal, else 0; 2 if either is past the device. */

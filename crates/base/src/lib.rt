@@ -7,10 +7,15 @@
 //!   from place `i` by `number_at n i bytes`, and the bytes of a number by `number_bytes n x`.
 //! - `bytes`: `Bytes`, an owned list of bytes that contracts see as that list.
 //! - `causes`: for each kind of input the causes of a refusal, each an enum, and the number under
-//!   which the program prints it. The numbers stand here and nowhere else.
-//! - `specs/Check.antt`: an ordered list of checks and the first of them that fails. Every refusal
-//!   of the product is decided that way: the definition lists the checks in their order, and a
-//!   contract says that the cause is that of the first one that does not pass.
+//!   which the program prints it. The numbers stand in `causes` for the code and in
+//!   `specs/Causes.antt` for contracts, and nowhere else.
+//! - `refusal`: `Refusal`, a cause with its place and, where a program is at fault, the program. Every
+//!   refusal of the product, from a log that is cut short to memory that ran out in the midst of the
+//!   work, reaches the user as one, printed as a single line.
+//! - `specs/Check.antt`: an ordered list of checks and the first of them that fails. Where a refusal is
+//!   the first of some tests that fails (of a log's super block and entries, of options, of a slot's
+//!   fields, of an instruction's rules, of the machine's faults), the definition lists the tests in
+//!   their order, and a contract says that the cause is that of the first that doesn't pass.
 //!
 //! Its contract, in words: what is read at a place is the little-endian number of the bytes there,
 //! what is appended are the little-endian bytes of the number and nothing else, and a cause has the
@@ -26,3 +31,4 @@
 pub mod bytes;
 pub mod causes;
 pub mod numbers;
+pub mod refusal;

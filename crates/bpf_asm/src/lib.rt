@@ -55,8 +55,6 @@ mod operand;
 mod outline;
 mod part;
 mod statement;
-#[cfg(test)]
-mod tests;
 
 pub use assembler::assemble;
 pub use listing::list;

@@ -51,6 +51,4 @@ pub mod laws;
 pub mod program;
 pub mod ready;
 pub mod register;
-#[cfg(test)]
-mod tests;
 mod to_fields;

@@ -70,8 +70,6 @@ mod lengths;
 mod rules;
 mod search;
 mod shaping;
-#[cfg(test)]
-mod tests;
 mod value;
 
 pub use edges::{Edges, control, edges_of};

@@ -73,8 +73,6 @@ mod pick;
 mod rank;
 mod ranked;
 mod step;
-#[cfg(test)]
-mod tests;
 mod ways;
 
 pub use choice::{Choice, Departure};

@@ -8,83 +8,20 @@
 //!
 //! # Place
 //!
-//! The top layer. `logfmt` reads the log, `epochs` says its cuts, `choices` and `images` its crash
-//! images, `bpf_isa` decodes the checkers, `verifier` accepts them, `bpf_asm` assembles and lists them,
-//! `workers` judges the images by `interp`, `report` has the lines, `shares` the type of a refusal. What
-//! stands here:
+//! The top. What a command answers, with which status, and when it is refused, is all decided by
+//! `commands`, whose `act` takes what the files hold and gives the bytes. Here files are read, and the
+//! answer is written: to standard output, or a refusal's line to standard error with status 2.
 //!
-//! - `options`: `Options`, the options of a run, tested in their order.
-//! - `source`: what each command reads of a log, with the refusals in their order.
-//! - `explorer`: `explore_with` and `explore`, from bytes to the bytes of the report.
-//! - `showing` and `survey`: the bytes of one image, and the number of images cut by cut.
-//! - `verifying`: what the verifier says of a program by itself.
-//! - `assembly`: a program from a source text, and the listing of a program.
-//! - `words`, `action` and `refused`: the words of the command line, what a command answers, and the
-//!   line of a refusal. `main` does no more than read files, call these and print.
-//!
-//! # What is proved
-//!
-//! Where `explore` answers `Ok`, its bytes are `report_bytes` of the log's failing lines
-//! (`workers/specs/Failing.antt`): of all images and programs whose outcome, by the definition of the
-//! machine on the definition of the image, is not a verdict with answer 0. With the option `first` they
-//! are the report of the first failing image alone. A program runs within the limit
-//! of steps that is asked for, or, without one, within the budget with which the verifier accepts it for
-//! the device; what it doesn't accept is refused (`specs/Programs.antt`). `image` answers the bytes of
-//! the image of a number, and `survey` the text of `specs/Survey.antt`. Where one of them answers `Err`,
-//! the refusal is the first in the order of docs/REPORT.md (`specs/Explore.antt`, `specs/Image.antt`,
-//! `specs/Survey.antt`), or memory ran out.
-//!
-//! What `verify` answers is the budget of an accepted program (`specs/Verifying.antt`). What `asm` answers
-//! spells the program that the source text says, and what `list` answers is the
-//! listing of the program that the bytes spell (`specs/Assembly.antt`).
-//!
-//! A run has one program to eight. So far it has one worker and no cache; more is refused.
-//!
-//! # Example
-//!
-//! ```
-//! let options = Options::new(1, Cuts::All, 0, false, 1, 0, Some(2), false)?;
-//! let report = explore(alloc, log, programs, &options)?;
-//! // crash report 1
-//! // sectors 1 entries 0 cuts all bound 0 tears no first no
-//! // program 0 slots 2 limit 2
-//! // images 1 failing 0 lines 0
-//! ```
+//! No contract can say what a file holds or what standard output takes: this crate is kept as short as
+//! it can be, and its behaviour is shown by runs of the built program.
 #![tactic(auto)]
 
-mod action;
-mod assembly;
-#[cfg(test)]
-mod examples;
-mod explorer;
-mod options;
-mod refused;
-mod showing;
-mod source;
-mod survey;
-#[cfg(test)]
-mod tests;
-#[cfg(test)]
-mod verified;
-mod verifying;
-mod words;
-#[cfg(test)]
-mod written;
-
-pub use action::act;
-pub use epochs::Cuts;
-pub use explorer::{Explored, explore, explore_with};
-pub use options::Options;
-pub use refused::fault_line;
-pub use showing::image;
+use commands::{Words, act, fault_line};
 use std::alloc::AllocError;
 use std::io::Write;
 use std::process::ExitCode;
 use std::rt::{Env, Files};
 use std::{env, fs, io};
-pub use survey::survey;
-pub use words::Words;
-pub use workers::Gate;
 
 /// The status of a run that was refused or could not be written.
 const REFUSED: u8 = 2;

@@ -63,8 +63,6 @@ mod cuts;
 mod laws;
 mod plan;
 mod table;
-#[cfg(test)]
-mod tests;
 mod unit;
 
 pub use cuts::Cuts;

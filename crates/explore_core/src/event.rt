@@ -34,7 +34,7 @@ impl Keys {
     }
 }
 
-/// One atomic step of a worker (docs/GUARANTEES.md, The exploration as a list of events).
+/// One atomic step of a worker (docs/PROVED.md, The exploration as a list of events).
 #[derive(Drop)]
 pub enum Event {
     /// The idle worker draws the next block, or ends where none is left.

@@ -3,7 +3,7 @@
 //! Workers draw blocks of jobs, judge them by a shared cache of outcomes, and hand over what they found.
 //! Here the whole of it is a plain state, and each atomic step of a worker is an event. A schedule of
 //! threads is then a list of events, and what holds after every list holds under every schedule
-//! (docs/GUARANTEES.md, The exploration as a list of events).
+//! (docs/PROVED.md, The exploration as a list of events).
 //!
 //! | Type or call | What it is |
 //! |---|---|
@@ -59,8 +59,6 @@ mod hand;
 mod job;
 mod laws;
 mod piece;
-#[cfg(test)]
-mod tests;
 
 pub use event::{Event, Keys};
 pub use explore::{Explore, run, step};

@@ -52,8 +52,6 @@ pub mod copying;
 mod device;
 mod filled;
 mod helper;
-#[cfg(test)]
-mod tests;
 
 pub use device::{Context, Device};
 pub use filled::Filled;

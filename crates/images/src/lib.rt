@@ -106,8 +106,6 @@ mod history;
 mod image;
 mod key;
 mod laws;
-#[cfg(test)]
-mod tests;
 mod torn;
 mod versions;
 mod view;

@@ -74,8 +74,6 @@ pub mod laws;
 mod operators;
 mod powers;
 mod range;
-#[cfg(test)]
-mod tests;
 
 pub use arithmetic::result;
 pub use branches::refine;

@@ -60,8 +60,6 @@ mod compare;
 mod mixing;
 mod rows;
 mod splicing;
-#[cfg(test)]
-mod tests;
 
 pub use compare::{is_zero, same};
 pub use mixing::{mix, worked_mixes};

@@ -63,8 +63,6 @@ mod flags;
 mod header;
 mod laws;
 mod reader;
-#[cfg(test)]
-mod tests;
 mod writer;
 
 pub use entry::{Entry, Log, SECTOR};

@@ -82,8 +82,6 @@ mod reads;
 mod rules;
 mod spill;
 mod state;
-#[cfg(test)]
-mod tests;
 mod value;
 mod writes;
 

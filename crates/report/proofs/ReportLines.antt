@@ -1,9 +1,9 @@
 -- The lines of the report after one more.
 use Rattle.std.proofs.Common.{ℕ, zero, suc, ◌≡◌, ◌+◌, ◌<◌, List, [], ◌∷◌, ◌++◌, length, take, get_or, map, refl, ap, arith, append_assoc, append-nil, add-one, add-zero}
 use Rattle.report.specs.declared.head.ProgramHead.{ProgramHead}
-use Rattle.report.specs.declared.line.Line.{Line}
-use Rattle.report.specs.Line.{FailingLine}
-use Rattle.report.specs.Lines.{line_value}
+use Rattle.lines.specs.declared.line.Line.{Line}
+use Rattle.lines.specs.Line.{FailingLine}
+use Rattle.lines.specs.Lines.{line_value}
 use Rattle.report.specs.Report.{program_line, program_lines}
 
 pub program_lines-take : (ps : List ProgramHead) (n i : ℕ) (d : ProgramHead) → i < length ps

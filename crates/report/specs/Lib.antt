@@ -1,5 +1,4 @@
--- The failing lines of a run, and the bytes of the report.
-pub mod Line
+-- The bytes of the report.
 pub mod Text
 pub mod Report
 pub mod Lines

@@ -4,7 +4,7 @@ use Rattle.std.specs.Fmt.{decimal}
 use Rattle.std.specs.List.{flat_map, list_any}
 use Rattle.epochs.specs.declared.cuts.Cuts.{Cuts}
 use Rattle.report.specs.declared.head.ProgramHead.{ProgramHead}
-use Rattle.report.specs.Line.{FailingLine, first_lines}
+use Rattle.lines.specs.Line.{FailingLine, first_lines}
 use Rattle.report.specs.Text.{yes_or_no, cuts_word, ending_text, choice_text}
 
 -- what the report says at its head, and how many images there are

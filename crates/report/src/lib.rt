@@ -1,4 +1,4 @@
-//! The report of a run: its failing lines, and the bytes that it prints.
+//! The report of a run: the bytes that it prints.
 //!
 //! A run judges each crash image of a log by its programs. An image on which a program does not answer
 //! 0 makes a line. The report is a text of ASCII lines (docs/REPORT.md):
@@ -14,23 +14,19 @@
 //! | Type or call | What it is |
 //! |---|---|
 //! | `Head`, `ProgramHead` | what stands before the lines, and the number of images |
-//! | `Line` | one image with one program on which it fails: what the program ended in, and the departures |
-//! | `Lines` | lines in their order |
 //! | `write_report(alloc, head, lines)` | the bytes of the report |
 //!
 //! # Place
 //!
-//! The fifth layer, on `interp`, whose `Outcome` a line holds, on `choices`, whose departures it names,
-//! and on `epochs`, whose kinds of cut the head names. `workers` makes the lines, and `crashbpf` the
-//! head. Which images fail is not known here.
+//! On `lines`, whose lines it prints, and on `epochs`, whose kinds of cut the head names. `workers` makes
+//! the lines, and `commands` the head. Which images fail is not known here.
 //!
 //! # What is proved
 //!
 //! `write_report` gives exactly `report_bytes` of what head and lines say (`specs/Report.antt`,
 //! `specs/Text.antt`), byte by byte, where the lines stand in the order of their images; its one error
 //! is want of memory. Where the first failing image alone was asked for, these are its lines, and then a
-//! last line with its number, or with `none`. Contracts see `Lines` as a list of `FailingLine`, what the
-//! lines say (`specs/Line.antt`): `push` adds to its end, and `followed_by` puts two lists together.
+//! last line with its number, or with `none`.
 //!
 //! # How it is written
 //!
@@ -39,9 +35,7 @@
 #![tactic(auto)]
 
 mod head;
-mod line;
 mod writer;
 
 pub use head::{Head, ProgramHead};
-pub use line::{Line, Lines};
 pub use writer::write_report;

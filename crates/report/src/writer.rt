@@ -4,15 +4,16 @@ ghost use Rattle.std.specs.Prelude.{◌≡◌, ◌++◌, ◌+◌, ◌<◌, ◌^�
 ghost use Rattle.std.specs.List.{flat_map};
 ghost use Rattle.std.specs.List.Sorted.{IsNonDecreasing};
 ghost use Rattle.interp.specs.Ending.{ending_of};
-ghost use Rattle.report.specs.Lines.{line_value, is_image};
+ghost use Rattle.lines.specs.Lines.{line_value};
+ghost use Rattle.report.specs.Lines.{is_image};
 ghost use Rattle.report.specs.Text.{yes_or_no, cuts_word, codes_text, ending_text, fate_text, departure_text, next_departure_text, choice_text};
 ghost use Rattle.report.specs.Report.{device_text, choices_text, steps_word, program_line, program_lines, line_text, totals_line, failing_images, findings_text, report_bytes};
 
 use crate::head::{Head, ProgramHead};
-use crate::line::{Line, Lines};
 use choices::{Departure, Fate};
 use epochs::Cuts;
 use interp::Outcome;
+use lines::{Line, Lines};
 use std::alloc::{AllocError, Global};
 
 fn yes_or_no_word(b: bool) -> &'static str
@@ -179,7 +180,7 @@ fn put_programs(out: &mut String, programs: &[ProgramHead]) -> Result<(), AllocE
 fn put_lines(out: &mut String, lines: &Lines) -> Result<(), AllocError>
     ensures { OnOk result (string_bytes out.new ≡ string_bytes out.old ++ flat_map line_text lines.now) }
 {
-    for line in lines.lines.iter() {
+    for line in lines.as_slice() {
         put_line(out, line)?;
     }
     Ok(())
@@ -203,7 +204,7 @@ fn failing_image_count(lines: &Lines) -> usize
 {
     let mut count = 0;
     let mut last = None;
-    for line in lines.lines.iter() {
+    for line in lines.as_slice() {
         count = count_with(count, last, line.image);
         last = Some(line.image);
     }
@@ -220,7 +221,7 @@ fn put_totals(out: &mut String, images: u64, lines: &Lines) -> Result<(), AllocE
     write!(
         out,
         "images {images} failing {failing} lines {}\n",
-        lines.lines.len()
+        lines.as_slice().len()
     )
 }
 
@@ -238,7 +239,7 @@ fn put_line_of(out: &mut String, image: u64, line: &Line) -> Result<(), AllocErr
 fn put_lines_of(out: &mut String, image: u64, lines: &Lines) -> Result<(), AllocError>
     ensures { OnOk result (string_bytes out.new ≡ string_bytes out.old ++ flat_map line_text (filter (λ l. l.image == image) lines.now)) }
 {
-    for line in lines.lines.iter() {
+    for line in lines.as_slice() {
         put_line_of(out, image, line)?;
     }
     Ok(())
@@ -249,7 +250,7 @@ fn put_lines_of(out: &mut String, image: u64, lines: &Lines) -> Result<(), Alloc
 fn put_first(out: &mut String, images: u64, lines: &Lines) -> Result<(), AllocError>
     ensures { OnOk result (string_bytes out.new ≡ string_bytes out.old ++ findings_text true images lines.now) }
 {
-    match lines.lines.as_slice() {
+    match lines.as_slice() {
         [] => write!(out, "images {images} first none\n"),
         [first, ..] => {
             put_lines_of(out, first.image, lines)?;

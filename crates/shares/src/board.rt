@@ -7,15 +7,15 @@ ghost use Rattle.shares.specs.Steps.{image_or_none, least_posted, next_seen, lea
 ghost use Rattle.shares.specs.Board.{known};
 ghost use Rattle.shares.specs.Moves.{less_one};
 ghost use Rattle.shares.specs.Seats.{HasEnded, DrawsNone, all_steps, IsFirstUndrawn, AreDrawnOnce};
-ghost use Rattle.shares.specs.Refusals.{work_refusal};
+ghost use Rattle.base.specs.Refusals.{work_refusal};
 
-use crate::refusal::{Cause, Refusal};
 use crate::rule::{
     Draw, Enter, LearnLeast, LearnNext, LoadLeast, LoadNext, OnePart, Post, Rule, Together,
 };
 use crate::view::{Limits, View};
 use atomic_table::Table;
 use base::causes::WorkCause;
+use base::refusal::Refusal;
 use std::alloc::{AllocError, Global};
 use std::marker::Model;
 
@@ -80,16 +80,6 @@ fn image_in(word: u64) -> Option<u64>
         None
     } else {
         Some(word)
-    }
-}
-
-fn refusal_of(cause: WorkCause, at: u64) -> Refusal
-    ensures { result ≡ work_refusal cause at }
-{
-    Refusal {
-        code: Cause::Work(cause),
-        at,
-        program: None,
     }
 }
 
@@ -207,7 +197,7 @@ impl Board {
         let wanted = usize::from(self.seats);
         let there = seats.len();
         if there < wanted {
-            return Err(refusal_of(WorkCause::SeatsMissing, (wanted - there) as u64));
+            return Err(Refusal::of_work(WorkCause::SeatsMissing, (wanted - there) as u64));
         }
         let mut whole = self.together(seats);
         self.outcome(&mut whole)
@@ -241,7 +231,7 @@ impl Board {
     {
         let drawn = self.table.shared.load::<LearnNext>(whole, NEXT);
         if drawn < u64::from(self.blocks) {
-            return Err(refusal_of(WorkCause::PieceMissing, drawn));
+            return Err(Refusal::of_work(WorkCause::PieceMissing, drawn));
         }
         let least = self.table.shared.load::<LearnLeast>(whole, LEAST);
         Ok(image_in(least))

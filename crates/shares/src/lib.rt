@@ -1,4 +1,4 @@
-//! What the workers of a run share, the board of blocks, and how a run refuses.
+//! What the workers of a run share: the board of blocks.
 //!
 //! **The board** deals the blocks of a run out to its workers, each block once, and keeps the least
 //! failing image that one of them posted. It is two atomic words, `next` and `least`. Threads share a
@@ -15,15 +15,10 @@
 //! | `board.left(&mut seat)` | load of `next` | how many blocks nobody drew by now |
 //! | `board.gather(seats)` | | the end of the board: the least image posted, or a refusal |
 //!
-//! **A refusal** is a cause, a place and, where a program is at fault, its number. Every refusal of the
-//! product, from a log that is cut short to memory that ran out in the midst of the work, reaches the
-//! user as one `Refusal`, printed as a single line `refused NN at K`, with ` of program P` behind it
-//! where a program is at fault. `Cause::number` is the number that docs/REPORT.md lists for the cause.
-//!
 //! # Place
 //!
 //! It stands low, on the causes of `base` and on the kit's `atomic_table`, which proves that single
-//! steps on words keep a rule. `workers` draws and posts by it, and any layer can answer a refusal.
+//! steps on words keep a rule. No other crate uses it yet.
 //!
 //! # What is proved
 //!
@@ -65,12 +60,8 @@
 #![tactic(auto)]
 
 mod board;
-mod refusal;
 mod rule;
-#[cfg(test)]
-mod tests;
 mod view;
 
 pub use board::{Board, Seat};
-pub use refusal::{Cause, Refusal};
 pub use view::SeatStep;

@@ -1,4 +1,4 @@
--- What is promised of a program that the verifier accepts (docs/GUARANTEES.md, The headline guarantee,
+-- What is promised of a program that the verifier accepts (docs/PROVED.md, The headline guarantee,
 -- Verifier soundness).
 use Rattle.std.specs.Prelude.{◌≡◌, ◌≤◌, ℕ, List, length, slice_get, Option, Some}
 use Rattle.bpf_isa.specs.declared.instr.Instr.{Instr}

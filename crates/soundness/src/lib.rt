@@ -3,7 +3,7 @@
 //! The verifier walks over a program with abstract states and never sees a device. This crate says what
 //! those states mean of the machine on which the program runs, and proves that a program which is accepted
 //! runs safely: on each image of the size for which it was accepted no step is a fault, and the run ends in
-//! a verdict within the budget (docs/GUARANTEES.md, Verifier soundness; docs/VERIFIER.md). It speaks of
+//! a verdict within the budget (docs/PROVED.md, Verifier soundness; docs/VERIFIER.md). It speaks of
 //! programs without functions of their own, which are all that there are so far.
 //!
 //! # Place

@@ -1,6 +1,6 @@
 //! What became of an entry that was put into a shard.
 
-/// What became of an entry that was put into a shard (docs/GUARANTEES.md, Verdict cache).
+/// What became of an entry that was put into a shard (docs/PROVED.md, Verdict cache).
 #[derive(Clone, Copy, Debug, PartialEq, Eq)]
 pub enum Kept {
     /// Its key is new, and there was room.

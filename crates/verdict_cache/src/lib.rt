@@ -18,7 +18,7 @@
 //! It stands on `images`, whose keys it goes by, on `interp`, whose outcomes it keeps, and on the library
 //! `lru`, a map of bounded size. Those who judge images stand above it: a key belongs to the shard with
 //! the number `key.shard()`, and a shard is used while its lock is held. An image without a key is
-//! judged without the cache. The rules are those of docs/GUARANTEES.md, 'Verdict cache', and
+//! judged without the cache. The rules are those of docs/PROVED.md, 'Verdict cache', and
 //! docs/CRASH-MODEL.md, 'Keys of images'.
 //!
 //! # What is proved
@@ -65,8 +65,6 @@ mod laws;
 mod making;
 mod run;
 mod shard;
-#[cfg(test)]
-mod tests;
 
 pub use copying::copy_of;
 pub use kept::Kept;

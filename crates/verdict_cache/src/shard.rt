@@ -20,7 +20,7 @@ use std::marker::{Model, PhantomData};
 use std::num::NonZeroUsize;
 
 /// A shard of the verdict cache of a run: outcomes by key, at most so many, the most recently used
-/// first (docs/GUARANTEES.md, Verdict cache). Each is what its key ends in, in that run.
+/// first (docs/PROVED.md, Verdict cache). Each is what its key ends in, in that run.
 ///
 /// Contracts see its entries, its capacity, and how many looks have found an entry.
 #[derive(Drop)]
@@ -44,7 +44,7 @@ impl<J: Run> Model for Shard<J> {
 
 impl<J: Run> Shard<J> {
     /// A shard without entries. Memory for entries is taken as they come.
-    pub(crate) fn new(alloc: Global, capacity: u32) -> Result<Shard<J>, AllocError>
+    pub fn new(alloc: Global, capacity: u32) -> Result<Shard<J>, AllocError>
         ensures { IfOk result (λ shard. shard ≡ empty_shard capacity) }
     {
         let cache = match NonZeroUsize::new(capacity as usize) {

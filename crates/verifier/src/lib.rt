@@ -72,8 +72,6 @@ pub mod laws;
 mod passing;
 mod rounds;
 mod table;
-#[cfg(test)]
-mod tests;
 mod verified;
 
 pub use check::check_table;

@@ -7,7 +7,7 @@ use Rattle.std.proofs.lemmas.Grind.{flat_map-append}
 use Rattle.base.proofs.Lists.{range_with_len-more, range_with_len-append}
 use Rattle.choices.specs.Choices.{ChoiceValue}
 use Rattle.interp.specs.Checker.{CheckerValue}
-use Rattle.report.specs.Line.{FailingLine}
+use Rattle.lines.specs.Line.{FailingLine}
 use Rattle.workers.specs.Failing.{Subject, choices_of, image_count, ending_at, line_if, line_of, image_lines, lines_from, failing_lines, part}
 use Rattle.workers.specs.Input.{line_list}
 use Rattle.workers.specs.Pieces.{block_count}

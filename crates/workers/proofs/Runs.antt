@@ -6,8 +6,9 @@ use Rattle.std.proofs.lemmas.List.{map-append}
 use Rattle.std.proofs.lemmas.Option.{slice_get-get_or}
 use Rattle.base.proofs.Lists.{range_with_len-more, slice_get_of_push}
 use Rattle.base.specs.declared.causes.WorkCause.TheVariants as work
-use Rattle.shares.specs.declared.refusal.Refusal.{Refusal}
-use Rattle.report.specs.Line.{FailingLine, first_lines}
+use Rattle.base.specs.declared.refusal.Refusal.{Refusal}
+use Rattle.base.specs.Refusals.{work_refusal}
+use Rattle.lines.specs.Line.{FailingLine, first_lines}
 use Rattle.workers.specs.declared.found.Found.{Found}
 use Rattle.workers.specs.declared.found.Found.TheVariants.{Lines, Passed}
 use Rattle.workers.specs.Counting.{counts_with}
@@ -15,7 +16,7 @@ use Rattle.workers.specs.Exploring.{found_after, ArePiecesUpTo}
 use Rattle.workers.specs.Failing.{Subject, image_count, lines_from, failing_lines, part}
 use Rattle.workers.specs.Laws.{AreSomeOf, BeginsWithFirst}
 use Rattle.workers.specs.Least.{lower, least_image}
-use Rattle.workers.specs.Pieces.{PieceValue, EachPiece, ArePieces, AreFull, AreWhole, HasPart, passes, block_count, of_block, pieces_at, counted_at, lines_at, lines_of, full_lines, counts, collected, work_refusal, RefusesPieces, two_pieces, no_piece, no_memory}
+use Rattle.workers.specs.Pieces.{PieceValue, EachPiece, ArePieces, AreFull, AreWhole, HasPart, passes, block_count, of_block, pieces_at, counted_at, lines_at, lines_of, full_lines, counts, collected, RefusesPieces, two_pieces, no_piece, no_memory}
 use Rattle.workers.proofs.JudgedLines.{all_parts}
 use Rattle.workers.proofs.Least.{lines_push, least_of_push, counts_by_least}
 use Rattle.workers.proofs.Sets.{Each, Ordered, each_then, all_ordered, of_range}

@@ -8,7 +8,7 @@ use Rattle.choices.specs.Choices.{ChoiceValue, ranked}
 use Rattle.machine.specs.Outcome.{Ending}
 use Rattle.interp.specs.Checker.{CheckerValue, judged}
 use Rattle.images.specs.Views.{view_of, sectors_of, context_at}
-use Rattle.report.specs.Line.{FailingLine, fails}
+use Rattle.lines.specs.Line.{FailingLine, fails}
 
 -- what is judged: the images of a plan with at most `bound` departures, torn writes or none, by checkers;
 -- and whether the first failing image is all that is asked for

@@ -1,11 +1,10 @@
 -- Pieces of the work, and their collection.
 use Rattle.std.specs.Prelude.{ℕ, ◌+◌, ◌*◌, ◌/◌, ◌≡◌, ◌<◌, ◌≤◌, ◌==◌, Bool, true, false, ◌&&◌, nat_lt, nat_le, List, length, filter, None, Some, slice_get, []}
 use Rattle.std.specs.List.{flat_map, range_with_len, list_any}
-use Rattle.base.specs.declared.causes.WorkCause.{WorkCause}
 use Rattle.base.specs.declared.causes.WorkCause.TheVariants as work
-use Rattle.shares.specs.declared.refusal.Refusal.{Refusal}
-use Rattle.shares.specs.declared.refusal.Cause.TheVariants.{Work}
-use Rattle.report.specs.Line.{FailingLine}
+use Rattle.base.specs.declared.refusal.Refusal.{Refusal}
+use Rattle.base.specs.Refusals.{work_refusal}
+use Rattle.lines.specs.Line.{FailingLine}
 use Rattle.workers.specs.declared.found.Found.{Found}
 use Rattle.workers.specs.declared.found.Found.TheVariants.{Lines, Passed}
 use Rattle.workers.specs.Failing.{Subject, image_count, part}
@@ -73,9 +72,6 @@ pub record IsFirstMissing (pieces : List PieceValue) (blocks block : ℕ) : Type
 -- each block has one piece, and it counts
 abbrev pub AreWhole : List PieceValue → ℕ → Type 0
 AreWhole pieces blocks = (b : ℕ) → b < blocks → (pieces_at pieces b ≡ 1) × (counted_at pieces b ≡ 1)
-
-abbrev pub work_refusal : WorkCause → ℕ → Refusal
-work_refusal cause at = record { code = Work cause; at = at; program = None }
 
 -- the refusals of a collection: first a block with two pieces, then one without, each the lowest
 pub data RefusesPieces (pieces : List PieceValue) (blocks : ℕ) : Refusal → Type 0 where

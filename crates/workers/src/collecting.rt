@@ -2,14 +2,14 @@
 
 ghost use Rattle.std.specs.Prelude.{◌≡◌, ◌<◌, ◌++◌, ◌∷◌, [], ℕ, All, List, length, position, IfOk, IfErr, OnOk};
 ghost use Rattle.std.specs.List.{flat_map};
-ghost use Rattle.workers.specs.Pieces.{PieceValue, AreWhole, collected, RefusesPieces, work_refusal};
+ghost use Rattle.workers.specs.Pieces.{PieceValue, AreWhole, collected, RefusesPieces};
 ghost use Rattle.workers.specs.Table.{AreRows, first_of, is_missing, row_lines};
 
-use crate::lines::lower;
+use crate::block_lines::lower;
 use crate::piece::Piece;
 use base::causes::WorkCause;
-use report::Lines;
-use shares::{Cause, Refusal};
+use base::refusal::Refusal;
+use lines::Lines;
 use std::alloc::{AllocError, Global};
 
 /// The piece of each block so far, the first block that came twice, and the least failing image.
@@ -18,17 +18,6 @@ struct Table {
     rows: Vec<Option<Piece>>,
     twice: Option<u32>,
     least: Option<u64>,
-}
-
-/// The refusal of the work for that cause, at a block.
-pub(crate) fn work_refusal_at(cause: WorkCause, block: u32) -> Refusal
-    ensures { result ≡ work_refusal cause block }
-{
-    Refusal {
-        code: Cause::Work(cause),
-        at: u64::from(block),
-        program: None,
-    }
 }
 
 /// The lower of two blocks, the first of which there may not be.
@@ -131,15 +120,15 @@ pub fn collect(alloc: Global, pieces: Vec<Piece>, blocks: u32) -> Result<Lines, 
 {
     let table = match table_of(alloc, pieces, blocks) {
         Ok(table) => table,
-        Err(_error) => return Err(work_refusal_at(WorkCause::Memory, 0)),
+        Err(_error) => return Err(Refusal::of_memory()),
     };
     let Table { rows, twice, least } = table;
     match (twice, first_missing(rows.as_slice(), least)) {
-        (Some(block), _) => Err(work_refusal_at(WorkCause::PieceTwice, block)),
-        (None, Some(block)) => Err(work_refusal_at(WorkCause::PieceMissing, block as u32)),
+        (Some(block), _) => Err(Refusal::of_work(WorkCause::PieceTwice, u64::from(block))),
+        (None, Some(block)) => Err(Refusal::of_work(WorkCause::PieceMissing, block as u64)),
         (None, None) => match joined(alloc, rows) {
             Ok(lines) => Ok(lines),
-            Err(_error) => Err(work_refusal_at(WorkCause::Memory, 0)),
+            Err(_error) => Err(Refusal::of_memory()),
         },
     }
 }

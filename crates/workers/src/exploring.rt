@@ -2,22 +2,21 @@
 
 ghost use Rattle.std.specs.Prelude.{◌≡◌, ◌<◌, false, map, IfOk, IfErr};
 ghost use Rattle.std.specs.List.Sorted.{IsNonDecreasing};
-ghost use Rattle.base.specs.declared.causes.WorkCause.TheVariants as work;
+ghost use Rattle.base.specs.Refusals.{memory_refusal};
 ghost use Rattle.workers.specs.Failing.{failing_lines};
-ghost use Rattle.report.specs.Line.{first_lines};
+ghost use Rattle.lines.specs.Line.{first_lines};
 ghost use Rattle.workers.specs.Exploring.{ArePiecesUpTo, found_after};
 ghost use Rattle.workers.specs.Laws.{BeginsWithFirst};
 ghost use Rattle.workers.specs.Least.{least_image};
-ghost use Rattle.workers.specs.Pieces.{block_count, full_lines, work_refusal, RefusesPieces};
+ghost use Rattle.workers.specs.Pieces.{block_count, full_lines, RefusesPieces};
 
-use crate::collecting::{collect, work_refusal_at};
+use crate::block_lines::lower;
+use crate::collecting::collect;
 use crate::gate::Gate;
 use crate::input::{Input, judge_block};
-use crate::lines::lower;
 use crate::piece::Piece;
-use base::causes::WorkCause;
-use report::Lines;
-use shares::Refusal;
+use base::refusal::Refusal;
+use lines::Lines;
 use std::alloc::{AllocError, Global};
 
 /// The number of the worker that calls, the only one.
@@ -80,11 +79,11 @@ pub fn explore_all<G: Gate>(alloc: Global, gate: &G, input: &Input<'_>) -> Resul
     ensures begins { IfOk result (λ work. BeginsWithFirst (failing_lines input.now) work.lines) }
     ensures order { IfOk result (λ work. IsNonDecreasing (map (λ l. l.image) work.lines)) }
     ensures hits { IfOk result (λ work. work.hits ≡ 0) }
-    ensures refused { IfErr result (λ r. r ≡ work_refusal work.Memory 0) }
+    ensures refused { IfErr result (λ r. r ≡ memory_refusal) }
 {
     let pieces = match pieces_of(alloc, gate, input) {
         Ok(pieces) => pieces,
-        Err(_error) => return Err(work_refusal_at(WorkCause::Memory, 0)),
+        Err(_error) => return Err(Refusal::of_memory()),
     };
     match collect(alloc, pieces, input.block_count()) {
         Ok(lines) => Ok(Work { lines, hits: 0 }),

@@ -1,6 +1,6 @@
 //! What a piece of the work holds.
 
-use crate::lines::BlockLines;
+use crate::block_lines::BlockLines;
 
 /// What was found of a block.
 #[derive(Drop)]

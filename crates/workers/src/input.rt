@@ -4,20 +4,20 @@ ghost use Rattle.std.specs.Prelude.{◌≡◌, ◌≤◌, ◌<◌, ◌+◌, ◌-
 ghost use Rattle.choices.specs.Choices.{IsFirstPast, limit};
 ghost use Rattle.interp.specs.Ending.{ending_of};
 ghost use Rattle.images.specs.Views.{view_of};
-ghost use Rattle.report.specs.Line.{fails};
+ghost use Rattle.lines.specs.Line.{fails};
 ghost use Rattle.workers.specs.Failing.{Subject, choices_of, image_count, ending_at, line_if, image_lines, lines_from, part};
 ghost use Rattle.workers.specs.Pieces.{block_count, piece_of};
 ghost use Rattle.workers.specs.Input.{line_list};
 ghost use Rattle.workers.specs.Exploring.{passes_over};
 
-use crate::lines::BlockLines;
+use crate::block_lines::BlockLines;
 use crate::piece::{BLOCK, Piece};
 use arrayvec::ArrayVec;
 use choices::{Choice, Departure, TooMany, count, next, nth};
 use epochs::Plan;
 use images::{History, View};
 use interp::{Checker, Outcome};
-use report::Line;
+use lines::Line;
 use std::alloc::{AllocError, Global};
 use std::marker::Model;
 

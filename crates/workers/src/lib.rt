@@ -47,16 +47,14 @@
 //! So far the caller takes all blocks, one after the other.
 #![tactic(auto)]
 
+mod block_lines;
 mod collecting;
 mod exploring;
 mod found;
 mod gate;
 mod input;
 mod laws;
-mod lines;
 mod piece;
-#[cfg(test)]
-mod tests;
 
 pub use collecting::collect;
 pub use exploring::{Work, explore_all};

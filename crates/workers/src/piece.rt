@@ -6,9 +6,9 @@ ghost use Rattle.workers.specs.Counting.{counts_with};
 ghost use Rattle.workers.specs.Least.{least_image};
 ghost use Rattle.workers.specs.Pieces.{lines_of};
 
+use crate::block_lines::BlockLines;
 use crate::found::Found;
-use crate::lines::BlockLines;
-use report::Lines;
+use lines::Lines;
 use std::alloc::AllocError;
 use std::marker::Model;
 

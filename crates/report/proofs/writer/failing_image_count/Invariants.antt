@@ -1,6 +1,6 @@
 use Rattle.std.proofs.Common.{take, map}
-use Rattle.report.specs.Line.{FailingLine}
-use Rattle.report.specs.Lines.{line_value}
+use Rattle.lines.specs.Line.{FailingLine}
+use Rattle.lines.specs.Lines.{line_value}
 use Rattle.report.proofs.Counting.{Counted}
 use Rattle.report.proofs.writer.failing_image_count.Given as goal
 

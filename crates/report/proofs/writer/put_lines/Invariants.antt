@@ -1,6 +1,6 @@
 use Rattle.std.proofs.Common.{◌≡◌, ◌++◌, take, map, string_bytes}
 use Rattle.std.specs.List.{flat_map}
-use Rattle.report.specs.Lines.{line_value}
+use Rattle.lines.specs.Lines.{line_value}
 use Rattle.report.specs.Report.{line_text}
 use Rattle.report.proofs.writer.put_lines.Given as goal
 

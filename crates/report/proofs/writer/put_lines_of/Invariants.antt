@@ -1,7 +1,7 @@
 use Rattle.std.proofs.Common.{◌≡◌, ◌++◌, ◌==◌, take, map, filter, string_bytes}
 use Rattle.std.specs.List.{flat_map}
-use Rattle.report.specs.Line.{FailingLine}
-use Rattle.report.specs.Lines.{line_value}
+use Rattle.lines.specs.Line.{FailingLine}
+use Rattle.lines.specs.Lines.{line_value}
 use Rattle.report.specs.Report.{line_text}
 use Rattle.report.proofs.writer.put_lines_of.Given as goal
 

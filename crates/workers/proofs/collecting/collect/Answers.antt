@@ -5,18 +5,18 @@ use Rattle.workers.proofs.Collected.{twice_there, none_twice, missing_there, who
 use Rattle.workers.proofs.collecting.collect.Goals as goal
 
 pub returns-in-Err-clause-refused : goal.returns-in-Err-clause-refused
-returns-in-Err-clause-refused c = rw c.work_refusal_at.ensures no_memory
+returns-in-Err-clause-refused c = rw c.of_memory.ensures no_memory
 
 pub returns-in-Some-default-clause-refused : goal.returns-in-Some-default-clause-refused
 returns-in-Some-default-clause-refused c =
-    rw c.work_refusal_at-in-Some-default.ensures
+    rw (c.of_work.ensures, c.from.ensures)
     (two_pieces c.in-Some-default.block (twice_there _ _ _ _ _ _ c.in-Ok.ensures c.in-Some-default.is-0))
 
 pub returns-in-None-Some-clause-refused : goal.returns-in-None-Some-clause-refused
 returns-in-None-Some-clause-refused c =
     let here : position (is_missing c.in-Ok.table.least) c.in-Ok.table.rows.items ≡ Some c.in-None-Some.block =
     ap (position (is_missing c.in-Ok.table.least)) (sym c.as_slice.ensures.value) ∙ sym c.first_missing.ensures ∙ c.in-None-Some.is-1 in
-    rw c.work_refusal_at-in-None-Some.ensures
+    rw c.of_work-in-None-Some.ensures
     (no_piece c.in-None-Some.block (missing_there _ _ _ _ _ (none_twice _ _ _ _ _ c.in-Ok.ensures c.in-None-Some.is-0) here))
 
 pub returns-in-Ok-joined-clause-whole : goal.returns-in-Ok-joined-clause-whole
@@ -30,4 +30,4 @@ returns-in-Ok-joined-clause-lines c =
     c.in-Ok-joined.ensures ∙ lines_of_rows _ _ _ _ (none_twice _ _ _ _ _ c.in-Ok.ensures c.in-None-None.is-0)
 
 pub returns-in-Err-joined-clause-refused : goal.returns-in-Err-joined-clause-refused
-returns-in-Err-joined-clause-refused c = rw c.work_refusal_at-in-Err-joined.ensures no_memory
+returns-in-Err-joined-clause-refused c = rw c.of_memory-in-Err-joined.ensures no_memory

@@ -1,5 +1,5 @@
 use Rattle.std.proofs.Common.{◌∙◌, ap}
-use Rattle.report.specs.Line.{first_lines}
+use Rattle.lines.specs.Line.{first_lines}
 use Rattle.workers.specs.Pieces.{AreWhole, block_count, collected}
 use Rattle.workers.proofs.Runs.{without_passed, with_passed, same_first_lines, lines_ordered, only_memory}
 use Rattle.workers.proofs.Sets.{images_rise}

@@ -4,7 +4,7 @@ use Rattle.atomic_table.specs.Table.{step}
 use Rattle.shares.proofs.Ends.{learns_next, learns_least}
 use Rattle.base.specs.declared.causes.WorkCause.TheVariants.{PieceMissing}
 use Rattle.shares.specs.Seats.{IsFirstUndrawn}
-use Rattle.shares.specs.Refusals.{work_refusal}
+use Rattle.base.specs.Refusals.{work_refusal}
 use Rattle.shares.proofs.Seats.{first_undrawn, all_drawn}
 use Rattle.shares.proofs.board.Board.outcome.Goals as goal
 
@@ -23,7 +23,7 @@ load-least-requires c =
 
 pub returns-then-drawn-from-clause-undrawn : goal.returns-then-drawn-from-clause-undrawn
 returns-then-drawn-from-clause-undrawn c =
-    let e = c.refusal_of.ensures in
+    let e = c.of_work.ensures in
     let at = ap (λ r. r.at) e in
     let blocks = ap (λ d. d.name.blocks) c.self.view_is in
     let first = first_undrawn c.args.self.now.name.blocks c.load-drawn.result c.args.whole.now.me.0.steps (omega (arith, blocks, c.from.ensures, c.if-drawn-from.true)) c.load-drawn.ensures.2.1 in

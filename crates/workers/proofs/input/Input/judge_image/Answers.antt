@@ -1,7 +1,7 @@
 use Rattle.std.proofs.Common.{◌≡◌, ◌∙◌, ◌++◌, refl, ap, arith, length, Some, slice_get, List}
 use Rattle.std.proofs.lemmas.Option.{slice_get_read}
 use Rattle.epochs.specs.Plan.{PlanValue}
-use Rattle.report.specs.Line.{FailingLine}
+use Rattle.lines.specs.Line.{FailingLine}
 use Rattle.images.specs.Views.{view_of}
 use Rattle.workers.specs.Failing.{Subject}
 use Rattle.workers.proofs.JudgedLines.{checker_next, lines_of_image}

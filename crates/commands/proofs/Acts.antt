@@ -1,0 +1,122 @@
+-- What commands answer and refuse, by what their files hold.
+use Rattle.std.proofs.Common.{ℕ, zero, suc, ◌≡◌, ◌+◌, ◌<◌, ◌≤◌, Bool, true, false, cond, nat_lt, List, [], ◌∷◌, ◌++◌, length, map, take, get_or, append-nil, add-one, Option, None, Some, position, is_none, refl, sym, ◌∙◌, ap, subst, arith}
+use Rattle.std.proofs.lemmas.Bool.Decides.{nat_tests}
+use Rattle.std.proofs.lemmas.List.{map-append}
+use Rattle.std.specs.Option.{option_map, option_to_list}
+use Rattle.std.specs.List.{filter_map, position_or_len}
+use Rattle.base.specs.declared.refusal.Refusal.{Refusal}
+use Rattle.base.specs.Refusals.{memory_refusal}
+use Rattle.commands.specs.declared.settings.Settings.{Settings}
+use Rattle.commands.specs.Assembly.{file_refusal}
+use Rattle.commands.specs.Explore.{Refuses}
+use Rattle.commands.specs.Acting.{Files, first_held, unread, RefusesFile, for_file, RefusesFiles, for_unread, for_run, for_memory, AnswersFiles, AnswersRun}
+
+-- the first file can't be read
+pub unread_file : (files : Files) (Rest : List ℕ → Refusal → Type 0) (r : Refusal) → (first_held files ≡ None) × (r ≡ file_refusal 0) → RefusesFile files Rest r
+unread_file files Rest r h = rw h.1 (for_file h.0)
+
+-- no file passes the test where the place of the first is the end
+none_by : (q n : ℕ) (b : Bool) → nat_lt q n ≡ b → cond b (Some q) None ≡ None → n ≤ q
+none_by q n true e h = absurd (let bad : Some q ≡ None = h in cc)
+none_by q n false e h = grind (arith, nat_tests)
+
+none_within : {X : Type 0} (p : X → Bool) (xs : List X) → position p xs ≡ None → length xs ≤ position_or_len p xs
+none_within p xs h = none_by (position_or_len p xs) (length xs) (nat_lt (position_or_len p xs) (length xs)) refl h
+
+readable : {V : Type 0} (items : V → List ℕ) (files : List (Option V)) → length files ≤ position_or_len is_none files
+    → map (option_map items) files ≡ map Some (filter_map (option_map items) files)
+readable items [] h = refl
+readable items (None ∷ files) h = absurd (let bad : suc (length files) ≤ 0 = h in omega (arith, bad))
+readable items (Some v ∷ files) h = ap (λ rest. Some (items v) ∷ rest) (readable items files (let more : suc (length files) ≤ 1 + position_or_len is_none files = h in omega (arith, more)))
+
+-- files all of which can be read hold what those that can be read hold
+pub all_read : {V : Type 0} (items : V → List ℕ) (files : List (Option V)) → position is_none files ≡ None
+    → map (option_map items) files ≡ map Some (filter_map (option_map items) files)
+all_read items files h = readable items files (none_within is_none files h)
+
+same_place : {V : Type 0} (items : V → List ℕ) (files : List (Option V)) → position_or_len is_none (map (option_map items) files) ≡ position_or_len is_none files
+same_place items [] = refl
+same_place items (None ∷ files) = refl
+same_place items (Some v ∷ files) = ap (λ n. 1 + n) (same_place items files)
+
+same_length : {V : Type 0} (items : V → List ℕ) (files : List (Option V)) → length (map (option_map items) files) ≡ length files
+same_length items [] = refl
+same_length items (file ∷ files) = ap suc (same_length items files)
+
+next_by : (q n place : ℕ) (b : Bool) → nat_lt q n ≡ b → cond b (Some q) None ≡ Some place → cond (nat_lt (1 + q) (suc n)) (Some (1 + q)) None ≡ Some (place + 1)
+next_by q n place true e h =
+    let same : q ≡ place = (let s : Some q ≡ Some place = h in cc) in
+    let less : nat_lt (1 + q) (suc n) ≡ true = grind (arith, nat_tests) in
+    let more : 1 + q ≡ place + 1 = omega (arith, same) in
+    rw (less, more) refl
+next_by q n place false e h = absurd (let bad : None ≡ Some place = h in cc)
+
+-- the first program that can't be read, behind the log
+pub unread_next : {V : Type 0} (items : V → List ℕ) (log : V) (files : List (Option V)) (place : ℕ) → position is_none files ≡ Some place
+    → unread (map (option_map items) (Some log ∷ files)) ≡ Some (place + 1)
+unread_next items log files place h =
+    rw (same_place items files, same_length items files)
+    (next_by (position_or_len is_none files) (length files) place (nat_lt (position_or_len is_none files) (length files)) refl h)
+
+all_by : (q n : ℕ) (b : Bool) → nat_lt q n ≡ b → cond b (Some q) None ≡ None → cond (nat_lt (1 + q) (suc n)) (Some (1 + q)) None ≡ None
+all_by q n true e h = absurd (let bad : Some q ≡ None = h in cc)
+all_by q n false e h = let less : nat_lt (1 + q) (suc n) ≡ false = grind (arith, nat_tests) in rw less refl
+
+-- all programs can be read, behind the log
+pub none_unread : {V : Type 0} (items : V → List ℕ) (log : V) (files : List (Option V)) → position is_none files ≡ None
+    → unread (map (option_map items) (Some log ∷ files)) ≡ None
+none_unread items log files h =
+    rw (same_place items files, same_length items files)
+    (all_by (position_or_len is_none files) (length files) (nat_lt (position_or_len is_none files) (length files)) refl h)
+
+-- what one more file holds, if it can be read
+filter_more : {V : Type 0} (items : V → List ℕ) (files : List (Option V)) (n : ℕ) (file : Option V) → n < length files → file ≡ get_or files n file
+    → filter_map (option_map items) (take (suc n) files) ≡ filter_map (option_map items) (take n files) ++ option_to_list (option_map items file)
+filter_more items [] n file lt here = absurd (omega (arith, lt))
+filter_more items (None ∷ files) zero file lt here = rw here refl
+filter_more items (Some v ∷ files) zero file lt here = rw here refl
+filter_more items (None ∷ files) (suc n) file lt here = filter_more items files n file (omega (arith, lt)) here
+filter_more items (Some v ∷ files) (suc n) file lt here = ap (λ rest. items v ∷ rest) (filter_more items files n file (omega (arith, lt)) here)
+
+pub held_next : {V : Type 0} (items : V → List ℕ) (files : List (Option V)) (n : ℕ) (file : Option V) (v copy : V) (programs : List V) → n < length files
+    → file ≡ get_or files n file → file ≡ Some v → items copy ≡ items v → map items programs ≡ filter_map (option_map items) (take n files)
+    → map items (programs ++ copy ∷ []) ≡ filter_map (option_map items) (take (n + 1) files)
+held_next items files n file v copy programs lt here is same before =
+    let more = filter_more items files n file lt here in
+    rw (add-one n, more, is, map-append items programs (copy ∷ []), before, same) refl
+
+pub none_next : {V : Type 0} (items : V → List ℕ) (files : List (Option V)) (n : ℕ) (file : Option V) (programs : List V) → n < length files
+    → file ≡ get_or files n file → file ≡ None → map items programs ≡ filter_map (option_map items) (take n files)
+    → map items programs ≡ filter_map (option_map items) (take (n + 1) files)
+none_next items files n file programs lt here is before =
+    let more = filter_more items files n file lt here in
+    rw (add-one n, more, is, before, append-nil) refl
+
+-- why `explore` is refused by its files
+pub no_file : {V : Type 0} (items : V → List ℕ) (files : List (Option V)) (s : Settings) (r : Refusal) → length files ≡ 0 → r ≡ file_refusal 0
+    → RefusesFiles (map (option_map items) files) s r
+no_file items [] s r none same = rw same (for_unread 0 refl)
+no_file items (file ∷ files) s r none same = absurd (let bad : suc (length files) ≡ 0 = none in omega (arith, bad))
+
+pub no_log : {V : Type 0} (items : V → List ℕ) (files : List (Option V)) (first : Option V) (others : List (Option V)) (s : Settings) (r : Refusal)
+    → files ≡ first ∷ others → first ≡ None → r ≡ file_refusal 0 → RefusesFiles (map (option_map items) files) s r
+no_log items files first others s r split is same =
+    let some : nat_lt 0 (suc (length (map (option_map items) others))) ≡ true = grind (arith, nat_tests) in
+    rw (split, is, same) (for_unread 0 (rw some refl))
+
+pub no_program : {V : Type 0} (items : V → List ℕ) (files : List (Option V)) (first : Option V) (others : List (Option V)) (v : V) (place : ℕ) (s : Settings) (r : Refusal)
+    → files ≡ first ∷ others → first ≡ Some v → position is_none others ≡ Some place → r ≡ file_refusal (place + 1) → RefusesFiles (map (option_map items) files) s r
+no_program items files first others v place s r split is there same =
+    rw (split, is, same) (for_unread (place + 1) (unread_next items v others place there))
+
+-- what was read of the files
+pub files_read : {V : Type 0} (items : V → List ℕ) (files : List (Option V)) (first : Option V) (others : List (Option V)) (v : V) (log : List ℕ) (programs : List (List ℕ))
+    → files ≡ first ∷ others → first ≡ Some v → position is_none others ≡ None → log ≡ items v → programs ≡ filter_map (option_map items) others
+    → map (option_map items) files ≡ map Some (log ∷ programs)
+files_read items files first others v log programs split is readable same all =
+    rw (split, is, same, all) (ap (λ rest. Some (items v) ∷ rest) (all_read items others readable))
+
+pub memory_wanting : {V : Type 0} (items : V → List ℕ) (files : List (Option V)) (first : Option V) (others : List (Option V)) (v : V) (s : Settings) (r : Refusal)
+    → files ≡ first ∷ others → first ≡ Some v → position is_none others ≡ None → r ≡ memory_refusal → RefusesFiles (map (option_map items) files) s r
+memory_wanting items files first others v s r split is readable same =
+    rw (split, is, same) (for_memory (none_unread items v others readable))

@@ -1,0 +1,6 @@
+pub mod Acts
+pub mod Findings
+pub mod Plans
+pub mod RefusalLemmas
+pub mod Runs
+pub mod Texts

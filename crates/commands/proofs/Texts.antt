@@ -1,0 +1,32 @@
+-- How texts and single programs are refused.
+use Rattle.std.proofs.Common.{ℕ, ◌≡◌, ◌⊎◌, inl, inr, List, Option, subst}
+use Rattle.bpf_isa.specs.declared.program.CodeFault.{CodeFault}
+use Rattle.bpf_isa.specs.Decoding as code
+use Rattle.bpf_asm.specs.declared.fault.AsmFault.{AsmFault}
+use Rattle.bpf_asm.specs.Says as asm
+use Rattle.bpf_isa.specs.declared.instr.Instr.{Instr}
+use Rattle.bpf_isa.specs.Program.{IsSpelledBy, FirstFault}
+use Rattle.bpf_shape.specs.declared.fault.Fault.{Fault}
+use Rattle.bpf_shape.specs.Fault as shape
+use Rattle.verifier.specs.Verdicts.{Refused}
+use Rattle.commands.specs.Verifying as verifying
+use Rattle.commands.specs.Assembly.{text_refusal, bytes_refusal, RefusesText, says_none, no_text_memory, RefusesBytes, with_bytes_fault, no_program_memory}
+
+pub bytes_refused : (bytes : List ℕ) (f : CodeFault) → (f ≡ code.memory_fault) ⊎ FirstFault bytes f.code f.slot → RefusesBytes bytes (bytes_refusal f.code f.slot)
+bytes_refused bytes f (inl e) = rw e no_program_memory
+bytes_refused bytes f (inr h) = with_bytes_fault f.code f.slot h
+
+pub text_refused : (text now : List ℕ) (f : AsmFault) → now ≡ text → (f ≡ asm.memory_fault) ⊎ asm.SaysNone now → RefusesText text (text_refusal f.code f.line)
+text_refused text now f same (inl e) = rw e no_text_memory
+text_refused text now f same (inr h) = says_none f.code f.line (rw (← same) h)
+
+pub bytes_unverified : (bytes : List ℕ) (sectors : ℕ) (f : CodeFault) → (f ≡ code.memory_fault) ⊎ FirstFault bytes f.code f.slot
+    → verifying.RefusesVerified bytes sectors (bytes_refusal f.code f.slot)
+bytes_unverified bytes sectors f (inl e) = rw e verifying.no_code_memory
+bytes_unverified bytes sectors f (inr h) = verifying.with_code_fault f.code f.slot h
+
+pub unverified : (bytes : List ℕ) (sectors found : ℕ) (slots : List (Option Instr)) (f : Fault) → found ≡ sectors → IsSpelledBy bytes slots
+    → (f ≡ shape.memory_fault) ⊎ Refused slots found f.code f.slot → verifying.RefusesVerified bytes sectors (verifying.unaccepted_refusal f.code f.slot)
+unverified bytes sectors found slots f same spelled (inl e) = rw e verifying.no_verifier_memory
+unverified bytes sectors found slots f same spelled (inr h) =
+    verifying.with_verifier_fault slots f.code f.slot spelled (subst (λ n. Refused slots n f.code f.slot) same h)

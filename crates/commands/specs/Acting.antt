@@ -1,0 +1,134 @@
+-- What a command answers on what its files hold, and when it is refused (docs/REPORT.md, Commands and Refusals
+-- in their order).
+use Rattle.std.specs.Prelude.{ℕ, ◌≡◌, ◌⊎◌, ◌++◌, Bool, if◌then◌else◌, List, [], ◌∷◌, map, replicate, position, is_none, Option, None, Some, option_map}
+use Rattle.std.specs.Option.{option_map_or}
+use Rattle.base.specs.declared.refusal.Refusal.{Refusal}
+use Rattle.base.specs.Refusals.{memory_refusal}
+use Rattle.commands.specs.declared.action.TheConstants.{STORED_SUPER, STORED_PROGRAM, STORED_SETTINGS}
+use Rattle.commands.specs.declared.settings.OptionPlace.TheVariants as place
+use Rattle.commands.specs.declared.settings.Settings.{Settings}
+use Rattle.commands.specs.declared.words.OptionWords.{OptionWords}
+use Rattle.commands.specs.declared.words.Request.{Request}
+use Rattle.commands.specs.declared.words.Request.TheVariants as request
+use Rattle.commands.specs.Settings.{option_refusal, settings_refusal}
+use Rattle.commands.specs.Explore.{IsReport, Refuses}
+use Rattle.commands.specs.Image.{IsImage, RefusesImage}
+use Rattle.commands.specs.Survey.{IsSurvey, RefusesSurvey}
+use Rattle.commands.specs.Verifying.{IsAcceptedText, RefusesVerified}
+use Rattle.commands.specs.Assembly.{file_refusal, IsAssembled, RefusesText, IsListed, RefusesBytes}
+
+-- what each file of a command holds, none where it can't be read
+abbrev pub Files : Type 0
+Files = List (Option (List ℕ))
+
+-- what the words ask for, none where the word for the cuts names no kind of cut
+abbrev pub settings_of : OptionWords → Option Settings
+settings_of w = option_map (λ cuts. record {
+  sectors = w.sectors;
+  cuts = cuts;
+  bound = w.bound;
+  tears = w.tears;
+  workers = w.workers;
+  cache = w.cache;
+  checked = w.checked;
+  first = w.first;
+}) w.cuts
+
+-- the refusal of the words of a command line: the kind of the cuts is tested first
+abbrev pub words_refusal : OptionWords → Option Refusal
+words_refusal w = option_map_or settings_refusal (settings_of w) (Some (option_refusal place.Cuts))
+
+-- the words ask for this, and no check of the options refuses it
+pub record AskFor (w : OptionWords) (s : Settings) : Type 0 where
+  pub asked : settings_of w ≡ Some s
+  pub good : settings_refusal s ≡ None
+
+-- the place of the first file that can't be read; without any file the first can't be read
+abbrev pub unread : Files → Option ℕ
+unread [] = Some 0
+unread (file ∷ files) = position is_none (file ∷ files)
+
+-- what the first file holds
+abbrev pub first_held : Files → Option (List ℕ)
+first_held [] = None
+first_held (file ∷ files) = file
+
+-- the log and the program that the product holds itself: no entry, and `mov64 r0, 0; exit`
+abbrev pub stored_log : List ℕ
+stored_log = STORED_SUPER ++ replicate 480 0
+
+abbrev pub stored_programs : List (List ℕ)
+stored_programs = STORED_PROGRAM ∷ []
+
+-- the status of a run is 1 exactly where it found a failing image
+abbrev pub status_of : Bool → ℕ
+status_of failing = if failing then 1 else 0
+
+-- the report of a run, and its status
+pub record AnswersRun (s : Settings) (log : List ℕ) (programs : List (List ℕ)) (bytes : List ℕ) (status : ℕ) : Type 0 where
+  pub failing : Bool
+  pub report : IsReport log programs s bytes failing
+  pub ends : status ≡ status_of failing
+
+-- the report of a run over the command's files, the log first
+pub record AnswersFiles (s : Settings) (files : Files) (bytes : List ℕ) (status : ℕ) : Type 0 where
+  pub log : List ℕ
+  pub programs : List (List ℕ)
+  pub read : files ≡ map Some (log ∷ programs)
+  pub answers : AnswersRun s log programs bytes status
+
+-- the same of the settings that the words ask for
+pub record AnswersExplore (w : OptionWords) (files : Files) (bytes : List ℕ) (status : ℕ) : Type 0 where
+  pub settings : Settings
+  pub asked : AskFor w settings
+  pub answers : AnswersFiles settings files bytes status
+
+-- what a command on one file answers, by what that file holds; its status is 0
+pub record AnswersFile (Is : List ℕ → List ℕ → Type 0) (files : Files) (bytes : List ℕ) (status : ℕ) : Type 0 where
+  pub held : List ℕ
+  pub read : first_held files ≡ Some held
+  pub is : Is held bytes
+  pub ends : status ≡ 0
+
+-- the same of a command that takes options
+pub record AnswersWith (w : OptionWords) (Is : Settings → List ℕ → List ℕ → Type 0) (files : Files) (bytes : List ℕ) (status : ℕ) : Type 0 where
+  pub settings : Settings
+  pub asked : AskFor w settings
+  pub answers : AnswersFile (Is settings) files bytes status
+
+-- the bytes for standard output, and the status, of what the command line asks for
+abbrev pub Answers : Request → Files → List ℕ → ℕ → Type 0
+Answers request.StoredRun files bytes status = AnswersRun STORED_SETTINGS stored_log stored_programs bytes status
+Answers (request.Explore w) files bytes status = AnswersExplore w files bytes status
+Answers (request.Images w) files bytes status = AnswersWith w (λ s text. IsSurvey text s) files bytes status
+Answers (request.Image w number) files bytes status = AnswersWith w (λ s text. IsImage text s number) files bytes status
+Answers (request.Verify w) files bytes status = AnswersWith w (λ s code. IsAcceptedText code s.sectors) files bytes status
+Answers request.Asm files bytes status = AnswersFile IsAssembled files bytes status
+Answers request.List files bytes status = AnswersFile IsListed files bytes status
+
+-- the refusals of a command with options: of its words first
+pub data RefusesWith (w : OptionWords) (Rest : Settings → Refusal → Type 0) : Refusal → Type 0 where
+  for_words : (r : Refusal) → words_refusal w ≡ Some r → RefusesWith w Rest r
+  for_settings : (s : Settings) (r : Refusal) → AskFor w s → Rest s r → RefusesWith w Rest r
+
+-- the refusals of a command on one file: that it can't be read, then those of what it holds
+pub data RefusesFile (files : Files) (Rest : List ℕ → Refusal → Type 0) : Refusal → Type 0 where
+  for_file : first_held files ≡ None → RefusesFile files Rest (file_refusal 0)
+  for_held : (held : List ℕ) (r : Refusal) → first_held files ≡ Some held → Rest held r → RefusesFile files Rest r
+
+-- the refusals of `explore` behind its options: the first file that can't be read, then those of the run; or
+-- want of memory
+pub data RefusesFiles (files : Files) (s : Settings) : Refusal → Type 0 where
+  for_unread : (place : ℕ) → unread files ≡ Some place → RefusesFiles files s (file_refusal place)
+  for_run : (log : List ℕ) (programs : List (List ℕ)) (r : Refusal) → files ≡ map Some (log ∷ programs) → Refuses log programs s r → RefusesFiles files s r
+  for_memory : unread files ≡ None → RefusesFiles files s memory_refusal
+
+-- when what the command line asks for is refused
+abbrev pub RefusesToAct : Request → Files → Refusal → Type 0
+RefusesToAct request.StoredRun files r = (r ≡ memory_refusal) ⊎ Refuses stored_log stored_programs STORED_SETTINGS r
+RefusesToAct (request.Explore w) files r = RefusesWith w (RefusesFiles files) r
+RefusesToAct (request.Images w) files r = RefusesWith w (λ s. RefusesFile files (λ text. RefusesSurvey text s)) r
+RefusesToAct (request.Image w number) files r = RefusesWith w (λ s. RefusesFile files (λ text. RefusesImage text s number)) r
+RefusesToAct (request.Verify w) files r = RefusesWith w (λ s. RefusesFile files (λ code. RefusesVerified code s.sectors)) r
+RefusesToAct request.Asm files r = RefusesFile files RefusesText r
+RefusesToAct request.List files r = RefusesFile files RefusesBytes r

@@ -1,0 +1,51 @@
+-- What the commands on single programs answer (docs/REPORT.md, Commands; docs/ASSEMBLY.md).
+use Rattle.std.specs.Prelude.{ℕ, ◌≡◌, List, Option, None}
+use Rattle.std.specs.Str.{IsUtf8}
+use Rattle.base.specs.declared.causes.AsmCause.{AsmCause}
+use Rattle.base.specs.declared.causes.AsmCause.TheVariants as asm
+use Rattle.base.specs.declared.causes.CodeCause.{CodeCause}
+use Rattle.base.specs.declared.causes.CodeCause.TheVariants as code
+use Rattle.base.specs.declared.causes.RequestCause.TheVariants as request
+use Rattle.base.specs.declared.refusal.Refusal.{Refusal}
+use Rattle.base.specs.Refusals.{memory_refusal}
+use Rattle.base.specs.declared.refusal.Cause.TheVariants.{Asm, Code, Request}
+use Rattle.bpf_isa.specs.declared.instr.Instr.{Instr}
+use Rattle.bpf_isa.specs.Program.{IsSpelledBy, FirstFault}
+use Rattle.bpf_asm.specs.Listing.{listing}
+use Rattle.bpf_asm.specs.Says.{Says, SaysNone}
+
+-- the refusals name the line of a text, the slot of a program, and the place of a file
+abbrev pub text_refusal : AsmCause → ℕ → Refusal
+text_refusal cause line = record { code = Asm cause; at = line; program = None }
+
+abbrev pub bytes_refusal : CodeCause → ℕ → Refusal
+bytes_refusal cause slot = record { code = Code cause; at = slot; program = None }
+
+abbrev pub file_refusal : ℕ → Refusal
+file_refusal at = record { code = Request request.File; at = at; program = None }
+
+-- the text is one of characters, and the bytes spell the program that it says
+pub record IsAssembled (text bytes : List ℕ) : Type 0 where
+  pub characters : IsUtf8 text
+  pub slots : List (Option Instr)
+  pub says : Says text slots
+  pub spelled : IsSpelledBy bytes slots
+
+-- a text is refused where it is no text, or says no program; or for want of memory
+pub data RefusesText (text : List ℕ) : Refusal → Type 0 where
+  no_characters : (IsUtf8 text → ⊥) → RefusesText text (file_refusal 0)
+  says_none : (cause : AsmCause) (line : ℕ) → SaysNone text → RefusesText text (text_refusal cause line)
+  no_text_memory : RefusesText text (text_refusal asm.Memory 0)
+  no_bytes_memory : RefusesText text memory_refusal
+
+-- the text is the listing of the program that the bytes spell
+pub record IsListed (bytes text : List ℕ) : Type 0 where
+  pub slots : List (Option Instr)
+  pub spelled : IsSpelledBy bytes slots
+  pub listed : text ≡ listing slots
+
+-- bytes are refused for their first fault; or for want of memory
+pub data RefusesBytes (bytes : List ℕ) : Refusal → Type 0 where
+  with_bytes_fault : (cause : CodeCause) (slot : ℕ) → FirstFault bytes cause slot → RefusesBytes bytes (bytes_refusal cause slot)
+  no_program_memory : RefusesBytes bytes (bytes_refusal code.Memory 0)
+  no_listing_memory : RefusesBytes bytes memory_refusal

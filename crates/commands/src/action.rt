@@ -1,0 +1,278 @@
+//! Performing a command.
+
+ghost use Rattle.std.specs.Prelude.{◌≡◌, ◌⊎◌, ◌∷◌, map, option_map, position, is_none, Some, None, MatchResult, IfOk, IfErr, OnOk};
+ghost use Rattle.std.specs.List.{filter_map};
+ghost use Rattle.base.specs.Refusals.{memory_refusal};
+ghost use Rattle.commands.specs.declared.words.Request.TheVariants as request;
+ghost use Rattle.commands.specs.Explore.{Refuses};
+ghost use Rattle.commands.specs.Settings.{settings_refusal};
+ghost use Rattle.commands.specs.Assembly.{file_refusal};
+ghost use Rattle.commands.specs.Acting.{settings_of, words_refusal, AskFor, first_held, unread, stored_log, stored_programs, status_of, AnswersRun, AnswersFiles, Answers, RefusesToAct, RefusesFiles};
+
+use crate::asm_command::assembled;
+use crate::explore_command::explore_with;
+use crate::image_command::image;
+use crate::images_command::survey;
+use crate::list_command::listed;
+use crate::options::Options;
+use crate::refusals::{option_refusal_of, unreadable};
+use crate::settings::{OptionPlace, Settings};
+use crate::verify_command::verified;
+use crate::words::{OptionWords, Request, Words};
+use base::refusal::Refusal;
+use epochs::Cuts;
+use std::alloc::{AllocError, Global};
+use workers::OpenGate;
+
+/// The first bytes of the log of the stored run, a super block without entries; zeros follow.
+pub(crate) const STORED_SUPER: [u8; 32] = [
+    0x72, 0x68, 0x73, 0x77, 0x66, 0x73, 0x6a, 0, 1, 0, 0, 0, 0, 0, 0, 0, 0, 0, 0, 0, 0, 0, 0, 0, 0,
+    2, 0, 0, 0, 0, 0, 0,
+];
+
+/// The program of the stored run, `mov64 r0, 0; exit`.
+pub(crate) const STORED_PROGRAM: [u8; 16] = [0xb7, 0, 0, 0, 0, 0, 0, 0, 0x95, 0, 0, 0, 0, 0, 0, 0];
+
+/// What the stored run is asked, `--sectors 1 --bound 0 --checked 2`.
+pub(crate) const STORED_SETTINGS: Settings = Settings {
+    sectors: 1,
+    cuts: Cuts::All,
+    bound: 0,
+    tears: false,
+    workers: 1,
+    cache: 0,
+    checked: Some(2),
+    first: false,
+};
+
+/// The options that these words ask for.
+fn options_of(words: OptionWords) -> Result<Options, Refusal>
+    ensures { MatchResult result (λ o. AskFor words o) (λ r. words_refusal words ≡ Some r) }
+{
+    match words.cuts {
+        Some(cuts) => Options::new(&Settings {
+            sectors: words.sectors,
+            cuts,
+            bound: words.bound,
+            tears: words.tears,
+            workers: words.workers,
+            cache: words.cache,
+            checked: words.checked,
+            first: words.first,
+        }),
+        None => Err(option_refusal_of(OptionPlace::Cuts)),
+    }
+}
+
+/// The place of the first file that cannot be read.
+fn first_unreadable(files: &[Option<Vec<u8>>]) -> Option<usize>
+    ensures { result ≡ position is_none files.now }
+{
+    files.iter().position(|file| file.is_none())
+}
+
+/// Copies of the programs that can be read.
+fn programs_of(alloc: Global, files: &[Option<Vec<u8>>]) -> Result<Vec<Vec<u8>>, AllocError>
+    ensures { IfOk result (λ programs. map (λ f. f.items) programs.items ≡ filter_map (option_map (λ f. f.items)) files.now) }
+{
+    let mut programs = Vec::new(alloc);
+    for file in files {
+        if let Some(bytes) = file {
+            programs.push(bytes.as_slice().to_vec(alloc)?)?;
+        }
+    }
+    Ok(programs)
+}
+
+/// Explores a log, and answers the report with its status: 1 where there is a failing image.
+fn explore_files(
+    alloc: Global,
+    log: &[u8],
+    programs: &[Vec<u8>],
+    options: &Options,
+) -> Result<(Vec<u8>, u8), Refusal>
+    ensures answers { IfOk result (λ answer. AnswersRun options.now log.now (map (λ f. f.items) programs.now) answer.0.items answer.1) }
+    ensures refused { IfErr result (Refuses log.now (map (λ f. f.items) programs.now) options.now) }
+{
+    let explored = explore_with(alloc, &OpenGate, log, programs, options)?;
+    let status = if explored.failing { 1 } else { 0 };
+    Ok((explored.bytes, status))
+}
+
+/// The log and the program that the product holds itself.
+fn stored_files(alloc: Global) -> Result<(Vec<u8>, Vec<Vec<u8>>), AllocError>
+    ensures log { IfOk result (λ files. files.0.items ≡ stored_log) }
+    ensures programs { IfOk result (λ files. map (λ f. f.items) files.1.items ≡ stored_programs) }
+{
+    let mut log = STORED_SUPER.to_vec(alloc)?;
+    log.resize(512, 0)?;
+    let mut programs = Vec::new(alloc);
+    programs.push(STORED_PROGRAM.to_vec(alloc)?)?;
+    Ok((log, programs))
+}
+
+/// What the first file holds: a log, a source text or a program.
+fn first_of(files: &[Option<Vec<u8>>]) -> Result<&[u8], Refusal>
+    ensures { MatchResult result (λ held. first_held (map (option_map (λ f. f.items)) files.now) ≡ Some held.now)
+        (λ r. (first_held (map (option_map (λ f. f.items)) files.now) ≡ None) × (r ≡ file_refusal 0)) }
+{
+    match files {
+        [Some(log), ..] => Ok(log.as_slice()),
+        _ => Err(unreadable(0)),
+    }
+}
+
+/// Explores the files of a command, of which the first is the log.
+fn act_explore(
+    alloc: Global,
+    words: OptionWords,
+    files: &[Option<Vec<u8>>],
+) -> Result<(Vec<u8>, u8), Refusal>
+    ensures answers { IfOk result (λ answer. Answers (request.Explore words) (map (option_map (λ f. f.items)) files.now) answer.0.items answer.1) }
+    ensures refused { IfErr result (RefusesToAct (request.Explore words) (map (option_map (λ f. f.items)) files.now)) }
+{
+    let options = options_of(words)?;
+    explore_readable(alloc, &options, files)
+}
+
+/// Explores files, each of which has to be readable.
+fn explore_readable(
+    alloc: Global,
+    options: &Options,
+    files: &[Option<Vec<u8>>],
+) -> Result<(Vec<u8>, u8), Refusal>
+    ensures answers { IfOk result (λ answer. AnswersFiles options.now (map (option_map (λ f. f.items)) files.now) answer.0.items answer.1) }
+    ensures refused { IfErr result (RefusesFiles (map (option_map (λ f. f.items)) files.now) options.now) }
+{
+    let Some((first, others)) = files.split_first() else {
+        return Err(unreadable(0));
+    };
+    let Some(log) = first else {
+        return Err(unreadable(0));
+    };
+    if let Some(place) = first_unreadable(others) {
+        return Err(unreadable(place + 1));
+    }
+    match programs_of(alloc, others) {
+        Ok(programs) => explore_files(alloc, log.as_slice(), programs.as_slice(), options),
+        Err(_error) => Err(Refusal::of_memory()),
+    }
+}
+
+/// The options of the stored run, which no check refuses.
+#[tactic(auto, unfolding(crate::specs::Settings::option_checks))]
+fn stored_options() -> Options
+    ensures { result ≡ STORED_SETTINGS }
+{
+    match Options::new(&STORED_SETTINGS) {
+        Ok(options) => options,
+        Err(_refusal) => unreachable!(),
+    }
+}
+
+/// The run that the program holds itself.
+fn act_stored(alloc: Global) -> Result<(Vec<u8>, u8), Refusal>
+    ensures answers { IfOk result (λ answer. AnswersRun STORED_SETTINGS stored_log stored_programs answer.0.items answer.1) }
+    ensures refused { IfErr result (λ r. (r ≡ memory_refusal) ⊎ Refuses stored_log stored_programs STORED_SETTINGS r) }
+{
+    let options = stored_options();
+    match stored_files(alloc) {
+        Ok((log, programs)) => {
+            explore_files(alloc, log.as_slice(), programs.as_slice(), &options)
+        }
+        Err(_error) => Err(Refusal::of_memory()),
+    }
+}
+
+/// The survey of a log's crash images.
+fn act_images(
+    alloc: Global,
+    words: OptionWords,
+    files: &[Option<Vec<u8>>],
+) -> Result<(Vec<u8>, u8), Refusal>
+    ensures answers { IfOk result (λ answer. Answers (request.Images words) (map (option_map (λ f. f.items)) files.now) answer.0.items answer.1) }
+    ensures refused { IfErr result (RefusesToAct (request.Images words) (map (option_map (λ f. f.items)) files.now)) }
+{
+    let options = options_of(words)?;
+    let log = first_of(files)?;
+    let bytes = survey(alloc, log, &options)?;
+    Ok((bytes, 0))
+}
+
+/// One crash image of a log.
+fn act_image(
+    alloc: Global,
+    words: OptionWords,
+    number: u64,
+    files: &[Option<Vec<u8>>],
+) -> Result<(Vec<u8>, u8), Refusal>
+    ensures answers { IfOk result (λ answer. Answers (request.Image words number) (map (option_map (λ f. f.items)) files.now) answer.0.items answer.1) }
+    ensures refused { IfErr result (RefusesToAct (request.Image words number) (map (option_map (λ f. f.items)) files.now)) }
+{
+    let options = options_of(words)?;
+    let log = first_of(files)?;
+    let bytes = image(alloc, log, number, &options)?;
+    Ok((bytes, 0))
+}
+
+/// What the verifier says of a program.
+fn act_verify(
+    alloc: Global,
+    words: OptionWords,
+    files: &[Option<Vec<u8>>],
+) -> Result<(Vec<u8>, u8), Refusal>
+    ensures answers { IfOk result (λ answer. Answers (request.Verify words) (map (option_map (λ f. f.items)) files.now) answer.0.items answer.1) }
+    ensures refused { IfErr result (RefusesToAct (request.Verify words) (map (option_map (λ f. f.items)) files.now)) }
+{
+    let options = options_of(words)?;
+    let code = first_of(files)?;
+    let text = verified(alloc, code, &options)?;
+    Ok((text, 0))
+}
+
+/// The program of a source text, as bytes.
+fn act_asm(alloc: Global, files: &[Option<Vec<u8>>]) -> Result<(Vec<u8>, u8), Refusal>
+    ensures answers { IfOk result (λ answer. Answers request.Asm (map (option_map (λ f. f.items)) files.now) answer.0.items answer.1) }
+    ensures refused { IfErr result (RefusesToAct request.Asm (map (option_map (λ f. f.items)) files.now)) }
+{
+    let source = first_of(files)?;
+    let bytes = assembled(alloc, source)?;
+    Ok((bytes, 0))
+}
+
+/// The listing of a program.
+fn act_list(alloc: Global, files: &[Option<Vec<u8>>]) -> Result<(Vec<u8>, u8), Refusal>
+    ensures answers { IfOk result (λ answer. Answers request.List (map (option_map (λ f. f.items)) files.now) answer.0.items answer.1) }
+    ensures refused { IfErr result (RefusesToAct request.List (map (option_map (λ f. f.items)) files.now)) }
+{
+    let code = first_of(files)?;
+    let text = listed(alloc, code)?;
+    Ok((text, 0))
+}
+
+/// Performs a command on what its files hold, one for each of `Words::files`, none where a file could
+/// not be read; with no file at all the first cannot be read. Answers the bytes for standard output and
+/// the status: 0 where the command succeeded and no image fails, 1 where some do.
+///
+/// # Errors
+///
+/// The first refusal in the order of docs/REPORT.md: an option, a file, then those of `explore`,
+/// `survey` or `image`; those of a source text, and those of a program.
+pub fn act(
+    alloc: Global,
+    words: &Words,
+    files: &[Option<Vec<u8>>],
+) -> Result<(Vec<u8>, u8), Refusal>
+    ensures answers { IfOk result (λ answer. Answers words.now.request (map (option_map (λ f. f.items)) files.now) answer.0.items answer.1) }
+    ensures refused { IfErr result (RefusesToAct words.now.request (map (option_map (λ f. f.items)) files.now)) }
+{
+    match words.request() {
+        Request::StoredRun => act_stored(alloc),
+        Request::Explore(options) => act_explore(alloc, options, files),
+        Request::Images(options) => act_images(alloc, options, files),
+        Request::Image(options, number) => act_image(alloc, options, number, files),
+        Request::Verify(options) => act_verify(alloc, options, files),
+        Request::Asm => act_asm(alloc, files),
+        Request::List => act_list(alloc, files),
+    }
+}

@@ -1,0 +1,312 @@
+//! From the bytes of a log and of programs to the bytes of the report.
+
+ghost use Rattle.std.specs.Prelude.{◌≡◌, ◌≢◌, ◌≤◌, ◌<◌, ◌+◌, ◌⊎◌, ◌↔◌, IsTrue, ◌++◌, ◌∷◌, [], length, map, IfOk, IfErr, OnOk, Some};
+ghost use Rattle.base.specs.declared.causes.CodeCause.TheVariants as code;
+ghost use Rattle.bpf_isa.specs.Program.{IsSpelledBy, HasNoFault};
+ghost use Rattle.std.specs.List.Sorted.{IsNonDecreasing};
+ghost use Rattle.choices.specs.Choices.{IsFirstPast};
+ghost use Rattle.report.specs.Report.{report_bytes};
+ghost use Rattle.workers.specs.Failing.{failing_lines};
+ghost use Rattle.base.specs.Refusals.{memory_refusal};
+ghost use Rattle.commands.specs.Source.{plan_of, images_of, images_refusal, RefusesPlan};
+ghost use Rattle.commands.specs.Explore.{HasReport, IsReport, IsProgramCount, Refuses, program_head, subject_of, head_of, report_of};
+ghost use Rattle.commands.specs.Programs.{IsRunWithin, IsCodeFault, IsUnaccepted, code_refusal, verifier_refusal, AreDecoded, AreFirstMade, RefusesOneOf};
+
+use crate::options::Options;
+use crate::refusals::option_refusal_of;
+use crate::settings::OptionPlace;
+use crate::source::{images_refusal_of, planned, read_log};
+use base::refusal::{Cause, Refusal};
+use bpf_isa::codec::decode;
+use bpf_isa::program::{CodeFault, Program};
+use bpf_shape::Fault;
+use epochs::Plan;
+use images::History;
+use interp::Checker;
+use logfmt::Log;
+use report::{Head, ProgramHead, write_report};
+use std::alloc::{AllocError, Global};
+use verifier::verify;
+use workers::{Gate, Input, OpenGate, Work, explore_all};
+
+/// The most programs of a run.
+const MAX_PROGRAMS: usize = 8;
+
+/// What a run answers.
+#[derive(Drop)]
+pub struct Explored {
+    /// The report, of the first failing image alone where that was asked for.
+    pub bytes: Vec<u8>,
+    /// How many judgements were taken from a cache.
+    pub hits: u64,
+    /// Whether there is a failing image.
+    pub failing: bool,
+}
+
+/// Whether a run may have so many programs.
+fn is_program_count(count: usize) -> bool
+    ensures { IsTrue result ↔ IsProgramCount count }
+{
+    count >= 1 && count <= MAX_PROGRAMS
+}
+
+/// The refusal of a program, at one of its slots.
+fn program_refusal(number: u8, code: Cause, slot: u64) -> Refusal
+    ensures { result ≡ record { code = code; at = slot; program = Some number } }
+{
+    Refusal {
+        code,
+        at: slot,
+        program: Some(number),
+    }
+}
+
+/// The refusal that says a fault of a program's bytes.
+fn code_refusal_of(number: u8, fault: CodeFault) -> Refusal
+    ensures { result ≡ code_refusal number fault.code fault.slot }
+{
+    program_refusal(number, Cause::Code(fault.code), fault.slot)
+}
+
+/// The program that these bytes spell.
+fn decode_one(alloc: Global, number: u8, file: &[u8]) -> Result<Program, Refusal>
+    ensures spelled { IfOk result (IsSpelledBy file.now) }
+    ensures clean { OnOk result (HasNoFault file.now) }
+    ensures refused { IfErr result (λ r. (r ≡ code_refusal number code.Memory 0) ⊎ IsCodeFault number file.now r) }
+{
+    match decode(alloc, file) {
+        Ok(program) => Ok(program),
+        Err(fault) => Err(code_refusal_of(number, fault)),
+    }
+}
+
+/// Appends a program.
+fn push_program(programs: &mut Vec<Program>, program: Program) -> Result<(), Refusal>
+    ensures pushed { OnOk result (programs.new.items ≡ programs.old.items ++ program ∷ []) }
+    ensures refused { IfErr result (λ r. r ≡ memory_refusal) }
+{
+    match programs.push(program) {
+        Ok(()) => Ok(()),
+        Err(_failed) => Err(Refusal::of_memory()),
+    }
+}
+
+/// The programs that were decoded, up to the first that can't be, and its refusal.
+#[derive(Drop)]
+struct Decoded {
+    programs: Vec<Program>,
+    refusal: Option<Refusal>,
+}
+
+/// Decodes the programs in their order, up to the first that can't be decoded.
+fn decode_all(alloc: Global, files: &[Vec<u8>]) -> Result<Decoded, Refusal>
+    requires { length files.now ≤ 8 }
+    ensures decoded { IfOk result (λ d. AreDecoded (map (λ f. f.items) files.now) d.programs.items d.refusal) }
+    ensures refused { IfErr result (λ r. r ≡ memory_refusal) }
+{
+    let mut programs = Vec::new(alloc);
+    for (number, file) in files.iter().enumerate() {
+        match decode_one(alloc, number as u8, file.as_slice()) {
+            Ok(program) => push_program(&mut programs, program)?,
+            Err(refusal) => {
+                return Ok(Decoded {
+                    programs,
+                    refusal: Some(refusal),
+                });
+            }
+        }
+    }
+    Ok(Decoded {
+        programs,
+        refusal: None,
+    })
+}
+
+/// The refusal that says why the verifier refuses a program.
+fn verifier_refusal_of(number: u8, fault: Fault) -> Refusal
+    ensures { result ≡ verifier_refusal number fault.code fault.slot }
+{
+    program_refusal(number, Cause::Verifier(fault.code), fault.slot)
+}
+
+/// A program as a checker: with the limit of steps that is asked for, or verified.
+fn checker_of<'p>(
+    alloc: Global,
+    number: u8,
+    program: &'p Program,
+    options: &Options,
+) -> Result<Checker<'p>, Refusal>
+    ensures program { IfOk result (λ c. c.program ≡ program.now) }
+    ensures within { IfOk result (λ c. IsRunWithin options.now.checked options.now.sectors c) }
+    ensures refused { IfErr result (IsUnaccepted options.now number program.now) }
+{
+    match options.checked() {
+        Some(limit) => Ok(Checker::limited(program, limit)),
+        None => match verify(alloc, program, options.sectors()) {
+            Ok(verified) => Ok(Checker::verified(&verified)),
+            Err(fault) => Err(verifier_refusal_of(number, fault)),
+        },
+    }
+}
+
+/// Appends a checker.
+fn push_checker<'p>(checkers: &mut Vec<Checker<'p>>, checker: Checker<'p>) -> Result<(), Refusal>
+    ensures pushed { OnOk result (checkers.new.items ≡ checkers.old.items ++ checker.entry ∷ []) }
+    ensures refused { IfErr result (λ r. r ≡ memory_refusal) }
+{
+    match checkers.push(checker) {
+        Ok(()) => Ok(()),
+        Err(_failed) => Err(Refusal::of_memory()),
+    }
+}
+
+/// The programs as checkers.
+fn checkers_of<'p>(
+    alloc: Global,
+    programs: &'p [Program],
+    options: &Options,
+) -> Result<Vec<Checker<'p>>, Refusal>
+    requires few { length programs.now ≤ 8 }
+    ensures made { IfOk result (λ checkers. AreFirstMade options.now programs.now checkers.items) }
+    ensures all { IfOk result (λ checkers. length checkers.items ≡ length programs.now) }
+    ensures refused { IfErr result (RefusesOneOf options.now programs.now) }
+{
+    let mut checkers = Vec::new(alloc);
+    for (number, program) in programs.iter().enumerate() {
+        let checker = checker_of(alloc, number as u8, program, options)?;
+        push_checker(&mut checkers, checker)?;
+    }
+    Ok(checkers)
+}
+
+/// What the report says of each checker at its head.
+fn program_heads(alloc: Global, checkers: &[Checker<'_>]) -> Result<Vec<ProgramHead>, AllocError>
+    ensures { IfOk result (λ heads. heads.items ≡ map program_head checkers.now) }
+{
+    let mut heads = Vec::new(alloc);
+    for checker in checkers {
+        heads.push(ProgramHead {
+            slots: checker.slots(),
+            limit: checker.limit(),
+            verified: checker.is_verified(),
+        })?;
+    }
+    Ok(heads)
+}
+
+/// The report of the work.
+#[tactic(auto, unfolding(crate::specs::Explore::head_of))]
+fn reported(
+    alloc: Global,
+    log: &Log,
+    checkers: &[Checker<'_>],
+    options: &Options,
+    images: u64,
+    work: &Work,
+) -> Result<Vec<u8>, AllocError>
+    requires images { images ≡ length (images_of options.now log.now) }
+    requires device { log.now.sectors ≡ options.now.sectors }
+    requires order { IsNonDecreasing (map (λ l. l.image) work.now.lines) }
+    ensures { IfOk result (λ bytes. bytes.items ≡ report_bytes (head_of options.now log.now checkers.now) work.now.lines) }
+{
+    let head = Head {
+        sectors: options.sectors(),
+        entries: log.entries().len() as u32,
+        cuts: options.cuts(),
+        bound: options.bound(),
+        tears: options.tears(),
+        first: options.first(),
+        programs: program_heads(alloc, checkers)?,
+        images,
+    };
+    write_report(alloc, &head, &work.lines)
+}
+
+/// Judges the crash images of a plan by checkers, and reports those that fail.
+fn judged<'x, G: Gate>(
+    alloc: Global,
+    gate: &G,
+    log: &'x Log,
+    plan: &'x Plan<'x>,
+    checkers: &'x [Checker<'x>],
+    options: &Options,
+) -> Result<Explored, Refusal>
+    requires plan { plan.now ≡ plan_of options.now log.now }
+    requires device { log.now.sectors ≡ options.now.sectors }
+    requires checkers { length checkers.now ≤ 8 }
+    ensures bytes { IfOk result (λ e. e.bytes.items ≡ report_of options.now log.now checkers.now) }
+    ensures failing { IfOk result (λ e. IsTrue e.failing ↔ (failing_lines (subject_of options.now log.now checkers.now) ≢ [])) }
+    ensures hits { IfOk result (λ e. e.hits ≡ 0) }
+    ensures refused { IfErr result (RefusesPlan options.now log.now) }
+{
+    let history = match History::new(alloc, &*plan, &*log) {
+        Ok(history) => history,
+        Err(_error) => return Err(Refusal::of_memory()),
+    };
+    let input = match Input::new(
+        &*plan,
+        &history,
+        &*checkers,
+        options.bound(),
+        options.tears(),
+        options.first(),
+    ) {
+        Ok(input) => input,
+        Err(fault) => return Err(images_refusal_of(fault)),
+    };
+    let work = explore_all(alloc, gate, &input)?;
+    match reported(alloc, log, checkers, options, input.image_count(), &work) {
+        Ok(bytes) => Ok(Explored {
+            bytes,
+            hits: work.hits,
+            failing: !work.lines.is_empty(),
+        }),
+        Err(_error) => Err(Refusal::of_memory()),
+    }
+}
+
+/// Explores the crash images of a log: judges each by the one to eight programs, and reports those that
+/// fail, or the first of them alone (docs/REPORT.md). Without a limit of steps each program has to be
+/// accepted by the verifier. `gate` is told of each block of images before and after it is judged.
+///
+/// # Errors
+///
+/// The first refusal in the order of docs/REPORT.md: the number of programs, the log, the number of its
+/// images, then each program; or want of memory.
+pub fn explore_with<G: Gate>(
+    alloc: Global,
+    gate: &G,
+    log: &[u8],
+    programs: &[Vec<u8>],
+    options: &Options,
+) -> Result<Explored, Refusal>
+    ensures report { IfOk result (λ e. IsReport log.now (map (λ f. f.items) programs.now) options.now e.bytes.items e.failing) }
+    ensures hits { IfOk result (λ e. e.hits ≡ 0) }
+    ensures refused { IfErr result (Refuses log.now (map (λ f. f.items) programs.now) options.now) }
+{
+    if !is_program_count(programs.len()) {
+        return Err(option_refusal_of(OptionPlace::Programs));
+    }
+    let log = read_log(alloc, log, options.sectors())?;
+    let (plan, _images) = planned(alloc, &log, options)?;
+    let decoded = decode_all(alloc, programs)?;
+    let checkers = checkers_of(alloc, decoded.programs.as_slice(), options)?;
+    if let Some(refusal) = decoded.refusal {
+        return Err(refusal);
+    }
+    judged(alloc, gate, &log, &plan, checkers.as_slice(), options)
+}
+
+/// The bytes of `explore_with`, with a gate that does nothing.
+pub fn explore(
+    alloc: Global,
+    log: &[u8],
+    programs: &[Vec<u8>],
+    options: &Options,
+) -> Result<Vec<u8>, Refusal>
+    ensures report { IfOk result (λ bytes. HasReport log.now (map (λ f. f.items) programs.now) options.now bytes.items) }
+    ensures refused { IfErr result (Refuses log.now (map (λ f. f.items) programs.now) options.now) }
+{
+    let explored = explore_with(alloc, &OpenGate, log, programs, options)?;
+    Ok(explored.bytes)
+}

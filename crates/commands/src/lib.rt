@@ -1,0 +1,76 @@
+//! The commands of crashbpf: from the words of the command line and what files hold to the bytes that a
+//! command prints and its status.
+//!
+//! A log tells what was written to a device, in order. A power cut leaves one of many crash images of
+//! it (docs/CRASH-MODEL.md). A checker, a BPF program, looks at an image and answers 0 where it is
+//! good. `explore` judges every image within the bounds that it is asked for, and reports each one
+//! on which a checker answers otherwise (docs/REPORT.md).
+//!
+//! # Place
+//!
+//! The layer below the program. `logfmt` reads the log, `epochs` says its cuts, `choices` and `images` its
+//! crash images, `bpf_isa` decodes the checkers, `verifier` accepts them, `bpf_asm` assembles and lists
+//! them, `workers` judges the images by `interp`, `report` writes the lines. What stands here:
+//!
+//! - `settings` and `options`: what a run is asked, and `Options`, tested in their order.
+//! - `source`: what each command reads of a log, with the refusals in their order.
+//! - `explore_command`: `explore_with` and `explore`, from bytes to the bytes of the report.
+//! - `images_command`, `image_command`: the number of images cut by cut, and the bytes of one image.
+//! - `verify_command`, `asm_command`, `list_command`: what the verifier says of a program by itself, a
+//!   program from a source text, and the listing of a program.
+//! - `words`, `action`: the words of the command line, and what a command answers.
+//! - `refusals`: the refusals of files and options, and `fault_line`, the line of a refusal.
+//!
+//! # What is proved
+//!
+//! Where `explore` answers `Ok`, its bytes are `report_bytes` of the log's failing lines
+//! (`workers/specs/Failing.antt`): of all images and programs whose outcome, by the definition of the
+//! machine on the definition of the image, is not a verdict with answer 0. With the option `first` they
+//! are the report of the first failing image alone. A program runs within the limit
+//! of steps that is asked for, or, without one, within the budget with which the verifier accepts it for
+//! the device; what it doesn't accept is refused (`specs/Programs.antt`). `image` answers the bytes of
+//! the image of a number, and `survey` the text of `specs/Survey.antt`. Where one of them answers `Err`,
+//! the refusal is the first in the order of docs/REPORT.md (`specs/Explore.antt`, `specs/Image.antt`,
+//! `specs/Survey.antt`), or memory ran out.
+//!
+//! What `verify` answers is the budget of an accepted program (`specs/Verifying.antt`). What `asm` answers
+//! spells the program that the source text says, and what `list` answers is the
+//! listing of the program that the bytes spell (`specs/Assembly.antt`).
+//!
+//! A run has one program to eight. So far it has one worker and no cache; more is refused.
+//!
+//! # Example
+//!
+//! ```
+//! let options = Options::new(&Settings { sectors: 1, cuts: Cuts::All, bound: 0, .. })?;
+//! let report = explore(alloc, log, programs, &options)?;
+//! // crash report 1
+//! // sectors 1 entries 0 cuts all bound 0 tears no first no
+//! // program 0 slots 2 limit 2
+//! // images 1 failing 0 lines 0
+//! ```
+#![tactic(auto)]
+
+mod action;
+mod asm_command;
+mod explore_command;
+mod image_command;
+mod images_command;
+mod list_command;
+mod options;
+mod refusals;
+mod settings;
+mod source;
+mod verify_command;
+mod words;
+
+pub use action::act;
+pub use epochs::Cuts;
+pub use explore_command::{Explored, explore, explore_with};
+pub use image_command::image;
+pub use images_command::survey;
+pub use options::Options;
+pub use refusals::fault_line;
+pub use settings::{OptionPlace, Settings};
+pub use words::Words;
+pub use workers::Gate;

@@ -1,0 +1,137 @@
+//! The options of a run.
+
+ghost use Rattle.std.specs.Prelude.{◌≡◌, ◌≤◌, MatchResult, IfOk, None, Some, not, nat_le, true};
+ghost use Rattle.std.specs.Option.{option_map_or};
+ghost use Rattle.commands.specs.Settings.{settings_refusal, IsAsked};
+
+use crate::refusals::option_refusal_of;
+use crate::settings::{OptionPlace, Settings};
+use base::refusal::Refusal;
+use epochs::Cuts;
+use std::marker::Model;
+
+/// The greatest number of sectors of a device.
+const MAX_SECTORS: u64 = 16_384;
+
+/// The most units that may depart.
+const MAX_BOUND: u64 = 3;
+
+/// The greatest limit of steps.
+const MAX_STEPS: u64 = 1_000_000_000;
+
+/// The options of a run that were found good (docs/REPORT.md, Options).
+#[derive(Drop)]
+pub struct Options {
+    sectors: u32,
+    cuts: Cuts,
+    bound: u8,
+    tears: bool,
+    workers: u8,
+    cache: u32,
+    checked: Option<u64>,
+    first: bool,
+}
+
+impl Model for Options {
+    ghost use Rattle.commands.specs.declared.settings.Settings.{Settings};
+    ghost use Rattle.commands.specs.Settings.{IsAsked};
+
+    ghost Value = { Settings };
+
+    ghost view = { λ o. record { sectors = o.sectors; cuts = o.cuts; bound = o.bound; tears = o.tears; workers = o.workers; cache = o.cache; checked = o.checked; first = o.first } };
+
+    ghost invariant = { λ o. IsAsked (record { sectors = o.sectors; cuts = o.cuts; bound = o.bound; tears = o.tears; workers = o.workers; cache = o.cache; checked = o.checked; first = o.first }) };
+}
+
+/// Whether there is a limit of steps that is too great.
+fn is_too_long(checked: Option<u64>) -> bool
+    ensures { result ≡ not (option_map_or (λ limit. nat_le limit 1000000000) checked true) }
+{
+    match checked {
+        Some(limit) => limit > MAX_STEPS,
+        None => false,
+    }
+}
+
+impl Options {
+    /// The options of a run that is asked this.
+    ///
+    /// # Errors
+    ///
+    /// The first option that is out of its range, or not built yet, by its place.
+    #[tactic(auto, unfolding(crate::specs::Settings::option_checks))]
+    pub fn new(settings: &Settings) -> Result<Options, Refusal>
+        ensures made { IfOk result (λ o. o ≡ settings.now) }
+        ensures refused { MatchResult result (λ o. settings_refusal settings.now ≡ None) (λ r. settings_refusal settings.now ≡ Some r) }
+    {
+        if settings.sectors < 1 || settings.sectors > MAX_SECTORS {
+            return Err(option_refusal_of(OptionPlace::Sectors));
+        }
+        if settings.bound > MAX_BOUND {
+            return Err(option_refusal_of(OptionPlace::Bound));
+        }
+        if settings.workers != 1 {
+            return Err(option_refusal_of(OptionPlace::Workers));
+        }
+        if settings.cache > 0 {
+            return Err(option_refusal_of(OptionPlace::Cache));
+        }
+        if is_too_long(settings.checked) {
+            return Err(option_refusal_of(OptionPlace::Checked));
+        }
+        Ok(Options {
+            sectors: settings.sectors as u32,
+            cuts: settings.cuts,
+            bound: settings.bound as u8,
+            tears: settings.tears,
+            workers: settings.workers as u8,
+            cache: settings.cache as u32,
+            checked: settings.checked,
+            first: settings.first,
+        })
+    }
+
+    /// The number of sectors of the device, 1 to 16,384.
+    pub(crate) fn sectors(&self) -> u32
+        ensures value { result ≡ self.now.sectors }
+        ensures asked { IsAsked self.now }
+    {
+        self.sectors
+    }
+
+    /// The kind of the cuts.
+    pub(crate) fn cuts(&self) -> Cuts
+        ensures { result ≡ self.now.cuts }
+    {
+        self.cuts
+    }
+
+    /// How many units may depart, 0 to 3.
+    pub(crate) fn bound(&self) -> u8
+        ensures value { result ≡ self.now.bound }
+        ensures few { result ≤ 3 }
+    {
+        self.bound
+    }
+
+    /// Whether units may be torn.
+    pub(crate) fn tears(&self) -> bool
+        ensures { result ≡ self.now.tears }
+    {
+        self.tears
+    }
+
+    /// Whether the report is to hold the first failing image alone.
+    pub(crate) fn first(&self) -> bool
+        ensures { result ≡ self.now.first }
+    {
+        self.first
+    }
+
+    /// The limit of steps of a program, where there is one.
+    pub(crate) fn checked(&self) -> Option<u64>
+        ensures { result ≡ self.now.checked }
+    {
+        self.checked
+    }
+}

@@ -1,5 +1,0 @@
-pub mod Findings
-pub mod Plans
-pub mod Refusals
-pub mod Runs
-pub mod Texts

@@ -1,6 +1,0 @@
-use Rattle.std.proofs.Common.{◌≡◌, length}
-use Rattle.crashbpf.specs.Programs.{AreFirstMade}
-use Rattle.crashbpf.proofs.explorer.checkers_of.Given as goal
-
-abbrev pub invariant-loop-number : goal.invariant-loop-number
-invariant-loop-number l = AreFirstMade l.options l.programs l.checkers.items × (length l.checkers.items ≡ l.number)

@@ -1,0 +1,142 @@
+//! The examples of docs/CRASH-MODEL.md: how many choices a small log has, and which.
+
+ghost use Rattle.std.specs.Prelude.{◌≡◌, ◌<◌, ◌≤◌, length};
+ghost use Rattle.choices.specs.Choices.{ranked};
+
+use crate::log_text::{FLUSH, text_without_data};
+use choices::{Choice, Departure, Eighths, Fate, TooMany, count, count_at, next, nth};
+use epochs::{Cuts, Plan, Unit};
+use logfmt::read;
+use std::process::Abort;
+use std::test::Fail;
+
+/// The departure of sector `place` of entry 0, with the fate of that number: 0 the drop, else a head
+/// of that many eighths.
+fn departure(place: u32, number: u8) -> Departure
+    requires { number < 8 }
+{
+    Departure {
+        unit: Unit {
+            entry: 0,
+            place,
+            sector: place,
+        },
+        fate: if number == 0 {
+            Fate::Drop
+        } else {
+            Fate::Head(Eighths::new(number))
+        },
+    }
+}
+
+/// A number, and the departures of its choice: the sector of entry 0, and the number of the fate.
+#[derive(Clone, Copy)]
+struct Case<'a>(u64, &'a [(u32, u8)]);
+
+fn check_choice(rt: &impl Abort, choice: &Choice, case: Case) {
+    let Case(number, departures) = case;
+    assert_eq!(rt; choice.cut(), 1, "at {number}");
+    assert_eq!(rt; choice.departures().len(), departures.len(), "at {number}");
+    for (index, (place, fate)) in departures.iter().enumerate() {
+        if *fate < 8 {
+            let wanted = departure(*place, *fate);
+            assert_eq!(rt;
+                choice.departures().get(index),
+                Some(&wanted),
+                "at {number}"
+            );
+        }
+    }
+}
+
+#[test]
+fn two_epochs(rt: HostRuntime) -> Result<(), Fail> {
+    let text = text_without_data(rt.alloc(), &[(0, 1, 0), (0, 0, FLUSH), (0, 1, 0)])?;
+    let log = read(rt.alloc(), &text, 4)?;
+    let plan = Plan::new(rt.alloc(), &log, Cuts::All)?;
+    assert_eq!(rt; log.entries().len(), 3);
+    assert_eq!(rt; count(&plan, 1, true), Ok(20));
+    if log.entries().len() == 3 {
+        assert_eq!(rt; count_at(&plan, 1, true, 0), Ok(1));
+        assert_eq!(rt; count_at(&plan, 1, true, 1), Ok(9));
+        assert_eq!(rt; count_at(&plan, 1, true, 2), Ok(1));
+        assert_eq!(rt; count_at(&plan, 1, true, 3), Ok(9));
+    }
+    Ok(())
+}
+
+#[test]
+fn pairs_of_drops(rt: HostRuntime) -> Result<(), Fail> {
+    let text = text_without_data(rt.alloc(), &[(0, 2, 0)])?;
+    let log = read(rt.alloc(), &text, 4)?;
+    let plan = Plan::new(rt.alloc(), &log, Cuts::BeforeFlush)?;
+    let cases = [
+        Case(0, &[]),
+        Case(1, &[(0, 0)]),
+        Case(2, &[(0, 1)]),
+        Case(8, &[(0, 7)]),
+        Case(9, &[(1, 0)]),
+        Case(16, &[(1, 7)]),
+        Case(17, &[(0, 0), (1, 0)]),
+        Case(18, &[(0, 0), (1, 1)]),
+        Case(25, &[(0, 1), (1, 0)]),
+        Case(80, &[(0, 7), (1, 7)]),
+    ];
+    let total = count(&plan, 2, true);
+    assert_eq!(rt; total, Ok(81));
+    if let Ok(total) = total {
+        for case in cases {
+            if case.0 < total {
+                check_choice(&rt, &nth(&plan, 2, true, case.0), case);
+            }
+        }
+    }
+    Ok(())
+}
+
+#[test]
+fn refused_logs(rt: HostRuntime) -> Result<(), Fail> {
+    let text = text_without_data(rt.alloc(), &[(0, 64, 0)])?;
+    let log = read(rt.alloc(), &text, 64)?;
+    let plan = Plan::new(rt.alloc(), &log, Cuts::All)?;
+    assert_eq!(rt; count(&plan, 3, true), Err(TooMany { at: 1 }));
+    assert_eq!(rt; log.entries().len(), 1);
+    if log.entries().len() == 1 {
+        assert_eq!(rt; count_at(&plan, 3, true, 0), Ok(1));
+        assert_eq!(rt; count_at(&plan, 3, true, 1), Err(TooMany { at: 1 }));
+        // without torn writes: 1 + 64 + 2,016 + 41,664
+        assert_eq!(rt; count_at(&plan, 3, false, 1), Ok(43_745));
+    }
+    Ok(())
+}
+
+/// Walks from the first choice to the last, and compares each with that of its number.
+fn walk(rt: &impl Abort, plan: &Plan, bound: u8, tears: bool, total: u64)
+    requires bound { bound ≤ 3 }
+    requires total { total ≡ length (ranked plan.now bound tears) }
+    requires some { 0 < total }
+{
+    let mut choice = nth(plan, bound, tears, 0);
+    for number in 0..total {
+        let same = nth(plan, bound, tears, number);
+        assert_eq!(rt; choice.cut(), same.cut(), "at {number}");
+        assert_eq!(rt; choice.departures(), same.departures(), "at {number}");
+        let moved = next(plan, bound, tears, &mut choice);
+        assert_eq!(rt; moved, number + 1 < total, "at {number}");
+    }
+}
+
+#[test]
+fn next_walks_all_choices(rt: HostRuntime) -> Result<(), Fail> {
+    let text = text_without_data(rt.alloc(), &[(0, 2, 0)])?;
+    let log = read(rt.alloc(), &text, 4)?;
+    let plan = Plan::new(rt.alloc(), &log, Cuts::BeforeFlush)?;
+    let total = count(&plan, 2, true);
+    assert_eq!(rt; total, Ok(81));
+    if let Ok(total) = total {
+        if total > 0 {
+            walk(&rt, &plan, 2, true, total);
+        }
+    }
+    Ok(())
+}

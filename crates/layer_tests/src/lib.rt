@@ -1,0 +1,43 @@
+//! Tests of the libraries' public calls: worked values, outside vectors, happy paths near limits.
+//!
+//! A crate with tests of its own is proved twice, so they stand here, over the finished work of the
+//! others. Each file has the tests of one crate; `log_text` builds the texts of logs that several of them
+//! read. This crate has no code but tests.
+#![tactic(auto)]
+
+#[cfg(test)]
+mod bpf_asm_tests;
+#[cfg(test)]
+mod bpf_isa_tests;
+#[cfg(test)]
+mod bpf_shape_tests;
+#[cfg(test)]
+mod choices_tests;
+#[cfg(test)]
+mod epochs_tests;
+#[cfg(test)]
+mod explore_core_tests;
+#[cfg(test)]
+mod helpers_tests;
+#[cfg(test)]
+mod images_tests;
+#[cfg(test)]
+mod interp_tests;
+#[cfg(test)]
+mod intervals_tests;
+#[cfg(test)]
+mod lanes_tests;
+#[cfg(test)]
+mod log_text;
+#[cfg(test)]
+mod logfmt_tests;
+#[cfg(test)]
+mod ranges_tests;
+#[cfg(test)]
+mod shares_tests;
+#[cfg(test)]
+mod verdict_cache_tests;
+#[cfg(test)]
+mod verifier_tests;
+#[cfg(test)]
+mod workers_tests;

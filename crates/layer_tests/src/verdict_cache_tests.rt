@@ -1,0 +1,248 @@
+//! Shards of a small run: what becomes of entries, and how many each shard takes.
+
+ghost use Rattle.std.specs.Prelude.{◌≡◌, ◌≤◌, IfOk};
+ghost use Rattle.interp.specs.Ending.{ending_of};
+ghost use Rattle.verdict_cache.specs.Endings.{IsEndingOf};
+
+use crate::log_text::text_of;
+use bpf_isa::codec::decode;
+use choices::{count, nth};
+use epochs::{Cuts, Plan};
+use images::{History, Key};
+use interp::{Checker, Outcome};
+use logfmt::{Log, read};
+use std::alloc::Global;
+use std::marker::Brand;
+use std::process::Abort;
+use std::sync::Mutex;
+use std::test::Fail;
+use verdict_cache::{Kept, Run, Shard, one_image_tells, shards};
+
+/// Answers 1.
+const ANSWER_1: [u8; 16] = [0xb7, 0, 0, 0, 1, 0, 0, 0, 0x95, 0, 0, 0, 0, 0, 0, 0];
+
+/// An image and the number of a program: of the three images that one write of a sector leaves, the
+/// first and the last are zeros.
+type Work = (u64, u8);
+
+const ZEROS: Work = (0, 0);
+
+const WRITTEN: Work = (1, 0);
+
+const ZEROS_AGAIN: Work = (2, 0);
+
+const WRITTEN_OTHER_PROGRAM: Work = (1, 1);
+
+/// A log that writes 0xaa to the one sector of its device.
+fn one_write(alloc: Global) -> Result<Log, Fail> {
+    let text = text_of(alloc, &[(0, 1, 0, 0xaa)])?;
+    Ok(read(alloc, text.as_slice(), 1).ok().ok_or("a log")?)
+}
+
+/// The key of a work, and what its checker ends in.
+fn judged(
+    alloc: Global,
+    plan: &Plan<'_>,
+    history: &History<'_>,
+    checkers: &[Checker<'_>],
+    work: Work,
+) -> Result<(Key, Outcome), Fail>
+    requires history { history.now ≡ plan.now }
+    ensures { IfOk result (λ own. IsEndingOf plan.now checkers.now own.0 (ending_of own.1)) }
+{
+    one_image_tells();
+    let (image, program) = work;
+    if !count(plan, 1, false).is_ok_and(|counted| image < counted) {
+        return Err("an image".into());
+    }
+    let Some(checker) = checkers.get(usize::from(program)) else {
+        return Err("a checker".into());
+    };
+    let view = history.view(alloc, &nth(plan, 1, false, image))?;
+    let Some(key) = view.key(alloc, program)? else {
+        return Err("a key".into());
+    };
+    let outcome = checker.judge(&view.context(), &view);
+    Ok((key, outcome))
+}
+
+/// The answer of a verdict; 100 where the steps were too few.
+fn number_of(outcome: Option<Outcome>) -> Option<u64> {
+    match outcome? {
+        Outcome::Verdict(verdict) => Some(verdict.answer),
+        Outcome::Fault { code: _, slot: _ } => None,
+        Outcome::OutOfSteps => Some(100),
+    }
+}
+
+/// A call of a shard, and what it has to answer.
+#[derive(Clone, Copy)]
+enum Call {
+    Put(Work, Kept),
+    Look(Work, Option<u64>),
+}
+
+/// Makes calls of an empty shard, and answers its hits.
+fn check_calls<J: Run, R: Abort>(
+    rt: &R,
+    alloc: Global,
+    plan: &Plan<'_>,
+    history: &History<'_>,
+    checkers: &[Checker<'_>],
+    capacity: u32,
+    calls: &[Call],
+) -> Result<u64, Fail>
+    requires plan { plan.now ≡ J.plan }
+    requires history { history.now ≡ J.plan }
+    requires checkers { checkers.now ≡ J.checkers }
+{
+    let mut shard: Shard<J> = Shard::new(alloc, capacity)?;
+    for call in calls {
+        match *call {
+            Call::Put(work, kept) => {
+                let (key, outcome) = judged(alloc, plan, history, checkers, work)?;
+                assert_eq!(rt; shard.put(key, outcome), kept);
+            }
+            Call::Look(work, number) => {
+                let (key, _outcome) = judged(alloc, plan, history, checkers, work)?;
+                assert_eq!(rt; number_of(shard.look(&key)), number);
+            }
+        }
+    }
+    Ok(shard.hits())
+}
+
+/// How many of two entries a shard takes.
+fn room_of<J: Run>(
+    alloc: Global,
+    plan: &Plan<'_>,
+    history: &History<'_>,
+    checkers: &[Checker<'_>],
+    mut shard: Shard<J>,
+) -> Result<u8, Fail>
+    requires plan { plan.now ≡ J.plan }
+    requires history { history.now ≡ J.plan }
+    requires checkers { checkers.now ≡ J.checkers }
+{
+    let (zeros, outcome) = judged(alloc, plan, history, checkers, ZEROS)?;
+    if shard.put(zeros, outcome) == Kept::Off {
+        return Ok(0);
+    }
+    let (written, outcome) = judged(alloc, plan, history, checkers, WRITTEN)?;
+    Ok(if shard.put(written, outcome) == Kept::Evicted {
+        1
+    } else {
+        2
+    })
+}
+
+fn can_be_shared<T: Sync>(_shards: &[T]) {}
+
+/// Of the shards of a cache of that size the first ones have room for one entry more.
+fn check_rooms<J: Run + Send + Sync, R: Abort>(
+    rt: &R,
+    alloc: Global,
+    plan: &Plan<'_>,
+    history: &History<'_>,
+    checkers: &[Checker<'_>],
+    size: u32,
+    rooms: (usize, u8, u8),
+) -> Result<(), Fail>
+    requires plan { plan.now ≡ J.plan }
+    requires history { history.now ≡ J.plan }
+    requires checkers { checkers.now ≡ J.checkers }
+    requires size { size ≤ 65536 }
+{
+    let (first, room_of_first, room_of_others) = rooms;
+    let shards: Vec<Mutex<Shard<J>>> = shards(alloc, history, checkers, size)?;
+    can_be_shared(shards.as_slice());
+    assert_eq!(rt; shards.len(), 16);
+    let mut number = 0usize;
+    for shard in shards {
+        let wanted = if number < first {
+            room_of_first
+        } else {
+            room_of_others
+        };
+        let room = room_of(alloc, plan, history, checkers, shard.into_inner())?;
+        assert_eq!(rt; room, wanted, "shard {number}");
+        number = number.saturating_add(1);
+    }
+    Ok(())
+}
+
+/// Makes calls of an empty shard of that capacity, in a run of two programs.
+fn check_run<R: Abort>(rt: &R, alloc: Global, capacity: u32, calls: &[Call]) -> Result<u64, Fail> {
+    let log = one_write(alloc)?;
+    let plan = Plan::new(alloc, &log, Cuts::All)?;
+    let history = History::new(alloc, &plan, &log)?;
+    let program = decode(alloc, &ANSWER_1).ok().ok_or("a program")?;
+    let checkers = [Checker::limited(&program, 2), Checker::limited(&program, 1)];
+    check_calls::<Brand, R>(rt, alloc, &plan, &history, &checkers, capacity, calls)
+}
+
+#[test]
+fn shard_keeps_what_is_put(rt: HostRuntime) -> Result<(), Fail> {
+    let calls = [
+        Call::Look(ZEROS, None),
+        Call::Put(ZEROS, Kept::New),
+        Call::Look(ZEROS, Some(1)),
+        Call::Look(ZEROS_AGAIN, Some(1)),
+        Call::Look(WRITTEN, None),
+        Call::Put(ZEROS_AGAIN, Kept::Again),
+        Call::Put(WRITTEN_OTHER_PROGRAM, Kept::Evicted),
+        Call::Look(ZEROS, None),
+        Call::Look(WRITTEN, None),
+        Call::Look(WRITTEN_OTHER_PROGRAM, Some(100)),
+    ];
+    assert_eq!(rt; check_run(&rt, rt.alloc(), 1, &calls)?, 3);
+    Ok(())
+}
+
+#[test]
+fn least_recent_entry_leaves(rt: HostRuntime) -> Result<(), Fail> {
+    let calls = [
+        Call::Put(ZEROS, Kept::New),
+        Call::Put(WRITTEN, Kept::New),
+        Call::Look(ZEROS, Some(1)),
+        Call::Put(WRITTEN_OTHER_PROGRAM, Kept::Evicted),
+        Call::Look(WRITTEN, None),
+        Call::Look(ZEROS, Some(1)),
+    ];
+    assert_eq!(rt; check_run(&rt, rt.alloc(), 2, &calls)?, 2);
+    Ok(())
+}
+
+#[test]
+fn shard_without_room_keeps_nothing(rt: HostRuntime) -> Result<(), Fail> {
+    let calls = [Call::Put(ZEROS, Kept::Off), Call::Look(ZEROS, None)];
+    assert_eq!(rt; check_run(&rt, rt.alloc(), 0, &calls)?, 0);
+    Ok(())
+}
+
+/// Looks at the rooms of the shards of a cache of that size.
+fn check_size<R: Abort>(
+    rt: &R,
+    alloc: Global,
+    size: u32,
+    rooms: (usize, u8, u8),
+) -> Result<(), Fail>
+    requires { size ≤ 65536 }
+{
+    let log = one_write(alloc)?;
+    let plan = Plan::new(alloc, &log, Cuts::All)?;
+    let history = History::new(alloc, &plan, &log)?;
+    let program = decode(alloc, &ANSWER_1).ok().ok_or("a program")?;
+    let checkers = [Checker::limited(&program, 2)];
+    check_rooms::<Brand, R>(rt, alloc, &plan, &history, &checkers, size, rooms)
+}
+
+#[test]
+fn shards_share_the_size(rt: HostRuntime) -> Result<(), Fail> {
+    check_size(&rt, rt.alloc(), 0, (0, 0, 0))?;
+    check_size(&rt, rt.alloc(), 3, (3, 1, 0))?;
+    check_size(&rt, rt.alloc(), 16, (16, 1, 0))?;
+    check_size(&rt, rt.alloc(), 17, (1, 2, 1))?;
+    check_size(&rt, rt.alloc(), 65_536, (0, 0, 2))?;
+    Ok(())
+}

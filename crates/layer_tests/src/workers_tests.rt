@@ -1,0 +1,163 @@
+//! Pieces of a run of two blocks, in any order, full ones and passed ones.
+
+ghost use Rattle.std.specs.Prelude.{◌≡◌, ◌<◌, All, IfOk};
+ghost use Rattle.workers.specs.Pieces.{block_count};
+
+use crate::log_text::{FLUSH, text_of};
+use base::refusal::Refusal;
+use bpf_isa::codec::decode;
+use epochs::{Cuts, Plan};
+use images::History;
+use interp::Checker;
+use logfmt::{Log, read};
+use std::alloc::{AllocError, Global};
+use std::test::Fail;
+use workers::{Input, OpenGate, Piece, collect, explore_all, judge_block};
+
+/// Answers 1.
+const ANSWER_1: [u8; 16] = [0xb7, 0, 0, 0, 1, 0, 0, 0, 0x95, 0, 0, 0, 0, 0, 0, 0];
+
+/// Answers 1 from the epoch 70 on, and else 0: `ldxdw r0, [r1+8]; div64 r0, 70; exit`.
+const FROM_70: [u8; 24] = [
+    0x79, 0x10, 8, 0, 0, 0, 0, 0, 0x37, 0, 0, 0, 70, 0, 0, 0, 0x95, 0, 0, 0, 0, 0, 0, 0,
+];
+
+/// A log of 70 flush entries without sectors, for a device of one sector: 71 images.
+fn flushes(alloc: Global) -> Result<Log, Fail> {
+    let bytes = text_of(alloc, &[(0, 0, FLUSH, 0); 70])?;
+    Ok(read(alloc, bytes.as_slice(), 1).ok().ok_or("a log")?)
+}
+
+/// The full piece of a block, or one that was passed over after that image.
+fn piece(
+    alloc: Global,
+    input: &Input<'_>,
+    block: u32,
+    passed: Option<u64>,
+) -> Result<Piece, AllocError>
+    requires { block < block_count input.now }
+    ensures { IfOk result (λ piece. piece.block ≡ block) }
+{
+    match passed {
+        Some(image) => Ok(Piece::passed(block, image)),
+        None => judge_block(alloc, input, block),
+    }
+}
+
+/// The pieces of these blocks, in this order.
+fn pieces_of(
+    alloc: Global,
+    input: &Input<'_>,
+    blocks: &[(u32, Option<u64>)],
+) -> Result<Vec<Piece>, AllocError>
+    ensures { IfOk result (λ pieces. All (λ piece. piece.block < block_count input.now) pieces.items) }
+{
+    let mut pieces: Vec<Piece> = Vec::new(alloc);
+    for wanted in blocks {
+        let (block, passed) = *wanted;
+        if block < input.block_count() {
+            pieces.push(piece(alloc, input, block, passed)?)?;
+        }
+    }
+    Ok(pieces)
+}
+
+/// What the pieces of these blocks are collected to: the number of a refusal and its place, or 0 and
+/// whether there is a line.
+fn collected(
+    alloc: Global,
+    program: &[u8],
+    blocks: &[(u32, Option<u64>)],
+) -> Result<(u8, u64), Fail> {
+    let log = flushes(alloc)?;
+    let plan = Plan::new(alloc, &log, Cuts::All)?;
+    let history = History::new(alloc, &plan, &log)?;
+    let program = decode(alloc, program).ok().ok_or("a program")?;
+    let mut checkers = Vec::new(alloc);
+    checkers.push(Checker::limited(&program, 3))?;
+    let input = Input::new(&plan, &history, checkers.as_slice(), 0, false, true)
+        .ok()
+        .ok_or("an input")?;
+    let pieces = pieces_of(alloc, &input, blocks)?;
+    match collect(alloc, pieces, input.block_count()) {
+        Ok(lines) => Ok((0, if lines.is_empty() { 0 } else { 1 })),
+        Err(refusal) => Ok((numbered(&refusal), refusal.at)),
+    }
+}
+
+fn numbered(refusal: &Refusal) -> u8 {
+    refusal.code.number()
+}
+
+#[test]
+fn collects_pieces_in_any_order(rt: HostRuntime) -> Result<(), Fail> {
+    let alloc = rt.alloc();
+    let rows = [
+        ([(0, None), (1, None)].as_slice(), (0, 1)),
+        ([(1, None), (0, None)].as_slice(), (0, 1)),
+        ([(0, None)].as_slice(), (71, 1)),
+        ([(1, None)].as_slice(), (71, 0)),
+        ([].as_slice(), (71, 0)),
+        ([(0, None), (0, None)].as_slice(), (70, 0)),
+        ([(1, None), (1, None)].as_slice(), (70, 1)),
+        (
+            [(1, None), (1, None), (0, None), (0, None)].as_slice(),
+            (70, 0),
+        ),
+        ([(1, Some(63)), (0, None)].as_slice(), (0, 1)),
+        ([(0, None), (1, Some(64))].as_slice(), (71, 1)),
+        ([(1, Some(0)), (1, None)].as_slice(), (70, 1)),
+    ];
+    for (blocks, wanted) in rows {
+        let (number, at) = collected(alloc, &ANSWER_1, blocks)?;
+        let (wanted_number, wanted_at) = wanted;
+        assert_eq!(rt; number, wanted_number, "{} pieces", blocks.len());
+        assert_eq!(rt; at, wanted_at, "{} pieces", blocks.len());
+    }
+    Ok(())
+}
+
+#[test]
+fn takes_no_pass_before_the_first_failing_image(rt: HostRuntime) -> Result<(), Fail> {
+    let alloc = rt.alloc();
+    let rows = [
+        ([(0, None), (1, None)].as_slice(), (0, 1)),
+        ([(0, Some(70)), (1, None)].as_slice(), (71, 0)),
+        ([(0, None), (1, Some(63))].as_slice(), (71, 1)),
+    ];
+    for (blocks, wanted) in rows {
+        let (number, at) = collected(alloc, &FROM_70, blocks)?;
+        let (wanted_number, wanted_at) = wanted;
+        assert_eq!(rt; number, wanted_number, "{} pieces", blocks.len());
+        assert_eq!(rt; at, wanted_at, "{} pieces", blocks.len());
+    }
+    Ok(())
+}
+
+/// Whether a run finds a failing line, and how many of its judgements came from a cache.
+fn explored(alloc: Global, program: &[u8], first: bool) -> Result<(bool, u64), Fail> {
+    let log = flushes(alloc)?;
+    let plan = Plan::new(alloc, &log, Cuts::All)?;
+    let history = History::new(alloc, &plan, &log)?;
+    let program = decode(alloc, program).ok().ok_or("a program")?;
+    let mut checkers = Vec::new(alloc);
+    checkers.push(Checker::limited(&program, 3))?;
+    let input = Input::new(&plan, &history, checkers.as_slice(), 0, false, first)
+        .ok()
+        .ok_or("an input")?;
+    let work = explore_all(alloc, &OpenGate, &input).ok().ok_or("work")?;
+    Ok((!work.lines.is_empty(), work.hits))
+}
+
+#[test]
+fn explores_for_all_and_for_the_first(rt: HostRuntime) -> Result<(), Fail> {
+    let alloc = rt.alloc();
+    for first in [false, true] {
+        let (fails, hits) = explored(alloc, &ANSWER_1, first)?;
+        assert!(rt; fails);
+        assert_eq!(rt; hits, 0);
+        let (fails, _hits) = explored(alloc, &FROM_70, first)?;
+        assert!(rt; fails);
+    }
+    Ok(())
+}

@@ -1,0 +1,3 @@
+-- The failing lines of a run.
+pub mod Line
+pub mod Lines

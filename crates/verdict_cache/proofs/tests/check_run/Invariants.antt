@@ -1,4 +1,0 @@
-use Rattle.verdict_cache.proofs.tests.check_run.Given as goal
-
-abbrev pub ghosts-check_calls : goal.ghosts-check_calls
-ghosts-check_calls g a = record { plan = a.plan.now; checkers = a.checkers.now }

@@ -1,4 +1,0 @@
-use Rattle.verdict_cache.proofs.tests.check_size.Given as goal
-
-abbrev pub ghosts-check_rooms : goal.ghosts-check_rooms
-ghosts-check_rooms g a = record { plan = a.plan.now; checkers = a.checkers.now }

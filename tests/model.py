@@ -1,0 +1,244 @@
+"""The crash model and the report once more, in the plainest form.
+
+Written from docs/CRASH-MODEL.md, docs/REPORT.md and, for `mix`, docs/MACHINE.md, and from nothing of the program under
+test. It is slow and keeps everything in lists; rows use it where a report is too long to be written down. What programs
+answer isn't worked out: a checker is a function of an image that stands for a program of the folder programs/.
+"""
+import functools
+import struct
+from dataclasses import dataclass
+
+from notation import DISCARD, FIRST_LINE, FLUSH, FUA, MARK, SECTOR
+
+ZEROS = bytes(SECTOR)
+HEADS = [f"head{eighths}" for eighths in range(1, 8)]
+
+
+@dataclass(frozen=True)
+class Unit:
+    """Sector `place` of an entry."""
+
+    entry: int
+    place: int
+    sector: int
+    content: bytes
+
+    def name(self):
+        return f"{self.entry}.{self.place}"
+
+
+@dataclass(frozen=True)
+class Image:
+    """A crash image: its number, its cut, which units depart from the log, and the log."""
+
+    number: int
+    cut: int
+    departures: tuple
+    run: object
+
+    def epoch(self):
+        return self.run.epoch(self.cut)
+
+    def marks(self):
+        return self.run.marks(self.cut)
+
+    def choice(self):
+        return ",".join(f"{unit.name()}:{fate}" for unit, fate in self.departures) or "-"
+
+    def sector(self, number):
+        """The 512 bytes of a sector."""
+        fates = {unit.name(): fate for unit, fate in self.departures}
+        found = ZEROS
+        for unit in self.run.units:
+            if unit.entry < self.cut and unit.sector == number:
+                found = written(unit.content, found, fates.get(unit.name(), "whole"))
+        return found
+
+    def content(self):
+        return b"".join(self.sector(number) for number in range(self.run.sectors))
+
+
+def written(content, old, fate):
+    """What a unit with that fate makes of a sector."""
+    if fate == "whole":
+        return content
+    if fate == "drop":
+        return old
+    size = 64 * int(fate.removeprefix("head"))
+    return content[:size] + old[size:]
+
+
+def units_of(number, entry):
+    """The units of an entry."""
+    content = bytes(SECTOR * entry.count) if entry.flags & DISCARD else entry.data
+    return [
+        Unit(number, place, entry.sector + place, content[SECTOR * place : SECTOR * (place + 1)])
+        for place in range(entry.count)
+    ]
+
+
+def departures(units, count, fates):
+    """All ways to let `count` of the units depart, in order: by the first unit, its fate, then the others."""
+    if count == 0:
+        yield ()
+        return
+    for place, unit in enumerate(units):
+        for fate in fates:
+            for others in departures(units[place + 1 :], count - 1, fates):
+                yield ((unit, fate), *others)
+
+
+class Run:
+    """A log, the size of the device, and which images are wanted."""
+
+    def __init__(self, entries, sectors=4, cuts="all", bound=1, tears=False):
+        self.entries, self.sectors, self.cuts, self.bound, self.tears = entries, sectors, cuts, bound, tears
+        self.units = [unit for number, entry in enumerate(entries) for unit in units_of(number, entry)]
+
+    def options(self):
+        """The options of the command line that ask for this run."""
+        return f"--sectors {self.sectors} --cuts {self.cuts} --bound {self.bound}{' --tears' if self.tears else ''}"
+
+    def flushes(self, start, end):
+        """How many flush entries there are from `start` to before `end`."""
+        return sum(1 for it in self.entries[start:end] if it.flags & FLUSH)
+
+    def epoch(self, cut):
+        return self.flushes(0, cut)
+
+    def marks(self, cut):
+        return sum(1 for it in self.entries[:cut] if it.flags & MARK)
+
+    def wanted_cuts(self):
+        count = len(self.entries)
+        if self.cuts == "all":
+            return list(range(count + 1))
+        if self.cuts == "flush":
+            return [cut for cut in range(count) if self.entries[cut].flags & FLUSH] + [count]
+        return [cut for cut in range(1, count + 1) if self.entries[cut - 1].flags & MARK]
+
+    def volatile(self, cut):
+        """The units before the cut that aren't forced and that no flush after their entry made durable."""
+        return [
+            unit
+            for unit in self.units
+            if unit.entry < cut
+            and not self.entries[unit.entry].flags & FUA
+            and self.flushes(unit.entry + 1, cut) == 0
+        ]
+
+    def choices(self, cut):
+        fates = ["drop"] + (HEADS if self.tears else [])
+        units = self.volatile(cut)
+        for count in range(self.bound + 1):
+            yield from departures(units, count, fates)
+
+    def images(self):
+        number = 0
+        for cut in self.wanted_cuts():
+            for choice in self.choices(cut):
+                yield Image(number, cut, choice, self)
+                number += 1
+
+    def survey(self):
+        """What `images` prints."""
+        text, total = "", 0
+        for cut in self.wanted_cuts():
+            count = sum(1 for _choice in self.choices(cut))
+            total += count
+            about = f"cut {cut} epoch {self.epoch(cut)} marks {self.marks(cut)}"
+            text += f"{about} volatile {len(self.volatile(cut))} images {count}\n"
+        return text + f"total {total}\n"
+
+
+@dataclass(frozen=True)
+class Checker:
+    """A program as the report sees it: `about` is `slots L budget N` or `slots L limit N`; `judge` answers the answer and
+    the codes of an image."""
+
+    about: str
+    judge: object
+
+
+def failing_line(image, number, answer, codes):
+    codes = ",".join(str(it) for it in codes) or "-"
+    return f"image {image.number} cut {image.cut} program {number} answer {answer} codes {codes} choice {image.choice()}"
+
+
+def failing_lines(image, checkers):
+    """The lines of the programs that fail on an image."""
+    found = []
+    for number, checker in enumerate(checkers):
+        answer, codes = checker.judge(image)
+        if answer != 0:
+            found.append(failing_line(image, number, answer, codes))
+    return found
+
+
+def head(run, checkers, first):
+    text = f"sectors {run.sectors} entries {len(run.entries)} cuts {run.cuts} bound {run.bound}"
+    text += f" tears {'yes' if run.tears else 'no'} first {'yes' if first else 'no'}\n"
+    return text + "".join(f"program {number} {it.about}\n" for number, it in enumerate(checkers))
+
+
+def explored(run, checkers, first=False):
+    """What `explore` prints."""
+    total, failing, found, least = 0, 0, [], "none"
+    for image in run.images():
+        total += 1
+        more = failing_lines(image, checkers) if not (first and failing) else []
+        failing += 1 if more else 0
+        found += more
+        if more and least == "none":
+            least = image.number
+    last = f"images {total} first {least}" if first else f"images {total} failing {failing} lines {len(found)}"
+    return FIRST_LINE + head(run, checkers, first) + "".join(f"{it}\n" for it in [*found, last])
+
+
+@functools.lru_cache(maxsize=None)
+def mix(sector):
+    """The mix of the 512 bytes of a sector."""
+    words = struct.unpack("<64Q", sector)
+    mixed = 0
+    for lane in range(8):
+        of_lane = 0
+        for row in range(8):
+            of_lane = (of_lane * 1000003 + words[8 * row + lane]) % 2**64
+        mixed = (mixed * 16777619 + of_lane) % 2**64
+    return mixed
+
+
+# What the programs of the folder programs/ answer
+
+
+def first_byte(image):
+    return image.sector(0)[0], ()
+
+
+def byte_64(image):
+    return image.sector(0)[64], ()
+
+
+def whole_image(image):
+    answer = 0
+    for number in range(min(image.run.sectors, 64)):
+        answer = (answer * 31 + mix(image.sector(number))) % 2**64
+    return answer, ()
+
+
+def epoch_and_marks(image):
+    return image.epoch() * 2**32 + image.marks(), ()
+
+
+def sectors_0_and_1(image):
+    first, second = image.sector(0), image.sector(1)
+    last_word, next_word = struct.unpack("<Q", first[504:]), struct.unpack("<Q", second[:8])
+    return 1, (int(first == ZEROS), int(first == second), *last_word, *next_word)
+
+
+def one(_image):
+    return 1, ()
+
+
+def zero(_image):
+    return 0, ()

@@ -1,0 +1,193 @@
+"""How the rows of the tests are written down: logs, programs, reports, and the row itself.
+
+A log is a list of entries in the short form of docs/LOG-FORMAT.md: W (write), F (flush), D (discard), M (mark). An entry
+may also be a piece of bytes, for logs that lie. A program is bytes, or an assembly text that the program under test
+assembles itself (the rows of rows/encodings.py and rows/texts.py show that it does that rightly).
+"""
+import struct
+import textwrap
+from dataclasses import dataclass, field
+from pathlib import Path
+
+TESTS = Path(__file__).resolve().parent
+TOP = TESTS.parent
+
+SECTOR = 512
+MAGIC = b"rhswfsj\0"
+FLUSH, FUA, DISCARD, MARK, METADATA = 1, 2, 4, 8, 16
+
+# The first line of every report.
+FIRST_LINE = "crash report 1\n"
+
+
+# Logs
+
+
+@dataclass(frozen=True)
+class Entry:
+    """An entry of a log: the fields of its header, a mark's text, and the data that follows the header."""
+
+    sector: int = 0
+    count: int = 0
+    flags: int = 0
+    text: bytes = b""
+    data: bytes = b""
+
+    def encoded(self):
+        return header(self.sector, self.count, self.flags, len(self.text), self.text) + self.data
+
+
+def W(sector, count, byte, flags=0):
+    """A write of `count` sectors from `sector` on, every byte `byte`."""
+    return Entry(sector, count, flags, data=bytes([byte]) * (SECTOR * count))
+
+
+def S(sector, data, flags=0):
+    """A write of these bytes, which are whole sectors."""
+    return Entry(sector, len(data) // SECTOR, flags, data=data)
+
+
+F = Entry(flags=FLUSH)
+
+
+def D(sector, count, flags=0):
+    """A discard of `count` sectors from `sector` on."""
+    return Entry(sector, count, DISCARD | flags)
+
+
+def M(text, flags=0):
+    """A mark with that text."""
+    return Entry(flags=MARK | flags, text=text.encode())
+
+
+def header(sector=0, count=0, flags=0, data_len=0, text=b"", unused=b"\0"):
+    """A header sector of any fields."""
+    return (struct.pack("<QQQQ", sector, count, flags, data_len) + text).ljust(SECTOR, unused)
+
+
+def super_block(entries, magic=MAGIC, version=1, sector_size=SECTOR, unused=b"\0"):
+    """A super block of any fields."""
+    return (magic + struct.pack("<QQI", version, entries, sector_size)).ljust(SECTOR, unused)
+
+
+def log(entries):
+    """The bytes of the log of these entries."""
+    return super_block(len(entries)) + b"".join(it if isinstance(it, bytes) else it.encoded() for it in entries)
+
+
+# Programs
+
+
+class Assembly(str):
+    """A program as the text that says it."""
+
+
+def program(text):
+    """A program as docs write it in one line, where `;` ends an instruction."""
+    return Assembly(text.replace("; ", "\n") + "\n")
+
+
+def named(name):
+    """A program of the folder programs/."""
+    return Assembly((TESTS / "programs" / f"{name}.s").read_text())
+
+
+def code(digits):
+    """A program as the hexadecimal digits of its bytes."""
+    return bytes.fromhex(digits)
+
+
+# Reports
+
+
+def lines(text):
+    """The lines of an indented text, each with its newline."""
+    return textwrap.dedent(text).lstrip("\n")
+
+
+def report(text):
+    """A report, given without its first line."""
+    return FIRST_LINE + lines(text)
+
+
+# Rows
+
+# How long a run may take, if its row says nothing else; most take some milliseconds.
+SECONDS = 20
+
+# How many bytes a limited file may have.
+LIMITED = 4096
+
+
+class Folder:
+    """Stands for a folder where a file is meant."""
+
+
+class Something:
+    """Stands for an output that is there and isn't compared."""
+
+
+class Long:
+    """Stands for a content or an output that is made only when its row is run."""
+
+    def __init__(self, make):
+        self.make = make
+
+
+@dataclass(frozen=True)
+class Row:
+    """One run of the program.
+
+    name    what the row is about; no two rows have the same
+    words   the words behind the program's name, separated by spaces
+    files   the files that lie in the folder of the run, by name: bytes, a text, an Assembly, a Folder, a Long
+    out     standard output, as bytes, text or Long, or Something
+    status  the status
+    error   standard error, its one line without the newline; "" for nothing; Something; None where nothing is asked of it
+    to      where standard output goes: "pipe", "closed", "full" (a full disk), "unread" (a pipe that nobody reads),
+            "limited" (a file that may have LIMITED bytes; `out` is then what the file holds), or "silent" (a pipe, but
+            standard error is closed)
+    seconds how long the run may take
+    """
+
+    name: str
+    words: str
+    files: dict = field(default_factory=dict)
+    out: object = b""
+    status: int = 0
+    error: object = ""
+    to: str = "pipe"
+    seconds: int = SECONDS
+
+
+def files(entries, *programs):
+    """The files of `explore`: the log of these entries, and the programs p0, p1, .."""
+    content = entries if isinstance(entries, (bytes, Long, Folder)) else log(entries)
+    return {"log": content, **{f"p{number}": it for number, it in enumerate(programs)}}
+
+
+def explore(name, options, entries, programs, out, status, seconds=SECONDS):
+    """A row of `explore` that gives a report; `programs` is one program or a list of them."""
+    programs = programs if isinstance(programs, list) else [programs]
+    names = " ".join(f"p{number}" for number in range(len(programs)))
+    return Row(name, f"explore log {names} {options}", files(entries, *programs), out, status, seconds=seconds)
+
+
+def refused(name, words, content, error):
+    """A row that is refused: nothing on standard output, one line on standard error, status 2."""
+    return Row(name, words, content, status=2, error=error)
+
+
+def unexplored(name, options, entries, programs, error):
+    """A row of `explore` that is refused."""
+    row = explore(name, options, entries, programs, b"", 2)
+    return refused(name, row.words, row.files, error)
+
+
+def verified(name, text, answer, sectors=4):
+    """A row of `verify`: the answer is "accepted budget N" or "refused NN at K"; `text` a line or a program."""
+    content = {"p": text if isinstance(text, (bytes, Assembly)) else program(text)}
+    words = f"verify p --sectors {sectors}"
+    if answer.startswith("refused"):
+        return refused(name, words, content, answer)
+    return Row(name, words, content, answer + "\n")

@@ -1,0 +1,1 @@
+"""The tables of rows, one a topic."""

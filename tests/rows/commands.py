@@ -1,0 +1,279 @@
+"""Each command, what is a fault of the command line, and the order in which a run is refused."""
+from notation import F, W, Row, Something, code, explore, files, named, program, refused, report
+
+GOOD = program("mov64 r0, 0; exit")
+UNSAFE = program("exit")
+CUT_PROGRAM = code("9500")
+LOG = [W(0, 1, 0xAA), F]
+WRITE = [W(0, 64, 0xAA)]
+
+STORED_RUN = report("""
+    sectors 1 entries 0 cuts all bound 0 tears no first no
+    program 0 slots 2 limit 2
+    images 1 failing 0 lines 0
+    """)
+
+ONE_IMAGE = "cut 0 epoch 0 marks 0 volatile 0 images 1\ntotal 1\n"
+
+COMMANDS = [
+    Row("no word at all: the stored run", "", {}, STORED_RUN),
+    Row("the stored run reads no file", "", {"log": b"", "program": b""}, STORED_RUN),
+    Row("options before files", "images --sectors 4 --bound 0 log", files([]), ONE_IMAGE),
+    Row("the number of an image behind options", "image log --sectors 1 0", files([]), bytes(512)),
+    explore(
+        "programs are numbered as on the command line",
+        "--sectors 4 --bound 0",
+        [W(0, 1, 0x05)],
+        [GOOD, program("mov64 r0, 7; exit"), named("first_byte")],
+        report("""
+            sectors 4 entries 1 cuts all bound 0 tears no first no
+            program 0 slots 2 budget 2
+            program 1 slots 2 budget 2
+            program 2 slots 7 budget 5
+            image 0 cut 0 program 1 answer 7 codes - choice -
+            image 1 cut 1 program 1 answer 7 codes - choice -
+            image 1 cut 1 program 2 answer 5 codes - choice -
+            images 2 failing 2 lines 3
+            """),
+        1,
+    ),
+    explore(
+        "the same program twice",
+        "--sectors 1",
+        [],
+        [program("mov64 r0, 7; exit")] * 2,
+        report("""
+            sectors 1 entries 0 cuts all bound 1 tears no first no
+            program 0 slots 2 budget 2
+            program 1 slots 2 budget 2
+            image 0 cut 0 program 0 answer 7 codes - choice -
+            image 0 cut 0 program 1 answer 7 codes - choice -
+            images 1 failing 1 lines 2
+            """),
+        1,
+    ),
+    Row("one file under two names", "explore p p --sectors 1", {"p": b""}, status=2, error="refused 1 at 0"),
+    Row("list", "list p", {"p": code("b700000001000000 9500000000000000")}, "mov64 r0, 1\nexit\n"),
+    Row("asm", "asm s", {"s": "mov64 r0, 1\nexit\n"}, code("b700000001000000 9500000000000000")),
+    Row("verify", "verify p --sectors 1", {"p": GOOD}, "accepted budget 2\n"),
+    Row("verify on the largest device", "verify p --sectors 16384", {"p": GOOD}, "accepted budget 2\n"),
+    refused("verify names no program", "verify p --sectors 4", {"p": UNSAFE}, "refused 50 at 0"),
+    refused("list names no program", "list p", {"p": code("ff00000000000000")}, "refused 22 at 0"),
+]
+
+# Help is asked for: status 0, something on standard output that isn't compared.
+HELP = [
+    Row(f"help: {words}", words, {}, Something())
+    for words in [
+        "--help",
+        "explore --help",
+        "images --help",
+        "image --help",
+        "verify --help",
+        "asm --help",
+        "list --help",
+    ]
+]
+
+# Faults of the command line: status 2, nothing on standard output, a text on standard error that isn't compared.
+FAULTS = [
+    Row(f"fault of the command line: {words}", words, files(LOG, GOOD, GOOD), status=2, error=Something())
+    for words in [
+        "survey log",
+        "frob",
+        "Explore log p0 --sectors 4",
+        "log",
+        "explore",
+        "explore --sectors 4",
+        "explore log --sectors 4",
+        "explore log p0",
+        "explore log p0 --sectors",
+        "explore log p0 --sectors one",
+        "explore log p0 --sectors -1",
+        "explore log p0 --sectors 1.5",
+        "explore log p0 --sectors 0x4",
+        "explore log p0 --sectors 4k",
+        "explore log p0 --sectors 18446744073709551616",
+        "explore log p0 --sectors 4 --bound one",
+        "explore log p0 --sectors 4 --bound",
+        "explore log p0 --sectors 4 --workers two",
+        "explore log p0 --sectors 4 --cache none",
+        "explore log p0 --sectors 4 --checked all",
+        "explore log p0 --sectors 4 --cuts",
+        "explore log p0 --sectors 4 --last",
+        "images",
+        "images log",
+        "images --sectors 4",
+        "images log p0 --sectors 4",
+        "images log --sectors 4 --tears yes",
+        "images log --sectors 4 --workers 1",
+        "images log --sectors 4 --cache 0",
+        "images log --sectors 4 --checked 1",
+        "images log --sectors 4 --first",
+        "image",
+        "image log",
+        "image log 0",
+        "image log --sectors 4",
+        "image log one --sectors 4",
+        "image log -1 --sectors 4",
+        "image log 18446744073709551616 --sectors 4",
+        "image log 0 1 --sectors 4",
+        "image log 0 --sectors 4 --first",
+        "image log 0 --sectors 4 --checked 1",
+        "verify",
+        "verify p0",
+        "verify --sectors 4",
+        "verify p0 p1 --sectors 4",
+        "verify p0 --sectors 4 --bound 1",
+        "verify p0 --sectors 4 --cuts all",
+        "verify p0 --sectors 4 --tears",
+        "verify p0 --sectors 4 --checked 1",
+        "asm",
+        "asm p0 p1",
+        "asm p0 --sectors 4",
+        "list",
+        "list p0 p1",
+        "list p0 --sectors 4",
+        "list p0 --tears",
+    ]
+]
+
+BOTH = files(LOG, GOOD)
+NO_FILE = {}
+
+# Options outside their values, on a good log and a good program: the words, and the place of refusal 13
+OPTIONS = {
+    "explore log p0 --sectors 0": 1,
+    "explore log p0 --sectors 16385": 1,
+    "explore log p0 --sectors 4294967300": 1,
+    "explore log p0 --sectors 18446744073709551615": 1,
+    "explore log p0 --sectors 4 --bound 4": 2,
+    "explore log p0 --sectors 4 --bound 256": 2,
+    "explore log p0 --sectors 4 --bound 4294967296": 2,
+    "explore log p0 --sectors 4 --workers 0": 3,
+    "explore log p0 --sectors 4 --workers 65": 3,
+    "explore log p0 --sectors 4 --workers 257": 3,
+    "explore log p0 --sectors 4 --cache 65537": 4,
+    "explore log p0 --sectors 4 --cache 4294967296": 4,
+    "explore log p0 --sectors 4 --checked 1000000001": 5,
+    "explore log p0 --sectors 4 --checked 18446744073709551615": 5,
+    "explore log p0 --sectors 4 --cuts some": 7,
+    "explore log p0 --sectors 4 --cuts All": 7,
+    "explore log p0 --sectors 4 --cuts flushes": 7,
+    "images log --sectors 0": 1,
+    "images log --sectors 16385": 1,
+    "images log --sectors 4 --bound 4": 2,
+    "images log --sectors 4 --cuts some": 7,
+    "image log 0 --sectors 0": 1,
+    "image log 0 --sectors 4 --bound 4": 2,
+    "image log 0 --sectors 4 --cuts some": 7,
+    "image log 4 --sectors 4": 9,
+    "image log 4294967296 --sectors 4": 9,
+    "image log 18446744073709551615 --sectors 4": 9,
+    "verify p0 --sectors 0": 1,
+    "verify p0 --sectors 16385": 1,
+}
+
+# The values at the ends of each option's range.
+ENDS = [
+    explore(
+        f"option at its end: {options}",
+        f"{options} --cuts mark",
+        LOG,
+        GOOD,
+        report(f"""
+            sectors {sectors} entries 2 cuts mark bound {bound} tears no first no
+            program 0 slots 2 {about}
+            images 0 failing 0 lines 0
+            """),
+        0,
+    )
+    for options, sectors, bound, about in [
+        ("--sectors 1", 1, 1, "budget 2"),
+        ("--sectors 16384", 16384, 1, "budget 2"),
+        ("--sectors 4 --bound 0", 4, 0, "budget 2"),
+        ("--sectors 4 --bound 3", 4, 3, "budget 2"),
+        ("--sectors 4 --workers 1", 4, 1, "budget 2"),
+        ("--sectors 4 --cache 0", 4, 1, "budget 2"),
+        ("--sectors 4 --checked 0", 4, 1, "limit 0"),
+        ("--sectors 4 --checked 1000000000", 4, 1, "limit 1000000000"),
+    ]
+]
+
+
+BAD_LOG = b"no log at all"
+TOO_MANY = "--sectors 64 --bound 3 --tears"
+TOO_FAR = [*WRITE, W(64, 1, 0)]
+
+NINE = " ".join(f"p{number}" for number in range(9))
+NINE_GOOD = {f"p{number}": GOOD for number in range(9)}
+
+# Runs with more than one thing to refuse: what comes first, the words, the files, the refusal
+ORDER = [
+    ("cuts before sectors", "explore log p0 --sectors 0 --cuts some", BOTH, "13 at 7"),
+    ("cuts before bound", "explore log p0 --sectors 4 --bound 4 --cuts none", BOTH, "13 at 7"),
+    ("sectors before bound", "explore log p0 --bound 4 --sectors 16385", BOTH, "13 at 1"),
+    ("bound before workers", "explore log p0 --workers 0 --bound 4 --sectors 1", BOTH, "13 at 2"),
+    ("workers before cache", "explore log p0 --cache 65537 --workers 65 --sectors 1", BOTH, "13 at 3"),
+    ("cache before steps", "explore log p0 --checked 1000000001 --cache 65537 --sectors 1", BOTH, "13 at 4"),
+    ("cuts before files", "explore log p0 --sectors 4 --cuts some", NO_FILE, "13 at 7"),
+    ("sectors before files", "explore log p0 --sectors 0", NO_FILE, "13 at 1"),
+    ("bound before files", "explore log p0 --sectors 4 --bound 4", NO_FILE, "13 at 2"),
+    ("workers before files", "explore log p0 --sectors 4 --workers 0", NO_FILE, "13 at 3"),
+    ("cache before files", "explore log p0 --sectors 4 --cache 65537", NO_FILE, "13 at 4"),
+    ("steps before files", "explore log p0 --sectors 4 --checked 1000000001", NO_FILE, "13 at 5"),
+    ("files before the number of programs", f"explore log {NINE} --sectors 4", files(LOG, *[GOOD] * 8), "14 at 9"),
+    ("files before the log", "explore log p0 --sectors 4", files(BAD_LOG), "14 at 1"),
+    ("the number of programs before the log", f"explore log {NINE} --sectors 4", {"log": BAD_LOG, **NINE_GOOD}, "13 at 6"),
+    ("the log before the count", f"explore log p0 {TOO_MANY}", files(TOO_FAR, GOOD), "9 at 1"),
+    ("the log before programs", "explore log p0 --sectors 4", files(BAD_LOG, CUT_PROGRAM), "1 at 0"),
+    ("the count before programs", f"explore log p0 {TOO_MANY}", files(WRITE, CUT_PROGRAM), "12 at 1"),
+    ("bytes before rules", "explore log p0 --sectors 4", files(LOG, CUT_PROGRAM), "20 at 0 of program 0"),
+    ("the first program", "explore log p0 p1 --sectors 4", files(LOG, UNSAFE, CUT_PROGRAM), "50 at 0 of program 0"),
+    ("no rules where checked", "explore log p0 p1 --sectors 4 --checked 9", files(LOG, UNSAFE, CUT_PROGRAM), "20 at 0 of program 1"),
+    ("the third program", "explore log p0 p1 p2 --sectors 4", files(LOG, GOOD, GOOD, UNSAFE), "50 at 0 of program 2"),
+    ("images: cuts before sectors", "images log --sectors 0 --cuts some", NO_FILE, "13 at 7"),
+    ("images: sectors before bound", "images log --sectors 0 --bound 4", NO_FILE, "13 at 1"),
+    ("images: bound before file", "images log --sectors 4 --bound 4", NO_FILE, "13 at 2"),
+    ("images: file before log", "images log --sectors 4", NO_FILE, "14 at 0"),
+    ("images: log before count", f"images log {TOO_MANY}", files(TOO_FAR), "9 at 1"),
+    ("image: cuts before sectors", "image log 99 --sectors 0 --cuts some", NO_FILE, "13 at 7"),
+    ("image: sectors before bound", "image log 99 --sectors 0 --bound 4", NO_FILE, "13 at 1"),
+    ("image: bound before file", "image log 99 --sectors 4 --bound 4", NO_FILE, "13 at 2"),
+    ("image: file before number", "image log 99 --sectors 4", NO_FILE, "14 at 0"),
+    ("image: log before number", "image log 99 --sectors 4", files(BAD_LOG), "1 at 0"),
+    ("image: count before number", f"image log 99 {TOO_MANY}", files(WRITE), "12 at 1"),
+    ("verify: sectors before file", "verify p --sectors 0", NO_FILE, "13 at 1"),
+    ("verify: sectors before program", "verify p --sectors 0", {"p": CUT_PROGRAM}, "13 at 1"),
+    ("verify: file before program", "verify p --sectors 4", NO_FILE, "14 at 0"),
+    ("verify: bytes before rules", "verify p --sectors 4", {"p": CUT_PROGRAM}, "20 at 0"),
+]
+
+NO_LOG = {"log": code("b700000001000000 9500000000000000"), **NINE_GOOD}
+
+NUMBERS_OF_PROGRAMS = [
+    refused("refused_options, nine programs", f"explore log {NINE} --sectors 4", {**BOTH, **NINE_GOOD}, "refused 13 at 6"),
+    refused("nine programs, no log", f"explore log {NINE} --sectors 1", NO_LOG, "refused 13 at 6"),
+    refused("eight programs, no log", f"explore log {NINE[:-3]} --sectors 1", NO_LOG, "refused 1 at 0"),
+    explore(
+        "eight programs",
+        "--sectors 1",
+        [],
+        [program(f"mov64 r0, {number}; exit") for number in range(8)],
+        report("sectors 1 entries 0 cuts all bound 1 tears no first no\n")
+        + "".join(f"program {number} slots 2 budget 2\n" for number in range(8))
+        + "".join(f"image 0 cut 0 program {it} answer {it} codes - choice -\n" for it in range(1, 8))
+        + "images 1 failing 1 lines 7\n",
+        1,
+    ),
+]
+
+ROWS = [
+    *COMMANDS,
+    *HELP,
+    *FAULTS,
+    *(refused(f"option: {words}", words, BOTH, f"refused 13 at {place}") for words, place in OPTIONS.items()),
+    *ENDS,
+    *(refused(f"order: {what}", words, content, f"refused {error}") for what, words, content, error in ORDER),
+    *NUMBERS_OF_PROGRAMS,
+]

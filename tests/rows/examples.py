@@ -1,0 +1,202 @@
+"""The designs of examples/: their logs, their checkers and their reports, compared byte by byte."""
+import struct
+
+from notation import FLUSH, TOP, F, M, Row, S, W, explore, log, verified
+
+EXAMPLES = TOP / "examples"
+LOGS = TOP / "crates/example_logs/data"
+
+
+def data(path):
+    return path.read_bytes()
+
+
+def design(name, which, checker, options, report, status):
+    """A run of a design's log by one of its checkers; `report` is a file of examples/, or bytes."""
+    wanted = report if isinstance(report, bytes) else data(EXAMPLES / report)
+    content = data(LOGS / which)
+    return explore(name, options, content, data(EXAMPLES / checker), wanted, status)
+
+
+TWO_SLOTS = "--sectors 4 --bound 2 --tears"
+WRONG_BY_C = data(EXAMPLES / "two_slots/wrong.report").replace(b"slots 39 budget 87", b"slots 42 budget 111")
+
+REPORTS = [
+    design("two_slots, right", "two_slots/right.log", "two_slots/checker.bpf", TWO_SLOTS, "two_slots/right.report", 0),
+    design("two_slots, wrong", "two_slots/wrong.log", "two_slots/checker.bpf", TWO_SLOTS, "two_slots/wrong.report", 1),
+    design("two_slots, by the checker in C", "two_slots/wrong.log", "two_slots/checker_c.bpf", TWO_SLOTS, WRONG_BY_C, 1),
+    design(
+        "journal, right",
+        "journal/right.log",
+        "journal/checker.bpf",
+        "--sectors 8 --bound 2 --tears",
+        "journal/right.report",
+        0,
+    ),
+    design("journal, wrong", "journal/wrong.log", "journal/checker.bpf", "--sectors 8 --bound 1", "journal/wrong.report", 1),
+    # none of the checkers takes more than 62 steps on any image here
+    design(
+        "two_slots, wrong, within 62 steps",
+        "two_slots/wrong.log",
+        "two_slots/checker.bpf",
+        f"{TWO_SLOTS} --checked 62",
+        data(EXAMPLES / "two_slots/wrong.report").replace(b"budget 87", b"limit 62"),
+        1,
+    ),
+    design(
+        "two_slots, wrong, first",
+        "two_slots/wrong.log",
+        "two_slots/checker.bpf",
+        f"{TWO_SLOTS} --first",
+        b"crash report 1\n"
+        b"sectors 4 entries 12 cuts all bound 2 tears yes first yes\n"
+        b"program 0 slots 39 budget 87\n"
+        b"image 11 cut 2 program 0 answer 1 codes 1 choice 0.0:drop\n"
+        b"images 277 first 11\n",
+        1,
+    ),
+]
+
+# What examples/README.md shows of two_slots/wrong.log
+
+WRONG_SURVEY = """\
+cut 0 epoch 0 marks 0 volatile 0 images 1
+cut 1 epoch 0 marks 0 volatile 1 images 9
+cut 2 epoch 0 marks 0 volatile 2 images 81
+cut 3 epoch 1 marks 0 volatile 0 images 1
+cut 4 epoch 1 marks 1 volatile 0 images 1
+cut 5 epoch 1 marks 1 volatile 1 images 9
+cut 6 epoch 1 marks 1 volatile 2 images 81
+cut 7 epoch 2 marks 1 volatile 0 images 1
+cut 8 epoch 2 marks 2 volatile 0 images 1
+cut 9 epoch 2 marks 2 volatile 1 images 9
+cut 10 epoch 2 marks 2 volatile 2 images 81
+cut 11 epoch 3 marks 2 volatile 0 images 1
+cut 12 epoch 3 marks 3 volatile 0 images 1
+total 277
+"""
+
+
+def slot(number, mix, seal):
+    """A slot of two_slots: the number of its commit, the mix of its payload, zeros, its last word."""
+    return struct.pack("<QQ", number, mix) + bytes(488) + struct.pack("<Q", seal)
+
+
+SLOTS = {
+    1: slot(1, 0x2E4A227E63916D00, 0xCC457A777D2C2578),
+    2: slot(2, 0xFA1AE4B20E52BA00, 0x37B8EBBC6CC6AAEF),
+    3: slot(3, 0xC5EBA6E5B9140700, 0xA32C5D015C613066),
+}
+
+# Slot 1 says commit 3, whose payload arrived with its first 64 bytes alone.
+IMAGE_196 = SLOTS[2] + SLOTS[3] + b"\xa2" * 512 + b"\xa3" * 64 + b"\xa1" * 448
+
+
+def record(number, seal):
+    """A record of the journal: its number, its data, its last word."""
+    return struct.pack("<Q", number) + bytes([0x11 * number]) * 496 + struct.pack("<Q", seal)
+
+
+RECORDS = {1: record(1, 0xEAD00ACB7ED645A2), 2: record(2, 0xD5A01596FDAC8B43), 3: record(3, 0xC07020627C82D0E4)}
+
+
+def count(records):
+    """The header of a journal of so many records."""
+    return struct.pack("<Q", records) + bytes(504)
+
+
+# The header says three records, and the third isn't there.
+IMAGE_17 = count(3) + RECORDS[1] + RECORDS[2] + bytes(2560)
+
+SHOWN = [
+    Row(
+        "two_slots, wrong, survey",
+        f"images log {TWO_SLOTS}",
+        {"log": data(LOGS / "two_slots/wrong.log")},
+        WRONG_SURVEY,
+    ),
+    Row("two_slots, image 196", f"image log 196 {TWO_SLOTS}", {"log": data(LOGS / "two_slots/wrong.log")}, IMAGE_196),
+    Row("journal, image 17", "image log 17 --sectors 8 --bound 1", {"log": data(LOGS / "journal/wrong.log")}, IMAGE_17),
+]
+
+
+# The logs once more, entry by entry
+
+
+def commit(number, slot_sector, area, flags):
+    """The entries of a commit: its payload, its slot, a flush, a mark."""
+    payload = W(area, 1, 0xA0 + number)
+    return [payload, S(slot_sector, SLOTS[number], flags), F, M(f"commit {number}")]
+
+
+def two_slots(flags):
+    return log([*commit(1, 1, 3, flags), *commit(2, 0, 2, flags), *commit(3, 1, 3, flags)])
+
+
+JOURNAL_RIGHT = log(
+    [
+        S(1, RECORDS[1]),
+        S(2, RECORDS[2]),
+        S(0, count(2), FLUSH),
+        F,
+        M("record 1"),
+        M("record 2"),
+        S(3, RECORDS[3]),
+        S(0, count(3), FLUSH),
+        F,
+        M("record 3"),
+    ]
+)
+
+JOURNAL_WRONG = log(
+    [
+        S(0, count(2)),
+        S(1, RECORDS[1]),
+        S(2, RECORDS[2]),
+        F,
+        M("record 1"),
+        M("record 2"),
+        S(0, count(3)),
+        S(3, RECORDS[3]),
+        F,
+        M("record 3"),
+    ]
+)
+
+
+def written(name, content, checker, options, report, status):
+    """A run of a log that was written entry by entry here."""
+    return explore(name, options, content, data(EXAMPLES / checker), data(EXAMPLES / report), status)
+
+
+WRITTEN = [
+    written("two_slots, right, written here", two_slots(FLUSH), "two_slots/checker.bpf", TWO_SLOTS, "two_slots/right.report", 0),
+    written("two_slots, wrong, written here", two_slots(0), "two_slots/checker.bpf", TWO_SLOTS, "two_slots/wrong.report", 1),
+    written(
+        "journal, right, written here",
+        JOURNAL_RIGHT,
+        "journal/checker.bpf",
+        "--sectors 8 --bound 2 --tears",
+        "journal/right.report",
+        0,
+    ),
+    written(
+        "journal, wrong, written here", JOURNAL_WRONG, "journal/checker.bpf", "--sectors 8 --bound 1", "journal/wrong.report", 1
+    ),
+]
+
+CHECKERS = [
+    Row(
+        f"{name}, assembled",
+        "asm checker.s",
+        {"checker.s": data(EXAMPLES / f"{name}.s")},
+        data(EXAMPLES / f"{name}.bpf"),
+    )
+    for name in ["two_slots/checker", "journal/checker"]
+] + [
+    verified("verify two_slots/checker", data(EXAMPLES / "two_slots/checker.bpf"), "accepted budget 87"),
+    verified("verify two_slots/checker_c", data(EXAMPLES / "two_slots/checker_c.bpf"), "accepted budget 111"),
+    verified("verify journal/checker", data(EXAMPLES / "journal/checker.bpf"), "accepted budget 144", 8),
+]
+
+ROWS = [*REPORTS, *SHOWN, *WRITTEN, *CHECKERS]

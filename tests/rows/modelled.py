@@ -1,0 +1,153 @@
+"""Whole reports, surveys and images of many logs, compared with the model (model.py).
+
+Each log is explored with every kind of cuts, every bound, with and without tears, by three programs at once: one whose
+answer is made of all sectors, one that answers epoch and marks, and one that reports codes. Runs of more than MOST images
+are left out.
+"""
+import random
+from math import comb
+
+import model
+from model import Checker, Run, explored
+from notation import DISCARD, FLUSH, FUA, METADATA, SECTOR, D, Entry, F, Long, M, Row, S, W, explore, files, named
+
+MOST = 5000
+
+
+def noise(seed, sectors=1):
+    """Bytes of which no two sectors are alike, the same at each run."""
+    return random.Random(seed).randbytes(SECTOR * sectors)
+
+
+# Torn sectors over torn sectors: the rest of each comes from what lies below.
+TORN_OVER_TORN = [S(0, noise(1)), S(0, noise(2)), S(0, noise(3))]
+
+# A forced write between two that may be lost.
+FORCED_BETWEEN = [S(1, noise(1, 2)), S(1, noise(2), FUA), S(2, noise(3), FUA | FLUSH), S(1, noise(4, 2))]
+
+# Flushes with and without data, and what they make durable.
+FLUSHED = [S(0, noise(1)), S(1, noise(2), FLUSH), S(0, noise(3)), F, S(1, noise(4)), S(0, noise(5), FLUSH), F, F]
+
+# Discards, which write zeros: lost, torn, flushing, forced.
+DISCARDED = [S(0, noise(1, 4)), D(1, 2), D(0, 1, FLUSH), S(1, noise(2)), D(0, 2, FUA), D(0, 4, FLUSH | FUA), D(3, 1)]
+
+# Marks among writes, with and without flushes, and a mark with a text as long as it may be.
+MARKED = [M("a"), S(0, noise(1)), M("b"), F, M("b"), S(0, noise(2)), S(1, noise(3)), M("x" * 480), M("")]
+
+# Writes that overlap.
+OVERLAPPING = [S(0, noise(1, 3)), S(1, noise(2, 3)), S(2, noise(3, 2)), S(0, noise(4))]
+
+# Entries without sectors, and flags that change nothing.
+EMPTY_ENTRIES = [
+    Entry(2**64 - 1),
+    Entry(7, 0, FLUSH | FUA | METADATA),
+    S(0, noise(1), METADATA),
+    Entry(9, 0, DISCARD),
+    S(1, noise(2), METADATA | FUA),
+    M("dm-log-writes-end", METADATA),
+    Entry(0, 0, FUA),
+]
+
+# The first and the last sector of a device that one program looks at as a whole.
+ENDS = [S(0, noise(1)), S(63, noise(2)), S(62, noise(3, 2)), W(0, 1, 0)]
+
+# Sectors that are written with what was there.
+THE_SAME = [W(0, 2, 0x55), W(0, 1, 0x55), W(1, 1, 0), W(1, 1, 0x55), D(0, 1)]
+
+# What a file system does: data, a commit that flushes and is forced, data once more, a mark.
+COMMITS = [
+    entry
+    for number in range(4)
+    for entry in [
+        S(2 + number, noise(number)),
+        S(number % 2, noise(10 + number), FLUSH | FUA | METADATA),
+        M(f"commit {number}"),
+    ]
+]
+
+LOGS = {
+    "torn_over_torn": (4, TORN_OVER_TORN),
+    "forced_between": (4, FORCED_BETWEEN),
+    "flushed": (2, FLUSHED),
+    "discarded": (4, DISCARDED),
+    "marked": (3, MARKED),
+    "overlapping": (4, OVERLAPPING),
+    "empty_entries": (2, EMPTY_ENTRIES),
+    "ends": (64, ENDS),
+    "the_same": (2, THE_SAME),
+    "commits": (8, COMMITS),
+}
+
+PROGRAMS = [named("whole_image"), named("epoch_and_marks"), named("sectors_0_and_1")]
+CHECKERS = [
+    Checker("slots 15 budget 780", model.whole_image),
+    Checker("slots 5 budget 5", model.epoch_and_marks),
+    Checker("slots 20 budget 20", model.sectors_0_and_1),
+]
+
+
+def count(run):
+    """How many images a run has."""
+    fates = 8 if run.tears else 1
+    volatile = [len(run.volatile(cut)) for cut in run.wanted_cuts()]
+    return sum(comb(units, picked) * fates**picked for units in volatile for picked in range(run.bound + 1))
+
+
+def runs():
+    """All runs of the logs that aren't too long, by name."""
+    for name, (sectors, entries) in LOGS.items():
+        for cuts in ["all", "flush", "mark"]:
+            for bound in range(4):
+                for tears in [False, True]:
+                    run = Run(entries, sectors, cuts, bound, tears)
+                    if count(run) <= MOST:
+                        yield f"{name} {cuts} {bound}{' tears' if tears else ''}", run
+
+
+def modelled(name, run):
+    """The report, the report of the first failing image, and the survey of a run."""
+    entries, options = run.entries, run.options()
+    status = 1 if count(run) else 0
+    return [
+        explore(f"model: {name}", options, entries, PROGRAMS, Long(lambda: explored(run, CHECKERS)), status),
+        explore(
+            f"model: {name}, first",
+            f"{options} --first",
+            entries,
+            PROGRAMS[:2],
+            Long(lambda: explored(run, CHECKERS[:2], first=True)),
+            1 if any_fails(run) else 0,
+        ),
+        Row(f"model: {name}, images", f"images log {options}", files(entries), Long(run.survey)),
+    ]
+
+
+def any_fails(run):
+    """Whether one of the first two programs fails on an image: on all but those of zeros without epoch and marks."""
+    return any(checker.judge(image)[0] for image in run.images() for checker in CHECKERS[:2])
+
+
+def shown(name, run, numbers):
+    """The bytes of images."""
+    images = list(run.images())
+    return [
+        Row(
+            f"model: {name}, image {number}",
+            f"image log {number} {run.options()}",
+            files(run.entries),
+            images[number].content(),
+        )
+        for number in numbers
+    ]
+
+
+TORN = Run(TORN_OVER_TORN, 4, "flush", 3, True)
+LOST = Run(DISCARDED, 4, "all", 2, False)
+WIDE = Run(ENDS, 64, "flush", 2, True)
+
+ROWS = [
+    *(row for name, run in runs() for row in modelled(name, run)),
+    *shown("torn_over_torn", TORN, [0, 1, 2, 9, 24, 25, 26, 217, 300, 471, 500, 600, 727, 728]),
+    *shown("discarded", LOST, range(count(LOST))),
+    *shown("ends", WIDE, [0, 1, 30, count(WIDE) - 1]),
+]

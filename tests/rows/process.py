@@ -1,0 +1,131 @@
+"""The process itself: files that can't be read, and a standard output that can't be written."""
+from model import Checker, Run, explored, one, zero
+from notation import LIMITED, F, Folder, Long, Row, W, code, files, program, refused, report
+
+GOOD = program("mov64 r0, 0; exit")
+BAD = program("mov64 r0, 1; exit")
+LOG = [W(0, 1, 0xAA), F]
+FOLDER = Folder()
+
+MISSING = [
+    refused("no log", "explore log p0 --sectors 4", {"p0": GOOD}, "refused 14 at 0"),
+    refused("no log, images", "images log --sectors 4", {}, "refused 14 at 0"),
+    refused("no log, image", "image log 0 --sectors 4", {}, "refused 14 at 0"),
+    refused("no program", "explore log p0 --sectors 4", files(LOG), "refused 14 at 1"),
+    refused("no program, verify", "verify p --sectors 4", {}, "refused 14 at 0"),
+    refused("no program, list", "list p", {}, "refused 14 at 0"),
+    refused("no source", "asm s", {}, "refused 14 at 0"),
+    refused("no second program", "explore log p0 p1 --sectors 4", files(LOG, GOOD), "refused 14 at 2"),
+    refused("no eighth program", "explore log p0 p0 p0 p0 p0 p0 p0 p8 --sectors 4", files(LOG, GOOD), "refused 14 at 8"),
+    refused("neither log nor program", "explore log p0 --sectors 4", {}, "refused 14 at 0"),
+    refused("neither of two programs", "explore log p0 p1 --sectors 4", files(LOG), "refused 14 at 1"),
+    refused("no program, checked", "explore log p0 --sectors 4 --checked 2", files(LOG), "refused 14 at 1"),
+    refused("no folder of the log", "images there/log --sectors 4", {}, "refused 14 at 0"),
+    refused("the log as a folder of itself", "images log/log --sectors 4", files(LOG), "refused 14 at 0"),
+]
+
+FOLDERS = [
+    refused("a folder as log", "explore log p0 --sectors 4", files(FOLDER, GOOD), "refused 14 at 0"),
+    refused("a folder as log, images", "images log --sectors 4", files(FOLDER), "refused 14 at 0"),
+    refused("a folder as log, image", "image log 0 --sectors 4", files(FOLDER), "refused 14 at 0"),
+    refused("a folder as program", "explore log p0 --sectors 4", files(LOG, FOLDER), "refused 14 at 1"),
+    refused("a folder as second program", "explore log p0 p1 --sectors 4", files(LOG, GOOD, FOLDER), "refused 14 at 2"),
+    refused("a folder as program, verify", "verify p --sectors 4", {"p": FOLDER}, "refused 14 at 0"),
+    refused("a folder as program, list", "list p", {"p": FOLDER}, "refused 14 at 0"),
+    refused("a folder as source", "asm s", {"s": FOLDER}, "refused 14 at 0"),
+]
+
+# Empty files can be read, and are refused for what they hold.
+EMPTY = [
+    refused("an empty log", "explore log p0 --sectors 4", files(b"", GOOD), "refused 1 at 0"),
+    refused("an empty log, images", "images log --sectors 4", files(b""), "refused 1 at 0"),
+    refused("an empty program", "explore log p0 --sectors 4", files(LOG, b""), "refused 21 at 0 of program 0"),
+    refused("an empty program, verify", "verify p --sectors 4", {"p": b""}, "refused 21 at 0"),
+    refused("an empty program, list", "list p", {"p": b""}, "refused 21 at 0"),
+    refused("an empty source", "asm s", {"s": b""}, "refused 32 at 0"),
+    refused("the empty device as log", "images /dev/null --sectors 4", {}, "refused 1 at 0"),
+]
+
+
+def no_text(what, content):
+    """A source that isn't UTF-8."""
+    return refused(f"no UTF-8: {what}", "asm s", {"s": content}, "refused 14 at 0")
+
+
+NO_TEXTS = [
+    no_text("one byte", b"\xff"),
+    no_text("in a comment", b"exit ;\xff"),
+    no_text("behind a fault", b"foo\n\xff"),
+    no_text("a character cut short", b"exit ; \xc3"),
+    no_text("a character in too many bytes", b"exit ; \xc0\xaf\n"),
+    no_text("half of a pair", b"exit ; \xed\xa0\x80\n"),
+    no_text("past the last character", b"exit ; \xf4\x90\x80\x80\n"),
+    Row("UTF-8 in a comment", "asm s", {"s": "exit ; é, €, 😀\n"}, code("9500000000000000")),
+    refused("UTF-8 outside a comment", "asm s", {"s": "exit é\n"}, "refused 31 at 1"),
+    refused("a byte order mark", "asm s", {"s": "\ufeffexit\n"}, "refused 30 at 1"),
+]
+
+# A report of more than 2 MB: 30 units of which two may depart, torn or dropped.
+LONG = Run([W(0, 30, 0xAA)], sectors=64, bound=2, tears=True)
+LONG_FILES = files(LONG.entries, BAD)
+LONG_WORDS = f"explore log p0 {LONG.options()}"
+LONG_REPORT = Long(lambda: explored(LONG, [Checker("slots 2 budget 2", one)]))
+GOOD_REPORT = Long(lambda: explored(LONG, [Checker("slots 2 budget 2", zero)]))
+
+STORED_RUN = report("""
+    sectors 1 entries 0 cuts all bound 0 tears no first no
+    program 0 slots 2 limit 2
+    images 1 failing 0 lines 0
+    """)
+
+WRITTEN = [
+    Row("a report of more than 2 MB", LONG_WORDS, LONG_FILES, LONG_REPORT, 1),
+    Row("the same images, none of which fails", LONG_WORDS, files(LONG.entries, GOOD), GOOD_REPORT, 0),
+]
+
+
+def unwritten(what, words, content):
+    """The same run with each kind of standard output that takes nothing."""
+    return [
+        Row(f"standard output {to}: {what}", words, content, status=2, error=None, to=to)
+        for to in ["closed", "full", "unread"]
+    ]
+
+
+UNWRITTEN = [
+    *unwritten("a short report", "explore log p0 --sectors 4", files(LOG, BAD)),
+    *unwritten("a report without a failing line", "explore log p0 --sectors 4", files(LOG, GOOD)),
+    *unwritten("a long report", LONG_WORDS, LONG_FILES),
+    *unwritten("the stored run", "", {}),
+    *unwritten("images", "images log --sectors 4", files(LOG)),
+    *unwritten("image", "image log 0 --sectors 4", files(LOG)),
+    *unwritten("an image of 8 MiB", "image log 0 --sectors 16384", files(LOG)),
+    *unwritten("verify", "verify p --sectors 4", {"p": GOOD}),
+    *unwritten("asm", "asm s", {"s": "exit\n"}),
+    *unwritten("list", "list p", {"p": code("9500000000000000")}),
+    *unwritten("help", "--help", {}),
+]
+
+# A file that takes so many bytes and no more holds exactly the first bytes of the report.
+FIRST_BYTES = Long(lambda: LONG_REPORT.make()[:LIMITED])
+
+PARTLY_WRITTEN = [
+    Row("a long report on a disk that fills up", LONG_WORDS, LONG_FILES, FIRST_BYTES, 2, None, "limited"),
+    Row("a short report on a disk that has room", "", {}, STORED_RUN, 0, "", "limited"),
+]
+
+# A refusal stands on standard error, whatever becomes of standard output.
+REFUSED = [
+    Row(f"standard output {to}: a refusal", "explore log p0 --sectors 0", {}, status=2, error="refused 13 at 1", to=to)
+    for to in ["closed", "full", "unread"]
+]
+
+# Without a standard error the status tells it alone.
+SILENT = [
+    Row("no standard error: a refusal", "explore log p0 --sectors 0", {}, status=2, to="silent"),
+    Row("no standard error: a missing file", "explore log p0 --sectors 4", {}, status=2, to="silent"),
+    Row("no standard error: a fault of the command line", "frob", {}, status=2, to="silent"),
+    Row("no standard error: a report", "", {}, STORED_RUN, to="silent"),
+]
+
+ROWS = [*MISSING, *FOLDERS, *EMPTY, *NO_TEXTS, *WRITTEN, *UNWRITTEN, *PARTLY_WRITTEN, *REFUSED, *SILENT]

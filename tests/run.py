@@ -1,0 +1,231 @@
+#!/usr/bin/env python3
+"""Runs the built program as a user does, and compares what it prints.
+
+    python3 tests/run.py [PROGRAM]
+
+PROGRAM is crates/crashbpf/out/crashbpf below the top of the repository where it isn't given; `rt run` in crates/crashbpf
+builds it. It is what the proofs don't reach: what the process itself prints, with which status it ends, what it makes of
+files and words. It needs Python 3.9 or later, nothing but its own library, and `sh`; no Rattle kit, and no prover is run.
+
+A row is one run of the program: the words behind its name, the files that lie in its folder (a fresh one for each row),
+and what is expected: standard output byte by byte, the status, and standard error, which is either empty or the one line
+of a refusal. A row fails where one of these differs, or where the run takes too long (`seconds` of notation.py). Rows run
+side by side.
+
+What is printed is a line for each row that failed, with what differed, and last
+
+    N passed, M failed
+
+alone on its line. The status is 1 if any row failed, or if the program isn't there, else 0. All rows together take some
+twenty seconds of processor time.
+
+Where the rows stand
+    rows/worked.py      the worked examples of the documents, and the reports of small logs
+    rows/examples.py    the designs of examples/: their logs, checkers and reports
+    rows/commands.py    each command, faults of the command line, the order of refusals
+    rows/process.py     files that can't be read, a standard output that can't be written
+    rows/logs.py        logs that lie: cut ones, each cause of a refusal
+    rows/encodings.py   each instruction as bytes and as text, and bytes that are no program
+    rows/texts.py       assembly texts, and texts that are refused
+    rows/answers.py     what programs answer: arithmetic, memory, helpers, faults
+    rows/arithmetic.py  each operation and each test on many operands
+    rows/refusals.py    what the verifier accepts and refuses
+    rows/modelled.py    whole reports of many logs, against the model
+    rows/limits.py      sizes near each limit
+    rows/not_built.py   options and instructions that this version refuses, since their work isn't built
+
+    notation.py         how rows, logs and programs are written down
+    model.py            the crash model and the report, written from docs/CRASH-MODEL.md and docs/REPORT.md alone
+    programs/           programs as assembly texts
+
+Where expected values come from: the documents in docs/ and examples/, public standards, and the model. Never from what
+the program printed. A row that fails after a change of the program is a question to the documents, not to the row.
+
+Programs of rows are mostly given as assembly text. The program under test assembles them itself, and rows/encodings.py
+compares what it makes of each instruction with bytes that were written down by hand.
+
+A new row is a line in one of the tables; a new table is a module of rows/ with a list ROWS, named in TABLES below.
+"""
+import os
+import subprocess
+import sys
+import tempfile
+from collections import Counter
+from concurrent.futures import ThreadPoolExecutor
+from pathlib import Path
+
+sys.dont_write_bytecode = True
+
+from notation import SECONDS, TOP, Assembly, Folder, Long, Something
+from rows import (
+    answers,
+    arithmetic,
+    commands,
+    encodings,
+    examples,
+    limits,
+    logs,
+    modelled,
+    not_built,
+    process,
+    refusals,
+    texts,
+    worked,
+)
+
+TABLES = [
+    worked,
+    examples,
+    commands,
+    process,
+    logs,
+    encodings,
+    texts,
+    answers,
+    arithmetic,
+    refusals,
+    modelled,
+    limits,
+    not_built,
+]
+
+SHORTENED = 100
+
+# How a shell starts the program where its outputs aren't plain pipes (`to` of notation.py). A pipe that nobody reads is
+# one whose only reader was closed before; `ulimit -f` counts in 512 bytes.
+SHELL = {
+    "closed": 'exec "$0" "$@" >&-',
+    "full": 'exec "$0" "$@" >/dev/full',
+    "unread": 'mkfifo pipe; exec 3<>pipe 4>pipe 3>&-; exec "$0" "$@" >&4',
+    "silent": 'exec "$0" "$@" 2>&-',
+    "limited": 'ulimit -f 8; exec "$0" "$@" >out',
+}
+
+
+def made(content):
+    """A content or an output as bytes."""
+    if isinstance(content, Long):
+        content = content.make()
+    return content.encode() if isinstance(content, str) else content
+
+
+class Assembler:
+    """Has the program under test assemble texts, each once."""
+
+    def __init__(self, program):
+        self.program, self.found = program, {}
+
+    def assemble(self, text):
+        if text not in self.found:
+            with tempfile.TemporaryDirectory() as folder:
+                Path(folder, "source").write_text(text)
+                self.found[text] = subprocess.run(
+                    [self.program, "asm", "source"], cwd=folder, capture_output=True, timeout=SECONDS, check=True
+                ).stdout
+        return self.found[text]
+
+
+def put(folder, name, content, assembler):
+    """Puts a file of a row into its folder."""
+    path = Path(folder, name)
+    if isinstance(content, Folder):
+        path.mkdir()
+    elif isinstance(content, Assembly):
+        path.write_bytes(assembler.assemble(content))
+    else:
+        path.write_bytes(made(content))
+
+
+def run_command(program, row, folder):
+    """Runs the program as a row says. Signals are as a shell has them, but that a limited file sends none."""
+    command = [program, *row.words.split()]
+    if row.to != "pipe":
+        command = ["sh", "-c", SHELL[row.to], *command]
+    return subprocess.run(
+        command,
+        cwd=folder,
+        stdin=subprocess.DEVNULL,
+        capture_output=True,
+        timeout=row.seconds,
+        restore_signals=row.to != "limited",
+    )
+
+
+def shortened(text):
+    shown = repr(bytes(text[: SHORTENED + 1]))[2:-1]
+    return shown if len(text) <= SHORTENED else shown[:SHORTENED] + ".."
+
+
+def first_difference(found, wanted):
+    """Where two outputs differ first: for texts the line, for others the byte."""
+    at = next((it for it, (one, other) in enumerate(zip(found, wanted)) if one != other), min(len(found), len(wanted)))
+    start = wanted.rfind(b"\n", 0, at) + 1
+    if at - start > SHORTENED:
+        return f"at byte {at} of {len(found)}, where {len(wanted)} were wanted"
+    line = wanted.count(b"\n", 0, at) + 1
+    ends = [text.split(b"\n", 1)[0] for text in (found[start:], wanted[start:])]
+    return f"at line {line}: '{shortened(ends[0])}', wanted '{shortened(ends[1])}'"
+
+
+def output_differs(what, found, wanted):
+    """What is wrong with an output: a list of one sentence, or of none."""
+    if isinstance(wanted, Something):
+        return [] if found else [f"nothing on {what}"]
+    wanted = made(wanted)
+    return [] if found == wanted else [f"{what} {first_difference(found, wanted)}"]
+
+
+def differences(row, done, out):
+    """What a run did otherwise than its row says."""
+    found = [] if done.returncode == row.status else [f"status {done.returncode}, wanted {row.status}"]
+    found += output_differs("standard output", out, row.out)
+    if row.error is not None:
+        line = f"{row.error}\n" if row.error and isinstance(row.error, str) else row.error
+        found += output_differs("standard error", done.stderr, line)
+    return found
+
+
+def run_row(program, row, assembler):
+    """The differences of one row."""
+    with tempfile.TemporaryDirectory() as folder:
+        try:
+            for name, content in row.files.items():
+                put(folder, name, content, assembler)
+            done = run_command(program, row, folder)
+        except subprocess.TimeoutExpired as error:
+            return [f"no end within {error.timeout} seconds"]
+        except subprocess.CalledProcessError as error:
+            return [f"a program of the row isn't assembled: {shortened(error.stderr)}"]
+        except OSError as error:
+            return [f"it can't be run: {error}"]
+        out = Path(folder, "out").read_bytes() if row.to == "limited" else done.stdout
+        return differences(row, done, out)
+
+
+def all_rows():
+    rows = [row for table in TABLES for row in table.ROWS]
+    twice = [name for name, count in Counter(row.name for row in rows).items() if count > 1]
+    if twice:
+        sys.exit(f"rows with one name: {', '.join(twice)}")
+    return rows
+
+
+def main(words):
+    program = str(Path(words[0] if words else TOP / "crates/crashbpf/out/crashbpf").resolve())
+    if not os.access(program, os.X_OK):
+        sys.exit(f"there is no program {program}: `rt run` in crates/crashbpf builds it")
+    rows = all_rows()
+    assembler = Assembler(program)
+    with ThreadPoolExecutor(os.cpu_count()) as pool:
+        results = list(pool.map(lambda row: run_row(program, row, assembler), rows))
+    failed = 0
+    for row, found in zip(rows, results):
+        if found:
+            failed += 1
+            print(f"FAILED {shortened(row.name.encode())}: {'; '.join(found)}")
+    print(f"{len(rows) - failed} passed, {failed} failed")
+    return 1 if failed else 0
+
+
+if __name__ == "__main__":
+    sys.exit(main(sys.argv[1:]))

@@ -1,0 +1,140 @@
+#!/usr/bin/env python3
+"""Checks the documents of the repository. Prints a line for each finding; the status is then 1, else 0.
+
+    tools/check_documents.py [TOP]
+
+The documents are the files *.md at the top (the folder above this one, or TOP) and in docs/, examples/ and bench/.
+
+- A link leads to a file that exists and, with #, to a heading in it.
+- A document that is named by its file, as docs/MAP.md or MAP.md, exists. This is asked of the crates' sources and
+  definitions too.
+- Each run of table rows begins with a head and a line of dashes, so no blank line cuts a table in two.
+- README.md has at most 160 lines.
+
+In README.md and docs/PROVED.md, moreover, for what stands in backticks and has no space in it:
+
+- A path (with a slash) exists, seen from the top. A folder out/ is made by a build, and isn't looked into.
+- A name (identifiers joined by :: or a dot, with -- before it for an option) is known: each of its identifiers is a
+  word of the crates' sources or definitions, of their file names, or of crates.txt.
+- Names in parentheses behind a name of a function, as in `read` (`found`, `clean`), are clauses of that function.
+
+Blocks of code, fenced or indented by four spaces, aren't looked at.
+"""
+import os
+import re
+import sys
+from pathlib import Path
+
+LIMIT = 160
+NAME = re.compile(r"(--)?[A-Za-z_]\w*((::|\.)[A-Za-z_]\w*)*(\(\))?")
+CLAUSES = re.compile(r"`([\w:]+)` \((`\w+`(?:, `\w+`)*)\)")
+
+
+def sources(top):
+    """Returns the crates' files of code and definitions; proofs cite both and are left out."""
+    for folder, folders, files in os.walk(top / "crates"):
+        folders[:] = sorted(set(folders) - {"out", "proofs", "must-fail", "data"})
+        yield from (Path(folder) / name for name in sorted(files) if name.endswith((".rt", ".antt")))
+
+
+def prose(text):
+    """Returns the lines of a document, with those of code blocks empty."""
+    fenced, lines = False, []
+    for line in text.splitlines():
+        fence = line.lstrip().startswith("```")
+        fenced ^= fence
+        lines.append("" if fenced or fence or line.startswith("    ") else line)
+    return lines
+
+
+def headings(path):
+    """Returns the anchors of a document's headings."""
+    found = (re.match(r"#+ (.*)", line) for line in prose(path.read_text()))
+    return {re.sub(r"[^\w\- ]", "", it[1].lower()).replace(" ", "-") for it in found if it}
+
+
+def bad_links(path, line):
+    """Returns what is wrong with the links of a line."""
+    for target in re.findall(r"\]\(([^)]+)\)", re.sub(r"`[^`]*`", "", line)):
+        if not re.match(r"[a-z]+:", target):
+            name, _, anchor = target.partition("#")
+            file = path.parent / name if name else path
+            if not file.exists():
+                yield f"no file for the link {target}"
+            elif anchor and anchor not in headings(file):
+                yield f"no heading for the link {target}"
+
+
+def unknown_documents(top, line):
+    """Returns the documents that a line names and that don't exist."""
+    for name in re.findall(r"\b[A-Z][A-Z-]+\.md\b", line):
+        if not (top / name).exists() and not (top / "docs" / name).exists():
+            yield f"no document {name}"
+
+
+def cut_tables(lines):
+    """Returns the numbers of lines at which table rows begin without a head."""
+    for number, line in enumerate(lines, 1):
+        begins = line.startswith("|") and not (number > 1 and lines[number - 2].startswith("|"))
+        if begins and not "".join(lines[number:number + 1]).startswith("|--"):
+            yield number
+
+
+def clauses_by_function(texts):
+    """Returns the names of the clauses of the functions of each name."""
+    clauses = {}
+    for text in texts:
+        for part in re.split(r"\bfn (?=\w)", text)[1:]:
+            name = re.match(r"\w+", part)[0]
+            clauses.setdefault(name, set()).update(re.findall(r"\bensures (\w+) \{", part))
+    return clauses
+
+
+def unknown_names(top, line, words, clauses):
+    """Returns the paths, names and clauses of a line that the crates don't have."""
+    for span in re.findall(r"`([^`\s]+)`", line):
+        if (top / span).exists() or "/out/" in f"/{span}":
+            continue
+        if "/" in span and re.fullmatch(r"[\w./-]+", span):
+            yield f"no file {span}"
+        elif NAME.fullmatch(span):
+            yield from (f"no crate has {word} of {span}" for word in re.findall(r"\w+", span) if word not in words)
+    for function, names in CLAUSES.findall(line):
+        known = clauses.get(function.rpartition("::")[2])
+        if known is not None:
+            yield from (f"{function} has no clause {name}" for name in re.findall(r"\w+", names) if name not in known)
+
+
+def findings(top):
+    """Returns all findings, each with its file and line."""
+    files = list(sources(top))
+    texts = [file.read_text() for file in files]
+    words = set(re.findall(r"\w+", (top / "crates.txt").read_text()))
+    words.update(word for text in texts for word in re.findall(r"\w+", text))
+    words.update(part for file in files for part in re.findall(r"\w+", str(file.relative_to(top))))
+    clauses = clauses_by_function(texts)
+    for file, text in zip(files, texts):
+        for number, line in enumerate(text.splitlines(), 1):
+            yield from ((file, number, it) for it in unknown_documents(top, line))
+    for path in sorted(it for folder in ("", "docs", "examples", "bench") for it in (top / folder).glob("*.md")):
+        lines = prose(path.read_text())
+        if path == top / "README.md" and len(lines) > LIMIT:
+            yield path, LIMIT + 1, f"{len(lines)} lines, and at most {LIMIT} are allowed"
+        yield from ((path, number, "table rows without a head") for number in cut_tables(lines))
+        strict = path in (top / "README.md", top / "docs" / "PROVED.md")
+        for number, line in enumerate(lines, 1):
+            yield from ((path, number, it) for it in bad_links(path, line))
+            yield from ((path, number, it) for it in unknown_documents(top, line))
+            if strict:
+                yield from ((path, number, it) for it in unknown_names(top, line, words, clauses))
+
+
+def main():
+    top = Path(sys.argv[1] if len(sys.argv) > 1 else Path(__file__).parent.parent).resolve()
+    found = [f"{path.relative_to(top)}:{number}: {it}" for path, number, it in findings(top)]
+    print("\n".join(found), end="\n" if found else "")
+    return 1 if found else 0
+
+
+if __name__ == "__main__":
+    sys.exit(main())
