@@ -7,3 +7,4 @@ pub mod Runs
 pub mod Whole
 pub mod Sets
 pub mod Contents
+pub mod CutSets

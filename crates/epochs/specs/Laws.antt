@@ -1,10 +1,13 @@
--- Laws of units: which units are volatile and in which order they stand, and how many bytes a unit has.
-use Rattle.std.specs.Prelude.{ℕ, zero, suc, ◌+◌, ◌≡◌, ◌<◌, ◌≤◌, ◌⊎◌, false, if◌then◌else◌, List, length, drop, slice_get, Some}
+-- Laws of units and cuts: which units are volatile and which cuts are wanted, in which order they stand,
+-- and how many bytes a unit has.
+use Rattle.std.specs.Prelude.{ℕ, zero, suc, ◌+◌, ◌≡◌, ◌<◌, ◌≤◌, ◌⊎◌, true, false, if◌then◌else◌, List, length, drop, slice_get, Some}
 use Rattle.logfmt.specs.declared.entry.Entry.{Entry}
 use Rattle.logfmt.specs.Bounds.{LogValue, IsLog}
 use Rattle.epochs.specs.declared.unit.Unit.{Unit as LogUnit}
 use Rattle.epochs.specs.Units.{volatile_units, unit_content}
-use Rattle.epochs.specs.Cuts.{is_flush_at}
+use Rattle.epochs.specs.declared.cuts.Cuts.{Cuts}
+use Rattle.epochs.specs.declared.cuts.Cuts.TheVariants as kind
+use Rattle.epochs.specs.Cuts.{is_flush_at, cuts_of}
 use Rattle.epochs.specs.Plan.{IsUnit}
 use Rattle.epochs.specs.Table.{unforced_units}
 
@@ -45,3 +48,19 @@ VolatileIsRun =
 -- a unit has the 512 bytes of a sector
 abbrev pub UnitIsSector : Type 0
 UnitIsSector = (log : LogValue) (u : LogUnit) → IsLog log → IsUnit log u → length (unit_content log.entries u) ≡ 512
+
+-- cut k is one of that kind: each cut of the log; the last, and each right before a flush entry; each right
+-- behind a mark
+abbrev pub IsWanted : Cuts → List Entry → ℕ → Type 0
+IsWanted kind.All es k = k ≤ length es
+IsWanted kind.BeforeFlush es k = (k ≡ length es) ⊎ ((entry : Entry) × (slice_get es k ≡ Some entry) × (entry.flags.flush ≡ true))
+IsWanted kind.AfterMark es k = (e : ℕ) × (entry : Entry) × (k ≡ e + 1) × (slice_get es e ≡ Some entry) × (entry.flags.mark ≡ true)
+
+-- the list has the cuts of that kind and no other, rising, and so each once
+pub record ListsCuts (wanted : Cuts) (es : List Entry) (cuts : List ℕ) : Type 0 where
+  pub sound : (i k : ℕ) → slice_get cuts i ≡ Some k → IsWanted wanted es k
+  pub complete : (k : ℕ) → IsWanted wanted es k → (i : ℕ) × (slice_get cuts i ≡ Some k)
+  pub rising : (i j a b : ℕ) → i < j → slice_get cuts i ≡ Some a → slice_get cuts j ≡ Some b → a < b
+
+abbrev pub CutsAreSet : Type 0
+CutsAreSet = (wanted : Cuts) (es : List Entry) → ListsCuts wanted es (cuts_of wanted es)

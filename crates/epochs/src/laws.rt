@@ -1,6 +1,6 @@
-//! Laws of the volatile units. The functions do nothing; each contract is a theorem.
+//! Laws of the volatile units and the wanted cuts. The functions do nothing; each contract is a theorem.
 
-ghost use Rattle.epochs.specs.Laws.{VolatileIsSet, VolatileIsRun, UnitIsSector};
+ghost use Rattle.epochs.specs.Laws.{VolatileIsSet, VolatileIsRun, UnitIsSector, CutsAreSet};
 
 /// The volatile units of a cut are those that docs/CRASH-MODEL.md says, no other, each once, by entry
 /// and then by sector.
@@ -16,4 +16,9 @@ pub fn volatile_is_run()
 /// A unit has 512 bytes.
 pub fn unit_is_sector()
     ensures { UnitIsSector }
+{}
+
+/// The wanted cuts of a log are those that docs/CRASH-MODEL.md says, no other, each once, rising.
+pub fn cuts_are_set()
+    ensures { CutsAreSet }
 {}

@@ -35,9 +35,10 @@
 //! - `cuts()` is exactly the list of the wanted cuts, `cuts_of kind entries`.
 //!
 //! `specs/Units.antt` and `specs/Cuts.antt` have these definitions, and `unit_content`, the 512 bytes
-//! of a unit, for the layers above. Three laws stand over them (`specs/Laws.antt`): the list has
+//! of a unit, for the layers above. Four laws stand over them (`specs/Laws.antt`): the list has
 //! exactly the units that are volatile, in order (`volatile_is_set`), it is one run of the units that
-//! are not forced (`volatile_is_run`), and a unit has 512 bytes (`unit_is_sector`).
+//! are not forced (`volatile_is_run`), a unit has 512 bytes (`unit_is_sector`), and the wanted cuts are
+//! exactly those of their kind, rising (`cuts_are_set`).
 //!
 //! # How it is written
 //!
@@ -66,6 +67,6 @@ mod table;
 mod unit;
 
 pub use cuts::Cuts;
-pub use laws::{unit_is_sector, volatile_is_run, volatile_is_set};
+pub use laws::{cuts_are_set, unit_is_sector, volatile_is_run, volatile_is_set};
 pub use plan::Plan;
 pub use unit::Unit;
