@@ -1,5 +1,5 @@
 -- Closed forms of the numbers of choices.
-use Rattle.std.proofs.Common.{ℕ, zero, suc, ◌≡◌, ◌+◌, ◌-◌, ◌*◌, ◌/◌, ◌<◌, ◌≤◌, refl, sym, ◌∙◌, ap, arith}
+use Rattle.std.proofs.Common.{ℕ, zero, suc, ◌≡◌, ◌+◌, ◌-◌, ◌*◌, ◌/◌, ◌<◌, ◌≤◌, refl, ◌∙◌, ap, arith}
 use Rattle.std.proofs.lemmas.Nat.{div-mul-add, mul-le}
 use Rattle.choices.specs.Ways.{ways, ways_below, pairs, triples}
 

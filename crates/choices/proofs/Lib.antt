@@ -6,3 +6,5 @@ pub mod Following
 pub mod Departing
 pub mod Plans
 pub mod Sets
+pub mod Order
+pub mod CrashModel

@@ -1,13 +1,13 @@
 -- The list of choices is their set, in its order.
-use Rattle.std.proofs.Common.{ℕ, zero, suc, ◌≡◌, ◌+◌, ◌-◌, ◌*◌, ◌<◌, ◌≤◌, ◌⊎◌, List, [], ◌∷◌, ◌++◌, length, slice_get, Some, None, refl, sym, ◌∙◌, ap, subst, inl, inr, arith}
+use Rattle.std.proofs.Common.{ℕ, zero, suc, ◌≡◌, ◌+◌, ◌-◌, ◌*◌, ◌<◌, ◌≤◌, List, [], ◌∷◌, length, slice_get, Some, None, refl, sym, ◌∙◌, ap, subst, inl, inr, arith}
 use Rattle.std.specs.Option.{option_map}
 use Rattle.std.proofs.lemmas.Bool.{cases_lt}
 use Rattle.std.proofs.lemmas.Nat.{mul-le}
 use Rattle.std.proofs.lemmas.Option.{slice_get_within, same_Some}
 use Rattle.base.proofs.Lists.{slice_get-append_right, slice_get_of_append}
 use Rattle.choices.specs.declared.pick.Pick.{Pick}
-use Rattle.choices.specs.Picks.{beginning, chosen, fewer, picks_within}
-use Rattle.choices.specs.Laws.{AreRising, IsChoice, Before, Precedes, ListsChoices, ListIsSet}
+use Rattle.choices.specs.Picks.{beginning, chosen, fewer}
+use Rattle.choices.specs.Laws.{AreRising, Before, Precedes, ListIsSet}
 use Rattle.choices.proofs.Ranks.{behind, at_beginning}
 use Rattle.choices.proofs.Following.{OfRow, of_beginning, in_front, member_length, fewer_length}
 

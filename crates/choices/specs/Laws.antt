@@ -1,7 +1,26 @@
--- The list of a cut is the set of its choices, in its order.
-use Rattle.std.specs.Prelude.{ℕ, ◌+◌, ◌≡◌, ◌<◌, ◌≤◌, ◌⊎◌, List, [], ◌∷◌, length, slice_get, Some}
+-- The ranked choices of a plan are the set of its choices, in their order. Below it the same of the list
+-- of one cut, by numbers.
+use Rattle.std.specs.Prelude.{ℕ, ◌+◌, ◌≡◌, ◌<◌, ◌≤◌, ◌⊎◌, Bool, List, [], ◌∷◌, length, slice_get, Some}
+use Rattle.epochs.specs.Plan.{PlanValue}
+use Rattle.epochs.specs.Laws.{IsWanted}
 use Rattle.choices.specs.declared.pick.Pick.{Pick}
+use Rattle.choices.specs.declared.choice.Departure.{Departure}
 use Rattle.choices.specs.Picks.{picks_within}
+use Rattle.choices.specs.Choices.{ChoiceValue, ranked}
+use Rattle.choices.specs.CrashModel.{IsAdmissible, ChoicePrecedes}
+
+-- the list has the pairs of a wanted cut and an admissible choice there and no other, each once, in
+-- their order
+pub record ListsModel (plan : PlanValue) (bound : ℕ) (tears : Bool) (list : List ChoiceValue) : Type 0 where
+  pub wanted : (n : ℕ) (c : ChoiceValue) → slice_get list n ≡ Some c → IsWanted plan.kind plan.log.entries c.cut
+  pub sound : (n : ℕ) (c : ChoiceValue) → slice_get list n ≡ Some c → IsAdmissible plan.log.entries c.cut bound tears c.departures
+  pub complete : (k : ℕ) (ds : List Departure) → IsWanted plan.kind plan.log.entries k → IsAdmissible plan.log.entries k bound tears ds
+      → (n : ℕ) × (c : ChoiceValue) × (slice_get list n ≡ Some c) × (c.cut ≡ k) × (c.departures ≡ ds)
+  pub ordered : (i j : ℕ) (a b : ChoiceValue) → i < j → slice_get list i ≡ Some a → slice_get list j ≡ Some b → ChoicePrecedes a b
+  pub once : (i j : ℕ) (a b : ChoiceValue) → slice_get list i ≡ Some a → slice_get list j ≡ Some b → a.cut ≡ b.cut → a.departures ≡ b.departures → i ≡ j
+
+abbrev pub RankedIsModel : Type 0
+RankedIsModel = (plan : PlanValue) (bound : ℕ) (tears : Bool) → ListsModel plan bound tears (ranked plan bound tears)
 
 -- departures rising by unit, of units from a on and below e, by fates below m
 abbrev pub AreRising : ℕ → ℕ → ℕ → List Pick → Type 0

@@ -4,4 +4,5 @@ pub mod Ways
 pub mod Seeks
 pub mod Steps
 pub mod Choices
+pub mod CrashModel
 pub mod Laws

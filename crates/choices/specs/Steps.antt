@@ -1,5 +1,5 @@
 -- From one choice to the following, in the terms that the code computes with.
-use Rattle.std.specs.Prelude.{ℕ, zero, suc, ◌+◌, nat_lt, if◌then◌else◌, List, [], ◌∷◌, ◌++◌, length, Option, Some, None}
+use Rattle.std.specs.Prelude.{ℕ, zero, suc, ◌+◌, nat_lt, if◌then◌else◌, List, [], ◌∷◌, length, Option, Some, None}
 use Rattle.choices.specs.declared.pick.Pick.{Pick}
 
 -- the first choice of i departures from unit a on: units in a row, each dropped

@@ -1,6 +1,13 @@
-//! The law of the choices. The function does nothing; its contract is a theorem.
+//! The laws of the choices. The functions do nothing; each contract is a theorem.
 
-ghost use Rattle.choices.specs.Laws.{ListIsSet};
+ghost use Rattle.choices.specs.Laws.{ListIsSet, RankedIsModel};
+
+/// The ranked choices of a plan are exactly the pairs of a wanted cut and an admissible choice there, as
+/// docs/CRASH-MODEL.md says them: each once, by cut, then by the number of departures, then departure
+/// after departure by unit and by fate, the drop before the heads and these rising.
+pub fn ranked_is_model()
+    ensures { RankedIsModel }
+{}
 
 /// The list of choices by which those of a cut are numbered has each choice that
 /// docs/CRASH-MODEL.md says, no other, each once, and in its order.

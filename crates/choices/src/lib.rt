@@ -34,8 +34,11 @@
 //! - `nth` is its element of that number.
 //! - `next` leads from each element to the one behind it, and leaves the last as it is.
 //!
-//! Above the recursion stands a law (`list_is_set`, `specs/Laws.antt`): the list of a cut has exactly
-//! the choices of at most so many departures, rising by unit, in their order, and so each once.
+//! Above the recursion stands a law, so that nobody has to believe it (`ranked_is_model`): the list has
+//! exactly the pairs of a wanted cut and an admissible choice there, each once, in the order above.
+//! `specs/CrashModel.antt` says in the words of the crash model what an admissible choice is, and which
+//! comes first. The list of one cut by numbers has a law of its own, for any number of fates
+//! (`list_is_set`); both stand in `specs/Laws.antt`.
 //!
 //! # How it is written
 //!
@@ -77,5 +80,5 @@ mod ways;
 
 pub use choice::{Choice, Departure};
 pub use fate::{Eighths, Fate};
-pub use laws::list_is_set;
+pub use laws::{list_is_set, ranked_is_model};
 pub use ranked::{TooMany, count, count_at, next, nth};

@@ -1,4 +1,3 @@
-use Rattle.std.proofs.Common.{refl}
 use Rattle.std.proofs.lemmas.Option.{slice_get-get_or}
 use Rattle.choices.proofs.Departing.{departs_as, departs_next}
 use Rattle.choices.proofs.choice.departures_of.Goals as goal

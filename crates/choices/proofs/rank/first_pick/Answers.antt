@@ -1,7 +1,7 @@
-use Rattle.std.proofs.Common.{ℕ, refl, arith, ap, sym, subst, ◌≡◌, ◌<◌, ◌/◌, ◌-◌}
+use Rattle.std.proofs.Common.{ℕ, refl, arith, ap, ◌<◌, ◌/◌, ◌-◌}
 use Rattle.choices.specs.Seeks.{Reaches}
 use Rattle.choices.specs.Ways.{ways}
-use Rattle.choices.proofs.Ranks.{Inside, inside, found_pick}
+use Rattle.choices.proofs.Ranks.{inside, found_pick}
 use Rattle.choices.proofs.rank.first_pick.Goals as goal
 
 pub nonzero_div-pick : goal.nonzero_div-pick

@@ -1,5 +1,5 @@
 use Rattle.std.proofs.Common.{sym, arith}
-use Rattle.choices.proofs.Plans.{before_none, counted, first_past, counted_all, stepped_on, moved_on, at_last, nth_picks, new_picks, choice_is, found_choice}
+use Rattle.choices.proofs.Plans.{before_none, counted, first_past, counted_all}
 use Rattle.choices.proofs.ranked.count.Goals as goal
 
 pub loop-cut-init : goal.loop-cut-init

@@ -1,9 +1,6 @@
-use Rattle.std.proofs.Common.{ℕ, sym, ◌∙◌, ap, arith, length, slice_index_or, slice_get, Some, ◌≡◌, ◌<◌, ◌≤◌, suc}
-use Rattle.std.proofs.lemmas.Option.{slice_get_within, get_or_from_slice_get}
-use Rattle.epochs.specs.Units.{volatile_units}
-use Rattle.epochs.specs.Cuts.{cuts_of}
-use Rattle.choices.specs.Picks.{fates_of, picks_within, fewer}
-use Rattle.choices.proofs.Plans.{nth_picks, found_choice, ranked_at-ways, cut_there, same_ways, same_picks}
+use Rattle.std.proofs.Common.{sym, ◌∙◌, ap, arith, slice_index_or, Some}
+use Rattle.choices.specs.Picks.{fates_of}
+use Rattle.choices.proofs.Plans.{nth_picks, found_choice, cut_there, same_ways, same_picks}
 use Rattle.choices.proofs.ranked.nth.Goals as goal
 
 pub nth_within-picks-requires-clause-number : goal.nth_within-picks-requires-clause-number

@@ -1,5 +1,5 @@
 use Rattle.std.proofs.Common.{sym}
-use Rattle.choices.proofs.Plans.{ranked_at-ways, goes}
+use Rattle.choices.proofs.Plans.{ranked_at-ways}
 use Rattle.choices.proofs.ranked.ways_at.Goals as goal
 
 pub returns-clause-value : goal.returns-clause-value

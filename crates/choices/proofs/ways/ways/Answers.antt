@@ -1,5 +1,4 @@
-use Rattle.std.proofs.Common.{ℕ, sym, subst, ap, arith, ◌∙◌, ◌≡◌, ◌*◌, ◌≤◌}
-use Rattle.choices.specs.Ways.{ways}
+use Rattle.std.proofs.Common.{sym, arith, ◌≡◌}
 use Rattle.choices.proofs.Counts.{ways_zero, ways_one, ways_two, ways_three, cube_le}
 use Rattle.choices.proofs.ways.ways.Goals as goal
 

@@ -1,0 +1,157 @@
+-- The order of departures and of choices: what their numbers say of it, and that nothing is before itself.
+use Rattle.std.proofs.Common.{ℕ, zero, suc, ◌≡◌, ◌<◌, Bool, true, false, List, [], ◌∷◌, length, map, take, slice_get, Some, refl, sym, ◌∙◌, ap, subst, inl, inr, arith}
+use Rattle.std.specs.List.{slice_index_or}
+use Rattle.std.proofs.lemmas.Bool.{cases_lt}
+use Rattle.std.proofs.lemmas.Option.{slice_get-get_or, same_Some}
+use Rattle.logfmt.specs.declared.entry.Entry.{Entry}
+use Rattle.epochs.specs.declared.unit.Unit.{Unit as LogUnit}
+use Rattle.epochs.specs.Laws.{ListsVolatile, Precedes as UnitPrecedes}
+use Rattle.choices.specs.declared.pick.Pick.{Pick}
+use Rattle.choices.specs.declared.fate.Fate.{Fate}
+use Rattle.choices.specs.declared.fate.Fate.TheVariants as fate
+use Rattle.choices.specs.declared.choice.Departure.{Departure}
+use Rattle.choices.specs.Picks.{fates_of}
+use Rattle.choices.specs.Laws.{Before}
+use Rattle.choices.specs.Choices.{ChoiceValue, departure_of, fate_of, nowhere}
+use Rattle.choices.specs.CrashModel.{IsFate, FatePrecedes, DeparturePrecedes, DiffersFirst, ChoicePrecedes}
+use Rattle.choices.proofs.Plans.{fates_low}
+
+-- a number below that of the fates is one of the fates
+pub fate_said : (tears : Bool) (t : ℕ) → t < fates_of tears → IsFate tears (fate_of t)
+fate_said tears zero h = tt
+fate_said true (suc t) h = (refl, omega arith, omega (arith, h))
+fate_said false (suc t) h = absurd (omega (arith, h))
+
+-- and each of the fates has one
+pub fate_number : (tears : Bool) (f : Fate) → IsFate tears f → (t : ℕ) × (t < fates_of tears) × (fate_of t ≡ f)
+fate_number tears fate.Drop h = (0, fates_low tears, refl)
+fate_number tears (fate.Head zero) h = absurd (omega (arith, h.1))
+fate_number true (fate.Head (suc t)) h = (suc t, h.2, refl)
+fate_number false (fate.Head (suc t)) h = absurd (let bad : false ≡ true = h.0 in cc)
+
+fate_rises : (s t : ℕ) → s < t → FatePrecedes (fate_of s) (fate_of t)
+fate_rises zero zero h = absurd (omega (arith, h))
+fate_rises zero (suc t) h = tt
+fate_rises (suc s) zero h = absurd (omega (arith, h))
+fate_rises (suc s) (suc t) h = h
+
+fate_once : (f : Fate) → FatePrecedes f f → ⊥
+fate_once fate.Drop h = h
+fate_once (fate.Head t) h = omega (arith, h)
+
+unit_once : (u : LogUnit) → UnitPrecedes u u → ⊥
+unit_once u h = elim h [
+  | inl entry ↦ omega (arith, entry)
+  | inr sector ↦ omega (arith, sector.1)
+]
+
+units_differ : (u v : LogUnit) → UnitPrecedes u v → UnitPrecedes v u → ⊥
+units_differ u v h k = elim h [
+  | inl entry ↦ elim k [
+    | inl other ↦ omega (arith, entry, other)
+    | inr other ↦ omega (arith, entry, other.0)
+  ]
+  | inr sector ↦ elim k [
+    | inl other ↦ omega (arith, sector.0, other)
+    | inr other ↦ omega (arith, sector.1, other.1)
+  ]
+]
+
+departure_once : (d : Departure) → DeparturePrecedes d d → ⊥
+departure_once d h = elim h [
+  | inl unit ↦ unit_once d.unit unit
+  | inr same ↦ fate_once d.fate same.1
+]
+
+differs_never : (cs ds : List Departure) → cs ≡ ds → DiffersFirst cs ds → ⊥
+differs_never cs ds same h =
+    let P : Departure → Type 0 = λ x. DeparturePrecedes x h.right in
+    let one : h.left ≡ h.right = same_Some h.left h.right (sym h.left_there ∙ ap (λ xs. slice_get xs h.place) same ∙ h.right_there) in
+    departure_once h.right (subst P one h.precedes)
+
+-- no choice is before one that is the same
+pub never_before : (a b : ChoiceValue) → ChoicePrecedes a b → a.cut ≡ b.cut → a.departures ≡ b.departures → ⊥
+never_before a b h cut departures = elim h [
+  | inl less ↦ omega (arith, less, cut)
+  | inr more ↦ elim more.1 [
+    | inl fewer ↦ omega (arith, fewer, ap length departures)
+    | inr long ↦ differs_never a.departures b.departures departures long.1
+  ]
+]
+
+-- of two volatile units the one that is before has the smaller number
+pub unit_index : (es : List Entry) (k : ℕ) (us : List LogUnit) → ListsVolatile es k us → (i j : ℕ) (u v : LogUnit)
+    → slice_get us i ≡ Some u → slice_get us j ≡ Some v → UnitPrecedes u v → i < j
+unit_index es k us so i j u v hu hv h = elim (cases_lt i j) [
+  | inl less ↦ less
+  | inr more ↦ elim (cases_lt j i) [
+    | inl above ↦ absurd (units_differ u v h (so.rising j i v u above hv hu))
+    | inr below ↦
+        let same : i ≡ j = omega (arith, more, below) in
+        let one : u ≡ v = same_Some u v (sym hu ∙ ap (slice_get us) same ∙ hv) in
+        let P : LogUnit → Type 0 = λ w. UnitPrecedes w v in
+        absurd (unit_once v (subst P one h))
+  ]
+]
+
+-- what a departure has by its numbers
+pub unit_there : (us : List LogUnit) (p : Pick) → p.unit < length us → slice_get us p.unit ≡ Some (departure_of us p).unit
+unfolding departure_of
+unit_there us p lt = slice_get-get_or us p.unit nowhere lt
+
+pub fate_there : (us : List LogUnit) (p : Pick) → (departure_of us p).fate ≡ fate_of p.fate
+unfolding departure_of
+fate_there us p = refl
+
+same_unit : (us : List LogUnit) (c d : Pick) → c.unit ≡ d.unit → (departure_of us c).unit ≡ (departure_of us d).unit
+unfolding departure_of
+same_unit us c d same = ap (λ (u : ℕ). slice_index_or us u nowhere) same
+
+later_fate : (us : List LogUnit) (c d : Pick) → c.fate < d.fate → FatePrecedes (departure_of us c).fate (departure_of us d).fate
+unfolding departure_of
+later_fate us c d lt = fate_rises c.fate d.fate lt
+
+-- the order of the numbers is the order of the departures
+pub differs : (es : List Entry) (k : ℕ) (us : List LogUnit) → ListsVolatile es k us → (cs ds : List Pick)
+    → ((i : ℕ) (p : Pick) → slice_get cs i ≡ Some p → p.unit < length us)
+    → ((i : ℕ) (p : Pick) → slice_get ds i ≡ Some p → p.unit < length us)
+    → Before cs ds → DiffersFirst (map (departure_of us) cs) (map (departure_of us) ds)
+differs es k us so [] ds in_cs in_ds h = absurd h
+differs es k us so (c ∷ cs) [] in_cs in_ds h = absurd h
+differs es k us so (c ∷ cs) (d ∷ ds) in_cs in_ds h = elim h [
+  | inl less ↦ record {
+    place = 0;
+    before = refl;
+    left = departure_of us c;
+    left_there = refl;
+    right = departure_of us d;
+    right_there = refl;
+    precedes =
+        inl (so.rising c.unit d.unit (departure_of us c).unit (departure_of us d).unit less (unit_there us c (in_cs 0 c refl)) (unit_there us d (in_ds 0 d refl)));
+  }
+  | inr same ↦ elim same.1 [
+    | inl lower ↦ record {
+      place = 0;
+      before = refl;
+      left = departure_of us c;
+      left_there = refl;
+      right = departure_of us d;
+      right_there = refl;
+      precedes = inr (same_unit us c d same.0, later_fate us c d lower);
+    }
+    | inr rest ↦
+        let one : c ≡ d = λ i. record { unit = same.0 i; fate = rest.0 i } in
+        let more = differs es k us so cs ds (λ i p at. in_cs (suc i) p at) (λ i p at. in_ds (suc i) p at) rest.1 in
+        record {
+          place = suc more.place;
+          before =
+              ap (λ (e : Departure). e ∷ take more.place (map (departure_of us) cs)) (ap (departure_of us) one)
+              ∙ ap (λ (rests : List Departure). departure_of us d ∷ rests) more.before;
+          left = more.left;
+          left_there = more.left_there;
+          right = more.right;
+          right_there = more.right_there;
+          precedes = more.precedes;
+        }
+  ]
+]
