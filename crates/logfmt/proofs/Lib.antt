@@ -3,3 +3,4 @@ pub mod Progress
 pub mod Unique
 pub mod Canonical
 pub mod NoFault
+pub mod OneFault

@@ -21,3 +21,8 @@ CanonicalReadsBack =
 -- no check fails at a text of a log
 abbrev pub TextHasNoFault : Type 0
 TextHasNoFault = (bytes : List ℕ) (log : LogValue) (cause : LogCause) (at : ℕ) → LogText bytes log → ¬ (FirstFault bytes log.sectors cause at)
+
+-- the first fault of bytes for a device is one
+abbrev pub OneFault : Type 0
+OneFault =
+    (bytes : List ℕ) (sectors : ℕ) (c d : LogCause) (s t : ℕ) → FirstFault bytes sectors c s → FirstFault bytes sectors d t → (c ≡ d) × (s ≡ t)

@@ -1,6 +1,6 @@
 //! Laws of the texts of logs. The functions do nothing; each contract is a theorem.
 
-ghost use Rattle.logfmt.specs.Laws.{TextOfOneLog, CanonicalIsText, CanonicalReadsBack, TextHasNoFault};
+ghost use Rattle.logfmt.specs.Laws.{TextOfOneLog, CanonicalIsText, CanonicalReadsBack, TextHasNoFault, OneFault};
 
 /// For one device size a text is the log text of at most one log.
 pub fn text_of_one_log()
@@ -21,4 +21,10 @@ pub fn canonical_reads_back()
 /// is no log text.
 pub fn text_has_no_fault()
     ensures { TextHasNoFault }
+{}
+
+/// For one device size bytes have at most one first fault: `read` is left no choice of the cause and
+/// the entry that it names.
+pub fn one_fault()
+    ensures { OneFault }
 {}

@@ -29,11 +29,11 @@
 //!   It speaks of the bytes alone. Where `read` is `Err`, that is its fault, or memory ran out. Where
 //!   it is `Ok`, no check fails.
 //! - `write` gives `canonical_text`: zeros in all unused places, nothing behind the last entry.
-//! - Four laws stand above these (`specs/Laws.antt`): a text is the log text of at most one log for a
+//! - Five laws stand above these (`specs/Laws.antt`): a text is the log text of at most one log for a
 //!   device (`text_of_one_log`), the canonical text of a log is a log text of it
-//!   (`canonical_is_text`), so what is written reads back (`canonical_reads_back`), and no log text
-//!   has a fault (`text_has_no_fault`), so `read` refuses nothing that is a log text but for want of
-//!   memory.
+//!   (`canonical_is_text`), so what is written reads back (`canonical_reads_back`), no log text has a
+//!   fault (`text_has_no_fault`), so `read` refuses nothing that is a log text but for want of memory,
+//!   and bytes have at most one first fault for a device (`one_fault`).
 //!
 //! # How it is written
 //!
@@ -68,7 +68,9 @@ mod writer;
 pub use entry::{Entry, Log, SECTOR};
 pub use fault::LogFault;
 pub use flags::Flags;
-pub use laws::{canonical_is_text, canonical_reads_back, text_has_no_fault, text_of_one_log};
+pub use laws::{
+    canonical_is_text, canonical_reads_back, one_fault, text_has_no_fault, text_of_one_log,
+};
 pub use reader::read;
 pub use writer::write;
 
