@@ -70,6 +70,18 @@ impl Choice {
         self.departures.as_slice()
     }
 
+    /// The same departures, as a list that borrows nothing of the choice.
+    pub fn departures_owned(&self) -> ArrayVec<Departure, 3>
+        ensures { result.items ≡ self.now.departures }
+    {
+        let departures = self.departures();
+        let mut copy = ArrayVec::new();
+        for departure in departures {
+            copy.push(*departure);
+        }
+        copy
+    }
+
     /// The choice of those departures at a cut of a plan, which has that place among the wanted cuts.
     #[tactic(auto, unfolding(crate::specs::Choices::choice_of))]
     pub(crate) fn of(plan: &Plan, place: usize, cut: u32, picks: ArrayVec<Pick, 3>) -> Choice

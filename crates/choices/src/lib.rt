@@ -15,6 +15,8 @@
 //! | `count_at(plan, bound, tears, cut)` | the same of one cut alone |
 //! | `nth(plan, bound, tears, number)` | the choice of a number |
 //! | `next(plan, bound, tears, choice)` | goes on to the following choice, if there is one |
+//! | `choice.cut()`, `choice.departures()` | the cut, and the departures with their fates |
+//! | `choice.departures_owned()` | the same departures, for what outlives the choice |
 //!
 //! # Place
 //!
