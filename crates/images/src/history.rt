@@ -1,12 +1,11 @@
 //! What a log may leave behind, choice after choice.
 
-ghost use Rattle.std.specs.Prelude.{◌≡◌, ◌≤◌, length, IfOk, IsOk};
+ghost use Rattle.std.specs.Prelude.{◌≡◌, IfOk, IsOk};
 
 use crate::torn::torn_sectors;
 use crate::versions::{Versions, rows_of};
 use crate::view::View;
-use arrayvec::ArrayVec;
-use choices::{Choice, Departure};
+use choices::Choice;
 use epochs::{Plan, Unit};
 use helpers::Context;
 use logfmt::Log;
@@ -58,10 +57,11 @@ impl<'a> History<'a> {
         let cut = choice.cut();
         let versions = Versions::of(&*self.log, self.rows.as_slice());
         let torn = torn_sectors(&versions, cut, choice.departures());
+        let departures = choice.departures_owned();
         Ok(View {
             versions,
             cut,
-            departures: owned(choice.departures()),
+            departures,
             torn,
             context: Context {
                 sectors: self.log.sectors(),
@@ -70,16 +70,4 @@ impl<'a> History<'a> {
             },
         })
     }
-}
-
-/// The same departures.
-fn owned(departures: &[Departure]) -> ArrayVec<Departure, 3>
-    requires { length departures.now ≤ 3 }
-    ensures { result.items ≡ departures.now }
-{
-    let mut out = ArrayVec::new();
-    for departure in departures {
-        out.push(*departure);
-    }
-    out
 }

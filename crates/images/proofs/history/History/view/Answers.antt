@@ -51,9 +51,9 @@ invariant_of-result c =
     let volatile = subst R (sym c.departures.ensures.value) (subst Q (sym c.cut-cut.ensures) (subst P same (member_departs c.args.self.now choice c.requires))) in
     let cut = member_cut _ _ c.requires in
     let long = ap (λ (l : LogValue). length l.entries) same in
-    shows_view log c.self.inside.plan.now.log c.cut-cut.result c.owned.result.items c.departures.result.now c.torn_sectors-torn.result.items
+    shows_view log c.self.inside.plan.now.log c.cut-cut.result c.departures_owned-departures.result.items c.departures.result.now c.torn_sectors-torn.result.items
     c.sectors.result c.epoch.result c.marks.result
     (subst S (sym c.of-versions.ensures) c.self.invariant.1.bounds) planned (omega (arith, cut, c.cut-cut.ensures, long)) volatile c.torn_sectors-torn.ensures
-    (c.owned.ensures ∙ c.departures-2.ensures.value ∙ sym c.departures.ensures.value)
+    (c.departures_owned-departures.ensures ∙ sym c.departures.ensures.value)
     (c.sectors.ensures.value ∙ ap (λ (l : LogValue). l.sectors) (sym c.of-versions.ensures))
     c.epoch.ensures.value c.marks.ensures.value c.epoch.ensures.bound c.marks.ensures.bound
