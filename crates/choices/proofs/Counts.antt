@@ -3,6 +3,7 @@ use Rattle.std.proofs.Common.{ℕ, zero, suc, ◌≡◌, ◌+◌, ◌-◌, ◌*�
 use Rattle.std.proofs.lemmas.Nat.{div-mul-add, mul-le}
 use Rattle.choices.specs.Ways.{ways, ways_below, pairs, triples}
 
+-- how many choices of 0, 1, 2 and 3 departures there are
 pub ways_zero : (m k : ℕ) → ways m 0 k ≡ 1
 unfolding ways
 ways_zero m k = refl
@@ -36,6 +37,7 @@ six_triples (suc k) =
     let one : triples (suc (suc (suc k))) ≡ pairs (suc (suc k)) + triples (suc (suc k)) = refl in
     omega (arith, one, twice_pairs (suc k), six_triples k)
 
+-- pairs and triples as products
 pub pairs_closed : (k : ℕ) → 0 < k → k * (k - 1) / 2 ≡ pairs k
 pairs_closed zero h = absurd (omega (arith, h))
 pairs_closed (suc k) h =
@@ -53,6 +55,7 @@ triples_closed (suc (suc k)) h =
     rw (less, lesser) (omega (arith, six_triples k)) in
     ap (λ n. n / 6) six ∙ div-mul-add (triples (suc (suc k))) 6 0 (omega arith)
 
+-- of too few units there are none
 pub pairs_none : (k : ℕ) → k ≡ 0 → 0 ≡ pairs k
 unfolding pairs
 pairs_none zero h = refl
@@ -64,12 +67,14 @@ triples_none zero h = refl
 triples_none (suc zero) h = refl
 triples_none (suc (suc k)) h = absurd (omega (arith, h))
 
+-- the greatest product that the code forms is below 2^61
 pub cube_le : (m t : ℕ) → m ≤ 8 → t ≤ 3002399751580331 → m * m * m * t ≤ 1537228672809129472
 cube_le m t h k =
     let square : m * m ≤ 64 = mul-le m m 8 8 h h in
     let cube : m * m * m ≤ 512 = mul-le (m * m) m 64 8 square h in
     mul-le (m * m * m) t 512 3002399751580331 cube k
 
+-- the sum over the numbers of departures: its start, and one more
 pub ways_below_none : (m v : ℕ) → 0 ≡ ways_below m 0 v
 unfolding ways_below
 ways_below_none m v = refl

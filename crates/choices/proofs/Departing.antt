@@ -10,9 +10,11 @@ use Rattle.choices.specs.declared.fate.Fate.{Fate}
 use Rattle.choices.specs.declared.choice.Departure.{Departure}
 use Rattle.choices.specs.Choices.{departure_of, fate_of, nowhere}
 
+-- the loop over the picks: none yet
 pub no_departures : (units : List LogUnit) (picks : List Pick) → [] ≡ map (departure_of units) (take 0 picks)
 no_departures units picks = refl
 
+-- a unit and a fate that were found by their numbers are the departure of these
 pub departs_as : (units : List LogUnit) (pick : Pick) (u : LogUnit) (f : Fate) → slice_get units pick.unit ≡ Some u → f ≡ fate_of pick.fate
     → record { unit = u; fate = f } ≡ departure_of units pick
 unfolding departure_of
@@ -20,6 +22,7 @@ departs_as units pick u f there fate =
     let here : slice_index_or units pick.unit nowhere ≡ u = get_or_from_slice_get units pick.unit u nowhere there in
     rw (here, fate) refl
 
+-- one departure more
 pub departs_next : (units : List LogUnit) (picks : List Pick) (i : ℕ) (pick : Pick) (done more : List Departure) (d : Departure)
     → slice_get picks i ≡ Some pick → done ≡ map (departure_of units) (take i picks) → more ≡ done ++ d ∷ [] → d ≡ departure_of units pick
     → more ≡ map (departure_of units) (take (i + 1) picks)

@@ -41,6 +41,7 @@ first_row a t j rests n ds h = elim (slice_get_cases rests n).1 [
       absurd (let bad : None ≡ Some ds = none in cc)
 ]
 
+-- each element of the rows comes from one of them
 pub of_beginning : (a t j : ℕ) (rests : List (List Pick)) (n : ℕ) (ds : List Pick) → slice_get (beginning a t j rests) n ≡ Some ds → OfRow a t j rests n ds
 of_beginning a t zero rests n ds h = absurd (let bad : None ≡ Some ds = h in cc)
 of_beginning a t (suc j) rests n ds h = elim (slice_get_of_append (map (behind a t) rests) (beginning a (t + 1) j rests) n ds h) [
@@ -68,6 +69,7 @@ no_rows : (a t j : ℕ) → beginning a t j [] ≡ []
 no_rows a t zero = refl
 no_rows a t (suc j) = no_rows a (t + 1) j
 
+-- the first of the choices of i departures among k units: none, or the first i units dropped
 pub head_none : (m i a k : ℕ) → k < i → chosen m i a k ≡ []
 unfolding chosen
 head_none m zero a k h = absurd (omega (arith, h))
@@ -119,6 +121,7 @@ at_end xs n lt h = elim (slice_get_cases xs (suc n)).1 [
   | inr past ↦ omega (arith, past.0, lt)
 ]
 
+-- at the end of the first list stands the first of the second, and what is in front keeps its place
 pub behind_end : {X : Type 0} (xs ys : List X) (n : ℕ) → length xs ≡ n → slice_get (xs ++ ys) n ≡ slice_get ys 0
 behind_end xs ys n h =
     let at : n ≡ length xs + 0 = omega (arith, h) in
@@ -134,6 +137,7 @@ room m i a k n ds h = elim (cases_lt k i) [
   | inr some ↦ some
 ]
 
+-- a choice of i departures has i departures
 pub member_length : (m i a k n : ℕ) (ds : List Pick) → slice_get (chosen m i a k) n ≡ Some ds → length ds ≡ i
 unfolding chosen
 member_length m zero a k zero ds h = ap length (same_Some ds [] (sym h))
@@ -241,6 +245,7 @@ or_none : (o : Option (List Pick)) → or_else o None ≡ o
 or_none None = refl
 or_none (Some ds) = refl
 
+-- a choice of fewer than s departures has fewer
 pub fewer_length : (m s v n : ℕ) (ds : List Pick) → slice_get (fewer m s v) n ≡ Some ds → length ds < s
 unfolding fewer
 fewer_length m zero v n ds h = absurd (let bad : None ≡ Some ds = h in cc)
@@ -287,6 +292,7 @@ goes_up m bound e size old now cleared put none same long less room empty is =
     below_more m (bound + 1) e old none ∙ ap (one_more (bound + 1) e) here ∙ more_yes (bound + 1) e size (omega (arith, less)) room
     ∙ sym (ap (λ xs. Some xs) (is ∙ ap (λ xs. xs ++ first_picks (size + 1) 0) empty))
 
+-- no choice follows: there is no room for one departure more
 pub ends_here : (m bound e size : ℕ) (old now : List Pick) → following m e old ≡ None → now ≡ old → size ≡ length now
     → (bound ≤ size) ⊎ (e ≤ size) → following_below m (bound + 1) e old ≡ None
 ends_here m bound e size old now none same long (inl top) =
@@ -324,6 +330,7 @@ All_cons P x xs p ps = λ k. elim k as (λ j. (d : Pick) → j < length (x ∷ x
   | suc j ↦ λ d lt. ps j d (omega (arith, lt))
 ]
 
+-- the units and fates of a choice are among those that it is made of
 pub are_picks : (m i a k n : ℕ) (ds : List Pick) → slice_get (chosen m i a k) n ≡ Some ds → ArePicks m (a + k) ds
 unfolding chosen
 are_picks m zero a k zero ds h =

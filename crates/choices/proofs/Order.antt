@@ -99,6 +99,7 @@ pub unit_there : (us : List LogUnit) (p : Pick) → p.unit < length us → slice
 unfolding departure_of
 unit_there us p lt = slice_get-get_or us p.unit nowhere lt
 
+-- and its fate
 pub fate_there : (us : List LogUnit) (p : Pick) → (departure_of us p).fate ≡ fate_of p.fate
 unfolding departure_of
 fate_there us p = refl

@@ -18,6 +18,7 @@ use Rattle.choices.specs.Choices.{ChoiceValue, departure_of, choice_of, choices_
 use Rattle.choices.proofs.Ranks.{length-fewer}
 use Rattle.choices.proofs.Following.{follows_below, fewer_picks, at_end, behind_end, in_front}
 
+-- there are 1 to 8 fates
 pub fates_low : (tears : Bool) → 1 ≤ fates_of tears
 fates_low tears = elim tears as (λ b. 1 ≤ fates_of b) [ true ↦ omega arith | false ↦ omega arith ]
 
@@ -30,6 +31,7 @@ unfolding choices_at
 at_ways es m b p cut =
     length-map (picks_within m b (length (volatile_units es cut))) (choice_of es p cut) ∙ length-fewer m (suc b) (length (volatile_units es cut))
 
+-- the same of a plan
 pub ranked_at-ways : (plan : PlanValue) (b : ℕ) (tears : Bool) (cut : ℕ)
     → length (ranked_at plan b tears cut) ≡ ways_within (fates_of tears) b (length (volatile_units plan.log.entries cut))
 unfolding ranked_at
@@ -52,6 +54,7 @@ over_more es m b p (suc i) (c ∷ cuts) cut h =
       rest,
     )
 
+-- the choices before a wanted cut: those of one cut more, of none, and of all
 pub before_more : (plan : PlanValue) (b : ℕ) (tears : Bool) (i cut : ℕ) → slice_get (cuts_of plan.kind plan.log.entries) i ≡ Some cut
     → length (ranked_before plan b tears (i + 1)) ≡ length (ranked_before plan b tears i) + length (ranked_at plan b tears cut)
 unfolding ranked_before ranked_at
@@ -138,6 +141,7 @@ at_head es m b p cut =
     slice_get-map (choice_of es p cut) (picks_within m b (length (volatile_units es cut))) 0
     ∙ ap (option_map (choice_of es p cut)) (fewer_head m b (length (volatile_units es cut)))
 
+-- the first choice of a cut has no departures
 abbrev pub first_at : List Entry → ℕ → ℕ → ChoiceValue
 first_at es p cut = choice_of es p cut []
 
@@ -151,6 +155,7 @@ abbrev pub next_choice : List Entry → ℕ → ℕ → Option (List Pick) → O
 next_choice es place cut (Some picks) other = Some (choice_of es place cut picks)
 next_choice es place cut None other = option_map (first_at es (place + 1)) other
 
+-- where choice n of a list of cuts comes from, and which choice is behind it
 pub record Goes (es : List Entry) (m b p : ℕ) (cuts : List ℕ) (n : ℕ) (c : ChoiceValue) : Type 0 where
   pub index : ℕ
   pub cut : ℕ
@@ -203,6 +208,7 @@ in_first es m b p c cuts n x some h =
       | inr past ↦ absurd (let bad : None ≡ Some x = ap (option_map (choice_of es p c)) (sym past.1) ∙ sym as_map ∙ h in cc)
     ]
 
+-- each choice of the list has such a place
 pub goes : (es : List Entry) (m b p : ℕ) (cuts : List ℕ) (n : ℕ) (x : ChoiceValue) → 1 ≤ m → slice_get (choices_over es m b p cuts) n ≡ Some x
     → Goes es m b p cuts n x
 unfolding choices_over
@@ -238,6 +244,7 @@ pub record Walks (plan : PlanValue) (b : ℕ) (tears : Bool) (number : ℕ) (cut
   pub sum : number ≡ length (ranked_before plan b tears place) + rest
   pub ways : own ≡ length (ranked_at plan b tears cut)
 
+-- the loop over the cuts: there is one, the first, room for a next, and the next
 pub walk_begins : (plan : PlanValue) (b : ℕ) (tears : Bool) (number : ℕ) (cuts : List ℕ) → cuts ≡ cuts_of plan.kind plan.log.entries
     → number < length (ranked plan b tears) → 0 < length cuts
 walk_begins plan b tears number cuts is lt =
@@ -288,6 +295,7 @@ counted plan b tears cuts i sum own is lt so ways =
     ap (λ ks. slice_get ks i) (sym is) ∙ slice_get-get_or cuts i 0 lt in
     omega (arith, before_more plan b tears i (slice_index_or cuts i 0) wanted, so, ways)
 
+-- the sum passes the limit at this cut
 pub first_past : (plan : PlanValue) (b : ℕ) (tears : Bool) (cuts : List ℕ) (i sum own : ℕ) → cuts ≡ cuts_of plan.kind plan.log.entries → i < length cuts
     → sum ≡ length (ranked_before plan b tears i) → own ≡ length (ranked_at plan b tears (slice_index_or cuts i 0))
     → sum ≤ limit → limit < sum + own → IsFirstPast plan b tears (slice_index_or cuts i 0)
@@ -298,6 +306,7 @@ first_past plan b tears cuts i sum own is lt so ways low high = record {
   past = omega (arith, counted plan b tears cuts i sum own is lt so ways, high);
 }
 
+-- behind the last cut the sum is that of all choices
 pub counted_all : (plan : PlanValue) (b : ℕ) (tears : Bool) (cuts : List ℕ) (i sum : ℕ) → cuts ≡ cuts_of plan.kind plan.log.entries → length cuts ≤ i
     → sum ≡ length (ranked_before plan b tears i) → sum ≡ length (ranked plan b tears)
 counted_all plan b tears cuts i sum is le so = so ∙ ap length (before_all plan b tears i (omega (arith, le, ap length is)))
@@ -335,6 +344,7 @@ stands_at plan b tears n index cut number picks wanted there next =
       next = rw (one_number, step_index, one_bound) next;
     }
 
+-- each choice of a plan has such a place
 pub stands : (plan : PlanValue) (b : ℕ) (tears : Bool) (n : ℕ) (old : ChoiceValue) → slice_get (ranked plan b tears) n ≡ Some old → Standing plan b tears n old
 unfolding ranked
 stands plan b tears n old h =
@@ -342,9 +352,11 @@ stands plan b tears n old h =
     let P : ChoiceValue → Type 0 = λ c. Standing plan b tears n c in
     subst P (sym so.is) (stands_at plan b tears n so.index so.cut so.number so.picks so.wanted so.there so.next)
 
+-- a step is the same for equal numbers of fates and of units
 pub same_step : (m m' s v v' : ℕ) (ds : List Pick) (o : Option (List Pick)) → m ≡ m' → v ≡ v' → following_below m s v ds ≡ o → following_below m' s v' ds ≡ o
 same_step m m' s v v' ds o same units h = ap (λ f. following_below f s v' ds) (sym same) ∙ ap (λ k. following_below m s k ds) (sym units) ∙ h
 
+-- the next choice: one of the same cut, the first of the next, or none
 pub stepped_on : (plan : PlanValue) (b : ℕ) (tears : Bool) (n : ℕ) (old : ChoiceValue) (picks : List Pick) → Standing plan b tears n old
     → following_below (fates_of tears) (b + 1) (length (volatile_units plan.log.entries old.cut)) old.picks ≡ Some picks
     → slice_get (ranked plan b tears) (n + 1) ≡ Some (choice_of plan.log.entries old.place old.cut picks)
@@ -384,11 +396,13 @@ at_last plan b tears n old so here none last =
 pub nth_picks : (m b v n : ℕ) (picks : List Pick) → m ≤ 8 → slice_get (picks_within m b v) n ≡ Some picks → ArePicks 8 v picks
 nth_picks m b v n picks le h = picks_weaker m v picks le (fewer_picks m (suc b) v n picks h)
 
+-- a choice that is put together from its parts
 pub choice_is : (es : List Entry) (c : ChoiceValue) (place cut : ℕ) (picks : List Pick) → c.place ≡ place → c.cut ≡ cut → c.picks ≡ picks
     → c.departures ≡ map (departure_of (volatile_units es cut)) picks → c ≡ choice_of es place cut picks
 unfolding choice_of
 choice_is es c place cut picks p k ps ds = λ i. record { place = p i; cut = k i; picks = ps i; departures = ds i }
 
+-- the wanted cut that the walk found, how many choices it has, and the picks of one of them
 pub cut_there : (plan : PlanValue) (b : ℕ) (tears : Bool) (number place rest : ℕ) → InCut plan b tears number place rest
     → (cuts : List ℕ) → cuts ≡ cuts_of plan.kind plan.log.entries → (d : ℕ)
     → slice_get (cuts_of plan.kind plan.log.entries) place ≡ Some (slice_index_or cuts place d)

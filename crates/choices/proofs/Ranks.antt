@@ -15,6 +15,7 @@ use Rattle.choices.specs.Seeks.{Begins, Reaches}
 abbrev pub behind : ℕ → ℕ → List Pick → List Pick
 behind a t rest = record { unit = a; fate = t } ∷ rest
 
+-- how many elements the rows have
 pub length-beginning : (a t j : ℕ) (rests : List (List Pick)) → length (beginning a t j rests) ≡ j * length rests
 length-beginning a t zero rests = omega arith
 length-beginning a t (suc j) rests =
@@ -39,6 +40,7 @@ at_beginning a t (suc j) rests (suc x) y lt h =
     ∙ at_beginning a (t + 1) j rests x y (omega (arith, lt)) h
     ∙ ap (λ s. option_map (behind a s) (slice_get rests y)) same
 
+-- how many choices of i departures there are
 pub length-chosen : (m i a k : ℕ) → length (chosen m i a k) ≡ ways m i k
 unfolding chosen ways
 length-chosen m zero a k = refl
@@ -52,6 +54,7 @@ length-chosen m (suc i) a (suc k) =
       length-chosen m (suc i) (a + 1) k,
     )
 
+-- and of fewer than s
 pub length-fewer : (m s v : ℕ) → length (fewer m s v) ≡ ways_below m s v
 unfolding fewer ways_below
 length-fewer m zero v = refl
@@ -194,6 +197,7 @@ same_option : (o : Option (List Pick)) → option_map (λ (ds : List Pick). [] +
 same_option None = refl
 same_option (Some ds) = refl
 
+-- the search at its start: no departure is found yet
 pub seeks_first : (m size end number : ℕ) → number < ways m size end → Seeks m size 0 end number [] (slice_get (chosen m size 0 end) number)
 seeks_first m size end number lt =
     let all : end - 0 ≡ end = omega arith in
@@ -204,6 +208,7 @@ regroup : (front : List Pick) (pick : Pick) (o : Option (List Pick))
 regroup front pick None = refl
 regroup front pick (Some ds) = ap (λ xs. Some xs) (append_assoc front (pick ∷ []) ds)
 
+-- one departure more is found
 pub takes : (m left begin end number : ℕ) (front : List Pick) (target : Option (List Pick)) → Seeks m left begin end number front target
     → (pick : Pick) (rest : ℕ) → Begins m left begin end number pick rest
     → Seeks m (left - 1) (pick.unit + 1) end rest (front ++ pick ∷ []) target
@@ -223,6 +228,7 @@ unfolding chosen ways
 none_left m begin end zero front target so = sym so.value ∙ ap (λ xs. Some xs) (append-nil front)
 none_left m begin end (suc n) front target so = let bad : suc n < 1 = so.within in absurd (omega (arith, bad))
 
+-- all departures are found, so these are the choice
 pub sought : (m left begin end number : ℕ) (front : List Pick) (target : Option (List Pick)) → left ≡ 0
     → Seeks m left begin end number front target → target ≡ Some front
 sought m zero begin end number front target none so = none_left m begin end number front target so
@@ -259,6 +265,7 @@ pub record Inside (m size reach left : ℕ) : Type 0 where
   pub some : 0 < ways m (size - 1) (reach - 1)
   pub fate : (ways m size reach - left) / ways m (size - 1) (reach - 1) < m
 
+-- where the search by halves ends, this holds
 pub inside : (m size reach left : ℕ) → 1 ≤ size → Reaches m size left reach → Inside m size reach left
 inside m zero reach left some so = absurd (omega (arith, some))
 inside m (suc i) zero left some so = absurd (omega (arith, so.some))

@@ -7,6 +7,7 @@ use Rattle.std.specs.Option.{option_map}
 use Rattle.choices.specs.declared.pick.Pick.{Pick}
 use Rattle.choices.specs.Steps.{first_picks, stepped, after_rest, following, or_else, one_more, following_below}
 
+-- a row of no units adds nothing
 pub no_row : (xs : List Pick) (a : ℕ) → xs ≡ xs ++ first_picks 0 a
 unfolding first_picks
 no_row xs a = sym (append-nil xs)
@@ -37,6 +38,7 @@ following_cons : (m e : ℕ) (d : Pick) (ds : List Pick) → following m e ds �
 unfolding following
 following_cons m e d ds h = ap (λ o. after_rest d o (stepped m e d (length ds))) h
 
+-- behind the last departure nothing goes on
 pub none_behind : (m e : ℕ) (ds : List Pick) (n : ℕ) → length ds ≤ n → following m e (drop n ds) ≡ None
 unfolding following
 none_behind m e [] zero h = refl
@@ -44,6 +46,7 @@ none_behind m e [] (suc n) h = refl
 none_behind m e (d ∷ ds) zero h = absurd (omega (arith, h))
 none_behind m e (d ∷ ds) (suc n) h = none_behind m e ds n (omega (arith, h))
 
+-- nothing goes on from the first departure on, so nothing goes on at all
 pub all_of : (m e : ℕ) (ds : List Pick) → following m e (drop 0 ds) ≡ None → following m e ds ≡ None
 all_of m e ds h = h
 
@@ -59,6 +62,7 @@ step_at m e ds place behind d at lt none =
     ap (following m e) split ∙ following_cons m e (slice_index_or ds place d) (drop (suc place) ds) last
     ∙ ap (stepped m e (slice_index_or ds place d)) size
 
+-- the search from the end: the last departure that has a next one, and one that has none
 pub step_found : (m e : ℕ) (ds : List Pick) (place behind : ℕ) (d next : Pick) → place ≡ length ds - 1 - behind → behind < length ds
     → following m e (drop (length ds - behind) ds) ≡ None
     → option_map (λ (p : Pick). p ∷ first_picks behind (p.unit + 1)) (Some next) ≡ stepped m e (slice_index_or ds place d) behind
@@ -81,6 +85,7 @@ pub below_moved : (m s e : ℕ) (ds new : List Pick) → following m e ds ≡ So
 unfolding following_below
 below_moved m s e ds new h = ap (λ o. or_else o (one_more s e (length ds))) h
 
+-- where no choice with as many departures follows, the first with one more does
 pub below_more : (m s e : ℕ) (ds : List Pick) → following m e ds ≡ None → following_below m s e ds ≡ one_more s e (length ds)
 unfolding following_below
 below_more m s e ds h = ap (λ o. or_else o (one_more s e (length ds))) h

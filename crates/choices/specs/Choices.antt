@@ -25,6 +25,7 @@ abbrev pub fate_of : ℕ → Fate
 fate_of zero = fate.Drop
 fate_of (suc t) = fate.Head (suc t)
 
+-- the unit that stands for none, where a number is past the end
 abbrev pub nowhere : LogUnit
 nowhere = record { entry = 0; place = 0; sector = 0 }
 

@@ -15,6 +15,7 @@ stepped m e d behind =
     else if nat_lt (d.unit + 1 + behind) e then Some (record { unit = d.unit + 1; fate = 0 } ∷ first_picks behind (d.unit + 1 + 1))
     else None
 
+-- the rest goes on, or else what the first departure does
 abbrev pub after_rest : Pick → Option (List Pick) → Option (List Pick) → Option (List Pick)
 after_rest d (Some rest) other = Some (d ∷ rest)
 after_rest d None other = other
@@ -28,6 +29,7 @@ following m e (d ∷ ds) = after_rest d (following m e ds) (stepped m e d (lengt
 unfoldable pub one_more : ℕ → ℕ → ℕ → Option (List Pick)
 one_more s e size = if nat_lt (size + 1) s then (if nat_lt size e then Some (first_picks (size + 1) 0) else None) else None
 
+-- the first that is there
 abbrev pub or_else : Option (List Pick) → Option (List Pick) → Option (List Pick)
 or_else (Some ds) other = Some ds
 or_else None other = other

@@ -27,6 +27,7 @@ units_from-push e (y ∷ ys) x =
     ∙ sym (append_assoc (units_of_entry e y) (units_from (suc e) ys) (units_of_entry (suc e + length ys) x))
     ∙ ap (λ n. units_of_entry e y ++ units_from (suc e) ys ++ units_of_entry n x) here
 
+-- an entry adds its units to those before the cut
 pub units_before-next : (es : List Entry) (k : ℕ) (x : Entry) → slice_get es k ≡ Some x → units_before es (suc k) ≡ units_before es k ++ units_of_entry k x
 units_before-next es k x here =
     let within = slice_get_within es k x here in
@@ -40,6 +41,7 @@ own_by_flag : (p : LogUnit → Bool) (flag : Bool) (e : ℕ) (x : Entry) → ((j
 own_by_flag p true e x h = filter-map_none p (unit_of e x) (range_with_len 0 x.count) h
 own_by_flag p false e x h = filter-map_all p (unit_of e x) (range_with_len 0 x.count) h
 
+-- and to those that are not forced, unless it is forced itself
 pub unforced_units-next : (es : List Entry) (k : ℕ) (x : Entry) → slice_get es k ≡ Some x
     → unforced_units es (suc k) ≡ unforced_units es k ++ own_units k x
 unfolding unforced_units
@@ -104,6 +106,7 @@ after_flush p false us = filter_alike (λ u. p u && true) p us (λ u. and_yes (p
     and_yes true = refl
     and_yes false = refl
 
+-- after a flush entry none is left that was volatile; then the entry adds its own
 pub volatile_units-next : (es : List Entry) (k : ℕ) (x : Entry) → slice_get es k ≡ Some x
     → volatile_units es (suc k) ≡ (if x.flags.flush then [] else volatile_units es k) ++ own_units k x
 unfolding volatile_units

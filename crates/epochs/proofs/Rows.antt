@@ -30,6 +30,7 @@ next_durable : (flush : Bool) (start durable more : ℕ) → durable ≤ start �
 next_durable true start durable more le = omega arith
 next_durable false start durable more le = omega (arith, le)
 
+-- from the row of a cut to the row of the next
 pub next_is_row : (es : List Entry) (k : ℕ) (row : Row) (x : Entry) → IsRow es k row → slice_get es k ≡ Some x → IsRow es (suc k) (next_row row x)
 next_is_row es k row x is here =
     let grown = unforced_units-next es k x here in
@@ -53,6 +54,7 @@ next_is_row es k row x is here =
           omega (arith, is.marks, here_too);
     }
 
+-- the row of cut 0
 pub first_is_row : (es : List Entry) → IsRow es 0 (record { start = 0; durable = 0; epoch = 0; marks = 0 })
 unfolding unforced_units volatile_units
 first_is_row es = record { start = refl; durable = omega arith; volatile = refl; epoch = refl; marks = refl }
@@ -76,6 +78,7 @@ unforced_units-le es k =
     let all = length-units_from 0 (take k es) in
     omega (arith, kept, fewer, all)
 
+-- the numbers of the next row do not wrap
 pub room_for_row : (es : List Entry) (k : ℕ) (row : Row) (x : Entry) → IsRow es k row → slice_get es k ≡ Some x → units_of es ≤ 262144
     → row.start + x.count ≤ 262144
 room_for_row es k row x is here units =
@@ -84,6 +87,7 @@ room_for_row es k row x is here units =
     let same : (get_or es k x).count ≡ x.count = ap (λ (entry : Entry). entry.count) (get_or_from_slice_get es k x x here) in
     omega (arith, part, same, unforced_units-le es k, is.start, units)
 
+-- the numbers of a row are small
 pub row_fits : (es : List Entry) (k : ℕ) (row : Row) → IsRow es k row → length es ≤ 65536 → units_of es ≤ 262144 → k ≤ length es → RowFits row
 row_fits es k row is few units within = record {
   start = omega (arith, is.start, unforced_units-le es k, sum_by-take-le (λ (entry : Entry). entry.count) es k, units);
@@ -101,6 +105,7 @@ one_row : (es : List Entry) (row : Row) → IsRow es 0 row → (k : ℕ) (r : Ro
 one_row es row is zero r h = let here : Some row ≡ Some r = h in let same : row ≡ r = cc in let P : Row → Type 0 = λ x. IsRow es 0 x in subst P same is
 one_row es row is (suc k) r h = absurd (let bad : None ≡ Some r = h in cc)
 
+-- the loop over the entries: the first row, one more row, and the end
 pub begin : (es : List Entry) (row : Row) → row ≡ record { start = 0; durable = 0; epoch = 0; marks = 0 } → Filled es 0 (row ∷ []) row
 begin es row is =
     let P : Row → Type 0 = λ x. IsRow es 0 x in

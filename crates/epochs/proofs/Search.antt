@@ -33,6 +33,7 @@ unforced_units-prefix es k (suc d) h =
       | inr past ↦ absurd (omega (arith, past.0, h))
     ]
 
+-- the units that are not forced grow from cut to cut, and each keeps its number
 pub unforced_units-rise : (es : List Entry) (k n : ℕ) → k ≤ n → n ≤ length es → length (unforced_units es k) ≤ length (unforced_units es n)
 unforced_units-rise es k n le within =
     let here : k + (n - k) ≡ n = omega (arith, le) in
@@ -95,6 +96,7 @@ unit_at es e x t here low high =
 pub row_at : (es : List Entry) (rows : List Row) (k : ℕ) (d : Row) → AreRows es rows → k ≤ length es → IsRow es k (slice_index_or rows k d)
 row_at es rows k d are within = are.each k (slice_index_or rows k d) (slice_get-get_or rows k d (omega (arith, are.count, within)))
 
+-- the rows rise by their start, so they can be searched by halves
 pub rows_rise : (es : List Entry) (rows : List Row) → AreRows es rows → IsNonDecreasingBy (λ (row : Row). row.start) rows
 rows_rise es rows are i j d le lt =
     let first = row_at es rows i d are (omega (arith, are.count, le, lt)) in
@@ -127,6 +129,7 @@ some_row es rows t count are lt splits =
     ] in
     (low, high)
 
+-- where the rows up to `count` start at t or before it, unit t lies in the last of these entries
 pub found : (es : List Entry) (rows : List Row) (t count e : ℕ) → AreRows es rows → t < length (unforced_units es (length es)) → Splits rows t count
     → e ≡ count - 1 → Found es t e
 found es rows t count e are lt splits before =
@@ -167,6 +170,7 @@ inside_run es k row i is lt =
     let long = ap length is.volatile ∙ length-drop row.durable (unforced_units es k) in
     omega (arith, long, lt)
 
+-- a volatile unit of a cut is one of the units that are not forced, behind the durable ones
 pub inside_all : (es : List Entry) (k : ℕ) (row : Row) (i : ℕ) → IsRow es k row → i < length (volatile_units es k) → k ≤ length es
     → row.durable + i < length (unforced_units es (length es))
 inside_all es k row i is lt within =

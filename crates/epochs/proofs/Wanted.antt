@@ -15,6 +15,7 @@ one_more p k =
     ∙ filter_of_map_range_with_len_more p (λ (n : ℕ). n) 0 k k at
     ∙ ap (λ ns. filter p ns ++ (if p k then k ∷ [] else [])) (map-id (range_with_len 0 k))
 
+-- one number more of a range that is filtered: it is kept, or left out
 pub kept_cut : (p : ℕ → Bool) (k : ℕ) → p k ≡ true → filter p (range_with_len 0 (k + 1)) ≡ filter p (range_with_len 0 k) ++ k ∷ []
 kept_cut p k h = one_more p k ∙ ap (λ b. filter p (range_with_len 0 k) ++ (if b then k ∷ [] else [])) h
 

@@ -8,6 +8,7 @@ use Rattle.epochs.specs.declared.table.Row.{Row}
 use Rattle.epochs.specs.Cuts.{cuts_of}
 use Rattle.epochs.specs.Table.{AreRows}
 
+-- a plan
 pub record PlanValue : Type 0 where
   pub log : LogValue
   pub kind : Cuts

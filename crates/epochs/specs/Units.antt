@@ -11,6 +11,7 @@ use Rattle.epochs.specs.declared.unit.Unit.{Unit as LogUnit}
 abbrev pub unit_of : ℕ → Entry → ℕ → LogUnit
 unit_of e entry j = record { entry = e; place = j; sector = entry.sector + j }
 
+-- the units of entry e, by sector
 abbrev pub units_of_entry : ℕ → Entry → List LogUnit
 units_of_entry e entry = map (unit_of e entry) (range_with_len 0 entry.count)
 

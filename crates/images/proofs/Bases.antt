@@ -62,6 +62,7 @@ one_flush es j (suc k) le same = elim (cases_lt j (suc k)) [
   | inr past ↦ let e : j ≡ suc k = omega (arith, le, past) in ap (last_flush es) e
 ]
 
+-- cuts of one epoch have one last flush entry, and so one base
 pub one_base : (log : LogValue) (j k : ℕ) → epoch_at log.entries j ≡ epoch_at log.entries k → base_of log j ≡ base_of log k
 unfolding base_of
 one_base log j k same = ap (λ f. crash_image log.sectors log.entries f []) (elim (cases_lt j k) [

@@ -10,6 +10,7 @@ map_same : {X : Type 0} (x : X) (ns : List ℕ) → map (λ (_ : ℕ). x) ns ≡
 map_same x [] = refl
 map_same x (n ∷ ns) = ap (λ xs. x ∷ xs) (map_same x ns)
 
+-- where nothing was written there are zeros
 pub zero_sector : (es : List Entry) (ds : List Departure) (s : ℕ) → sector_after es [] ds s ≡ replicate {A = ℕ} 512 0
 unfolding sector_after byte_after
 zero_sector es ds s = map_same {X = ℕ} 0 (range_with_len 0 512) ∙ ap (λ n. replicate {A = ℕ} n 0) (length-range_with_len 0 512)

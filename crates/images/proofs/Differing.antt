@@ -15,6 +15,7 @@ shown : (base image : List (List ℕ)) (n : ℕ) (b : Bool)
 shown base image n true = refl
 shown base image n false = refl
 
+-- one sector more that is compared: it differs, or is the same
 pub one_more_sector : (base image : List (List ℕ)) (n : ℕ)
     → changed_below base image (n + 1) ≡ changed_below base image n ++ (if differs base image n then with_content image n ∷ [] else [])
 unfolding changed_below
@@ -66,6 +67,7 @@ pub differs_test : (base image : List (List ℕ)) (n : ℕ) (same : Bool) → sa
 unfolding differs
 differs_test base image n same is = ap not is
 
+-- before the first sector nothing differs
 pub no_sector : (base image : List (List ℕ)) → [] ≡ changed_below base image 0
 unfolding changed_below
 no_sector base image = refl

@@ -21,6 +21,7 @@ unfolding unit_content
 content_by es u entry there =
     ap (λ o. option_map_or (λ (e : Entry). if e.flags.discard then zeros 512 else slice_range e.content (512 * u.place) (512 * u.place + 512)) o []) there
 
+-- a unit of a discard is zeros, and one of a write its sector of the data
 pub discarded : (es : List Entry) (u : LogUnit) (entry : Entry) → slice_get es u.entry ≡ Some entry → entry.flags.discard ≡ true
     → replicate {A = ℕ} 512 0 ≡ unit_content es u
 unfolding zeros
@@ -48,6 +49,7 @@ entry_there log u es x at is read =
     ∙ ap (λ e. Some e)
     (sym (read ∙ ap (λ xs. slice_index_or xs u.entry x) is ∙ get_or_from_slice_get log.entries u.entry at.entry x at.there))
 
+-- the sector of a unit of a write lies inside the data
 pub unit_room : (log : LogValue) (u : LogUnit) (x : Entry) → IsLog log → IsUnit log u → slice_get log.entries u.entry ≡ Some x → x.flags.discard ≡ false
     → 512 * u.place + 512 ≤ length x.content
 unit_room log u x is at there flag =
@@ -59,6 +61,7 @@ unit_room log u x is at there flag =
 abbrev pub units_up_to : List Entry → ℕ → Entry → ℕ → List LogUnit
 units_up_to es e entry j = units_before es e ++ map (unit_of e entry) (range_with_len 0 j)
 
+-- the units of an entry up to one, and all of them
 pub one_more : (es : List Entry) (e : ℕ) (entry : Entry) (j : ℕ) → units_up_to es e entry j ++ unit_of e entry j ∷ [] ≡ units_up_to es e entry (j + 1)
 one_more es e entry j =
     let here : 0 + j ≡ j = omega arith in

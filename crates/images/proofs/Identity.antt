@@ -21,6 +21,7 @@ has_key view program context base image found told durable shown is few =
     λ i. record { program = program; epoch = ap (λ (x : Context). x.epoch) told i; marks = ap (λ (x : Context). x.marks) told i; changed = same i } in
     ap (λ (key : KeyValue). Some key) parts ∙ sym (ap (λ b. if b then None else Some (identity_of view program)) (le-ltb most_changed (length all) within))
 
+-- where too many sectors differ there is no key
 pub no_key : (view : ViewValue) (program : ℕ) (base image : List (List ℕ)) → base ≡ base_of view.log view.cut → image ≡ sectors_of view
     → most_changed < length (changed base image) → None ≡ key_of view program
 unfolding key_of

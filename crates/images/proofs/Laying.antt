@@ -65,6 +65,7 @@ sector_here es us u ds new old n le content long below kept =
     ∙ sym (byte_after-push es us u ds u.sector i)
     ∙ sym (get_or-map-range_with_len byte 0 512 i i 0 within here))
 
+-- laying units keeps the number of sectors
 pub length-device_after : (sectors : ℕ) (es : List Entry) (us : List LogUnit) (ds : List Departure) → length (device_after sectors es us ds) ≡ sectors
 unfolding device_after
 length-device_after sectors es us ds = length-map-range_with_len (sector_after es us ds) 0 sectors

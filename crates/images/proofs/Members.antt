@@ -19,6 +19,7 @@ use Rattle.images.specs.declared.torn.TornSector.{TornSector}
 use Rattle.images.specs.Views.{IsMember}
 use Rattle.images.specs.Table.{AreVolatile, AreTorn, IsView}
 
+-- the cut of a choice of a plan is one of its log
 pub member_cut : (plan : PlanValue) (choice : ChoiceValue) → IsMember plan choice → choice.cut ≤ length plan.log.entries
 unfolding ranked choice_of
 member_cut plan choice is =
@@ -44,6 +45,7 @@ departed units picks m P are each i d there = elim (slice_get_cases picks i).1 [
   | inr past ↦ absurd (let bad : None ≡ Some d = sym (ap (option_map (departure_of units)) past.1) ∙ sym (slice_get-map (departure_of units) picks i) ∙ there in cc)
 ]
 
+-- and its departures are volatile units of that cut
 pub member_departs : (plan : PlanValue) (choice : ChoiceValue) → IsMember plan choice → AreVolatile plan.log choice.cut choice.departures
 unfolding ranked choice_of
 member_departs plan choice is =

@@ -30,15 +30,18 @@ covering_own : (s : ℕ) (us : List LogUnit) (u : LogUnit) → s ≡ u.sector �
 covering_own s us u here =
     sym (covering-push s us u ∙ ap (λ b. covering s us ++ cond b (u ∷ []) []) (eq-eqb u.sector s (sym here)))
 
+-- a unit of another sector changes nothing
 pub covering_other : (s : ℕ) (us : List LogUnit) (u : LogUnit) → s ≢ u.sector → covering s us ≡ covering s (us ++ u ∷ [])
 covering_other s us u other =
     sym (covering-push s us u ∙ ap (λ b. covering s us ++ cond b (u ∷ []) []) (ne_eqb u.sector s (λ e. other (sym e)))
     ∙ append-nil (covering s us))
 
+-- a row for each sector
 pub length-rows_of : (sectors : ℕ) (us : List LogUnit) → length (rows_of sectors us) ≡ sectors
 unfolding rows_of
 length-rows_of sectors us = length-map-range_with_len (λ s. covering s us) 0 sectors
 
+-- and in it the units that cover the sector
 pub row_at : (sectors : ℕ) (us : List LogUnit) (s : ℕ) (d : List LogUnit) → s < sectors → slice_index_or (rows_of sectors us) s d ≡ covering s us
 unfolding rows_of
 row_at sectors us s d lt =
@@ -76,6 +79,7 @@ unfolding rows_of covering
 one_row_more n =
     sym (ap (map (λ (s : ℕ). [])) (range_with_len-more 0 n) ∙ map-append (λ (s : ℕ). []) (range_with_len 0 n) ((0 + n) ∷ []))
 
+-- the empty rows are made one after the other
 pub no_row : [] ≡ rows_of 0 []
 unfolding rows_of
 no_row = refl
@@ -88,6 +92,7 @@ pub more_rows : {R : Type 0} (f : R → List LogUnit) (rs new : List R) (r : R) 
 more_rows f rs new r n is none was =
     ap (map f) is ∙ map-append f rs (r ∷ []) ∙ ap (λ row. map f rs ++ row ∷ []) none ∙ ap (λ rows. rows ++ [] ∷ []) was ∙ one_row_more n
 
+-- rows that are those of some units are as many as the sectors
 pub rows_long : {R : Type 0} (f : R → List LogUnit) (rs : List R) (sectors : ℕ) (us : List LogUnit) → map f rs ≡ rows_of sectors us → length rs ≡ sectors
 rows_long f rs sectors us is =
     let long = length-map rs f in
@@ -102,6 +107,7 @@ mapped_there f rs rows n r is lt d =
     sym (get_or_from_slice_get (map f rs) n (f (slice_index_or rs n r)) d (slice_get-map f rs n ∙ ap (option_map f) there))
     ∙ ap (λ xs. slice_index_or xs n d) is
 
+-- the table of a history: the row of a sector, and how many rows there are
 pub table_row : {R : Type 0} (f : R → List LogUnit) (rs : List R) (log : LogValue) (n : ℕ) (r : R) → IsTable log (map f rs) → n < log.sectors
     → f (slice_index_or rs n r) ≡ versions log.entries (length log.entries) n
 table_row f rs log n r is lt =
@@ -127,6 +133,7 @@ pushed f rs us u old new lt is read more =
     (more ∙ ap (λ row. row ++ u ∷ [])
     (ap f read ∙ mapped_there f rs (rows_of (length rs) us) u.sector old is lt [] ∙ row_at (length rs) us u.sector [] lt))
 
+-- a unit was put into the rows, whose number stayed
 pub filled_on : {R : Type 0} (f : R → List LogUnit) (rs new : List R) (sectors : ℕ) (us : List LogUnit) (u : LogUnit) → map f rs ≡ rows_of sectors us
     → (map f rs ≡ rows_of (length rs) us → map f new ≡ rows_of (length rs) (us ++ u ∷ [])) → map f new ≡ rows_of sectors (us ++ u ∷ [])
 filled_on f rs new sectors us u was step =
@@ -199,6 +206,7 @@ later_by es k (suc m) le = elim (slice_get_cases es (k + m)).1 [
   | inr past ↦ absurd (omega (arith, past.0, le))
 ]
 
+-- the units of later entries stand behind
 pub later_units : (es : List Entry) (k n : ℕ) → k ≤ n → n ≤ length es → Later es k n
 later_units es k n le within =
     let back : k + (n - k) ≡ n = omega (arith, le) in
@@ -279,6 +287,7 @@ split_at row xs ys k count is below above bound before behind =
     ] in
     ap (λ n. take n row) here ∙ ap (take (length xs)) is ∙ take-append_seam xs ys
 
+-- the units of a row that stand before a cut are its first, as many as the search counts
 pub versions_before : (es : List Entry) (n k s count : ℕ) (row : List LogUnit) → row ≡ versions es n s → k ≤ n → n ≤ length es → count ≤ length row
     → ((i : ℕ) (d : LogUnit) → i < count → (slice_index_or row i d).entry < k)
     → ((i : ℕ) (d : LogUnit) → count ≤ i → i < length row → k ≤ (slice_index_or row i d).entry)

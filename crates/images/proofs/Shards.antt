@@ -8,6 +8,7 @@ use Rattle.images.specs.Keys.{KeyValue, shard_of}
 wrapped : (n : ℕ) → n % 2 ^ 64 % 16 ≡ n % 16
 wrapped n = omega arith
 
+-- the sum over all sectors of a key gives its shard
 pub sum_of_all : (key : KeyValue) (sectors : List ChangedSector) (i sum : ℕ) → sectors ≡ key.changed → length sectors ≤ i
     → sum ≡ (key.program + sum_by (λ (sector : ChangedSector). mix sector.content + sector.number) (take i sectors)) % 2 ^ 64
     → sum % 16 ≡ shard_of key

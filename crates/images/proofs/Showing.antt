@@ -35,6 +35,7 @@ unfolding showing
 showing-push ds us u =
     ap (last_or None) (filter-append (survives ds 0) us (u ∷ [])) ∙ last_of (filter (survives ds 0) us) u (survives ds 0 u)
 
+-- one unit more: it shows where something of it survives, else what showed before
 pub showing_own : (ds : List Departure) (us : List LogUnit) (u : LogUnit) → survives ds 0 u ≡ true → showing ds (us ++ u ∷ []) ≡ Some u
 showing_own ds us u kept = showing-push ds us u ∙ ap (λ b. if b then Some u else showing ds us) kept
 
@@ -48,6 +49,7 @@ step_back row left d some le =
     let back : left ≡ suc (left - 1) = omega (arith, some) in
     ap (λ n. take n row) back ∙ take-suc_place row (left - 1) (slice_index_or row (left - 1) d) (slice_get-get_or row (left - 1) d (omega (arith, some, le)))
 
+-- the search from the last unit back: it shows, it shows not, or none is left
 pub found : (ds : List Departure) (row : List LogUnit) (left n : ℕ) (d : LogUnit) → 0 < left → left ≤ length row → showing ds (take left row) ≡ showing ds row
     → survives ds 0 (slice_index_or row (left - 1) d) ≡ nat_lt 0 (64 * n) → 0 < n → Some (slice_index_or row (left - 1) d) ≡ showing ds row
 found ds row left n d some le was kept more =
@@ -167,6 +169,7 @@ no_unit es ds s = record {
   there = λ u at. absurd (let bad : None ≡ Some u = at in cc);
 }
 
+-- this holds of each list of units
 pub shows : (es : List Entry) (ds : List Departure) (s : ℕ) (vs : List LogUnit) → Shows es ds s vs
 shows es ds s vs = onto (λ us. Shows es ds s us) (one_more es ds s) [] vs (no_unit es ds s)
 

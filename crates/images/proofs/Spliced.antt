@@ -24,6 +24,7 @@ use Rattle.images.proofs.Showing.{shows, sector_by_bytes}
 in_front : (row : List LogUnit) (last : ℕ) (u : LogUnit) → suc last ≡ length row → slice_get row last ≡ Some u → take last row ++ u ∷ [] ≡ row
 in_front row last u long there = sym (take-suc_place row last u there) ∙ take_all (suc last) row (omega (arith, long))
 
+-- the last unit keeps n eighths: its head stands before what the units before it leave
 pub spliced : (es : List Entry) (row : List LogUnit) (ds : List Departure) (s last : ℕ) (u : LogUnit) (new old : List ℕ) (n : ℕ)
     → suc last ≡ length row → slice_get row last ≡ Some u → u.sector ≡ s → n ≤ 8
     → new ≡ unit_content es u → length new ≡ 512 → old ≡ sector_after es (take last row) ds s
@@ -33,6 +34,7 @@ spliced es row ds s last u new old n long there here le content size below kept 
     sector_here es (take last row) u ds new old n le content size (below ∙ ap (sector_after es (take last row) ds) (sym here)) kept
     ∙ ap (sector_after es (take last row ++ u ∷ []) ds) here ∙ ap (λ us. sector_after es us ds s) (in_front row last u long there)
 
+-- the last unit is whole: its content stands
 pub whole_last : (es : List Entry) (row : List LogUnit) (ds : List Departure) (s last : ℕ) (u : LogUnit) (new : List ℕ) (n : ℕ)
     → suc last ≡ length row → slice_get row last ≡ Some u → u.sector ≡ s → n ≡ 8
     → new ≡ unit_content es u → length new ≡ 512
@@ -47,10 +49,12 @@ whole_last es row ds s last u new n long there here all content size kept =
     sym front ∙ sym (append-nil (take 512 new)) ∙ ap (λ xs. take 512 new ++ xs) (sym behind)
     ∙ spliced es row ds s last u new old 8 long there here (omega arith) content size refl full
 
+-- no unit covers the sector: zeros stand
 pub nothing : (es : List Entry) (row : List LogUnit) (ds : List Departure) (s : ℕ) → length row ≡ 0 → replicate {A = ℕ} 512 0 ≡ sector_after es row ds s
 nothing es [] ds s none = sym (zero_sector es ds s)
 nothing es (u ∷ us) ds s none = absurd (omega (arith, none))
 
+-- an element of a prefix is one of the list
 pub in_take : (n : ℕ) (us : List LogUnit) (i : ℕ) (u : LogUnit) → slice_get (take n us) i ≡ Some u → slice_get us i ≡ Some u
 in_take zero us i u h = absurd (let bad : None ≡ Some u = h in cc)
 in_take (suc n) [] i u h = absurd (let bad : None ≡ Some u = h in cc)
@@ -73,6 +77,7 @@ no_writer : (ds : List Departure) (s i : ℕ) (v : LogUnit) → (v.sector == s) 
 unfolding writes
 no_writer ds s i v other = rw other refl
 
+-- units of other sectors do not change what is left of a sector
 pub sector_of_row : (es : List Entry) (us : List LogUnit) (ds : List Departure) (s : ℕ) → sector_after es (covering s us) ds s ≡ sector_after es us ds s
 unfolding sector_after byte_after covering
 sector_of_row es us ds s =
@@ -89,6 +94,7 @@ lent_zeros es k s ds none =
     sector_by_bytes es (units_before es k) ds s zeros (length-replicate {A = ℕ} 512 0)
     (λ i lt. all.nobody none i ∙ sym (get_or-replicate {A = ℕ} 512 i 0 0 lt))
 
+-- the unit that shows is whole: its content can be lent for the sector
 pub lent_whole : (es : List Entry) (k s : ℕ) (ds : List Departure) (u : LogUnit) (content : List ℕ) (n : ℕ) → showing ds (versions es k s) ≡ Some u
     → ((i : ℕ) → i < 512 → survives ds i u ≡ nat_lt i (64 * n)) → n ≡ 8 → content ≡ unit_content es u → length content ≡ 512
     → content ≡ sector_after es (units_before es k) ds s
@@ -107,6 +113,7 @@ torn_by : (ds : List Departure) (row : List LogUnit) (u : LogUnit) → showing d
 unfolding is_torn
 torn_by ds row u at = ap (λ o. option_map_or (λ (v : LogUnit). not (survives ds 511 v)) o false) at
 
+-- the unit that shows is whole, so the sector is not torn; it is not whole, so the sector is
 pub not_torn_whole : (ds : List Departure) (row : List LogUnit) (u : LogUnit) (n : ℕ) → showing ds row ≡ Some u
     → ((i : ℕ) → i < 512 → survives ds i u ≡ nat_lt i (64 * n)) → n ≡ 8 → false ≡ is_torn ds row
 not_torn_whole ds row u n at kept all =

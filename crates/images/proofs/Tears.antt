@@ -24,6 +24,7 @@ pub record TornSoFar (log : LogValue) (cut : ℕ) (ds : List Departure) (n : ℕ
   pub each : (i : ℕ) (d : Departure) → i < n → slice_get ds i ≡ Some d → is_torn ds (versions log.entries cut d.unit.sector) ≡ true
       → HasSector torn d.unit.sector
 
+-- the loop over the departures: the torn sectors before it, with one more, and at its end
 pub none_torn : (log : LogValue) (cut : ℕ) (ds : List Departure) (torn : List TornSector) → torn ≡ [] → TornSoFar log cut ds 0 torn
 none_torn log cut ds torn none =
     let first : TornSoFar log cut ds 0 [] = record {
@@ -131,6 +132,7 @@ all_torn log cut ds n torn is le units all so = record {
       (has.0, has.1, has.2, has.3 ∙ sector);
 }
 
+-- that nothing is found, by the two tests of an option
 pub torn_if : {A : Type 0} (o : Option A) (t b : Bool) → is_some o ≡ not b → is_none o ≡ t → b ≡ t
 torn_if None t true some none = none
 torn_if None t false some none = absurd (let bad : false ≡ true = some in cc)

@@ -89,6 +89,7 @@ flushed_before es (suc m) k e le none =
     ] in
     by (is_flush_at es m) refl
 
+-- a volatile unit stands at the last flush entry or behind it
 pub volatile_behind : (es : List Entry) (k : ℕ) (u : LogUnit) → IsVolatile es k u → last_flush es k ≤ u.entry
 volatile_behind es k u is = flushed_before es k k u.entry (omega arith) is.flushed
 
@@ -125,6 +126,7 @@ none_lost es ds s flush le behind =
     (filter_within (writes ds s i) (writes [] s i) (units_before es flush)
     (all_units (λ u. writes ds s i u ≡ writes [] s i u) es flush le (λ e x p lt there within. writes_alike ds s i flush (unit_of e x p) behind lt))) j)
 
+-- the last flush entry is not behind the cut
 pub flush_within : (es : List Entry) (k : ℕ) → last_flush es k ≤ k
 flush_within es zero = omega arith
 flush_within es (suc k) =
@@ -159,6 +161,7 @@ device_there sectors es us ds n lt =
     slice_get-get_or (map f (range_with_len 0 sectors)) n [] (omega (arith, long, lt))
     ∙ ap (λ s. Some s) (get_or-map-range_with_len f 0 sectors n n [] lt here)
 
+-- a sector of an image, and one of its base
 pub view_there : (view : ViewValue) (n : ℕ) → n < view.log.sectors
     → slice_get (sectors_of view) n ≡ Some (sector_after view.log.entries (units_before view.log.entries view.cut) view.departures n)
 unfolding sectors_of

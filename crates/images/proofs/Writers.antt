@@ -11,6 +11,7 @@ use Rattle.choices.specs.declared.choice.Departure.{Departure}
 use Rattle.images.specs.Images.{writes, byte_after}
 use Rattle.images.specs.Laws.{LastWriterShows}
 
+-- the last of a list to which one was added
 pub last_or-push : (o : Option LogUnit) (us : List LogUnit) (u : LogUnit) → last_or o (us ++ u ∷ []) ≡ Some u
 last_or-push o [] u = refl
 last_or-push o (x ∷ xs) u = last_or-push (Some x) xs u
@@ -33,6 +34,7 @@ nothing_left : (es : List Entry) (ds : List Departure) (s i : ℕ) → byte_afte
 unfolding byte_after
 nothing_left es ds s i = refl
 
+-- one unit more: it writes the byte, or leaves it
 pub byte_after_written : (es : List Entry) (us : List LogUnit) (u : LogUnit) (ds : List Departure) (s i : ℕ) → writes ds s i u ≡ true
     → byte_after es (us ++ u ∷ []) ds s i ≡ slice_index (unit_content es u) i
 byte_after_written es us u ds s i h =

@@ -16,6 +16,7 @@ use Rattle.images.specs.Keys.{KeyValue}
 unfoldable pub same_sector : ChangedSector → ChangedSector → Bool
 same_sector a b = (a.number == b.number) && pointwise nat_eq a.content b.content
 
+-- two keys are the same in all that they hold
 unfoldable pub same_key : KeyValue → KeyValue → Bool
 same_key a b = (a.program == b.program) && ((a.epoch == b.epoch) && ((a.marks == b.marks) && pointwise same_sector a.changed b.changed))
 
@@ -23,6 +24,7 @@ same_key a b = (a.program == b.program) && ((a.epoch == b.epoch) && ((a.marks ==
 unfoldable pub sector_input : ChangedSector → HashWrites
 sector_input sector = fed.u32 sector.number ++ fed.u64 (mix sector.content)
 
+-- what a key gives to a hasher
 unfoldable pub key_input : KeyValue → HashWrites
 key_input key = fed.u8 key.program ++ fed.u32 key.epoch ++ fed.u32 key.marks ++ fed.slice sector_input key.changed
 
@@ -79,6 +81,7 @@ equivalence E same = record {
   congr = λ x y z e. ap (λ w. E w z) ((same x y).0 e);
 }
 
+-- both tests are equivalences, and what is the same gives a hasher the same
 pub sector_equivalence : IsEquivalence same_sector
 sector_equivalence = equivalence same_sector sector_decides
 

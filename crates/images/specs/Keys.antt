@@ -24,6 +24,7 @@ content_at image n = slice_index_or image n []
 unfoldable pub differs : List (List ℕ) → List (List ℕ) → ℕ → Bool
 differs base image n = not (pointwise nat_eq (content_at base n) (content_at image n))
 
+-- a sector of an image, with its content
 abbrev pub with_content : List (List ℕ) → ℕ → ChangedSector
 with_content image n = record { number = n; content = content_at image n }
 
@@ -39,6 +40,7 @@ changed base image = changed_below base image (length image)
 abbrev pub most_changed : ℕ
 most_changed = 64
 
+-- a key
 pub record KeyValue : Type 0 where
   pub program : ℕ
   pub epoch : ℕ

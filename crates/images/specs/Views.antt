@@ -9,6 +9,7 @@ use Rattle.choices.specs.Choices.{ChoiceValue, ranked}
 use Rattle.helpers.specs.declared.device.Context.{Context}
 use Rattle.images.specs.Images.{crash_image}
 
+-- an image: the log, the cut and the departures
 pub record ViewValue : Type 0 where
   pub log : LogValue
   pub cut : ℕ

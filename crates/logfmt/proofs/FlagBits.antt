@@ -4,6 +4,7 @@ use Rattle.std.proofs.lemmas.Bool.Decides.{nat_tests}
 use Rattle.logfmt.specs.declared.flags.Flags.{Flags}
 use Rattle.logfmt.specs.Flags.{flag_word, has_bit}
 
+-- each flag is its bit of the word of flags
 pub flag_flush : (f : Flags) → f.flush ≡ has_bit (flag_word f) 1
 unfolding flag_word has_bit
 flag_flush f = grind (arith, nat_tests)

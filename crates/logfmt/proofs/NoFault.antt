@@ -116,6 +116,7 @@ text_passes bytes log i text h =
       | inr past ↦ absurd (omega (arith, past.0, h))
     ]
 
+-- the two definitions agree: no check fails at a text of a log
 pub text_has_no_fault : TextHasNoFault
 text_has_no_fault bytes log cause at text fault =
     elim fault as (λ k n _. ⊥) [

@@ -14,6 +14,7 @@ use Rattle.logfmt.proofs.FlagBits.{flag_discard}
 use Rattle.logfmt.specs.declared.header.Header.{Header}
 use Rattle.logfmt.specs.Header.{HeaderStands}
 
+-- the first n entries are read, the next header stands in sector p, and the entries have u units
 pub record Progress (bytes : List ℕ) (sectors : ℕ) (es : List Entry) (n p u : ℕ) : Type 0 where
   pub count : length es ≡ n
   pub placed : place es n ≡ p
@@ -42,6 +43,7 @@ place-last es e =
     let last : slice_get (es ++ e ∷ []) (length es) ≡ Some e = slice_get-push es e in
     rw (here, last) refl
 
+-- before the first entry
 pub start : (bytes : List ℕ) (sectors : ℕ) → 512 ≤ length bytes → Progress bytes sectors [] 0 1 0
 start bytes sectors h = record {
   count = refl;
@@ -61,6 +63,7 @@ pub same_data : (bytes : List ℕ) (p : ℕ) (e : Entry) → StandsAt bytes p e 
 same_data bytes p e stands =
     rw (stands.count, flag_discard e.flags, stands.flags) refl
 
+-- one entry more, whose header passes its checks
 pub go_on : (bytes : List ℕ) (sectors : ℕ) (es : List Entry) (n p u : ℕ) (e : Entry)
     → Progress bytes sectors es n p u
     → first_failing (entry_checks bytes sectors p u) ≡ None

@@ -32,6 +32,7 @@ abbrev pub units_before : List ℕ → ℕ → ℕ
 units_before bytes zero = 0
 units_before bytes (suc i) = units_before bytes i + count_at bytes (header bytes i)
 
+-- the checks of the super block, in their order
 unfoldable pub super_checks : List ℕ → List (Check LogCause)
 super_checks bytes =
     check cause.Short (nat_le 512 (length bytes))

@@ -25,6 +25,7 @@ pub record StandsAt (bytes : List ℕ) (p : ℕ) (e : Entry) : Type 0 where
   pub text : e.text ≡ slice_range bytes (512 * p + 32) (512 * p + 32 + length e.text)
   pub content : e.content ≡ slice_range bytes (512 * (p + 1)) (512 * (p + 1 + data_of e))
 
+-- each entry stands at its place in the bytes
 abbrev pub AllStand : List ℕ → List Entry → Type 0
 AllStand bytes es = (i : ℕ) (e : Entry) → slice_get es i ≡ Some e → StandsAt bytes (place es i) e
 

@@ -10,6 +10,9 @@ use std::marker::Model;
 /// The length of a sector, in bytes.
 pub const SECTOR: usize = 512;
 
+/// How many bytes of text fit the header of a mark.
+pub(crate) const MAX_TEXT: usize = 480;
+
 /// An entry of a log (docs/LOG-FORMAT.md, Entry header).
 #[derive(Drop)]
 pub struct Entry {
@@ -17,6 +20,7 @@ pub struct Entry {
     pub sector: u64,
     /// How many sectors it covers.
     pub count: u64,
+    /// What the entry asks of the device, and whether it is a mark.
     pub flags: Flags,
     /// The text of a mark; empty for any other entry.
     pub text: Bytes,

@@ -10,7 +10,9 @@ use thiserror::Error;
 #[derive(Clone, Copy, Debug, PartialEq, Eq, Error)]
 #[error("entry {at}: {code}")]
 pub struct LogFault {
+    /// The first check that fails.
     pub code: LogCause,
+    /// The number of the entry where it fails, from 0; 0 for the super block and for want of memory.
     pub at: u32,
 }
 

@@ -6,20 +6,22 @@ ghost use Rattle.logfmt.specs.Faults.{entry_checks, has_mark_form};
 ghost use Rattle.logfmt.specs.Flags.{has_bit};
 ghost use Rattle.logfmt.specs.Header.{HeaderStands, HeaderFits, IsMarkHeader};
 
-use crate::entry::SECTOR;
+use crate::entry::{MAX_TEXT, SECTOR};
 use crate::flags::Flags;
 use base::causes::LogCause;
 use base::numbers::u64_at;
 
+/// How many units a log may have: one for each sector of a write or a discard.
 const MAX_UNITS: u64 = 262_144;
-
-const MAX_TEXT: u64 = 480;
 
 /// The fields of an entry's header.
 #[derive(Clone, Copy)]
 pub(crate) struct Header {
+    /// The first sector of the device that the entry covers.
     pub sector: u64,
+    /// How many sectors it covers.
     pub count: u64,
+    /// Its flags, of which none is unknown.
     pub flags: Flags,
     /// The length of a mark's text.
     pub text_length: u64,
@@ -42,7 +44,7 @@ impl Header {
             && !flags.fua
             && !flags.discard
             && self.count == 0
-            && self.text_length <= MAX_TEXT
+            && self.text_length <= MAX_TEXT as u64
     }
 
     /// Whether the entry lies on a device of that many sectors, or covers none.

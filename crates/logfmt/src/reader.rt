@@ -18,8 +18,10 @@ use base::causes::LogCause;
 use base::numbers::{u32_at, u64_at};
 use std::alloc::{AllocError, Global};
 
+/// How many bytes a log may have: 64 MiB.
 const MAX_BYTES: usize = 67_108_864;
 
+/// How many entries a log may have.
 const MAX_ENTRIES: u64 = 65_536;
 
 /// The cause for which the super block is refused, if there is one.

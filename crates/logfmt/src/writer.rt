@@ -3,14 +3,13 @@
 ghost use Rattle.std.specs.Prelude.{◌≡◌, ◌≤◌, ◌++◌, length, IfOk, OnOk};
 ghost use Rattle.logfmt.specs.LogText.{super_sector, header_sector, entry_sectors, canonical_text};
 
-use crate::entry::{Entry, Log};
+use crate::entry::{Entry, Log, MAX_TEXT};
 use crate::{MAGIC, VERSION};
 use base::numbers::{put_u32, put_u64, put_zeros};
 use std::alloc::{AllocError, Global};
 
+/// How many bytes of the super block no field uses.
 const UNUSED_IN_SUPER: usize = 484;
-
-const ROOM_FOR_TEXT: usize = 480;
 
 /// Appends the super block of a log of `count` entries.
 #[tactic(auto, unfolding(crate::specs::LogText::super_sector))]
@@ -36,7 +35,7 @@ fn put_header(out: &mut Vec<u8>, entry: &Entry) -> Result<(), AllocError>
     put_u64(out, entry.flags.word())?;
     put_u64(out, text.len() as u64)?;
     out.extend_from_slice(text)?;
-    put_zeros(out, ROOM_FOR_TEXT - text.len())
+    put_zeros(out, MAX_TEXT - text.len())
 }
 
 /// Appends the header of an entry and its data.
