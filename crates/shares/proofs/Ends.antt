@@ -160,7 +160,7 @@ module _ (limits : Limits) (slots id : ℕ) (v : View) (c : List (ℕ × Unit {0
         keeps,
         tt,
         same_rule limits s (slice_set s.words 0 (slice_index s.words 0)) (slice_set s.views id v) ((λ i. slice_set (h.words i) 0 (slice_index (h.words i) 0)) ∙ sym h.words) (set_again s.views id v at) h,
-        (refl, subst (λ n. DrewBelow n (λ b. draws b v.steps)) (sym found) (all_draws s h at)),
+        (refl, subst (λ n. DrewBelow n (λ b. draws b v.steps)) (sym found) (all_draws s h at), let below = (h.each id v at).below in omega arith),
       )
 
   pub learns_least : Allows (BoardRule limits) slots id (v, c) 1 (λ n. n) (learned_least st (v, c))
@@ -172,5 +172,5 @@ module _ (limits : Limits) (slots id : ℕ) (v : View) (c : List (ℕ × Unit {0
         keeps,
         tt,
         same_rule limits s (slice_set s.words 1 (slice_index s.words 1)) (slice_set s.views id v) ((λ i. slice_set (h.words i) 1 (slice_index (h.words i) 1)) ∙ sym h.words) (set_again s.views id v at) h,
-        (refl, found ∙ h.lowest ∙ mine),
+        (refl, found ∙ h.lowest ∙ mine, let above = (h.each id v at).above in omega arith),
       )

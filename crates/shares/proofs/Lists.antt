@@ -29,6 +29,11 @@ module _ {A : Type 0} (f : A → ℕ) where
   total_at_most g [] each = omega arith
   total_at_most g (x ∷ xs) each = omega (arith, each zero x refl, total_at_most g xs (λ j. each (suc j)))
 
+  -- where each element's number is the sum of two
+  pub total_parts : (g h : A → ℕ) → ((x : A) → f x ≡ g x + h x) → (xs : List A) → total f xs ≡ total g xs + total h xs
+  total_parts g h each [] = omega arith
+  total_parts g h each (x ∷ xs) = omega (arith, each x, total_parts g h each xs)
+
   pub greatest_snoc : (xs : List A) (x : A) → greatest_of f (xs ++ x ∷ []) ≡ max (greatest_of f xs) (f x)
   greatest_snoc [] x = omega arith
   greatest_snoc (y ∷ ys) x = omega (arith, greatest_snoc ys x)

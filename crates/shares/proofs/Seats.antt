@@ -1,17 +1,18 @@
 -- What a seat keeps over its steps, and what the seats know together.
-use Rattle.std.proofs.Common.{◌≡◌, ℕ, ◌+◌, ◌<◌, ◌≤◌, leb, List, [], ◌∷◌, ◌++◌, length, All, Some, slice_get, sym, ap, ◌∙◌, subst, ⊎_elim, append-nil, length-append, arith}
-use Rattle.std.proofs.lemmas.Bool.Decides.{leb_tells}
+use Rattle.std.proofs.Common.{◌≡◌, ℕ, zero, suc, ◌+◌, ◌-◌, ◌<◌, ◌≤◌, leb, List, [], ◌∷◌, ◌++◌, length, All, None, Some, slice_get, sym, refl, ap, ◌∙◌, subst, ⊎_elim, append-nil, length-append, arith}
+use Rattle.std.proofs.lemmas.Bool.Decides.{leb_tells, nat_tests}
 use Rattle.std.proofs.lemmas.List.Concat.{flat_map-append}
 use Rattle.std.proofs.lemmas.Option.{get_or_from_slice_get, slice_get_within}
 use Rattle.base.proofs.Lists.{slice_get-append_right}
 use Rattle.atomic_table.specs.Table.{Me}
 use Rattle.shares.specs.declared.view.SeatStep.{SeatStep}
 use Rattle.shares.specs.declared.view.View.{View}
-use Rattle.shares.specs.Steps.{bit, drew_late, late_draws, draws}
+use Rattle.shares.specs.declared.view.SeatStep.TheVariants.{Drew}
+use Rattle.shares.specs.Steps.{bit, drew, drew_late, late_draws, draws, shown_next, shown_least, next_seen, least_seen}
 use Rattle.shares.specs.Board.{known, with_step, DrewBelow}
 use Rattle.shares.specs.Moves.{joined}
 use Rattle.shares.specs.Seats.{SeatValue, all_steps, IsFirstUndrawn, AreDrawnOnce}
-use Rattle.shares.proofs.Lists.{total_snoc}
+use Rattle.shares.proofs.Lists.{total_snoc, total_parts, greatest_append, least_append}
 
 -- a seat's token after one step
 pub after_step : (blocks : ℕ) (made : SeatStep) (me after : Me (Unit {0}) View) (ended now_ended : ℕ) → (me.1 ≡ []) × (me.0.parts ≡ 1) × (late_draws blocks me.0.steps ≡ ended)
@@ -49,3 +50,41 @@ first_undrawn blocks next steps lt drew_below = record { there = lt; undrawn = (
 
 pub all_drawn : (blocks next : ℕ) (steps : List SeatStep) → blocks ≤ next → DrewBelow next (λ b. draws b steps) → AreDrawnOnce blocks steps
 all_drawn blocks next steps le drew_below = record { once = λ b lt. (drew_below b).0 (omega arith) }
+
+-- the steps that found none of those blocks left: those that drew the next number, and the others
+late_draws_from : (blocks : ℕ) (steps : List SeatStep) → late_draws blocks steps ≡ late_draws (blocks + 1) steps + draws blocks steps
+late_draws_from blocks steps = total_parts (drew_late blocks) (drew_late (blocks + 1)) (drew blocks) one steps
+  where
+    one : (made : SeatStep) → drew_late blocks made ≡ drew_late (blocks + 1) made + drew blocks made
+    one (Drew found) = grind (arith, nat_tests)
+    one _ = refl
+
+-- where so many numbers past the blocks were drawn, so many draws found none left
+late_numbers : (more blocks : ℕ) (steps : List SeatStep) → ((b : ℕ) → b < blocks + more → draws b steps ≡ 1) → more ≤ late_draws blocks steps
+late_numbers zero blocks steps once = omega arith
+late_numbers (suc more) blocks steps once =
+    let here : draws blocks steps ≡ 1 = once blocks (omega arith) in
+    let behind = late_numbers more (blocks + 1) steps (λ b lt. once b (omega arith)) in
+    omega (arith, late_draws_from blocks steps)
+
+pub seen_within : (blocks next : ℕ) (steps : List SeatStep) → blocks ≤ next → DrewBelow next (λ b. draws b steps) → next_seen steps ≤ next → next_seen steps ≤ blocks + late_draws blocks steps
+seen_within blocks next steps le drew_below seen = omega (arith, late_numbers (next - blocks) blocks steps (λ b lt. (drew_below b).0 (omega arith)))
+
+-- what a seat saw is among what all saw
+pub seen_by_one : (seats : List SeatValue) (i : ℕ) (seat : SeatValue) → slice_get seats i ≡ Some seat → (next_seen seat.steps ≤ next_seen (all_steps seats)) × (least_seen (all_steps seats) ≤ least_seen seat.steps)
+seen_by_one [] i seat at = absurd (let bad : None ≡ Some seat = at in cc)
+seen_by_one (s ∷ seats) zero seat at =
+    let same : s ≡ seat = some_same at in
+    let next = greatest_append shown_next s.steps (all_steps seats) in
+    let least = least_append shown_least s.steps (all_steps seats) in
+    let next_is = ap (λ (k : SeatValue). next_seen k.steps) same in
+    let least_is = ap (λ (k : SeatValue). least_seen k.steps) same in
+    (omega arith, omega arith)
+  where
+    some_same : Some s ≡ Some seat → s ≡ seat
+    some_same e = cc
+seen_by_one (s ∷ seats) (suc i) seat at =
+    let here = seen_by_one seats i seat at in
+    let next = greatest_append shown_next s.steps (all_steps seats) in
+    let least = least_append shown_least s.steps (all_steps seats) in
+    (omega (arith, here.0), omega (arith, here.1))

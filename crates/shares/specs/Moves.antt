@@ -45,9 +45,9 @@ saw_next st v n w = (w ≡ (with_step v.0 (SawNext n), v.1)) × (next_seen v.0.s
 abbrev pub entered : Made
 entered st v n w = w ≡ (newcomer, [])
 
--- who has every part learns which blocks were drawn, and the least image posted
+-- who has every part learns which blocks were drawn, and the least image posted; nothing that was seen is beyond them
 abbrev pub learned_next : Made
-learned_next st v n w = (w ≡ v) × DrewBelow n (λ b. draws b v.0.steps)
+learned_next st v n w = (w ≡ v) × DrewBelow n (λ b. draws b v.0.steps) × (next_seen v.0.steps ≤ n)
 
 abbrev pub learned_least : Made
-learned_least st v n w = (w ≡ v) × (n ≡ least_posted v.0.steps)
+learned_least st v n w = (w ≡ v) × (n ≡ least_posted v.0.steps) × (n ≤ least_seen v.0.steps)

@@ -3,7 +3,7 @@
 ghost use Rattle.std.specs.Prelude.{◌≡◌, ℕ, ◌+◌, ◌-◌, ◌<◌, ◌≤◌, [], ◌∷◌, ◌++◌, length, All, IfOk, IfErr, IfSome, IfNone, Err, None};
 ghost use Rattle.base.specs.declared.causes.WorkCause.TheVariants.{PieceMissing, SeatsMissing};
 ghost use Rattle.shares.specs.declared.view.SeatStep.TheVariants.{Drew, Posted, SawLeast, SawNext};
-ghost use Rattle.shares.specs.Steps.{image_or_none, least_posted, next_seen, least_seen};
+ghost use Rattle.shares.specs.Steps.{image_or_none, late_draws, least_posted, next_seen, least_seen};
 ghost use Rattle.shares.specs.Board.{known};
 ghost use Rattle.shares.specs.Moves.{less_one};
 ghost use Rattle.shares.specs.Seats.{HasEnded, DrawsNone, all_steps, IsFirstUndrawn, AreDrawnOnce};
@@ -186,13 +186,17 @@ impl Board {
     /// Ends the board, once all its seats are given back: the least image that was posted, if one was.
     ///
     /// Where seats are missing the refusal is 73 at their number, and else 71 at the first block that
-    /// nobody drew, where there is one.
+    /// nobody drew, where there is one. No seat has seen a later block drawn than that, or a lower image
+    /// posted than the answer.
     pub fn gather(self, seats: Vec<Seat>) -> Result<Option<u64>, Refusal>
         requires { All (λ s. s.board ≡ self.name) seats.items }
         ensures missing { length seats.items < self.seats → result ≡ Err (work_refusal SeatsMissing (self.seats - length seats.items)) }
         ensures undrawn { IfErr result (λ refusal. self.seats ≤ length seats.items → (refusal ≡ work_refusal PieceMissing refusal.at) × IsFirstUndrawn self.name.blocks (all_steps seats.items) refusal.at) }
+        ensures seen_undrawn { IfErr result (λ refusal. self.seats ≤ length seats.items → next_seen (all_steps seats.items) ≤ refusal.at) }
         ensures drawn { IfOk result (λ _. AreDrawnOnce self.name.blocks (all_steps seats.items)) }
+        ensures seen_drawn { IfOk result (λ _. next_seen (all_steps seats.items) ≤ self.name.blocks + late_draws self.name.blocks (all_steps seats.items)) }
         ensures least { IfOk result (λ least. least ≡ image_or_none (least_posted (all_steps seats.items))) }
+        ensures seen_least { IfOk result (λ _. least_posted (all_steps seats.items) ≤ least_seen (all_steps seats.items)) }
     {
         let wanted = usize::from(self.seats);
         let there = seats.len();
@@ -226,8 +230,11 @@ impl Board {
         requires table { whole.old.table_id ≡ self.now.name.table }
         requires all { self.now.seats ≤ whole.old.me.0.parts }
         ensures undrawn { IfErr result (λ refusal. (refusal ≡ work_refusal PieceMissing refusal.at) × IsFirstUndrawn self.now.name.blocks whole.old.me.0.steps refusal.at) }
+        ensures seen_undrawn { IfErr result (λ refusal. next_seen whole.old.me.0.steps ≤ refusal.at) }
         ensures drawn { IfOk result (λ _. AreDrawnOnce self.now.name.blocks whole.old.me.0.steps) }
+        ensures seen_drawn { IfOk result (λ _. next_seen whole.old.me.0.steps ≤ self.now.name.blocks + late_draws self.now.name.blocks whole.old.me.0.steps) }
         ensures least { IfOk result (λ least. least ≡ image_or_none (least_posted whole.old.me.0.steps)) }
+        ensures seen_least { IfOk result (λ _. least_posted whole.old.me.0.steps ≤ least_seen whole.old.me.0.steps) }
     {
         let drawn = self.table.shared.load::<LearnNext>(whole, NEXT);
         if drawn < u64::from(self.blocks) {

@@ -38,6 +38,10 @@
 //! - `gather` refuses with 73 at the number of seats that are missing, tested first, and with 71 at the
 //!   first block that nobody drew, exactly where there is one. Else each block was drawn once in the
 //!   steps of those seats, and the answer is the least image that they posted.
+//! - No seat has seen more than `gather` finds: at 71 no number of a next block above the block named;
+//!   else none above the number of blocks, but for those that draws found which came too late, each by
+//!   one at most; and no least image below the answer. So what a seat drew or saw drawn is drawn, and
+//!   where a seat saw an image posted, one of the seats posted it or one before it.
 //!
 //! Nothing is said of the order in time of two threads' calls.
 //!

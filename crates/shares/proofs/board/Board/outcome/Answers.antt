@@ -5,7 +5,7 @@ use Rattle.shares.proofs.Ends.{learns_next, learns_least}
 use Rattle.base.specs.declared.causes.WorkCause.TheVariants.{PieceMissing}
 use Rattle.shares.specs.Seats.{IsFirstUndrawn}
 use Rattle.base.specs.Refusals.{work_refusal}
-use Rattle.shares.proofs.Seats.{first_undrawn, all_drawn}
+use Rattle.shares.proofs.Seats.{first_undrawn, all_drawn, seen_within}
 use Rattle.shares.proofs.board.Board.outcome.Goals as goal
 
 pub load-drawn-requires : goal.load-drawn-requires
@@ -33,3 +33,13 @@ pub returns-clause-drawn : goal.returns-clause-drawn
 returns-clause-drawn c =
     let blocks = ap (λ d. d.name.blocks) c.self.view_is in
     all_drawn c.args.self.now.name.blocks c.load-drawn.result c.args.whole.now.me.0.steps (omega (arith, blocks, c.from.ensures, c.if-drawn-from.false)) c.load-drawn.ensures.2.1
+
+pub returns-then-drawn-from-clause-seen_undrawn : goal.returns-then-drawn-from-clause-seen_undrawn
+returns-then-drawn-from-clause-seen_undrawn c =
+    let at = ap (λ r. r.at) c.of_work.ensures in
+    omega (arith, c.load-drawn.ensures.2.2)
+
+pub returns-clause-seen_drawn : goal.returns-clause-seen_drawn
+returns-clause-seen_drawn c =
+    let blocks = ap (λ d. d.name.blocks) c.self.view_is in
+    seen_within c.args.self.now.name.blocks c.load-drawn.result c.args.whole.now.me.0.steps (omega (arith, blocks, c.from.ensures, c.if-drawn-from.false)) c.load-drawn.ensures.2.1 c.load-drawn.ensures.2.2
