@@ -27,6 +27,7 @@ entries_after kept.NoMemory entries capacity key outcome = entries
 -- a shard after a put with that answer
 abbrev pub after_put : Kept → ShardValue → KeyValue → Outcome → ShardValue
 after_put answer shard key outcome = record {
+  number = shard.number;
   entries = entries_after answer shard.entries shard.capacity key outcome;
   capacity = shard.capacity;
   hits = shard.hits;

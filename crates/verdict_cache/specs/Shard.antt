@@ -6,8 +6,10 @@ use Rattle.images.specs.Keys.{KeyValue}
 use Rattle.images.specs.Equal.{same_key}
 use Rattle.lru.specs.LruCache.{LruCache}
 
--- the entries, the most recently used first, how many there may be, and how many looks have found one
+-- the number of the shard among those of its cache, the entries, the most recently used first, how many there may be, and
+-- how many looks have found one
 pub record ShardValue : Type 0 where
+  pub number : ℕ
   pub entries : List (KeyValue × Outcome)
   pub capacity : ℕ
   pub hits : ℕ
@@ -27,6 +29,7 @@ counted hits = min (hits + 1) (2 ^ 64 - 1)
 -- a shard after a look that found the outcome
 abbrev pub after_look : ShardValue → KeyValue → Outcome → ShardValue
 after_look shard key outcome = record {
+  number = shard.number;
   entries = to_front shard.entries key outcome;
   capacity = shard.capacity;
   hits = counted shard.hits;
@@ -41,5 +44,5 @@ abbrev pub capacity_of : Option (LruCache KeyValue Outcome) → ℕ
 capacity_of None = 0
 capacity_of (Some cache) = cache.cap
 
-abbrev pub shard_value : Option (LruCache KeyValue Outcome) → ℕ → ShardValue
-shard_value cache hits = record { entries = entries_of cache; capacity = capacity_of cache; hits = hits }
+abbrev pub shard_value : ℕ → Option (LruCache KeyValue Outcome) → ℕ → ShardValue
+shard_value number cache hits = record { number = number; entries = entries_of cache; capacity = capacity_of cache; hits = hits }

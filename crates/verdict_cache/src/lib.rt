@@ -10,6 +10,7 @@
 //! | `shards(alloc, history, checkers, size)` | makes the shards of a run, empty, each behind a lock |
 //! | `shard.look(key)` | answers the outcome that is listed for a key, which becomes the most recently used |
 //! | `shard.put(key, outcome)` | lists an outcome for a key, and says what became of it (`Kept`) |
+//! | `shard.capacity()` | answers how many entries there may be |
 //! | `shard.hits()` | answers how many looks have found an entry |
 //! | `copy_of(outcome)` | answers the same outcome, for those who put one and keep one |
 //!
@@ -36,11 +37,15 @@
 //! - `put` brings the entry to the front. Its answer is determined by the entries, the capacity and the
 //!   key (`Answers`, `specs/Puts.antt`), but that memory for a new key may be refused; the entries after
 //!   it are `entries_after` that answer.
-//! - `shards` answers sixteen. That shard i begins without entries and with the capacity `size / 16`,
-//!   and one more where i is below `size % 16`, is the contract of the private function that makes them
-//!   (`first_shards`, `specs/Sizes.antt`): no contract can speak of what lies under a lock.
+//! - The shard of number i has the capacity `size / 16`, and one more where i is below `size % 16`
+//!   (`share_of`, `specs/Sizes.antt`). A shard's type keeps that too, so `look`, `put` and `capacity` say
+//!   so to whoever holds the lock.
+//! - `shards` answers sixteen. That they are those of the numbers 0 to 15 in this order, without entries,
+//!   is the contract of the private function that makes them (`first_shards`); another puts each behind
+//!   a lock, and no contract can name what lies there.
 //!
-//! A trait, `Run`, names the plan and the checkers in the types of the shards. Only contracts read it.
+//! A trait, `Run`, names the plan, the checkers and the size in the types of the shards. Only contracts
+//! read it.
 //!
 //! # Example
 //!

@@ -7,7 +7,7 @@ ghost use Rattle.images.specs.Equal.{same_key};
 ghost use Rattle.verdict_cache.specs.Endings.{IsEndingOf};
 ghost use Rattle.verdict_cache.specs.Shard.{listed, to_front, after_look};
 ghost use Rattle.verdict_cache.specs.Puts.{Answers, entries_after, after_put};
-ghost use Rattle.verdict_cache.specs.Sizes.{empty_shard};
+ghost use Rattle.verdict_cache.specs.Sizes.{share_of, empty_shard};
 
 use crate::copying::copy_of;
 use crate::kept::Kept;
@@ -19,12 +19,17 @@ use std::alloc::{AllocError, Global};
 use std::marker::{Model, PhantomData};
 use std::num::NonZeroUsize;
 
+/// Among how many shards the entries of a cache are spread.
+pub(crate) const SHARDS: u32 = 16;
+
 /// A shard of the verdict cache of a run: outcomes by key, at most so many, the most recently used
 /// first (docs/PROVED.md, Verdict cache). Each is what its key ends in, in that run.
 ///
-/// Contracts see its entries, its capacity, and how many looks have found an entry.
+/// Contracts see its number among the shards of the run, from 0, its entries, its capacity, and how many
+/// looks have found an entry.
 #[derive(Drop)]
 pub struct Shard<J: Run> {
+    number: u32,
     /// The entries; there is no map where the capacity is 0.
     cache: Option<LruCache<Key, Outcome>>,
     hits: u64,
@@ -32,26 +37,31 @@ pub struct Shard<J: Run> {
 }
 
 impl<J: Run> Model for Shard<J> {
+    ghost use Rattle.std.specs.Prelude.{◌≡◌};
     ghost use Rattle.verdict_cache.specs.Endings.{AreTrue};
-    ghost use Rattle.verdict_cache.specs.Shard.{ShardValue, entries_of, shard_value};
+    ghost use Rattle.verdict_cache.specs.Shard.{ShardValue, entries_of, capacity_of, shard_value};
+    ghost use Rattle.verdict_cache.specs.Sizes.{share_of};
 
     ghost Value = { ShardValue };
 
-    ghost view = { λ s. shard_value s.cache s.hits };
+    ghost view = { λ s. shard_value s.number s.cache s.hits };
 
-    ghost invariant = { λ s. AreTrue J.plan J.checkers (entries_of s.cache) };
+    ghost invariant = { λ s. AreTrue J.plan J.checkers (entries_of s.cache) × (capacity_of s.cache ≡ share_of J.size s.number) };
 }
 
 impl<J: Run> Shard<J> {
-    /// A shard without entries. Memory for entries is taken as they come.
-    pub fn new(alloc: Global, capacity: u32) -> Result<Shard<J>, AllocError>
-        ensures { IfOk result (λ shard. shard ≡ empty_shard capacity) }
+    /// The shard of that number, without entries, in a cache of at most so many entries. Memory for
+    /// entries is taken as they come.
+    pub fn new(alloc: Global, size: u32, number: u32) -> Result<Shard<J>, AllocError>
+        requires { size ≡ J.size }
+        ensures { IfOk result (λ shard. shard ≡ empty_shard size number) }
     {
-        let cache = match NonZeroUsize::new(capacity as usize) {
+        let cache = match NonZeroUsize::new(share_of(size, number) as usize) {
             Some(capacity) => Some(LruCache::sparse(alloc, capacity)?),
             None => None,
         };
         Ok(Shard {
+            number,
             cache,
             hits: 0,
             run: PhantomData,
@@ -63,6 +73,7 @@ impl<J: Run> Shard<J> {
         ensures answer { result ≡ listed self.old.entries key.now }
         ensures found { IfSome result (λ outcome. self.new ≡ after_look self.old key.now outcome) }
         ensures missing { IfNone result (self.new ≡ self.old) }
+        ensures share { self.old.capacity ≡ share_of J.size self.old.number }
         ensures told { IfSome result (λ outcome. IsEndingOf J.plan J.checkers key.now (ending_of outcome)) }
     {
         let Some(cache) = &mut self.cache else {
@@ -77,11 +88,23 @@ impl<J: Run> Shard<J> {
     pub fn put(&mut self, key: Key, outcome: Outcome) -> Kept
         requires { IsEndingOf J.plan J.checkers key (ending_of outcome) }
         ensures answer { Answers result self.old.entries self.old.capacity key }
+        ensures share { self.old.capacity ≡ share_of J.size self.old.number }
         ensures kept { self.new ≡ after_put result self.old key outcome }
     {
         match &mut self.cache {
             Some(cache) => put_in(cache, key, outcome),
             None => Kept::Off,
+        }
+    }
+
+    /// How many entries there may be: the part of the cache's size that is for the shard's number.
+    pub fn capacity(&self) -> usize
+        ensures capacity { result ≡ self.now.capacity }
+        ensures share { self.now.capacity ≡ share_of J.size self.now.number }
+    {
+        match &self.cache {
+            Some(cache) => cache.cap().get(),
+            None => 0,
         }
     }
 
@@ -91,6 +114,13 @@ impl<J: Run> Shard<J> {
     {
         self.hits
     }
+}
+
+/// How many entries a shard may have, by its number, in a cache of at most so many entries.
+fn share_of(size: u32, number: u32) -> u32
+    ensures { result ≡ share_of size number }
+{
+    size / SHARDS + u32::from(number < size % SHARDS)
 }
 
 /// The outcome of a key, whose entry becomes the most recently used.
