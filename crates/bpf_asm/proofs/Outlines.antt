@@ -15,8 +15,8 @@ use Rattle.bpf_asm.specs.declared.fault.AsmFault.{AsmFault}
 use Rattle.bpf_asm.specs.Parts.{lines}
 use Rattle.bpf_asm.specs.Operands.{Draft, ◌>>=◌}
 use Rattle.bpf_asm.specs.Statements.{Statement, Label, Instruction, Empty, statement_of}
-use Rattle.bpf_asm.specs.Says.{AreOnce, drafts_of, label_slot, slots_in, SaysNone, all_placed, placed, aim, away, memory_fault}
-use Rattle.bpf_asm.specs.Outlines.{slot_count, Holds, IsOutline, Fails, Adds, Breaks, unread, fails, Outlines}
+use Rattle.bpf_asm.specs.Says.{AreOnce, drafts_of, label_slot, slots_in, SaysNone, SaysNothing, all_placed, placed, aim, away, memory_fault}
+use Rattle.bpf_asm.specs.Outlines.{slot_count, Holds, IsOutline, Fails, Adds, Breaks, unread, fails, IsUnread, Outlines}
 
 -- the lines of what is left of a text
 abbrev pub lines_left : Option (Bor (List ℕ)) → List (List ℕ)
@@ -337,42 +337,57 @@ all_placed_take at slot (d ∷ ds) is e = by_first (placed at slot d) refl (λ o
     by_first None p ih = absurd (let bad : None ≡ Some is = rw p at e in cc)
     by_first (Some i) p ih = by_rest i p ih (all_placed at (slot + slots_in d) ds) refl (rw p at e)
 
--- a line that breaks what stands before it leaves no program
-pub no_program : (text : List ℕ) (left : Bor (List ℕ)) (line : ℕ) (o : code.Outline) (first : List ℕ) (behind : Option (Bor (List ℕ)))
-    → (h : SoFar text (Some left) line o) → FirstOf left.now first behind → Breaks first h.said → SaysNone text
-no_program text left line o first behind h f b slots s = by_cause b
+-- a line that breaks what stands before it breaks the text
+pub breaks_text : (text : List ℕ) (left : Bor (List ℕ)) (line : ℕ) (o : code.Outline) (first : List ℕ) (behind : Option (Bor (List ℕ)))
+    → (h : SoFar text (Some left) line o) → FirstOf left.now first behind → Breaks first h.said → IsUnread text
+breaks_text text left line o first behind h f b said read = by_cause b
   where
-    whole : map statement_of (h.done ++ first ∷ lines_left behind) ≡ map Some s.said
-    whole = ap (map statement_of) (sym (h.split ∙ ap (λ (x : List (List ℕ)). h.done ++ x) f.split)) ∙ s.read
+    whole : map statement_of (h.done ++ first ∷ lines_left behind) ≡ map Some said
+    whole = ap (map statement_of) (sym (h.split ∙ ap (λ (x : List (List ℕ)). h.done ++ x) f.split)) ∙ read
 
-    begins : Begins h.said s.said first
-    begins = begins_with h.done first (lines_left behind) h.said s.said h.read whole
+    begins : Begins h.said said first
+    begins = begins_with h.done first (lines_left behind) h.said said h.read whole
 
-    regrouped : s.said ≡ (h.said ++ begins.next ∷ []) ++ begins.more
+    regrouped : said ≡ (h.said ++ begins.next ∷ []) ++ begins.more
     regrouped = begins.split ∙ sym (append_assoc h.said (begins.next ∷ []) begins.more)
 
-    by_failure : Fails (h.said ++ begins.next ∷ []) → ⊥
-    by_failure (inl twice) = twice (λ i j n hi hj.
+    by_failure : Fails (h.said ++ begins.next ∷ []) → Fails said
+    by_failure (inl twice) = inl (λ once. twice (λ i j n hi hj.
         let wi = slice_get_within (h.said ++ begins.next ∷ []) i (Label n) hi in
         let wj = slice_get_within (h.said ++ begins.next ∷ []) j (Label n) hj in
-        let ei : slice_get s.said i ≡ Some (Label n) = ap (λ (x : List Statement). slice_get x i) regrouped ∙ slice_get-append_left (h.said ++ begins.next ∷ []) begins.more i wi ∙ hi in
-        let ej : slice_get s.said j ≡ Some (Label n) = ap (λ (x : List Statement). slice_get x j) regrouped ∙ slice_get-append_left (h.said ++ begins.next ∷ []) begins.more j wj ∙ hj in
-        s.once i j n ei ej)
+        let ei : slice_get said i ≡ Some (Label n) = ap (λ (x : List Statement). slice_get x i) regrouped ∙ slice_get-append_left (h.said ++ begins.next ∷ []) begins.more i wi ∙ hi in
+        let ej : slice_get said j ≡ Some (Label n) = ap (λ (x : List Statement). slice_get x j) regrouped ∙ slice_get-append_left (h.said ++ begins.next ∷ []) begins.more j wj ∙ hj in
+        once i j n ei ej))
     by_failure (inr past) =
-        let total = all_placed_take (label_slot 0 s.said) 0 (drafts_of s.said) s.instrs s.placed in
-        let parts : slot_count (drafts_of s.said) ≡ slot_count (drafts_of (h.said ++ begins.next ∷ [])) + slot_count (drafts_of begins.more) =
+        let parts : slot_count (drafts_of said) ≡ slot_count (drafts_of (h.said ++ begins.next ∷ [])) + slot_count (drafts_of begins.more) =
         ap (λ (x : List Statement). slot_count (drafts_of x)) regrouped ∙ ap slot_count (drafts_append (h.said ++ begins.next ∷ []) begins.more) ∙ count_append (drafts_of (h.said ++ begins.next ∷ [])) (drafts_of begins.more) in
-        let long : length slots ≡ length (slots_of s.instrs) = ap length s.listed in
-        let limit = s.count.limit in
-        omega arith
+        inr (omega arith)
 
-    by_cause : Breaks first h.said → ⊥
-    by_cause (unread none) = let read = begins.read in let bad : None ≡ Some begins.next = sym none ∙ read in cc
+    by_cause : Breaks first h.said → Fails said
+    by_cause (unread none) = let read = begins.read in absurd (let bad : None ≡ Some begins.next = sym none ∙ read in cc)
     by_cause (fails next e bad) =
         let read = begins.read in
         let one : Some next ≡ Some begins.next = sym e ∙ read in
         let same : next ≡ begins.next = cc in
         by_failure (rw same at bad)
+
+-- a text whose lines can't be read says no program
+pub unread_says_none : (text : List ℕ) → IsUnread text → SaysNone text
+unread_says_none text none slots s = elim (none s.said s.read) [
+  | inl twice ↦ twice s.once
+  | inr past ↦
+      let total = all_placed_take (label_slot 0 s.said) 0 (drafts_of s.said) s.instrs s.placed in
+      let long : length slots ≡ length (slots_of s.instrs) = ap length s.listed in
+      let limit = s.count.limit in
+      omega arith
+]
+
+-- the lines of a text without instructions can be read
+pub nothing_is_read : (text : List ℕ) → IsUnread text → SaysNothing text → ⊥
+nothing_is_read text none s = elim (none s.said s.read) [
+  | inl twice ↦ twice s.once
+  | inr past ↦ let zero_slots : slot_count (drafts_of s.said) ≡ 0 = ap slot_count s.none in omega arith
+]
 
 -- no line yet
 pub no_line : (text : Bor (List ℕ)) (o : code.Outline) → o.labels.entries ≡ [] → o.instrs.items ≡ [] → o.wanted.items ≡ [] → o.slots ≡ 0 → SoFar text.now (Some text) 0 o

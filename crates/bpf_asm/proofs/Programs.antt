@@ -5,7 +5,7 @@ use Rattle.bpf_isa.specs.Program.{slots_of, HasCount}
 use Rattle.bpf_asm.specs.declared.fault.AsmFault.{AsmFault}
 use Rattle.bpf_asm.specs.declared.outline.Outline as code
 use Rattle.bpf_asm.specs.Statements.{Statement}
-use Rattle.bpf_asm.specs.Says.{Says, SaysNone, memory_fault, all_placed, label_slot, drafts_of}
+use Rattle.bpf_asm.specs.Says.{Says, SaysNone, SaysNothing, memory_fault, all_placed, label_slot, drafts_of}
 use Rattle.bpf_asm.specs.Outlines.{Outlines, IsPlaced, IsUnplaced, Stands}
 
 pub same_said : (xs ys : List Statement) → map Some xs ≡ map Some ys → xs ≡ ys
@@ -35,6 +35,14 @@ pub unplaced : (text : List ℕ) (o : code.Outline) → Outlines text o → IsUn
 unplaced text o h none slots s =
     let same : s.said ≡ h.said = same_said s.said h.said (sym s.read ∙ h.read) in
     let bad : Some s.instrs ≡ None = sym s.placed ∙ ap (λ (x : List Statement). all_placed (label_slot 0 x) 0 (drafts_of x)) same ∙ none h.said h.outline in
+    cc
+
+-- a text without instructions names no label
+pub nothing_is_placed : (text : List ℕ) (o : code.Outline) → Outlines text o → IsUnplaced o → SaysNothing text → ⊥
+nothing_is_placed text o h none s =
+    let same : h.said ≡ s.said = same_said h.said s.said (sym h.read ∙ s.read) in
+    let drafts : drafts_of h.said ≡ [] = ap drafts_of same ∙ s.none in
+    let bad : Some [] ≡ None = sym (ap (all_placed (label_slot 0 h.said) 0) drafts) ∙ none h.said h.outline in
     cc
 
 -- no instruction, or too many

@@ -46,6 +46,10 @@ pub data Breaks (line : List ℕ) (said : List Statement) : Type 0 where
   unread : statement_of line ≡ None → Breaks line said
   fails : (next : Statement) → statement_of line ≡ Some next → Fails (said ++ next ∷ []) → Breaks line said
 
+-- the lines of a text can't be read, or no program has what they say
+abbrev pub IsUnread : List ℕ → Type 0
+IsUnread text = (said : List Statement) → map statement_of (lines text) ≡ map Some said → Fails said
+
 -- all lines of a text
 pub record Outlines (text : List ℕ) (o : code.Outline) : Type 0 where
   pub said : List Statement

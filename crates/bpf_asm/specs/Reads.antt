@@ -1,7 +1,7 @@
 -- What the functions that read parts answer, seen as the values of `Operands` (docs/ASSEMBLY.md, Operands).
 use Rattle.std.specs.Prelude.{◌≡◌, ℕ, ℤ, List, Option, None, Some, option_map, Result, Ok, Err}
 use Rattle.std.specs.Borrow.{Bor}
-use Rattle.base.specs.declared.causes.AsmCause.{AsmCause}
+use Rattle.bpf_asm.specs.declared.fault.LineCause.{LineCause}
 use Rattle.bpf_asm.specs.declared.operand.Operand as code
 use Rattle.bpf_asm.specs.declared.operand.Operand.TheVariants as one
 use Rattle.bpf_asm.specs.declared.operand.Target as code_target
@@ -15,7 +15,7 @@ Reads view None said = said ≡ None
 Reads view (Some x) said = said ≡ Some (view x.0, parts x.1.now)
 
 -- a value, seen so, or a fault where there is none
-abbrev pub Gives : {X Y : Type 0} → (X → Y) → Result X AsmCause → Option Y → Type 0
+abbrev pub Gives : {X Y : Type 0} → (X → Y) → Result X LineCause → Option Y → Type 0
 Gives view (Ok x) said = said ≡ Some (view x)
 Gives view (Err cause) said = said ≡ None
 

@@ -68,6 +68,17 @@ pub record Says (text : List ℕ) (slots : List (Option Instr)) : Type 0 where
 abbrev pub SaysNone : List ℕ → Type 0
 SaysNone text = (slots : List (Option Instr)) → Says text slots → ⊥
 
+-- the text says no instruction
+pub record SaysNothing (text : List ℕ) : Type 0 where
+  pub said : List Statement
+  pub read : map statement_of (lines text) ≡ map Some said
+  pub once : AreOnce said
+  pub none : drafts_of said ≡ []
+
 -- the fault of want of memory
 abbrev pub memory_fault : AsmFault
 memory_fault = record { code = cause.Memory; line = 0 }
+
+-- the fault of a text without instructions
+abbrev pub empty_fault : AsmFault
+empty_fault = record { code = cause.Range; line = 0 }

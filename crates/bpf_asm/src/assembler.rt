@@ -3,7 +3,8 @@
 ghost use Rattle.std.specs.Prelude.{◌≡◌, ◌⊎◌, ◌<◌, ◌≤◌, ◌^◌, ℕ, ℤ, List, Option, Some, IfOk, IfErr, bytes_eq};
 ghost use Rattle.std.specs.HashMap as hash;
 ghost use Rattle.bpf_asm.specs.Statements.{name_value};
-ghost use Rattle.bpf_asm.specs.Says.{Says, SaysNone, aim, away, placed, memory_fault};
+ghost use Rattle.base.specs.declared.causes.AsmCause.TheVariants.{Memory};
+ghost use Rattle.bpf_asm.specs.Says.{Says, SaysNone, SaysNothing, aim, away, placed, memory_fault, empty_fault};
 ghost use Rattle.bpf_asm.specs.Outlines.{Stands, IsPlaced, IsUnplaced, LabelsFit};
 
 use crate::fault::{AsmCause, AsmFault, of_code};
@@ -74,6 +75,7 @@ fn place_all(alloc: Global, outline: &Outline<'_>) -> Result<Vec<Instr>, AsmFaul
     requires { Stands outline.now }
     ensures placed { IfOk result (λ instrs. IsPlaced outline.now instrs.items) }
     ensures fault { IfErr result (λ f. (f ≡ memory_fault) ⊎ IsUnplaced outline.now) }
+    ensures memory { IfErr result (λ f. f.code ≡ Memory → f ≡ memory_fault) }
 {
     let mut instrs = Vec::new(alloc);
     let mut slot = 0;
@@ -92,9 +94,16 @@ fn place_all(alloc: Global, outline: &Outline<'_>) -> Result<Vec<Instr>, AsmFaul
 }
 
 /// The program that a text says.
+///
+/// # Errors
+///
+/// The first line that says nothing, repeats a label or has no room for its instruction; or the first
+/// that names an unknown label; or, at no line, that there are no instructions; or want of memory.
 pub fn assemble(alloc: Global, text: &str) -> Result<Program, AsmFault>
     ensures says { IfOk result (λ program. Says text.now program) }
     ensures fault { IfErr result (λ f. (f ≡ memory_fault) ⊎ SaysNone text.now) }
+    ensures empty { SaysNothing text.now → IfErr result (λ f. (f ≡ memory_fault) ⊎ (f ≡ empty_fault)) }
+    ensures memory { IfErr result (λ f. f.code ≡ Memory → f ≡ memory_fault) }
 {
     let outline = read_outline(alloc, text.as_bytes())?;
     let instrs = place_all(alloc, &outline)?;

@@ -2,7 +2,8 @@
 
 ghost use Rattle.std.specs.Prelude.{◌≡◌};
 ghost use Rattle.bpf_isa.specs.Decoding as code;
-ghost use Rattle.bpf_asm.specs.Says.{memory_fault};
+ghost use Rattle.base.specs.declared.causes.AsmCause.TheVariants.{Memory};
+ghost use Rattle.bpf_asm.specs.Says.{memory_fault, empty_fault};
 
 pub use base::causes::AsmCause;
 use base::causes::CodeCause;
@@ -47,9 +48,32 @@ impl<T: Drop> From<AllocFailed<T>> for AsmFault {
     }
 }
 
-/// The refusal of instructions that make no program.
+/// Why a line by itself says nothing.
+#[derive(Clone, Copy, Debug)]
+pub(crate) enum LineCause {
+    Word,
+    Operand,
+    Range,
+}
+
+impl LineCause {
+    /// The refusal of the text for that line.
+    pub(crate) fn at(self, line: u64) -> AsmFault
+        ensures { result.code ≡ Memory → ⊥ }
+    {
+        let code = match self {
+            LineCause::Word => AsmCause::Word,
+            LineCause::Operand => AsmCause::Operand,
+            LineCause::Range => AsmCause::Range,
+        };
+        AsmFault { code, line }
+    }
+}
+
+/// The refusal of instructions that make no program: for want of memory, or as there are none.
 pub(crate) fn of_code(fault: CodeFault) -> AsmFault
     ensures memory { fault ≡ code.memory_fault → result ≡ memory_fault }
+    ensures count { fault ≡ code.count_fault → result ≡ empty_fault }
 {
     match fault.code {
         CodeCause::Memory => AsmFault::MEMORY,

@@ -11,7 +11,7 @@ ghost use Rattle.bpf_asm.specs.Reads.{Gives};
 ghost use Rattle.bpf_asm.specs.Statements.{draft_value};
 ghost use Rattle.bpf_asm.specs.declared.mnemonic.Mnemonic.TheVariants as kind;
 
-use crate::fault::AsmCause;
+use crate::fault::LineCause;
 use crate::mnemonic::Mnemonic;
 use crate::operand::{
     one_number, one_register, one_target, place_and_number, place_and_register,
@@ -38,14 +38,14 @@ fn whole<'t>(instr: Instr) -> Draft<'t>
 }
 
 /// Arithmetic.
-fn arithmetic(width: Width, operator: Operator, line: &[u8]) -> Result<Draft<'_>, AsmCause>
+fn arithmetic(width: Width, operator: Operator, line: &[u8]) -> Result<Draft<'_>, LineCause>
     ensures { Gives draft_value result (draft (kind.Arithmetic width operator) (parts line.now)) }
 {
     let Some((dst, operand)) = register_and_operand(line) else {
-        return Err(AsmCause::Operand);
+        return Err(LineCause::Operand);
     };
     let Some(source) = operand.source() else {
-        return Err(AsmCause::Range);
+        return Err(LineCause::Range);
     };
     Ok(whole(Instr::Arithmetic {
         width,
@@ -56,17 +56,17 @@ fn arithmetic(width: Width, operator: Operator, line: &[u8]) -> Result<Draft<'_>
 }
 
 /// The negation of a register.
-fn negate(width: Width, line: &[u8]) -> Result<Draft<'_>, AsmCause>
+fn negate(width: Width, line: &[u8]) -> Result<Draft<'_>, LineCause>
     ensures { Gives draft_value result (draft (kind.Negate width) (parts line.now)) }
 {
     match one_register(line) {
         Some(dst) => Ok(whole(Instr::Negate { width, dst })),
-        None => Err(AsmCause::Operand),
+        None => Err(LineCause::Operand),
     }
 }
 
 /// A move that extends the sign.
-fn sign_extend(extension: SignExtension, line: &[u8]) -> Result<Draft<'_>, AsmCause>
+fn sign_extend(extension: SignExtension, line: &[u8]) -> Result<Draft<'_>, LineCause>
     ensures { Gives draft_value result (draft (kind.SignExtend extension) (parts line.now)) }
 {
     match two_registers(line) {
@@ -75,29 +75,29 @@ fn sign_extend(extension: SignExtension, line: &[u8]) -> Result<Draft<'_>, AsmCa
             dst,
             src,
         })),
-        None => Err(AsmCause::Operand),
+        None => Err(LineCause::Operand),
     }
 }
 
 /// A byte swap.
-fn byte_order(order: Order, size: OrderSize, line: &[u8]) -> Result<Draft<'_>, AsmCause>
+fn byte_order(order: Order, size: OrderSize, line: &[u8]) -> Result<Draft<'_>, LineCause>
     ensures { Gives draft_value result (draft (kind.ByteOrder order size) (parts line.now)) }
 {
     match one_register(line) {
         Some(dst) => Ok(whole(Instr::ByteOrder { order, size, dst })),
-        None => Err(AsmCause::Operand),
+        None => Err(LineCause::Operand),
     }
 }
 
 /// A jump at a distance of 16 bits.
-fn jump(line: &[u8]) -> Result<Draft<'_>, AsmCause>
+fn jump(line: &[u8]) -> Result<Draft<'_>, LineCause>
     ensures { Gives draft_value result (draft (kind.Jump) (parts line.now)) }
 {
     let Some(target) = one_target(line) else {
-        return Err(AsmCause::Operand);
+        return Err(LineCause::Operand);
     };
     let Some((offset, label)) = target.near() else {
-        return Err(AsmCause::Range);
+        return Err(LineCause::Range);
     };
     Ok(Draft {
         instr: Instr::Jump { offset },
@@ -106,14 +106,14 @@ fn jump(line: &[u8]) -> Result<Draft<'_>, AsmCause>
 }
 
 /// A jump at a distance of 32 bits.
-fn long_jump(line: &[u8]) -> Result<Draft<'_>, AsmCause>
+fn long_jump(line: &[u8]) -> Result<Draft<'_>, LineCause>
     ensures { Gives draft_value result (draft (kind.LongJump) (parts line.now)) }
 {
     let Some(target) = one_target(line) else {
-        return Err(AsmCause::Operand);
+        return Err(LineCause::Operand);
     };
     let Some((offset, label)) = target.far() else {
-        return Err(AsmCause::Range);
+        return Err(LineCause::Range);
     };
     Ok(Draft {
         instr: Instr::LongJump { offset },
@@ -122,17 +122,17 @@ fn long_jump(line: &[u8]) -> Result<Draft<'_>, AsmCause>
 }
 
 /// A branch.
-fn branch(width: Width, condition: Condition, line: &[u8]) -> Result<Draft<'_>, AsmCause>
+fn branch(width: Width, condition: Condition, line: &[u8]) -> Result<Draft<'_>, LineCause>
     ensures { Gives draft_value result (draft (kind.Branch width condition) (parts line.now)) }
 {
     let Some((dst, operand, target)) = register_operand_and_target(line) else {
-        return Err(AsmCause::Operand);
+        return Err(LineCause::Operand);
     };
     let Some(source) = operand.source() else {
-        return Err(AsmCause::Range);
+        return Err(LineCause::Range);
     };
     let Some((offset, label)) = target.near() else {
-        return Err(AsmCause::Range);
+        return Err(LineCause::Range);
     };
     Ok(Draft {
         instr: Instr::Branch {
@@ -147,35 +147,35 @@ fn branch(width: Width, condition: Condition, line: &[u8]) -> Result<Draft<'_>, 
 }
 
 /// The call of a helper.
-fn call(line: &[u8]) -> Result<Draft<'_>, AsmCause>
+fn call(line: &[u8]) -> Result<Draft<'_>, LineCause>
     ensures { Gives draft_value result (draft (kind.CallHelper) (parts line.now)) }
 {
     let Some(number) = one_number(line) else {
-        return Err(AsmCause::Operand);
+        return Err(LineCause::Operand);
     };
     match number.immediate() {
         Some(number) => Ok(whole(Instr::CallHelper { number })),
-        None => Err(AsmCause::Range),
+        None => Err(LineCause::Range),
     }
 }
 
 /// The end of the program.
-fn exit(line: &[u8]) -> Result<Draft<'_>, AsmCause>
+fn exit(line: &[u8]) -> Result<Draft<'_>, LineCause>
     ensures { Gives draft_value result (draft (kind.Exit) (parts line.now)) }
 {
     if is_end(line) {
         Ok(whole(Instr::Exit))
     } else {
-        Err(AsmCause::Operand)
+        Err(LineCause::Operand)
     }
 }
 
 /// A load.
-fn load(size: Size, line: &[u8]) -> Result<Draft<'_>, AsmCause>
+fn load(size: Size, line: &[u8]) -> Result<Draft<'_>, LineCause>
     ensures { Gives draft_value result (draft (kind.Load size) (parts line.now)) }
 {
     let Some((dst, (base, offset))) = register_and_place(line) else {
-        return Err(AsmCause::Operand);
+        return Err(LineCause::Operand);
     };
     match offset.offset() {
         Some(offset) => Ok(whole(Instr::Load {
@@ -184,16 +184,16 @@ fn load(size: Size, line: &[u8]) -> Result<Draft<'_>, AsmCause>
             base,
             offset,
         })),
-        None => Err(AsmCause::Range),
+        None => Err(LineCause::Range),
     }
 }
 
 /// A load that extends the sign.
-fn load_signed(size: SignedSize, line: &[u8]) -> Result<Draft<'_>, AsmCause>
+fn load_signed(size: SignedSize, line: &[u8]) -> Result<Draft<'_>, LineCause>
     ensures { Gives draft_value result (draft (kind.LoadSigned size) (parts line.now)) }
 {
     let Some((dst, (base, offset))) = register_and_place(line) else {
-        return Err(AsmCause::Operand);
+        return Err(LineCause::Operand);
     };
     match offset.offset() {
         Some(offset) => Ok(whole(Instr::LoadSigned {
@@ -202,22 +202,22 @@ fn load_signed(size: SignedSize, line: &[u8]) -> Result<Draft<'_>, AsmCause>
             base,
             offset,
         })),
-        None => Err(AsmCause::Range),
+        None => Err(LineCause::Range),
     }
 }
 
 /// A store of an immediate.
-fn store_immediate(size: Size, line: &[u8]) -> Result<Draft<'_>, AsmCause>
+fn store_immediate(size: Size, line: &[u8]) -> Result<Draft<'_>, LineCause>
     ensures { Gives draft_value result (draft (kind.StoreImmediate size) (parts line.now)) }
 {
     let Some(((base, offset), number)) = place_and_number(line) else {
-        return Err(AsmCause::Operand);
+        return Err(LineCause::Operand);
     };
     let Some(offset) = offset.offset() else {
-        return Err(AsmCause::Range);
+        return Err(LineCause::Range);
     };
     let Some(immediate) = number.immediate() else {
-        return Err(AsmCause::Range);
+        return Err(LineCause::Range);
     };
     Ok(whole(Instr::StoreImmediate {
         size,
@@ -228,11 +228,11 @@ fn store_immediate(size: Size, line: &[u8]) -> Result<Draft<'_>, AsmCause>
 }
 
 /// A store of a register.
-fn store(size: Size, line: &[u8]) -> Result<Draft<'_>, AsmCause>
+fn store(size: Size, line: &[u8]) -> Result<Draft<'_>, LineCause>
     ensures { Gives draft_value result (draft (kind.Store size) (parts line.now)) }
 {
     let Some(((base, offset), src)) = place_and_register(line) else {
-        return Err(AsmCause::Operand);
+        return Err(LineCause::Operand);
     };
     match offset.offset() {
         Some(offset) => Ok(whole(Instr::Store {
@@ -241,26 +241,26 @@ fn store(size: Size, line: &[u8]) -> Result<Draft<'_>, AsmCause>
             offset,
             src,
         })),
-        None => Err(AsmCause::Range),
+        None => Err(LineCause::Range),
     }
 }
 
 /// The load of a 64-bit immediate.
-fn load_immediate(line: &[u8]) -> Result<Draft<'_>, AsmCause>
+fn load_immediate(line: &[u8]) -> Result<Draft<'_>, LineCause>
     ensures { Gives draft_value result (draft (kind.LoadImmediate) (parts line.now)) }
 {
     let Some((dst, number)) = register_and_number(line) else {
-        return Err(AsmCause::Operand);
+        return Err(LineCause::Operand);
     };
     match number.wide() {
         Some(value) => Ok(whole(Instr::LoadImmediate { dst, value })),
-        None => Err(AsmCause::Range),
+        None => Err(LineCause::Range),
     }
 }
 
 /// The instruction of this name with the operands of the line.
 #[tactic(auto)]
-pub(crate) fn read_instruction(mnemonic: Mnemonic, line: &[u8]) -> Result<Draft<'_>, AsmCause>
+pub(crate) fn read_instruction(mnemonic: Mnemonic, line: &[u8]) -> Result<Draft<'_>, LineCause>
     ensures { Gives draft_value result (draft mnemonic (parts line.now)) }
 {
     match mnemonic {

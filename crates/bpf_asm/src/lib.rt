@@ -25,8 +25,9 @@
 //! The contract, in words:
 //!
 //! - `assemble` answers a program only where the text says it.
-//! - `assemble` refuses, want of memory aside, only where the text says no program. Which number and
-//!   line a refusal has is held to the table of docs/ASSEMBLY.md by tests.
+//! - `assemble` refuses, want of memory aside, only where the text says no program. Want of memory
+//!   names no line, and a text in order but without instructions is refused for its range at no line.
+//!   Which number and line another refusal has is held to the table of docs/ASSEMBLY.md by tests.
 //! - `list` answers the listing of the program, to the byte, and the listing says the program.
 //! - A text says at most one program. So assembling the listing of a program gives that program, or
 //!   want of memory (`laws::round_trip`).

@@ -3,8 +3,9 @@
 ghost use Rattle.std.specs.Prelude.{◌≡◌, ◌⊎◌, ◌++◌, ◌∷◌, ◌<◌, [], List, length, map, OnOk, IfOk, IfErr, IfSome, IfNone, option_map, Some, None};
 ghost use Rattle.bpf_asm.specs.Parts.{lines};
 ghost use Rattle.bpf_asm.specs.Statements.{Statement as Said, statement_value, name_value, Label, Instruction};
-ghost use Rattle.bpf_asm.specs.Says.{memory_fault, SaysNone};
-ghost use Rattle.bpf_asm.specs.Outlines.{IsOutline, Fails, Adds, Breaks, Outlines};
+ghost use Rattle.base.specs.declared.causes.AsmCause.TheVariants.{Memory};
+ghost use Rattle.bpf_asm.specs.Says.{memory_fault};
+ghost use Rattle.bpf_asm.specs.Outlines.{IsOutline, Fails, Adds, Breaks, IsUnread, Outlines};
 
 use crate::fault::{AsmCause, AsmFault};
 use crate::statement::{Statement, read_statement};
@@ -36,6 +37,7 @@ impl<'t> Outline<'t> {
     fn add_label(&mut self, name: &'t [u8], line: u64) -> Result<(), AsmFault>
         ensures added { OnOk result ((said : List Said) → IsOutline self.old said → IsOutline self.new (said ++ Label name.now ∷ [])) }
         ensures fault { IfErr result (λ f. (f ≡ memory_fault) ⊎ ((said : List Said) → IsOutline self.old said → Fails (said ++ Label name.now ∷ []))) }
+        ensures memory { IfErr result (λ f. f.code ≡ Memory → f ≡ memory_fault) }
     {
         if self.labels.contains_key(name) {
             return Err(AsmFault {
@@ -56,6 +58,7 @@ impl<'t> Outline<'t> {
     ) -> Result<(), AsmFault>
         ensures added { OnOk result ((said : List Said) → IsOutline self.old said → IsOutline self.new (said ++ Instruction (record { instr = instr; label = name_value label.entry }) ∷ [])) }
         ensures fault { IfErr result (λ f. (f ≡ memory_fault) ⊎ ((said : List Said) → IsOutline self.old said → Fails (said ++ Instruction (record { instr = instr; label = name_value label.entry }) ∷ []))) }
+        ensures memory { IfErr result (λ f. f.code ≡ Memory → f ≡ memory_fault) }
     {
         let more = if instr.is_wide() { 2 } else { 1 };
         if self.slots >= MOST_SLOTS || self.slots + more > MOST_SLOTS {
@@ -74,9 +77,10 @@ impl<'t> Outline<'t> {
     fn add_line(&mut self, text: &'t [u8], line: u64) -> Result<(), AsmFault>
         ensures added { OnOk result ((said : List Said) → IsOutline self.old said → Adds text.now self.old self.new said) }
         ensures fault { IfErr result (λ f. (f ≡ memory_fault) ⊎ ((said : List Said) → IsOutline self.old said → Breaks text.now said)) }
+        ensures memory { IfErr result (λ f. f.code ≡ Memory → f ≡ memory_fault) }
     {
         match read_statement(text) {
-            Err(code) => Err(AsmFault { code, line }),
+            Err(cause) => Err(cause.at(line)),
             Ok(Statement::Empty) => Ok(()),
             Ok(Statement::Label(name)) => self.add_label(name, line),
             Ok(Statement::Instruction(draft)) => {
@@ -104,7 +108,8 @@ fn split_line(text: &[u8]) -> (&[u8], Option<&[u8]>)
 /// What all lines of a text say.
 pub(crate) fn read_outline(alloc: Global, text: &[u8]) -> Result<Outline<'_>, AsmFault>
     ensures read { IfOk result (λ o. Outlines text.now o) }
-    ensures fault { IfErr result (λ f. (f ≡ memory_fault) ⊎ SaysNone text.now) }
+    ensures fault { IfErr result (λ f. (f ≡ memory_fault) ⊎ IsUnread text.now) }
+    ensures memory { IfErr result (λ f. f.code ≡ Memory → f ≡ memory_fault) }
 {
     let mut outline = Outline {
         labels: IndexMap::new(alloc),

@@ -6,7 +6,7 @@ ghost use Rattle.bpf_asm.specs.Parts.{parts};
 ghost use Rattle.bpf_asm.specs.Reads.{Gives};
 ghost use Rattle.bpf_asm.specs.Statements.{statement_of, label_line, instruction_line, statement_value};
 
-use crate::fault::AsmCause;
+use crate::fault::LineCause;
 use crate::instruction::{Draft, read_instruction};
 use crate::mnemonic::named;
 use crate::operand::{is_name, mark};
@@ -21,24 +21,24 @@ pub(crate) enum Statement<'t> {
 }
 
 /// A label, with the line behind its colon.
-fn read_label<'t>(name: &'t [u8], line: &[u8]) -> Result<Statement<'t>, AsmCause>
+fn read_label<'t>(name: &'t [u8], line: &[u8]) -> Result<Statement<'t>, LineCause>
     ensures { Gives statement_value result (label_line name.now (parts line.now)) }
 {
     if !is_name(name) {
-        Err(AsmCause::Word)
+        Err(LineCause::Word)
     } else if !is_end(line) {
-        Err(AsmCause::Operand)
+        Err(LineCause::Operand)
     } else {
         Ok(Statement::Label(name))
     }
 }
 
 /// An instruction, with the line behind its name.
-fn read_named<'t>(name: &[u8], line: &'t [u8]) -> Result<Statement<'t>, AsmCause>
+fn read_named<'t>(name: &[u8], line: &'t [u8]) -> Result<Statement<'t>, LineCause>
     ensures { Gives statement_value result (instruction_line name.now (parts line.now)) }
 {
     let Some(mnemonic) = named(name) else {
-        return Err(AsmCause::Word);
+        return Err(LineCause::Word);
     };
     match read_instruction(mnemonic, line) {
         Ok(draft) => Ok(Statement::Instruction(draft)),
@@ -47,14 +47,14 @@ fn read_named<'t>(name: &[u8], line: &'t [u8]) -> Result<Statement<'t>, AsmCause
 }
 
 /// What a line says.
-pub(crate) fn read_statement(line: &[u8]) -> Result<Statement<'_>, AsmCause>
+pub(crate) fn read_statement(line: &[u8]) -> Result<Statement<'_>, LineCause>
     ensures { Gives statement_value result (statement_of line.now) }
 {
     if is_end(line) {
         return Ok(Statement::Empty);
     }
     let Some((name, rest)) = word(line) else {
-        return Err(AsmCause::Word);
+        return Err(LineCause::Word);
     };
     match mark(rest, b':') {
         Some(after) => read_label(name, after),

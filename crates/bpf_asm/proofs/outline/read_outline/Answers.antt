@@ -1,6 +1,6 @@
 use Rattle.std.proofs.Common.{refl, Some, inl, inr}
 use Rattle.std.proofs.lemmas.Result.{err_from_is_err_and}
-use Rattle.bpf_asm.proofs.Outlines.{SoFar, no_line, first_of, one_line, no_program}
+use Rattle.bpf_asm.proofs.Outlines.{SoFar, no_line, first_of, one_line, breaks_text}
 use Rattle.bpf_asm.proofs.outline.read_outline.Goals as goal
 
 pub loop-left-init : goal.loop-left-init
@@ -16,8 +16,13 @@ returns-in_err-add_line-clause-fault c =
     let f = first_of c.in-Some.text.now c.split_line.result.0.now c.split_line.result.1 e.first e.more e.shorter in
     rw (p.1, p.2) (elim c.in_err-add_line.ensures.fault [
       | inl m ↦ inl m
-      | inr bad ↦ inr (no_program c.args.text.now c.in-Some.text c.loop-left.line c.loop-left.outline c.split_line.result.0.now c.split_line.result.1 h f (bad h.said h.outline))
+      | inr bad ↦ inr (breaks_text c.args.text.now c.in-Some.text c.loop-left.line c.loop-left.outline c.split_line.result.0.now c.split_line.result.1 h f (bad h.said h.outline))
     ])
+
+pub returns-in_err-add_line-clause-memory : goal.returns-in_err-add_line-clause-memory
+returns-in_err-add_line-clause-memory c =
+    let p = err_from_is_err_and c.from_residual.result c.from_residual.ensures.1 in
+    rw (p.1, p.2) c.in_err-add_line.ensures.memory
 
 pub loop-left-preserved : goal.loop-left-preserved
 loop-left-preserved c =
