@@ -21,6 +21,10 @@ edges next target = record { next = next; target = target }
 abbrev pub no_edges : Edges
 no_edges = edges None None
 
+-- only to the slot behind an instruction of one slot
+abbrev pub goes_on : ℕ → Edges
+goes_on slot = edges (Some (slot + 1)) None
+
 -- The slot at a distance from the one behind a jump. One before the first slot is a number of which
 -- no program has a slot.
 abbrev pub landing : ℕ → ℤ → ℕ
@@ -33,7 +37,15 @@ edges_of slot (instr.Jump distance) = edges None (Some (landing slot distance))
 edges_of slot (instr.LongJump distance) = edges None (Some (landing slot distance))
 edges_of slot (instr.Branch w c dst from distance) = edges (Some (slot + 1)) (Some (landing slot distance))
 edges_of slot (instr.LoadImmediate dst value) = edges (Some (slot + 2)) None
-edges_of slot _ = edges (Some (slot + 1)) None
+edges_of slot (instr.Arithmetic w o dst source) = goes_on slot
+edges_of slot (instr.Negate w dst) = goes_on slot
+edges_of slot (instr.SignExtend e dst src) = goes_on slot
+edges_of slot (instr.ByteOrder o size dst) = goes_on slot
+edges_of slot (instr.CallHelper number) = goes_on slot
+edges_of slot (instr.Load size dst base offset) = goes_on slot
+edges_of slot (instr.LoadSigned size dst base offset) = goes_on slot
+edges_of slot (instr.StoreImmediate size base offset immediate) = goes_on slot
+edges_of slot (instr.Store size base offset src) = goes_on slot
 
 -- where control goes from a slot
 unfoldable pub control : List (Option Instr) → ℕ → Edges

@@ -21,7 +21,13 @@ written (instr.ByteOrder o size dst) = Some dst
 written (instr.Load size dst base offset) = Some dst
 written (instr.LoadSigned size dst base offset) = Some dst
 written (instr.LoadImmediate dst value) = Some dst
-written _ = None
+written (instr.Jump distance) = None
+written (instr.LongJump distance) = None
+written (instr.Branch w c dst from distance) = None
+written (instr.CallHelper number) = None
+written instr.Exit = None
+written (instr.StoreImmediate size base offset immediate) = None
+written (instr.Store size base offset src) = None
 
 -- the answer of `again` is compared for equal or not equal
 abbrev pub is_equality : Option Condition → Bool

@@ -47,7 +47,15 @@ pub fn edges_of(slot: usize, instr: &Instr) -> Edges
             next: Some(slot + 2),
             target: None,
         },
-        _ => Edges {
+        Instr::Arithmetic { .. }
+        | Instr::Negate { .. }
+        | Instr::SignExtend { .. }
+        | Instr::ByteOrder { .. }
+        | Instr::CallHelper { .. }
+        | Instr::Load { .. }
+        | Instr::LoadSigned { .. }
+        | Instr::StoreImmediate { .. }
+        | Instr::Store { .. } => Edges {
             next: Some(slot + 1),
             target: None,
         },

@@ -27,7 +27,13 @@ fn written(instr: &Instr) -> Option<Register>
         Instr::Load { dst, .. } => Some(*dst),
         Instr::LoadSigned { dst, .. } => Some(*dst),
         Instr::LoadImmediate { dst, .. } => Some(*dst),
-        _ => None,
+        Instr::Jump { .. }
+        | Instr::LongJump { .. }
+        | Instr::Branch { .. }
+        | Instr::CallHelper { .. }
+        | Instr::Exit
+        | Instr::StoreImmediate { .. }
+        | Instr::Store { .. } => None,
     }
 }
 
