@@ -1,7 +1,7 @@
 //! What the work is given, and the judging of one block.
 
-ghost use Rattle.std.specs.Prelude.{◌≡◌, ◌≤◌, ◌<◌, ◌+◌, ◌-◌, ◌*◌, ◌++◌, min, length, IfOk, IfErr, OnOk, Some, slice_get};
-ghost use Rattle.choices.specs.Choices.{IsFirstPast, limit};
+ghost use Rattle.std.specs.Prelude.{◌≡◌, ◌≤◌, ◌<◌, ◌+◌, ◌-◌, ◌*◌, ◌++◌, min, length, IfOk, OnOk, Some, slice_get};
+ghost use Rattle.choices.specs.Choices.{limit, ranked};
 ghost use Rattle.interp.specs.Ending.{ending_of};
 ghost use Rattle.images.specs.Views.{view_of};
 ghost use Rattle.lines.specs.Line.{fails};
@@ -13,7 +13,7 @@ ghost use Rattle.workers.specs.Exploring.{passes_over};
 use crate::block_lines::BlockLines;
 use crate::piece::{BLOCK, Piece};
 use arrayvec::ArrayVec;
-use choices::{Choice, Departure, TooMany, count, next, nth};
+use choices::{Choice, Departure, next, nth};
 use epochs::Plan;
 use images::{History, View};
 use interp::{Checker, Outcome};
@@ -95,12 +95,8 @@ fn judge_checker(
 }
 
 impl<'a> Input<'a> {
-    /// What is judged by a run. The history is that of the plan. With `first` the run looks for the
-    /// first failing image alone.
-    ///
-    /// # Errors
-    ///
-    /// There are more than 16,777,216 images, at the cut with which their number passes that.
+    /// What is judged by a run. The history is that of the plan, and the images are counted, as
+    /// `choices::count` does. With `first` the run looks for the first failing image alone.
     pub fn new(
         plan: &'a Plan<'a>,
         history: &'a History<'a>,
@@ -108,24 +104,23 @@ impl<'a> Input<'a> {
         bound: u8,
         tears: bool,
         first: bool,
-    ) -> Result<Input<'a>, TooMany>
+        images: u64,
+    ) -> Input<'a>
         requires history { history.now ≡ plan.now }
         requires checkers { length checkers.now ≤ 8 }
         requires bound { bound ≤ 3 }
-        ensures made { IfOk result (λ input. input ≡ record { plan = plan.now; checkers = checkers.now; bound = bound; tears = tears; first = first }) }
-        ensures past { IfErr result (λ fault. IsFirstPast plan.now bound tears fault.at) }
+        requires images { images ≡ length (ranked plan.now bound tears) }
+        requires few { images ≤ limit }
+        ensures { result ≡ record { plan = plan.now; checkers = checkers.now; bound = bound; tears = tears; first = first } }
     {
-        match count(plan, bound, tears) {
-            Ok(images) => Ok(Input {
-                plan,
-                history,
-                checkers,
-                bound,
-                tears,
-                first,
-                images,
-            }),
-            Err(fault) => Err(fault),
+        Input {
+            plan,
+            history,
+            checkers,
+            bound,
+            tears,
+            first,
+            images,
         }
     }
 
@@ -194,7 +189,7 @@ impl<'a> Input<'a> {
 
 /// Judges the images of a block: 64 in a row from `64 * block` on, or those that are left.
 ///
-/// It takes the memory of one image at a time, and that of the lines.
+/// It takes memory for the lines alone: an image borrows its sectors from the log.
 #[tactic(auto, unfolding(crate::specs::Failing::part))]
 pub fn judge_block(alloc: Global, input: &Input<'_>, block: u32) -> Result<Piece, AllocError>
     requires { block < block_count input.now }

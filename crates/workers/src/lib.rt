@@ -6,7 +6,7 @@
 //!
 //! | Type or call | What it is |
 //! |---|---|
-//! | `Input::new(plan, history, checkers, bound, tears, first)` | what is judged; refused where there are too many images |
+//! | `Input::new(plan, history, checkers, bound, tears, first, images)` | what is judged, whose images are counted |
 //! | `judge_block(alloc, input, block)` | the piece of a block: its lines, by image and then by checker |
 //! | `Piece::passed(block, image)` | the piece of a block that was passed over after a failing image |
 //! | `collect(alloc, pieces, blocks)` | all lines, of pieces in any order; refused where a block has two pieces or none |
@@ -19,8 +19,8 @@
 //! # Place
 //!
 //! The sixth layer. It stands on `choices` and `images`, which number and form the images, on `interp`,
-//! whose `Checker` judges them, on `report`, which has the lines, and on `shares`, which has the type of
-//! a refusal. `crashbpf` calls it and writes the report.
+//! whose `Checker` judges them, on `lines`, which has the lines, and on `base`, which has the type of a
+//! refusal. `commands` calls it and writes the report.
 //!
 //! # What is proved
 //!
