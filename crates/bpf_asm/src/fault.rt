@@ -51,8 +51,11 @@ impl<T: Drop> From<AllocFailed<T>> for AsmFault {
 /// Why a line by itself says nothing.
 #[derive(Clone, Copy, Debug)]
 pub(crate) enum LineCause {
+    /// It begins with no name of an instruction, and with no label.
     Word,
+    /// What stands behind has another form.
     Operand,
+    /// A number is out of its range.
     Range,
 }
 

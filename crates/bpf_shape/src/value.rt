@@ -20,6 +20,7 @@ impl Model for Shape {
 }
 
 impl Shape {
+    /// The shape with that budget, and for each slot whether an again edge leads to it.
     pub(crate) fn new(budget: u64, heads: Vec<bool>) -> Shape
         ensures { result ≡ record { budget = budget; heads = heads.items } }
     {

@@ -6,12 +6,19 @@ ghost use Rattle.helpers.specs.Helper.{helper_of};
 /// A helper that a program may call (docs/MACHINE.md, Helpers).
 #[derive(Clone, Copy, Debug, PartialEq, Eq)]
 pub enum Helper {
+    /// Number 1: the address of a sector.
     Sector,
+    /// Number 2: copies bytes of the device to a pointer.
     Copy,
+    /// Number 3: 1 as often as its argument says, then 0; each loop has a call of it.
     Again,
+    /// Number 4: keeps a code for the verdict.
     Report,
+    /// Number 5: whether a sector is all zeros.
     Zero,
+    /// Number 6: the mix of a sector.
     Mix,
+    /// Number 7: whether two sectors have the same content.
     Same,
 }
 

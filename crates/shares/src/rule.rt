@@ -6,6 +6,7 @@ ghost use Rattle.shares.specs.Moves.{opened, one_part, less_one, joined, newcome
 use crate::view::{Limits, View};
 use atomic_table::{Join, Play, Split, TableRule};
 
+/// The board rule, as the type of a board's table names it.
 pub struct Rule;
 
 impl TableRule<(), View, Limits> for Rule {

@@ -15,9 +15,11 @@ pub enum SeatStep {
     SawNext(u64),
 }
 
-/// What a seat knows: its parts of the right to know the whole, and its steps in order.
+/// What a seat knows.
 pub struct View {
+    /// Its parts of the right to know the whole: one for each seat that it is made of.
     pub parts: u64,
+    /// Its steps, in order.
     pub steps: LinkedList<SeatStep>,
 }
 

@@ -19,8 +19,8 @@
 //! # Place
 //!
 //! The sixth layer. It stands on `choices` and `images`, which number and form the images, on `interp`,
-//! whose `Checker` judges them, on `lines`, which has the lines, and on `base`, which has the type of a
-//! refusal. `commands` calls it and writes the report.
+//! whose `Checker` judges them, on `lines`, which keeps failing lines, and on `base`, which has the type
+//! of a refusal. `commands` calls it and writes the report.
 //!
 //! # What is proved
 //!
@@ -42,7 +42,7 @@
 //! # How it is written
 //!
 //! `input` finds the first choice of a block by its number, and then goes on from choice to choice.
-//! `lines` keeps the least image beside the lines of a block. `collecting` puts the pieces into a table
+//! `block_lines` keeps the least image beside the lines of a block. `collecting` puts the pieces into a table
 //! with a row for each block, and notes the lowest block that comes twice and the least failing image.
 //! So far the caller takes all blocks, one after the other.
 #![tactic(auto)]
