@@ -17,6 +17,10 @@ pub past_of : (plan wanted : PlanValue) (bound b : ℕ) (tears t : Bool) (cut : 
     → IsFirstPast plan b t cut → IsFirstPast wanted bound tears cut
 past_of plan wanted bound b tears t cut e f g h = rw (← e, ← f, ← g) h
 
+pub counted_of : (plan wanted : PlanValue) (bound b : ℕ) (tears t : Bool) (images : ℕ) → plan ≡ wanted → b ≡ bound → t ≡ tears
+    → images ≡ length (ranked wanted bound tears) → images ≡ length (ranked plan b t)
+counted_of plan wanted bound b tears t images e f g h = rw (e, f, g) h
+
 pub long : {X Y : Type 0} (f : X → Y) (xs : List X) → length (map f xs) ≡ length xs
 long f [] = refl
 long f (x ∷ xs) = ap suc (long f xs)

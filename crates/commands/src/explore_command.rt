@@ -4,18 +4,18 @@ ghost use Rattle.std.specs.Prelude.{◌≡◌, ◌≢◌, ◌≤◌, ◌<◌, �
 ghost use Rattle.base.specs.declared.causes.CodeCause.TheVariants as code;
 ghost use Rattle.bpf_isa.specs.Program.{IsSpelledBy, HasNoFault};
 ghost use Rattle.std.specs.List.Sorted.{IsNonDecreasing};
-ghost use Rattle.choices.specs.Choices.{IsFirstPast};
+ghost use Rattle.choices.specs.Choices.{limit};
 ghost use Rattle.report.specs.Report.{report_bytes};
 ghost use Rattle.workers.specs.Failing.{failing_lines};
 ghost use Rattle.base.specs.Refusals.{memory_refusal};
-ghost use Rattle.commands.specs.Source.{plan_of, images_of, images_refusal, RefusesPlan};
+ghost use Rattle.commands.specs.Source.{plan_of, images_of, RefusesPlan};
 ghost use Rattle.commands.specs.Explore.{HasReport, IsReport, IsProgramCount, Refuses, program_head, subject_of, head_of, report_of};
 ghost use Rattle.commands.specs.Programs.{IsRunWithin, IsCodeFault, IsUnaccepted, code_refusal, verifier_refusal, AreDecoded, AreFirstMade, RefusesOneOf};
 
 use crate::options::Options;
 use crate::refusals::option_refusal_of;
 use crate::settings::OptionPlace;
-use crate::source::{images_refusal_of, planned, read_log};
+use crate::source::{planned, read_log};
 use base::refusal::{Cause, Refusal};
 use bpf_isa::codec::decode;
 use bpf_isa::program::{CodeFault, Program};
@@ -230,10 +230,13 @@ fn judged<'x, G: Gate>(
     plan: &'x Plan<'x>,
     checkers: &'x [Checker<'x>],
     options: &Options,
+    images: u64,
 ) -> Result<Explored, Refusal>
     requires plan { plan.now ≡ plan_of options.now log.now }
     requires device { log.now.sectors ≡ options.now.sectors }
     requires checkers { length checkers.now ≤ 8 }
+    requires images { images ≡ length (images_of options.now log.now) }
+    requires few { images ≤ limit }
     ensures bytes { IfOk result (λ e. e.bytes.items ≡ report_of options.now log.now checkers.now) }
     ensures failing { IfOk result (λ e. IsTrue e.failing ↔ (failing_lines (subject_of options.now log.now checkers.now) ≢ [])) }
     ensures hits { IfOk result (λ e. e.hits ≡ 0) }
@@ -243,19 +246,17 @@ fn judged<'x, G: Gate>(
         Ok(history) => history,
         Err(_error) => return Err(Refusal::of_memory()),
     };
-    let input = match Input::new(
+    let input = Input::new(
         &*plan,
         &history,
         &*checkers,
         options.bound(),
         options.tears(),
         options.first(),
-    ) {
-        Ok(input) => input,
-        Err(fault) => return Err(images_refusal_of(fault)),
-    };
+        images,
+    );
     let work = explore_all(alloc, gate, &input)?;
-    match reported(alloc, log, checkers, options, input.image_count(), &work) {
+    match reported(alloc, log, checkers, options, images, &work) {
         Ok(bytes) => Ok(Explored {
             bytes,
             hits: work.hits,
@@ -288,13 +289,21 @@ pub fn explore_with<G: Gate>(
         return Err(option_refusal_of(OptionPlace::Programs));
     }
     let log = read_log(alloc, log, options.sectors())?;
-    let (plan, _images) = planned(alloc, &log, options)?;
+    let (plan, images) = planned(alloc, &log, options)?;
     let decoded = decode_all(alloc, programs)?;
     let checkers = checkers_of(alloc, decoded.programs.as_slice(), options)?;
     if let Some(refusal) = decoded.refusal {
         return Err(refusal);
     }
-    judged(alloc, gate, &log, &plan, checkers.as_slice(), options)
+    judged(
+        alloc,
+        gate,
+        &log,
+        &plan,
+        checkers.as_slice(),
+        options,
+        images,
+    )
 }
 
 /// The bytes of `explore_with`, with a gate that does nothing.

@@ -26,7 +26,7 @@ fn log_refusal_of(fault: LogFault) -> Refusal
 }
 
 /// The refusal of a log with too many crash images.
-pub(crate) fn images_refusal_of(fault: TooMany) -> Refusal
+fn images_refusal_of(fault: TooMany) -> Refusal
     ensures { result ≡ images_refusal fault.at }
 {
     Refusal {

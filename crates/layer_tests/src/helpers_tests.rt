@@ -2,9 +2,7 @@
 
 use helpers::answers::{mix, same, sector, zero};
 use helpers::copying::copy;
-use helpers::Device;
-use helpers::Filled;
-use helpers::Helper;
+use helpers::{Device, Filled, Helper};
 use std::test::Fail;
 
 #[test]

@@ -3,8 +3,7 @@
 use base::causes::MachineFault;
 use bpf_isa::codec::decode;
 use helpers::{Context, Filled};
-use interp::Outcome;
-use interp::run_checked;
+use interp::{Outcome, run_checked};
 use std::alloc::Global;
 use std::test::Fail;
 

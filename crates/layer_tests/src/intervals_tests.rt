@@ -2,9 +2,7 @@
 
 use bpf_isa::instr::{Condition, Instr, Operator, Order, OrderSize, SignExtension, Source, Width};
 use bpf_isa::register::Register;
-use intervals::result;
-use intervals::refine;
-use intervals::Range;
+use intervals::{Range, refine, result};
 use std::test::Fail;
 
 /// The greatest word, and the greatest number of 32 bits.

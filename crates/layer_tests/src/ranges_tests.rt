@@ -4,11 +4,7 @@
 use bpf_isa::instr::{Condition, Instr, Operator, Size, Source, Width};
 use bpf_isa::register::Register;
 use intervals::Range;
-use ranges::branch;
-use ranges::after;
-use ranges::check;
-use ranges::State;
-use ranges::{SectorOffsets, Value};
+use ranges::{SectorOffsets, State, Value, after, branch, check};
 use std::test::Fail;
 
 /// The register of this number.

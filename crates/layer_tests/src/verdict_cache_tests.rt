@@ -89,14 +89,15 @@ fn check_calls<J: Run, R: Abort>(
     plan: &Plan<'_>,
     history: &History<'_>,
     checkers: &[Checker<'_>],
-    capacity: u32,
+    size: u32,
     calls: &[Call],
 ) -> Result<u64, Fail>
     requires plan { plan.now ≡ J.plan }
     requires history { history.now ≡ J.plan }
     requires checkers { checkers.now ≡ J.checkers }
+    requires size { size ≡ J.size }
 {
-    let mut shard: Shard<J> = Shard::new(alloc, capacity)?;
+    let mut shard: Shard<J> = Shard::new(alloc, size, 0)?;
     for call in calls {
         match *call {
             Call::Put(work, kept) => {
@@ -151,7 +152,7 @@ fn check_rooms<J: Run + Send + Sync, R: Abort>(
     requires plan { plan.now ≡ J.plan }
     requires history { history.now ≡ J.plan }
     requires checkers { checkers.now ≡ J.checkers }
-    requires size { size ≤ 65536 }
+    requires size { (size ≡ J.size) × (size ≤ 65536) }
 {
     let (first, room_of_first, room_of_others) = rooms;
     let shards: Vec<Mutex<Shard<J>>> = shards(alloc, history, checkers, size)?;
@@ -171,14 +172,14 @@ fn check_rooms<J: Run + Send + Sync, R: Abort>(
     Ok(())
 }
 
-/// Makes calls of an empty shard of that capacity, in a run of two programs.
-fn check_run<R: Abort>(rt: &R, alloc: Global, capacity: u32, calls: &[Call]) -> Result<u64, Fail> {
+/// Makes calls of the empty first shard of a cache of that size, in a run of two programs.
+fn check_run<R: Abort>(rt: &R, alloc: Global, size: u32, calls: &[Call]) -> Result<u64, Fail> {
     let log = one_write(alloc)?;
     let plan = Plan::new(alloc, &log, Cuts::All)?;
     let history = History::new(alloc, &plan, &log)?;
     let program = decode(alloc, &ANSWER_1).ok().ok_or("a program")?;
     let checkers = [Checker::limited(&program, 2), Checker::limited(&program, 1)];
-    check_calls::<Brand, R>(rt, alloc, &plan, &history, &checkers, capacity, calls)
+    check_calls::<Brand, R>(rt, alloc, &plan, &history, &checkers, size, calls)
 }
 
 #[test]
@@ -195,7 +196,7 @@ fn shard_keeps_what_is_put(rt: HostRuntime) -> Result<(), Fail> {
         Call::Look(WRITTEN, None),
         Call::Look(WRITTEN_OTHER_PROGRAM, Some(100)),
     ];
-    assert_eq!(rt; check_run(&rt, rt.alloc(), 1, &calls)?, 3);
+    assert_eq!(rt; check_run(&rt, rt.alloc(), 16, &calls)?, 3);
     Ok(())
 }
 
@@ -209,7 +210,7 @@ fn least_recent_entry_leaves(rt: HostRuntime) -> Result<(), Fail> {
         Call::Look(WRITTEN, None),
         Call::Look(ZEROS, Some(1)),
     ];
-    assert_eq!(rt; check_run(&rt, rt.alloc(), 2, &calls)?, 2);
+    assert_eq!(rt; check_run(&rt, rt.alloc(), 32, &calls)?, 2);
     Ok(())
 }
 

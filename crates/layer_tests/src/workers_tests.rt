@@ -6,6 +6,7 @@ ghost use Rattle.workers.specs.Pieces.{block_count};
 use crate::log_text::{FLUSH, text_of};
 use base::refusal::Refusal;
 use bpf_isa::codec::decode;
+use choices::count;
 use epochs::{Cuts, Plan};
 use images::History;
 use interp::Checker;
@@ -75,9 +76,8 @@ fn collected(
     let program = decode(alloc, program).ok().ok_or("a program")?;
     let mut checkers = Vec::new(alloc);
     checkers.push(Checker::limited(&program, 3))?;
-    let input = Input::new(&plan, &history, checkers.as_slice(), 0, false, true)
-        .ok()
-        .ok_or("an input")?;
+    let images = count(&plan, 0, false).ok().ok_or("few images")?;
+    let input = Input::new(&plan, &history, checkers.as_slice(), 0, false, true, images);
     let pieces = pieces_of(alloc, &input, blocks)?;
     match collect(alloc, pieces, input.block_count()) {
         Ok(lines) => Ok((0, if lines.is_empty() { 0 } else { 1 })),
@@ -142,9 +142,16 @@ fn explored(alloc: Global, program: &[u8], first: bool) -> Result<(bool, u64), F
     let program = decode(alloc, program).ok().ok_or("a program")?;
     let mut checkers = Vec::new(alloc);
     checkers.push(Checker::limited(&program, 3))?;
-    let input = Input::new(&plan, &history, checkers.as_slice(), 0, false, first)
-        .ok()
-        .ok_or("an input")?;
+    let images = count(&plan, 0, false).ok().ok_or("few images")?;
+    let input = Input::new(
+        &plan,
+        &history,
+        checkers.as_slice(),
+        0,
+        false,
+        first,
+        images,
+    );
     let work = explore_all(alloc, &OpenGate, &input).ok().ok_or("work")?;
     Ok((!work.lines.is_empty(), work.hits))
 }

@@ -24,7 +24,7 @@ returns-in-Ok-clause-answers c =
       log = c.as_slice.result.now;
       programs = map (λ f. f.items) c.as_slice-in-Ok.result.now;
       read = files_read (λ f. f.items) c.args.files.now c.in-Some.first.now c.in-Some.others.now c.in-Some-first.log c.as_slice.result.now _
-        c.in-Some.ensures.cases.0 c.in-Some-first.is readable c.as_slice.ensures.value (ap (map (λ f. f.items)) c.as_slice-in-Ok.ensures.value ∙ c.in-Ok.ensures);
+          c.in-Some.ensures.cases.0 c.in-Some-first.is readable c.as_slice.ensures.value (ap (map (λ f. f.items)) c.as_slice-in-Ok.ensures.value ∙ c.in-Ok.ensures);
       answers = run;
     })
 
