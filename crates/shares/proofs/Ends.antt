@@ -6,8 +6,8 @@ use Rattle.atomic_table.specs.Table.{State, Step, Allows, Splits, Joins, Enters,
 use Rattle.atomic_table.proofs.Lists.{at_snoc, set_else, set_again}
 use Rattle.shares.specs.declared.view.View.{View}
 use Rattle.shares.specs.declared.view.Limits.{Limits}
-use Rattle.shares.specs.Steps.{total, least_of, drew, drew_late, image_posted, shown_next, shown_least, draws, late_draws, least_posted, none_posted}
-use Rattle.shares.specs.Board.{known, DrewBelow, Fits, BoardRule}
+use Rattle.shares.specs.Steps.{total, least_of, drew, drew_late, image_posted, shown_next, shown_least, draws, late_draws, least_posted, none_posted, posted_it, found_it, posts, finds}
+use Rattle.shares.specs.Board.{known, DrewBelow, ArePosted, Fits, BoardRule}
 use Rattle.shares.specs.Moves.{opened, newcomer, one_part, less_one, joined, entered, learned_next, learned_least}
 use Rattle.shares.proofs.Lists.{total_append, total_snoc, total_set, greatest_append, least_bound, least_snoc, least_append, least_set, least_out, least_part, total_alone, least_alone}
 use Rattle.shares.proofs.Moves.{each_after, least_within}
@@ -26,6 +26,7 @@ begins limits small = record {
   once = λ b. ((λ lt. absurd (omega arith)), (λ le. refl));
   late = omega arith;
   lowest = refl;
+  found = λ image small often. absurd (omega arith);
   each = only;
 }
   where
@@ -39,9 +40,11 @@ module _ (limits : Limits) (s : State (Unit {0}) View) (h : BoardRule limits s) 
       → ((b : ℕ) → total (λ (u : View). draws b u.steps) views ≡ total (λ (u : View). draws b u.steps) s.views)
       → total (λ (u : View). late_draws limits.blocks u.steps) views ≡ total (λ (u : View). late_draws limits.blocks u.steps) s.views
       → least_of (λ (u : View). least_posted u.steps) views ≡ least_of (λ (u : View). least_posted u.steps) s.views
+      → ((i : ℕ) → total (λ (u : View). finds i u.steps) views ≡ total (λ (u : View). finds i u.steps) s.views)
+      → ((i : ℕ) → total (λ (u : View). posts i u.steps) views ≡ total (λ (u : View). posts i u.steps) s.views)
       → ((j : ℕ) (u : View) → get_elem? views j ≡ some u → Fits limits h.next h.least u)
       → BoardRule limits (record { words = s.words; homes = s.homes; views = views ++ known parts [] ∷ [] })
-  comes seats same_draws same_late same_least each = record {
+  comes seats same_draws same_late same_least same_finds same_posts each = record {
     next = h.next;
     least = h.least;
     words = h.words;
@@ -54,6 +57,10 @@ module _ (limits : Limits) (s : State (Unit {0}) View) (h : BoardRule limits s) 
         ((λ lt. same ∙ was.0 lt), (λ le. same ∙ was.1 le));
     late = omega (arith, total_snoc (λ (u : View). late_draws limits.blocks u.steps) views new, same_late, h.late);
     lowest = omega (arith, least_snoc (λ (u : View). least_posted u.steps) views new, same_least, h.lowest, least_within limits s h);
+    found = λ image small often.
+        let before : 0 < total (λ (u : View). finds image u.steps) s.views = omega (arith, total_snoc (λ (u : View). finds image u.steps) views new, same_finds image) in
+        let was = h.found image small before in
+        omega (arith, total_snoc (λ (u : View). posts image u.steps) views new, same_posts image);
     each = λ j u at. ⊎_elim (each j u) (λ e. subst (Fits limits h.next h.least) e (fits_new limits h.next h.least parts (least_within limits s h))) (at_snoc views new u j at);
   }
     where
@@ -61,7 +68,7 @@ module _ (limits : Limits) (s : State (Unit {0}) View) (h : BoardRule limits s) 
       new = known parts []
 
 pub enters : (limits : Limits) (slots : ℕ) (st : Step (Unit {0})) (c : View × List (ℕ × Unit {0})) → Enters (BoardRule limits) slots 0 (λ n w. entered st c n (w, []))
-enters limits slots st c s h count fits = (newcomer, comes limits s h 0 s.views (omega (arith, h.parts)) (λ b. refl) refl refl h.each, refl)
+enters limits slots st c s h count fits = (newcomer, comes limits s h 0 s.views (omega (arith, h.parts)) (λ b. refl) refl refl (λ i. refl) (λ i. refl) h.each, refl)
 
 pub gives : (limits : Limits) (id : ℕ) (v : View) → v.steps ≡ [] → 0 < v.parts → Splits (BoardRule limits) id v (less_one v) one_part
 gives limits id v no_step some_part s h at = comes limits s h 1 (slice_set s.views id (less_one v))
@@ -69,6 +76,8 @@ gives limits id v no_step some_part s h at = comes limits s h 1 (slice_set s.vie
     (λ b. omega (arith, total_set (λ (u : View). draws b u.steps) s.views id v (less_one v) at))
     (omega (arith, total_set (λ (u : View). late_draws limits.blocks u.steps) s.views id v (less_one v) at))
     (omega (arith, least_set (λ (u : View). least_posted u.steps) s.views id v (less_one v) none_posted at (omega (arith, least_bound image_posted v.steps)), least_bound (λ (u : View). least_posted u.steps) s.views))
+    (λ i. omega (arith, total_set (λ (u : View). finds i u.steps) s.views id v (less_one v) at))
+    (λ i. omega (arith, total_set (λ (u : View). posts i u.steps) s.views id v (less_one v) at))
     (each_after limits h.next h.least h.next h.least s.views id (less_one v) (omega arith) (omega arith) fewer h.each)
   where
     none_late : late_draws limits.blocks v.steps ≡ 0
@@ -98,6 +107,13 @@ takes_in limits id v other w s h at apart at_other = record {
       ((λ lt. same ∙ was.0 lt), (λ le. same ∙ was.1 le));
   late = omega (arith, twice (λ (u : View). late_draws limits.blocks u.steps), total_append (drew_late limits.blocks) v.steps w.steps, h.late);
   lowest = h.lowest ∙ sym same_least;
+  found = λ image small often.
+      let found : total (λ (u : View). finds image u.steps) after ≡ total (λ (u : View). finds image u.steps) s.views =
+      omega (arith, twice (λ (u : View). finds image u.steps), total_append (found_it image) v.steps w.steps) in
+      let posted : total (λ (u : View). posts image u.steps) after ≡ total (λ (u : View). posts image u.steps) s.views =
+      omega (arith, twice (λ (u : View). posts image u.steps), total_append (posted_it image) v.steps w.steps) in
+      let was = h.found image small (omega arith) in
+      omega arith;
   each = each_after limits h.next h.least h.next h.least one_set other newcomer (omega arith) (omega arith) (fits_new limits h.next h.least 0 (least_within limits s h))
       (each_after limits h.next h.least h.next h.least s.views id both (omega arith) (omega arith) fits_both h.each);
 }
@@ -153,6 +169,16 @@ module _ (limits : Limits) (slots id : ℕ) (v : View) (c : List (ℕ × Unit {0
       let was = h.once b in
       ((λ lt. sym mine ∙ was.0 lt), (λ le. sym mine ∙ was.1 le))
 
+  -- and that each image that it found as the least is one that it posted
+  all_found : (s : State (Unit {0}) View) (h : BoardRule limits s) → get_elem? s.views id ≡ some v → ArePosted (λ i. finds i v.steps) (λ i. posts i v.steps)
+  all_found s h at i small often =
+      let found : total (λ (u : View). finds i u.steps) s.views ≡ finds i v.steps =
+      total_alone (λ (u : View). u.parts) (λ (u : View). finds i u.steps) s.views id v at (omega (arith, h.parts)) (λ j u there none_left. ap (finds i) ((h.each j u there).idle none_left)) in
+      let posted : total (λ (u : View). posts i u.steps) s.views ≡ posts i v.steps =
+      total_alone (λ (u : View). u.parts) (λ (u : View). posts i u.steps) s.views id v at (omega (arith, h.parts)) (λ j u there none_left. ap (posts i) ((h.each j u there).idle none_left)) in
+      let was = h.found i small (omega arith) in
+      omega arith
+
   pub learns_next : Allows (BoardRule limits) slots id (v, c) 0 (λ n. n) (learned_next st (v, c))
   learns_next s h count at fits =
       let found : slice_index s.words 0 ≡ h.next = ap (λ (ws : List ℕ). slice_index ws 0) h.words in (
@@ -172,5 +198,5 @@ module _ (limits : Limits) (slots id : ℕ) (v : View) (c : List (ℕ × Unit {0
         keeps,
         tt,
         same_rule limits s (slice_set s.words 1 (slice_index s.words 1)) (slice_set s.views id v) ((λ i. slice_set (h.words i) 1 (slice_index (h.words i) 1)) ∙ sym h.words) (set_again s.views id v at) h,
-        (refl, found ∙ h.lowest ∙ mine, let above = (h.each id v at).above in omega arith),
+        (refl, found ∙ h.lowest ∙ mine, let above = (h.each id v at).above in omega arith, all_found s h at),
       )

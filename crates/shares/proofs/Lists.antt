@@ -1,5 +1,6 @@
 -- Sums and least numbers of lists that change at one place or grow.
-use Rattle.std.proofs.Common.{◌≡◌, ℕ, zero, suc, ◌+◌, ◌≤◌, ◌≢◌, min, max, List, [], ◌∷◌, ◌++◌, set, sym, refl, ap, ◌∙◌, arith}
+use Rattle.std.proofs.Common.{◌≡◌, ℕ, zero, suc, ◌+◌, ◌≤◌, ◌≢◌, min, max, List, [], ◌∷◌, ◌++◌, set, sym, refl, ap, ◌∙◌, ◌<◌, ⊎_elim, arith}
+use Rattle.std.proofs.lemmas.Bool.Decides.{leb_tells}
 use mathlib.Core.Option.{some, some-injective, some-ne-none}
 use lib.ListN.{get_elem?}
 use Rattle.atomic_table.proofs.Lists.{set_else}
@@ -74,6 +75,24 @@ module _ {A : Type 0} (f : A → ℕ) where
   -- the same where another element's number is no greater: nothing changes
   pub least_out : (xs : List A) (i j : ℕ) (u v w : A) → get_elem? xs i ≡ some u → get_elem? xs j ≡ some v → i ≢ j → f u ≤ f v → f w ≡ none_posted → least_of f (set xs j w) ≡ least_of f xs
   least_out xs i j u v w at_i at_j apart le e = omega (arith, least_cleared xs j v w at_j e, least_part (set xs j w) i u (set_else xs j i w apart ∙ at_i))
+
+-- where the least f is not none, some element is counted by what counts an element with that f
+pub least_counted : {A : Type 0} (f : A → ℕ) (g : ℕ → A → ℕ) → ((x : A) → f x < none_posted → 0 < g (f x) x) → (xs : List A) → least_of f xs < none_posted → 0 < total (g (least_of f xs)) xs
+least_counted f g each [] lower = absurd (omega arith)
+least_counted f g each (x ∷ xs) lower = ⊎_elim
+    (λ t.
+    let le = t.1 in
+    let same : min (f x) (least_of f xs) ≡ f x = omega arith in
+    let here : 0 < g (f x) x = each x (omega arith) in
+    let there : 0 < g (min (f x) (least_of f xs)) x = rw same here in
+    omega arith)
+    (λ t.
+    let lt = t.1 in
+    let same : min (f x) (least_of f xs) ≡ least_of f xs = omega arith in
+    let rest : 0 < total (g (least_of f xs)) xs = least_counted f g each xs (omega arith) in
+    let there : 0 < total (g (min (f x) (least_of f xs))) xs = rw same rest in
+    omega arith)
+    (leb_tells (f x) (least_of f xs))
 
 module _ {A : Type 0} (p f : A → ℕ) where
   -- f is 0 of each element that has nothing of p

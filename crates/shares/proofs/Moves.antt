@@ -9,10 +9,10 @@ use Rattle.shares.specs.declared.view.SeatStep.{SeatStep}
 use Rattle.shares.specs.declared.view.SeatStep.TheVariants.{Drew, Posted, SawLeast, SawNext}
 use Rattle.shares.specs.declared.view.View.{View}
 use Rattle.shares.specs.declared.view.Limits.{Limits}
-use Rattle.shares.specs.Steps.{total, bit, drew, drew_late, image_posted, shown_next, shown_least, draws, late_draws, least_posted, none_posted}
+use Rattle.shares.specs.Steps.{total, least_of, bit, drew, drew_late, image_posted, shown_next, shown_least, draws, late_draws, least_posted, none_posted, posted_it, found_it, posts, finds}
 use Rattle.shares.specs.Board.{with_step, Fits, BoardRule}
 use Rattle.shares.specs.Moves.{drawn, posted, saw_least, saw_next}
-use Rattle.shares.proofs.Lists.{total_snoc, total_set, total_at_most, greatest_snoc, least_snoc, least_set, least_bound}
+use Rattle.shares.proofs.Lists.{total_snoc, total_set, total_at_most, greatest_snoc, least_snoc, least_set, least_bound, least_counted}
 
 -- what a seat knows fits later words too
 pub later : (limits : Limits) (next least next' least' : ℕ) (v : View) → next ≤ next' → least' ≤ least → Fits limits next least v → Fits limits next' least' v
@@ -38,14 +38,35 @@ fits_made limits next least next' least' v made h some_part up down late below a
 abbrev Counts : ℕ → ℕ → SeatStep → Type 0
 Counts next next' made = (b times : ℕ) → (b < next → times ≡ 1) × (next ≤ b → times ≡ 0) → (b < next' → times + drew b made ≡ 1) × (next' ≤ b → times + drew b made ≡ 0)
 
+-- the least image is posted where there is one
+least_is_posted : (limits : Limits) (s : State (Unit {0}) View) (h : BoardRule limits s) → h.least < none_posted → 0 < total (λ (u : View). posts h.least u.steps) s.views
+least_is_posted limits s h lower =
+    let is = h.lowest in
+    let all : 0 < total (λ (u : View). posts (least_of (λ (w : View). least_posted w.steps) s.views) u.steps) s.views =
+    least_counted (λ (w : View). least_posted w.steps) (λ i (u : View). posts i u.steps) (λ u. least_counted image_posted posted_it by_step u.steps) s.views (omega arith) in
+    rw is all
+  where
+    by_step : (made : SeatStep) → image_posted made < none_posted → 0 < posted_it (image_posted made) made
+    by_step (Posted image found) lower = ⊎_elim (λ t. let one : bit (eqb image image) ≡ 1 = ap bit t.0 in omega arith) (λ t. absurd (t.1 refl)) (eqb_tells image image)
+    by_step (Drew found) lower = absurd (omega arith)
+    by_step (SawLeast found) lower = absurd (omega arith)
+    by_step (SawNext found) lower = absurd (omega arith)
+
+-- a step that finds an image as the least finds the least image of the board
+abbrev FindsLeast : ℕ → SeatStep → Type 0
+FindsLeast least made = (image : ℕ) → image < none_posted → 0 < found_it image made → image ≡ least
+
+finds_it : (found least image : ℕ) → found ≡ least → 0 < bit (eqb found image) → image ≡ least
+finds_it found least image e often = ⊎_elim (λ t. let same = t.1 in omega arith) (λ t. let none : bit (eqb found image) ≡ 0 = ap bit t.0 in absurd (omega arith)) (eqb_tells found image)
+
 -- the rule after one step of a seat with some part
 module _ (limits : Limits) (s : State (Unit {0}) View) (h : BoardRule limits s) (id : ℕ) (v : View) (at : get_elem? s.views id ≡ some v) (some_part : 0 < v.parts) where
   moved : (made : SeatStep) (words : List ℕ) (next least : ℕ) → words ≡ next ∷ least ∷ [] → Counts h.next next made
       → ((times : ℕ) → h.next ≤ limits.blocks + times → next ≤ limits.blocks + (times + drew_late limits.blocks made))
       → late_draws limits.blocks v.steps + drew_late limits.blocks made ≤ v.parts
-      → h.next ≤ next → shown_next made ≤ next → least ≡ min h.least (image_posted made) → least ≤ shown_least made
+      → h.next ≤ next → shown_next made ≤ next → least ≡ min h.least (image_posted made) → least ≤ shown_least made → FindsLeast h.least made
       → BoardRule limits (record { words = words; homes = s.homes; views = slice_set s.views id (with_step v made) })
-  moved made words next least are counts late few up below lowest above = record {
+  moved made words next least are counts late few up below lowest above least_found = record {
     next = next;
     least = least;
     words = are;
@@ -60,6 +81,19 @@ module _ (limits : Limits) (s : State (Unit {0}) View) (h : BoardRule limits s) 
         let all = late (total (λ (u : View). late_draws limits.blocks u.steps) s.views) h.late in
         omega (arith, total_set (λ (u : View). late_draws limits.blocks u.steps) s.views id v w at, total_snoc (drew_late limits.blocks) v.steps made);
     lowest = lowest ∙ ap (λ (n : ℕ). min n (image_posted made)) h.lowest ∙ sym (least_set (λ (u : View). least_posted u.steps) s.views id v w (image_posted made) at (least_snoc image_posted v.steps made));
+    found = λ image small often.
+        let posted : total (λ (u : View). posts image u.steps) (slice_set s.views id w) ≡ total (λ (u : View). posts image u.steps) s.views + posted_it image made =
+        omega (arith, total_set (λ (u : View). posts image u.steps) s.views id v w at, total_snoc (posted_it image) v.steps made) in
+        let seen : total (λ (u : View). finds image u.steps) (slice_set s.views id w) ≡ total (λ (u : View). finds image u.steps) s.views + found_it image made =
+        omega (arith, total_set (λ (u : View). finds image u.steps) s.views id v w at, total_snoc (found_it image) v.steps made) in
+        ⊎_elim
+        (λ t. let before = t.1 in let was = h.found image small (omega arith) in omega arith)
+        (λ t.
+        let none_before = t.1 in
+        let same : image ≡ h.least = least_found image small (omega arith) in
+        let least_there : 0 < total (λ (u : View). posts image u.steps) s.views = rw same (least_is_posted limits s h (omega arith)) in
+        omega arith)
+        (leb_tells 1 (total (λ (u : View). finds image u.steps) s.views));
     each = each_after limits h.next h.least next least s.views id w up (omega arith) (fits_made limits h.next h.least next least v made (h.each id v at) some_part up (omega arith) few below above) h.each;
   }
     where
@@ -68,13 +102,13 @@ module _ (limits : Limits) (s : State (Unit {0}) View) (h : BoardRule limits s) 
 
   -- the same where the number of the next block stays
   looked : (made : SeatStep) (words : List ℕ) (least : ℕ) → words ≡ h.next ∷ least ∷ [] → ((b : ℕ) → drew b made ≡ 0) → drew_late limits.blocks made ≡ 0
-      → shown_next made ≤ h.next → least ≡ min h.least (image_posted made) → least ≤ shown_least made
+      → shown_next made ≤ h.next → least ≡ min h.least (image_posted made) → least ≤ shown_least made → FindsLeast h.least made
       → BoardRule limits (record { words = words; homes = s.homes; views = slice_set s.views id (with_step v made) })
-  looked made words least are draws_none ends_none below lowest above =
+  looked made words least are draws_none ends_none below lowest above least_found =
       let fits = (h.each id v at).late in
       moved made words h.next least are
       (λ b times was. let none_drawn = draws_none b in ((λ lt. let one = was.0 lt in omega arith), (λ le. let zero_times = was.1 le in omega arith)))
-      (λ times late. omega arith) (omega arith) (omega arith) below lowest above
+      (λ times late. omega arith) (omega arith) (omega arith) below lowest above least_found
 
 -- one more number is drawn
 counts_draw : (next found : ℕ) → found ≡ next → Counts next (next + 1) (Drew found)
@@ -126,7 +160,7 @@ draws_as limits slots id v c st early s h count at fits =
           (counts_draw h.next (slice_index s.words 0) found)
           (λ times late. late_draw limits.blocks h.next (slice_index s.words 0) times found late)
           (omega (arith, at_most_one (leb limits.blocks (slice_index s.words 0))))
-          (omega arith) (omega arith) (omega (arith, h.lowest, least_within limits s h)) (omega (arith, h.lowest, least_within limits s h)),
+          (omega arith) (omega arith) (omega (arith, h.lowest, least_within limits s h)) (omega (arith, h.lowest, least_within limits s h)) (λ image small often. absurd (omega arith)),
       (refl, omega arith),
     )
 
@@ -141,7 +175,7 @@ posts_as limits slots id v c st some_part s h count at fits =
       keeps,
       tt,
       looked limits s h id v at some_part made (slice_set s.words 1 (min (slice_index s.words 1) st.first)) (min h.least st.first)
-          (λ i. slice_set (h.words i) 1 (after i)) (λ b. refl) refl (omega arith) refl (omega arith),
+          (λ i. slice_set (h.words i) 1 (after i)) (λ b. refl) refl (omega arith) refl (omega arith) (λ image small often. finds_it (slice_index s.words 1) h.least image found often),
       (refl, omega arith),
     )
 
@@ -155,7 +189,7 @@ sees_least_as limits slots id v c st some_part s h count at fits =
       keeps,
       tt,
       looked limits s h id v at some_part made (slice_set s.words 1 (slice_index s.words 1)) h.least
-          (λ i. slice_set (h.words i) 1 (slice_index (h.words i) 1)) (λ b. refl) refl (omega arith) (omega (arith, least_within limits s h)) (omega arith),
+          (λ i. slice_set (h.words i) 1 (slice_index (h.words i) 1)) (λ b. refl) refl (omega arith) (omega (arith, least_within limits s h)) (omega arith) (λ image small often. finds_it (slice_index s.words 1) h.least image found often),
       (refl, omega arith),
     )
 
@@ -169,6 +203,6 @@ sees_next_as limits slots id v c st some_part s h count at fits =
       keeps,
       tt,
       looked limits s h id v at some_part made (slice_set s.words 0 (slice_index s.words 0)) h.least
-          (λ i. slice_set (h.words i) 0 (slice_index (h.words i) 0)) (λ b. refl) refl (omega arith) (omega (arith, least_within limits s h)) (omega (arith, least_within limits s h)),
+          (λ i. slice_set (h.words i) 0 (slice_index (h.words i) 0)) (λ b. refl) refl (omega arith) (omega (arith, least_within limits s h)) (omega (arith, least_within limits s h)) (λ image small often. absurd (omega arith)),
       (refl, omega arith),
     )

@@ -6,7 +6,7 @@ use Rattle.atomic_table.specs.Table.{State}
 use Rattle.shares.specs.declared.view.SeatStep.{SeatStep}
 use Rattle.shares.specs.declared.view.View.{View}
 use Rattle.shares.specs.declared.view.Limits.{Limits}
-use Rattle.shares.specs.Steps.{total, least_of, draws, late_draws, least_posted, next_seen, least_seen}
+use Rattle.shares.specs.Steps.{total, least_of, draws, late_draws, none_posted, least_posted, next_seen, least_seen, posts, finds}
 
 abbrev pub known : ℕ → List SeatStep → View
 known parts steps = record { parts = parts; steps = steps }
@@ -18,6 +18,10 @@ with_step v made = known v.parts (v.steps ++ made ∷ [])
 -- the blocks below n were drawn in those steps, each once, and no other number was
 abbrev pub DrewBelow : ℕ → (ℕ → ℕ) → Type 0
 DrewBelow n times = (b : ℕ) → (b < n → times b ≡ 1) × (n ≤ b → times b ≡ 0)
+
+-- each image that was found as the least, so often, was posted, so often
+abbrev pub ArePosted : (ℕ → ℕ) → (ℕ → ℕ) → Type 0
+ArePosted found posted = (image : ℕ) → image < none_posted → 0 < found image → 0 < posted image
 
 -- what one seat knows, beside the words: it finds no block left at most once for each part, a seat without a part knows nothing,
 -- nothing seen in `next` is above it, and nothing seen in `least` is below it
@@ -41,4 +45,6 @@ pub record BoardRule (limits : Limits) (s : State (Unit {0}) View) : Type 0 wher
   pub late : next ≤ limits.blocks + total (λ (v : View). late_draws limits.blocks v.steps) s.views
   -- `least` is the smallest image posted in any view
   pub lowest : least ≡ least_of (λ (v : View). least_posted v.steps) s.views
+  -- an image that a view found as the least was posted in some view
+  pub found : ArePosted (λ i. total (λ (v : View). finds i v.steps) s.views) (λ i. total (λ (v : View). posts i v.steps) s.views)
   pub each : (j : ℕ) (v : View) → get_elem? s.views j ≡ some v → Fits limits next least v

@@ -4,8 +4,8 @@ use Rattle.atomic_table.specs.Table.{Me, Step}
 use Rattle.shares.specs.declared.view.SeatStep.TheVariants.{Drew, Posted, SawLeast, SawNext}
 use Rattle.shares.specs.declared.view.View.{View}
 use Rattle.shares.specs.declared.view.Limits.{Limits}
-use Rattle.shares.specs.Steps.{draws, least_posted, next_seen, least_seen}
-use Rattle.shares.specs.Board.{known, with_step, DrewBelow}
+use Rattle.shares.specs.Steps.{draws, least_posted, next_seen, least_seen, posts, finds}
+use Rattle.shares.specs.Board.{known, with_step, DrewBelow, ArePosted}
 
 -- the view of the first seat, which has every part
 abbrev pub opened : Limits → View
@@ -50,4 +50,4 @@ abbrev pub learned_next : Made
 learned_next st v n w = (w ≡ v) × DrewBelow n (λ b. draws b v.0.steps) × (next_seen v.0.steps ≤ n)
 
 abbrev pub learned_least : Made
-learned_least st v n w = (w ≡ v) × (n ≡ least_posted v.0.steps) × (n ≤ least_seen v.0.steps)
+learned_least st v n w = (w ≡ v) × (n ≡ least_posted v.0.steps) × (n ≤ least_seen v.0.steps) × ArePosted (λ i. finds i v.0.steps) (λ i. posts i v.0.steps)

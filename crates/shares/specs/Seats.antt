@@ -3,7 +3,7 @@ use Rattle.std.specs.Prelude.{◌≡◌, ℕ, ◌<◌, ◌≤◌, List, [], ◌�
 use Rattle.atomic_table.specs.Seated.{TableId}
 use Rattle.shares.specs.declared.view.SeatStep.{SeatStep}
 use Rattle.shares.specs.declared.view.SeatStep.TheVariants.{Drew}
-use Rattle.shares.specs.Steps.{draws, late_draws}
+use Rattle.shares.specs.Steps.{draws, late_draws, none_posted, posts, finds}
 
 -- which board it is, and its number of blocks
 pub record BoardName : Type 0 where
@@ -45,3 +45,7 @@ pub record IsFirstUndrawn (blocks : ℕ) (steps : List SeatStep) (block : ℕ) :
 -- each of that many blocks was drawn in those steps, once
 pub record AreDrawnOnce (blocks : ℕ) (steps : List SeatStep) : Type 0 where
   pub once : (b : ℕ) → b < blocks → draws b steps ≡ 1
+
+-- each image that those steps found as the least is one that they posted
+pub record FoundArePosted (steps : List SeatStep) : Type 0 where
+  pub each : (image : ℕ) → image < none_posted → 0 < finds image steps → 0 < posts image steps

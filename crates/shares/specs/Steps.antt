@@ -74,3 +74,22 @@ shown_least _ = none_posted
 -- the least image that those steps posted or saw
 abbrev pub least_seen : List SeatStep → ℕ
 least_seen steps = least_of shown_least steps
+
+-- 1 where the step posted that image
+abbrev pub posted_it : ℕ → SeatStep → ℕ
+posted_it image (Posted own found) = bit (nat_eq own image)
+posted_it image _ = 0
+
+-- how often those steps posted that image
+abbrev pub posts : ℕ → List SeatStep → ℕ
+posts image steps = total (posted_it image) steps
+
+-- 1 where that was the least image when the step was made
+abbrev pub found_it : ℕ → SeatStep → ℕ
+found_it image (Posted own found) = bit (nat_eq found image)
+found_it image (SawLeast found) = bit (nat_eq found image)
+found_it image _ = 0
+
+-- how often those steps found that image as the least
+abbrev pub finds : ℕ → List SeatStep → ℕ
+finds image steps = total (found_it image) steps

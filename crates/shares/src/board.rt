@@ -6,7 +6,7 @@ ghost use Rattle.shares.specs.declared.view.SeatStep.TheVariants.{Drew, Posted, 
 ghost use Rattle.shares.specs.Steps.{image_or_none, late_draws, least_posted, next_seen, least_seen};
 ghost use Rattle.shares.specs.Board.{known};
 ghost use Rattle.shares.specs.Moves.{less_one};
-ghost use Rattle.shares.specs.Seats.{HasEnded, DrawsNone, all_steps, IsFirstUndrawn, AreDrawnOnce};
+ghost use Rattle.shares.specs.Seats.{HasEnded, DrawsNone, all_steps, IsFirstUndrawn, AreDrawnOnce, FoundArePosted};
 ghost use Rattle.base.specs.Refusals.{work_refusal};
 
 use crate::rule::{
@@ -197,6 +197,7 @@ impl Board {
         ensures seen_drawn { IfOk result (λ _. next_seen (all_steps seats.items) ≤ self.name.blocks + late_draws self.name.blocks (all_steps seats.items)) }
         ensures least { IfOk result (λ least. least ≡ image_or_none (least_posted (all_steps seats.items))) }
         ensures seen_least { IfOk result (λ _. least_posted (all_steps seats.items) ≤ least_seen (all_steps seats.items)) }
+        ensures seen_posted { IfOk result (λ _. FoundArePosted (all_steps seats.items)) }
     {
         let wanted = usize::from(self.seats);
         let there = seats.len();
@@ -235,6 +236,7 @@ impl Board {
         ensures seen_drawn { IfOk result (λ _. next_seen whole.old.me.0.steps ≤ self.now.name.blocks + late_draws self.now.name.blocks whole.old.me.0.steps) }
         ensures least { IfOk result (λ least. least ≡ image_or_none (least_posted whole.old.me.0.steps)) }
         ensures seen_least { IfOk result (λ _. least_posted whole.old.me.0.steps ≤ least_seen whole.old.me.0.steps) }
+        ensures seen_posted { IfOk result (λ _. FoundArePosted whole.old.me.0.steps) }
     {
         let drawn = self.table.shared.load::<LearnNext>(whole, NEXT);
         if drawn < u64::from(self.blocks) {

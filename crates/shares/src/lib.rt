@@ -26,7 +26,8 @@
 //!
 //! - the numbers below `next` are drawn, each in one seat's steps, once, and no others are;
 //! - `least` is the smallest image that a seat posted, or none;
-//! - nothing that a seat saw in `next` is above it, and nothing that it saw in `least` is below it.
+//! - nothing that a seat saw in `next` is above it, and nothing that it saw in `least` is below it;
+//! - each image that a seat saw in `least` is one that a seat posted.
 //!
 //! Contracts see a seat as its board and its steps (`specs/Seats.antt`), and each call adds just its own:
 //!
@@ -38,10 +39,10 @@
 //! - `gather` refuses with 73 at the number of seats that are missing, tested first, and with 71 at the
 //!   first block that nobody drew, exactly where there is one. Else each block was drawn once in the
 //!   steps of those seats, and the answer is the least image that they posted.
-//! - No seat has seen more than `gather` finds: at 71 no number of a next block above the block named;
-//!   else none above the number of blocks, but for those that draws found which came too late, each by
-//!   one at most; and no least image below the answer. So what a seat drew or saw drawn is drawn, and
-//!   where a seat saw an image posted, one of the seats posted it or one before it.
+//! - No seat has seen more than `gather` finds. At 71 nobody saw a number of the next block above the
+//!   block named. Else nobody saw one above the number of blocks, but for the draws that came too late,
+//!   each of which raised it by one; and nobody saw a least image below the answer. So what a seat drew
+//!   or saw drawn was drawn by one of the seats, and an image that a seat saw posted was posted by one.
 //!
 //! Nothing is said of the order in time of two threads' calls.
 //!

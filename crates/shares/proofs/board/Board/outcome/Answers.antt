@@ -43,3 +43,6 @@ pub returns-clause-seen_drawn : goal.returns-clause-seen_drawn
 returns-clause-seen_drawn c =
     let blocks = ap (λ d. d.name.blocks) c.self.view_is in
     seen_within c.args.self.now.name.blocks c.load-drawn.result c.args.whole.now.me.0.steps (omega (arith, blocks, c.from.ensures, c.if-drawn-from.false)) c.load-drawn.ensures.2.1 c.load-drawn.ensures.2.2
+
+pub returns-clause-seen_posted : goal.returns-clause-seen_posted
+returns-clause-seen_posted c = rw (← c.load-drawn.ensures.2.0) (record { each = c.load-least.ensures.2.3 })
