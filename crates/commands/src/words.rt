@@ -57,10 +57,73 @@ impl Model for Words {
     ghost view = { λ w. record { request = w.request; files = map string_bytes w.files.items } };
 }
 
+/// The version of the program, and the kit that it is proved with.
+const VERSION: &str = "0.1.0 (proved with rattle-kit-13b logic dac8208d650f15bf)";
+
+/// What the program is for.
+const ABOUT: &str =
+    "Judges every disk image that a power cut may leave behind a log of block writes.";
+
+/// What stands behind the help of the program.
+const AFTER: &str = "Without a word the program explores an empty log with a program of its own.
+
+A log has at most 64 MiB, 65,536 entries and 262,144 written or discarded sectors; a device 16,384
+sectors of 512 bytes; a program 4,096 slots; a run 8 programs and 16,777,216 images.
+
+Exit status: 0 where the command succeeded and no image fails, 1 where an image fails, 2 for a
+refusal (one line on standard error, as 'refused 12 at 3'), a fault of the command line, or a standard
+output that can't be written.";
+
+/// What stands behind the help of `explore`.
+const AFTER_EXPLORE: &str =
+    "Each line of the report names an image, its cut, a program, what that answered, and the sectors
+that were lost or torn: 'choice 8.0:head7' is sector 0 of entry 8, of which the first seven eighths
+arrived.
+
+Example: crashbpf explore disk.log check.bpf --sectors 64 --cuts flush --bound 2 --tears
+
+Exit status: 0 where no image fails, 1 where one does, 2 for a refusal.";
+
+/// What stands behind the help of `images`.
+const AFTER_IMAGES: &str =
+    "A cut with v sectors on their way has the sum over i up to the bound of C(v, i) * m^i images, where
+m is 8 with --tears and else 1.
+
+Example: crashbpf images disk.log --sectors 64 --tears
+
+Exit status: 0, or 2 for a refusal.";
+
+/// What stands behind the help of `image`.
+const AFTER_IMAGE: &str = "The number is that of a line of the report, with the same options.
+
+Example: crashbpf image disk.log 202 --sectors 64 --tears > broken.img
+
+Exit status: 0, or 2 for a refusal.";
+
+/// What stands behind the help of `verify`.
+const AFTER_VERIFY: &str =
+    "Prints 'accepted budget N': on each image of a device of that size a run takes at most N steps.
+
+Example: crashbpf verify check.bpf --sectors 64
+
+Exit status: 0 where the program is accepted, 2 for a refusal: 20 to 26 for its bytes, 40 to 60 for
+the rule that it breaks, each at its slot.";
+
+/// What stands behind the help of `asm`.
+const AFTER_ASM: &str = "Example: crashbpf asm check.s > check.bpf
+
+Exit status: 0, or 2 for a refusal: 30 to 35 at the line.";
+
+/// What stands behind the help of `list`.
+const AFTER_LIST: &str = "Example: crashbpf list check.bpf
+
+Exit status: 0, or 2 for a refusal: 20 to 26 at the slot.";
+
 /// An option that takes a number.
 fn number_option<'a>(alloc: Global, name: &'a str, default: &'a str, help: &'a str) -> Arg<'a> {
     Arg::new(alloc, name)
         .long(name)
+        .value_name("N")
         .value_parser(clap::value_parser!(u64))
         .default_value(default)
         .help(help)
@@ -70,50 +133,83 @@ fn number_option<'a>(alloc: Global, name: &'a str, default: &'a str, help: &'a s
 fn sectors_option<'a>(alloc: Global) -> Arg<'a> {
     Arg::new(alloc, "sectors")
         .long("sectors")
+        .value_name("N")
         .required(true)
         .value_parser(clap::value_parser!(u64))
-        .help("sectors of the device, 1 to 16384")
+        .help("Sectors of the device, 1 to 16384")
+}
+
+/// The log of a command.
+fn log_file<'a>(alloc: Global) -> Arg<'a> {
+    Arg::new(alloc, "file")
+        .required(true)
+        .value_name("LOG")
+        .help("A log of writes, as Linux's dm-log-writes target makes it")
 }
 
 /// A command on a log, with the options that say which of its crash images are meant.
 fn log_command<'a>(alloc: Global, name: &'a str) -> Result<Command<'a>, AllocError> {
     let cuts = Arg::new(alloc, "cuts")
         .long("cuts")
+        .value_name("WHICH")
         .default_value("all")
-        .help("all, flush or mark");
+        .help("Cuts: all; flush, before each flush and at the end; mark, behind each mark");
     let tears = Arg::new(alloc, "tears")
         .long("tears")
         .action(ArgAction::SetTrue)
-        .help("let sectors be torn");
-    let log = Arg::new(alloc, "file").required(true).value_name("LOG");
+        .help("Sectors may also be torn: of the new content only the first eighths arrive");
+    let bound = number_option(
+        alloc,
+        "bound",
+        "1",
+        "How many sectors of an image may be lost or torn, 0 to 3",
+    );
     Command::new(alloc, name)
         .arg(sectors_option(alloc))?
         .arg(cuts)?
-        .arg(number_option(alloc, "bound", "1", "units that may depart, 0 to 3"))?
+        .arg(bound)?
         .arg(tears)?
-        .arg(log)
+        .arg(log_file(alloc))
+}
+
+/// The options of `explore` behind those of a log.
+fn with_run_options<'a>(alloc: Global, command: Command<'a>) -> Result<Command<'a>, AllocError> {
+    let checked = Arg::new(alloc, "checked")
+        .long("checked")
+        .value_name("N")
+        .value_parser(clap::value_parser!(u64))
+        .help("Ask no verifier, and run each program for at most N steps, 0 to 1000000000");
+    let first = Arg::new(alloc, "first")
+        .long("first")
+        .action(ArgAction::SetTrue)
+        .help("Report the first failing image alone");
+    command
+        .arg(number_option(alloc, "workers", "1", "Threads; only 1 as yet"))?
+        .arg(number_option(alloc, "cache", "0", "Verdicts to keep; only 0 as yet"))?
+        .arg(checked)?
+        .arg(first)
 }
 
 /// The command `explore`.
 fn explore_command<'a>(alloc: Global) -> Result<Command<'a>, AllocError> {
-    let checked = Arg::new(alloc, "checked")
-        .long("checked")
-        .value_parser(clap::value_parser!(u64))
-        .help("verify no program, and run each for at most so many steps");
-    let first = Arg::new(alloc, "first")
-        .long("first")
-        .action(ArgAction::SetTrue)
-        .help("report the first failing image alone");
     let programs = Arg::new(alloc, "programs")
         .num_args(1..)
         .required(true)
-        .value_name("PROGRAM");
-    log_command(alloc, "explore")?
-        .arg(number_option(alloc, "workers", "1", "threads, only 1 as yet"))?
-        .arg(number_option(alloc, "cache", "0", "judgements to keep, only 0 as yet"))?
-        .arg(checked)?
-        .arg(first)?
-        .arg(programs)
+        .value_name("PROGRAM")
+        .help("Checkers, one to eight: BPF programs that answer 0 for a good image");
+    let command = log_command(alloc, "explore")?
+        .about("Reports the crash images on which a checker doesn't answer 0")
+        .after_help(AFTER_EXPLORE);
+    with_run_options(alloc, command)?.arg(programs)
+}
+
+/// The command `images`.
+fn images_command<'a>(alloc: Global) -> Result<Command<'a>, AllocError> {
+    Ok(
+        log_command(alloc, "images")?
+            .about("Tells how many crash images each cut of a log has")
+            .after_help(AFTER_IMAGES),
+    )
 }
 
 /// The command `image`.
@@ -121,8 +217,12 @@ fn image_command<'a>(alloc: Global) -> Result<Command<'a>, AllocError> {
     let number = Arg::new(alloc, "number")
         .required(true)
         .value_parser(clap::value_parser!(u64))
-        .value_name("N");
-    log_command(alloc, "image")?.arg(number)
+        .value_name("N")
+        .help("The number of the image, from 0");
+    log_command(alloc, "image")?
+        .about("Writes the bytes of one crash image, sector after sector")
+        .after_help(AFTER_IMAGE)
+        .arg(number)
 }
 
 /// A command on one file and without options.
@@ -130,27 +230,56 @@ fn file_command<'a>(
     alloc: Global,
     name: &'a str,
     file: &'a str,
+    help: &'a str,
 ) -> Result<Command<'a>, AllocError> {
-    let file = Arg::new(alloc, "file").required(true).value_name(file);
+    let file = Arg::new(alloc, "file")
+        .required(true)
+        .value_name(file)
+        .help(help);
     Command::new(alloc, name).arg(file)
 }
 
 /// The command `verify`.
 fn verify_command<'a>(alloc: Global) -> Result<Command<'a>, AllocError> {
-    file_command(alloc, "verify", "PROGRAM")?.arg(sectors_option(alloc))
+    file_command(alloc, "verify", "PROGRAM", "A BPF program, as bytes")?
+        .about("Says with which budget of steps the verifier accepts a program")
+        .after_help(AFTER_VERIFY)
+        .arg(sectors_option(alloc))
+}
+
+/// The command `asm`.
+fn asm_command<'a>(alloc: Global) -> Result<Command<'a>, AllocError> {
+    Ok(
+        file_command(alloc, "asm", "SOURCE", "An assembly text")?
+            .about("Writes the program that an assembly text says")
+            .after_help(AFTER_ASM),
+    )
+}
+
+/// The command `list`.
+fn list_command<'a>(alloc: Global) -> Result<Command<'a>, AllocError> {
+    Ok(
+        file_command(alloc, "list", "PROGRAM", "A BPF program, as bytes")?
+            .about("Prints the listing of a program, which assembles to it again")
+            .after_help(AFTER_LIST),
+    )
 }
 
 /// All commands.
 fn commands<'a>(alloc: Global) -> Result<Command<'a>, AllocError> {
     Command::new(alloc, "crashbpf")
+        .bin_name("crashbpf")?
+        .about(ABOUT)
+        .after_help(AFTER)
+        .version(VERSION)
         .no_binary_name(true)
         .subcommand_required(true)
         .subcommand(explore_command(alloc)?)?
-        .subcommand(log_command(alloc, "images")?)?
+        .subcommand(images_command(alloc)?)?
         .subcommand(image_command(alloc)?)?
         .subcommand(verify_command(alloc)?)?
-        .subcommand(file_command(alloc, "asm", "SOURCE")?)?
-        .subcommand(file_command(alloc, "list", "PROGRAM")?)
+        .subcommand(asm_command(alloc)?)?
+        .subcommand(list_command(alloc)?)
 }
 
 /// The kind of cut that a word names.

@@ -12,8 +12,7 @@ ghost use Rattle.workers.specs.Exploring.{passes_over};
 
 use crate::block_lines::BlockLines;
 use crate::piece::{BLOCK, Piece};
-use arrayvec::ArrayVec;
-use choices::{Choice, Departure, next, nth};
+use choices::{Choice, next, nth};
 use epochs::Plan;
 use images::{History, View};
 use interp::{Checker, Outcome};
@@ -56,18 +55,6 @@ fn fails_with(outcome: &Outcome) -> bool
     }
 }
 
-/// The same departures.
-fn owned(departures: &[Departure]) -> ArrayVec<Departure, 3>
-    requires { length departures.now ≤ 3 }
-    ensures { result.items ≡ departures.now }
-{
-    let mut copy = ArrayVec::new();
-    for departure in departures {
-        copy.push(*departure);
-    }
-    copy
-}
-
 /// Appends the line of an image and a checker, if it fails there.
 #[tactic(auto, unfolding(crate::specs::Failing::ending_at))]
 fn judge_checker(
@@ -88,7 +75,7 @@ fn judge_checker(
             cut: choice.cut(),
             program: number,
             outcome,
-            departures: owned(choice.departures()),
+            departures: choice.departures_owned(),
         })?;
     }
     Ok(())

@@ -1,5 +1,0 @@
-use Rattle.std.proofs.Common.{◌≡◌, take}
-use Rattle.workers.proofs.input.owned.Given as goal
-
-abbrev pub invariant-loop-departure : goal.invariant-loop-departure
-invariant-loop-departure l = l.copy.items ≡ take l.departure-index l.departures
