@@ -1,6 +1,6 @@
 //! Ranges of words, and what joins and rounds them.
 
-ghost use Rattle.std.specs.Prelude.{◌≤◌};
+ghost use Rattle.std.specs.Prelude.{◌≤◌, ◌<◌, ◌^◌};
 
 use crate::powers::{ceiling, floor};
 
@@ -12,10 +12,11 @@ pub struct Range {
     /// The greatest.
     pub high: u64,
     pub ghost ordered: { low ≤ high },
+    pub ghost fits: { high < 2 ^ 64 },
 }
 
 impl Range {
-    ghost use Rattle.std.specs.Prelude.{◌≡◌, ℕ, ◌-◌, ◌^◌, ◌<◌, IsTrue, ◌↔◌};
+    ghost use Rattle.std.specs.Prelude.{◌≡◌, ℕ, ◌-◌, IsTrue, ◌↔◌};
     ghost use Rattle.std.specs.Option.{option_map};
     ghost use Rattle.intervals.specs.Spans.{span, only, is_constant, inhabited, hull, Within};
     ghost use Rattle.intervals.specs.Rounding.{rounded};

@@ -1,3 +1,4 @@
+pub mod Nothing
 pub mod Arrays
 pub mod Marks
 pub mod Joins
@@ -5,3 +6,4 @@ pub mod Covering
 pub mod Fitting
 pub mod Keeping
 pub mod Smaller
+pub mod Typed

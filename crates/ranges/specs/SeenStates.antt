@@ -8,7 +8,7 @@ use Rattle.ranges.specs.States.{Abstract}
 use Rattle.ranges.specs.Seen.{kind_of}
 
 abbrev pub group_of : Group → GroupKind
-group_of (group.Marked marks) = Marked marks
+group_of (group.Marked marks) = Marked marks.written
 group_of (group.Spilled s) = Spilled (kind_of s.value)
 
 abbrev pub state_of : State → Abstract

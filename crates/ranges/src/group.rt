@@ -5,6 +5,7 @@ ghost use Rattle.ranges.specs.Groups.{zip_with, kept, join_group, round_group, G
 ghost use Rattle.ranges.specs.Seen.{kind_of};
 ghost use Rattle.ranges.specs.SeenStates.{group_of};
 
+use crate::byte_marks::ByteMarks;
 use crate::place::Mark;
 use crate::spill::Spill;
 use crate::value::Value;
@@ -13,13 +14,15 @@ use crate::value::Value;
 #[derive(Clone, Copy, Debug, PartialEq, Eq)]
 pub enum Group {
     /// For each byte whether it is written. One that is not may be unset.
-    Marked([bool; 8]),
+    Marked(ByteMarks),
     /// The bytes of a pointer.
     Spilled(Spill),
 }
 
 /// No byte is written.
-pub const UNSET: Group = Group::Marked([false; 8]);
+pub const UNSET: Group = Group::Marked(ByteMarks {
+    written: [false; 8],
+});
 
 /// A pointer that is kept in the eight bytes. What is no pointer leaves them unset.
 fn kept(value: Value) -> Group
@@ -31,8 +34,7 @@ fn kept(value: Value) -> Group
     }
 }
 
-/// Bytes that are written in both.
-fn both(x: &[bool; 8], y: &[bool; 8]) -> [bool; 8]
+fn both_written(x: &[bool; 8], y: &[bool; 8]) -> [bool; 8]
     ensures { result ≡ zip_with (λ a b. a && b) x.now y.now }
 {
     let mut marks = [false; 8];
@@ -40,6 +42,15 @@ fn both(x: &[bool; 8], y: &[bool; 8]) -> [bool; 8]
         marks[k] = x[k] & y[k];
     }
     marks
+}
+
+/// Bytes that are written in both.
+fn both(x: ByteMarks, y: ByteMarks) -> ByteMarks
+    ensures { result.written ≡ zip_with (λ a b. a && b) x.written y.written }
+{
+    ByteMarks {
+        written: both_written(&x.written, &y.written),
+    }
 }
 
 /// Whether the marks of the bytes are the same.
@@ -58,7 +69,7 @@ impl Group {
         ensures { group_of result ≡ join_group (group_of self) (group_of other) }
     {
         match (self, other) {
-            (Group::Marked(x), Group::Marked(y)) => Group::Marked(both(&x, &y)),
+            (Group::Marked(x), Group::Marked(y)) => Group::Marked(both(x, y)),
             (Group::Spilled(x), Group::Spilled(y)) => kept(x.value.join(y.value)),
             _ => UNSET,
         }
@@ -83,9 +94,9 @@ impl Group {
         ensures { IsTrue result ↔ GroupContains (group_of self) (group_of other) }
     {
         match (self, other) {
-            (Group::Marked(x), Group::Marked(y)) => same(&both(&x, &y), &x),
+            (Group::Marked(x), Group::Marked(y)) => same(&both(x, y).written, &x.written),
             (Group::Spilled(x), Group::Spilled(y)) => x.value.contains(y.value),
-            (Group::Marked(x), Group::Spilled(_)) => same(&x, &[false; 8]),
+            (Group::Marked(x), Group::Spilled(_)) => same(&x.written, &[false; 8]),
             (Group::Spilled(_), Group::Marked(_)) => false,
         }
     }
@@ -96,7 +107,11 @@ impl Group {
         ensures { result ≡ mark_in (group_of self) k }
     {
         match self {
-            Group::Marked(marks) => if marks[k] { Mark::Written } else { Mark::Unset },
+            Group::Marked(marks) => if marks.written[k] {
+                Mark::Written
+            } else {
+                Mark::Unset
+            },
             Group::Spilled(_) => Mark::Pointer,
         }
     }

@@ -71,10 +71,12 @@
 //! ```
 #![tactic(auto)]
 
+mod byte_marks;
 mod bytes;
 mod edges;
 mod effects;
 mod group;
+mod knowing;
 pub mod laws;
 mod place;
 mod pointers;
@@ -85,6 +87,7 @@ mod state;
 mod value;
 mod writes;
 
+pub use byte_marks::ByteMarks;
 pub use edges::branch;
 pub use effects::after;
 pub use group::Group;

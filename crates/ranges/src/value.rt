@@ -24,6 +24,7 @@ pub struct SectorOffsets {
     pub low: u16,
     pub high: u16,
     pub ghost ordered: { low ≤ high },
+    pub ghost fits: { high ≤ 65535 },
 }
 
 /// What a register may hold (docs/VERIFIER.md, Abstract values).

@@ -7,6 +7,7 @@ ghost use Rattle.ranges.specs.Reading.{with_groups};
 ghost use Rattle.ranges.specs.Seen.{kind_of};
 ghost use Rattle.ranges.specs.SeenStates.{group_of, state_of};
 
+use crate::byte_marks::ByteMarks;
 use crate::bytes::is_group;
 use crate::group::{Group, UNSET};
 use crate::place::{Mark, Place};
@@ -34,16 +35,18 @@ fn group_after(at: u64, n: u64, g: usize, group: Group) -> Group
 {
     let first = 8 * g as u64;
     if at < first + 8 && first < at + n {
-        Group::Marked([
-            mark_after(at, n, g, group, 0),
-            mark_after(at, n, g, group, 1),
-            mark_after(at, n, g, group, 2),
-            mark_after(at, n, g, group, 3),
-            mark_after(at, n, g, group, 4),
-            mark_after(at, n, g, group, 5),
-            mark_after(at, n, g, group, 6),
-            mark_after(at, n, g, group, 7),
-        ])
+        Group::Marked(ByteMarks {
+            written: [
+                mark_after(at, n, g, group, 0),
+                mark_after(at, n, g, group, 1),
+                mark_after(at, n, g, group, 2),
+                mark_after(at, n, g, group, 3),
+                mark_after(at, n, g, group, 4),
+                mark_after(at, n, g, group, 5),
+                mark_after(at, n, g, group, 6),
+                mark_after(at, n, g, group, 7),
+            ],
+        })
     } else {
         group
     }

@@ -160,12 +160,12 @@ sent_fit program sectors table slot made few states = by (at program slot) (stat
     by (Some i) (Some s) e h = arrivals_fit (heads program) (passes sectors s slot i) (passes_fit sectors s slot i (omega (arith, few)) (range_at program slot i made e) h)
 
 pub step_safe : StepIsSafe
-step_safe program sectors device context table s set fit good known =
-    by (step program (context_bytes context) device s) (step_covered program sectors device context table s set fit known (good.slots s.slot).rules)
+step_safe program sectors device context table s set good known =
+    by (step program (context_bytes context) device s) (step_covered program sectors device context table s set good.states known (good.slots s.slot).rules)
   where
     goes_to : (t : State) → GoesOn program sectors (sent_from program sectors table s.slot) s t → IsKnown program sectors table t × Leads (control program s.slot) t.slot
     goes_to t g =
-        let found = look_up sectors table (sent_from program sectors table s.slot) t fit (sent_fit program sectors table s.slot set.made set.few fit) (good.slots s.slot).edges g.arrives in (
+        let found = look_up sectors table (sent_from program sectors table s.slot) t good.states (sent_fit program sectors table s.slot set.made set.few good.states) (good.slots s.slot).edges g.arrives in (
           record {
             known = found.known;
             listed = found.listed;
@@ -263,9 +263,9 @@ unfolding start limit_before
 start_limit program = λ k calls e. absurd (let bad : None ≡ Some k = e in cc)
 
 start_known : (program : List (Option Instr)) (sectors : ℕ) (device : List (List ℕ)) (context : Context) (table : List (Option Abstract)) → IsSetting program sectors device context
-    → AreStates table → IsGood program sectors table → IsKnown program sectors table start
+    → IsGood program sectors table → IsKnown program sectors table start
 unfolding start
-start_known program sectors device context table set fit good = by (state_at table 0) refl (fit 0) good.start
+start_known program sectors device context table set good = by (state_at table 0) refl (good.states 0) good.start
   where
     by : (o : Option Abstract) → state_at table 0 ≡ o → Holds IsState o → tables.Covers o states.start → IsKnown program sectors table start
     by None e h c = absurd c
@@ -279,16 +279,16 @@ start_known program sectors device context table set fit good = by (state_at tab
     }
 
 reached : (program : List (Option Instr)) (sectors : ℕ) (device : List (List ℕ)) (context : Context) (table : List (Option Abstract)) (n : ℕ) (s : State)
-    → IsSetting program sectors device context → AreStates table → IsGood program sectors table → Reached program (context_bytes context) device n s
+    → IsSetting program sectors device context → IsGood program sectors table → Reached program (context_bytes context) device n s
     → IsKnown program sectors table s
-reached program sectors device context table zero s set fit good e = subst (λ (t : State). IsKnown program sectors table t) (sym e) (start_known program sectors device context table set fit good)
-reached program sectors device context table (suc n) s set fit good h =
-    let before = reached program sectors device context table n h.0 set fit good h.1.0 in
-    ((step_safe program sectors device context table h.0 set fit good before).goes s h.1.1).0
+reached program sectors device context table zero s set good e = subst (λ (t : State). IsKnown program sectors table t) (sym e) (start_known program sectors device context table set good)
+reached program sectors device context table (suc n) s set good h =
+    let before = reached program sectors device context table n h.0 set good h.1.0 in
+    ((step_safe program sectors device context table h.0 set good before).goes s h.1.1).0
 
 pub table_covers : TableCovers
 table_covers = record {
   reached = reached;
-  sound = λ program sectors device context table n s set fit good h.
-      (step_safe program sectors device context table s set fit good (reached program sectors device context table n s set fit good h)).sound;
+  sound = λ program sectors device context table n s set good h.
+      (step_safe program sectors device context table s set good (reached program sectors device context table n s set good h)).sound;
 }

@@ -67,14 +67,14 @@ pub record IsSafe (program : List (Option Instr)) (sectors : ℕ) (table : List 
 
 abbrev pub StepIsSafe : Type 0
 StepIsSafe = (program : List (Option Instr)) (sectors : ℕ) (device : List (List ℕ)) (context : Context) (table : List (Option Abstract)) (s : State)
-    → IsSetting program sectors device context → AreStates table → IsGood program sectors table → IsKnown program sectors table s
+    → IsSetting program sectors device context → IsGood program sectors table → IsKnown program sectors table s
     → IsSafe program sectors table s (step program (context_bytes context) device s)
 
 -- a good table covers each machine that is reached, and no step is a fault
 pub record TableCovers : Type 0 where
   pub reached : (program : List (Option Instr)) (sectors : ℕ) (device : List (List ℕ)) (context : Context) (table : List (Option Abstract)) (n : ℕ) (s : State)
-      → IsSetting program sectors device context → AreStates table → IsGood program sectors table → Reached program (context_bytes context) device n s
+      → IsSetting program sectors device context → IsGood program sectors table → Reached program (context_bytes context) device n s
       → IsKnown program sectors table s
   pub sound : (program : List (Option Instr)) (sectors : ℕ) (device : List (List ℕ)) (context : Context) (table : List (Option Abstract)) (n : ℕ) (s : State)
-      → IsSetting program sectors device context → AreStates table → IsGood program sectors table → Reached program (context_bytes context) device n s
+      → IsSetting program sectors device context → IsGood program sectors table → Reached program (context_bytes context) device n s
       → IsNoFault (step program (context_bytes context) device s)

@@ -44,7 +44,8 @@
 //! - `step_is_covered`: where a slot breaks no rule, the step of a machine that its state covers is the end,
 //!   or it goes on along a control edge to a machine which a state covers that the slot sends there. It is
 //!   never a fault. This holds for each instruction.
-//! - `step_is_safe`: the same over a good table: the machine behind the step is covered by the table again.
+//! - `step_is_safe`: the same over a good table, so over each that `check_table` takes: the machine behind the
+//!   step is covered by the table again.
 //! - `table_covers`: so a good table covers each machine that is reached in any number of steps, and no step
 //!   of any of them is a fault.
 //! - `run_ends_within_budget`: a program of right shape whose run never faults ends in a verdict within its

@@ -135,6 +135,7 @@ settled_is_good program sectors table few p h s kept =
     let round : IsRound (length program) table = rw s.is (each_round program sectors s.turns few p h) in
     let covered = settled_covers program sectors table few p h round s.same in
     record {
+      states = round.states;
       long = round.long;
       start = round.starts;
       slots = λ slot. elim (cases_lt slot (length program)) [

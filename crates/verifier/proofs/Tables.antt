@@ -1,14 +1,23 @@
 -- Tables of states as contracts see them.
-use Rattle.std.proofs.Common.{◌≡◌, ℕ, zero, suc, List, ◌∷◌, replicate, Option, Some, None, refl, ◌∙◌, ap}
+use Rattle.std.proofs.Common.{◌≡◌, ℕ, zero, suc, List, [], ◌∷◌, replicate, Option, Some, None, refl, ◌∙◌, ap}
 use Rattle.std.specs.Prelude.{set}
 use Rattle.std.specs.Option.{option_map}
 use Rattle.ranges.specs.declared.state.State.{State}
 use Rattle.ranges.specs.States.{Abstract, start}
 use Rattle.ranges.specs.SeenStates.{state_of}
 use Rattle.ranges.proofs.Arrays.{mapped_set}
-use Rattle.verifier.specs.Tables.{state_at}
+use Rattle.ranges.proofs.Typed.{each_state_fits}
+use Rattle.verifier.specs.Tables.{state_at, AreStates}
 use Rattle.verifier.specs.Seen.{table_of}
 use Rattle.verifier.specs.Rounds.{joined, receive, first_table}
+
+-- the states of the code are within the bounds of states
+pub all_states : (states : List (Option State)) → AreStates (table_of states)
+all_states [] slot = tt
+all_states (None ∷ rest) zero = tt
+all_states (Some s ∷ rest) zero = each_state_fits s
+all_states (None ∷ rest) (suc n) = all_states rest n
+all_states (Some s ∷ rest) (suc n) = all_states rest n
 
 pub table_set : (states : List (Option State)) (slot : ℕ) (s : State) → table_of (set states slot (Some s)) ≡ set (table_of states) slot (Some (state_of s))
 table_set states slot s = mapped_set (option_map state_of) states slot (Some s)

@@ -7,7 +7,6 @@ use Rattle.bpf_isa.specs.Program.{IsProgram}
 use Rattle.bpf_shape.specs.Budget.{IsBudget, most_steps}
 use Rattle.bpf_shape.specs.Rules.{IsShaped, FirstBroken}
 use Rattle.ranges.specs.States.{Abstract}
-use Rattle.verifier.specs.Tables.{AreStates}
 use Rattle.verifier.specs.Good.{IsGood}
 use Rattle.verifier.specs.Breaches.{FirstRule}
 use Rattle.verifier.specs.Rounds.{IsSettled, IsUnsettled}
@@ -19,8 +18,7 @@ pub record VerifiedValue : Type 0 where
   pub budget : ℕ
   pub table : List (Option Abstract)
 
--- it has right shape, this is its budget, and the table that was inferred, of states within their
--- bounds, is good
+-- it has right shape, this is its budget, and the table that was inferred is good
 pub record IsVerified (v : VerifiedValue) : Type 0 where
   pub some : 1 ≤ v.sectors
   pub device : v.sectors ≤ 16384
@@ -29,7 +27,6 @@ pub record IsVerified (v : VerifiedValue) : Type 0 where
   pub budget : IsBudget v.program v.budget
   pub limit : v.budget ≤ most_steps
   pub settled : IsSettled v.program v.sectors v.table
-  pub states : AreStates v.table
   pub good : IsGood v.program v.sectors v.table
 
 -- A program that isn't: the first broken shape rule; of a program of right shape the first rule that is

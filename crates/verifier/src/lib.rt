@@ -28,7 +28,8 @@
 //!
 //! - `Tables`: `rule_at`, the first rule that is broken at a slot, and `sent_from`, what a slot passes
 //!   on to which slots as it arrives there, rounded at heads. All else is said by these two.
-//! - `Good`: `IsGood`. `Breaches`: `FirstBreach` of a table, in the order of the document.
+//! - `Good`: `IsGood`. That the states are within their bounds is a part of it, and holds of each `Table`.
+//!   `Breaches`: `FirstBreach` of a table, in the order of the document.
 //! - `Rounds`: `round_of`, the table of so many `rounds`, and `IsSettled`: the table of fewer than
 //!   1,000,000 rounds that a round doesn't change.
 //! - `Verdicts`: `IsVerified`, what holds of each `Verified`, and `Refused`, by cases.

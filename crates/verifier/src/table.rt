@@ -4,7 +4,7 @@ ghost use Rattle.std.specs.Prelude.{◌≡◌, ◌<◌, ◌↔◌, IsTrue, IfOk,
 ghost use Rattle.std.specs.Option.{option_map};
 ghost use Rattle.ranges.specs.States.{start};
 ghost use Rattle.ranges.specs.SeenStates.{state_of};
-ghost use Rattle.verifier.specs.Tables.{state_at, Covers};
+ghost use Rattle.verifier.specs.Tables.{state_at, Covers, AreStates};
 ghost use Rattle.verifier.specs.Seen.{table_of};
 ghost use Rattle.verifier.specs.Rounds.{joined, receive, first_table};
 
@@ -15,7 +15,8 @@ use std::marker::Model;
 /// What is known at each slot of a program (docs/VERIFIER.md, Good table). In a second half, and in a
 /// slot that no run reaches, there mostly is no state.
 ///
-/// Contracts see the list of the states, None where there is none.
+/// Contracts see the list of the states, None where there is none. Each is within the bounds of states
+/// (`AreStates`), since the types of its values have no others.
 #[derive(Drop)]
 pub struct Table {
     states: Vec<Option<State>>,
@@ -24,11 +25,14 @@ pub struct Table {
 impl Model for Table {
     ghost use Rattle.std.specs.Prelude.{List, Option};
     ghost use Rattle.ranges.specs.States.{Abstract};
+    ghost use Rattle.verifier.specs.Tables.{AreStates};
     ghost use Rattle.verifier.specs.Seen.{table_of};
 
     ghost Value = { List (Option Abstract) };
 
     ghost view = { λ t. table_of t.states.items };
+
+    ghost invariant = { λ t. AreStates (table_of t.states.items) };
 }
 
 impl Table {
@@ -55,7 +59,8 @@ impl Table {
 
     /// For how many slots it has a state or none.
     pub fn slots(&self) -> usize
-        ensures { result ≡ length self.now }
+        ensures slots { result ≡ length self.now }
+        ensures states { AreStates self.now }
     {
         self.states.len()
     }

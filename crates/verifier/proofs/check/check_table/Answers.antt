@@ -7,7 +7,7 @@ use Rattle.verifier.specs.Breaches.{FirstSlot, FirstBreach, wrong_length, no_sta
 use Rattle.verifier.proofs.check.check_table.Goals as goal
 
 pub returns-then-slots-clause-breach : goal.returns-then-slots-clause-breach
-returns-then-slots-clause-breach c = rw c.refused.ensures (wrong_length (λ e. c.if-slots.true (c.slots.ensures ∙ e ∙ sym c.slots-2.ensures.number)))
+returns-then-slots-clause-breach c = rw c.refused.ensures (wrong_length (λ e. c.if-slots.true (c.slots.ensures.slots ∙ e ∙ sym c.slots-2.ensures.number)))
 
 pub returns-then-not-covers-clause-breach : goal.returns-then-not-covers-clause-breach
 returns-then-not-covers-clause-breach c =

@@ -4,7 +4,7 @@ use Rattle.ranges.proofs.Arrays.{one_more_same, read_both, zip_filled, zip_not_s
 use Rattle.ranges.specs.Kinds.{join}
 use Rattle.ranges.specs.Seen.{kind_of}
 use Rattle.ranges.specs.declared.value.Value.TheVariants as value
-use Rattle.ranges.proofs.state.contains_values.Goals as goal
+use Rattle.ranges.proofs.knowing.contains_values.Goals as goal
 
 pub loop-k-preserved : goal.loop-k-preserved
 loop-k-preserved c =

@@ -5,7 +5,7 @@ use Rattle.ranges.proofs.Arrays.{one_more, read_two, zip_filled}
 use Rattle.ranges.specs.Kinds.{join}
 use Rattle.ranges.specs.Seen.{kind_of}
 use Rattle.ranges.specs.declared.value.Value.TheVariants as value
-use Rattle.ranges.proofs.state.join_values.Goals as goal
+use Rattle.ranges.proofs.knowing.join_values.Goals as goal
 
 pub loop-k-preserved : goal.loop-k-preserved
 loop-k-preserved c =

@@ -5,7 +5,7 @@ use Rattle.ranges.proofs.Arrays.{one_more, read_one, map_filled}
 use Rattle.ranges.specs.Kinds.{round}
 use Rattle.ranges.specs.Seen.{kind_of}
 use Rattle.ranges.specs.declared.value.Value.TheVariants as value
-use Rattle.ranges.proofs.state.round_values.Goals as goal
+use Rattle.ranges.proofs.knowing.round_values.Goals as goal
 
 pub loop-k-preserved : goal.loop-k-preserved
 loop-k-preserved c =

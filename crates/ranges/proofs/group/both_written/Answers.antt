@@ -2,7 +2,7 @@ use Rattle.std.proofs.Common.{◌<◌, ◌&&◌, length, false, sym, ◌∙◌, 
 use Rattle.std.specs.Prelude.{get_or}
 use Rattle.std.proofs.lemmas.List.{length-set}
 use Rattle.ranges.proofs.Arrays.{one_more, zip_filled_plain}
-use Rattle.ranges.proofs.group.both.Goals as goal
+use Rattle.ranges.proofs.group.both_written.Goals as goal
 
 -- src/group.rt:38:5
 pub loop-k-init : goal.loop-k-init

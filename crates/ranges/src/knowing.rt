@@ -1,0 +1,199 @@
+//! What is known where either of two states is, what rounds a state, and the parts of one.
+
+ghost use Rattle.std.specs.Prelude.{◌≡◌, IsTrue, map, ◌↔◌};
+ghost use Rattle.ranges.specs.Kinds.{join, round};
+ghost use Rattle.ranges.specs.Groups.{zip_with, join_group, round_group};
+ghost use Rattle.ranges.specs.Seen.{kind_of};
+ghost use Rattle.ranges.specs.SeenStates.{group_of};
+
+use crate::group::{Group, UNSET};
+use crate::state::State;
+use crate::value::{ContextOffset, StackOffset, Value};
+use bpf_isa::instr::Source;
+use bpf_isa::register::Register;
+use intervals::Range;
+
+fn join_values(x: &[Value; 11], y: &[Value; 11]) -> [Value; 11]
+    ensures { map kind_of result ≡ zip_with join (map kind_of x.now) (map kind_of y.now) }
+{
+    let mut values = [Value::Unset; 11];
+    for k in 0..11 {
+        values[k] = x[k].join(y[k]);
+    }
+    values
+}
+
+fn join_groups(x: &[Group; 64], y: &[Group; 64]) -> [Group; 64]
+    ensures { map group_of result ≡ zip_with join_group (map group_of x.now) (map group_of y.now) }
+{
+    let mut groups = [UNSET; 64];
+    for k in 0..64 {
+        groups[k] = x[k].join(y[k]);
+    }
+    groups
+}
+
+fn round_values(x: &[Value; 11]) -> [Value; 11]
+    ensures { map kind_of result ≡ map round (map kind_of x.now) }
+{
+    let mut values = [Value::Unset; 11];
+    for k in 0..11 {
+        values[k] = x[k].round();
+    }
+    values
+}
+
+fn round_groups(x: &[Group; 64]) -> [Group; 64]
+    ensures { map group_of result ≡ map round_group (map group_of x.now) }
+{
+    let mut groups = [UNSET; 64];
+    for k in 0..64 {
+        groups[k] = x[k].round();
+    }
+    groups
+}
+
+fn contains_values(x: &[Value; 11], y: &[Value; 11]) -> bool
+    ensures { IsTrue result ↔ (zip_with join (map kind_of x.now) (map kind_of y.now) ≡ map kind_of x.now) }
+{
+    for k in 0..11 {
+        if !x[k].contains(y[k]) {
+            return false;
+        }
+    }
+    true
+}
+
+fn contains_groups(x: &[Group; 64], y: &[Group; 64]) -> bool
+    ensures { IsTrue result ↔ (zip_with join_group (map group_of x.now) (map group_of y.now) ≡ map group_of x.now) }
+{
+    for k in 0..64 {
+        if !x[k].contains(y[k]) {
+            return false;
+        }
+    }
+    true
+}
+
+impl State {
+    ghost use Rattle.ranges.specs.States.{join_state, round_state, StateContains, start};
+    ghost use Rattle.std.specs.Prelude.{◌<◌, slice_index_or, slice_set, []};
+    ghost use Rattle.ranges.specs.Groups.{Marked};
+    ghost use Rattle.ranges.specs.Reading.{value, second, with_value, with_groups};
+    ghost use Rattle.ranges.specs.SeenStates.{state_of};
+
+    /// The state at the start: r1 is the context, r10 the end of the stack, and nothing else is known.
+    #[tactic(auto, unfolding(crate::specs::States::start, crate::specs::States::unset_groups))]
+    pub fn start() -> State
+        ensures { state_of result ≡ start }
+    {
+        let unset = Value::Unset;
+        let context = Value::Ctx(ContextOffset { offset: 0 });
+        let stack = Value::Stack(StackOffset { offset: 512 });
+        State {
+            values: [
+                unset, context, unset, unset, unset, unset, unset, unset, unset, unset, stack,
+            ],
+            groups: [UNSET; 64],
+        }
+    }
+
+    /// What is known where either state is (docs/VERIFIER.md, Abstract states).
+    #[tactic(auto, unfolding(crate::specs::States::join_state))]
+    pub fn join(&self, other: &State) -> State
+        ensures { state_of result ≡ join_state (state_of self.now) (state_of other.now) }
+    {
+        State {
+            values: join_values(&self.values, &other.values),
+            groups: join_groups(&self.groups, &other.groups),
+        }
+    }
+
+    /// The state with all ranges rounded, those of spilled pointers too.
+    #[tactic(auto, unfolding(crate::specs::States::round_state))]
+    pub fn round(&self) -> State
+        ensures { state_of result ≡ round_state (state_of self.now) }
+    {
+        State {
+            values: round_values(&self.values),
+            groups: round_groups(&self.groups),
+        }
+    }
+
+    /// Whether it covers all that the other does: the join of both is itself.
+    #[tactic(auto, unfolding(crate::specs::States::join_state))]
+    pub fn contains(&self, other: &State) -> bool
+        ensures { IsTrue result ↔ StateContains (state_of self.now) (state_of other.now) }
+    {
+        contains_values(&self.values, &other.values) && contains_groups(&self.groups, &other.groups)
+    }
+
+    /// What register n holds.
+    pub(crate) fn at(&self, n: usize) -> Value
+        requires { n < 11 }
+        ensures { kind_of result ≡ value (state_of self.now) n }
+    {
+        self.values[n]
+    }
+
+    /// What a register holds.
+    pub(crate) fn value(&self, register: Register) -> Value
+        ensures { kind_of result ≡ value (state_of self.now) register }
+    {
+        self.at(register.number())
+    }
+
+    /// The second operand of an instruction.
+    pub(crate) fn second(&self, source: &Source) -> Value
+        ensures { kind_of result ≡ second (state_of self.now) source.now }
+    {
+        match source {
+            Source::Immediate(immediate) => Value::Num(Range::immediate(*immediate)),
+            Source::Register(register) => self.value(*register),
+        }
+    }
+
+    /// Group n of the stack.
+    pub(crate) fn group(&self, n: usize) -> Group
+        requires { n < 64 }
+        ensures { group_of result ≡ slice_index_or (state_of self.now).groups n (Marked []) }
+    {
+        self.groups[n]
+    }
+
+    /// The state with another value in register n.
+    pub(crate) fn with_at(&self, n: usize, value: Value) -> State
+        requires { n < 11 }
+        ensures { state_of result ≡ with_value (state_of self.now) n (kind_of value) }
+    {
+        let mut state = *self;
+        state.values[n] = value;
+        state
+    }
+
+    /// The state with another value in a register.
+    pub(crate) fn with_value(&self, register: Register, value: Value) -> State
+        ensures { state_of result ≡ with_value (state_of self.now) register (kind_of value) }
+    {
+        self.with_at(register.number(), value)
+    }
+
+    /// The state with other groups.
+    pub(crate) fn with_groups(&self, groups: [Group; 64]) -> State
+        ensures { state_of result ≡ with_groups (state_of self.now) (map group_of groups) }
+    {
+        let mut state = *self;
+        state.groups = groups;
+        state
+    }
+
+    /// The state with another group n.
+    pub(crate) fn with_group(&self, n: usize, group: Group) -> State
+        requires { n < 64 }
+        ensures { state_of result ≡ with_groups (state_of self.now) (slice_set (state_of self.now).groups n (group_of group)) }
+    {
+        let mut state = *self;
+        state.groups[n] = group;
+        state
+    }
+}
