@@ -40,12 +40,28 @@ unfoldable pub edge_of : Abstract → Instr → Bool → Option Abstract
 edge_of s (instr.Branch w c dst from distance) taken =
     if is_null_test w c from (value s dst) then Some (with_value s dst (tested_kind (is_equal_edge c taken)))
     else option_map (with_both s dst from) (refined (instr.Branch w c dst from distance) taken (words (value s dst)) (words (second s from)))
-edge_of s i taken = Some s
+edge_of s (instr.Arithmetic w o dst from) taken = Some s
+edge_of s (instr.Negate w dst) taken = Some s
+edge_of s (instr.SignExtend e dst src) taken = Some s
+edge_of s (instr.ByteOrder o size dst) taken = Some s
+edge_of s (instr.Jump distance) taken = Some s
+edge_of s (instr.LongJump distance) taken = Some s
+edge_of s (instr.CallHelper number) taken = Some s
+edge_of s instr.Exit taken = Some s
+edge_of s (instr.Load size dst base distance) taken = Some s
+edge_of s (instr.LoadSigned size dst base distance) taken = Some s
+edge_of s (instr.StoreImmediate size base distance n) taken = Some s
+edge_of s (instr.Store size base distance src) taken = Some s
+edge_of s (instr.LoadImmediate dst x) taken = Some s
 
 -- a state that is passed to a slot, if it is
 abbrev pub sent : ℕ → Option Abstract → List (ℕ × Abstract)
 sent slot None = []
 sent slot (Some s) = (slot, s) ∷ []
+
+-- the state behind an instruction, passed to the next slot
+abbrev pub behind : ℕ → Abstract → ℕ → Instr → List (ℕ × Abstract)
+behind sectors s slot i = (slot + 1, after_of sectors s i) ∷ []
 
 -- to which slots what state is passed, the next slot first; rounding where it arrives is not a part
 -- of it
@@ -57,4 +73,12 @@ passes sectors s slot (instr.Branch w c dst from distance) =
     ++ sent (target slot distance) (edge_of s (instr.Branch w c dst from distance) true)
 passes sectors s slot instr.Exit = []
 passes sectors s slot (instr.LoadImmediate dst x) = (slot + 2, after_of sectors s (instr.LoadImmediate dst x)) ∷ []
-passes sectors s slot i = (slot + 1, after_of sectors s i) ∷ []
+passes sectors s slot (instr.Arithmetic w o dst from) = behind sectors s slot (instr.Arithmetic w o dst from)
+passes sectors s slot (instr.Negate w dst) = behind sectors s slot (instr.Negate w dst)
+passes sectors s slot (instr.SignExtend e dst src) = behind sectors s slot (instr.SignExtend e dst src)
+passes sectors s slot (instr.ByteOrder o size dst) = behind sectors s slot (instr.ByteOrder o size dst)
+passes sectors s slot (instr.CallHelper number) = behind sectors s slot (instr.CallHelper number)
+passes sectors s slot (instr.Load size dst base distance) = behind sectors s slot (instr.Load size dst base distance)
+passes sectors s slot (instr.LoadSigned size dst base distance) = behind sectors s slot (instr.LoadSigned size dst base distance)
+passes sectors s slot (instr.StoreImmediate size base distance n) = behind sectors s slot (instr.StoreImmediate size base distance n)
+passes sectors s slot (instr.Store size base distance src) = behind sectors s slot (instr.Store size base distance src)

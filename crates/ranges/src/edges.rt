@@ -81,6 +81,18 @@ pub fn branch(instr: &Instr, taken: bool, state: &State) -> Option<State>
                 Some(with_both(state, *dst, source, ranges))
             }
         }
-        _ => Some(*state),
+        Instr::Arithmetic { .. }
+        | Instr::Negate { .. }
+        | Instr::SignExtend { .. }
+        | Instr::ByteOrder { .. }
+        | Instr::Jump { .. }
+        | Instr::LongJump { .. }
+        | Instr::CallHelper { .. }
+        | Instr::Exit
+        | Instr::Load { .. }
+        | Instr::LoadSigned { .. }
+        | Instr::StoreImmediate { .. }
+        | Instr::Store { .. }
+        | Instr::LoadImmediate { .. } => Some(*state),
     }
 }

@@ -235,6 +235,6 @@ pub fn after(instr: &Instr, state: &State, sectors: u32) -> State
             Some(helper) => call_after(state, helper),
             None => answered(state, Value::Num(Range::full())),
         },
-        _ => *state,
+        Instr::Jump { .. } | Instr::LongJump { .. } | Instr::Branch { .. } | Instr::Exit => *state,
     }
 }

@@ -14,7 +14,19 @@ use Rattle.verifier.specs.Rounds.{receive, passed_by, round_of, IsSame}
 -- the state on the edge to the next slot
 unfoldable pub next_state : ℕ → Abstract → Instr → Option Abstract
 next_state sectors s (instr.Branch w c dst from distance) = edge_of s (instr.Branch w c dst from distance) false
-next_state sectors s i = Some (after_of sectors s i)
+next_state sectors s (instr.Arithmetic w o dst from) = Some (after_of sectors s (instr.Arithmetic w o dst from))
+next_state sectors s (instr.Negate w dst) = Some (after_of sectors s (instr.Negate w dst))
+next_state sectors s (instr.SignExtend e dst src) = Some (after_of sectors s (instr.SignExtend e dst src))
+next_state sectors s (instr.ByteOrder o size dst) = Some (after_of sectors s (instr.ByteOrder o size dst))
+next_state sectors s (instr.Jump distance) = Some (after_of sectors s (instr.Jump distance))
+next_state sectors s (instr.LongJump distance) = Some (after_of sectors s (instr.LongJump distance))
+next_state sectors s (instr.CallHelper number) = Some (after_of sectors s (instr.CallHelper number))
+next_state sectors s instr.Exit = Some (after_of sectors s instr.Exit)
+next_state sectors s (instr.Load size dst base distance) = Some (after_of sectors s (instr.Load size dst base distance))
+next_state sectors s (instr.LoadSigned size dst base distance) = Some (after_of sectors s (instr.LoadSigned size dst base distance))
+next_state sectors s (instr.StoreImmediate size base distance n) = Some (after_of sectors s (instr.StoreImmediate size base distance n))
+next_state sectors s (instr.Store size base distance src) = Some (after_of sectors s (instr.Store size base distance src))
+next_state sectors s (instr.LoadImmediate dst x) = Some (after_of sectors s (instr.LoadImmediate dst x))
 
 -- what arrives along an edge, if there is one and something is passed
 abbrev pub along : List Bool → Option ℕ → Option Abstract → Option (ℕ × Abstract)

@@ -60,7 +60,19 @@ fn next_state(instr: &Instr, state: &State, sectors: u32) -> Option<State>
 {
     match instr {
         Instr::Branch { .. } => branch(instr, false, state),
-        _ => Some(after(instr, state, sectors)),
+        Instr::Arithmetic { .. }
+        | Instr::Negate { .. }
+        | Instr::SignExtend { .. }
+        | Instr::ByteOrder { .. }
+        | Instr::Jump { .. }
+        | Instr::LongJump { .. }
+        | Instr::CallHelper { .. }
+        | Instr::Exit
+        | Instr::Load { .. }
+        | Instr::LoadSigned { .. }
+        | Instr::StoreImmediate { .. }
+        | Instr::Store { .. }
+        | Instr::LoadImmediate { .. } => Some(after(instr, state, sectors)),
     }
 }
 
