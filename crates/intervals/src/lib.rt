@@ -19,8 +19,8 @@
 //!
 //! # Place
 //!
-//! On `bpf_isa`, whose instructions it takes, and on the definitions of `machine`, whose arithmetic it
-//! covers. The crate of abstract values stands on it; there a register holds a range or a pointer.
+//! On `bpf_isa`, whose instructions it takes, on the definitions of `machine`, whose arithmetic it covers,
+//! and on `arithmetic`, which computes constants. The crate of abstract values stands on it; there a register holds a range or a pointer.
 //!
 //! # What is proved
 //!
@@ -45,8 +45,8 @@
 //!
 //! - `range`, `powers`: the type, and the powers of two next to a word.
 //! - `operators`: the table, one function a line, for operands that are numbers of the width.
-//! - `constants`: the exact values of constants, as the machine computes them.
-//! - `arithmetic`: `result`, the steps before the table.
+//! - `constants`: the exact values of constants, which the crate `arithmetic` computes for the machine too.
+//! - `results`: `result`, the steps before the table.
 //! - `branches`: `refine`, one function for each relation that an edge tells.
 //! - `laws`: the laws, contracts of functions that do nothing.
 //!
@@ -67,14 +67,14 @@
 //! ```
 #![tactic(auto)]
 
-mod arithmetic;
 mod branches;
 mod constants;
 pub mod laws;
 mod operators;
 mod powers;
 mod range;
+mod results;
 
-pub use arithmetic::result;
 pub use branches::refine;
 pub use range::Range;
+pub use results::result;

@@ -11,13 +11,14 @@ ghost use Rattle.ranges.specs.After.{computed, result_kind, context_word, any_of
 ghost use Rattle.ranges.specs.Seen.{kind_of};
 ghost use Rattle.ranges.specs.SeenStates.{group_of, state_of};
 
-use crate::bytes::{byte_count, is_group};
+use crate::bytes::is_group;
 use crate::group::Group;
 use crate::place::{Place, place_of};
 use crate::pointers::moved;
 use crate::state::State;
 use crate::value::Value;
 use crate::writes::{with_stored, with_written};
+use arithmetic::byte_count;
 use bpf_isa::instr::{Instr, Operator, Size, Width};
 use bpf_isa::register::Register;
 use helpers::Helper;

@@ -11,12 +11,13 @@ ghost use Rattle.ranges.specs.Rules.{may_compute, compares, is_null_test, is_zer
 ghost use Rattle.ranges.specs.Seen.{kind_of};
 ghost use Rattle.ranges.specs.SeenStates.{state_of};
 
-use crate::bytes::{byte_count, has_no, is_whole, plain_size};
+use crate::bytes::{has_no, is_whole};
 use crate::place::{Mark, Place, place_of};
 use crate::pointers::moved;
 use crate::reads::{are_both_set, are_operands_set, are_two_set, is_set};
 use crate::state::State;
 use crate::value::Value;
+use arithmetic::{byte_count, plain_size};
 use base::causes::VerifierCause;
 use bpf_isa::instr::{Condition, Instr, Operator, Source, Width};
 use bpf_isa::register::Register;

@@ -1,4 +1,4 @@
-//! The values of arithmetic (RFC 9669, sections 4.1 and 4.2).
+//! The values of arithmetic on words (RFC 9669, sections 4.1 and 4.2).
 
 ghost use Rattle.std.specs.Prelude.{◌≡◌, ◌<◌, ◌%◌, ◌^◌, int_div, int_rem};
 ghost use Rattle.std.specs.Int.{cast_signed, cast_unsigned, int_shr, w64};
@@ -8,15 +8,18 @@ use crate::halves::arithmetic_32;
 use bpf_isa::instr::{Operator, Order, OrderSize, SignExtension, Width};
 
 /// The low 32 bits of a word.
+#[inline]
 fn low_half(word: u64) -> u32
     ensures { result ≡ word % 2 ^ 32 }
 {
     (word % 0x1_0000_0000) as u32
 }
 
-/// The value of an operator for two words, in a width.
+/// The value of an operator for two words, in a width (RFC 9669, section 4.1). In 32 bits the high half
+/// of the value is zero.
 #[tactic(auto, unfolding(machine::specs::Arithmetic::arithmetic))]
-pub(crate) fn arithmetic(width: Width, operator: Operator, first: u64, second: u64) -> u64
+#[inline]
+pub fn arithmetic(width: Width, operator: Operator, first: u64, second: u64) -> u64
     ensures { result ≡ arithmetic width operator first second }
 {
     match width {
@@ -25,9 +28,10 @@ pub(crate) fn arithmetic(width: Width, operator: Operator, first: u64, second: u
     }
 }
 
-/// The value in 64 bits.
+/// The value of an operator in 64 bits (RFC 9669, section 4.1).
 #[tactic(auto, unfolding(machine::specs::Arithmetic::computed))]
-fn arithmetic_64(operator: Operator, first: u64, second: u64) -> u64
+#[inline]
+pub fn arithmetic_64(operator: Operator, first: u64, second: u64) -> u64
     ensures { result ≡ computed Width.W64 operator first second }
 {
     match operator {
@@ -57,6 +61,7 @@ fn arithmetic_64(operator: Operator, first: u64, second: u64) -> u64
 }
 
 /// The quotient of two signed numbers, toward zero.
+#[inline]
 fn signed_quotient_64(first: u64, second: u64) -> u64
     requires { 0 < second }
     ensures { result ≡ cast_unsigned w64 (int_div (cast_signed w64 first) (cast_signed w64 second)) }
@@ -68,6 +73,7 @@ fn signed_quotient_64(first: u64, second: u64) -> u64
 }
 
 /// Its remainder, of the sign of the first.
+#[inline]
 fn signed_remainder_64(first: u64, second: u64) -> u64
     requires { 0 < second }
     ensures { result ≡ cast_unsigned w64 (int_rem (cast_signed w64 first) (cast_signed w64 second)) }
@@ -79,15 +85,17 @@ fn signed_remainder_64(first: u64, second: u64) -> u64
 }
 
 /// The shift to the right that copies the sign.
+#[inline]
 fn signed_shift_64(first: u64, second: u64) -> u64
     ensures { result ≡ cast_unsigned w64 (int_shr (cast_signed w64 first) (second % 64)) }
 {
     (first.cast_signed() >> (second % 64)).cast_unsigned()
 }
 
-/// The low bits of a word as a signed number.
+/// The low bits of a word as a signed number (RFC 9669, section 4.1, MOVSX).
 #[tactic(auto, unfolding(machine::specs::Arithmetic::extended))]
-pub(crate) fn extended(extension: SignExtension, word: u64) -> u64
+#[inline]
+pub fn extended(extension: SignExtension, word: u64) -> u64
     ensures { result ≡ extended extension word }
 {
     match extension {
@@ -104,6 +112,7 @@ pub(crate) fn extended(extension: SignExtension, word: u64) -> u64
 }
 
 /// The low 8 bits of a word.
+#[inline]
 fn low_byte(word: u64) -> u8
     ensures { result ≡ word % 2 ^ 8 }
 {
@@ -111,14 +120,16 @@ fn low_byte(word: u64) -> u8
 }
 
 /// The low 16 bits of a word.
+#[inline]
 fn low_quarter(word: u64) -> u16
     ensures { result ≡ word % 2 ^ 16 }
 {
     (word % 0x1_0000) as u16
 }
 
-/// The low bytes of a word in an order.
-pub(crate) fn in_order(order: Order, size: OrderSize, word: u64) -> u64
+/// The low bytes of a word in an order (RFC 9669, section 4.2).
+#[inline]
+pub fn in_order(order: Order, size: OrderSize, word: u64) -> u64
     ensures { result ≡ in_order order size word }
 {
     match order {
@@ -128,6 +139,7 @@ pub(crate) fn in_order(order: Order, size: OrderSize, word: u64) -> u64
 }
 
 #[tactic(auto, unfolding(machine::specs::Arithmetic::kept_low))]
+#[inline]
 fn kept_low(size: OrderSize, word: u64) -> u64
     ensures { result ≡ kept_low size word }
 {
@@ -139,6 +151,7 @@ fn kept_low(size: OrderSize, word: u64) -> u64
 }
 
 #[tactic(auto, unfolding(machine::specs::Arithmetic::turned_round))]
+#[inline]
 fn turned_round(size: OrderSize, word: u64) -> u64
     ensures { result ≡ turned_round size word }
 {

@@ -6,9 +6,10 @@ ghost use Rattle.machine.specs.Arithmetic.{computed};
 
 use bpf_isa::instr::{Operator, Width};
 
-/// The value in 32 bits.
+/// The value of an operator in 32 bits (RFC 9669, section 4.1).
 #[tactic(auto, unfolding(machine::specs::Arithmetic::computed))]
-pub(crate) fn arithmetic_32(operator: Operator, first: u32, second: u32) -> u32
+#[inline]
+pub fn arithmetic_32(operator: Operator, first: u32, second: u32) -> u32
     ensures { result ≡ computed Width.W32 operator first second }
 {
     match operator {
@@ -38,6 +39,7 @@ pub(crate) fn arithmetic_32(operator: Operator, first: u32, second: u32) -> u32
 }
 
 /// The quotient of two signed numbers, toward zero.
+#[inline]
 fn signed_quotient_32(first: u32, second: u32) -> u32
     requires { 0 < second }
     ensures { result ≡ cast_unsigned w32 (int_div (cast_signed w32 first) (cast_signed w32 second)) }
@@ -49,6 +51,7 @@ fn signed_quotient_32(first: u32, second: u32) -> u32
 }
 
 /// Its remainder, of the sign of the first.
+#[inline]
 fn signed_remainder_32(first: u32, second: u32) -> u32
     requires { 0 < second }
     ensures { result ≡ cast_unsigned w32 (int_rem (cast_signed w32 first) (cast_signed w32 second)) }
@@ -60,6 +63,7 @@ fn signed_remainder_32(first: u32, second: u32) -> u32
 }
 
 /// The shift to the right that copies the sign.
+#[inline]
 fn signed_shift_32(first: u32, second: u32) -> u32
     ensures { result ≡ cast_unsigned w32 (int_shr (cast_signed w32 first) (second % 32)) }
 {

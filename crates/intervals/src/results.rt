@@ -6,9 +6,10 @@ ghost use Rattle.intervals.specs.Operators.{most};
 ghost use Rattle.intervals.specs.Results.{cut, operated, arithmetic_result, opposite, negated_result, extended_width, sign_of, sign_extended, extended_result, most_of, ordered_result, is_arithmetic, result_of};
 ghost use Rattle.intervals.specs.Seen.{span_of};
 
-use crate::constants::{exact, extended, in_order, is_exact, negated};
+use crate::constants::{exact, is_exact, negated};
 use crate::operators::{in_table, most};
 use crate::range::Range;
+use arithmetic::{extended, in_order};
 use bpf_isa::instr::{Instr, Operator, Order, OrderSize, SignExtension, Width};
 
 /// The range of what an arithmetic instruction makes of the words of two ranges (docs/VERIFIER.md,

@@ -1,0 +1,55 @@
+//! Arithmetic on words: what the operators, the sign extensions and the byte orders make of them.
+//!
+//! RFC 9669 gives each operation of an instruction a value for every word, those at zero divisors, at
+//! the least signed number and at large shift counts included. `machine` states these values once
+//! (`specs/Arithmetic.antt`); this crate computes them once. No call takes memory, none refuses, and
+//! none has a condition.
+//!
+//! | Call | Answer | RFC 9669 |
+//! |---|---|---|
+//! | `arithmetic(width, operator, first, second)` | the value of an operator for two words, in a width | 4.1 |
+//! | `arithmetic_64(operator, first, second)` | the same in 64 bits | 4.1 |
+//! | `arithmetic_32(operator, first, second)` | the same in 32 bits, of two numbers of 32 bits | 4.1 |
+//! | `extended(extension, word)` | the low 8, 16 or 32 bits as a signed number, in 64 or 32 bits | 4.1, MOVSX |
+//! | `in_order(order, size, word)` | the low 2, 4 or 8 bytes in an order; the machine is little-endian | 4.2 |
+//! | `byte_count(size)`, `plain_size(size)`, `extension_of(size)` | how many bytes a load or a store moves; of a load that extends the sign, its size and how it extends | 5 |
+//!
+//! A value of 32 bits has zeros in the high half of the word.
+//!
+//! # Place
+//!
+//! On `bpf_isa`, whose operators and sizes it takes, and on the definitions of `machine`. Two crates
+//! above compute with it: `interp`, whose machine runs an instruction, and `intervals`, which knows what
+//! an instruction makes of constants. So what the verifier says of a constant is what the machine
+//! computes.
+//!
+//! # What is proved
+//!
+//! Each call answers the value of the definition, for every operator and all words: `arithmetic` that of
+//! `arithmetic`, `arithmetic_64` and `arithmetic_32` those of `computed`, and the others those of their own
+//! names.
+//!
+//! # How it is written
+//!
+//! - `words`: 64 bits, the choice of a width, sign extensions and byte orders. `halves`: 32 bits.
+//! - `sizes`: those of loads and stores.
+//! - Each function is small and marked to be inlined where it is called, since a run of a checker spends
+//!   its time here.
+//!
+//! # Example
+//!
+//! ```text
+//! arithmetic(Width::W32, Operator::Sub, 0, 1)         // 0xffff_ffff
+//! arithmetic(Width::W64, Operator::Mod, 7, 0)         // 7: nothing is divided by 0
+//! extended(SignExtension::From8To64, 0x80)            // 0xffff_ffff_ffff_ff80
+//! in_order(Order::Big, OrderSize::Bits16, 0x1234)     // 0x3412
+//! ```
+#![tactic(auto)]
+
+mod halves;
+mod sizes;
+mod words;
+
+pub use halves::arithmetic_32;
+pub use sizes::{byte_count, extension_of, plain_size};
+pub use words::{arithmetic, arithmetic_64, extended, in_order};
