@@ -1,2 +1,3 @@
 pub mod Order
 pub mod Longer
+pub mod HelperNumbers

@@ -15,6 +15,7 @@ use Rattle.bpf_isa.specs.Spelling.{second_of, IsInRange}
 use Rattle.helpers.specs.declared.helper.Helper.TheVariants as helper
 use Rattle.helpers.specs.Helper.{helper_of}
 use Rattle.machine.specs.Step.{at, is_limit}
+use Rattle.machine.proofs.HelperNumbers.{again_number}
 use Rattle.bpf_shape.specs.declared.edges.Edges.{Edges}
 use Rattle.bpf_shape.specs.Edges.{edges_of, control}
 use Rattle.bpf_shape.specs.Again.{helper_number, calls_again, limit_of, limit_before, answer_test, is_slot, is_target}
@@ -118,32 +119,12 @@ begins_at program s t i shaped e h = edges_begin program shaped.targets shaped.e
 
 -- calls of `again`
 
-third : (a b c d e f g : Bool)
-    → (if a then Some helper.Sector
-    else if b then Some helper.Copy
-    else if c then Some helper.Again
-    else if d then Some helper.Report
-    else if e then Some helper.Zero
-    else if f then Some helper.Mix
-    else if g then Some helper.Same
-    else None)
-    ≡ Some helper.Again
-    → c ≡ true
-third true b c d e f g is = cc
-third false true c d e f g is = cc
-third false false true d e f g is = refl
-third false false false true e f g is = cc
-third false false false false true f g is = cc
-third false false false false false true g is = cc
-third false false false false false false true is = cc
-third false false false false false false false is = cc
-
 pub calls_at : (program : List (Option Instr)) (s : ℕ) (number : ℤ) → at program s ≡ Some (instr.CallHelper number)
     → helper_of (cast_unsigned w32 number) ≡ Some helper.Again → calls_again program s ≡ true
 unfolding calls_again
 calls_at program s number e is =
     let n : ℕ = cast_unsigned w32 number in
-    let three : (n == 3) ≡ true = third (n == 1) (n == 2) (n == 3) (n == 4) (n == 5) (n == 6) (n == 7) is in
+    let three : (n == 3) ≡ true = again_number n is in
     rw e three
 
 limit_small : (i : Instr) (k : ℕ) → limit_of i ≡ Some k → is_limit k ≡ true

@@ -23,6 +23,7 @@ use Rattle.helpers.specs.Answers.{sector_answer, copy_answer, again_answer, repo
 use Rattle.bpf_shape.specs.Edges.{edges, edges_of}
 use Rattle.bpf_shape.specs.Again.{helper_number, limit_of, zero_test, others_of}
 use Rattle.bpf_shape.specs.Paths.{Leads}
+use Rattle.machine.proofs.HelperNumbers.{again_number}
 use Rattle.machine.specs.declared.ByteAt.{ByteAt}
 use Rattle.machine.specs.Arithmetic.{arithmetic, computed, extended, in_order, holds, compared}
 use Rattle.machine.specs.Memory.{byte_count, plain_size, extension_of, loaded}
@@ -167,29 +168,6 @@ helper_called program context device s t number e = by_name (helper_of (cast_uns
         record { helper = h; named = is; called = subst (OnNext (Called s number h)) came (call_moves device s number h) }
 
 -- the number of `again`
-third : (a b c d e f g : Bool)
-    → (if a then Some helper.Sector
-    else if b then Some helper.Copy
-    else if c then Some helper.Again
-    else if d then Some helper.Report
-    else if e then Some helper.Zero
-    else if f then Some helper.Mix
-    else if g then Some helper.Same
-    else None)
-    ≡ Some helper.Again
-    → c ≡ true
-third true b c d e f g is = cc
-third false true c d e f g is = cc
-third false false true d e f g is = refl
-third false false false true e f g is = cc
-third false false false false true f g is = cc
-third false false false false false true g is = cc
-third false false false false false false true is = cc
-third false false false false false false false is = cc
-
-again_number : (n : ℕ) → helper_of n ≡ Some helper.Again → (n == 3) ≡ true
-again_number n is = third (n == 1) (n == 2) (n == 3) (n == 4) (n == 5) (n == 6) (n == 7) is
-
 number_again : (n : ℕ) → (n == 3) ≡ true → helper_of n ≡ Some helper.Again
 number_again n is =
     elim (eqb_tells n 3) [
