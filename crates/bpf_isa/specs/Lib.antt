@@ -9,3 +9,4 @@ pub mod Program
 pub mod Laws
 pub mod Ready
 pub mod Running
+pub mod Slots

@@ -10,7 +10,8 @@ use Rattle.bpf_shape.specs.declared.edges.Edges.{Edges}
 use Rattle.base.specs.declared.causes.VerifierCause.{VerifierCause}
 use Rattle.base.specs.declared.causes.VerifierCause.TheVariants as cause
 use Rattle.bpf_shape.specs.declared.fault.Fault.{Fault}
-use Rattle.bpf_shape.specs.Edges.{at, begins, edges_of, control, no_edges}
+use Rattle.bpf_isa.specs.Slots.{at}
+use Rattle.bpf_shape.specs.Edges.{begins, edges_of, control, no_edges}
 use Rattle.bpf_shape.specs.Again.{calls_again, answer_test, others_of, plain}
 use Rattle.bpf_shape.specs.Paths.{Leads, OnCycle}
 use Rattle.bpf_shape.specs.Search.{EdgesFit}

@@ -13,7 +13,8 @@ use Rattle.bpf_isa.specs.declared.instr.Operator.TheVariants as op
 use Rattle.bpf_isa.specs.declared.instr.Condition.{Condition}
 use Rattle.bpf_isa.specs.declared.instr.Condition.TheVariants as cond
 use Rattle.bpf_shape.specs.declared.edges.Edges.{Edges}
-use Rattle.bpf_shape.specs.Edges.{at, edges, control}
+use Rattle.bpf_isa.specs.Slots.{at}
+use Rattle.bpf_shape.specs.Edges.{edges, control}
 
 -- the number of the helper that an instruction calls
 abbrev pub helper_number : Instr → Option ℕ

@@ -1,14 +1,10 @@
 -- Control edges (docs/VERIFIER.md, Control edges).
-use Rattle.std.specs.Prelude.{ℕ, ◌+◌, ℤ, pos, ◌+ℤ◌, Bool, List, Option, None, Some, is_some, slice_get}
-use Rattle.std.specs.Int.{cast_unsigned, w64}
-use Rattle.std.specs.Option.{option_map_or, option_and_then}
+use Rattle.std.specs.Prelude.{ℕ, ◌+◌, Bool, List, Option, None, Some, is_some}
+use Rattle.std.specs.Option.{option_map_or}
 use Rattle.bpf_isa.specs.declared.instr.Instr.{Instr}
 use Rattle.bpf_isa.specs.declared.instr.Instr.TheVariants as instr
+use Rattle.bpf_isa.specs.Slots.{at, target_slot}
 use Rattle.bpf_shape.specs.declared.edges.Edges.{Edges}
-
--- the instruction that begins at a slot
-abbrev pub at : List (Option Instr) → ℕ → Option Instr
-at program slot = option_and_then (λ i. i) (slice_get program slot)
 
 -- it is a slot of the program and no second half
 abbrev pub begins : List (Option Instr) → ℕ → Bool
@@ -25,17 +21,12 @@ no_edges = edges None None
 abbrev pub goes_on : ℕ → Edges
 goes_on slot = edges (Some (slot + 1)) None
 
--- The slot at a distance from the one behind a jump. One before the first slot is a number of which
--- no program has a slot.
-abbrev pub landing : ℕ → ℤ → ℕ
-landing slot distance = cast_unsigned w64 (pos (slot + 1) +ℤ distance)
-
 -- where control goes from an instruction
 unfoldable pub edges_of : ℕ → Instr → Edges
 edges_of slot instr.Exit = no_edges
-edges_of slot (instr.Jump distance) = edges None (Some (landing slot distance))
-edges_of slot (instr.LongJump distance) = edges None (Some (landing slot distance))
-edges_of slot (instr.Branch w c dst from distance) = edges (Some (slot + 1)) (Some (landing slot distance))
+edges_of slot (instr.Jump distance) = edges None (Some (target_slot slot distance))
+edges_of slot (instr.LongJump distance) = edges None (Some (target_slot slot distance))
+edges_of slot (instr.Branch w c dst from distance) = edges (Some (slot + 1)) (Some (target_slot slot distance))
 edges_of slot (instr.LoadImmediate dst value) = edges (Some (slot + 2)) None
 edges_of slot (instr.Arithmetic w o dst source) = goes_on slot
 edges_of slot (instr.Negate w dst) = goes_on slot

@@ -7,7 +7,8 @@ use Rattle.bpf_isa.specs.declared.instr.Condition.{Condition}
 use Rattle.bpf_isa.specs.declared.instr.Condition.TheVariants as cond
 use Rattle.base.specs.declared.causes.VerifierCause.{VerifierCause}
 use Rattle.base.specs.declared.causes.VerifierCause.TheVariants as cause
-use Rattle.bpf_shape.specs.Edges.{at, begins, control}
+use Rattle.bpf_isa.specs.Slots.{at}
+use Rattle.bpf_shape.specs.Edges.{begins, control}
 use Rattle.bpf_shape.specs.Again.{helper_number, calls_again, limit_before, answer_test, is_target, plain}
 use Rattle.bpf_shape.specs.Paths.{OnCycle}
 use Rattle.bpf_shape.specs.Budget.{IsBudget, most_steps}

@@ -1,7 +1,8 @@
 //! Control edges: where control goes from an instruction.
 
 ghost use Rattle.std.specs.Prelude.{◌≡◌, ◌<◌, ◌≤ℤ◌, pos, negsuc};
-ghost use Rattle.bpf_shape.specs.Edges.{edges_of, control, landing};
+ghost use Rattle.bpf_isa.specs.Slots.{target_slot};
+ghost use Rattle.bpf_shape.specs.Edges.{edges_of, control};
 
 use bpf_isa::instr::Instr;
 use bpf_isa::program::Program;
@@ -33,15 +34,15 @@ pub fn edges_of(slot: usize, instr: &Instr) -> Edges
         Instr::Exit => Edges::NONE,
         Instr::Jump { offset } => Edges {
             next: None,
-            target: Some(landing(slot, i64::from(*offset))),
+            target: Some(target_slot(slot, i64::from(*offset))),
         },
         Instr::LongJump { offset } => Edges {
             next: None,
-            target: Some(landing(slot, i64::from(*offset))),
+            target: Some(target_slot(slot, i64::from(*offset))),
         },
         Instr::Branch { offset, .. } => Edges {
             next: Some(slot + 1),
-            target: Some(landing(slot, i64::from(*offset))),
+            target: Some(target_slot(slot, i64::from(*offset))),
         },
         Instr::LoadImmediate { .. } => Edges {
             next: Some(slot + 2),
@@ -63,11 +64,11 @@ pub fn edges_of(slot: usize, instr: &Instr) -> Edges
 }
 
 /// The slot at a distance from the one behind a jump.
-fn landing(slot: usize, distance: i64) -> usize
+fn target_slot(slot: usize, distance: i64) -> usize
     requires slot { slot < 4096 }
     requires low { negsuc 2147483647 ≤ℤ distance }
     requires high { distance ≤ℤ pos 2147483647 }
-    ensures { result ≡ landing slot distance }
+    ensures { result ≡ target_slot slot distance }
 {
     (slot as i64 + 1 + distance).cast_unsigned() as usize
 }

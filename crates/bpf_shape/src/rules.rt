@@ -2,7 +2,8 @@
 
 ghost use Rattle.std.specs.Prelude.{◌≡◌, ◌<◌, ◌==◌, nat_le, not, ◌&&◌, true, OnOk, IfErr};
 ghost use Rattle.std.specs.Option.{option_map_or, option_and_then};
-ghost use Rattle.bpf_shape.specs.Edges.{at, begins};
+ghost use Rattle.bpf_isa.specs.Slots.{at};
+ghost use Rattle.bpf_shape.specs.Edges.{begins};
 ghost use Rattle.bpf_shape.specs.Again.{helper_number};
 ghost use Rattle.bpf_shape.specs.Rules.{written, is_equality, has_form, keeps, Holds, FirstBroken};
 ghost use Rattle.bpf_shape.specs.Keeping.{IsOfSlots, IsBrokenAt, KeepsAll};

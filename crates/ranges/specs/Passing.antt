@@ -7,7 +7,7 @@ use Rattle.bpf_isa.specs.declared.instr.Source.{Source}
 use Rattle.bpf_isa.specs.declared.instr.Source.TheVariants as source
 use Rattle.bpf_isa.specs.declared.instr.Condition.{Condition}
 use Rattle.bpf_isa.specs.declared.instr.Condition.TheVariants as cond
-use Rattle.machine.specs.Step.{target}
+use Rattle.bpf_isa.specs.Slots.{target_slot}
 use Rattle.intervals.specs.Spans.{Span, only}
 use Rattle.intervals.specs.Edges.{refined}
 use Rattle.ranges.specs.Kinds.{Kind, Num, Sector}
@@ -66,11 +66,11 @@ behind sectors s slot i = (slot + 1, after_of sectors s i) ∷ []
 -- to which slots what state is passed, the next slot first; rounding where it arrives is not a part
 -- of it
 unfoldable pub passes : ℕ → Abstract → ℕ → Instr → List (ℕ × Abstract)
-passes sectors s slot (instr.Jump distance) = (target slot distance, s) ∷ []
-passes sectors s slot (instr.LongJump distance) = (target slot distance, s) ∷ []
+passes sectors s slot (instr.Jump distance) = (target_slot slot distance, s) ∷ []
+passes sectors s slot (instr.LongJump distance) = (target_slot slot distance, s) ∷ []
 passes sectors s slot (instr.Branch w c dst from distance) =
     sent (slot + 1) (edge_of s (instr.Branch w c dst from distance) false)
-    ++ sent (target slot distance) (edge_of s (instr.Branch w c dst from distance) true)
+    ++ sent (target_slot slot distance) (edge_of s (instr.Branch w c dst from distance) true)
 passes sectors s slot instr.Exit = []
 passes sectors s slot (instr.LoadImmediate dst x) = (slot + 2, after_of sectors s (instr.LoadImmediate dst x)) ∷ []
 passes sectors s slot (instr.Arithmetic w o dst from) = behind sectors s slot (instr.Arithmetic w o dst from)

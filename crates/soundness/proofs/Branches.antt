@@ -23,7 +23,8 @@ use Rattle.helpers.specs.Answers.{sector_start}
 use Rattle.machine.specs.Arithmetic.{holds, compared}
 use Rattle.machine.specs.State.{State, word}
 use Rattle.machine.specs.Step as step
-use Rattle.machine.specs.Step.{at, source_registers, target, branch_slot, checks, effect, step_of, tested, go_to, Stepped, Next, Done, Fault}
+use Rattle.bpf_isa.specs.Slots.{at, target_slot}
+use Rattle.machine.specs.Step.{source_registers, branch_slot, checks, effect, step_of, tested, go_to, Stepped, Next, Done, Fault}
 use Rattle.intervals.specs.Spans.{Span, Has}
 use Rattle.intervals.specs.Edges.{refined}
 use Rattle.intervals.specs.Laws.{Leaves}
@@ -205,7 +206,7 @@ arrives_sent sectors m slot passed e =
     subst (λ o. Arrives sectors (sent slot o) (machine to)) (sym e.is) (inl (refl, covers_machine sectors e.state to e.stands))
 
 pub branch_goes : (program : List (Option Instr)) (context : List ℕ) (device : List (List ℕ)) (sectors : ℕ) (known : Abstract) (m : Parts) (w : Width) (c : Condition) (dst : ℕ) (from : Source) (distance : ℤ)
-    → Site sectors known m → is_some (at program (m.slot + 1)) ≡ true → is_some (at program (target m.slot distance)) ≡ true
+    → Site sectors known m → is_some (at program (m.slot + 1)) ≡ true → is_some (at program (target_slot m.slot distance)) ≡ true
     → first_failing (rules known (instr.Branch w c dst from distance)) ≡ None
     → Goes sectors (passes sectors known m.slot (instr.Branch w c dst from distance)) (step_of program context device (machine m) (instr.Branch w c dst from distance))
 unfolding rules passes step_of checks effect
@@ -219,7 +220,7 @@ branch_goes program context device sectors known m w c dst from distance site ne
     left = sent (m.slot + 1) (edge_of known (instr.Branch w c dst from distance) false)
 
     right : List (ℕ × Abstract)
-    right = sent (target m.slot distance) (edge_of known (instr.Branch w c dst from distance) true)
+    right = sent (target_slot m.slot distance) (edge_of known (instr.Branch w c dst from distance) true)
 
     goes : (slot : ℕ) → is_some (at program slot) ≡ true
         → Arrives sectors (left ++ right) (machine (record { slot = slot; registers = m.registers; stack = m.stack; turns = m.turns; codes = m.codes }))
@@ -233,11 +234,11 @@ branch_goes program context device sectors known m w c dst from distance site ne
         (is_machine to site.stands.words site.stands.cells site.turns, arrives)
 
     by : (b : Bool) → holds w c (word (machine m) dst) (step.second (machine m) from) ≡ b
-        → Goes sectors (left ++ right) (tested (machine m) (step.reads (machine m) (dst ∷ source_registers from) ∷ step.goes_on program (if b then target m.slot distance else m.slot + 1) ∷ [])
-        (go_to (if b then target m.slot distance else m.slot + 1) (machine m)))
-    by true h = goes (target m.slot distance) there
-        (arrives_right sectors left right (machine (record { slot = target m.slot distance; registers = m.registers; stack = m.stack; turns = m.turns; codes = m.codes }))
-        (arrives_sent sectors m (target m.slot distance) (edge_of known (instr.Branch w c dst from distance) true) (edge_stands sectors known m w c dst from distance true site is h)))
+        → Goes sectors (left ++ right) (tested (machine m) (step.reads (machine m) (dst ∷ source_registers from) ∷ step.goes_on program (if b then target_slot m.slot distance else m.slot + 1) ∷ [])
+        (go_to (if b then target_slot m.slot distance else m.slot + 1) (machine m)))
+    by true h = goes (target_slot m.slot distance) there
+        (arrives_right sectors left right (machine (record { slot = target_slot m.slot distance; registers = m.registers; stack = m.stack; turns = m.turns; codes = m.codes }))
+        (arrives_sent sectors m (target_slot m.slot distance) (edge_of known (instr.Branch w c dst from distance) true) (edge_stands sectors known m w c dst from distance true site is h)))
     by false h = goes (m.slot + 1) next
         (arrives_left sectors left right (machine (record { slot = m.slot + 1; registers = m.registers; stack = m.stack; turns = m.turns; codes = m.codes }))
         (arrives_sent sectors m (m.slot + 1) (edge_of known (instr.Branch w c dst from distance) false) (edge_stands sectors known m w c dst from distance false site is h)))

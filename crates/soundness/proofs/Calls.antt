@@ -22,7 +22,8 @@ use Rattle.lanes.specs.Sector.{mix}
 use Rattle.machine.specs.State.{State, word, stack_start}
 use Rattle.machine.specs.Memory.{context_bytes, byte_at, all_mapped, all_in_stacks, stored}
 use Rattle.machine.specs.Step as step
-use Rattle.machine.specs.Step.{at, checks, effect, step_of, tested, Stepped, Next, call_checks, call_effect, is_length, is_limit, turns_here, counted}
+use Rattle.bpf_isa.specs.Slots.{at}
+use Rattle.machine.specs.Step.{checks, effect, step_of, tested, Stepped, Next, call_checks, call_effect, is_length, is_limit, turns_here, counted}
 use Rattle.intervals.specs.Spans.{span, is_constant}
 use Rattle.ranges.specs.declared.place.Place.TheVariants as place
 use Rattle.ranges.specs.Kinds.{Kind, Unset, Num, Ctx, Stack, Sector, SectorOrNull, is_number}

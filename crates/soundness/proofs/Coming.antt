@@ -8,7 +8,8 @@ use Rattle.bpf_isa.specs.declared.instr.Instr.TheVariants as instr
 use Rattle.bpf_isa.specs.declared.instr.Condition.{Condition}
 use Rattle.bpf_isa.specs.Program.{IsProgram}
 use Rattle.bpf_shape.specs.declared.edges.Edges.{Edges}
-use Rattle.bpf_shape.specs.Edges.{at, edges_of, control, no_edges}
+use Rattle.bpf_isa.specs.Slots.{at}
+use Rattle.bpf_shape.specs.Edges.{edges_of, control, no_edges}
 use Rattle.bpf_shape.specs.Again.{helper_number, calls_again, limit_of, limit_before, zero_test, answer_test, is_slot, is_target}
 use Rattle.bpf_shape.specs.Paths.{Leads}
 use Rattle.bpf_shape.specs.Rules.{IsShaped}

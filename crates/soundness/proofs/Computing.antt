@@ -22,7 +22,8 @@ use Rattle.bpf_isa.specs.Spelling.{IsSourceInRange}
 use Rattle.machine.specs.Arithmetic.{arithmetic, computed, extended, in_order}
 use Rattle.machine.specs.State.{word}
 use Rattle.machine.specs.Step as step
-use Rattle.machine.specs.Step.{at, operands, source_registers, checks, effect, step_of, memory, set_and_go}
+use Rattle.bpf_isa.specs.Slots.{at}
+use Rattle.machine.specs.Step.{operands, source_registers, checks, effect, step_of, memory, set_and_go}
 use Rattle.intervals.specs.Spans.{Span, only, IsSpan, Has}
 use Rattle.intervals.specs.Results.{result_of, arithmetic_result, negated_result, extended_result, ordered_result}
 use Rattle.intervals.proofs.Computations.{arithmetic_has, arithmetic_fits, negated_has, negated_fits}

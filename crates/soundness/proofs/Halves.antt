@@ -4,7 +4,7 @@ use Rattle.bpf_isa.specs.declared.instr.Instr.{Instr}
 use Rattle.bpf_isa.specs.declared.instr.Instr.TheVariants as instr
 use Rattle.bpf_isa.specs.Spelling.{second_of}
 use Rattle.bpf_isa.specs.Program.{slots_of, IsProgram}
-use Rattle.machine.specs.Step.{at}
+use Rattle.bpf_isa.specs.Slots.{at}
 
 -- behind each 64-bit immediate no instruction begins
 abbrev HasHalves : List (Option Instr) → Type 0

@@ -24,7 +24,8 @@ use Rattle.machine.specs.State.{word}
 use Rattle.machine.specs.Memory.{context_bytes, byte_count, plain_size, extension_of, loaded, byte_at, all_mapped, all_set}
 use Rattle.machine.specs.declared.ByteAt.{ByteAt}
 use Rattle.machine.specs.Step as step
-use Rattle.machine.specs.Step.{at, checks, effect, step_of, set_and_go}
+use Rattle.bpf_isa.specs.Slots.{at}
+use Rattle.machine.specs.Step.{checks, effect, step_of, set_and_go}
 use Rattle.intervals.specs.Spans.{Span, only, IsSpan, Has}
 use Rattle.intervals.specs.Results.{extended_result}
 use Rattle.intervals.proofs.Extensions.{extended_has, extended_fits}

@@ -14,7 +14,8 @@ use Rattle.bpf_isa.specs.Program.{halves, slots_of, AllInRange, IsProgram}
 use Rattle.bpf_isa.specs.Spelling.{second_of, IsInRange}
 use Rattle.helpers.specs.declared.helper.Helper.TheVariants as helper
 use Rattle.helpers.specs.Helper.{helper_of}
-use Rattle.machine.specs.Step.{at, is_limit}
+use Rattle.bpf_isa.specs.Slots.{at}
+use Rattle.machine.specs.Step.{is_limit}
 use Rattle.machine.proofs.HelperNumbers.{again_number}
 use Rattle.bpf_shape.specs.declared.edges.Edges.{Edges}
 use Rattle.bpf_shape.specs.Edges.{edges_of, control}

@@ -8,7 +8,8 @@ use Rattle.bpf_isa.specs.declared.instr.Instr.{Instr}
 use Rattle.bpf_isa.specs.declared.instr.Instr.TheVariants as instr
 use Rattle.bpf_isa.specs.declared.instr.Condition.{Condition}
 use Rattle.bpf_isa.specs.Program.{IsProgram}
-use Rattle.bpf_shape.specs.Edges.{at, edges_of, control}
+use Rattle.bpf_isa.specs.Slots.{at}
+use Rattle.bpf_shape.specs.Edges.{edges_of, control}
 use Rattle.bpf_shape.specs.Again.{helper_number, calls_again, answer_test, others_of, plain, turns_at}
 use Rattle.bpf_shape.specs.Paths.{Leads}
 use Rattle.bpf_shape.specs.Budget.{IsLongest}

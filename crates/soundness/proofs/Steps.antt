@@ -23,7 +23,8 @@ use Rattle.machine.specs.State.{State, register, word}
 use Rattle.machine.specs.Memory.{context_bytes, byte_at}
 use Rattle.machine.specs.declared.ByteAt.{ByteAt}
 use Rattle.machine.specs.Step as step
-use Rattle.machine.specs.Step.{at, target, checks, effect, step_of, tested, Stepped, Next, Done, Fault, call_checks, call_effect, is_limit}
+use Rattle.bpf_isa.specs.Slots.{at, target_slot}
+use Rattle.machine.specs.Step.{checks, effect, step_of, tested, Stepped, Next, Done, Fault, call_checks, call_effect, is_limit}
 use Rattle.bpf_shape.specs.Edges.{edges_of}
 use Rattle.bpf_shape.specs.Again.{limit_of}
 use Rattle.bpf_shape.specs.Paths.{Leads}
@@ -80,16 +81,16 @@ call_goes program sectors device context known m number set site e limit keeps =
         (λ again. limit_here program m number set.shaped e limit (f ∙ ap (λ x. Some x) again)) k
 
 jump_step : (program : List (Option Instr)) (context : List ℕ) (device : List (List ℕ)) (sectors : ℕ) (known : Abstract) (m : Parts) (distance : ℤ) → Site sectors known m
-    → is_some (at program (target m.slot distance)) ≡ true
+    → is_some (at program (target_slot m.slot distance)) ≡ true
     → Goes sectors (passes sectors known m.slot (instr.Jump distance)) (step_of program context device (machine m) (instr.Jump distance))
 unfolding passes step_of checks effect
-jump_step program context device sectors known m distance site begins = jump_goes program sectors known m (target m.slot distance) site begins
+jump_step program context device sectors known m distance site begins = jump_goes program sectors known m (target_slot m.slot distance) site begins
 
 long_jump_step : (program : List (Option Instr)) (context : List ℕ) (device : List (List ℕ)) (sectors : ℕ) (known : Abstract) (m : Parts) (distance : ℤ) → Site sectors known m
-    → is_some (at program (target m.slot distance)) ≡ true
+    → is_some (at program (target_slot m.slot distance)) ≡ true
     → Goes sectors (passes sectors known m.slot (instr.LongJump distance)) (step_of program context device (machine m) (instr.LongJump distance))
 unfolding passes step_of checks effect
-long_jump_step program context device sectors known m distance site begins = jump_goes program sectors known m (target m.slot distance) site begins
+long_jump_step program context device sectors known m distance site begins = jump_goes program sectors known m (target_slot m.slot distance) site begins
 
 -- each form
 pub instr_goes : (program : List (Option Instr)) (sectors : ℕ) (device : List (List ℕ)) (context : Context) (known : Abstract) (m : Parts) (i : Instr)
@@ -110,13 +111,13 @@ instr_goes program sectors device context known m (instr.ByteOrder o size dst) s
     order_goes program (context_bytes context) device sectors known m o size dst site (free_at program m.slot (instr.ByteOrder o size dst) set.shaped e)
     (begins_at program m.slot (m.slot + 1) (instr.ByteOrder o size dst) set.shaped e (inl refl)) keeps
 instr_goes program sectors device context known m (instr.Jump distance) set site e range limit keeps =
-    jump_step program (context_bytes context) device sectors known m distance site (begins_at program m.slot (target m.slot distance) (instr.Jump distance) set.shaped e (inr refl))
+    jump_step program (context_bytes context) device sectors known m distance site (begins_at program m.slot (target_slot m.slot distance) (instr.Jump distance) set.shaped e (inr refl))
 instr_goes program sectors device context known m (instr.LongJump distance) set site e range limit keeps =
-    long_jump_step program (context_bytes context) device sectors known m distance site (begins_at program m.slot (target m.slot distance) (instr.LongJump distance) set.shaped e (inr refl))
+    long_jump_step program (context_bytes context) device sectors known m distance site (begins_at program m.slot (target_slot m.slot distance) (instr.LongJump distance) set.shaped e (inr refl))
 instr_goes program sectors device context known m (instr.Branch w c dst from distance) set site e range limit keeps =
     branch_goes program (context_bytes context) device sectors known m w c dst from distance site
     (begins_at program m.slot (m.slot + 1) (instr.Branch w c dst from distance) set.shaped e (inl refl))
-    (begins_at program m.slot (target m.slot distance) (instr.Branch w c dst from distance) set.shaped e (inr refl)) keeps
+    (begins_at program m.slot (target_slot m.slot distance) (instr.Branch w c dst from distance) set.shaped e (inr refl)) keeps
 instr_goes program sectors device context known m (instr.CallHelper number) set site e range limit keeps = call_goes program sectors device context known m number set site e limit keeps
 instr_goes program sectors device context known m instr.Exit set site e range limit keeps = exit_goes program (context_bytes context) device sectors known m site keeps
 instr_goes program sectors device context known m (instr.Load size dst base distance) set site e range limit keeps =
@@ -160,12 +161,12 @@ target_leads e a b h = inr (ap (λ (n : ℕ). Some n) (sym h))
 pub arrives_edge : (sectors : ℕ) (known : Abstract) (slot : ℕ) (i : Instr) (t : State) → Arrives sectors (passes sectors known slot i) t → Leads (edges_of slot i) t.slot
 unfolding passes edges_of
 arrives_edge sectors known slot instr.Exit t a = absurd a
-arrives_edge sectors known slot (instr.Jump distance) t a = target_leads None (target slot distance) t.slot (one_slot sectors (target slot distance) known t a)
-arrives_edge sectors known slot (instr.LongJump distance) t a = target_leads None (target slot distance) t.slot (one_slot sectors (target slot distance) known t a)
+arrives_edge sectors known slot (instr.Jump distance) t a = target_leads None (target_slot slot distance) t.slot (one_slot sectors (target_slot slot distance) known t a)
+arrives_edge sectors known slot (instr.LongJump distance) t a = target_leads None (target_slot slot distance) t.slot (one_slot sectors (target_slot slot distance) known t a)
 arrives_edge sectors known slot (instr.Branch w c dst from distance) t a =
-    elim (arrives_of sectors (sent (slot + 1) (edge_of known (instr.Branch w c dst from distance) false)) (sent (target slot distance) (edge_of known (instr.Branch w c dst from distance) true)) t a) [
-      | inl left ↦ next_leads (Some (target slot distance)) (slot + 1) t.slot (sent_slot sectors (slot + 1) (edge_of known (instr.Branch w c dst from distance) false) t left)
-      | inr right ↦ target_leads (Some (slot + 1)) (target slot distance) t.slot (sent_slot sectors (target slot distance) (edge_of known (instr.Branch w c dst from distance) true) t right)
+    elim (arrives_of sectors (sent (slot + 1) (edge_of known (instr.Branch w c dst from distance) false)) (sent (target_slot slot distance) (edge_of known (instr.Branch w c dst from distance) true)) t a) [
+      | inl left ↦ next_leads (Some (target_slot slot distance)) (slot + 1) t.slot (sent_slot sectors (slot + 1) (edge_of known (instr.Branch w c dst from distance) false) t left)
+      | inr right ↦ target_leads (Some (slot + 1)) (target_slot slot distance) t.slot (sent_slot sectors (target_slot slot distance) (edge_of known (instr.Branch w c dst from distance) true) t right)
     ]
 arrives_edge sectors known slot (instr.LoadImmediate dst x) t a =
     next_leads None (slot + 2) t.slot (one_slot sectors (slot + 2) (after_of sectors known (instr.LoadImmediate dst x)) t a)
@@ -240,8 +241,8 @@ passes_fit sectors known slot instr.Exit few range fits = tt
 passes_fit sectors known slot (instr.Jump distance) few range fits = (fits, tt)
 passes_fit sectors known slot (instr.LongJump distance) few range fits = (fits, tt)
 passes_fit sectors known slot (instr.Branch w c dst from distance) few range fits =
-    each_append (sent (slot + 1) (edge_of known (instr.Branch w c dst from distance) false)) (sent (target slot distance) (edge_of known (instr.Branch w c dst from distance) true))
+    each_append (sent (slot + 1) (edge_of known (instr.Branch w c dst from distance) false)) (sent (target_slot slot distance) (edge_of known (instr.Branch w c dst from distance) true))
     (each_sent (slot + 1) (edge_of known (instr.Branch w c dst from distance) false) (edge_fits known (instr.Branch w c dst from distance) false range fits))
-    (each_sent (target slot distance) (edge_of known (instr.Branch w c dst from distance) true) (edge_fits known (instr.Branch w c dst from distance) true range fits))
+    (each_sent (target_slot slot distance) (edge_of known (instr.Branch w c dst from distance) true) (edge_fits known (instr.Branch w c dst from distance) true range fits))
 passes_fit sectors known slot (instr.LoadImmediate dst x) few range fits = (after_fits sectors known (instr.LoadImmediate dst x) few range fits, tt)
 passes_fit sectors known slot i few range fits = (after_fits sectors known i few range fits, tt)

@@ -19,7 +19,8 @@ use Rattle.helpers.specs.Answers.{sector_start}
 use Rattle.machine.specs.State.{word, stack_start}
 use Rattle.machine.specs.Memory.{byte_count, byte_at, all_mapped, all_in_stacks, is_in_stacks, is_mapped, cell, stored}
 use Rattle.machine.specs.Step as step
-use Rattle.machine.specs.Step.{at, checks, effect, step_of, tested, Next}
+use Rattle.bpf_isa.specs.Slots.{at}
+use Rattle.machine.specs.Step.{checks, effect, step_of, tested, Next}
 use Rattle.ranges.specs.declared.place.Place.TheVariants as place
 use Rattle.ranges.specs.Kinds.{Kind, Unset, Num, Ctx, Stack, Sector, SectorOrNull, is_unset, is_pointer, is_number}
 use Rattle.ranges.specs.Groups.{Marked, Spilled}

@@ -10,7 +10,8 @@ use Rattle.bpf_isa.specs.Program.{slots_of, IsProgram}
 use Rattle.helpers.specs.declared.device.Context.{Context}
 use Rattle.machine.specs.State.{State, register, start, unset_stack, no_turns, context_start, frame_end}
 use Rattle.machine.specs.Memory.{context_bytes}
-use Rattle.machine.specs.Step.{at, step_of, step, Stepped, Next, Done, Fault}
+use Rattle.bpf_isa.specs.Slots.{at}
+use Rattle.machine.specs.Step.{step_of, step, Stepped, Next, Done, Fault}
 use Rattle.bpf_shape.specs.Edges.{edges_of, control}
 use Rattle.bpf_shape.specs.Again.{limit_before, heads}
 use Rattle.bpf_shape.specs.Paths.{Leads}

@@ -28,7 +28,8 @@ use Rattle.machine.specs.declared.ByteAt.{ByteAt}
 use Rattle.machine.specs.Arithmetic.{arithmetic, computed, extended, in_order, holds, compared}
 use Rattle.machine.specs.Memory.{byte_count, plain_size, extension_of, loaded}
 use Rattle.machine.specs.State.{State, register, word}
-use Rattle.machine.specs.Step.{Stepped, Next, Done, Fault, at, second, target, address, memory, checks, call_checks, with_answer, set_and_go, turns_here, counted, effect, call_effect, tested, step_of, step}
+use Rattle.bpf_isa.specs.Slots.{at, target_slot}
+use Rattle.machine.specs.Step.{Stepped, Next, Done, Fault, second, address, memory, checks, call_checks, with_answer, set_and_go, turns_here, counted, effect, call_effect, tested, step_of, step}
 
 -- an instruction that goes along an edge of its slot and counts nothing
 pub record Moves (s : State) (i : Instr) (t : State) : Type 0 where
@@ -95,7 +96,7 @@ effect_moves bytes device s (instr.ByteOrder o size dst) h = set_moves s (instr.
 effect_moves bytes device s (instr.Jump distance) h = record { leads = inr refl; width = refl; counts = refl }
 effect_moves bytes device s (instr.LongJump distance) h = record { leads = inr refl; width = refl; counts = refl }
 effect_moves bytes device s (instr.Branch w c dst from distance) h =
-    record { leads = either (holds w c (word s dst) (second s from)) s.slot (target s.slot distance); width = refl; counts = refl }
+    record { leads = either (holds w c (word s dst) (second s from)) s.slot (target_slot s.slot distance); width = refl; counts = refl }
 effect_moves bytes device s (instr.CallHelper number) h = absurd (let bad : Some (cast_unsigned w32 number) ≡ None = h in cc)
 effect_moves bytes device s instr.Exit h = tt
 effect_moves bytes device s (instr.Load size dst base distance) h =
@@ -242,7 +243,7 @@ passes_test bytes device s (instr.Branch width.W64 b dst (source.Immediate n) di
     elim (eqb_tells dst 0) [
       | inl first ↦
           let tested_word : word s dst ≡ 0 = ap (word s) first.1 ∙ zero_there in
-          goes b c (word s dst) (cast_unsigned w64 n) s.slot (target s.slot distance) a.1 tested_word constant
+          goes b c (word s dst) (cast_unsigned w64 n) s.slot (target_slot s.slot distance) a.1 tested_word constant
       | inr other ↦ absurd (let bad : false ≡ true = sym other.0 ∙ d.0 in cc)
     ]
 passes_test bytes device s i c is zero_there = absurd (let bad : None ≡ Some c = is in cc)

@@ -5,7 +5,8 @@ use Rattle.bpf_isa.specs.declared.instr.Instr.{Instr}
 use Rattle.bpf_isa.specs.declared.instr.Instr.TheVariants as instr
 use Rattle.bpf_isa.specs.Spelling.{IsInRange, second_of}
 use Rattle.bpf_isa.specs.Program.{halves, slots_of, AllInRange, IsProgram}
-use Rattle.bpf_shape.specs.Edges.{at, edges_of, control}
+use Rattle.bpf_isa.specs.Slots.{at}
+use Rattle.bpf_shape.specs.Edges.{edges_of, control}
 use Rattle.bpf_shape.specs.Paths.{Leads}
 use Rattle.bpf_shape.specs.Rules.{IsShaped}
 use Rattle.bpf_shape.specs.Keeping.{KeepsAll}

@@ -4,7 +4,7 @@ use Rattle.std.specs.Prelude.{ℕ, Bool, false, if◌then◌else◌, List, [], m
 use Rattle.base.specs.Check.{first_failing}
 use Rattle.base.specs.declared.causes.VerifierCause.{VerifierCause}
 use Rattle.bpf_isa.specs.declared.instr.Instr.{Instr}
-use Rattle.bpf_shape.specs.Edges.{at}
+use Rattle.bpf_isa.specs.Slots.{at}
 use Rattle.bpf_shape.specs.Again.{heads}
 use Rattle.ranges.specs.States.{Abstract, round_state, StateContains}
 use Rattle.ranges.specs.Rules.{rules}
