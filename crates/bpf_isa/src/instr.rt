@@ -48,6 +48,21 @@ pub enum SignExtension {
     From16To32,
 }
 
+impl SignExtension {
+    ghost use Rattle.bpf_isa.specs.Spelling.{extension_width};
+
+    /// The width in which it leaves the number.
+    pub fn width(self) -> Width
+        ensures { result ≡ extension_width self }
+    {
+        match self {
+            SignExtension::From8To64 | SignExtension::From16To64 | SignExtension::From32To64 =>
+                Width::W64,
+            SignExtension::From8To32 | SignExtension::From16To32 => Width::W32,
+        }
+    }
+}
+
 /// The byte order that a byte swap instruction makes (RFC 9669, section 4.2).
 #[derive(Clone, Copy, Debug, PartialEq, Eq)]
 pub enum Order {

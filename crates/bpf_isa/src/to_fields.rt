@@ -160,17 +160,6 @@ fn signed_offset(operator: Operator) -> u16
     }
 }
 
-/// The width to which a move extends the sign.
-fn wide(extension: SignExtension) -> Width
-    ensures { result ≡ extension_width extension }
-{
-    match extension {
-        SignExtension::From8To64 | SignExtension::From16To64 | SignExtension::From32To64 =>
-            Width::W64,
-        SignExtension::From8To32 | SignExtension::From16To32 => Width::W32,
-    }
-}
-
 /// The offset of a move that extends the sign.
 fn move_offset(extension: SignExtension) -> u16
     ensures { result ≡ extension_offset extension }
@@ -246,7 +235,7 @@ fn instr_fields(instr: &Instr) -> Fields
             src,
         } => Fields {
             opcode: opcode(Form::Arithmetic {
-                width: wide(*extension),
+                width: extension.width(),
                 operator: Operator::Mov,
                 register: true,
             }),

@@ -13,6 +13,7 @@ use Rattle.bpf_isa.specs.declared.instr.Order.{Order}
 use Rattle.bpf_isa.specs.declared.instr.Order.TheVariants as order
 use Rattle.bpf_isa.specs.declared.instr.OrderSize.{OrderSize}
 use Rattle.bpf_isa.specs.declared.instr.OrderSize.TheVariants as bits
+use Rattle.bpf_isa.specs.Spelling.{extension_width}
 use Rattle.machine.specs.Arithmetic.{computed, extended, in_order}
 use Rattle.intervals.specs.Spans.{Span, span, only, is_constant}
 use Rattle.intervals.specs.Operators.{most, full, in_table}
@@ -48,14 +49,7 @@ opposite w x = if is_constant x then only (computed w op.Sub 0 x.low) else full 
 unfoldable pub negated_result : Width → Span → Span
 negated_result w x = opposite w (cut w x)
 
--- the width in which a sign is extended, and the least number whose sign is set
-abbrev pub extended_width : SignExtension → Width
-extended_width extension.From8To64 = width.W64
-extended_width extension.From16To64 = width.W64
-extended_width extension.From32To64 = width.W64
-extended_width extension.From8To32 = width.W32
-extended_width extension.From16To32 = width.W32
-
+-- the least number whose sign is set
 abbrev pub sign_of : SignExtension → ℕ
 sign_of extension.From8To64 = 2 ^ 7
 sign_of extension.From16To64 = 2 ^ 15
@@ -67,10 +61,10 @@ unfoldable pub sign_extended : SignExtension → Span → Span
 sign_extended e x =
     if is_constant x then only (extended e x.low)
     else if nat_lt x.high (sign_of e) then x
-    else full (most (extended_width e))
+    else full (most (extension_width e))
 
 unfoldable pub extended_result : SignExtension → Span → Span
-extended_result e x = sign_extended e (cut (extended_width e) x)
+extended_result e x = sign_extended e (cut (extension_width e) x)
 
 -- the greatest number of so many bits
 abbrev pub most_of : OrderSize → ℕ

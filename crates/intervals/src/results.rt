@@ -3,7 +3,7 @@
 ghost use Rattle.std.specs.Prelude.{◌≡◌, ◌≤◌, IsTrue};
 ghost use Rattle.std.specs.Option.{option_map, IsSome};
 ghost use Rattle.intervals.specs.Operators.{most};
-ghost use Rattle.intervals.specs.Results.{cut, operated, arithmetic_result, opposite, negated_result, extended_width, sign_of, sign_extended, extended_result, most_of, ordered_result, is_arithmetic, result_of};
+ghost use Rattle.intervals.specs.Results.{cut, operated, arithmetic_result, opposite, negated_result, sign_of, sign_extended, extended_result, most_of, ordered_result, is_arithmetic, result_of};
 ghost use Rattle.intervals.specs.Seen.{span_of};
 
 use crate::constants::{exact, is_exact, negated};
@@ -96,17 +96,6 @@ fn opposite(width: Width, x: Range) -> Range
     }
 }
 
-/// The width in which a sign is extended.
-fn extended_width(extension: SignExtension) -> Width
-    ensures { result ≡ extended_width extension }
-{
-    match extension {
-        SignExtension::From8To64 | SignExtension::From16To64 | SignExtension::From32To64 =>
-            Width::W64,
-        SignExtension::From8To32 | SignExtension::From16To32 => Width::W32,
-    }
-}
-
 /// The least number whose sign is set.
 fn sign_of(extension: SignExtension) -> u64
     ensures { result ≡ sign_of extension }
@@ -122,7 +111,7 @@ fn sign_of(extension: SignExtension) -> u64
 fn extended_result(extension: SignExtension, x: Range) -> Range
     ensures { span_of result ≡ extended_result extension (span_of x) }
 {
-    sign_extended(extension, cut(extended_width(extension), x))
+    sign_extended(extension, cut(extension.width(), x))
 }
 
 /// The result for numbers of the width.
@@ -135,7 +124,7 @@ fn sign_extended(extension: SignExtension, x: Range) -> Range
     } else if x.high < sign_of(extension) {
         x
     } else {
-        Range::up_to(most(extended_width(extension)))
+        Range::up_to(most(extension.width()))
     }
 }
 
