@@ -7,13 +7,8 @@ ghost use Rattle.bpf_shape.specs.Again.{helper_number, calls_again, limit_of, ze
 use crate::edges::{Edges, control};
 use bpf_isa::instr::{Condition, Instr, Operator, Source, Width};
 use bpf_isa::program::Program;
+use bpf_isa::ready::{AGAIN_NUMBER, MOST_TURNS};
 use std::alloc::{AllocError, Global};
-
-/// The number of `again` among the helpers.
-const AGAIN: u32 = 3;
-
-/// The greatest limit of a call of `again`.
-const MOST_TURNS: u64 = 1_048_576;
 
 /// The number of the helper that an instruction calls.
 pub(crate) fn helper_number(instr: &Instr) -> Option<u32>
@@ -31,7 +26,7 @@ pub(crate) fn calls_again(program: &Program, slot: usize) -> bool
     ensures { result ≡ calls_again program.now slot }
 {
     match program.at(slot) {
-        Some(instr) => helper_number(&instr) == Some(AGAIN),
+        Some(instr) => helper_number(&instr) == Some(AGAIN_NUMBER),
         None => false,
     }
 }

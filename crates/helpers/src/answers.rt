@@ -7,8 +7,8 @@ ghost use Rattle.helpers.specs.Answers.{sector_answer, device_byte, copied, copy
 
 use crate::device::Device;
 
-/// Where sector 0 stands in the memory of a checker.
-const SECTOR_START: u64 = 0x3_0000_0000;
+/// The address at which sector 0 begins in the memory of a checker. Sectors begin 1,024 apart.
+pub const SECTOR_START: u64 = 0x3_0000_0000;
 
 /// The sector of this number, or none past the device.
 fn sector_of<D: Device>(device: &D, number: u64) -> Option<&[u8; 512]>

@@ -16,9 +16,7 @@ use crate::step::World;
 use base::causes::MachineFault;
 use bpf_isa::instr::Size;
 use helpers::Device;
-
-/// Where the sectors begin.
-const SECTOR_START: u64 = 0x3_0000_0000;
+use helpers::answers::SECTOR_START;
 
 /// The bytes of a stack and of a sector. Blocks begin 1,024 addresses apart.
 const BLOCK: u64 = 512;
