@@ -10,7 +10,7 @@
 //! | `shards(alloc, history, checkers, size)` | makes the shards of a run, empty, each behind a lock |
 //! | `shard.look(key)` | answers the outcome that is listed for a key, which becomes the most recently used |
 //! | `shard.put(key, outcome)` | lists an outcome for a key, and says what became of it (`Kept`) |
-//! | `shard.capacity()` | answers how many entries there may be |
+//! | `shard.number()`, `shard.capacity()` | answer which shard it is, and how many entries there may be |
 //! | `shard.hits()` | answers how many looks have found an entry |
 //! | `copy_of(outcome)` | answers the same outcome, for those who put one and keep one |
 //!
@@ -24,8 +24,8 @@
 //!
 //! # What is proved
 //!
-//! Contracts see a shard as a list of entries, the most recently used first, a capacity, and a count of
-//! hits (`specs/Shard.antt`).
+//! Contracts see a shard as a number, a list of entries, the most recently used first, a capacity, and a
+//! count of hits (`specs/Shard.antt`).
 //!
 //! - Each entry is true: its outcome is what the checker ends in on every image of the run that has the
 //!   key together with that checker (`IsEndingOf`, `specs/Endings.antt`). A shard's type keeps that, so

@@ -97,6 +97,13 @@ impl<J: Run> Shard<J> {
         }
     }
 
+    /// Its number among the shards of the run, from 0.
+    pub fn number(&self) -> u32
+        ensures { result ≡ self.now.number }
+    {
+        self.number
+    }
+
     /// How many entries there may be: the part of the cache's size that is for the shard's number.
     pub fn capacity(&self) -> usize
         ensures capacity { result ≡ self.now.capacity }

@@ -3,8 +3,10 @@
 /// Called by the worker that is about to judge a block, and when it has judged it. A test holds
 /// workers by it; a run has one that does nothing.
 pub trait Gate {
+    /// The worker takes the block.
     fn before(&self, worker: u8, block: u32);
 
+    /// The worker has the piece of the block.
     fn after(&self, worker: u8, block: u32);
 }
 
