@@ -1,5 +1,6 @@
 -- How texts and single programs are refused.
 use Rattle.std.proofs.Common.{ℕ, ◌≡◌, ◌⊎◌, inl, inr, List, Option, subst}
+use Rattle.std.specs.Str.{IsUtf8}
 use Rattle.bpf_isa.specs.declared.program.CodeFault.{CodeFault}
 use Rattle.bpf_isa.specs.Decoding as code
 use Rattle.bpf_asm.specs.declared.fault.AsmFault.{AsmFault}
@@ -16,9 +17,9 @@ pub bytes_refused : (bytes : List ℕ) (f : CodeFault) → (f ≡ code.memory_fa
 bytes_refused bytes f (inl e) = rw e no_program_memory
 bytes_refused bytes f (inr h) = with_bytes_fault f.code f.slot h
 
-pub text_refused : (text now : List ℕ) (f : AsmFault) → now ≡ text → (f ≡ asm.memory_fault) ⊎ asm.SaysNone now → RefusesText text (text_refusal f.code f.line)
-text_refused text now f same (inl e) = rw e no_text_memory
-text_refused text now f same (inr h) = says_none f.code f.line (rw (← same) h)
+pub text_refused : (text now : List ℕ) (f : AsmFault) → now ≡ text → IsUtf8 text → (f ≡ asm.memory_fault) ⊎ asm.SaysNone now → RefusesText text (text_refusal f.code f.line)
+text_refused text now f same characters (inl e) = rw e no_text_memory
+text_refused text now f same characters (inr h) = says_none f.code f.line characters (rw (← same) h)
 
 pub bytes_unverified : (bytes : List ℕ) (sectors : ℕ) (f : CodeFault) → (f ≡ code.memory_fault) ⊎ FirstFault bytes f.code f.slot
     → verifying.RefusesVerified bytes sectors (bytes_refusal f.code f.slot)

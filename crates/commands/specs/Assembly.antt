@@ -34,7 +34,7 @@ pub record IsAssembled (text bytes : List ℕ) : Type 0 where
 -- a text is refused where it is no text, or says no program; or for want of memory
 pub data RefusesText (text : List ℕ) : Refusal → Type 0 where
   no_characters : (IsUtf8 text → ⊥) → RefusesText text (file_refusal 0)
-  says_none : (cause : AsmCause) (line : ℕ) → SaysNone text → RefusesText text (text_refusal cause line)
+  says_none : (cause : AsmCause) (line : ℕ) → IsUtf8 text → SaysNone text → RefusesText text (text_refusal cause line)
   no_text_memory : RefusesText text (text_refusal asm.Memory 0)
   no_bytes_memory : RefusesText text memory_refusal
 
