@@ -210,6 +210,12 @@ def all_rows():
     return rows
 
 
+def manual_differs(program):
+    """What is wrong with docs/crashbpf.1, which holds what the program's help says."""
+    made = subprocess.run([sys.executable, TOP / "tools/man_page.py", program], capture_output=True, timeout=SECONDS)
+    return output_differs("the man page", (TOP / "docs/crashbpf.1").read_bytes(), made.stdout)
+
+
 def main(words):
     program = str(Path(words[0] if words else TOP / "crates/crashbpf/out/crashbpf").resolve())
     if not os.access(program, os.X_OK):
@@ -218,12 +224,14 @@ def main(words):
     assembler = Assembler(program)
     with ThreadPoolExecutor(os.cpu_count()) as pool:
         results = list(pool.map(lambda row: run_row(program, row, assembler), rows))
+    names = [row.name for row in rows] + ["the man page is the program's help"]
+    results.append(manual_differs(program))
     failed = 0
-    for row, found in zip(rows, results):
+    for name, found in zip(names, results):
         if found:
             failed += 1
-            print(f"FAILED {shortened(row.name.encode())}: {'; '.join(found)}")
-    print(f"{len(rows) - failed} passed, {failed} failed")
+            print(f"FAILED {shortened(name.encode())}: {'; '.join(found)}")
+    print(f"{len(names) - failed} passed, {failed} failed")
     return 1 if failed else 0
 
 

@@ -61,6 +61,8 @@ COMMANDS = [
     refused("list names no program", "list p", {"p": code("ff00000000000000")}, "refused 22 at 0"),
 ]
 
+VERSION = [Row("version", "--version", {}, "crashbpf 0.1.0 (proved with rattle-kit-13b logic dac8208d650f15bf)\n")]
+
 # Help is asked for: status 0, something on standard output that isn't compared.
 HELP = [
     Row(f"help: {words}", words, {}, Something())
@@ -270,6 +272,7 @@ NUMBERS_OF_PROGRAMS = [
 
 ROWS = [
     *COMMANDS,
+    *VERSION,
     *HELP,
     *FAULTS,
     *(refused(f"option: {words}", words, BOTH, f"refused 13 at {place}") for words, place in OPTIONS.items()),
