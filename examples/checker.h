@@ -1,19 +1,31 @@
 /*
- * For checkers written in C: the context, the helpers by their numbers, and a
- * loop that the shape rules know. See docs/MACHINE.md.
+ * For checkers written in C: the context, the helpers by their numbers, reads at
+ * a byte position, and loops that the shape rules know. See docs/CHECKERS.md,
+ * and docs/MACHINE.md for the rules of the helpers.
+ *
+ *     examples/cc checker.c check checker.bpf --sectors 4
+ *
+ * compiles the function `check` of checker.c. By hand, where it is the only
+ * function of its file:
  *
  *     clang -O2 -target bpfel -mcpu=v2 -c checker.c -o checker.o
  *     llvm-objcopy -O binary --only-section=.text checker.o checker.bpf
  *
- * The checker is one function, the only one of its file: slot 0 is the first
- * instruction of the section .text, and no other section reaches the program.
- * So it has no global variables, no string literals and no large constant
- * tables; what it calls is `static inline __attribute__((always_inline))`.
+ * Nothing but the instructions of that one function reaches the program. So it
+ * has no global variables, no string literals and no constant tables, and what it
+ * calls is INLINED. It is for clang 14 or newer; gcc's assembler for BPF knows
+ * another syntax.
  */
 #ifndef CHECKER_H
 #define CHECKER_H
 
+typedef unsigned char u8;
+typedef unsigned short u16;
+typedef unsigned int u32;
 typedef unsigned long long u64;
+
+/* In front of each function that a checker calls: its body goes to where it is called. */
+#define INLINED static inline __attribute__((always_inline))
 
 /* Where a program starts, r1 points to this. It is read-only. */
 struct context {
@@ -68,5 +80,180 @@ static u64 (*const same)(u64 a, u64 b) = (u64 (*)(u64, u64))7;
 		 : "i"(times)			\
 		 : "r0", "r1", "r2", "r3", "r4", "r5", "memory" \
 		 : end)
+
+/*
+ * The same with a statement in place of the label: TURN(8, return TURNS_SPENT).
+ * Like each `otherwise` below, the statement has to leave the place: it is a
+ * return, goto, break or continue. Let it answer an error. Where turns run short
+ * and the loop ends as if it had seen all, errors are overlooked.
+ */
+#define TURN(times, otherwise)			\
+	({					\
+		__label__ spent_;		\
+		AT_MOST(times, spent_);		\
+		if (0) {			\
+		spent_:				\
+			otherwise;		\
+		}				\
+	})
+
+/* An answer for a loop whose turns are spent. */
+#define TURNS_SPENT 255
+
+/*
+ * Goes on where the variable i, a u64, is below the constant n, and does
+ * `otherwise` elsewhere. From here on the verifier knows it, and the compiler
+ * doesn't: it neither leaves the test out nor makes another test of it.
+ */
+#define BELOW(i, n, otherwise)						\
+	({								\
+		__label__ above_;					\
+		_Static_assert(sizeof(i) == 8 && (__typeof__(i))-1 > 0,	\
+			       "the index of BELOW has to be a u64");	\
+		asm goto("if %0 > %1 goto %l[above_]"			\
+			 : "+r"(i)					\
+			 : "i"((n) - 1)					\
+			 :						\
+			 : above_);					\
+		if (0) {						\
+		above_:							\
+			otherwise;					\
+		}							\
+	})
+
+/* A turn of a loop that goes by the index i, a u64, over n elements; i is BELOW n from here on. */
+#define TURN_BELOW(i, n, otherwise)	\
+	({				\
+		TURN(n, otherwise);	\
+		BELOW(i, n, otherwise);	\
+	})
+
+/*
+ * The address of sector n, or `otherwise` past the device:
+ *
+ *     const struct slot *slot = SECTOR(1, return 3);
+ *
+ * The null test stands right behind the call, which the verifier asks for; the
+ * compiler may move the test of a plain sector(n) behind a copy of its answer.
+ */
+#define SECTOR(n, otherwise)					\
+	({							\
+		__label__ past_;				\
+		const void *sector_;				\
+		asm goto("r1 = %1\n\t"				\
+			 "call 1\n\t"				\
+			 "if r0 == 0 goto %l[past_]\n\t"	\
+			 "%0 = r0"				\
+			 : "=r"(sector_)			\
+			 : "r"((u64)(n))			\
+			 : "r0", "r1", "r2", "r3", "r4", "r5"	\
+			 : past_);				\
+		if (0) {					\
+		past_:						\
+			otherwise;				\
+		}						\
+		sector_;					\
+	})
+
+/*
+ * From here on the compiler knows nothing of the value of the variable x, a number or
+ * a pointer: it can't turn a test of it into another one, merge two, or make its way
+ * from x in front of a loop whose body has KEEP(x).
+ */
+#define KEEP(x) asm volatile("" : "+r"(x))
+
+/*
+ * The address of element i of the n elements at p, which points into a sector; or
+ * `otherwise` where i isn't below the constant n:
+ *
+ *     key = *ELEMENT(block->keys, i, 60, return 2);
+ *
+ * i is any whole number, a negative one too. The number is added to the pointer, never
+ * the pointer to the number, as the compiler may do with p[i].
+ */
+#define ELEMENT(p, i, n, otherwise)				\
+	({							\
+		__typeof__(&(p)[0]) element_ = (p);		\
+		u64 index_ = (i);				\
+		BELOW(index_, n, otherwise);			\
+		index_ *= sizeof *element_;			\
+		asm("%0 += %1" : "+r"(element_) : "r"(index_));	\
+		element_;					\
+	})
+
+/*
+ * The number that stands at byte position `at` of the device (sector 512 bytes
+ * each), little-endian, or big-endian by the forms that end in _be. Bytes past the
+ * device read as 0. The position may be any number, aligned or not: nothing has to
+ * be tested before.
+ */
+INLINED u8 u8_at(u64 at)
+{
+	u8 x;
+
+	copy(at, &x, sizeof x);
+	return x;
+}
+
+INLINED u16 u16_at(u64 at)
+{
+	u16 x;
+
+	copy(at, &x, sizeof x);
+	return x;
+}
+
+INLINED u32 u32_at(u64 at)
+{
+	u32 x;
+
+	copy(at, &x, sizeof x);
+	return x;
+}
+
+INLINED u64 u64_at(u64 at)
+{
+	u64 x;
+
+	copy(at, &x, sizeof x);
+	return x;
+}
+
+INLINED u16 u16_at_be(u64 at)
+{
+	return __builtin_bswap16(u16_at(at));
+}
+
+INLINED u32 u32_at_be(u64 at)
+{
+	return __builtin_bswap32(u32_at(at));
+}
+
+INLINED u64 u64_at_be(u64 at)
+{
+	return __builtin_bswap64(u64_at(at));
+}
+
+/*
+ * The CRC-32C of one byte more, bit by bit, some fifty steps. A sum over bytes
+ * begins with CRC32C_START and ends inverted:
+ *
+ *     u32 crc = CRC32C_START;
+ *     for (u64 i = 0; i < 508; i++) {
+ *         TURN(508, return TURNS_SPENT);
+ *         crc = crc32c(crc, u8_at(i));
+ *     }
+ *     if (~crc != u32_at(508)) ...
+ */
+#define CRC32C_START 0xffffffff
+
+INLINED u32 crc32c(u64 crc, u8 byte)
+{
+	crc ^= byte;
+#pragma clang loop unroll(full)
+	for (u64 bit = 0; bit < 8; bit++)
+		crc = crc >> 1 ^ (0x82f63b78 & -(crc & 1));
+	return crc;
+}
 
 #endif

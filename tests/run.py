@@ -22,6 +22,7 @@ twenty seconds of processor time.
 Where the rows stand
     rows/worked.py      the worked examples of the documents, and the reports of small logs
     rows/examples.py    the designs of examples/: their logs, checkers and reports
+    rows/checkers.py    the checkers in C of examples/: what the verifier says of them, and what they answer
     rows/commands.py    each command, faults of the command line, the order of refusals
     rows/process.py     files that can't be read, a standard output that can't be written
     rows/logs.py        logs that lie: cut ones, each cause of a refusal
@@ -60,6 +61,7 @@ from notation import SECONDS, TOP, Assembly, Folder, Long, Something
 from rows import (
     answers,
     arithmetic,
+    checkers,
     commands,
     encodings,
     examples,
@@ -76,6 +78,7 @@ from rows import (
 TABLES = [
     worked,
     examples,
+    checkers,
     commands,
     process,
     logs,
