@@ -18,9 +18,9 @@
 //!
 //! # Place
 //!
-//! On `bpf_isa`, whose operators and sizes it takes, and on the definitions of `machine`. Two crates
+//! On `bpf_isa`, whose operators and sizes it takes, and on the definitions of `machine`. Crates
 //! above compute with it: `interp`, whose machine runs an instruction, and `intervals`, which knows what
-//! an instruction makes of constants. So what the verifier says of a constant is what the machine
+//! an instruction makes of constants; `ranges` takes the sizes of accesses. So what the verifier says of a constant is what the machine
 //! computes.
 //!
 //! # What is proved

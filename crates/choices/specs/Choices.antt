@@ -54,7 +54,7 @@ ranked plan bound tears = choices_over plan.log.entries (fates_of tears) bound 0
 unfoldable pub ranked_before : PlanValue → ℕ → Bool → ℕ → List ChoiceValue
 ranked_before plan bound tears i = choices_over plan.log.entries (fates_of tears) bound 0 (take i (cuts_of plan.kind plan.log.entries))
 
--- the choices of a plan at one of its cuts
+-- the choices at a cut of the log, wanted or not, as if it were the first wanted one (their place is 0)
 unfoldable pub ranked_at : PlanValue → ℕ → Bool → ℕ → List ChoiceValue
 ranked_at plan bound tears cut = choices_at plan.log.entries (fates_of tears) bound 0 cut
 

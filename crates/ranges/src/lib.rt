@@ -22,8 +22,9 @@
 //!
 //! # Place
 //!
-//! On `bpf_isa` and `helpers`, whose instructions and helpers it takes, on `intervals`, which knows
-//! the ranges of numbers, and on the definitions of `machine`. The verifier stands on it.
+//! On `bpf_isa` and `helpers`, whose instructions and helpers it takes, on `arithmetic`, which has the
+//! sizes of accesses, on `intervals`, which knows the ranges of numbers, and on the definitions of
+//! `machine`. The verifier stands on it.
 //!
 //! # What is proved
 //!
@@ -49,8 +50,8 @@
 //! - `edges_are_monotone`: on the edges of a conditional jump whose rule the larger of two states keeps,
 //!   the smaller one passes a smaller state, and none where the larger passes none.
 //!
-//! That states cover what the machine does is not proved here, nor that a smaller state breaks no rule
-//! which a larger one keeps, nor that `after` keeps the order of states.
+//! That states cover what the machine does is proved in `soundness`. Not proved yet: that a smaller state
+//! breaks no rule which a larger one keeps, and that `after` keeps the order of states.
 //!
 //! # How it is written
 //!

@@ -18,7 +18,7 @@
 //! # Place
 //!
 //! It stands low, on the causes of `base` and on the kit's `atomic_table`, which proves that single
-//! steps on words keep a rule. No other crate uses it yet.
+//! steps on words keep a rule. No command uses it yet.
 //!
 //! # What is proved
 //!

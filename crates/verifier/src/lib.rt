@@ -44,8 +44,8 @@
 //!   its settled table; or its rounds don't settle in time. No program is both accepted and refused, and
 //!   there is one budget, one table and one refusal at most (`laws`).
 //!
-//! That the settled table is the least of all good tables is not proved here, nor that a run of an
-//! accepted program meets no fault.
+//! That the settled table is the least of all good tables is not proved yet; that a run of an accepted
+//! program meets no fault is proved in `soundness`.
 //!
 //! # How it is written
 //!

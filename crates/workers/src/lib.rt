@@ -18,9 +18,9 @@
 //!
 //! # Place
 //!
-//! The sixth layer. It stands on `choices` and `images`, which number and form the images, on `interp`,
+//! It stands on `choices` and `images`, which number and form the images, on `interp`,
 //! whose `Checker` judges them, on `lines`, which keeps failing lines, and on `base`, which has the type
-//! of a refusal. `commands` calls it and writes the report.
+//! of a refusal. `commands` calls it.
 //!
 //! # What is proved
 //!
