@@ -1,6 +1,5 @@
 pub mod Acts
 pub mod Findings
-pub mod OneReport
 pub mod Plans
 pub mod RefusalLemmas
 pub mod Runs

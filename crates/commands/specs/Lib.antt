@@ -11,4 +11,3 @@ pub mod Verifying
 pub mod FaultLine
 pub mod Words
 pub mod Acting
-pub mod Laws
