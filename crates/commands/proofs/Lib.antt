@@ -1,5 +1,6 @@
 pub mod Acts
 pub mod Findings
+pub mod OneReport
 pub mod Plans
 pub mod RefusalLemmas
 pub mod Runs

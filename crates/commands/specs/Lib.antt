@@ -11,3 +11,4 @@ pub mod Verifying
 pub mod FaultLine
 pub mod Words
 pub mod Acting
+pub mod Laws

@@ -19,6 +19,7 @@
 //! - `verify_command`, `asm_command`, `list_command`: what the verifier says of a program by itself, a
 //!   program from a source text, and the listing of a program.
 //! - `words`, `action`: the words of the command line, and what a command answers.
+//! - `laws`: that there is one report at most, and no refusal beside it but for memory.
 //! - `refusals`: the refusals of files and options, and `fault_line`, the line of a refusal.
 //!
 //! # What is proved
@@ -56,6 +57,7 @@ mod asm_command;
 mod explore_command;
 mod image_command;
 mod images_command;
+mod laws;
 mod list_command;
 mod options;
 mod refusals;
@@ -69,6 +71,7 @@ pub use epochs::Cuts;
 pub use explore_command::{Explored, explore, explore_with};
 pub use image_command::image;
 pub use images_command::survey;
+pub use laws::{one_report, report_or_refusal};
 pub use options::Options;
 pub use refusals::fault_line;
 pub use settings::{OptionPlace, Settings};

@@ -1,0 +1,143 @@
+-- There is at most one report, and no refusal beside it but for memory.
+use Rattle.std.proofs.Common.{ℕ, zero, suc, ◌≡◌, ◌≢◌, ◌+◌, ◌<◌, ◌≤◌, ◌↔◌, Bool, true, false, IsTrue, List, [], ◌∷◌, ◌++◌, length, take, Option, None, Some, slice_get, refl, sym, ◌∙◌, ap, subst, arith, length-append}
+use Rattle.std.proofs.lemmas.Bool.{false≢true}
+use Rattle.base.specs.declared.causes.VerifierCause.{VerifierCause}
+use Rattle.base.specs.declared.refusal.Refusal.{Refusal}
+use Rattle.logfmt.specs.Bounds.{LogValue}
+use Rattle.logfmt.specs.declared.entry.Entry.{Entry}
+use Rattle.logfmt.specs.Faults as log_fault
+use Rattle.logfmt.specs.Laws.{TextOfOneLog, TextHasNoFault}
+use Rattle.epochs.specs.Cuts.{cuts_of}
+use Rattle.choices.specs.Picks.{fates_of}
+use Rattle.choices.specs.Choices.{choices_at, choices_over, ranked, ranked_before, limit, IsFirstPast}
+use Rattle.bpf_isa.specs.declared.instr.Instr.{Instr}
+use Rattle.bpf_isa.specs.Program.{IsSpelledBy}
+use Rattle.bpf_isa.specs.Laws.{OneProgram, NoFaultInSpelled}
+use Rattle.verifier.specs.Verdicts.{Refused}
+use Rattle.verifier.specs.Laws.{OneVerdict}
+use Rattle.interp.specs.Checker.{CheckerValue}
+use Rattle.lines.specs.Line.{FailingLine}
+use Rattle.workers.specs.Failing.{failing_lines}
+use Rattle.commands.specs.declared.settings.Settings.{Settings}
+use Rattle.commands.specs.Source.{plan_of, images_of, HasImages, IsLogOf, RefusesLog, with_fault, no_memory, RefusesPlan, too_many, no_plan_memory, RefusesSource, for_log, for_plan}
+use Rattle.commands.specs.Programs.{IsRunWithin, IsCodeFault, IsVerifierFault}
+use Rattle.commands.specs.Explore as explore
+use Rattle.commands.specs.Explore.{IsCheckerOf, AreCheckersOf, subject_of, report_of, IsReport, RefusesProgram, with_code_fault, with_verifier_fault, no_code_memory, no_verifier_memory, no_list_memory, Refuses, for_count, for_program}
+use Rattle.commands.specs.Laws.{IsOfMemory}
+
+same_log : TextOfOneLog → (text : List ℕ) (s : Settings) (v w : LogValue) → HasImages text s v → HasImages text s w → v ≡ w
+same_log texts text s v w h k = texts text v w h.reads.of_log k.reads.of_log (h.reads.device ∙ sym k.reads.device)
+
+-- a program runs within one limit
+same_limit : OneVerdict → (checked : Option ℕ) (sectors : ℕ) (c d : CheckerValue) → c.program ≡ d.program → IsRunWithin checked sectors c → IsRunWithin checked sectors d
+    → (c.limit ≡ d.limit) × (c.verified ≡ d.verified)
+same_limit verdicts (Some limit) sectors c d same h k = (h.0 ∙ sym k.0, h.1 ∙ sym k.1)
+same_limit verdicts None sectors c d same h k = ((verdicts.accepted _ _ h.0.1 k.0.1 same refl).0, h.1 ∙ sym k.1)
+
+same_checker : OneProgram → OneVerdict → (s : Settings) (bytes : List ℕ) (c d : CheckerValue) → IsCheckerOf s bytes c → IsCheckerOf s bytes d → c ≡ d
+same_checker programs verdicts s bytes c d h k =
+    let program : c.program ≡ d.program = programs bytes c.program d.program h.spelled k.spelled in
+    let within = same_limit verdicts s.checked s.sectors c d program h.within k.within in
+    λ i. record { program = program i; limit = within.0 i; verified = within.1 i }
+
+same_checkers : OneProgram → OneVerdict → (s : Settings) (files : List (List ℕ)) (cs ds : List CheckerValue) → AreCheckersOf s files cs → AreCheckersOf s files ds → cs ≡ ds
+same_checkers programs verdicts s [] [] [] h k = refl
+same_checkers programs verdicts s [] [] (d ∷ ds) h k = absurd k
+same_checkers programs verdicts s [] (c ∷ cs) ds h k = absurd h
+same_checkers programs verdicts s (bytes ∷ files) [] ds h k = absurd h
+same_checkers programs verdicts s (bytes ∷ files) (c ∷ cs) [] h k = absurd k
+same_checkers programs verdicts s (bytes ∷ files) (c ∷ cs) (d ∷ ds) h k =
+    let one = same_checker programs verdicts s bytes c d h.0 k.0 in
+    let rest = same_checkers programs verdicts s files cs ds h.1 k.1 in
+    λ i. one i ∷ rest i
+
+same_test : (a b : Bool) (ls ms : List FailingLine) → IsTrue a ↔ (ls ≢ []) → IsTrue b ↔ (ms ≢ []) → ls ≡ ms → a ≡ b
+same_test true true ls ms h k same = refl
+same_test false false ls ms h k same = refl
+same_test true false ls ms h k same = absurd (false≢true (k.1 (λ none. h.0 refl (same ∙ none))))
+same_test false true ls ms h k same = absurd (false≢true (h.1 (λ none. k.0 refl (sym same ∙ none))))
+
+pub one_report : TextOfOneLog → OneProgram → OneVerdict → (text : List ℕ) (files : List (List ℕ)) (s : Settings) (bytes others : List ℕ) (failing fails : Bool)
+    → IsReport text files s bytes failing → IsReport text files s others fails → (bytes ≡ others) × (failing ≡ fails)
+one_report texts programs verdicts text files s bytes others failing fails h k =
+    let value = same_log texts text s h.value k.value h.source k.source in
+    let checkers = same_checkers programs verdicts s files h.checkers k.checkers h.made k.made in
+    let same : report_of s h.value h.checkers ≡ report_of s k.value k.checkers = λ i. report_of s (value i) (checkers i) in
+    let lines : failing_lines (subject_of s h.value h.checkers) ≡ failing_lines (subject_of s k.value k.checkers) = λ i. failing_lines (subject_of s (value i) (checkers i)) in
+    (h.report ∙ same ∙ sym k.report, same_test failing fails _ _ h.fails k.fails lines)
+
+-- the first cuts have no more choices than all
+few_over : (es : List Entry) (m bound place : ℕ) (n : ℕ) (cuts : List ℕ) → length (choices_over es m bound place (take n cuts)) ≤ length (choices_over es m bound place cuts)
+unfolding choices_over
+few_over es m bound place zero cuts = omega arith
+few_over es m bound place (suc n) [] = omega arith
+few_over es m bound place (suc n) (cut ∷ cuts) =
+    omega (
+      arith,
+      few_over es m bound (place + 1) n cuts,
+      length-append (choices_at es m bound place cut) (choices_over es m bound (place + 1) (take n cuts)),
+      length-append (choices_at es m bound place cut) (choices_over es m bound (place + 1) cuts),
+    )
+
+not_past : (s : Settings) (value : LogValue) (cut : ℕ) → length (images_of s value) ≤ limit → IsFirstPast (plan_of s value) s.bound s.tears cut → ⊥
+unfolding ranked ranked_before
+not_past s value cut few past =
+    omega (arith, few, past.past, few_over value.entries (fates_of s.tears) s.bound 0 (past.place + 1) (cuts_of s.cuts value.entries))
+
+-- the checker of a file
+checker_there : (s : Settings) (files : List (List ℕ)) (checkers : List CheckerValue) (n : ℕ) (bytes : List ℕ) → AreCheckersOf s files checkers → slice_get files n ≡ Some bytes
+    → (c : CheckerValue) × IsCheckerOf s bytes c
+checker_there s [] [] n bytes h there = absurd (let bad : None ≡ Some bytes = there in cc)
+checker_there s [] (c ∷ cs) n bytes h there = absurd h
+checker_there s (f ∷ fs) [] n bytes h there = absurd h
+checker_there s (f ∷ fs) (c ∷ cs) zero bytes h there =
+    let same : f ≡ bytes = (let e : Some f ≡ Some bytes = there in cc) in
+    (c, subst (λ (b : List ℕ). IsCheckerOf s b c) same h.0)
+checker_there s (f ∷ fs) (c ∷ cs) (suc n) bytes h there = checker_there s fs cs n bytes h.1 there
+
+-- what the laws of the lower layers say
+pub record Below : Type 0 where
+  pub texts : TextOfOneLog
+  pub clean : TextHasNoFault
+  pub programs : OneProgram
+  pub spelled : NoFaultInSpelled
+  pub verdicts : OneVerdict
+
+of_log : Below → (text : List ℕ) (s : Settings) (value : LogValue) (r : Refusal) → HasImages text s value → RefusesLog text s.sectors r → IsOfMemory r.code
+of_log below text s value r h (with_fault cause at fault) =
+    absurd (below.clean text value cause at h.reads.of_log (subst (λ n. log_fault.FirstFault text n cause at) (sym h.reads.device) fault))
+of_log below text s value r h no_memory = refl
+
+of_plan : Below → (s : Settings) (value : LogValue) (r : Refusal) → length (images_of s value) ≤ limit → RefusesPlan s value r → IsOfMemory r.code
+of_plan below s value r few (too_many cut past) = absurd (not_past s value cut few past)
+of_plan below s value r few no_plan_memory = refl
+
+of_source : Below → (text : List ℕ) (s : Settings) (value : LogValue) (r : Refusal) → HasImages text s value → RefusesSource text s r → IsOfMemory r.code
+of_source below text s value _ h (for_log r why) = of_log below text s value r h why
+of_source below text s value _ h (for_plan r other reads why) =
+    let same : other ≡ value = below.texts text other value reads.of_log h.reads.of_log (reads.device ∙ sym h.reads.device) in
+    of_plan below s value r h.few (subst (λ v. RefusesPlan s v r) same why)
+
+not_unaccepted : Below → (checked : Option ℕ) (sectors : ℕ) (c : CheckerValue) (slots : List (Option Instr)) (cause : VerifierCause) (slot : ℕ) → checked ≡ None
+    → IsRunWithin checked sectors c → slots ≡ c.program → Refused slots sectors cause slot → ⊥
+not_unaccepted below (Some n) sectors c slots cause slot unlimited within same refused = absurd (let bad : Some n ≡ None = unlimited in cc)
+not_unaccepted below None sectors c slots cause slot unlimited within same refused =
+    below.verdicts.not_both _ cause slot within.0.1 (subst (λ (p : List (Option Instr)). Refused p sectors cause slot) same refused)
+
+of_program : Below → (s : Settings) (files : List (List ℕ)) (checkers : List CheckerValue) (r : Refusal) → AreCheckersOf s files checkers → RefusesProgram s files r
+    → IsOfMemory r.code
+of_program below s files checkers _ made (with_code_fault r program bytes before first there fault) =
+    let c = checker_there s files checkers program bytes made there in
+    absurd (below.spelled bytes c.0.program c.1.spelled fault.0 fault.1 fault.3)
+of_program below s files checkers _ made (with_verifier_fault r program bytes slots before first there spelled unlimited fault) =
+    let c = checker_there s files checkers program bytes made there in
+    absurd (not_unaccepted below s.checked s.sectors c.0 slots fault.0 fault.1 unlimited c.1.within (below.programs bytes slots c.0.program spelled c.1.spelled) fault.3)
+of_program below s files checkers r made (no_code_memory program lt) = refl
+of_program below s files checkers r made (no_verifier_memory program lt unlimited) = refl
+of_program below s files checkers r made no_list_memory = refl
+
+pub report_or_refusal : Below → (text : List ℕ) (files : List (List ℕ)) (s : Settings) (bytes : List ℕ) (failing : Bool) (r : Refusal)
+    → IsReport text files s bytes failing → Refuses text files s r → IsOfMemory r.code
+report_or_refusal below text files s bytes failing r h (for_count none) = absurd (none h.count)
+report_or_refusal below text files s bytes failing _ h (explore.for_source r count why) = of_source below text s h.value r h.source why
+report_or_refusal below text files s bytes failing _ h (for_program r value count images why) = of_program below s files h.checkers r h.made why

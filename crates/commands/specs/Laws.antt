@@ -1,0 +1,31 @@
+-- What holds of reports and refusals as a whole.
+use Rattle.std.specs.Prelude.{ℕ, ◌≡◌, Bool, List}
+use Rattle.base.specs.declared.causes.LogCause.TheVariants as log
+use Rattle.base.specs.declared.causes.CodeCause.TheVariants as code
+use Rattle.base.specs.declared.causes.AsmCause.TheVariants as asm
+use Rattle.base.specs.declared.causes.VerifierCause.TheVariants as verifier
+use Rattle.base.specs.declared.causes.WorkCause.TheVariants as work
+use Rattle.base.specs.declared.refusal.Cause.{Cause}
+use Rattle.base.specs.declared.refusal.Cause.TheVariants.{Log, Request, Code, Asm, Verifier, Work}
+use Rattle.base.specs.declared.refusal.Refusal.{Refusal}
+use Rattle.commands.specs.declared.settings.Settings.{Settings}
+use Rattle.commands.specs.Explore.{IsReport, Refuses}
+
+-- for given bytes and options there is at most one report, and it tells whether an image fails
+abbrev pub OneReport : Type 0
+OneReport = (text : List ℕ) (files : List (List ℕ)) (s : Settings) (bytes others : List ℕ) (failing fails : Bool)
+    → IsReport text files s bytes failing → IsReport text files s others fails → (bytes ≡ others) × (failing ≡ fails)
+
+-- the cause says that memory was wanting
+abbrev pub IsOfMemory : Cause → Type 0
+IsOfMemory (Log cause) = cause ≡ log.Memory
+IsOfMemory (Request cause) = ⊥
+IsOfMemory (Code cause) = cause ≡ code.Memory
+IsOfMemory (Asm cause) = cause ≡ asm.Memory
+IsOfMemory (Verifier cause) = cause ≡ verifier.Memory
+IsOfMemory (Work cause) = cause ≡ work.Memory
+
+-- where there is a report, a run is refused for want of memory alone
+abbrev pub ReportOrRefusal : Type 0
+ReportOrRefusal = (text : List ℕ) (files : List (List ℕ)) (s : Settings) (bytes : List ℕ) (failing : Bool) (r : Refusal)
+    → IsReport text files s bytes failing → Refuses text files s r → IsOfMemory r.code
