@@ -1,4 +1,5 @@
-//! Tests of the libraries' public calls: worked values, outside vectors, happy paths near limits.
+//! Tests of the public calls that a run goes through, from a log to its failing lines: worked values,
+//! happy paths near limits.
 //!
 //! A crate with tests of its own is proved twice, so they stand here, over the finished work of the
 //! others. Each file has the tests of one crate; `log_text` builds the texts of logs that several of them
@@ -6,25 +7,13 @@
 #![tactic(auto)]
 
 #[cfg(test)]
-mod bpf_asm_tests;
-#[cfg(test)]
-mod bpf_isa_tests;
-#[cfg(test)]
-mod bpf_shape_tests;
-#[cfg(test)]
 mod choices_tests;
 #[cfg(test)]
 mod epochs_tests;
 #[cfg(test)]
 mod explore_core_tests;
 #[cfg(test)]
-mod helpers_tests;
-#[cfg(test)]
 mod images_tests;
-#[cfg(test)]
-mod interp_tests;
-#[cfg(test)]
-mod intervals_tests;
 #[cfg(test)]
 mod lanes_tests;
 #[cfg(test)]
@@ -32,12 +21,8 @@ mod log_text;
 #[cfg(test)]
 mod logfmt_tests;
 #[cfg(test)]
-mod ranges_tests;
-#[cfg(test)]
 mod shares_tests;
 #[cfg(test)]
 mod verdict_cache_tests;
-#[cfg(test)]
-mod verifier_tests;
 #[cfg(test)]
 mod workers_tests;
