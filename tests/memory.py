@@ -1,0 +1,151 @@
+#!/usr/bin/env python3
+"""Refuses each allocation of the built program in turn, and looks at what it makes of that.
+
+    python3 tests/memory.py [PROGRAM]
+
+PROGRAM is as in run.py. A C compiler (`cc`, `gcc` or `clang`) builds `refuse.c` beside this script, which is loaded before
+the program and refuses its Nth call of `malloc`, `calloc` or `realloc`. Each row below is run with N = 1, 2, .. until a run
+asks for fewer than N. The answer is then either what the row says, byte by byte, or want of memory: nothing on standard
+output, status 2, and on standard error one line, a refusal with a cause for memory at 0 or `error: out of memory`.
+
+Rows are those of run.py, by name, with the number of allocations that a run makes, so that a new allocation is noticed;
+None where workers side by side make it vary. What is printed is as in run.py: a line for each row that failed, and last
+`N passed, M failed`.
+"""
+import os
+import re
+import shutil
+import subprocess
+import sys
+import tempfile
+from concurrent.futures import ThreadPoolExecutor
+from pathlib import Path
+
+sys.dont_write_bytecode = True
+
+from notation import SECONDS, TESTS, TOP
+from run import Assembler, all_rows, made, put, shortened
+
+WANT_OF_MEMORY = re.compile(rb"refused (11|26|35|60|72) at 0( of program [0-7])?\n|error: out of memory\n")
+
+ROWS = {
+    "no word at all: the stored run": None,
+    "empty_log_bad": None,
+    "empty_log_bad, first": None,
+    "torn_sector": None,
+    "torn_sector, first": None,
+    "torn_sector, within 9 steps": None,
+    "pairs_of_drops": None,
+    "pairs_of_drops, each choice": None,
+    "sixteen_codes": None,
+    "sixteen_codes, first": None,
+    "eight programs": None,
+    "two_epochs": None,
+    "a mark after a write": None,
+    "two_epochs, image 13": None,
+    "overwritten_sector, image 20": None,
+    "two_slots, wrong, survey": None,
+    "journal, image 17": None,
+    "asm report_codes, with labels": None,
+    "asm masked_index": None,
+    "two_slots/checker, assembled": None,
+    "text: 'ja x\\nlddw r0, 0\\nx:\\nexit'": None,
+    "list": None,
+    "list masked_index": None,
+    "asm and list: every instruction in one program": None,
+    "verify first_byte": None,
+    "verify byte_64": None,
+    "verify ends_agree": None,
+    "verify marks_passed": None,
+    "verify report_codes": None,
+    "verify sum_words": None,
+    "verify nested_loops": None,
+    "verify masked_index": None,
+    "verify two_slots/checker_c": None,
+    "verify journal/checker": None,
+    "verify checkers/type_counts": None,
+    "verify checkers/journal_scan": None,
+}
+
+
+def built(folder):
+    """Builds the library that refuses, and returns its path."""
+    library = Path(folder, "refuse.so")
+    compiler = next(filter(None, map(shutil.which, ("cc", "gcc", "clang"))), None)
+    if compiler is None:
+        sys.exit("there is no C compiler: one of cc, gcc and clang is needed")
+    subprocess.run([compiler, "-O2", "-shared", "-fPIC", "-o", library, TESTS / "refuse.c"], check=True)
+    return library
+
+
+def run_refusing(program, library, row, folder, number):
+    """A run in which the allocation of that number is refused, and how many it asked for."""
+    counted = Path(folder, "counted")
+    counted.unlink(missing_ok=True)
+    surroundings = {**os.environ, "LD_PRELOAD": str(library), "REFUSED": str(number), "COUNTED": str(counted)}
+    done = subprocess.run(
+        [program, *row.words.split()],
+        cwd=folder,
+        stdin=subprocess.DEVNULL,
+        capture_output=True,
+        timeout=SECONDS,
+        env=surroundings,
+    )
+    return done, int(counted.read_text()) if counted.exists() else None
+
+
+def is_right(done, row):
+    return (done.returncode, done.stdout) == (row.status, made(row.out)) and done.stderr == made(
+        f"{row.error}\n" if row.error else ""
+    )
+
+
+def is_want_of_memory(done):
+    return done.returncode == 2 and not done.stdout and WANT_OF_MEMORY.fullmatch(done.stderr) is not None
+
+
+def swept(program, library, row, wanted, assembler):
+    """What went wrong with a row: a sentence for each allocation whose refusal did, and for a wrong count."""
+    found = []
+    with tempfile.TemporaryDirectory() as folder:
+        for name, content in row.files.items():
+            put(folder, name, content, assembler)
+        done, asked = run_refusing(program, library, row, folder, 0)
+        if not is_right(done, row):
+            found.append("it isn't right where nothing is refused")
+        if wanted not in (None, asked):
+            found.append(f"{asked} allocations, {wanted} were wanted")
+        number = 1
+        while asked is not None and asked >= number - 1:
+            done, asked = run_refusing(program, library, row, folder, number)
+            if not is_right(done, row) and not is_want_of_memory(done):
+                found.append(f"allocation {number}: status {done.returncode}, standard error '{shortened(done.stderr)}'")
+            number += 1
+        if asked is None:
+            found.append(f"allocation {number - 1}: no regular end")
+    return found
+
+
+def main(words):
+    program = str(Path(words[0] if words else TOP / "crates/crashbpf/out/crashbpf").resolve())
+    if not os.access(program, os.X_OK):
+        sys.exit(f"there is no program {program}: `rt run` in crates/crashbpf builds it")
+    rows = {row.name: row for row in all_rows()}
+    missing = [name for name in ROWS if name not in rows]
+    if missing:
+        sys.exit(f"no such rows: {', '.join(missing)}")
+    assembler = Assembler(program)
+    with tempfile.TemporaryDirectory() as folder, ThreadPoolExecutor(os.cpu_count()) as pool:
+        library = built(folder)
+        results = list(pool.map(lambda name: swept(program, library, rows[name], ROWS[name], assembler), ROWS))
+    failed = 0
+    for name, found in zip(ROWS, results):
+        if found:
+            failed += 1
+            print(f"FAILED {name} with memory refused: {'; '.join(found)}")
+    print(f"{len(ROWS) - failed} passed, {failed} failed")
+    return 1 if failed else 0
+
+
+if __name__ == "__main__":
+    sys.exit(main(sys.argv[1:]))

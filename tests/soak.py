@@ -1,0 +1,227 @@
+#!/usr/bin/env python3
+"""Runs the built program on many damaged inputs with options picked at random.
+
+    python3 tests/soak.py [--runs N] [--seed S] [PROGRAM]
+
+PROGRAM is as in run.py; N is 100,000 where it isn't given, S is 1. Each run takes a log, a program or an assembly text of
+examples/ or of a row of rows/, changes some of it (bits, bytes, fields of headers and slots, pieces cut out, put in twice
+or appended), and gives it to a command with options of which some are out of range. It is expected that
+
+    the status is 0, 1 or 2; 1 only of `explore`;
+    there is nothing on standard output where the status is 2, and one line at least on standard error there, and else
+    nothing on standard error but notes;
+    no run takes longer than LIMIT seconds, or more memory than its log and 128 MiB.
+
+Each run is made of its own number and the seed alone, and a run that isn't as expected is printed with it, so that it can
+be made again: `--only NUMBER` makes that run and leaves its files in the folder soak. The last line is as in run.py.
+"""
+import argparse
+import os
+import random
+import resource
+import subprocess
+import sys
+import tempfile
+from concurrent.futures import ThreadPoolExecutor
+from pathlib import Path
+
+sys.dont_write_bytecode = True
+
+from memory import WANT_OF_MEMORY
+from notation import SECTOR, TOP, Assembly
+from run import Assembler, all_rows, made, shortened
+
+LIMIT = 20
+MEMORY = 128 << 20
+GREATEST = 1 << 20
+
+# Numbers near which things change.
+EDGES = [0, 1, 2, 3, 4, 7, 8, 15, 16, 255, 256, 511, 512, 513, 4095, 4096, 16384, 65535, 65536, 1 << 31, (1 << 32) - 1, (1 << 63), (1 << 64) - 1]
+
+
+class Stock:
+    """Whole inputs, from which damaged ones are made."""
+
+    def __init__(self, program):
+        assembler = Assembler(program)
+        self.logs, self.programs, self.texts = [], [], []
+        for row in all_rows():
+            command = row.words.split()[:1]
+            for name, content in row.files.items():
+                if isinstance(content, Assembly):
+                    self.texts.append(content.encode())
+                    self.programs.append(assembler.assemble(content))
+                elif isinstance(content, (bytes, str)) and len(content) <= GREATEST:
+                    kind = self.logs if name == "log" else self.texts if command == ["asm"] else self.programs
+                    kind.append(made(content))
+        self.logs += [path.read_bytes() for path in sorted(TOP.glob("crates/example_logs/data/*/*.log"))]
+
+
+def damaged_field(chance, content):
+    """One field of a header or a slot gets another number."""
+    width = chance.choice([1, 2, 4, 8, 8])
+    if len(content) < width:
+        return content
+    at = chance.randrange(0, len(content) - width + 1)
+    at -= at % chance.choice([1, width, 8 if len(content) < 4096 else SECTOR])
+    number = chance.choice([chance.choice(EDGES), chance.getrandbits(64)]) % (1 << 8 * width)
+    return content[:at] + number.to_bytes(width, "little") + content[at + width :]
+
+
+def damaged_bit(chance, content):
+    if not content:
+        return content
+    at = chance.randrange(len(content))
+    return content[:at] + bytes([content[at] ^ 1 << chance.randrange(8)]) + content[at + 1 :]
+
+
+def cut_out(chance, content):
+    first, last = sorted(chance.randrange(len(content) + 1) for _ in range(2))
+    unit = chance.choice([1, 8, SECTOR])
+    return content[: first - first % unit] + content[last - last % unit :]
+
+
+def put_in_twice(chance, content):
+    first, last = sorted(chance.randrange(len(content) + 1) for _ in range(2))
+    unit = chance.choice([1, 8, SECTOR])
+    first, last = first - first % unit, last - last % unit
+    return (content[:last] + content[first:])[:GREATEST]
+
+
+def appended(chance, content):
+    return content + chance.randbytes(chance.choice([1, 7, 8, 9, SECTOR]))
+
+
+def cut_off(chance, content):
+    return content[: chance.randrange(len(content) + 1)]
+
+
+DAMAGES = [damaged_field, damaged_field, damaged_field, damaged_bit, cut_out, put_in_twice, appended, cut_off]
+
+
+def damaged(chance, whole):
+    content = chance.choice(whole)
+    for _ in range(chance.choice([0, 1, 1, 2, 3, 8])):
+        content = chance.choice(DAMAGES)(chance, content)
+    return content
+
+
+def options_of(chance, command):
+    """Some options of a command, each mostly within its range."""
+    picked = {
+        "sectors": chance.choice([1, 2, 3, 4, 8, 8, 64, 64, 16384, 16385, 0]),
+        "cuts": chance.choice(["all", "flush", "mark"]),
+        "bound": chance.choice([0, 1, 1, 2, 3, 4]),
+        "checked": chance.choice([0, 1, 2, 100, 10000, 1000000001]),
+        "workers": chance.choice([1, 1, 2, 4, 64, 65, 0]),
+        "cache": chance.choice([0, 1, 16, 65536, 65537]),
+    }
+    taken = {
+        "explore": ["sectors", "cuts", "bound", "checked", "workers", "cache"],
+        "images": ["sectors", "cuts", "bound"],
+        "image": ["sectors", "cuts", "bound"],
+        "verify": ["sectors"],
+    }.get(command, [])
+    words = []
+    for name in taken:
+        if name == "sectors" or chance.random() < 0.5:
+            words += [f"--{name}", str(picked[name])]
+    if command in ("explore", "images", "image") and chance.random() < 0.4:
+        words.append("--tears")
+    if command == "explore" and chance.random() < 0.3:
+        words.append("--first")
+    return words
+
+
+def made_run(stock, seed, number):
+    """The words and the files of the run of that number."""
+    chance = random.Random(f"{seed} {number}")
+    command = chance.choice(["explore", "explore", "explore", "images", "image", "verify", "verify", "asm", "list"])
+    if command == "asm":
+        return [command, "source"], {"source": damaged(chance, stock.texts)}
+    if command in ("verify", "list"):
+        return [command, "p0", *options_of(chance, command)], {"p0": damaged(chance, stock.programs)}
+    files = {"log": damaged(chance, stock.logs)}
+    words = [command, "log"]
+    if command == "image":
+        words.append(str(chance.choice([0, 1, 2, 5, 20, 1000, (1 << 64) - 1])))
+    if command == "explore":
+        for place in range(chance.choice([1, 1, 1, 2, 8, 9])):
+            files[f"p{place}"] = damaged(chance, stock.programs)
+            words.append(f"p{place}")
+    return words + options_of(chance, command), files
+
+
+def wrong(words, done):
+    """What isn't as expected of a run that ended, or None."""
+    if WANT_OF_MEMORY.fullmatch(done.stderr):
+        return "not enough memory"
+    if done.returncode not in (0, 1, 2) or done.returncode == 1 and words[0] != "explore":
+        return f"status {done.returncode}"
+    if done.returncode == 2 and (done.stdout or not done.stderr.endswith(b"\n")):
+        return f"status 2 with {len(done.stdout)} bytes, standard error '{shortened(done.stderr)}'"
+    if done.returncode != 2 and any(not line.startswith(b"note: ") for line in done.stderr.splitlines()):
+        return f"status {done.returncode} with standard error '{shortened(done.stderr)}'"
+    return None
+
+
+def limited(content):
+    """Limits the memory of the process that is to be started."""
+    most = len(content) + MEMORY
+    return lambda: resource.setrlimit(resource.RLIMIT_DATA, (most, most))
+
+
+def run_one(program, stock, seed, number, folder):
+    words, files = made_run(stock, seed, number)
+    for name, content in files.items():
+        Path(folder, name).write_bytes(content)
+    try:
+        done = subprocess.run(
+            [program, *words],
+            cwd=folder,
+            stdin=subprocess.DEVNULL,
+            capture_output=True,
+            timeout=LIMIT,
+            preexec_fn=limited(files.get("log", b"")),
+        )
+    except subprocess.TimeoutExpired:
+        return words, f"no end within {LIMIT} seconds"
+    return words, wrong(words, done)
+
+
+def soaked(program, stock, seed, numbers):
+    """The runs of these numbers that weren't as expected."""
+    found = []
+    for number in numbers:
+        with tempfile.TemporaryDirectory() as folder:
+            words, what = run_one(program, stock, seed, number, folder)
+        if what:
+            found.append(f"FAILED run {number}, {' '.join(words)}: {what}")
+    return found
+
+
+def main():
+    parser = argparse.ArgumentParser(description="Runs the program on damaged inputs.")
+    parser.add_argument("--runs", type=int, default=100000)
+    parser.add_argument("--seed", type=int, default=1)
+    parser.add_argument("--only", type=int)
+    parser.add_argument("program", nargs="?", default=str(TOP / "crates/crashbpf/out/crashbpf"))
+    asked = parser.parse_args()
+    program = str(Path(asked.program).resolve())
+    stock = Stock(program)
+    if asked.only is not None:
+        folder = Path("soak")
+        folder.mkdir(exist_ok=True)
+        words, what = run_one(program, stock, asked.seed, asked.only, folder)
+        print(" ".join(words), what or "as expected")
+        return 0
+    workers = os.cpu_count()
+    parts = [range(first, asked.runs, workers) for first in range(workers)]
+    with ThreadPoolExecutor(workers) as pool:
+        found = [line for part in pool.map(lambda part: soaked(program, stock, asked.seed, part), parts) for line in part]
+    print("\n".join(found + [f"{asked.runs - len(found)} passed, {len(found)} failed"]))
+    return 1 if found else 0
+
+
+if __name__ == "__main__":
+    sys.exit(main())
