@@ -143,11 +143,13 @@ class Row:
     files   the files that lie in the folder of the run, by name: bytes, a text, an Assembly, a Folder, a Long
     out     standard output, as bytes, text or Long, or Something
     status  the status
-    error   standard error, its one line without the newline; "" for nothing; Something; None where nothing is asked of it
+    error   standard error without its notes: its one line without the newline; "" for nothing; Something; None where
+            nothing is asked of it
     to      where standard output goes: "pipe", "closed", "full" (a full disk), "unread" (a pipe that nobody reads),
             "limited" (a file that may have LIMITED bytes; `out` is then what the file holds), or "silent" (a pipe, but
             standard error is closed)
     seconds how long the run may take
+    notes   the notes on standard error, each without `note: ` and the newline; None where nothing is asked of them
     """
 
     name: str
@@ -158,6 +160,7 @@ class Row:
     error: object = ""
     to: str = "pipe"
     seconds: int = SECONDS
+    notes: object = None
 
 
 def files(entries, *programs):

@@ -9,7 +9,7 @@ files and words. It needs Python 3.9 or later, nothing but its own library, and 
 
 A row is one run of the program: the words behind its name, the files that lie in its folder (a fresh one for each row),
 and what is expected: standard output byte by byte, the status, and standard error, which is either empty or the one line
-of a refusal. A row fails where one of these differs, or where the run takes too long (`seconds` of notation.py). Rows run
+of a refusal, with notes behind it. A row fails where one of these differs, or where the run takes too long (`seconds` of notation.py). Rows run
 side by side.
 
 What is printed is a line for each row that failed, with what differed, and last
@@ -31,6 +31,8 @@ Where the rows stand
     rows/answers.py     what programs answer: arithmetic, memory, helpers, faults
     rows/arithmetic.py  each operation and each test on many operands
     rows/refusals.py    what the verifier accepts and refuses
+    rows/notes.py       the notes behind each refusal, and beside answers
+    rows/tables.py      logs as tables, and listings with slots
     rows/modelled.py    whole reports of many logs, against the model
     rows/limits.py      sizes near each limit
     rows/not_built.py   options and instructions that this version refuses, since their work isn't built
@@ -69,8 +71,10 @@ from rows import (
     logs,
     modelled,
     not_built,
+    notes,
     process,
     refusals,
+    tables,
     texts,
     worked,
 )
@@ -87,6 +91,8 @@ TABLES = [
     answers,
     arithmetic,
     refusals,
+    notes,
+    tables,
     modelled,
     limits,
     not_built,
@@ -178,13 +184,25 @@ def output_differs(what, found, wanted):
     return [] if found == wanted else [f"{what} {first_difference(found, wanted)}"]
 
 
+def split_notes(error):
+    """Standard error without its notes, and the notes."""
+    parts = {True: b"", False: b""}
+    for line in error.splitlines(keepends=True):
+        parts[line.startswith(b"note: ")] += line
+    return parts[False], parts[True]
+
+
 def differences(row, done, out):
     """What a run did otherwise than its row says."""
     found = [] if done.returncode == row.status else [f"status {done.returncode}, wanted {row.status}"]
     found += output_differs("standard output", out, row.out)
     if row.error is not None:
         line = f"{row.error}\n" if row.error and isinstance(row.error, str) else row.error
-        found += output_differs("standard error", done.stderr, line)
+        rest, notes = split_notes(done.stderr)
+        found += output_differs("standard error", rest, line)
+        found += [] if rest + notes == done.stderr else ["a note stands before the line of the refusal"]
+        if row.notes is not None:
+            found += output_differs("the notes", notes, "".join(f"note: {it}\n" for it in row.notes))
     return found
 
 

@@ -74,6 +74,7 @@ HELP = [
         "verify --help",
         "asm --help",
         "list --help",
+        "log --help",
     ]
 ]
 
@@ -137,6 +138,15 @@ FAULTS = [
         "list p0 p1",
         "list p0 --sectors 4",
         "list p0 --tears",
+        "list p0 --slots yes",
+        "list --slots",
+        "verify p0 --sectors 4 --slots",
+        "log log p0",
+        "log log --sectors four",
+        "log log --bound 1",
+        "log log --cuts all",
+        "log log --tears",
+        "log log --slots",
     ]
 ]
 

@@ -1,7 +1,7 @@
 //! Assembly texts of BPF programs, and the listings of programs (docs/ASSEMBLY.md).
 //!
 //! This crate stands on `bpf_isa`, from which it takes instructions and programs, and on `indexmap`.
-//! The commands that read and print programs stand on it, and call `assemble` and `list` alone.
+//! The commands that read and print programs stand on it, and call `assemble`, `list` and `put_instr` alone.
 //!
 //! - `part`: the words and marks of a line, taken from its front one by one.
 //! - `number`: numbers with their sign, and the ranges that they have to keep.
@@ -13,7 +13,7 @@
 //! - `outline`: the lines of a text in turn: the slot of each label, in the order in which the labels
 //!   stand, and the instructions with the labels that they name.
 //! - `assembler`: the second pass, which gives each instruction its distance, and `assemble`.
-//! - `listing`: `list`.
+//! - `listing`: `list` and `put_instr`.
 //! - `fault`: why a text is refused, with the number under which the refusal is printed and its line.
 //!
 //! The grammar is stated once, in `specs/`: `Parts` has the lines and the parts of a line, `Words` what
@@ -28,7 +28,8 @@
 //! - `assemble` refuses, want of memory aside, only where the text says no program. Want of memory
 //!   names no line, and a text in order but without instructions is refused for its range at no line.
 //!   Which number and line another refusal has is held to the table of docs/ASSEMBLY.md by tests.
-//! - `list` answers the listing of the program, to the byte, and the listing says the program.
+//! - `list` answers the listing of the program, to the byte, and the listing says the program. `put_instr`
+//!   appends the line of one instruction, without its end.
 //! - A text says at most one program. So assembling the listing of a program gives that program, or
 //!   want of memory (`laws::round_trip`).
 //!
@@ -58,4 +59,4 @@ mod part;
 mod statement;
 
 pub use assembler::assemble;
-pub use listing::list;
+pub use listing::{list, put_instr};

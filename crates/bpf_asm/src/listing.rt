@@ -66,7 +66,7 @@ fn put_place(
 }
 
 /// Appends the line of an instruction without its end.
-fn put_instr(out: &mut String, instr: &Instr) -> Result<(), AllocError>
+pub fn put_instr(out: &mut String, instr: &Instr) -> Result<(), AllocError>
     ensures { OnOk result (string_bytes out.new ≡ string_bytes out.old ++ line_text instr.now) }
 {
     out.push_str(Mnemonic::of(instr).name())?;

@@ -132,8 +132,8 @@ of_program below s files checkers _ made (with_code_fault r program bytes before
 of_program below s files checkers _ made (with_verifier_fault r program bytes slots before first there spelled unlimited fault) =
     let c = checker_there s files checkers program bytes made there in
     absurd (not_unaccepted below s.checked s.sectors c.0 slots fault.0 fault.1 unlimited c.1.within (below.programs bytes slots c.0.program spelled c.1.spelled) fault.3)
-of_program below s files checkers r made (no_code_memory program lt) = refl
-of_program below s files checkers r made (no_verifier_memory program lt unlimited) = refl
+of_program below s files checkers r made (no_code_memory program bytes before first there) = refl
+of_program below s files checkers r made (no_verifier_memory program bytes slots before first there spelled unlimited) = refl
 of_program below s files checkers r made no_list_memory = refl
 
 pub report_or_refusal : Below → (text : List ℕ) (files : List (List ℕ)) (s : Settings) (bytes : List ℕ) (failing : Bool) (r : Refusal)

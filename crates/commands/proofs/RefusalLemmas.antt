@@ -2,7 +2,7 @@
 use Rattle.std.proofs.Common.{ℕ, zero, suc, ◌≡◌, ◌+◌, ◌<◌, ◌≤◌, ◌⊎◌, inl, inr, List, [], ◌∷◌, ◌++◌, length, map, take, get_or, Option, None, Some, slice_get, refl, sym, ◌∙◌, ap, subst, arith, length-append}
 use Rattle.std.specs.Option.{option_map}
 use Rattle.std.proofs.lemmas.List.{take_all}
-use Rattle.std.proofs.lemmas.Option.{slice_get_within, slice_get_read, slice_get-map}
+use Rattle.std.proofs.lemmas.Option.{slice_get_read, slice_get-map}
 use Rattle.base.specs.declared.causes.LogCause.TheVariants as log
 use Rattle.base.specs.declared.causes.CodeCause.TheVariants as code
 use Rattle.base.specs.declared.causes.VerifierCause.TheVariants as verifier
@@ -111,7 +111,8 @@ unaccepted_one : (s : Settings) (files : List (List ℕ)) (programs : List (List
     → AreFirstOf files programs → AreCheckersOf s (take n files) before → slice_get programs n ≡ Some slots → s.checked ≡ None
     → (r ≡ verifier_refusal n verifier.Memory 0) ⊎ IsVerifierFault s.sectors n slots r → RefusesProgram s files r
 unaccepted_one s files programs r n slots before h made there unlimited (inl e) =
-    rw e (no_verifier_memory n (slice_get_within files n _ (spelled_there files programs n slots h there).1) unlimited)
+    let stands = spelled_there files programs n slots h there in
+    rw e (no_verifier_memory n stands.0 slots before made stands.1 stands.2 unlimited)
 unaccepted_one s files programs r n slots before h made there unlimited (inr fault) =
     let stands = spelled_there files programs n slots h there in
     with_verifier_fault r n stands.0 slots before made stands.1 stands.2 unlimited fault
@@ -126,7 +127,7 @@ one_refused s files programs _ h no_checkers_memory = no_list_memory
 -- a program can't be decoded, and those before it are made checkers
 pub undecoded_refused : (s : Settings) (files : List (List ℕ)) (checkers : List CheckerValue) (bytes : List ℕ) (r : Refusal) (n : ℕ)
     → AreCheckersOf s (take n files) checkers → slice_get files n ≡ Some bytes → IsUndecoded n bytes r → RefusesProgram s files r
-undecoded_refused s files checkers bytes r n made there (inl e) = rw e (no_code_memory n (slice_get_within files n bytes there))
+undecoded_refused s files checkers bytes r n made there (inl e) = rw e (no_code_memory n bytes checkers made there)
 undecoded_refused s files checkers bytes r n made there (inr h) = with_code_fault r n bytes checkers made there h
 
 pub length_of_bytes : {V : Type 0} (items : V → List ℕ) (files : List V) → length (map items files) ≡ length files

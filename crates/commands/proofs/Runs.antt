@@ -6,6 +6,7 @@ use Rattle.logfmt.specs.Bounds.{LogValue}
 use Rattle.logfmt.specs.LogText.{LogText}
 use Rattle.commands.specs.declared.settings.Settings.{Settings}
 use Rattle.commands.specs.Source.{IsLogOf, HasImages, images_of, RefusesLog, RefusesSource, for_log}
+use Rattle.commands.specs.Table as table
 use Rattle.interp.specs.Checker.{CheckerValue}
 use Rattle.workers.specs.Failing.{failing_lines}
 use Rattle.commands.specs.Explore.{Refuses, for_source, AreCheckersOf, subject_of, report_of, IsProgramCount, IsReport}
@@ -20,6 +21,9 @@ has_images text s log sectors images e f h count few = record { reads = is_log t
 -- the log is refused by what was read for the device of the settings
 pub log_source : (text : List ℕ) (s : Settings) (sectors : ℕ) (r : Refusal) → sectors ≡ s.sectors → RefusesLog text sectors r → RefusesSource text s r
 log_source text s sectors r e h = for_log r (rw (← e) h)
+
+pub table_refused : (text : List ℕ) (s : Settings) (sectors : ℕ) (r : Refusal) → sectors ≡ s.sectors → RefusesLog text sectors r → table.RefusesTable text s r
+table_refused text s sectors r e h = table.for_log r (rw (← e) h)
 
 -- what two facts say of an Ok, and what one says of an Err
 pub both_ok : {T E : Type 0} (r : Result T E) (A B C : T → Type 0) → IfOk r A → IfOk r B → ((x : T) → A x → B x → C x) → IfOk r C

@@ -14,6 +14,7 @@ use Rattle.commands.specs.Settings.{option_refusal, settings_refusal}
 use Rattle.commands.specs.Explore.{IsReport, Refuses}
 use Rattle.commands.specs.Image.{IsImage, RefusesImage}
 use Rattle.commands.specs.Survey.{IsSurvey, RefusesSurvey}
+use Rattle.commands.specs.Table.{IsTable, RefusesTable}
 use Rattle.commands.specs.Verifying.{IsAcceptedText, RefusesVerified}
 use Rattle.commands.specs.Assembly.{file_refusal, IsAssembled, RefusesText, IsListed, RefusesBytes}
 
@@ -101,10 +102,11 @@ abbrev pub Answers : Request → Files → List ℕ → ℕ → Type 0
 Answers request.StoredRun files bytes status = AnswersRun STORED_SETTINGS stored_log stored_programs bytes status
 Answers (request.Explore w) files bytes status = AnswersExplore w files bytes status
 Answers (request.Images w) files bytes status = AnswersWith w (λ s text. IsSurvey text s) files bytes status
+Answers (request.Log w) files bytes status = AnswersWith w (λ s text. IsTable text s) files bytes status
 Answers (request.Image w number) files bytes status = AnswersWith w (λ s text. IsImage text s number) files bytes status
 Answers (request.Verify w) files bytes status = AnswersWith w (λ s code. IsAcceptedText code s.sectors) files bytes status
 Answers request.Asm files bytes status = AnswersFile IsAssembled files bytes status
-Answers request.List files bytes status = AnswersFile IsListed files bytes status
+Answers (request.List numbered) files bytes status = AnswersFile (IsListed numbered) files bytes status
 
 -- the refusals of a command with options: of its words first
 pub data RefusesWith (w : OptionWords) (Rest : Settings → Refusal → Type 0) : Refusal → Type 0 where
@@ -128,7 +130,8 @@ abbrev pub RefusesToAct : Request → Files → Refusal → Type 0
 RefusesToAct request.StoredRun files r = (r ≡ memory_refusal) ⊎ Refuses stored_log stored_programs STORED_SETTINGS r
 RefusesToAct (request.Explore w) files r = RefusesWith w (RefusesFiles files) r
 RefusesToAct (request.Images w) files r = RefusesWith w (λ s. RefusesFile files (λ text. RefusesSurvey text s)) r
+RefusesToAct (request.Log w) files r = RefusesWith w (λ s. RefusesFile files (λ text. RefusesTable text s)) r
 RefusesToAct (request.Image w number) files r = RefusesWith w (λ s. RefusesFile files (λ text. RefusesImage text s number)) r
 RefusesToAct (request.Verify w) files r = RefusesWith w (λ s. RefusesFile files (λ code. RefusesVerified code s.sectors)) r
 RefusesToAct request.Asm files r = RefusesFile files RefusesText r
-RefusesToAct request.List files r = RefusesFile files RefusesBytes r
+RefusesToAct (request.List numbered) files r = RefusesFile files RefusesBytes r

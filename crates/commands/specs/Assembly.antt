@@ -1,5 +1,5 @@
 -- What the commands on single programs answer (docs/REPORT.md, Commands; docs/ASSEMBLY.md).
-use Rattle.std.specs.Prelude.{ℕ, ◌≡◌, List, Option, None}
+use Rattle.std.specs.Prelude.{ℕ, ◌≡◌, Bool, if◌then◌else◌, List, Option, None}
 use Rattle.std.specs.Str.{IsUtf8}
 use Rattle.base.specs.declared.causes.AsmCause.{AsmCause}
 use Rattle.base.specs.declared.causes.AsmCause.TheVariants as asm
@@ -12,6 +12,7 @@ use Rattle.base.specs.declared.refusal.Cause.TheVariants.{Asm, Code, Request}
 use Rattle.bpf_isa.specs.declared.instr.Instr.{Instr}
 use Rattle.bpf_isa.specs.Program.{IsSpelledBy, FirstFault}
 use Rattle.bpf_asm.specs.Listing.{listing}
+use Rattle.notes.specs.Listing.{numbered_listing}
 use Rattle.bpf_asm.specs.Says.{Says, SaysNone}
 
 -- the refusals name the line of a text, the slot of a program, and the place of a file
@@ -38,11 +39,15 @@ pub data RefusesText (text : List ℕ) : Refusal → Type 0 where
   no_text_memory : RefusesText text (text_refusal asm.Memory 0)
   no_bytes_memory : RefusesText text memory_refusal
 
+-- the listing, each line behind its slot or not
+abbrev pub listing_text : Bool → List (Option Instr) → List ℕ
+listing_text numbered slots = if numbered then numbered_listing slots else listing slots
+
 -- the text is the listing of the program that the bytes spell
-pub record IsListed (bytes text : List ℕ) : Type 0 where
+pub record IsListed (numbered : Bool) (bytes text : List ℕ) : Type 0 where
   pub slots : List (Option Instr)
   pub spelled : IsSpelledBy bytes slots
-  pub listed : text ≡ listing slots
+  pub listed : text ≡ listing_text numbered slots
 
 -- bytes are refused for their first fault; or for want of memory
 pub data RefusesBytes (bytes : List ℕ) : Refusal → Type 0 where

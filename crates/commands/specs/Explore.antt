@@ -1,5 +1,5 @@
 -- What a run answers, and when it refuses (docs/REPORT.md).
-use Rattle.std.specs.Prelude.{ℕ, ◌≡◌, ◌≢◌, ◌<◌, ◌≤◌, Bool, IsTrue, ◌↔◌, List, [], ◌∷◌, length, map, take, Option, None, Some, is_some, slice_get}
+use Rattle.std.specs.Prelude.{ℕ, ◌≡◌, ◌≢◌, ◌≤◌, Bool, IsTrue, ◌↔◌, List, [], ◌∷◌, length, map, take, Option, None, Some, is_some, slice_get}
 use Rattle.base.specs.declared.causes.CodeCause.TheVariants as code
 use Rattle.base.specs.declared.causes.VerifierCause.TheVariants as verifier
 use Rattle.base.specs.declared.refusal.Refusal.{Refusal}
@@ -72,15 +72,19 @@ pub record IsReport (text : List ℕ) (files : List (List ℕ)) (s : Settings) (
 abbrev pub HasReport : List ℕ → List (List ℕ) → Settings → List ℕ → Type 0
 HasReport text files s bytes = (failing : Bool) × IsReport text files s bytes failing
 
--- the refusals of the programs: of the first that can't be decoded or isn't accepted; or want of memory
+-- the refusals of the programs: of the first that can't be decoded or isn't accepted, or for which memory is wanting; or
+-- want of memory for their list
 pub data RefusesProgram (s : Settings) (files : List (List ℕ)) : Refusal → Type 0 where
   with_code_fault : (r : Refusal) (program : ℕ) (bytes : List ℕ) (before : List CheckerValue)
       → AreCheckersOf s (take program files) before → slice_get files program ≡ Some bytes → IsCodeFault program bytes r → RefusesProgram s files r
   with_verifier_fault : (r : Refusal) (program : ℕ) (bytes : List ℕ) (slots : List (Option Instr)) (before : List CheckerValue)
       → AreCheckersOf s (take program files) before → slice_get files program ≡ Some bytes → code_fault.IsSpelledBy bytes slots
       → s.checked ≡ None → IsVerifierFault s.sectors program slots r → RefusesProgram s files r
-  no_code_memory : (program : ℕ) → program < length files → RefusesProgram s files (code_refusal program code.Memory 0)
-  no_verifier_memory : (program : ℕ) → program < length files → s.checked ≡ None → RefusesProgram s files (verifier_refusal program verifier.Memory 0)
+  no_code_memory : (program : ℕ) (bytes : List ℕ) (before : List CheckerValue)
+      → AreCheckersOf s (take program files) before → slice_get files program ≡ Some bytes → RefusesProgram s files (code_refusal program code.Memory 0)
+  no_verifier_memory : (program : ℕ) (bytes : List ℕ) (slots : List (Option Instr)) (before : List CheckerValue)
+      → AreCheckersOf s (take program files) before → slice_get files program ≡ Some bytes → code_fault.IsSpelledBy bytes slots
+      → s.checked ≡ None → RefusesProgram s files (verifier_refusal program verifier.Memory 0)
   no_list_memory : RefusesProgram s files memory_refusal
 
 -- the refusals in their order: the number of programs, the log, the number of its images, then each

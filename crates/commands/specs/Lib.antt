@@ -6,8 +6,10 @@ pub mod Programs
 pub mod Explore
 pub mod Image
 pub mod Survey
+pub mod Table
 pub mod Assembly
 pub mod Verifying
+pub mod Unreached
 pub mod FaultLine
 pub mod Words
 pub mod Acting

@@ -14,6 +14,7 @@ use crate::explore_command::explore_with;
 use crate::image_command::image;
 use crate::images_command::survey;
 use crate::list_command::listed;
+use crate::log_command::shown_log;
 use crate::options::Options;
 use crate::refusals::{option_refusal_of, unreadable};
 use crate::settings::{OptionPlace, Settings};
@@ -46,7 +47,7 @@ pub(crate) const STORED_SETTINGS: Settings = Settings {
 };
 
 /// The options that these words ask for.
-fn options_of(words: OptionWords) -> Result<Options, Refusal>
+pub(crate) fn options_of(words: OptionWords) -> Result<Options, Refusal>
     ensures { MatchResult result (λ o. AskFor words o) (λ r. words_refusal words ≡ Some r) }
 {
     match words.cuts {
@@ -199,6 +200,21 @@ fn act_images(
     Ok((bytes, 0))
 }
 
+/// A log as a table.
+fn act_log(
+    alloc: Global,
+    words: OptionWords,
+    files: &[Option<Vec<u8>>],
+) -> Result<(Vec<u8>, u8), Refusal>
+    ensures answers { IfOk result (λ answer. Answers (request.Log words) (map (option_map (λ f. f.items)) files.now) answer.0.items answer.1) }
+    ensures refused { IfErr result (RefusesToAct (request.Log words) (map (option_map (λ f. f.items)) files.now)) }
+{
+    let options = options_of(words)?;
+    let log = first_of(files)?;
+    let bytes = shown_log(alloc, log, &options)?;
+    Ok((bytes, 0))
+}
+
 /// One crash image of a log.
 fn act_image(
     alloc: Global,
@@ -241,12 +257,16 @@ fn act_asm(alloc: Global, files: &[Option<Vec<u8>>]) -> Result<(Vec<u8>, u8), Re
 }
 
 /// The listing of a program.
-fn act_list(alloc: Global, files: &[Option<Vec<u8>>]) -> Result<(Vec<u8>, u8), Refusal>
-    ensures answers { IfOk result (λ answer. Answers request.List (map (option_map (λ f. f.items)) files.now) answer.0.items answer.1) }
-    ensures refused { IfErr result (RefusesToAct request.List (map (option_map (λ f. f.items)) files.now)) }
+fn act_list(
+    alloc: Global,
+    numbered: bool,
+    files: &[Option<Vec<u8>>],
+) -> Result<(Vec<u8>, u8), Refusal>
+    ensures answers { IfOk result (λ answer. Answers (request.List numbered) (map (option_map (λ f. f.items)) files.now) answer.0.items answer.1) }
+    ensures refused { IfErr result (RefusesToAct (request.List numbered) (map (option_map (λ f. f.items)) files.now)) }
 {
     let code = first_of(files)?;
-    let text = listed(alloc, code)?;
+    let text = listed(alloc, code, numbered)?;
     Ok((text, 0))
 }
 
@@ -270,9 +290,10 @@ pub fn act(
         Request::StoredRun => act_stored(alloc),
         Request::Explore(options) => act_explore(alloc, options, files),
         Request::Images(options) => act_images(alloc, options, files),
+        Request::Log(options) => act_log(alloc, options, files),
         Request::Image(options, number) => act_image(alloc, options, number, files),
         Request::Verify(options) => act_verify(alloc, options, files),
         Request::Asm => act_asm(alloc, files),
-        Request::List => act_list(alloc, files),
+        Request::List { numbered } => act_list(alloc, numbered, files),
     }
 }

@@ -10,17 +10,19 @@
 //!
 //! The layer below the program. `logfmt` reads the log, `epochs` says its cuts, `choices` and `images` its
 //! crash images, `bpf_isa` decodes the checkers, `verifier` accepts them, `bpf_asm` assembles and lists
-//! them, `workers` judges the images by `interp`, `report` writes the lines. What stands here:
+//! them, `workers` judges the images by `interp`, `report` writes the lines, `notes` the words. What stands here:
 //!
 //! - `settings` and `options`: what a run is asked, and `Options`, tested in their order.
 //! - `source`: what each command reads of a log, with the refusals in their order.
 //! - `explore_command`: `explore_with` and `explore`, from bytes to the bytes of the report.
 //! - `images_command`, `image_command`: the number of images cut by cut, and the bytes of one image.
+//! - `log_command`: a log as a table.
 //! - `verify_command`, `asm_command`, `list_command`: what the verifier says of a program by itself, a
 //!   program from a source text, and the listing of a program.
 //! - `words`, `action`: the words of the command line, and what a command answers.
 //! - `laws`: that there is one report at most, and no refusal beside it but for memory.
 //! - `refusals`: the refusals of files and options, and `fault_line`, the line of a refusal.
+//! - `noting`, `unreached`: the notes behind a refusal and beside an answer, of the parts that `notes` has.
 //!
 //! # What is proved
 //!
@@ -36,7 +38,8 @@
 //!
 //! What `verify` answers is the budget of an accepted program (`specs/Verifying.antt`). What `asm` answers
 //! spells the program that the source text says, and what `list` answers is the
-//! listing of the program that the bytes spell (`specs/Assembly.antt`).
+//! listing of the program that the bytes spell (`specs/Assembly.antt`). What `log` answers is the table of the
+//! log (`specs/Table.antt`). Which notes are said is no part of a contract; the parts are.
 //!
 //! A run has one program to eight. So far it has one worker and no cache; more is refused.
 //!
@@ -59,10 +62,13 @@ mod image_command;
 mod images_command;
 mod laws;
 mod list_command;
+mod log_command;
+mod noting;
 mod options;
 mod refusals;
 mod settings;
 mod source;
+mod unreached;
 mod verify_command;
 mod words;
 
@@ -72,6 +78,7 @@ pub use explore_command::{Explored, explore, explore_with};
 pub use image_command::image;
 pub use images_command::survey;
 pub use laws::{one_report, report_or_refusal};
+pub use noting::{notes_behind, notes_beside};
 pub use options::Options;
 pub use refusals::fault_line;
 pub use settings::{OptionPlace, Settings};

@@ -31,14 +31,16 @@ pub(crate) enum Request {
     Explore(OptionWords),
     /// `images LOG`
     Images(OptionWords),
+    /// `log LOG`, of which the number of sectors counts.
+    Log(OptionWords),
     /// `image LOG N`, with the number of the image.
     Image(OptionWords, u64),
     /// `verify PROGRAM`, of which the number of sectors counts.
     Verify(OptionWords),
     /// `asm SOURCE`
     Asm,
-    /// `list PROGRAM`
-    List,
+    /// `list PROGRAM`, with the slots or without.
+    List { numbered: bool },
 }
 
 /// The words behind the program's name (docs/REPORT.md, Commands).
@@ -71,7 +73,7 @@ A log has at most 64 MiB, 65,536 entries and 262,144 written or discarded sector
 sectors of 512 bytes; a program 4,096 slots; a run 8 programs and 16,777,216 images.
 
 Exit status: 0 where the command succeeded and no image fails, 1 where an image fails, 2 for a
-refusal (one line on standard error, as 'refused 12 at 3'), a fault of the command line, or a standard
+refusal (a line on standard error, as 'refused 12 at 3'), a fault of the command line, or a standard
 output that can't be written.";
 
 /// What stands behind the help of `explore`.
@@ -92,6 +94,15 @@ m is 8 with --tears and else 1.
 Example: crashbpf images disk.log --sectors 64 --tears
 
 Exit status: 0, or 2 for a refusal.";
+
+/// What stands behind the help of `log`.
+const AFTER_LOG: &str =
+    "An entry a line, with the number that the report names: sector j of 'sector S count N' is unit j, which
+is S + j on the device. Bytes of a mark's text that aren't printed are shown as '\\x{7f}'.
+
+Example: crashbpf log disk.log
+
+Exit status: 0, or 2 for a refusal: 1 to 10 at the entry.";
 
 /// What stands behind the help of `image`.
 const AFTER_IMAGE: &str = "The number is that of a line of the report, with the same options.
@@ -225,6 +236,21 @@ fn image_command<'a>(alloc: Global) -> Result<Command<'a>, AllocError> {
         .arg(number)
 }
 
+/// The command `log`.
+fn table_command<'a>(alloc: Global) -> Result<Command<'a>, AllocError> {
+    let sectors = number_option(
+        alloc,
+        "sectors",
+        "16384",
+        "Sectors of the device, 1 to 16384",
+    );
+    Command::new(alloc, "log")
+        .about("Prints the entries of a log")
+        .after_help(AFTER_LOG)
+        .arg(sectors)?
+        .arg(log_file(alloc))
+}
+
 /// A command on one file and without options.
 fn file_command<'a>(
     alloc: Global,
@@ -258,11 +284,14 @@ fn asm_command<'a>(alloc: Global) -> Result<Command<'a>, AllocError> {
 
 /// The command `list`.
 fn list_command<'a>(alloc: Global) -> Result<Command<'a>, AllocError> {
-    Ok(
-        file_command(alloc, "list", "PROGRAM", "A BPF program, as bytes")?
-            .about("Prints the listing of a program, which assembles to it again")
-            .after_help(AFTER_LIST),
-    )
+    let slots = Arg::new(alloc, "slots")
+        .long("slots")
+        .action(ArgAction::SetTrue)
+        .help("Begin each line with the slot of its instruction");
+    file_command(alloc, "list", "PROGRAM", "A BPF program, as bytes")?
+        .about("Prints the listing of a program, which assembles to it again")
+        .after_help(AFTER_LIST)
+        .arg(slots)
 }
 
 /// All commands.
@@ -277,6 +306,7 @@ fn commands<'a>(alloc: Global) -> Result<Command<'a>, AllocError> {
         .subcommand(explore_command(alloc)?)?
         .subcommand(images_command(alloc)?)?
         .subcommand(image_command(alloc)?)?
+        .subcommand(table_command(alloc)?)?
         .subcommand(verify_command(alloc)?)?
         .subcommand(asm_command(alloc)?)?
         .subcommand(list_command(alloc)?)
@@ -292,7 +322,7 @@ fn cuts_of(word: Option<&str>) -> Option<Cuts> {
     }
 }
 
-/// The options of `verify`: the number of sectors, and what stands for the others.
+/// The options of `verify` and `log`: the number of sectors, and what stands for the others.
 fn device_words(matches: &ArgMatches<'_>) -> OptionWords {
     OptionWords {
         sectors: matches.get_one::<u64>("sectors").unwrap_or(0),
@@ -335,9 +365,12 @@ fn request_of(name: &str, matches: &ArgMatches<'_>) -> Request {
             log_words(matches),
             matches.get_one::<u64>("number").unwrap_or(0),
         ),
+        "log" => Request::Log(device_words(matches)),
         "verify" => Request::Verify(device_words(matches)),
         "asm" => Request::Asm,
-        "list" => Request::List,
+        "list" => Request::List {
+            numbered: matches.get_flag("slots"),
+        },
         _ => Request::Explore(explore_words(matches)),
     }
 }

@@ -10,13 +10,14 @@
 //!
 //! The top. What a command answers, with which status, and when it is refused, is all decided by
 //! `commands`, whose `act` takes what the files hold and gives the bytes. Here files are read, and the
-//! answer is written: to standard output, or a refusal's line to standard error with status 2.
+//! answer is written: to standard output, or a refusal's line to standard error with status 2. Notes stand on
+//! standard error in both cases, and change neither the status nor standard output.
 //!
 //! No contract can say what a file holds or what standard output takes: this crate is kept as short as
 //! it can be, and its behaviour is shown by runs of the built program.
 #![tactic(auto)]
 
-use commands::{Words, act, fault_line};
+use commands::{Words, act, fault_line, notes_behind, notes_beside};
 use std::alloc::AllocError;
 use std::io::Write;
 use std::process::ExitCode;
@@ -38,12 +39,20 @@ fn read_files<R: Files + AllocGlobal>(
     Ok(files)
 }
 
-/// Performs a command, and prints its answer or its refusal.
+/// Prints notes on standard error. Where that fails they are left out, and the status stays what it is.
+fn print_notes<R: Eprint>(rt: &R, notes: Result<String, AllocError>) {
+    if let Ok(notes) = notes {
+        rt.eprint(notes.as_str()).ok();
+    }
+}
+
+/// Performs a command, and prints its answer or its refusal, with the notes on it.
 fn run<R: Files + AllocGlobal + Print + Eprint>(rt: &R, words: &Words) -> io::Result<u8> {
     let files = read_files(rt, words.files())?;
     match act(rt.alloc(), words, files.as_slice()) {
         Ok((bytes, status)) => {
             io::writer(rt).write_all(bytes.as_slice())?;
+            print_notes(rt, notes_beside(rt.alloc(), words, files.as_slice()));
             Ok(status)
         }
         Err(refusal) => {
@@ -51,6 +60,10 @@ fn run<R: Files + AllocGlobal + Print + Eprint>(rt: &R, words: &Words) -> io::Re
             if let Ok(text) = str::from_utf8(line.as_slice()) {
                 rt.eprint(text)?;
             }
+            print_notes(
+                rt,
+                notes_behind(rt.alloc(), words, files.as_slice(), &refusal),
+            );
             Ok(REFUSED)
         }
     }

@@ -1,0 +1,52 @@
+//! What is said of programs and logs beside an answer or a refusal: a listing with its slots, a log as a table, and the
+//! parts of notes (docs/REPORT.md, Notes).
+//!
+//! # Place
+//!
+//! On `logfmt` and `epochs`, whose logs it shows, and on `bpf_isa` and `bpf_asm`, whose instructions it writes as the
+//! assembler does. `commands` chooses which notes are said. No rule of a log or a program is known here but in words.
+//!
+//! | Call | Says |
+//! |---|---|
+//! | `numbered_listing(alloc, program)` | the listing, each line behind its slot |
+//! | `log_table(alloc, log)` | the entries of a log, one a line, by the numbers that the report names |
+//! | `put_note(out, text)` | one line of a note |
+//! | `put_refused(out, rule, cure)` | what a refusal means, and what helps, if anything is known |
+//! | `put_slot(out, program, slot)` | the instruction at a slot, if one begins there |
+//! | `put_large(out, log, bound)` | how many entries have more sectors than may depart, if any has |
+//! | `put_entry(alloc, out, log, number)` | an entry, as in the table |
+//! | `put_least(out, log)` | the size of the least device that holds a log |
+//! | `put_escaped(out, bytes)` | bytes of a foreign text, so that they stay on their line |
+//! | `log_rule`, `code_rule`, `asm_rule`, `verifier_rule`; `log_cure` .. | what a refusal's number means; what most likely helps |
+//!
+//! # What is proved
+//!
+//! Each call answers or appends exactly the text of its definition over the value that it is given (`specs/`), and
+//! `put_least` the least size on which each entry lies. The sentences of `rules` have no clause: tests of the program have
+//! a row for each.
+//!
+//! # Example
+//!
+//! ```text
+//! numbered_listing(alloc, &program)?     // "0: lddw r1, 7\n2: exit\n"
+//! log_table(alloc, &log)?                // "entry 0 epoch 0 write sector 3 count 1\nentry 1 epoch 0 mark text \"one\"\n"
+//! ```
+#![tactic(auto)]
+
+mod device;
+mod escaped;
+mod large;
+mod line;
+mod listing;
+mod rules;
+mod table;
+
+pub use device::put_least;
+pub use escaped::put_escaped;
+pub use large::put_large;
+pub use line::{put_note, put_refused};
+pub use listing::{numbered_listing, put_slot};
+pub use rules::{
+    asm_cure, asm_rule, code_cure, code_rule, log_cure, log_rule, verifier_cure, verifier_rule,
+};
+pub use table::{log_table, put_entry};

@@ -1,0 +1,417 @@
+"""The notes: what stands on standard error behind each refusal, and beside an answer (docs/REPORT.md, Notes)."""
+from notation import FUA, MARK, D, Entry, F, Folder, M, Row, W, code, files, lines, log, program, report, super_block
+
+GOOD = program("mov64 r0, 0; exit")
+GOOD_BYTES = code("b700000000000000 9500000000000000")
+LOG = [W(0, 1, 0xAA), F]
+OBJECT = b"\x7fELF\x02\x01\x01".ljust(64, b"\0")
+
+
+def noted(name, words, content, error, *notes):
+    """A refused row with its notes."""
+    return Row(f"notes: {name}", words, content, status=2, error=error, notes=notes)
+
+
+# Logs
+
+SUPER = "(docs/LOG-FORMAT.md, Super block)"
+SHORT = f"a log has at least 512 bytes {SUPER}"
+MAGIC = f"the file doesn't begin as a log does, with 'rhswfsj' {SUPER}"
+LOG_FIRST = "LOG stands before the programs, and is what the target dm-log-writes made"
+LIMIT = "a log has at most 67108864 bytes, 65536 entries, and 262144 sectors written or discarded (docs/LOG-FORMAT.md, Limits)"
+FEWER = "copy the first 64 MiB of the log device alone; make file systems without discards"
+CUT_SHORT = "the file ends within the entry, its header or its data (docs/LOG-FORMAT.md, Layout)"
+PAST = "the entry goes past the device (docs/LOG-FORMAT.md, The device)"
+
+
+def bad_log(name, content, error, *notes, sectors=4):
+    """A log that is refused."""
+    return noted(name, f"images log --sectors {sectors}", files(content), error, *notes)
+
+
+LOGS = [
+    bad_log("a short log", b"", "refused 1 at 0", SHORT, LOG_FIRST),
+    bad_log("a log of another magic number", bytes(512), "refused 2 at 0", MAGIC, LOG_FIRST),
+    bad_log("a log of another version", super_block(0, version=2), "refused 3 at 0", f"the log's version isn't 1 {SUPER}", LOG_FIRST),
+    bad_log(
+        "a log of other sectors",
+        super_block(0, sector_size=4096),
+        "refused 4 at 0",
+        f"the log's sectors don't have 512 bytes {SUPER}",
+        "record over a device with sectors of 512 bytes",
+    ),
+    bad_log("a log that is cut short", log(LOG)[:-1], "refused 5 at 1", CUT_SHORT, "copy more of the log device"),
+    bad_log("a flag", [Entry(flags=32)], "refused 6 at 0", "the entry has a flag above 16 (docs/LOG-FORMAT.md, Flags)"),
+    bad_log(
+        "a data length",
+        [F, Entry(text=b"a")],
+        "refused 7 at 1",
+        "the entry has a data length, which only a mark may have (docs/LOG-FORMAT.md, Entry header)",
+    ),
+    bad_log(
+        "a mark of another form",
+        [Entry(flags=MARK | FUA)],
+        "refused 8 at 0",
+        "a mark has no other flag but 16, no sectors, and at most 480 bytes of text (docs/LOG-FORMAT.md, Flags)",
+    ),
+    bad_log(
+        "a device that is too small",
+        [F, W(30, 6, 1, FUA), M("a"), W(0, 1, 2)],
+        "refused 9 at 1",
+        PAST,
+        "entry 1 epoch 1 write fua sector 30 count 6",
+        "--sectors 36 is the least that holds this log",
+        sectors=35,
+    ),
+    bad_log(
+        "a device that is too small, for a later entry too",
+        [W(3, 2, 1), D(7, 1), W(5, 1, 1)],
+        "refused 9 at 0",
+        PAST,
+        "entry 0 epoch 0 write sector 3 count 2",
+        "--sectors 8 is the least that holds this log",
+    ),
+    bad_log(
+        "the largest device is needed",
+        [W(16383, 1, 1)],
+        "refused 9 at 0",
+        PAST,
+        "entry 0 epoch 0 write sector 16383 count 1",
+        "--sectors 16384 is the least that holds this log",
+    ),
+    bad_log("no device holds it", [W(16383, 2, 1)], "refused 9 at 0", PAST, "no device of at most 16384 sectors holds this log"),
+    bad_log("a device that is too small, and another fault", [W(4, 1, 1), Entry(flags=32)], "refused 9 at 0", PAST),
+    bad_log("too many entries", super_block(65537), "refused 10 at 0", LIMIT, FEWER),
+    bad_log("too many sectors", [D(0, 16384)] * 17, "refused 10 at 16", LIMIT, FEWER, sectors=16384),
+    noted(
+        "the log and the program are swapped",
+        "explore p0 log --sectors 4",
+        {"log": log(LOG), "p0": GOOD},
+        "refused 1 at 0",
+        SHORT,
+        LOG_FIRST,
+        "log begins as a log does",
+    ),
+    noted(
+        "the log and a long program are swapped",
+        "explore p0 log --sectors 4",
+        {"log": log(LOG), "p0": GOOD_BYTES * 32},
+        "refused 2 at 0",
+        MAGIC,
+        LOG_FIRST,
+        "log begins as a log does",
+    ),
+    noted("the same file twice", "explore p p --sectors 4", {"p": bytes(512)}, "refused 2 at 0", MAGIC, LOG_FIRST),
+]
+
+# Images
+
+TOO_MANY = "with this cut there are more than 16777216 images (docs/CRASH-MODEL.md, Limits)"
+TAKE_FEWER = "take fewer cuts (--cuts flush), a smaller --bound, or no --tears"
+
+
+def too_many(name, options, entries, error, *notes):
+    return noted(name, f"images log {options}", files(entries), error, TOO_MANY, TAKE_FEWER, *notes)
+
+
+IMAGES = [
+    too_many(
+        "too many images",
+        "--sectors 64 --bound 3 --tears",
+        [W(0, 64, 0xAA)],
+        "refused 12 at 1",
+        f"with --bound 2 there are {1 + 1 + 64 * 8 + 64 * 63 // 2 * 64}",
+    ),
+    too_many(
+        "too many images with one less too",
+        "--sectors 1024 --bound 3 --tears",
+        [W(0, 1024, 0xAA)],
+        "refused 12 at 1",
+        f"with --bound 1 there are {1 + 1 + 1024 * 8}",
+    ),
+    too_many(
+        "too many images, fewer cuts counted",
+        "--sectors 1024 --bound 3 --cuts flush",
+        [W(0, 1024, 0xAA), F],
+        "refused 12 at 1",
+        f"with --bound 2 there are {2 * (1 + 1024 + 1024 * 1023 // 2) - 1024 - 1024 * 1023 // 2}",
+    ),
+    noted(
+        "too many images to explore",
+        "explore log p0 --sectors 64 --bound 3 --tears",
+        files([W(0, 64, 0xAA)], GOOD),
+        "refused 12 at 1",
+        TOO_MANY,
+        TAKE_FEWER,
+        f"with --bound 2 there are {1 + 1 + 64 * 8 + 64 * 63 // 2 * 64}",
+    ),
+]
+
+# Options, numbers and files
+
+OPTIONS = [
+    noted("sectors", "images log --sectors 0", {}, "refused 13 at 1", "--sectors is 1 to 16384"),
+    noted("bound", "images log --sectors 4 --bound 4", {}, "refused 13 at 2", "--bound is 0 to 3"),
+    noted("workers", "explore log p0 --sectors 4 --workers 2", {}, "refused 13 at 3", "--workers is 1 as yet"),
+    noted("cache", "explore log p0 --sectors 4 --cache 1", {}, "refused 13 at 4", "--cache is 0 as yet"),
+    noted("checked", "explore log p0 --sectors 4 --checked 1000000001", {}, "refused 13 at 5", "--checked is 0 to 1000000000"),
+    noted(
+        "too many programs",
+        "explore log " + "p0 " * 9 + "--sectors 4",
+        files(LOG, GOOD),
+        "refused 13 at 6",
+        "a run has 1 to 8 programs",
+    ),
+    noted("cuts", "images log --sectors 4 --cuts none", {}, "refused 13 at 7", "--cuts is all, flush or mark"),
+    noted(
+        "no such image",
+        "image log 5 --sectors 4",
+        files(LOG),
+        "refused 13 at 9",
+        "the log has no image of that number; 'crashbpf images' tells how many it has",
+    ),
+    noted("a missing log", "images log --sectors 4", {}, "refused 14 at 0", "log can't be read"),
+    noted("a missing program", "explore log p0 there/p1 --sectors 4", files(LOG, GOOD), "refused 14 at 2", "there/p1 can't be read"),
+    noted("a folder", "verify p --sectors 4", {"p": Folder()}, "refused 14 at 0", "p can't be read"),
+    noted("a name that has to be escaped", 'list é"', {}, "refused 14 at 0", "\\x{c3}\\x{a9}\\x{22} can't be read"),
+    noted("no UTF-8", "asm s", {"s": b"\xff"}, "refused 14 at 0", "s is no text in UTF-8"),
+]
+
+# Programs
+
+DECODING = "(docs/MACHINE.md, Faults of decoding)"
+IS_IT_ONE = "is the file a program? examples/cc makes one of C, 'crashbpf asm' one of an assembly text"
+REGISTER = f"there is no such register, or a function is called that isn't inlined {DECODING}"
+INLINED = "in C write INLINED before each function, and no memset, memcpy or memcmp; examples/cc names what is called"
+
+
+def undecoded(name, content, error, *notes, words="verify p --sectors 4"):
+    return noted(name, words, {"p": content}, error, *notes)
+
+
+BYTES = [
+    undecoded("half a slot", code("9500000000000000 95"), "refused 20 at 1", f"a program has whole slots of 8 bytes {DECODING}", IS_IT_ONE),
+    undecoded("no slot", b"", "refused 21 at 0", f"a program has 1 to 4096 slots {DECODING}", IS_IT_ONE),
+    undecoded("an opcode", code("ff00000000000000"), "refused 22 at 0", f"there is no such opcode {DECODING}", IS_IT_ONE, words="list p"),
+    undecoded("a register", code("b70b000000000000"), "refused 23 at 0", REGISTER, INLINED),
+    undecoded("a local call", code("8510000000000000 9500000000000000"), "refused 23 at 0", REGISTER, INLINED),
+    undecoded(
+        "a field",
+        code("9500000000000000 9500000001000000"),
+        "refused 24 at 1",
+        f"a field isn't zero that has to be, or has no meaning there {DECODING}",
+        IS_IT_ONE,
+    ),
+    undecoded(
+        "a second half",
+        code("1800000000000000"),
+        "refused 25 at 0",
+        f"the second half of a 64-bit immediate is missing or has another form {DECODING}",
+        IS_IT_ONE,
+    ),
+    undecoded(
+        "an object file",
+        OBJECT,
+        "refused 22 at 0",
+        f"there is no such opcode {DECODING}",
+        IS_IT_ONE,
+        "p is an object file: examples/cc takes a program out of it",
+    ),
+    noted(
+        "the second program is an object file",
+        "explore log p0 p1 --sectors 4",
+        files(LOG, GOOD, OBJECT),
+        "refused 22 at 0 of program 1",
+        f"there is no such opcode {DECODING}",
+        IS_IT_ONE,
+        "p1 is an object file: examples/cc takes a program out of it",
+    ),
+    noted("a log as program", "list p", {"p": log(LOG)}, "refused 24 at 0", f"a field isn't zero that has to be, or has no meaning there {DECODING}", IS_IT_ONE, "p begins as a log does"),
+]
+
+# Assembly texts
+
+TEXTS = [
+    noted(
+        "no instruction",
+        "asm s",
+        {"s": "exit\nfoo\n"},
+        "refused 30 at 2",
+        "the line begins with no instruction and no label (docs/ASSEMBLY.md, Instructions)",
+        "a label has a line of its own, and lines end in a newline alone",
+    ),
+    noted(
+        "operands",
+        "asm s",
+        {"s": "ldxb r0, [r10]\n"},
+        "refused 31 at 1",
+        "these aren't the operands of the instruction, or something follows a label (docs/ASSEMBLY.md, Operands)",
+        "a place in memory is written [r10-8], with its sign, a target +1, -1 or by its label",
+    ),
+    noted(
+        "a range",
+        "asm s",
+        {"s": "ja +32768\n"},
+        "refused 32 at 1",
+        "a number is out of its range, or the text has no instruction or more than 4096 slots (docs/ASSEMBLY.md, Refusals)",
+    ),
+    noted("no label", "asm s", {"s": "ja x\n"}, "refused 33 at 1", "there is no such label (docs/ASSEMBLY.md, Labels)"),
+    noted(
+        "a label twice",
+        "asm s",
+        {"s": "x:\nx:\nexit\n"},
+        "refused 34 at 2",
+        "the label stands on an earlier line too (docs/ASSEMBLY.md, Labels)",
+    ),
+]
+
+# The rules of the verifier: a program in one line, where it is refused, the note with the instruction, the rule, the cure
+
+SHAPE = "(docs/VERIFIER.md, Shape rules)"
+AT_SLOT = "(docs/VERIFIER.md, Rules at a slot)"
+ONE_FUNCTION = "are these the bytes of one whole function? examples/cc takes the one that is named; in C return on each path"
+RULES = [
+    ("mov64 r0, 0; ja +1; lddw r0, 0; exit", "40 at 1", "slot 1: ja +1", f"the jump leads to no slot in which an instruction begins {SHAPE}", ONE_FUNCTION),
+    ("mov64 r0, 0; exit; mov64 r1, 0", "41 at 2", "slot 2: mov64 r1, 0", f"the program ends behind this instruction, without an exit {SHAPE}", ONE_FUNCTION),
+    (
+        "lddw r0, 0; jne r0, 1, -1; exit",
+        "42 at 2",
+        "slot 2: jne r0, 1, -1",
+        f"a loop has a way round without a call of again, helper 3 {SHAPE}",
+        "in C begin the loop's body with TURN(times, otherwise)",
+    ),
+    (
+        "mov64 r1, 0; call 3; jeq r0, 0, +0; exit",
+        "43 at 1",
+        "slot 1: call 3",
+        "call 3 stands behind mov64 r1, K, with K from 1 to 1048576, and before a test of r0 against 0, and no jump leads between them (docs/VERIFIER.md, The form of `again`)",
+        "in C write TURN, with a constant from 1 to 1048576",
+    ),
+    (
+        "; ".join(["mov64 r1, 1048576; call 3; jeq r0, 0, +0"] * 30 + ["mov64 r0, 0; exit"]),
+        "45 at 0",
+        "a run could take more than 1000000000 steps: the longest path, times 1 and all turns (docs/VERIFIER.md, Budget)",
+        "fewer turns, or whole sectors by same, zero and mix",
+    ),
+    (
+        "lddw r2, 5; jgt r3, 1, +0; mov64 r0, 0; exit",
+        "50 at 2",
+        "slot 2: jgt r3, 1, +0",
+        f"a register that is read may be unset {AT_SLOT}",
+        "give each variable a value; a checker has one parameter, the context",
+    ),
+    (
+        "ldxb r0, [r10-1]; exit",
+        "51 at 0",
+        "slot 0: ldxb r0, [r10-1]",
+        f"a byte of the stack that is read may be unwritten {AT_SLOT}",
+        "copy fills a local only with the whole size of the local",
+    ),
+    (
+        "mov64 r1, 0; call 1; ldxb r0, [r0+0]; exit",
+        "52 at 2",
+        "slot 2: ldxb r0, [r0+0]",
+        f"the bytes may lie outside of the 512 of a sector or the stack, or the 32 of the context, or the address may be 0 or a number {AT_SLOT}",
+        "in C take SECTOR(n, ..), which tests for 0, and test a u64 index with < right before its use: TURN_BELOW, ELEMENT; or read by position, as u64_at(p)",
+    ),
+    ("stw [r1+0], 7; mov64 r0, 0; exit", "53 at 0", "slot 0: stw [r1+0], 7", f"a sector or the context is written {AT_SLOT}", "write to a local copy"),
+    (
+        "mul64 r1, 2; mov64 r0, 0; exit",
+        "54 at 0",
+        "slot 0: mul64 r1, 2",
+        f"this arithmetic isn't allowed with a pointer, or leaves its range {AT_SLOT}",
+        "in C make the index a u64 and test it right before its use, or read by position, as u64_at(p)",
+    ),
+    (
+        "mov64 r0, r1; exit",
+        "55 at 1",
+        "slot 1: exit",
+        f"a pointer is compared, answered, stored in part or read as a number {AT_SLOT}",
+        "compare indices in place of pointers",
+    ),
+    (
+        "call 4; mov64 r0, 0; exit",
+        "56 at 0",
+        "slot 0: call 4",
+        f"an argument of the helper isn't of its kind {AT_SLOT}",
+        "copy takes a local and a constant length from 1 to 512; the others take numbers, a sector by its number",
+    ),
+    ("mov64 r10, 0; exit", "57 at 0", "slot 0: mov64 r10, 0", f"register 10 is written {SHAPE}", "leave r10 to the compiler"),
+    (
+        "call 8; exit",
+        "58 at 0",
+        "slot 0: call 8",
+        "there is no helper of that number, only 1 to 7 (docs/MACHINE.md, Helpers)",
+        "take those of examples/checker.h, not Linux's",
+    ),
+]
+
+VERIFIER = [
+    noted(f"rule {error}", "verify p --sectors 4", {"p": program(text)}, f"refused {error}", *told) for text, error, *told in RULES
+] + [
+    noted(f"rule {error}, of a second program", "explore log p0 p1 --sectors 4", files(LOG, GOOD, program(text)), f"refused {error} of program 1", *told)
+    for text, error, *told in RULES
+]
+
+# Beside an answer
+
+
+def answered(name, words, content, out, *notes):
+    return Row(f"notes: {name}", words, content, out, notes=notes)
+
+
+UNREACHED = "is the checker the first function of its file?"
+NOT_AMONG = "no image loses one of them as a whole"
+NO_LARGE = lines("""
+    cut 0 epoch 0 marks 0 volatile 0 images 1
+    cut 1 epoch 0 marks 0 volatile 1 images 2
+    cut 2 epoch 1 marks 0 volatile 0 images 1
+    cut 3 epoch 1 marks 0 volatile 0 images 1
+    total 5
+    """)
+TWO_LARGE = """
+    cut 4 epoch 0 marks 0 volatile 9 images 46
+    cut 5 epoch 1 marks 0 volatile 0 images 1
+    total 47
+    """
+STORED_RUN = report("""
+    sectors 1 entries 0 cuts all bound 0 tears no first no
+    program 0 slots 2 limit 2
+    images 1 failing 0 lines 0
+    """)
+ANSWERS = [
+    answered("nothing to say of a program", "verify p --sectors 4", {"p": GOOD}, "accepted budget 2\n"),
+    answered(
+        "a function that isn't reached",
+        "verify p --sectors 4",
+        {"p": program("mov64 r0, 0; exit; lddw r0, 1; exit")},
+        "accepted budget 2\n",
+        f"instructions that no run reaches: 2, the first at slot 2; {UNREACHED}",
+    ),
+    answered(
+        "an instruction that a jump passes over",
+        "verify p --sectors 4",
+        {"p": program("lddw r0, 0; ja +1; mov64 r0, 1; exit")},
+        "accepted budget 3\n",
+        f"instructions that no run reaches: 1, the first at slot 3; {UNREACHED}",
+    ),
+    answered("nothing to say of a log", "images log --sectors 4", files([W(0, 1, 1), F, W(0, 4, 1, FUA)]), NO_LARGE),
+    answered(
+        "writes of more sectors than the bound",
+        "images log --sectors 4 --cuts flush --bound 2",
+        files([W(0, 3, 1), D(0, 4), W(0, 2, 1), W(0, 3, 1, FUA), F]),
+        lines(TWO_LARGE),
+        f"entries with more than 2 sectors: 2; {NOT_AMONG}",
+    ),
+    answered(
+        "with bound 0 each write is larger",
+        "images log --sectors 4 --bound 0",
+        files([W(0, 1, 1)]),
+        "cut 0 epoch 0 marks 0 volatile 0 images 1\ncut 1 epoch 0 marks 0 volatile 1 images 1\ntotal 2\n",
+        f"entries with more than 0 sectors: 1; {NOT_AMONG}",
+    ),
+    answered("nothing beside a listing", "list p", {"p": program("mov64 r0, 0; exit; exit")}, "mov64 r0, 0\nexit\nexit\n"),
+    answered("nothing beside the stored run", "", {}, STORED_RUN),
+]
+
+ROWS = [*LOGS, *IMAGES, *OPTIONS, *BYTES, *TEXTS, *VERIFIER, *ANSWERS]
