@@ -1,5 +1,6 @@
 -- The board and its seats, as contracts see them.
-use Rattle.std.specs.Prelude.{◌≡◌, ℕ, ◌<◌, ◌≤◌, List, [], ◌∷◌, ◌++◌, flat_map}
+use Rattle.std.specs.Prelude.{◌≡◌, ℕ, ◌<◌, ◌≤◌, ◌==◌, nat_le, if◌then◌else◌, List, [], ◌∷◌, ◌++◌, length, filter, flat_map, Option, None, Some}
+use Rattle.std.specs.List.{filter_map}
 use Rattle.atomic_table.specs.Seated.{TableId}
 use Rattle.shares.specs.declared.view.SeatStep.{SeatStep}
 use Rattle.shares.specs.declared.view.SeatStep.TheVariants.{Drew}
@@ -36,6 +37,23 @@ DrawsNone before after =
 abbrev pub all_steps : List SeatValue → List SeatStep
 all_steps seats = flat_map (λ (s : SeatValue). s.steps) seats
 
+-- the block that a step took, if it took one
+abbrev pub took : ℕ → SeatStep → Option ℕ
+took blocks (Drew found) = if nat_le blocks found then None else Some found
+took blocks _ = None
+
+-- the blocks that a seat took, in order
+abbrev pub taken : SeatValue → List ℕ
+taken seat = filter_map (took seat.board.blocks) seat.steps
+
+-- the blocks that those seats took
+abbrev pub all_taken : List SeatValue → List ℕ
+all_taken seats = flat_map taken seats
+
+-- how often a number is in a list
+abbrev pub times : ℕ → List ℕ → ℕ
+times n ns = length (filter (λ (m : ℕ). m == n) ns)
+
 -- of that many blocks this is the first that no step drew
 pub record IsFirstUndrawn (blocks : ℕ) (steps : List SeatStep) (block : ℕ) : Type 0 where
   pub there : block < blocks
@@ -49,3 +67,7 @@ pub record AreDrawnOnce (blocks : ℕ) (steps : List SeatStep) : Type 0 where
 -- each image that those steps found as the least is one that they posted
 pub record FoundArePosted (steps : List SeatStep) : Type 0 where
   pub each : (image : ℕ) → image < none_posted → 0 < finds image steps → 0 < posts image steps
+
+-- each of that many blocks was taken by one of those seats, once
+pub record AreTakenOnce (blocks : ℕ) (seats : List SeatValue) : Type 0 where
+  pub once : (b : ℕ) → b < blocks → times b (all_taken seats) ≡ 1

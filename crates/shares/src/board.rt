@@ -6,7 +6,7 @@ ghost use Rattle.shares.specs.declared.view.SeatStep.TheVariants.{Drew, Posted, 
 ghost use Rattle.shares.specs.Steps.{image_or_none, late_draws, least_posted, next_seen, least_seen};
 ghost use Rattle.shares.specs.Board.{known};
 ghost use Rattle.shares.specs.Moves.{less_one};
-ghost use Rattle.shares.specs.Seats.{HasEnded, DrawsNone, all_steps, IsFirstUndrawn, AreDrawnOnce, FoundArePosted};
+ghost use Rattle.shares.specs.Seats.{HasEnded, DrawsNone, all_steps, taken, IsFirstUndrawn, AreDrawnOnce, AreTakenOnce, FoundArePosted};
 ghost use Rattle.base.specs.Refusals.{work_refusal};
 
 use crate::rule::{
@@ -132,8 +132,11 @@ impl Board {
         requires { seat.old.board ≡ self.now.name }
         ensures board { seat.new.board ≡ seat.old.board }
         ensures block { IfSome result (λ block. (block < self.now.name.blocks) × (seat.new.steps ≡ seat.old.steps ++ Drew block ∷ [])) }
+        ensures taken { IfSome result (λ block. taken seat.new ≡ taken seat.old ++ block ∷ []) }
         ensures rising { IfSome result (λ block. next_seen seat.old.steps ≤ block) }
         ensures none { IfNone result (DrawsNone seat.old seat.new) }
+        ensures none_taken { IfNone result (taken seat.new ≡ taken seat.old) }
+        ensures at_end { IfNone result (HasEnded seat.new) }
         ensures ended { HasEnded seat.old → result ≡ None }
     {
         if seat.ended {
@@ -157,6 +160,7 @@ impl Board {
         requires image { image < 16777216 }
         ensures board { seat.new.board ≡ seat.old.board }
         ensures step { (found : ℕ) × (seat.new.steps ≡ seat.old.steps ++ Posted image found ∷ []) × (found ≤ least_seen seat.old.steps) }
+        ensures taken { taken seat.new ≡ taken seat.old }
     {
         self.table
             .shared
@@ -168,6 +172,7 @@ impl Board {
         requires { seat.old.board ≡ self.now.name }
         ensures board { seat.new.board ≡ seat.old.board }
         ensures step { (found : ℕ) × (result ≡ image_or_none found) × (seat.new.steps ≡ seat.old.steps ++ SawLeast found ∷ []) × (found ≤ least_seen seat.old.steps) }
+        ensures taken { taken seat.new ≡ taken seat.old }
     {
         let word = self.table.shared.load::<LoadLeast>(&mut seat.token, LEAST);
         image_in(word)
@@ -178,6 +183,7 @@ impl Board {
         requires { seat.old.board ≡ self.now.name }
         ensures board { seat.new.board ≡ seat.old.board }
         ensures step { (found : ℕ) × (result ≡ self.now.name.blocks - found) × (seat.new.steps ≡ seat.old.steps ++ SawNext found ∷ []) × (next_seen seat.old.steps ≤ found) }
+        ensures taken { taken seat.new ≡ taken seat.old }
     {
         let next = self.table.shared.load::<LoadNext>(&mut seat.token, NEXT);
         u64::from(self.blocks).saturating_sub(next) as u32
@@ -186,14 +192,16 @@ impl Board {
     /// Ends the board, once all its seats are given back: the least image that was posted, if one was.
     ///
     /// Where seats are missing the refusal is 73 at their number, and else 71 at the first block that
-    /// nobody drew, where there is one. No seat has seen a later block drawn than that, or a lower image
-    /// posted than the answer.
+    /// nobody drew, where there is one, which is never after a draw found no block left. No seat has seen
+    /// a later block drawn than that, or a lower image posted than the answer.
     pub fn gather(self, seats: Vec<Seat>) -> Result<Option<u64>, Refusal>
         requires { All (λ s. s.board ≡ self.name) seats.items }
         ensures missing { length seats.items < self.seats → result ≡ Err (work_refusal SeatsMissing (self.seats - length seats.items)) }
         ensures undrawn { IfErr result (λ refusal. self.seats ≤ length seats.items → (refusal ≡ work_refusal PieceMissing refusal.at) × IsFirstUndrawn self.name.blocks (all_steps seats.items) refusal.at) }
         ensures seen_undrawn { IfErr result (λ refusal. self.seats ≤ length seats.items → next_seen (all_steps seats.items) ≤ refusal.at) }
+        ensures unended { IfErr result (λ refusal. self.seats ≤ length seats.items → late_draws self.name.blocks (all_steps seats.items) ≡ 0) }
         ensures drawn { IfOk result (λ _. AreDrawnOnce self.name.blocks (all_steps seats.items)) }
+        ensures taken { IfOk result (λ _. AreTakenOnce self.name.blocks seats.items) }
         ensures seen_drawn { IfOk result (λ _. next_seen (all_steps seats.items) ≤ self.name.blocks + late_draws self.name.blocks (all_steps seats.items)) }
         ensures least { IfOk result (λ least. least ≡ image_or_none (least_posted (all_steps seats.items))) }
         ensures seen_least { IfOk result (λ _. least_posted (all_steps seats.items) ≤ least_seen (all_steps seats.items)) }

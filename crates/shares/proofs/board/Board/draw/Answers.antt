@@ -1,10 +1,11 @@
-use Rattle.std.proofs.Common.{◌∙◌, ◌++◌, ◌∷◌, [], sym, ap, arith}
+use Rattle.std.proofs.Common.{◌∙◌, ◌++◌, ◌∷◌, [], ℕ, List, sym, ap, arith}
 use mathlib.Core.Option.{none}
 use Rattle.atomic_table.specs.Table.{step}
 use Rattle.shares.specs.declared.view.SeatStep.TheVariants.{Drew}
 use Rattle.shares.specs.Steps.{bit, late_draws}
+use Rattle.shares.specs.Seats.{taken}
 use Rattle.shares.proofs.Moves.{draws_as}
-use Rattle.shares.proofs.Seats.{after_step, in_time, too_late}
+use Rattle.shares.proofs.Seats.{after_step, in_time, too_late, takes_block, draw_takes_none, has_ended}
 use Rattle.shares.proofs.board.Board.draw.Goals as goal
 
 pub fetch_add-next-requires : goal.fetch_add-next-requires
@@ -40,3 +41,23 @@ returns-else-next-from-clause-none c =
       (λ has_ended. absurd (omega (arith, late, has_ended))),
       (λ not_ended. (found, omega (arith, blocks, c.from.ensures, c.if-next-from.false), ap (λ m. m.0.steps) c.fetch_add-next.ensures.2.0 ∙ ap (λ k. k.steps ++ Drew found ∷ []) c.seat.view_is)),
     )
+
+pub returns-then-next-from-clause-taken : goal.returns-then-next-from-clause-taken
+returns-then-next-from-clause-taken c =
+    let blocks = ap (λ k. k.board.blocks) c.seat.view_is ∙ ap (λ n. n.blocks) c.requires ∙ sym (ap (λ d. d.name.blocks) c.self.view_is) in
+    takes_block c.seat.inside.blocks c.fetch_add-next.result c.seat.inside.token.me.0.steps c.fetch_add-next.new.seat.me.0.steps (ap (λ m. m.0.steps) c.fetch_add-next.ensures.2.0)
+    (omega (arith, blocks, c.from.ensures, c.if-next-from.true))
+    ∙ ap (λ (ns : List ℕ). ns ++ c.fetch_add-next.result ∷ []) (ap taken c.seat.view_is)
+
+pub returns-else-next-from-clause-none_taken : goal.returns-else-next-from-clause-none_taken
+returns-else-next-from-clause-none_taken c =
+    let blocks = ap (λ k. k.board.blocks) c.seat.view_is ∙ ap (λ n. n.blocks) c.requires ∙ sym (ap (λ d. d.name.blocks) c.self.view_is) in
+    draw_takes_none c.seat.inside.blocks c.fetch_add-next.result c.seat.inside.token.me.0.steps c.fetch_add-next.new.seat.me.0.steps (ap (λ m. m.0.steps) c.fetch_add-next.ensures.2.0)
+    (omega (arith, blocks, c.from.ensures, c.if-next-from.false))
+    ∙ ap taken c.seat.view_is
+
+pub returns-else-next-from-clause-at_end : goal.returns-else-next-from-clause-at_end
+returns-else-next-from-clause-at_end c =
+    let blocks = ap (λ k. k.board.blocks) c.seat.view_is ∙ ap (λ n. n.blocks) c.requires ∙ sym (ap (λ d. d.name.blocks) c.self.view_is) in
+    has_ended c.seat.inside.blocks c.fetch_add-next.result c.seat.inside.token.me.0.steps c.fetch_add-next.new.seat.me.0.steps (ap (λ m. m.0.steps) c.fetch_add-next.ensures.2.0)
+    (omega (arith, blocks, c.from.ensures, c.if-next-from.false))
