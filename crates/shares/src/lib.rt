@@ -18,7 +18,7 @@
 //! # Place
 //!
 //! It stands low, on the causes of `base` and on the kit's `atomic_table`, which proves that single
-//! steps on words keep a rule. No command uses it yet.
+//! steps on words keep a rule. `workers` stands above it.
 //!
 //! # What is proved
 //!
@@ -36,9 +36,11 @@
 //!   step there.
 //! - `least` and `left` answer what their step found, which is never above, or below, what the seat
 //!   posted or saw before.
+//! - The blocks that a seat took are those that its draws gave (`taken`), and no other call takes one.
 //! - `gather` refuses with 73 at the number of seats that are missing, tested first, and with 71 at the
-//!   first block that nobody drew, exactly where there is one. Else each block was drawn once in the
-//!   steps of those seats, and the answer is the least image that they posted.
+//!   first block that nobody drew, exactly where there is one; where a draw of some seat found no block
+//!   left, there is none. Else each block was taken by one of those seats, once, and the answer is the
+//!   least image that they posted.
 //! - No seat has seen more than `gather` finds. At 71 nobody saw a number of the next block above the
 //!   block named. Else nobody saw one above the number of blocks, but for the draws that came too late,
 //!   each of which raised it by one; and nobody saw a least image below the answer. So what a seat drew

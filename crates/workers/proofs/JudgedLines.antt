@@ -1,14 +1,17 @@
 -- The failing lines after one more checker, image or block.
-use Rattle.std.proofs.Common.{ℕ, zero, suc, ◌≡◌, ◌+◌, ◌*◌, ◌-◌, ◌<◌, ◌≤◌, inl, inr, min, Bool, true, false, IsTrue, IsFalse, List, [], ◌∷◌, ◌++◌, length, Option, None, Some, slice_get, refl, ◌∙◌, ap, subst, arith, append_assoc, append-nil}
+use Rattle.std.proofs.Common.{ℕ, zero, suc, ◌≡◌, ◌+◌, ◌*◌, ◌-◌, ◌<◌, ◌≤◌, inl, inr, min, Bool, true, false, IsTrue, IsFalse, List, [], ◌∷◌, ◌++◌, length, Option, None, Some, slice_get, refl, sym, ◌∙◌, ap, subst, arith, append_assoc, append-nil}
 use Rattle.std.specs.List.{filter_map, flat_map, range_with_len}
 use Rattle.std.proofs.lemmas.Bool.{cases_lt}
 use Rattle.std.proofs.lemmas.List.Elements.{filter_map-append}
 use Rattle.std.proofs.lemmas.Grind.{flat_map-append}
 use Rattle.base.proofs.Lists.{range_with_len-more, range_with_len-append}
+use Rattle.epochs.specs.Plan.{PlanValue}
 use Rattle.choices.specs.Choices.{ChoiceValue}
 use Rattle.interp.specs.Checker.{CheckerValue}
 use Rattle.lines.specs.Line.{FailingLine}
 use Rattle.workers.specs.Failing.{Subject, choices_of, image_count, ending_at, line_if, line_of, image_lines, lines_from, failing_lines, part}
+use Rattle.verdict_cache.specs.Endings.{ending_on}
+use Rattle.machine.specs.Outcome.{Ending}
 use Rattle.workers.specs.Input.{line_list}
 use Rattle.workers.specs.Pieces.{block_count}
 
@@ -36,6 +39,19 @@ pub checker_next : (s : Subject) (image n : ℕ) (choice : ChoiceValue) (checker
 checker_next s image n choice checker first before there named so =
     let e : 0 + n ≡ n = omega arith in
     rw (range_with_len-more 0 n, e, filter_map-append (line_of s image) (range_with_len 0 n) (n ∷ []), line_here s image n choice checker there named, so, append_assoc) refl
+
+-- what the cache tells of an image of the run is what the checker ends in there
+pub same_ending : (s : Subject) (plan : PlanValue) (choice : ChoiceValue) (checker : CheckerValue) → plan ≡ s.plan → ending_on plan choice checker ≡ ending_at s choice checker
+unfolding ending_at
+same_ending s plan choice checker e = rw e refl
+
+-- the line of one more checker, with its ending as it was found
+pub checker_found : (s : Subject) (image n : ℕ) (choice : ChoiceValue) (checker : CheckerValue) (ending : Ending) (first before after : List FailingLine)
+    → slice_get (choices_of s) image ≡ Some choice → slice_get s.checkers n ≡ Some checker → ending ≡ ending_at s choice checker
+    → before ≡ first ++ filter_map (line_of s image) (range_with_len 0 n) → after ≡ before ++ line_list (line_if image choice n ending)
+    → after ≡ first ++ filter_map (line_of s image) (range_with_len 0 (n + 1))
+checker_found s image n choice checker ending first before after there named found so e =
+    e ∙ ap (λ (end : Ending). before ++ line_list (line_if image choice n end)) found ∙ checker_next s image n choice checker first before there named so
 
 -- the lines of one more image
 pub image_next : (s : Subject) (a i : ℕ) (first before : List FailingLine) → a ≤ i

@@ -20,7 +20,7 @@ lower_again (Some a) None c = refl
 lower_again (Some a) (Some b) None = refl
 lower_again (Some a) (Some b) (Some c) = let e : min a (min b c) ≡ min (min a b) c = omega arith in ap (λ n. Some n) e
 
-least_append : (xs ys : List FailingLine) → least_image (xs ++ ys) ≡ lower (least_image xs) (least_image ys)
+pub least_append : (xs ys : List FailingLine) → least_image (xs ++ ys) ≡ lower (least_image xs) (least_image ys)
 least_append [] ys = refl
 least_append (x ∷ xs) ys = ap (lower (Some x.image)) (least_append xs ys) ∙ lower_again (Some x.image) (least_image xs) (least_image ys)
 

@@ -5,3 +5,5 @@ pub mod Sets
 pub mod SomeLines
 pub mod Runs
 pub mod Collected
+pub mod HandingOver
+pub mod Back

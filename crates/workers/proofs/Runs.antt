@@ -12,7 +12,7 @@ use Rattle.lines.specs.Line.{FailingLine, first_lines}
 use Rattle.workers.specs.declared.found.Found.{Found}
 use Rattle.workers.specs.declared.found.Found.TheVariants.{Lines, Passed}
 use Rattle.workers.specs.Counting.{counts_with}
-use Rattle.workers.specs.Exploring.{found_after, ArePiecesUpTo}
+use Rattle.workers.specs.Exploring.{ArePiecesOf}
 use Rattle.workers.specs.Failing.{Subject, image_count, lines_from, failing_lines, part}
 use Rattle.workers.specs.Laws.{AreSomeOf, BeginsWithFirst}
 use Rattle.workers.specs.Least.{lower, least_image}
@@ -216,71 +216,20 @@ with_passed s ps h whole =
 pub lines_ordered : (s : Subject) (ps : List PieceValue) → ArePieces s ps → AreWhole ps (block_count s) → Ordered (collected ps (block_count s))
 lines_ordered s ps h whole = some_ordered (collected ps (block_count s)) (failing_lines s) (all_ordered s) (some_lines s ps h whole)
 
--- the pieces of the first blocks, one after the other
+-- one more piece
 
-counts_more : (xs ys : List FailingLine) (b : ℕ) (found : Found) → counts xs b found ≡ true → counts (xs ++ ys) b found ≡ true
-counts_more xs ys b (Lines own) e = refl
-counts_more xs ys b (Passed image) e = step (nat_lt image (64 * b)) e
-  where
-    step : (t : Bool) → (t && list_any (λ (l : FailingLine). nat_le l.image image) xs) ≡ true → (t && list_any (λ (l : FailingLine). nat_le l.image image) (xs ++ ys)) ≡ true
-    step true h = any_more (λ (l : FailingLine). nat_le l.image image) xs ys h
-    step false h = h
-
--- what is found of the next block
-abbrev IsNext : Subject → ℕ → List PieceValue → Found → Type 0
-IsNext s n ps found = HasPart s n found × (counts (full_lines ps) n found ≡ true) × (s.first ≡ false → passes found ≡ false)
-
-found_next : (s : Subject) (n : ℕ) (ps : List PieceValue) (least : Option ℕ) → least ≡ least_image (full_lines ps) → IsNext s n ps (found_after s n least)
-found_next s n ps None e = (refl, refl, λ all. refl)
-found_next s n ps (Some image) e = step s.first (nat_lt image (64 * n)) refl refl
-  where
-    step : (a b : Bool) → s.first ≡ a → nat_lt image (64 * n) ≡ b → IsNext s n ps (if a && b then Passed image else Lines (part s n))
-    step false b first before = (refl, refl, λ all. refl)
-    step true false first before = (refl, refl, λ all. refl)
-    step true true first before =
-        let same : nat_le image image ≡ true = grind (arith, nat_tests) in
-        let reached : counts_with (Some image) n (Passed image) ≡ true = rw (before, same) refl in
-        let counted = sym (counts_by_least (full_lines ps) n (Passed image)) ∙ ap (λ l. counts_with l n (Passed image)) (sym e) ∙ reached in
-        (tt, counted, λ all. absurd (let bad : true ≡ false = sym first ∙ all in cc))
-
-pub no_piece_yet : (s : Subject) → ArePiecesUpTo s 0 [] None
-no_piece_yet s = record {
-  each = refl;
-  own = λ i p there. absurd (let bad : None ≡ Some p = there in cc);
-  counted = λ i p there. absurd (let bad : None ≡ Some p = there in cc);
-  full = λ all i p there. absurd (let bad : None ≡ Some p = there in cc);
-  lowest = refl;
-}
-
-each_push : (P : PieceValue → Type 0) (ps : List PieceValue) (p : PieceValue) → EachPiece P ps → P p → EachPiece P (ps ++ p ∷ [])
+pub each_push : (P : PieceValue → Type 0) (ps : List PieceValue) (p : PieceValue) → EachPiece P ps → P p → EachPiece P (ps ++ p ∷ [])
 each_push P ps p h own i q there = elim (slice_get_of_push ps p i q there) [
   | inl was ↦ h i q was
   | inr last ↦ subst P (sym last.1) own
 ]
-
-pub piece_more : (s : Subject) (n : ℕ) (ps : List PieceValue) (least : Option ℕ) → ArePiecesUpTo s n ps least → n < block_count s
-    → ArePiecesUpTo s (n + 1) (ps ++ record { block = n; found = found_after s n least } ∷ []) (lower least (least_image (lines_of (found_after s n least))))
-piece_more s n ps least h lt =
-    let p : PieceValue = record { block = n; found = found_after s n least } in
-    let next = found_next s n ps least h.lowest in
-    let z : 0 + n ≡ n = omega arith in
-    record {
-      each = rw (range_with_len-more 0 n, z, map-append, h.each) refl;
-      own = each_push (λ q. (q.block < block_count s) × HasPart s q.block q.found) ps p h.own (lt, next.0);
-      counted = subst (λ (ls : List FailingLine). EachPiece (λ q. counts ls q.block q.found ≡ true) (ps ++ p ∷ [])) (sym (lines_push ps p))
-          (each_push (λ q. counts (full_lines ps ++ lines_of p.found) q.block q.found ≡ true) ps p
-          (λ i q there. counts_more (full_lines ps) (lines_of p.found) q.block q.found (h.counted i q there))
-          (counts_more (full_lines ps) (lines_of p.found) p.block p.found next.1));
-      full = λ all. each_push (λ q. passes q.found ≡ false) ps p (h.full all) (next.2 all);
-      lowest = ap (λ (o : Option ℕ). lower o (least_image (lines_of p.found))) h.lowest ∙ least_of_push ps p;
-    }
 
 pub blocks_below : (s : Subject) (ps : List PieceValue) → ArePieces s ps → All (λ (p : PieceValue). p.block < block_count s) ps
 blocks_below s ps h k d lt = (h k (get_or ps k d) (slice_get-get_or ps k d lt)).0
 
 -- these are never refused but for want of memory
 
-count_blocks : (ps : List PieceValue) (b : ℕ) → pieces_at ps b ≡ length (filter (λ (n : ℕ). n == b) (map (λ (p : PieceValue). p.block) ps))
+pub count_blocks : (ps : List PieceValue) (b : ℕ) → pieces_at ps b ≡ length (filter (λ (n : ℕ). n == b) (map (λ (p : PieceValue). p.block) ps))
 count_blocks [] b = refl
 count_blocks (p ∷ ps) b = step (p.block == b) (count_blocks ps b)
   where
@@ -289,19 +238,6 @@ count_blocks (p ∷ ps) b = step (p.block == b) (count_blocks ps b)
         ≡ length (cond t (p.block ∷ filter (λ (n : ℕ). n == b) (map (λ (p : PieceValue). p.block) ps)) (filter (λ (n : ℕ). n == b) (map (λ (p : PieceValue). p.block) ps)))
     step true h = ap suc h
     step false h = h
-
-none_before : (a n b : ℕ) → b < a → length (filter (λ (n : ℕ). n == b) (range_with_len a n)) ≡ 0
-none_before a zero b lt = refl
-none_before a (suc n) b lt =
-    let other : (a == b) ≡ false = grind (arith, nat_tests, lt) in
-    rw other (none_before (a + 1) n b (omega (arith, lt)))
-
-once : (a n b : ℕ) → a ≤ b → b < a + n → length (filter (λ (n : ℕ). n == b) (range_with_len a n)) ≡ 1
-once a zero b low high = absurd (omega (arith, low, high))
-once a (suc n) b low high = elim (eqb_tells a b) [
-  | inl own ↦ rw own.0 (ap suc (none_before (a + 1) n b (omega (arith, own.1))))
-  | inr differ ↦ rw differ.0 (once (a + 1) n b (omega (arith, low, differ.1)) (omega (arith, high)))
-]
 
 all_count : (test : PieceValue → Bool) (ps : List PieceValue) (b : ℕ) → EachPiece (λ p. test p ≡ true) ps → length (filter test (of_block ps b)) ≡ pieces_at ps b
 all_count test [] b h = refl
@@ -312,15 +248,9 @@ all_count test (p ∷ ps) b h = step (p.block == b) (all_count test ps b (of_tai
     step true e = let this : test p ≡ true = h 0 p refl in rw this (ap suc e)
     step false e = e
 
-pub only_memory : (s : Subject) (n : ℕ) (ps : List PieceValue) (least : Option ℕ) (r : Refusal) → ArePiecesUpTo s n ps least → RefusesPieces ps n r
-    → r ≡ work_refusal work.Memory 0
-only_memory s n ps least r are (two_pieces block h) =
-    let one : pieces_at ps block ≡ 1 =
-    count_blocks ps block ∙ ap (λ (bs : List ℕ). length (filter (λ (k : ℕ). k == block) bs)) are.each ∙ once 0 n block (omega arith) (omega (arith, h.within)) in
-    absurd (omega (arith, one, h.twice))
-only_memory s n ps least r are (no_piece block h) =
-    let one : pieces_at ps block ≡ 1 =
-    count_blocks ps block ∙ ap (λ (bs : List ℕ). length (filter (λ (k : ℕ). k == block) bs)) are.each ∙ once 0 n block (omega arith) (omega (arith, h.within)) in
+pub only_memory : (s : Subject) (ps : List PieceValue) (r : Refusal) → ArePiecesOf s ps → RefusesPieces ps (block_count s) r → r ≡ work_refusal work.Memory 0
+only_memory s ps r are (two_pieces block h) = absurd (omega (arith, are.once block h.within, h.twice))
+only_memory s ps r are (no_piece block h) =
     let counted = all_count (λ (p : PieceValue). counts (full_lines ps) p.block p.found) ps block are.counted in
-    absurd (omega (arith, one, counted, h.missing))
-only_memory s n ps least r are no_memory = refl
+    absurd (omega (arith, are.once block h.within, counted, h.missing))
+only_memory s ps r are no_memory = refl

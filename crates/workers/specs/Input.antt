@@ -1,17 +1,26 @@
 -- What the work is given.
 use Rattle.std.specs.Prelude.{ℕ, ◌≡◌, ◌≤◌, List, [], ◌∷◌, length, Option, None, Some}
 use Rattle.epochs.specs.Plan.{PlanValue}
+use Rattle.interp.specs.Checker.{CheckerValue}
 use Rattle.choices.specs.Choices.{limit}
 use Rattle.lines.specs.Line.{FailingLine}
 use Rattle.workers.specs.Failing.{Subject, image_count}
 
 -- the history is that of the plan, the images are counted, and each number is within its limit
-pub record IsInput (s : Subject) (plan : PlanValue) (images : ℕ) : Type 0 where
+pub record IsInput (s : Subject) (plan : PlanValue) (workers cache images : ℕ) : Type 0 where
   pub history : plan ≡ s.plan
   pub bound : s.bound ≤ 3
   pub checkers : length s.checkers ≤ 8
+  pub some_worker : 1 ≤ workers
+  pub few_workers : workers ≤ 64
+  pub cache_size : cache ≤ 65536
   pub count : images ≡ image_count s
   pub few : images ≤ limit
+
+-- the run of that plan and those checkers, as the shards of a cache name it, judges this subject
+pub record IsRunOf (plan : PlanValue) (checkers : List CheckerValue) (s : Subject) : Type 0 where
+  pub plan_is : plan ≡ s.plan
+  pub checkers_are : checkers ≡ s.checkers
 
 -- the line, if there is one
 abbrev pub line_list : Option FailingLine → List FailingLine

@@ -6,4 +6,6 @@ pub mod Pieces
 pub mod Counting
 pub mod Table
 pub mod Exploring
+pub mod Taking
+pub mod Crew
 pub mod Laws

@@ -1,92 +1,129 @@
 //! All the work of a run.
 
-ghost use Rattle.std.specs.Prelude.{◌≡◌, ◌<◌, false, map, IfOk, IfErr};
+ghost use Rattle.std.specs.Prelude.{◌≡◌, ◌≤◌, false, map, length, IfOk, IfErr};
 ghost use Rattle.std.specs.List.Sorted.{IsNonDecreasing};
 ghost use Rattle.base.specs.Refusals.{memory_refusal};
 ghost use Rattle.workers.specs.Failing.{failing_lines};
 ghost use Rattle.lines.specs.Line.{first_lines};
-ghost use Rattle.workers.specs.Exploring.{ArePiecesUpTo, found_after};
+ghost use Rattle.workers.specs.Exploring.{ArePiecesOf};
+ghost use Rattle.workers.specs.Input.{IsRunOf};
 ghost use Rattle.workers.specs.Laws.{BeginsWithFirst};
-ghost use Rattle.workers.specs.Least.{least_image};
-ghost use Rattle.workers.specs.Pieces.{block_count, full_lines, RefusesPieces};
+ghost use Rattle.workers.specs.Pieces.{RefusesPieces};
 
-use crate::block_lines::lower;
 use crate::collecting::collect;
+use crate::crew::{Back, crew_back};
 use crate::gate::Gate;
-use crate::input::{Input, judge_block};
+use crate::input::Input;
 use crate::piece::Piece;
 use base::refusal::Refusal;
 use lines::Lines;
-use std::alloc::{AllocError, Global};
-
-/// The number of the worker that calls, the only one.
-const CALLER: u8 = 0;
+use std::alloc::Global;
+use std::marker::Brand;
+use std::sync::{Mutex, Wait};
+use std::thread::Threads;
+use verdict_cache::{Run, Shard, shards};
 
 /// What the work comes to.
 #[derive(Drop)]
 pub struct Work {
     /// The failing lines, by image and then by program.
     pub lines: Lines,
-    /// How many judgements were taken from a cache.
+    /// How many judgements were taken from the cache, at most 2^64 - 1.
     pub hits: u64,
 }
 
-/// The piece of a block, where that is the least failing image known so far. The block is passed over
-/// where it can be.
-fn piece_after(
+/// The pieces of all blocks.
+fn all_pieces<J: Run + Send + Sync, G: Gate + Sync, R: Threads + Wait + Sync>(
+    rt: &R,
     alloc: Global,
+    gate: &G,
     input: &Input<'_>,
-    block: u32,
-    least: Option<u64>,
-) -> Result<Piece, AllocError>
-    requires { block < block_count input.now }
-    ensures { IfOk result (λ piece. piece ≡ record { block = block; found = found_after input.now block least }) }
+    shards: &[Mutex<Shard<J>>],
+) -> Result<Vec<Piece>, Refusal>
+    requires run { IsRunOf J.plan J.checkers input.now }
+    requires shards { length shards.now ≡ 16 }
+    ensures pieces { IfOk result (λ pieces. ArePiecesOf input.now pieces.items) }
+    ensures refused { IfErr result (λ r. r ≡ memory_refusal) }
 {
-    if let Some(image) = least {
-        if input.passes_over(block, image) {
-            return Ok(Piece::passed(block, image));
-        }
+    let back = match crew_back(rt, alloc, gate, input, shards) {
+        Ok(back) => back,
+        Err(_error) => return Err(Refusal::of_memory()),
+    };
+    let Back {
+        board,
+        seats,
+        pieces,
+    } = back;
+    match board.gather(seats) {
+        Ok(_least) => Ok(pieces),
+        Err(refusal) => Err(refusal),
     }
-    judge_block(alloc, input, block)
 }
 
-/// The pieces of all blocks. The caller takes the blocks one after the other.
-fn pieces_of<G: Gate>(alloc: Global, gate: &G, input: &Input<'_>) -> Result<Vec<Piece>, AllocError>
-    ensures { IfOk result (λ pieces. ArePiecesUpTo input.now (block_count input.now) pieces.items (least_image (full_lines pieces.items))) }
-{
-    let mut pieces = Vec::new(alloc);
-    let mut least = None;
-    for block in 0..input.block_count() {
-        gate.before(CALLER, block);
-        let piece = piece_after(alloc, input, block, least)?;
-        gate.after(CALLER, block);
-        least = lower(least, piece.least_image());
-        pieces.push(piece)?;
+/// How many looks have found an entry, in all shards.
+fn hits_of<J: Run, R: Wait>(rt: &R, shards: &[Mutex<Shard<J>>]) -> u64 {
+    let mut hits = 0u64;
+    for shard in shards {
+        hits = hits.saturating_add(shard.lock(rt).hits());
     }
-    Ok(pieces)
+    hits
 }
 
-/// Judges the images of a run, block after block, and answers the failing lines: all of them, or with
-/// `first` those of the first failing image and perhaps some behind them, since blocks that lie wholly
-/// after a failing image are passed over. `gate` is told of each block before and after it is taken.
-///
-/// # Errors
-///
-/// Want of memory, and nothing else.
-pub fn explore_all<G: Gate>(alloc: Global, gate: &G, input: &Input<'_>) -> Result<Work, Refusal>
+/// The work of the run that `J` names.
+fn explored<J: Run + Send + Sync, G: Gate + Sync, R: Threads + Wait + Sync>(
+    rt: &R,
+    alloc: Global,
+    gate: &G,
+    input: &Input<'_>,
+    cache: u32,
+) -> Result<Work, Refusal>
+    requires run { IsRunOf J.plan J.checkers input.now }
+    requires cache { (cache ≡ J.size) × (cache ≤ 65536) }
     ensures whole { IfOk result (λ work. input.now.first ≡ false → work.lines ≡ failing_lines input.now) }
     ensures first { IfOk result (λ work. first_lines work.lines ≡ first_lines (failing_lines input.now)) }
     ensures begins { IfOk result (λ work. BeginsWithFirst (failing_lines input.now) work.lines) }
     ensures order { IfOk result (λ work. IsNonDecreasing (map (λ l. l.image) work.lines)) }
-    ensures hits { IfOk result (λ work. work.hits ≡ 0) }
     ensures refused { IfErr result (λ r. r ≡ memory_refusal) }
 {
-    let pieces = match pieces_of(alloc, gate, input) {
-        Ok(pieces) => pieces,
+    let shards = match shards::<J>(alloc, input.history(), input.checkers(), cache) {
+        Ok(shards) => shards,
         Err(_error) => return Err(Refusal::of_memory()),
     };
+    let pieces = match all_pieces(rt, alloc, gate, input, shards.as_slice()) {
+        Ok(pieces) => pieces,
+        Err(refusal) => return Err(refusal),
+    };
     match collect(alloc, pieces, input.block_count()) {
-        Ok(lines) => Ok(Work { lines, hits: 0 }),
+        Ok(lines) => Ok(Work {
+            lines,
+            hits: hits_of(rt, shards.as_slice()),
+        }),
         Err(refusal) => Err(refusal),
     }
+}
+
+/// Judges the images of a run, and answers the failing lines: all of them, or with `first` those of the
+/// first failing image and perhaps some behind them, since blocks that lie wholly after a failing image
+/// are passed over. It takes as many workers as `Input::new` was told, but no more than there are blocks:
+/// the caller is worker 0, and each other one has a thread of its own, where one can be made. `gate` is
+/// told of each block before and after it is taken.
+///
+/// How many workers there are, and how much they keep, changes no line. It waits until all are back.
+///
+/// # Errors
+///
+/// Want of memory, and nothing else.
+pub fn explore_all<G: Gate + Sync, R: Threads + Wait + Sync>(
+    rt: &R,
+    alloc: Global,
+    gate: &G,
+    input: &Input<'_>,
+) -> Result<Work, Refusal>
+    ensures whole { IfOk result (λ work. input.now.first ≡ false → work.lines ≡ failing_lines input.now) }
+    ensures first { IfOk result (λ work. first_lines work.lines ≡ first_lines (failing_lines input.now)) }
+    ensures begins { IfOk result (λ work. BeginsWithFirst (failing_lines input.now) work.lines) }
+    ensures order { IfOk result (λ work. IsNonDecreasing (map (λ l. l.image) work.lines)) }
+    ensures refused { IfErr result (λ r. r ≡ memory_refusal) }
+{
+    explored::<Brand, G, R>(rt, alloc, gate, input, input.cache())
 }

@@ -6,21 +6,28 @@
 //!
 //! | Type or call | What it is |
 //! |---|---|
-//! | `Input::new(plan, history, checkers, bound, tears, first, images)` | what is judged, whose images are counted |
-//! | `judge_block(alloc, input, block)` | the piece of a block: its lines, by image and then by checker |
+//! | `Input::new(plan, history, checkers, bound, tears, workers, cache, first, images)` | what is judged, whose images are counted; by how many workers, with how large a cache |
+//! | `judge_block(rt, alloc, input, shards, block)` | the piece of a block: its lines, by image and then by checker |
 //! | `Piece::passed(block, image)` | the piece of a block that was passed over after a failing image |
 //! | `collect(alloc, pieces, blocks)` | all lines, of pieces in any order; refused where a block has two pieces or none |
-//! | `explore_all(alloc, gate, input)` | the work as a whole: the failing lines, in order |
+//! | `explore_all(rt, alloc, gate, input)` | the work as a whole: the failing lines, in order |
 //! | `Gate` | is told of each block before and after it is taken |
 //!
-//! With `first` a run looks for the first failing image alone. A block whose images all lie after a
-//! failing image is then passed over: none of its images is formed, and its piece names that image.
+//! Workers share the board of `shares`, from which each takes blocks until there is none left, and the
+//! shards of `verdict_cache`. The caller is worker 0, each other one has a thread of its own where one can
+//! be made. Before a checker is run, the shard of the image's key is asked for what it ends in; where it
+//! has nothing, the checker is run and the outcome put there. An image without a key is judged without
+//! the cache, and without a cache no key is made.
+//!
+//! A worker posts the first failing image of each block. With `first` a run looks for the first failing
+//! image alone: a block whose images all lie after a failing image that was posted is then passed over.
+//! None of its images is formed, and its piece names that image.
 //!
 //! # Place
 //!
 //! It stands on `choices` and `images`, which number and form the images, on `interp`,
-//! whose `Checker` judges them, on `lines`, which keeps failing lines, and on `base`, which has the type
-//! of a refusal. `commands` calls it.
+//! whose `Checker` judges them, on `shares` and `verdict_cache`, which the workers share, on `lines`, which
+//! keeps failing lines, and on `base`, which has the type of a refusal. `commands` calls it.
 //!
 //! # What is proved
 //!
@@ -29,7 +36,8 @@
 //! verdict with answer 0. A law stands above it (`lines_are_set`): it has exactly these lines, by image
 //! and then by checker, each once.
 //!
-//! - `judge_block` gives exactly the block's part of it.
+//! - `judge_block` gives exactly the block's part of it, whatever other workers do to the shards: what a
+//!   shard has is true by its type.
 //! - `collect` gives the lines of the pieces by block. It is refused at the lowest block with two pieces,
 //!   or else at the lowest without one. A passed piece counts as none where the image that it names is
 //!   not before all of its block, or precedes every failing image of the full pieces. Full pieces of a
@@ -37,28 +45,43 @@
 //!   what is collected is all lines of the first failing image, and then some of the others
 //!   (`collection_begins_with_first`).
 //! - `explore_all` gives all failing lines, or with `first` all those of the first failing image and
-//!   some of the others. It is refused for want of memory alone.
+//!   some of the others, for every number of workers and every size of the cache. It is refused for want
+//!   of memory alone: no block is lost or judged twice, however the workers run.
+//!
+//! The last rests on what a worker hands over (`HandsOver` in `specs/Taking.antt`): one piece for each block
+//! that it took, in that order; an image in a passed piece was found posted; and of what it posted each
+//! image fails in one of its full pieces. Two workers together hand over what both took (`both` in
+//! `proofs/HandingOver.antt`). When all are back, `gather` of `shares` says that each block was taken once and
+//! that what was found was posted, so each block has one piece, and it counts. These clauses speak of the
+//! blocks that a worker took, and not of where it took them from.
+//!
+//! Only tests show that more than one thread works, and that the cache is asked.
 //!
 //! # How it is written
 //!
-//! `input` finds the first choice of a block by its number, and then goes on from choice to choice.
-//! `block_lines` keeps the least image beside the lines of a block. `collecting` puts the pieces into a table
-//! with a row for each block, and notes the lowest block that comes twice and the least failing image.
-//! So far the caller takes all blocks, one after the other.
+//! `judging` finds the first choice of a block by its number, and then goes on from choice to choice.
+//! `block_lines` keeps the least image beside the lines of a block. `taking` is one worker, and `crew` sends
+//! them out and waits for them. `collecting` puts the pieces into a table with a row for each block, and notes
+//! the lowest block that comes twice and the least failing image. `exploring` puts all together; there a
+//! run gets its name, a type parameter that only contracts read, so that its shards are its own.
 #![tactic(auto)]
 
 mod block_lines;
 mod collecting;
+mod crew;
 mod exploring;
 mod found;
 mod gate;
 mod input;
+mod judging;
 mod laws;
 mod piece;
+mod taking;
 
 pub use collecting::collect;
 pub use exploring::{Work, explore_all};
 pub use gate::{Gate, OpenGate};
-pub use input::{Input, judge_block};
+pub use input::Input;
+pub use judging::judge_block;
 pub use laws::{collection_begins_with_first, collection_is_failing, lines_are_set};
 pub use piece::Piece;

@@ -3,36 +3,36 @@ use Rattle.lines.specs.Line.{first_lines}
 use Rattle.workers.specs.Pieces.{AreWhole, block_count, collected}
 use Rattle.workers.proofs.Runs.{without_passed, with_passed, same_first_lines, lines_ordered, only_memory}
 use Rattle.workers.proofs.Sets.{images_rise}
-use Rattle.workers.proofs.exploring.explore_all.Goals as goal
+use Rattle.workers.proofs.exploring.explored.Goals as goal
 
 pub returns-in-Ok-collect-clause-whole : goal.returns-in-Ok-collect-clause-whole
 returns-in-Ok-collect-clause-whole g c = λ all.
     let s = c.args.input.now in
-    let whole : AreWhole c.in-Ok.pieces.items (block_count s) = rw (← c.block_count.ensures.value) c.in-Ok-collect.ensures.whole in
+    let whole : AreWhole c.in-Ok-all_pieces.pieces.items (block_count s) = rw (← c.block_count.ensures.value) c.in-Ok-collect.ensures.whole in
     c.in-Ok-collect.ensures.lines
-    ∙ rw c.block_count.ensures.value (without_passed s c.in-Ok.pieces.items c.in-Ok.ensures.own (c.in-Ok.ensures.full all) whole)
+    ∙ rw c.block_count.ensures.value (without_passed s c.in-Ok-all_pieces.pieces.items c.in-Ok-all_pieces.ensures.pieces.own (c.in-Ok-all_pieces.ensures.pieces.full all) whole)
 
 pub returns-in-Ok-collect-clause-first : goal.returns-in-Ok-collect-clause-first
 returns-in-Ok-collect-clause-first g c =
     let s = c.args.input.now in
-    let whole : AreWhole c.in-Ok.pieces.items (block_count s) = rw (← c.block_count.ensures.value) c.in-Ok-collect.ensures.whole in
+    let whole : AreWhole c.in-Ok-all_pieces.pieces.items (block_count s) = rw (← c.block_count.ensures.value) c.in-Ok-collect.ensures.whole in
     ap first_lines c.in-Ok-collect.ensures.lines
-    ∙ rw c.block_count.ensures.value (same_first_lines s c.in-Ok.pieces.items c.in-Ok.ensures.own whole)
+    ∙ rw c.block_count.ensures.value (same_first_lines s c.in-Ok-all_pieces.pieces.items c.in-Ok-all_pieces.ensures.pieces.own whole)
 
 pub returns-in-Ok-collect-clause-begins : goal.returns-in-Ok-collect-clause-begins
 returns-in-Ok-collect-clause-begins g c =
     let s = c.args.input.now in
-    let whole : AreWhole c.in-Ok.pieces.items (block_count s) = rw (← c.block_count.ensures.value) c.in-Ok-collect.ensures.whole in
-    rw (c.in-Ok-collect.ensures.lines, c.block_count.ensures.value) (with_passed s c.in-Ok.pieces.items c.in-Ok.ensures.own whole)
+    let whole : AreWhole c.in-Ok-all_pieces.pieces.items (block_count s) = rw (← c.block_count.ensures.value) c.in-Ok-collect.ensures.whole in
+    rw (c.in-Ok-collect.ensures.lines, c.block_count.ensures.value) (with_passed s c.in-Ok-all_pieces.pieces.items c.in-Ok-all_pieces.ensures.pieces.own whole)
 
 pub returns-in-Ok-collect-clause-order : goal.returns-in-Ok-collect-clause-order
 returns-in-Ok-collect-clause-order g c =
     let s = c.args.input.now in
-    let whole : AreWhole c.in-Ok.pieces.items (block_count s) = rw (← c.block_count.ensures.value) c.in-Ok-collect.ensures.whole in
+    let whole : AreWhole c.in-Ok-all_pieces.pieces.items (block_count s) = rw (← c.block_count.ensures.value) c.in-Ok-collect.ensures.whole in
     rw (c.in-Ok-collect.ensures.lines, c.block_count.ensures.value)
-    (images_rise (collected c.in-Ok.pieces.items (block_count s)) (lines_ordered s c.in-Ok.pieces.items c.in-Ok.ensures.own whole))
+    (images_rise (collected c.in-Ok-all_pieces.pieces.items (block_count s)) (lines_ordered s c.in-Ok-all_pieces.pieces.items c.in-Ok-all_pieces.ensures.pieces.own whole))
 
-pub returns-in-Err-collect-clause-refused : goal.returns-in-Err-collect-clause-refused
-returns-in-Err-collect-clause-refused g c =
-    only_memory c.args.input.now (block_count c.args.input.now) c.in-Ok.pieces.items _ c.in-Err-collect.refusal c.in-Ok.ensures
+pub returns-clause-refused : goal.returns-clause-refused
+returns-clause-refused g c =
+    only_memory c.args.input.now c.in-Ok-all_pieces.pieces.items c.in-Err-collect.refusal c.in-Ok-all_pieces.ensures.pieces
     (rw (← c.block_count.ensures.value) c.in-Err-collect.ensures.refused)

@@ -1,11 +1,8 @@
 use Rattle.std.proofs.Common.{◌≡◌, ◌∙◌, ◌++◌, refl, ap, arith, length, Some, slice_get, List}
 use Rattle.std.proofs.lemmas.Option.{slice_get_read}
-use Rattle.epochs.specs.Plan.{PlanValue}
 use Rattle.lines.specs.Line.{FailingLine}
-use Rattle.images.specs.Views.{view_of}
-use Rattle.workers.specs.Failing.{Subject}
 use Rattle.workers.proofs.JudgedLines.{checker_next, lines_of_image}
-use Rattle.workers.proofs.input.Input.judge_image.Goals as goal
+use Rattle.workers.proofs.input.Input.judge_by_runs.Goals as goal
 
 pub returns : goal.returns
 returns c =
@@ -17,8 +14,5 @@ loop-number-preserved c =
     let checkers = c.self.inside.checkers.now in
     let there : slice_get checkers c.loop-number.number ≡ Some c.checker-item.result =
     slice_get_read checkers (length checkers) c.loop-number.number c.checker-item.result refl c.loop-number-test.true c.checker-item.is in
-    let same : c.self.inside.plan.now ≡ c.args.self.now.plan = ap (λ (s : Subject). s.plan) c.self.view_is in
-    let shown : c.in_ok-view.view ≡ view_of c.args.self.now.plan c.args.choice.now =
-    c.in_ok-view.ensures.value ∙ ap (λ (plan : PlanValue). view_of plan c.args.choice.now) (c.self.invariant.history ∙ same) in
-    c.in_ok-judge_checker.ensures c.args.self.now shown
-    ∙ checker_next c.args.self.now c.args.image c.loop-number.number c.args.choice.now c.checker-item.result c.args.lines.now c.loop-number.lines c.requires (rw (← c.self.view_is) there) c.loop-number.invariant
+    c.in_ok-judge_checker.ensures c.args.self.now c.requires.view
+    ∙ checker_next c.args.self.now c.args.image c.loop-number.number c.args.choice.now c.checker-item.result c.args.lines.now c.loop-number.lines c.requires.choice (rw (← c.self.view_is) there) c.loop-number.invariant

@@ -1,0 +1,33 @@
+-- What workers hand over of the blocks that they took.
+use Rattle.std.specs.Prelude.{ℕ, ◌≡◌, ◌*◌, ◌<◌, ◌≤◌, ◌++◌, false, true, List, [], ◌∷◌, map}
+use Rattle.shares.specs.declared.view.SeatStep.{SeatStep}
+use Rattle.shares.specs.Steps.{posts, finds}
+use Rattle.workers.specs.declared.found.Found.{Found}
+use Rattle.workers.specs.declared.found.Found.TheVariants.{Lines, Passed}
+use Rattle.workers.specs.Counting.{reaches}
+use Rattle.workers.specs.Failing.{Subject}
+use Rattle.workers.specs.Least.{least_image}
+use Rattle.workers.specs.Pieces.{PieceValue, EachPiece, ArePieces, AreFull, full_lines}
+
+-- a block was passed over only after an image before all of it that was found as the least one posted
+abbrev pub IsSeen : List SeatStep → ℕ → Found → Type 0
+IsSeen steps block (Lines own) = Unit {0}
+IsSeen steps block (Passed image) = (image < 64 * block) × (0 < finds image steps)
+
+-- pieces of a run that workers hand over who took those blocks and made those steps: one for each block that
+-- they took. Of what they posted each image fails in a full piece, or one before it does.
+pub record HandsOver (s : Subject) (took : List ℕ) (steps : List SeatStep) (pieces : List PieceValue) : Type 0 where
+  pub each : map (λ (p : PieceValue). p.block) pieces ≡ took
+  pub own : ArePieces s pieces
+  pub full : s.first ≡ false → AreFull pieces
+  pub seen : EachPiece (λ p. IsSeen steps p.block p.found) pieces
+  pub posted : (image : ℕ) → 0 < posts image steps → reaches (least_image (full_lines pieces)) image ≡ true
+
+-- later steps that posted nothing more
+pub record KeepsPosts (before after : List SeatStep) : Type 0 where
+  pub posted : (image : ℕ) → posts image after ≡ posts image before
+  pub found : (image : ℕ) → finds image before ≤ finds image after
+
+-- with later steps, the piece of one more block is handed over
+pub record AddsPiece (s : Subject) (block : ℕ) (before after : List SeatStep) (p : PieceValue) : Type 0 where
+  pub adds : (took : List ℕ) (pieces : List PieceValue) → HandsOver s took before pieces → HandsOver s (took ++ block ∷ []) after (pieces ++ p ∷ [])

@@ -1,0 +1,112 @@
+//! A worker: it takes blocks, and hands over a piece of each.
+
+ghost use Rattle.std.specs.Prelude.{◌≡◌, ◌≤◌, ◌<◌, [], length, true, IfOk, IfSome, IfNone};
+ghost use Rattle.shares.specs.Steps.{next_seen, finds};
+ghost use Rattle.shares.specs.Seats.{HasEnded, taken};
+ghost use Rattle.workers.specs.Exploring.{passes_over};
+ghost use Rattle.workers.specs.Input.{IsRunOf};
+ghost use Rattle.workers.specs.Least.{least_image};
+ghost use Rattle.workers.specs.Pieces.{block_count, lines_of, piece_of};
+ghost use Rattle.workers.specs.Taking.{KeepsPosts, HandsOver, AddsPiece};
+
+use crate::gate::Gate;
+use crate::input::Input;
+use crate::judging::judge_block;
+use crate::piece::Piece;
+use shares::{Board, Seat};
+use std::alloc::{AllocError, Global};
+use std::sync::{Mutex, Wait};
+use verdict_cache::{Run, Shard};
+
+/// The failing image after which a block is passed over: one that was posted by now, where the first is
+/// all that is asked for, and all of the block lies after it.
+fn image_before(input: &Input<'_>, board: &Board, seat: &mut Seat, block: u32) -> Option<u64>
+    requires { seat.old.board ≡ board.now.name }
+    ensures board { seat.new.board ≡ seat.old.board }
+    ensures taken { taken seat.new ≡ taken seat.old }
+    ensures seen { next_seen seat.old.steps ≤ next_seen seat.new.steps }
+    ensures posts { KeepsPosts seat.old.steps seat.new.steps }
+    ensures found { IfSome result (λ image. (passes_over input.now block image ≡ true) × (0 < finds image seat.new.steps)) }
+{
+    if !input.first() {
+        return None;
+    }
+    let image = board.least(seat)?;
+    if input.passes_over(block, image) {
+        Some(image)
+    } else {
+        None
+    }
+}
+
+/// The first failing image of a piece that was judged. It is one that can be posted, since a run has few
+/// enough images.
+fn first_failing(input: &Input<'_>, piece: &Piece) -> Option<u64>
+    requires piece { piece.now ≡ piece_of input.now piece.now.block }
+    requires block { piece.now.block < block_count input.now }
+    ensures value { result ≡ least_image (lines_of piece.now.found) }
+    ensures few { IfSome result (λ image. image < 16777216) }
+{
+    let _images = input.image_count();
+    piece.least_image()
+}
+
+/// The piece of a block that a worker took. It is passed over where it can be; else it is judged, and
+/// its first failing image is posted.
+fn piece_taken<J: Run, R: Wait>(
+    rt: &R,
+    alloc: Global,
+    input: &Input<'_>,
+    shards: &[Mutex<Shard<J>>],
+    board: &Board,
+    seat: &mut Seat,
+    block: u32,
+) -> Result<Piece, AllocError>
+    requires run { IsRunOf J.plan J.checkers input.now }
+    requires shards { length shards.now ≡ 16 }
+    requires board { seat.old.board ≡ board.now.name }
+    requires block { block < block_count input.now }
+    ensures board { seat.new.board ≡ seat.old.board }
+    ensures taken { taken seat.new ≡ taken seat.old }
+    ensures seen { next_seen seat.old.steps ≤ next_seen seat.new.steps }
+    ensures added { IfOk result (AddsPiece input.now block seat.old.steps seat.new.steps) }
+{
+    if let Some(image) = image_before(input, board, seat, block) {
+        return Ok(Piece::passed(block, image));
+    }
+    let piece = judge_block(rt, alloc, input, shards, block)?;
+    if let Some(image) = first_failing(input, &piece) {
+        board.post(seat, image);
+    }
+    Ok(piece)
+}
+
+/// The pieces of the blocks that a worker takes, until there is none left. The gate is told before and
+/// after each.
+pub(crate) fn pieces_taken<J: Run, G: Gate, R: Wait>(
+    rt: &R,
+    alloc: Global,
+    gate: &G,
+    input: &Input<'_>,
+    shards: &[Mutex<Shard<J>>],
+    board: &Board,
+    worker: u8,
+    seat: &mut Seat,
+) -> Result<Vec<Piece>, AllocError>
+    requires run { IsRunOf J.plan J.checkers input.now }
+    requires shards { length shards.now ≡ 16 }
+    requires board { (seat.old.board ≡ board.now.name) × (board.now.name.blocks ≡ block_count input.now) }
+    requires fresh { seat.old.steps ≡ [] }
+    ensures board { seat.new.board ≡ seat.old.board }
+    ensures pieces { IfOk result (λ pieces. HandsOver input.now (taken seat.new) seat.new.steps pieces.items) }
+    ensures ended { IfOk result (λ _. HasEnded seat.new) }
+{
+    let mut pieces = Vec::new(alloc);
+    while let Some(block) = board.draw(seat) {
+        gate.before(worker, block);
+        let piece = piece_taken(rt, alloc, input, shards, board, seat, block)?;
+        gate.after(worker, block);
+        pieces.push(piece)?;
+    }
+    Ok(pieces)
+}
