@@ -34,6 +34,7 @@ Where the rows stand
     rows/notes.py       the notes behind each refusal, and beside answers
     rows/tables.py      logs as tables, and listings with slots
     rows/modelled.py    whole reports of many logs, against the model
+    rows/workers.py     runs by many workers, with and without a cache
     rows/limits.py      sizes near each limit
     rows/not_built.py   options and instructions that this version refuses, since their work isn't built
 
@@ -77,6 +78,7 @@ from rows import (
     tables,
     texts,
     worked,
+    workers,
 )
 
 TABLES = [
@@ -94,6 +96,7 @@ TABLES = [
     notes,
     tables,
     modelled,
+    workers,
     limits,
     not_built,
 ]

@@ -1,10 +1,9 @@
-"""What this version refuses since its work isn't built yet: local calls, more than one worker, a cache, and what the
-verifier accepts by signed bounds and spilled numbers. A version that builds one of these has rows for it in other tables,
+"""What this version refuses since its work isn't built yet: local calls, and what the verifier accepts by signed
+bounds and spilled numbers. A version that builds one of these has rows for it in other tables,
 and none here.
 """
-from notation import F, code, program, refused, unexplored, verified
+from notation import F, code, refused, unexplored, verified
 
-GOOD = program("mov64 r0, 0; exit")
 LOG = [F]
 
 # A call of kind 1 is a kind of source that isn't known.
@@ -21,16 +20,6 @@ LOCAL_CALLS = [
     refused("not built: callf with a label", "asm s", {"s": "exit\ncallf x\nx:\nexit\n"}, "refused 30 at 2"),
 ]
 
-WORKERS = [
-    unexplored(f"not built: {count} workers", f"--sectors 4 --workers {count}", LOG, GOOD, "refused 13 at 3")
-    for count in [2, 3, 64]
-]
-
-CACHES = [
-    unexplored(f"not built: a cache of {size}", f"--sectors 4 --cache {size}", LOG, GOOD, "refused 13 at 4")
-    for size in [1, 16, 65536]
-]
-
 SIGNED_INDEX = (
     "mov64 r1, 0; call 1; jne r0, 0, +2; mov64 r0, 0; exit; mov64 r6, r0; mov64 r1, 0; call 6; jslt r0, 0, +3; "
     "jsgt r0, 504, +2; add64 r6, r0; ldxdw r1, [r6+0]; mov64 r0, 0; exit"
@@ -43,4 +32,4 @@ SIGNED_BOUNDS = [
     verified("not built: a spilled number", SPILLED_NUMBER, "refused 54 at 3"),
 ]
 
-ROWS = [*LOCAL_CALLS, *WORKERS, *CACHES, *SIGNED_BOUNDS]
+ROWS = [*LOCAL_CALLS, *SIGNED_BOUNDS]

@@ -1,0 +1,92 @@
+"""Runs by many workers, with and without a cache: the same bytes for any of them.
+
+Each run is made by every number of workers with every size of the cache, and the report is the model's, or that of the
+worked example. One run fails in its last block alone, one only behind many blocks.
+"""
+import functools
+
+import model
+from model import Checker, Run, explored
+from notation import F, M, W, Long, Row, explore, named, program
+from rows import worked
+from rows.modelled import CHECKERS, LOGS, PROGRAMS
+
+WORKERS = [1, 2, 4, 64]
+CACHES = [0, 1, 16, 65536]
+
+
+def each_way(row):
+    """A row with every number of workers and every size of the cache."""
+    return [
+        Row(
+            f"{row.name}, {workers} workers, cache {cache}",
+            f"{row.words} --workers {workers} --cache {cache}",
+            row.files,
+            row.out,
+            row.status,
+            row.error,
+            seconds=row.seconds,
+        )
+        for workers in WORKERS
+        for cache in CACHES
+    ]
+
+
+# The worked examples that judge more than one block, more than one program, or equal images.
+EXAMPLES = [
+    "empty_log_good",
+    "empty_log_good, first",
+    "empty_log_bad",
+    "torn_sector",
+    "torn_sector, first",
+    "forced_write",
+    "discard",
+    "marks",
+    "nested_loops, within 28 steps",
+    "sixteen_codes",
+    "sixteen_codes, first",
+]
+
+
+def run_of(name, run, programs, checkers, first=False):
+    """A row of a run by the model; an image fails."""
+    options = f"{run.options()} --first" if first else run.options()
+    report = functools.lru_cache(maxsize=None)(lambda: explored(run, checkers, first))
+    return explore(f"workers: {name}", options, run.entries, programs, Long(report), 1)
+
+
+def from_epoch(least):
+    """A program that answers 1 from that epoch on, and else 0."""
+    text = f"ldxdw r1, [r1+8]; mov64 r0, 0; jlt r1, {least}, +1; mov64 r0, 1; exit"
+    return program(text), Checker("slots 5 budget 5", lambda image: (1 if image.epoch() >= least else 0, ()))
+
+
+# 421 images in seven blocks; those of one epoch are equal.
+FLUSHES = Run([entry for number in range(140) for entry in [F, W(0, 1, 0)]], 1)
+LAST_BLOCK, LAST_CHECKER = from_epoch(140)
+THIRD_BLOCK, THIRD_CHECKER = from_epoch(50)
+
+# 321 images that only the marks tell apart, in five blocks.
+MARKS = Run([M("m") if number % 8 == 0 else W(0, 1, 0x55) for number in range(320)], 1, bound=0)
+
+OVERLAPPING = Run(LOGS["overlapping"][1], 4, "flush", 2, True)
+COMMITS = Run(LOGS["commits"][1], 8, "all", 1, True)
+
+EIGHT = [named("first_byte"), named("byte_64")] * 4
+EIGHT_CHECKERS = [Checker("slots 7 budget 5", model.first_byte), Checker("slots 7 budget 5", model.byte_64)] * 4
+
+RUNS = [
+    run_of("a failing block at the end", FLUSHES, LAST_BLOCK, [LAST_CHECKER]),
+    run_of("a failing block at the end, first", FLUSHES, LAST_BLOCK, [LAST_CHECKER], first=True),
+    run_of("many failing blocks", FLUSHES, THIRD_BLOCK, [THIRD_CHECKER]),
+    run_of("many failing blocks, first", FLUSHES, THIRD_BLOCK, [THIRD_CHECKER], first=True),
+    run_of("marks", MARKS, named("epoch_and_marks"), CHECKERS[1:2]),
+    run_of("overlapping", OVERLAPPING, PROGRAMS, CHECKERS),
+    run_of("commits, eight programs", COMMITS, EIGHT, EIGHT_CHECKERS),
+    run_of("commits, eight programs, first", COMMITS, EIGHT, EIGHT_CHECKERS, first=True),
+]
+
+ROWS = [
+    *(row for name in EXAMPLES for row in each_way(next(it for it in worked.ROWS if it.name == name))),
+    *(row for run in RUNS for row in each_way(run)),
+]
