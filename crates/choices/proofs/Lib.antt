@@ -5,6 +5,7 @@ pub mod Rows
 pub mod Following
 pub mod Departing
 pub mod Plans
+pub mod Sums
 pub mod Sets
 pub mod Order
 pub mod CrashModel

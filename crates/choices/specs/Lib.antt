@@ -6,3 +6,4 @@ pub mod Steps
 pub mod Choices
 pub mod CrashModel
 pub mod Laws
+pub mod Sums

@@ -14,6 +14,8 @@
 //! | `count(plan, bound, tears)` | how many choices there are, or the cut with which they are too many |
 //! | `count_at(plan, bound, tears, cut)` | the same of one cut alone |
 //! | `nth(plan, bound, tears, number)` | the choice of a number |
+//! | `Starts::new(alloc, plan, bound, tears)` | a table by which the choice of a number is found at once |
+//! | `starts.nth(number)` | the choice of a number, by the table |
 //! | `next(plan, bound, tears, choice)` | goes on to the following choice, if there is one |
 //! | `choice.cut()`, `choice.departures()` | the cut, and the departures with their fates |
 //! | `choice.departures_owned()` | the same departures, for what outlives the choice |
@@ -22,7 +24,7 @@
 //!
 //! The fourth layer, on `epochs`, whose `Plan` says which cuts are wanted and which units are volatile
 //! there. `images` forms the crash image of a choice. Here no byte of a log is looked at, and no call
-//! takes memory. The rules are those of docs/CRASH-MODEL.md.
+//! takes memory but `Starts::new`. The rules are those of docs/CRASH-MODEL.md.
 //!
 //! # What is proved
 //!
@@ -33,7 +35,7 @@
 //! - `count` is its length. It is refused exactly where that passes 16,777,216, at the first cut with
 //!   which it does.
 //! - `count_at` is the length of one cut's part.
-//! - `nth` is its element of that number.
+//! - `nth` is its element of that number, and so is `Starts::nth`.
 //! - `next` leads from each element to the one behind it, and leaves the last as it is.
 //!
 //! Above the recursion stands a law, so that nobody has to believe it (`ranked_is_model`): the list has
@@ -49,9 +51,10 @@
 //! number of departures by taking off the smaller ones, then each departure by a search by halves for
 //! its unit and a division for its fate. `step` changes the last departure that has a next fate or a
 //! next unit. A choice keeps its departures as numbers too, so `next` needs no search but those of
-//! `Plan::unit`. `nth` walks the wanted cuts up to its own, a few products at each; a table of their
-//! counts would need memory. So a caller that wants many choices in a row takes `nth` once, and then
-//! `next`.
+//! `Plan::unit`. `nth` walks the wanted cuts up to its own, a few products at each. A `Starts` keeps the
+//! sums of these products, 4 bytes for each wanted cut, and finds the cut by a search by halves
+//! (`starts`). A caller that wants many choices in a row takes `nth` once, and then `next`; one that
+//! begins at many places makes a `Starts`.
 //!
 //! Further fates would change only their number (`fates_of`) and what a fate's number means
 //! (`fate_of`).
@@ -77,6 +80,7 @@ mod laws;
 mod pick;
 mod rank;
 mod ranked;
+mod starts;
 mod step;
 mod ways;
 
@@ -84,3 +88,4 @@ pub use choice::{Choice, Departure};
 pub use fate::{Eighths, Fate};
 pub use laws::{list_is_set, ranked_is_model};
 pub use ranked::{TooMany, count, count_at, next, nth};
+pub use starts::Starts;

@@ -24,7 +24,7 @@ pub struct TooMany {
 }
 
 /// How many choices there are at a cut.
-fn ways_at(plan: &Plan, bound: u8, tears: bool, cut: u32) -> u64
+pub(crate) fn ways_at(plan: &Plan, bound: u8, tears: bool, cut: u32) -> u64
     requires bound { bound ≤ 3 }
     requires cut { cut ≤ length plan.now.log.entries }
     ensures value { result ≡ length (ranked_at plan.now bound tears cut) }
@@ -86,19 +86,30 @@ fn place_of(plan: &Plan, bound: u8, tears: bool, number: u64) -> (usize, u64)
     (place, rest)
 }
 
+/// The choice of a number among those at the wanted cut of a place.
+pub(crate) fn choice_at(plan: &Plan, bound: u8, tears: bool, place: usize, rest: u64) -> Choice
+    requires bound { bound ≤ 3 }
+    requires inside { (number : ℕ) × InCut plan.now bound tears number place rest }
+    ensures { (number : ℕ) → InCut plan.now bound tears number place rest
+        → slice_get (ranked plan.now bound tears) number ≡ Some result }
+{
+    let cut = plan.cuts()[place];
+    let picks = nth_within(fates_of(tears), bound, plan.volatile(cut), rest);
+    Choice::of(plan, place, cut, picks)
+}
+
 /// The choice of that number.
 ///
 /// It walks the wanted cuts up to the choice's own, with a few products at each, and then takes a
-/// search by halves among the volatile units for each departure. It takes no memory.
+/// search by halves among the volatile units for each departure. It takes no memory. Who asks for many
+/// numbers makes a `Starts`.
 pub fn nth(plan: &Plan, bound: u8, tears: bool, number: u64) -> Choice
     requires bound { bound ≤ 3 }
     requires number { number < length (ranked plan.now bound tears) }
     ensures { slice_get (ranked plan.now bound tears) number ≡ Some result }
 {
     let (place, rest) = place_of(plan, bound, tears, number);
-    let cut = plan.cuts()[place];
-    let picks = nth_within(fates_of(tears), bound, plan.volatile(cut), rest);
-    Choice::of(plan, place, cut, picks)
+    choice_at(plan, bound, tears, place, rest)
 }
 
 /// Goes on to the following choice. At the last choice the answer is `false`, and the choice stays as
