@@ -68,6 +68,7 @@ in_range (instr.Branch w c dst (source.Immediate n) offset) range =
 in_range (instr.Branch w c dst (source.Register src) offset) range =
     record { dst = omega (arith, range.0); src = omega (arith, range.1); offset = omega (arith, Fits-of_z range.2); immediate = lit< tt }
 in_range (instr.CallHelper number) range = record { dst = lit< tt; src = lit< tt; offset = lit< tt; immediate = omega (arith, Fits-of_z range) }
+in_range (instr.CallLocal distance) range = record { dst = lit< tt; src = lit< tt; offset = lit< tt; immediate = omega (arith, Fits-of_z range) }
 in_range instr.Exit range = record { dst = lit< tt; src = lit< tt; offset = lit< tt; immediate = lit< tt }
 in_range (instr.Load size dst base offset) range =
     record { dst = omega (arith, range.0); src = omega (arith, range.1); offset = omega (arith, Fits-of_z range.2); immediate = lit< tt }
@@ -109,7 +110,7 @@ read form.Jump s t = instr.Jump (cast_signed w16 s.offset)
 read form.LongJump s t = instr.LongJump (cast_signed w32 s.immediate)
 read (form.Branch w c false) s t = instr.Branch w c s.dst (source.Immediate (cast_signed w32 s.immediate)) (cast_signed w16 s.offset)
 read (form.Branch w c true) s t = instr.Branch w c s.dst (source.Register s.src) (cast_signed w16 s.offset)
-read form.Call s t = instr.CallHelper (cast_signed w32 s.immediate)
+read form.Call s t = if s.src == 0 then instr.CallHelper (cast_signed w32 s.immediate) else instr.CallLocal (cast_signed w32 s.immediate)
 read form.Exit s t = instr.Exit
 read (form.Load size) s t = instr.Load size s.dst s.src (cast_signed w16 s.offset)
 read (form.LoadSigned size) s t = instr.LoadSigned size s.dst s.src (cast_signed w16 s.offset)
@@ -154,6 +155,7 @@ read_back (instr.LongJump offset) t range behind = rw (to_z-of_z range) refl
 read_back (instr.Branch w c dst (source.Immediate n) offset) t range behind = rw (to_z-of_z range.1, to_z-of_z range.2) refl
 read_back (instr.Branch w c dst (source.Register src) offset) t range behind = rw (to_z-of_z range.2) refl
 read_back (instr.CallHelper number) t range behind = rw (to_z-of_z range) refl
+read_back (instr.CallLocal distance) t range behind = rw (to_z-of_z range) refl
 read_back instr.Exit t range behind = refl
 read_back (instr.Load size dst base offset) t range behind = rw (to_z-of_z range.2) refl
 read_back (instr.LoadSigned size dst base offset) t range behind = rw (to_z-of_z range.2) refl

@@ -12,11 +12,11 @@ use Rattle.bpf_isa.specs.declared.instr.Width.TheVariants as width
 use Rattle.bpf_isa.specs.declared.instr.Operator.{Operator}
 use Rattle.bpf_isa.specs.declared.instr.Operator.TheVariants as op
 
--- what stands in a register field: a register, a number that tells the kind of source (of which
--- only 0 is known), or nothing, so that it is zero
+-- what stands in a register field: a register, a number that tells the kind of source (of those that
+-- are known), or nothing, so that it is zero
 pub data Use : Type 0 where
   Named : Use
-  Kind : Use
+  Kind : List ℕ → Use
   Unused : Use
 
 -- the numbers that may stand in a field
@@ -53,8 +53,14 @@ abbrev pub register_offsets : Width → Operator → List ℕ
 register_offsets w op.Mov = move_offsets w
 register_offsets w o = offsets_of o
 
--- the fields of each form. A call has the kind of source 0 alone, a helper, until programs have
--- functions of their own.
+-- the kinds of source: a call is of a helper or of a function of the program, a constant a number
+abbrev pub call_kinds : List ℕ
+call_kinds = 0 ∷ 1 ∷ []
+
+abbrev pub constant_kinds : List ℕ
+constant_kinds = 0 ∷ []
+
+-- the fields of each form
 unfoldable pub layout_of : Form → Layout
 layout_of (form.Arithmetic w o false) = layout Named Unused (Only (offsets_of o)) Any
 layout_of (form.Arithmetic w o true) = layout Named Named (Only (register_offsets w o)) zero_only
@@ -64,27 +70,27 @@ layout_of form.Jump = layout Unused Unused Any zero_only
 layout_of form.LongJump = layout Unused Unused zero_only Any
 layout_of (form.Branch w c false) = layout Named Unused Any Any
 layout_of (form.Branch w c true) = layout Named Named Any zero_only
-layout_of form.Call = layout Unused Kind zero_only Any
+layout_of form.Call = layout Unused (Kind call_kinds) zero_only Any
 layout_of form.Exit = layout Unused Unused zero_only zero_only
 layout_of (form.Load s) = layout Named Named Any zero_only
 layout_of (form.LoadSigned s) = layout Named Named Any zero_only
 layout_of (form.StoreImmediate s) = layout Named Unused Any Any
 layout_of (form.Store s) = layout Named Named Any zero_only
-layout_of form.LoadImmediate = layout Named Kind zero_only Any
+layout_of form.LoadImmediate = layout Named (Kind constant_kinds) zero_only Any
+
+abbrev pub is_one_of : List ℕ → ℕ → Bool
+is_one_of [] n = false
+is_one_of (x ∷ xs) n = if n == x then true else is_one_of xs n
 
 -- a number that may name a register or a kind of source
 abbrev pub is_known : Use → ℕ → Bool
 is_known Named n = nat_lt n 11
-is_known Kind n = n == 0
+is_known (Kind kinds) n = is_one_of kinds n
 is_known Unused n = true
 
 abbrev pub is_clear : Use → ℕ → Bool
 is_clear Unused n = n == 0
 is_clear _ n = true
-
-abbrev pub is_one_of : List ℕ → ℕ → Bool
-is_one_of [] n = false
-is_one_of (x ∷ xs) n = if n == x then true else is_one_of xs n
 
 abbrev pub is_among : Values → ℕ → Bool
 is_among Any n = true

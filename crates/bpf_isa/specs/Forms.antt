@@ -32,6 +32,7 @@ shape (instr.LongJump offset) = form.LongJump
 shape (instr.Branch w c dst (source.Immediate n) offset) = form.Branch w c false
 shape (instr.Branch w c dst (source.Register src) offset) = form.Branch w c true
 shape (instr.CallHelper number) = form.Call
+shape (instr.CallLocal distance) = form.Call
 shape instr.Exit = form.Exit
 shape (instr.Load size dst base offset) = form.Load size
 shape (instr.LoadSigned size dst base offset) = form.LoadSigned size

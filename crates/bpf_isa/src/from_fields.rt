@@ -253,24 +253,25 @@ fn branch_register(width: Width, condition: Condition, slot: Fields) -> Result<I
     })
 }
 
-/// A call of a helper. A call of a function of the program will be told by source 1.
+/// A call, of a helper (kind of source 0) or of a function of the program (1).
 fn call(slot: Fields) -> Result<Instr, CodeCause>
     requires { opcode_of form.Call ≡ slot.opcode }
     ensures exact { (next : Option Fields) → first_failing (checks form.Call slot next) ≡ refusal result }
     ensures read { (next : Option Fields) → IfOk result (λ i. IsSpelled slot next i) }
 {
-    if slot.src != 0 {
-        return Err(CodeCause::Register);
-    }
+    let immediate = slot.immediate.cast_signed();
+    let instr = match slot.src {
+        0 => Instr::CallHelper { number: immediate },
+        1 => Instr::CallLocal { offset: immediate },
+        _ => return Err(CodeCause::Register),
+    };
     if slot.dst != 0 || slot.offset != 0 {
         return Err(CodeCause::Field);
     }
-    Ok(Instr::CallHelper {
-        number: slot.immediate.cast_signed(),
-    })
+    Ok(instr)
 }
 
-/// The end of the program.
+/// The return from a local function, or the end of the program.
 fn exit(slot: Fields) -> Result<Instr, CodeCause>
     requires { opcode_of form.Exit ≡ slot.opcode }
     ensures exact { (next : Option Fields) → first_failing (checks form.Exit slot next) ≡ refusal result }

@@ -159,7 +159,11 @@ pub enum Instr {
     CallHelper {
         number: i32,
     },
-    /// Ends the program.
+    /// Calls the local function at that distance from the next slot.
+    CallLocal {
+        offset: i32,
+    },
+    /// Returns from a local function, or ends the program.
     Exit,
     /// `dst` is the number in the bytes at `base + offset`.
     Load {

@@ -37,9 +37,6 @@
 //! encode(alloc, &program)?             // the same sixteen bytes
 //! decode(alloc, &[0xb7, 11, 0, 0, 0, 0, 0, 0])     // refused: register, slot 0
 //! ```
-//!
-//! Calls of functions of the program itself (a call with source 1) are refused as an unknown source.
-//! They will be one more form in `Form`, `Instr`, `Code` and the tables, beside the call of a helper.
 #![tactic(auto)]
 
 pub mod codec;

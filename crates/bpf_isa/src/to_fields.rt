@@ -2,15 +2,18 @@
 
 ghost use Rattle.std.specs.Prelude.{◌≡◌, ◌<◌, ◌≤◌, ◌%◌, ◌/◌, ◌^◌, ◌++◌, OnOk};
 ghost use Rattle.bpf_isa.specs.Table.{opcode_of, operator_code, condition_code, size_code, signed_size_code, source_bit, alu_class, jump_class, order_opcode};
-ghost use Rattle.bpf_isa.specs.Fields.{field_bytes};
-ghost use Rattle.bpf_isa.specs.Spelling.{fields_of, second_of, operator_offset, extension_width, extension_offset, order_immediate};
+ghost use Rattle.bpf_isa.specs.Fields.{fields, field_bytes};
+ghost use Rattle.bpf_isa.specs.Spelling.{fields_of, second_of, operator_offset, extension_width, extension_offset, order_immediate, bits16, bits32};
 ghost use Rattle.bpf_isa.specs.Program.{spelling, slot_bytes};
+ghost use Rattle.bpf_isa.specs.declared.form.Form.TheVariants as known;
+ghost use Rattle.bpf_isa.specs.declared.instr.Instr.TheVariants as instruction;
 
 use crate::fields::{Fields, put_fields};
 use crate::form::Form;
 use crate::instr::{
     Condition, Instr, Operator, Order, OrderSize, SignExtension, SignedSize, Size, Source, Width,
 };
+use crate::register::Register;
 use std::alloc::AllocError;
 
 /// The high four bits of an arithmetic opcode.
@@ -182,6 +185,121 @@ fn swap_bits(size: OrderSize) -> u32
     }
 }
 
+/// The field of a register.
+fn register_field(register: Register) -> u8
+    ensures value { result ≡ register }
+    ensures small { result < 16 }
+{
+    register.number() as u8
+}
+
+/// The fields of a form of which nothing but the opcode is used.
+fn bare(form: Form) -> Fields
+    ensures { result ≡ fields (opcode_of form) 0 0 0 0 }
+{
+    Fields {
+        opcode: opcode(form),
+        dst: 0,
+        src: 0,
+        offset: 0,
+        immediate: 0,
+    }
+}
+
+/// The fields of arithmetic with two operands.
+#[tactic(auto, unfolding(crate::specs::Spelling::fields_of))]
+fn arithmetic_fields(width: Width, operator: Operator, dst: Register, source: &Source) -> Fields
+    ensures fields { result ≡ fields_of (instruction.Arithmetic width operator dst source.now) }
+    ensures dst { result.dst < 16 }
+    ensures src { result.src < 16 }
+{
+    let register = matches!(source, Source::Register(_));
+    let form = bare(Form::Arithmetic {
+        width,
+        operator,
+        register,
+    });
+    let (dst, offset) = (register_field(dst), signed_offset(operator));
+    match source {
+        Source::Immediate(n) => Fields {
+            dst,
+            offset,
+            immediate: n.cast_unsigned(),
+            ..form
+        },
+        Source::Register(src) => Fields {
+            dst,
+            src: register_field(*src),
+            offset,
+            ..form
+        },
+    }
+}
+
+/// The fields of a branch.
+#[tactic(auto, unfolding(crate::specs::Spelling::fields_of))]
+fn branch_fields(
+    width: Width,
+    condition: Condition,
+    dst: Register,
+    source: &Source,
+    offset: i16,
+) -> Fields
+    ensures fields { result ≡ fields_of (instruction.Branch width condition dst source.now offset) }
+    ensures dst { result.dst < 16 }
+    ensures src { result.src < 16 }
+{
+    let register = matches!(source, Source::Register(_));
+    let form = bare(Form::Branch {
+        width,
+        condition,
+        register,
+    });
+    let (dst, offset) = (register_field(dst), offset.cast_unsigned());
+    match source {
+        Source::Immediate(n) => Fields {
+            dst,
+            offset,
+            immediate: n.cast_unsigned(),
+            ..form
+        },
+        Source::Register(src) => Fields {
+            dst,
+            src: register_field(*src),
+            offset,
+            ..form
+        },
+    }
+}
+
+/// The fields of a load or of a store of a register.
+fn access_fields(form: Form, dst: Register, src: Register, offset: i16) -> Fields
+    ensures fields { result ≡ fields (opcode_of form) dst src (bits16 offset) 0 }
+    ensures dst { result.dst < 16 }
+    ensures src { result.src < 16 }
+{
+    Fields {
+        dst: register_field(dst),
+        src: register_field(src),
+        offset: offset.cast_unsigned(),
+        ..bare(form)
+    }
+}
+
+/// The fields of a call, where `kind` tells a helper from a function of the program.
+fn call_fields(kind: u8, immediate: i32) -> Fields
+    requires { kind < 16 }
+    ensures fields { result ≡ fields (opcode_of known.Call) 0 kind 0 (bits32 immediate) }
+    ensures dst { result.dst < 16 }
+    ensures src { result.src < 16 }
+{
+    Fields {
+        src: kind,
+        immediate: immediate.cast_unsigned(),
+        ..bare(Form::Call)
+    }
+}
+
 /// The fields of an instruction, of its first slot where it has two.
 #[tactic(auto, unfolding(crate::specs::Spelling::fields_of))]
 fn instr_fields(instr: &Instr) -> Fields
@@ -194,179 +312,82 @@ fn instr_fields(instr: &Instr) -> Fields
             width,
             operator,
             dst,
-            source: Source::Immediate(n),
-        } => Fields {
-            opcode: opcode(Form::Arithmetic {
-                width: *width,
-                operator: *operator,
-                register: false,
-            }),
-            dst: dst.number() as u8,
-            src: 0,
-            offset: signed_offset(*operator),
-            immediate: n.cast_unsigned(),
-        },
-        Instr::Arithmetic {
-            width,
-            operator,
-            dst,
-            source: Source::Register(src),
-        } => Fields {
-            opcode: opcode(Form::Arithmetic {
-                width: *width,
-                operator: *operator,
-                register: true,
-            }),
-            dst: dst.number() as u8,
-            src: src.number() as u8,
-            offset: signed_offset(*operator),
-            immediate: 0,
-        },
+            source,
+        } => arithmetic_fields(*width, *operator, *dst, source),
         Instr::Negate { width, dst } => Fields {
-            opcode: opcode(Form::Negate { width: *width }),
-            dst: dst.number() as u8,
-            src: 0,
-            offset: 0,
-            immediate: 0,
+            dst: register_field(*dst),
+            ..bare(Form::Negate { width: *width })
         },
         Instr::SignExtend {
             extension,
             dst,
             src,
         } => Fields {
-            opcode: opcode(Form::Arithmetic {
+            dst: register_field(*dst),
+            src: register_field(*src),
+            offset: move_offset(*extension),
+            ..bare(Form::Arithmetic {
                 width: extension.width(),
                 operator: Operator::Mov,
                 register: true,
-            }),
-            dst: dst.number() as u8,
-            src: src.number() as u8,
-            offset: move_offset(*extension),
-            immediate: 0,
+            })
         },
         Instr::ByteOrder { order, size, dst } => Fields {
-            opcode: opcode(Form::ByteOrder { order: *order }),
-            dst: dst.number() as u8,
-            src: 0,
-            offset: 0,
+            dst: register_field(*dst),
             immediate: swap_bits(*size),
+            ..bare(Form::ByteOrder { order: *order })
         },
         Instr::Jump { offset } => Fields {
-            opcode: opcode(Form::Jump),
-            dst: 0,
-            src: 0,
             offset: offset.cast_unsigned(),
-            immediate: 0,
+            ..bare(Form::Jump)
         },
         Instr::LongJump { offset } => Fields {
-            opcode: opcode(Form::LongJump),
-            dst: 0,
-            src: 0,
-            offset: 0,
             immediate: offset.cast_unsigned(),
+            ..bare(Form::LongJump)
         },
         Instr::Branch {
             width,
             condition,
             dst,
-            source: Source::Immediate(n),
+            source,
             offset,
-        } => Fields {
-            opcode: opcode(Form::Branch {
-                width: *width,
-                condition: *condition,
-                register: false,
-            }),
-            dst: dst.number() as u8,
-            src: 0,
-            offset: offset.cast_unsigned(),
-            immediate: n.cast_unsigned(),
-        },
-        Instr::Branch {
-            width,
-            condition,
-            dst,
-            source: Source::Register(src),
-            offset,
-        } => Fields {
-            opcode: opcode(Form::Branch {
-                width: *width,
-                condition: *condition,
-                register: true,
-            }),
-            dst: dst.number() as u8,
-            src: src.number() as u8,
-            offset: offset.cast_unsigned(),
-            immediate: 0,
-        },
-        Instr::CallHelper { number } => Fields {
-            opcode: opcode(Form::Call),
-            dst: 0,
-            src: 0,
-            offset: 0,
-            immediate: number.cast_unsigned(),
-        },
-        Instr::Exit => Fields {
-            opcode: opcode(Form::Exit),
-            dst: 0,
-            src: 0,
-            offset: 0,
-            immediate: 0,
-        },
+        } => branch_fields(*width, *condition, *dst, source, *offset),
+        Instr::CallHelper { number } => call_fields(0, *number),
+        Instr::CallLocal { offset } => call_fields(1, *offset),
+        Instr::Exit => bare(Form::Exit),
         Instr::Load {
             size,
             dst,
             base,
             offset,
-        } => Fields {
-            opcode: opcode(Form::Load { size: *size }),
-            dst: dst.number() as u8,
-            src: base.number() as u8,
-            offset: offset.cast_unsigned(),
-            immediate: 0,
-        },
+        } => access_fields(Form::Load { size: *size }, *dst, *base, *offset),
         Instr::LoadSigned {
             size,
             dst,
             base,
             offset,
-        } => Fields {
-            opcode: opcode(Form::LoadSigned { size: *size }),
-            dst: dst.number() as u8,
-            src: base.number() as u8,
-            offset: offset.cast_unsigned(),
-            immediate: 0,
-        },
+        } => access_fields(Form::LoadSigned { size: *size }, *dst, *base, *offset),
         Instr::StoreImmediate {
             size,
             base,
             offset,
             immediate,
         } => Fields {
-            opcode: opcode(Form::StoreImmediate { size: *size }),
-            dst: base.number() as u8,
-            src: 0,
+            dst: register_field(*base),
             offset: offset.cast_unsigned(),
             immediate: immediate.cast_unsigned(),
+            ..bare(Form::StoreImmediate { size: *size })
         },
         Instr::Store {
             size,
             base,
             offset,
             src,
-        } => Fields {
-            opcode: opcode(Form::Store { size: *size }),
-            dst: base.number() as u8,
-            src: src.number() as u8,
-            offset: offset.cast_unsigned(),
-            immediate: 0,
-        },
+        } => access_fields(Form::Store { size: *size }, *base, *src, *offset),
         Instr::LoadImmediate { dst, value } => Fields {
-            opcode: opcode(Form::LoadImmediate),
-            dst: dst.number() as u8,
-            src: 0,
-            offset: 0,
+            dst: register_field(*dst),
             immediate: (*value % 0x1_0000_0000) as u32,
+            ..bare(Form::LoadImmediate)
         },
     }
 }

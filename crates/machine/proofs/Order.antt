@@ -11,8 +11,8 @@ use Rattle.helpers.specs.declared.helper.Helper.{Helper}
 use Rattle.helpers.specs.declared.helper.Helper.TheVariants as helper
 use Rattle.helpers.specs.Helper.{helper_of}
 use Rattle.machine.specs.declared.ByteAt.{ByteAt}
-use Rattle.machine.specs.State.{State}
-use Rattle.machine.specs.Step.{checks, call_checks}
+use Rattle.machine.specs.State.{State, Caller}
+use Rattle.machine.specs.Step.{checks, call_checks, caller_of, reads, returns_to}
 use Rattle.machine.specs.Laws.{AreInOrder, line_of, rises_from}
 
 abbrev InOrder : List (Check MachineFault) → Type 0
@@ -33,6 +33,10 @@ any_call : (program : List (Option Instr)) (bytes : ℕ → ByteAt) (s : State) 
 any_call program bytes s None = refl
 any_call program bytes s (Some h) = calls program bytes s h
 
+any_exit : (program : List (Option Instr)) (s : State) (found : Option Caller) → InOrder (reads s (0 ∷ []) ∷ returns_to program found)
+any_exit program s None = refl
+any_exit program s (Some c) = refl
+
 pub in_order : AreInOrder
 unfolding checks
 in_order program bytes s (instr.Arithmetic w o dst from) = refl
@@ -43,7 +47,8 @@ in_order program bytes s (instr.Jump distance) = refl
 in_order program bytes s (instr.LongJump distance) = refl
 in_order program bytes s (instr.Branch w c dst from distance) = refl
 in_order program bytes s (instr.CallHelper number) = any_call program bytes s (helper_of (cast_unsigned w32 number))
-in_order program bytes s instr.Exit = refl
+in_order program bytes s (instr.CallLocal distance) = refl
+in_order program bytes s instr.Exit = any_exit program s (caller_of s.frames)
 in_order program bytes s (instr.Load size dst base distance) = refl
 in_order program bytes s (instr.LoadSigned size dst base distance) = refl
 in_order program bytes s (instr.StoreImmediate size base distance n) = refl

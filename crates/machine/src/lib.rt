@@ -12,7 +12,7 @@
 //!   `holds` says whether a condition holds. `extended` and `in_order` are the moves that extend the
 //!   sign and the byte swaps.
 //! - `State`: what the machine holds between two steps, and the state at the start. The frames are a
-//!   list, the outermost first; until programs have functions of their own there is one.
+//!   list, the outermost first; each but the first has what its call saved.
 //! - `Memory`: `byte_at` is the memory, one partial function of addresses that answers a `ByteAt`.
 //!   An access is the list of its addresses, `loaded` the number that stands there, `stored` the
 //!   frames when bytes were written.
