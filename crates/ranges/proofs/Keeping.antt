@@ -29,7 +29,7 @@ use Rattle.ranges.specs.declared.place.Place.{Place}
 use Rattle.ranges.specs.declared.place.Place.TheVariants as place
 use Rattle.ranges.specs.Kinds.{Kind, Unset, Num, Ctx, Stack, Sector, is_pointer}
 use Rattle.ranges.specs.Groups.{GroupKind, Marked, Spilled, map_places}
-use Rattle.ranges.specs.States.{Abstract}
+use Rattle.ranges.specs.States.{Abstract, start}
 use Rattle.ranges.specs.Pointers.{offset_in, offsets_in, moved_offset, moved_place, moved_offsets, moved}
 use Rattle.ranges.specs.Reading.{value, second, with_value, with_groups, words, any_word}
 use Rattle.ranges.specs.Places.{place_of, is_group}
@@ -37,10 +37,10 @@ use Rattle.intervals.specs.Edges.{refined}
 use Rattle.intervals.specs.Laws.{Shrinks}
 use Rattle.intervals.proofs.Edges.{refined_shrinks}
 use Rattle.ranges.specs.Rules.{length_of, is_null_test}
-use Rattle.ranges.specs.Passing.{edge_of, with_both, tested_kind, is_equal_edge}
+use Rattle.ranges.specs.Passing.{edge_of, with_both, tested_kind, is_equal_edge, given, entry_state}
 use Rattle.ranges.specs.After.{computed, result_kind, context_word, any_of, group_value, loaded_kind, is_touched, marks_after, group_after, written, written_at, stored_groups, answer_kind, answered, copied_state, call_after, after_of}
 use Rattle.ranges.specs.Order.{IsBounded, IsGroup, Each, IsState, Holds}
-use Rattle.ranges.proofs.Fitting.{each_set, each_get}
+use Rattle.ranges.proofs.Fitting.{each_set, each_get, start_fits}
 
 holds_if : {X : Type 0} (P : X → Type 0) (b : Bool) (x : X) → (b ≡ true → P x) → Holds P (if b then Some x else None)
 holds_if P true x f = f refl
@@ -291,6 +291,7 @@ after_fits sectors s (instr.CallHelper number) h r a = by_helper (helper_of (cas
     by_helper : (m : Option Helper) → IsState (option_map_or (call_after s) m (answered s (Num any_word)))
     by_helper None = answered_fits s (Num any_word) any_fits a
     by_helper (Some x) = call_fits s x a
+after_fits sectors s (instr.CallLocal distance) h r a = answered_fits s (Num any_word) any_fits a
 after_fits sectors s instr.Exit h r a = a
 after_fits sectors s (instr.Load size dst base distance) h r a =
     with_value_fits s dst (loaded_kind sectors s.groups (place_of (value s base) distance (byte_count size)) (byte_count size)) (loaded_fits sectors s.groups (place_of (value s base) distance (byte_count size)) size h a.groups) a
@@ -328,3 +329,20 @@ edge_fits s (instr.Branch w c dst from distance) taken r a = by_test (is_null_te
         refined_state_fits s dst from (words (value s dst)) (words (second s from)) (refined (instr.Branch w c dst from distance) taken (words (value s dst)) (words (second s from)))
         (refined_shrinks (instr.Branch w c dst from distance) taken (words (value s dst)) (words (second s from)) (words_fit (value s dst) (value_fits s dst a)) (words_fit (second s from) (second_fits s from r.1 a))) a
 edge_fits s _ taken r a = a
+
+-- the entry of a local function
+
+given_fits : (k : Kind) → IsBounded k → IsBounded (given k)
+given_fits (Num x) h = h
+given_fits _ h = tt
+
+pub entry_fits : (s : Abstract) → IsState s → IsState (entry_state s)
+unfolding entry_state start
+entry_fits s a =
+    let g = λ (r : ℕ). given_fits (value s r) (value_fits s r a) in
+    record {
+      values = (tt, (g 1, (g 2, (g 3, (g 4, (g 5, (tt, (tt, (tt, (tt, (omega arith, tt)))))))))));
+      groups = start_fits.groups;
+      registers = refl;
+      stack = start_fits.stack;
+    }

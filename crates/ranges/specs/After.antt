@@ -104,7 +104,7 @@ answer_kind helper.Zero = Num (span 0 2)
 answer_kind helper.Same = Num (span 0 2)
 answer_kind helper.Mix = Num any_word
 
--- a call answers in register 0 and unsets registers 1 to 5
+-- a call answers in register 0 and unsets registers 1 to 5; of a local function any word
 abbrev pub answered : Abstract → Kind → Abstract
 answered s k =
     with_value (with_value (with_value (with_value (with_value (with_value s 0 k) 1 Unset) 2 Unset) 3 Unset) 4 Unset) 5 Unset
@@ -137,6 +137,7 @@ after_of sectors s (instr.StoreImmediate size base distance n) = store_after s (
 after_of sectors s (instr.Store size base distance src) = store_after s (value s src) size base distance
 after_of sectors s (instr.LoadImmediate dst x) = with_value s dst (Num (only x))
 after_of sectors s (instr.CallHelper number) = option_map_or (call_after s) (helper_of (cast_unsigned w32 number)) (answered s (Num any_word))
+after_of sectors s (instr.CallLocal distance) = answered s (Num any_word)
 after_of sectors s (instr.Jump distance) = s
 after_of sectors s (instr.LongJump distance) = s
 after_of sectors s (instr.Branch w c dst from distance) = s

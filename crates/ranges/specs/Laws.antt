@@ -8,7 +8,7 @@ use Rattle.bpf_isa.specs.declared.instr.Condition.{Condition}
 use Rattle.ranges.specs.Rules.{compares}
 use Rattle.bpf_isa.specs.Spelling.{IsInRange, IsSourceInRange}
 use Rattle.ranges.specs.After.{after_of}
-use Rattle.ranges.specs.Passing.{edge_of}
+use Rattle.ranges.specs.Passing.{edge_of, entry_state}
 use Rattle.ranges.specs.Kinds.{Kind, join, round, Contains}
 use Rattle.ranges.specs.States.{Abstract, join_state, round_state, StateContains, start}
 use Rattle.ranges.specs.Order.{Under, StateUnder, IsBounded, IsState, Holds, EdgeUnder}
@@ -48,6 +48,7 @@ pub record StatesFit : Type 0 where
   pub round : (s : Abstract) → IsState s → IsState (round_state s)
   pub after : (sectors : ℕ) (s : Abstract) (i : Instr) → sectors < 2 ^ 64 → IsInRange i → IsState s → IsState (after_of sectors s i)
   pub edge : (s : Abstract) (i : Instr) (taken : Bool) → IsInRange i → IsState s → Holds IsState (edge_of s i taken)
+  pub entry : (s : Abstract) → IsState s → IsState (entry_state s)
 
 -- where the larger of two states keeps the rule of a conditional jump, the smaller one passes a
 -- smaller state along each edge, and none where the larger passes none

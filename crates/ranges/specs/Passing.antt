@@ -10,8 +10,8 @@ use Rattle.bpf_isa.specs.declared.instr.Condition.TheVariants as cond
 use Rattle.bpf_isa.specs.Slots.{target_slot}
 use Rattle.intervals.specs.Spans.{Span, only}
 use Rattle.intervals.specs.Edges.{refined}
-use Rattle.ranges.specs.Kinds.{Kind, Num, Sector}
-use Rattle.ranges.specs.States.{Abstract}
+use Rattle.ranges.specs.Kinds.{Kind, Unset, Num, Stack, Sector}
+use Rattle.ranges.specs.States.{Abstract, unset_groups}
 use Rattle.ranges.specs.Reading.{value, second, with_value, words}
 use Rattle.ranges.specs.Rules.{is_null_test}
 use Rattle.ranges.specs.After.{after_of}
@@ -47,12 +47,28 @@ edge_of s (instr.ByteOrder o size dst) taken = Some s
 edge_of s (instr.Jump distance) taken = Some s
 edge_of s (instr.LongJump distance) taken = Some s
 edge_of s (instr.CallHelper number) taken = Some s
+edge_of s (instr.CallLocal distance) taken = Some s
 edge_of s instr.Exit taken = Some s
 edge_of s (instr.Load size dst base distance) taken = Some s
 edge_of s (instr.LoadSigned size dst base distance) taken = Some s
 edge_of s (instr.StoreImmediate size base distance n) taken = Some s
 edge_of s (instr.Store size base distance src) taken = Some s
 edge_of s (instr.LoadImmediate dst x) taken = Some s
+
+-- what a local function is given of a register: a number, and no pointer
+abbrev pub given : Kind → Kind
+given (Num x) = Num x
+given _ = Unset
+
+-- The state at the entry of a local function: registers 1 to 5 where they are numbers, the end of a
+-- stack of its own, and nothing else of its caller.
+unfoldable pub entry_state : Abstract → Abstract
+entry_state s = record {
+  values =
+      Unset ∷ given (value s 1) ∷ given (value s 2) ∷ given (value s 3) ∷ given (value s 4) ∷ given (value s 5)
+      ∷ Unset ∷ Unset ∷ Unset ∷ Unset ∷ Stack 512 ∷ [];
+  groups = unset_groups;
+}
 
 -- a state that is passed to a slot, if it is
 abbrev pub sent : ℕ → Option Abstract → List (ℕ × Abstract)
@@ -72,6 +88,8 @@ passes sectors s slot (instr.Branch w c dst from distance) =
     sent (slot + 1) (edge_of s (instr.Branch w c dst from distance) false)
     ++ sent (target_slot slot distance) (edge_of s (instr.Branch w c dst from distance) true)
 passes sectors s slot instr.Exit = []
+passes sectors s slot (instr.CallLocal distance) =
+    (slot + 1, after_of sectors s (instr.CallLocal distance)) ∷ (target_slot slot distance, entry_state s) ∷ []
 passes sectors s slot (instr.LoadImmediate dst x) = (slot + 2, after_of sectors s (instr.LoadImmediate dst x)) ∷ []
 passes sectors s slot (instr.Arithmetic w o dst from) = behind sectors s slot (instr.Arithmetic w o dst from)
 passes sectors s slot (instr.Negate w dst) = behind sectors s slot (instr.Negate w dst)

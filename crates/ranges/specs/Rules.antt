@@ -131,6 +131,7 @@ rules s (instr.Branch w c dst from distance) =
     ∷ check cause.PointerAsNumber (compares s w c dst from)
     ∷ []
 rules s (instr.CallHelper number) = option_map_or (call_rules s) (helper_of (cast_unsigned w32 number)) []
+rules s (instr.CallLocal distance) = []
 rules s instr.Exit = reads s (0 ∷ []) ∷ check cause.PointerAsNumber (is_number (value s 0)) ∷ []
 rules s (instr.Load size dst base distance) = load_rules s base distance (byte_count size)
 rules s (instr.LoadSigned size dst base distance) = load_rules s base distance (byte_count (plain_size size))

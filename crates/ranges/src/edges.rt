@@ -1,16 +1,17 @@
-//! What is known on the edges of a conditional jump.
+//! What is known on the edges of a conditional jump, and at the entry of a local function.
 
 ghost use Rattle.std.specs.Prelude.{◌≡◌, IsTrue};
 ghost use Rattle.std.specs.Option.{option_map};
 ghost use Rattle.intervals.specs.Seen.{span_of, spans_of};
 ghost use Rattle.intervals.specs.Edges.{is_branch};
-ghost use Rattle.ranges.specs.Passing.{is_equal_edge, tested_kind, with_second, with_both, edge_of};
+ghost use Rattle.ranges.specs.Passing.{is_equal_edge, tested_kind, with_second, with_both, edge_of, given, entry_state};
 ghost use Rattle.ranges.specs.Seen.{kind_of};
 ghost use Rattle.ranges.specs.SeenStates.{state_of};
 
+use crate::group::UNSET;
 use crate::rules::is_null_test;
 use crate::state::State;
-use crate::value::{SectorOffsets, Value};
+use crate::value::{SectorOffsets, StackOffset, Value};
 use bpf_isa::instr::{Condition, Instr, Source};
 use bpf_isa::register::Register;
 use intervals::{Range, refine};
@@ -88,11 +89,48 @@ pub fn branch(instr: &Instr, taken: bool, state: &State) -> Option<State>
         | Instr::Jump { .. }
         | Instr::LongJump { .. }
         | Instr::CallHelper { .. }
+        | Instr::CallLocal { .. }
         | Instr::Exit
         | Instr::Load { .. }
         | Instr::LoadSigned { .. }
         | Instr::StoreImmediate { .. }
         | Instr::Store { .. }
         | Instr::LoadImmediate { .. } => Some(*state),
+    }
+}
+
+/// What a local function is given of a register: a number, and no pointer.
+fn given(value: Value) -> Value
+    ensures { kind_of result ≡ given (kind_of value) }
+{
+    match value {
+        Value::Num(_) => value,
+        _ => Value::Unset,
+    }
+}
+
+/// The state at the entry of a local function that is called at a state: r1 to r5 where they are
+/// numbers, r10 the end of a stack of its own, and nothing else.
+#[tactic(auto, unfolding(crate::specs::Passing::entry_state, crate::specs::States::unset_groups))]
+pub fn entry(state: &State) -> State
+    ensures { state_of result ≡ entry_state (state_of state.now) }
+{
+    let unset = Value::Unset;
+    let stack = Value::Stack(StackOffset { offset: 512 });
+    State {
+        values: [
+            unset,
+            given(state.at(1)),
+            given(state.at(2)),
+            given(state.at(3)),
+            given(state.at(4)),
+            given(state.at(5)),
+            unset,
+            unset,
+            unset,
+            unset,
+            stack,
+        ],
+        groups: [UNSET; 64],
     }
 }

@@ -185,7 +185,8 @@ fn store_after(state: &State, stored: Value, size: Size, base: Register, offset:
 }
 
 /// The state behind an instruction at whose state no rule is broken, on a device of so many sectors.
-/// A jump leaves the state as it is, and so does the end of a program.
+/// Behind a local call r0 is any word. A jump leaves the state as it is, and so does the end of a
+/// function.
 #[tactic(auto, unfolding(crate::specs::After::after_of))]
 pub fn after(instr: &Instr, state: &State, sectors: u32) -> State
     ensures { state_of result ≡ after_of sectors (state_of state.now) instr.now }
@@ -236,6 +237,7 @@ pub fn after(instr: &Instr, state: &State, sectors: u32) -> State
             Some(helper) => call_after(state, helper),
             None => answered(state, Value::Num(Range::full())),
         },
+        Instr::CallLocal { .. } => answered(state, Value::Num(Range::full())),
         Instr::Jump { .. } | Instr::LongJump { .. } | Instr::Branch { .. } | Instr::Exit => *state,
     }
 }

@@ -15,6 +15,7 @@
 //! | `check(&instr, &state)` | that each rule of the instruction holds, or the first that is broken |
 //! | `after(&instr, &state, sectors)` | the state behind an instruction that is no conditional jump |
 //! | `branch(&instr, taken, &state)` | the state on an edge of a conditional jump, None where no machine goes that way |
+//! | `entry(&state)` | the state at the entry of a local function that is called there |
 //!
 //! No call takes memory, and none refuses but by its answer. `after` and `branch` are meant for an
 //! instruction that breaks no rule at the state; at another they answer what their definition says,
@@ -37,15 +38,16 @@
 //!   `specs/Kinds.antt`, `specs/Groups.antt` and `specs/States.antt`.
 //! - `check` answers the first failing one of the list `rules` (`specs/Rules.antt`), which has the
 //!   rules of each form of instruction in their order.
-//! - `after` is exactly `after_of` (`specs/After.antt`), and `branch` exactly `edge_of`
-//!   (`specs/Passing.antt`). `passes` there says to which slots what state is passed, for the crate
-//!   above.
+//! - `after` is exactly `after_of` (`specs/After.antt`), `branch` exactly `edge_of` and `entry` exactly
+//!   `entry_state` (`specs/Passing.antt`). `passes` there says to which slots what state is passed, for
+//!   the crate above. A local call passes two: what is kept behind it to the next slot, and what its
+//!   function gets to the entry.
 //! - `join_is_least`, `states_join`: a join holds all that either does, and is the least that does;
 //!   one state contains another just where it holds all that the other does, register by register and
 //!   byte by byte (`specs/Order.antt`).
 //! - `round_contains`, `states_round`: rounding loses nothing, and keeps the order.
 //! - `start_fits`, `states_fit`: the state at the start is within the bounds of states (`IsState`), and
-//!   so is what is made of states by joins, rounding, instructions and edges.
+//!   so is what is made of states by joins, rounding, instructions, edges and local calls.
 //!
 //! - `edges_are_monotone`: on the edges of a conditional jump whose rule the larger of two states keeps,
 //!   the smaller one passes a smaller state, and none where the larger passes none.
@@ -59,7 +61,7 @@
 //! - `pointers`: what an addition makes of a pointer. `place`: where an access falls. `bytes`: what is
 //!   known of the bytes there. `writes`: stores.
 //! - `reads`, `rules`: the rules, one function a form. Their causes are those of `base`.
-//! - `effects` and `edges`: `after` and `branch`.
+//! - `effects` and `edges`: `after`, `branch` and `entry`.
 //! - `laws`: the laws, contracts of functions that do nothing.
 //!
 //! # Example
@@ -89,7 +91,7 @@ mod value;
 mod writes;
 
 pub use byte_marks::ByteMarks;
-pub use edges::branch;
+pub use edges::{branch, entry};
 pub use effects::after;
 pub use group::Group;
 pub use rules::check;

@@ -248,7 +248,10 @@ pub fn broken_rule(instr: &Instr, state: &State) -> Option<VerifierCause>
         Instr::Negate { dst, .. } => register_breach(state, *dst),
         Instr::SignExtend { src, .. } => register_breach(state, *src),
         Instr::ByteOrder { dst, .. } => register_breach(state, *dst),
-        Instr::Jump { .. } | Instr::LongJump { .. } | Instr::LoadImmediate { .. } => None,
+        Instr::Jump { .. }
+        | Instr::LongJump { .. }
+        | Instr::CallLocal { .. }
+        | Instr::LoadImmediate { .. } => None,
         Instr::Branch {
             width,
             condition,
