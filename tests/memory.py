@@ -6,7 +6,8 @@
 PROGRAM is as in run.py. A C compiler (`cc`, `gcc` or `clang`) builds `refuse.c` beside this script, which is loaded before
 the program and refuses its Nth call of `malloc`, `calloc` or `realloc`. Each row below is run with N = 1, 2, .. until a run
 asks for fewer than N. The answer is then either what the row says, byte by byte, or want of memory: nothing on standard
-output, status 2, and on standard error one line, a refusal with a cause for memory at 0 or `error: out of memory`.
+output, status 2, and on standard error one line, a refusal with a cause for memory at 0 or `error: out of memory`. Notes
+below a refusal are left out where there is no memory for them.
 
 Rows are those of run.py, by name, with the number of allocations that a run makes, so that a new allocation is noticed;
 None where workers side by side make it vary. What is printed is as in run.py: a line for each row that failed, and last
@@ -24,7 +25,7 @@ from pathlib import Path
 sys.dont_write_bytecode = True
 
 from notation import SECONDS, TESTS, TOP
-from run import Assembler, all_rows, made, put, shortened
+from run import Assembler, all_rows, made, put, shortened, split_notes
 
 WANT_OF_MEMORY = re.compile(rb"refused (11|26|35|60|72) at 0( of program [0-7])?\n|error: out of memory\n")
 
@@ -95,13 +96,14 @@ def run_refusing(program, library, row, folder, number):
 
 
 def is_right(done, row):
-    return (done.returncode, done.stdout) == (row.status, made(row.out)) and done.stderr == made(
-        f"{row.error}\n" if row.error else ""
-    )
+    """What the row says; notes may be left out."""
+    error, _notes = split_notes(done.stderr)
+    return (done.returncode, done.stdout, error) == (row.status, made(row.out), made(f"{row.error}\n" if row.error else ""))
 
 
 def is_want_of_memory(done):
-    return done.returncode == 2 and not done.stdout and WANT_OF_MEMORY.fullmatch(done.stderr) is not None
+    error, _notes = split_notes(done.stderr)
+    return done.returncode == 2 and not done.stdout and WANT_OF_MEMORY.fullmatch(error) is not None
 
 
 def swept(program, library, row, wanted, assembler):

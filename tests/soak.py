@@ -29,7 +29,7 @@ sys.dont_write_bytecode = True
 
 from memory import WANT_OF_MEMORY
 from notation import SECTOR, TOP, Assembly
-from run import Assembler, all_rows, made, shortened
+from run import Assembler, all_rows, made, shortened, split_notes
 
 LIMIT = 20
 MEMORY = 128 << 20
@@ -154,13 +154,14 @@ def made_run(stock, seed, number):
 
 def wrong(words, done):
     """What isn't as expected of a run that ended, or None."""
-    if WANT_OF_MEMORY.fullmatch(done.stderr):
+    error, _notes = split_notes(done.stderr)
+    if WANT_OF_MEMORY.fullmatch(error):
         return "not enough memory"
     if done.returncode not in (0, 1, 2) or done.returncode == 1 and words[0] != "explore":
         return f"status {done.returncode}"
-    if done.returncode == 2 and (done.stdout or not done.stderr.endswith(b"\n")):
+    if done.returncode == 2 and (done.stdout or not error.endswith(b"\n")):
         return f"status 2 with {len(done.stdout)} bytes, standard error '{shortened(done.stderr)}'"
-    if done.returncode != 2 and any(not line.startswith(b"note: ") for line in done.stderr.splitlines()):
+    if done.returncode != 2 and error:
         return f"status {done.returncode} with standard error '{shortened(done.stderr)}'"
     return None
 
