@@ -1,5 +1,5 @@
 -- What follows from the rules that look at one slot.
-use Rattle.std.proofs.Common.{ℕ, ◌≡◌, ◌<◌, ◌≤◌, true, false, List, length, slice_get, Option, Some, None, refl, sym, ◌∙◌, ap, inl, inr, arith}
+use Rattle.std.proofs.Common.{ℕ, ◌≡◌, ◌<◌, ◌≤◌, Bool, true, false, ◌&&◌, List, length, slice_get, Option, Some, None, refl, sym, ◌∙◌, ap, inl, inr, arith}
 use Rattle.std.specs.Option.{option_map_or, option_and_then}
 use Rattle.std.proofs.lemmas.Bool.{cases_Bool, cases_lt}
 use Rattle.std.proofs.lemmas.Option.{slice_get_past}
@@ -12,9 +12,10 @@ use Rattle.base.specs.declared.causes.VerifierCause.TheVariants as cause
 use Rattle.bpf_shape.specs.declared.fault.Fault.{Fault}
 use Rattle.bpf_isa.specs.Slots.{at}
 use Rattle.bpf_shape.specs.Edges.{begins, edges_of, control, no_edges}
+use Rattle.bpf_shape.specs.Calls.{callee_of, callee}
 use Rattle.bpf_shape.specs.Again.{calls_again, answer_test, others_of, plain}
 use Rattle.bpf_shape.specs.Paths.{Leads, OnCycle}
-use Rattle.bpf_shape.specs.Search.{EdgesFit}
+use Rattle.bpf_shape.specs.Search.{EdgesFit, EntriesFit}
 use Rattle.bpf_shape.specs.Rules.{keeps, IsOver, Breaks, Holds, IsLowest, FirstBroken}
 use Rattle.bpf_shape.specs.Keeping.{IsOfSlots, IsBrokenAt, KeepsAll}
 
@@ -28,6 +29,10 @@ pub control_past : (program : List (Option Instr)) (s : ℕ) → length program 
 unfolding control
 control_past program s past = ap (λ (x : Option Instr). option_map_or (edges_of s) x no_edges) (at_past program s past)
 
+pub callee_past : (program : List (Option Instr)) (s : ℕ) → length program ≤ s → callee program s ≡ None
+unfolding callee
+callee_past program s past = ap (λ (x : Option Instr). option_and_then (callee_of s) x) (at_past program s past)
+
 calls_past : (program : List (Option Instr)) (s : ℕ) → length program ≤ s → calls_again program s ≡ false
 unfolding calls_again
 calls_past program s past = rw (at_past program s past) refl
@@ -35,7 +40,7 @@ calls_past program s past = rw (at_past program s past) refl
 -- a rule of one slot holds there
 keeps_past : (program : List (Option Instr)) (c : VerifierCause) (s : ℕ) → length program ≤ s → keeps program c s ≡ true
 unfolding keeps
-keeps_past program cause.Target s past = rw (control_past program s past) refl
+keeps_past program cause.Target s past = rw (control_past program s past, callee_past program s past) refl
 keeps_past program cause.End s past = rw (control_past program s past) refl
 keeps_past program cause.FramePointer s past = rw (at_past program s past) refl
 keeps_past program cause.UnknownHelper s past = rw (at_past program s past) refl
@@ -67,12 +72,30 @@ leads_inside program o t holds e =
       | inr not_is ↦ absurd (holds (rw (e, not_is) refl))
     ]
 
+-- where one of two tests fails, both do
+either : (a b : Bool) → ((a && b) ≡ false → ⊥) → (a ≡ false → ⊥) × (b ≡ false → ⊥)
+either true b h = (λ bad. let worse : true ≡ false = bad in cc, h)
+either false b h = absurd (h refl)
+
+targets_begin : (program : List (Option Instr)) (s : ℕ) → Holds program cause.Target
+    → (option_map_or (begins program) (control program s).target true ≡ false → ⊥) × (option_map_or (begins program) (callee program s) true ≡ false → ⊥)
+unfolding Breaks keeps
+targets_begin program s targets =
+    either (option_map_or (begins program) (control program s).target true) (option_map_or (begins program) (callee program s) true) (targets s)
+
 -- each control edge leads to a slot in which an instruction begins
 pub edges_begin : (program : List (Option Instr)) → Holds program cause.Target → Holds program cause.End → (s t : ℕ) → Leads (control program s) t
     → begins program t ≡ true
 unfolding Breaks keeps
 edges_begin program targets ends s t (inl h) = leads_inside program (control program s).next t (ends s) h
-edges_begin program targets ends s t (inr h) = leads_inside program (control program s).target t (targets s) h
+edges_begin program targets ends s t (inr h) = leads_inside program (control program s).target t (targets_begin program s targets).0 h
+
+-- and so does each local call
+pub entries_begin : (program : List (Option Instr)) → Holds program cause.Target → (s t : ℕ) → callee program s ≡ Some t → begins program t ≡ true
+entries_begin program targets s t h = leads_inside program (callee program s) t (targets_begin program s targets).1 h
+
+pub entries_fit : (program : List (Option Instr)) → Holds program cause.Target → EntriesFit program
+entries_fit program targets s t h = begins_inside program t (entries_begin program targets s t h)
 
 pub control_fits : (program : List (Option Instr)) → KeepsAll program → EdgesFit (control program) (length program)
 control_fits program kept s t h = begins_inside program t (edges_begin program kept.targets kept.ends s t h)
@@ -97,12 +120,14 @@ plain_fits program kept s t h = control_fits program kept s t (plain_is_control 
 breaks_of : (program : List (Option Instr)) (c : VerifierCause) (s : ℕ) → IsOfSlots c → keeps program c s ≡ false → Breaks program c s
 unfolding Breaks
 breaks_of program cause.Loop s of h = absurd of
+breaks_of program cause.CallDepth s of h = absurd of
 breaks_of program cause.Budget s of h = absurd of
 breaks_of program _ s of h = h
 
 of_breaks : (program : List (Option Instr)) (c : VerifierCause) (s : ℕ) → IsOfSlots c → Breaks program c s → keeps program c s ≡ false
 unfolding Breaks
 of_breaks program cause.Loop s of h = absurd of
+of_breaks program cause.CallDepth s of h = absurd of
 of_breaks program cause.Budget s of h = absurd of
 of_breaks program _ s of h = h
 
@@ -147,11 +172,15 @@ module _ (program : List (Option Instr)) (f : Fault) where
   unfolding FirstBroken
   first_loop k b = inr (k.targets, inr (k.ends, inr (k.frame_pointer, inr (k.helpers, inr (k.again, inl (b.code, b.lowest))))))
 
-pub first_budget : (program : List (Option Instr)) → KeepsAll program → Holds program cause.Loop → IsOver program → FirstBroken program cause.Budget 0
+  pub first_calls : KeepsAll program → Holds program cause.Loop → IsBrokenAt program cause.CallDepth f → FirstBroken program f.code f.slot
+  unfolding FirstBroken
+  first_calls k loops b = inr (k.targets, inr (k.ends, inr (k.frame_pointer, inr (k.helpers, inr (k.again, inr (loops, inl (b.code, b.lowest)))))))
+
+pub first_budget : (program : List (Option Instr)) → KeepsAll program → Holds program cause.Loop → Holds program cause.CallDepth → IsOver program → FirstBroken program cause.Budget 0
 unfolding FirstBroken Breaks
-first_budget program k loops over =
+first_budget program k loops calls over =
     let lowest : IsLowest program cause.Budget 0 = record { breaks = (refl, over); lowest = λ t less _. absurd (omega (arith, less)) } in
-    inr (k.targets, inr (k.ends, inr (k.frame_pointer, inr (k.helpers, inr (k.again, inr (loops, inl (refl, lowest)))))))
+    inr (k.targets, inr (k.ends, inr (k.frame_pointer, inr (k.helpers, inr (k.again, inr (loops, inr (calls, inl (refl, lowest))))))))
 
 pub lowest_loop : (program : List (Option Instr)) (s : ℕ) → OnCycle (plain program) s → ((t : ℕ) → t < s → OnCycle (plain program) t → ⊥)
     → IsLowest program cause.Loop s

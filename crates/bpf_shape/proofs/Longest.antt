@@ -8,7 +8,8 @@ use Rattle.std.proofs.lemmas.Map.Steps.{length-le_from_distinct_below}
 use Rattle.bpf_shape.specs.declared.edges.Edges.{Edges}
 use Rattle.bpf_shape.specs.Paths.{Leads, IsWalk, end_of, LeadsTo, OnCycle}
 use Rattle.bpf_shape.specs.Search.{EdgesFit, Has}
-use Rattle.bpf_shape.specs.Lengths.{length_of, behind_edge, length_from, ArePartial, AreSettled}
+use Rattle.bpf_shape.specs.Weights.{path_weight}
+use Rattle.bpf_shape.specs.Lengths.{weight_at, length_of, behind_edge, length_from, ArePartial, AreSettled}
 use Rattle.bpf_shape.proofs.Walks.{leads_first}
 use Rattle.bpf_shape.proofs.Partial.{Comes, comes}
 
@@ -16,84 +17,91 @@ nothing : IsDistinct eqb []
 unfolding IsDistinct
 nothing = tt
 
--- Behind an edge stands a smaller length.
-smaller : (v : List (Option ℕ)) (e : Edges) (k t : ℕ) → Comes v e k → Leads e t → (j : ℕ) × ((length_of v t ≡ Some j) × (j + 1 ≤ k))
-smaller v e k t c (inl h) = (c.next, (let there : behind_edge v (Some t) ≡ Some c.next = rw h at c.next_is in there, omega (arith, c.sum)))
-smaller v e k t c (inr h) = (c.target, (let there : behind_edge v (Some t) ≡ Some c.target = rw h at c.target_is in there, omega (arith, c.sum)))
+-- Behind an edge stands a length that is smaller by the weight.
+smaller : (w : ℕ) (v : List (Option ℕ)) (e : Edges) (k t : ℕ) → Comes w v e k → Leads e t → (j : ℕ) × ((length_of v t ≡ Some j) × (w + j ≤ k))
+smaller w v e k t c (inl h) = (c.next, (let there : behind_edge v (Some t) ≡ Some c.next = rw h at c.next_is in there, omega (arith, c.sum)))
+smaller w v e k t c (inr h) = (c.target, (let there : behind_edge v (Some t) ≡ Some c.target = rw h at c.target_is in there, omega (arith, c.sum)))
 
--- Along a walk the lengths fall.
-pub down : (next : ℕ → Edges) (n : ℕ) (v : List (Option ℕ)) (s k : ℕ) (p : List ℕ) → ArePartial next n v → length_of v s ≡ Some k → IsWalk next s p
-    → (j : ℕ) × ((length_of v (end_of s p) ≡ Some j) × (j + length p ≤ k))
-down next n v s k [] part is walk = (k, (is, omega arith))
-down next n v s k (t ∷ p) part is walk =
-    let one = smaller v (next s) k t (comes v (next s) k (part.right s k is)) walk.0 in
-    let rest = down next n v t one.0 p part one.1.0 walk.1 in
-    (rest.0, (rest.1.0, omega (arith, one.1.1, rest.1.1)))
+module _ (next : ℕ → Edges) (n : ℕ) (ws : List ℕ) (v : List (Option ℕ)) (part : ArePartial next n ws v) where
+  come : (s k : ℕ) → length_of v s ≡ Some k → Comes (weight_at ws s) v (next s) k
+  come s k is = comes (weight_at ws s) v (next s) k (part.right s k is)
 
--- So no path is longer,
-pub no_longer : (next : ℕ → Edges) (n : ℕ) (v : List (Option ℕ)) (s k : ℕ) (p : List ℕ) → ArePartial next n v → length_of v s ≡ Some k → IsWalk next s p
-    → suc (length p) ≤ k
-no_longer next n v s k p part is walk =
-    let last = down next n v s k p part is walk in
-    let c = comes v (next (end_of s p)) last.0 (part.right (end_of s p) last.0 last.1.0) in
-    omega (arith, c.sum, last.1.1)
+  -- No path weighs more than the length of its slot.
+  pub no_longer : (s k : ℕ) (p : List ℕ) → length_of v s ≡ Some k → IsWalk next s p → path_weight (weight_at ws) s p ≤ k
+  no_longer s k [] is walk = let c = come s k is in omega (arith, c.sum)
+  no_longer s k (t ∷ p) is walk =
+      let one = smaller (weight_at ws s) v (next s) k t (come s k is) walk.0 in
+      let rest = no_longer t one.0 p one.1.0 walk.1 in
+      omega (arith, one.1.1, rest)
 
--- and the slot is on no cycle.
-pub no_cycle : (next : ℕ → Edges) (n : ℕ) (v : List (Option ℕ)) (s k : ℕ) → ArePartial next n v → length_of v s ≡ Some k → OnCycle next s → ⊥
-no_cycle next n v s k part is cycle =
-    let last = down next n v s k (cycle.first ∷ cycle.on.slots) part is (cycle.leads, cycle.on.walk) in
-    let back : length_of v s ≡ Some last.0 = sym (ap (length_of v) cycle.on.ends) ∙ last.1.0 in
-    let same : Some k ≡ Some last.0 = sym is ∙ back in
-    let same_too : k ≡ last.0 = cc in
-    let long : length (cycle.first ∷ cycle.on.slots) ≡ suc (length cycle.on.slots) = refl in
-    omega (arith, same_too, last.1.1, long)
+  -- Along a walk the lengths fall.
+  down : (s k : ℕ) (p : List ℕ) → length_of v s ≡ Some k → IsWalk next s p → (j : ℕ) × ((length_of v (end_of s p) ≡ Some j) × (j + length p ≤ k))
+  down s k [] is walk = (k, (is, omega arith))
+  down s k (t ∷ p) is walk =
+      let one = smaller (weight_at ws s) v (next s) k t (come s k is) walk.0 in
+      let rest = down t one.0 p one.1.0 walk.1 in
+      let heavy = part.heavy.least s in
+      (rest.0, (rest.1.0, omega (arith, one.1.1, rest.1.1, heavy)))
 
--- An edge leads to a slot whose length is smaller by one, or there is none.
-chosen_by : (v : List (Option ℕ)) (e : Edges) (k : ℕ) (next target : Option ℕ) → e.next ≡ next → e.target ≡ target → (c : Comes v e k)
-    → (k ≡ 1) ⊎ ((t : ℕ) × (Leads e t × (length_of v t ≡ Some (k - 1))))
-chosen_by v e k None None x y c =
+  -- So the slot is on no cycle.
+  pub no_cycle : (s k : ℕ) → length_of v s ≡ Some k → OnCycle next s → ⊥
+  no_cycle s k is cycle =
+      let last = down s k (cycle.first ∷ cycle.on.slots) is (cycle.leads, cycle.on.walk) in
+      let back : length_of v s ≡ Some last.0 = sym (ap (length_of v) cycle.on.ends) ∙ last.1.0 in
+      let same : Some k ≡ Some last.0 = sym is ∙ back in
+      let same_too : k ≡ last.0 = cc in
+      let long : length (cycle.first ∷ cycle.on.slots) ≡ suc (length cycle.on.slots) = refl in
+      omega (arith, same_too, last.1.1, long)
+
+-- An edge leads to a slot whose length is smaller by the weight, or there is none.
+chosen_by : (w : ℕ) (v : List (Option ℕ)) (e : Edges) (k : ℕ) (next target : Option ℕ) → e.next ≡ next → e.target ≡ target → (c : Comes w v e k)
+    → (k ≡ w) ⊎ ((t : ℕ) × (Leads e t × (length_of v t ≡ Some (k - w))))
+chosen_by w v e k None None x y c =
     let a : Some 0 ≡ Some c.next = rw x at c.next_is in
     let b : Some 0 ≡ Some c.target = rw y at c.target_is in
     let a_is : 0 ≡ c.next = cc in
     let b_is : 0 ≡ c.target = cc in
     inl (omega (arith, a_is, b_is, c.sum))
-chosen_by v e k (Some t) None x y c =
+chosen_by w v e k (Some t) None x y c =
     let b : Some 0 ≡ Some c.target = rw y at c.target_is in
     let b_is : 0 ≡ c.target = cc in
     let there : length_of v t ≡ Some c.next = rw x at c.next_is in
-    let less : c.next ≡ k - 1 = omega (arith, b_is, c.sum) in
+    let less : c.next ≡ k - w = omega (arith, b_is, c.sum) in
     inr (t, (inl x, rw (← less) there))
-chosen_by v e k None (Some u) x y c =
+chosen_by w v e k None (Some u) x y c =
     let a : Some 0 ≡ Some c.next = rw x at c.next_is in
     let a_is : 0 ≡ c.next = cc in
     let there : length_of v u ≡ Some c.target = rw y at c.target_is in
-    let less : c.target ≡ k - 1 = omega (arith, a_is, c.sum) in
+    let less : c.target ≡ k - w = omega (arith, a_is, c.sum) in
     inr (u, (inr y, rw (← less) there))
-chosen_by v e k (Some t) (Some u) x y c =
+chosen_by w v e k (Some t) (Some u) x y c =
     let there : length_of v t ≡ Some c.next = rw x at c.next_is in
     let over_there : length_of v u ≡ Some c.target = rw y at c.target_is in
     elim (cases_lt c.next c.target) [
-      | inl less ↦ let e : c.target ≡ k - 1 = omega (arith, less, c.sum) in inr (u, (inr y, rw (← e) over_there))
-      | inr more ↦ let e : c.next ≡ k - 1 = omega (arith, more, c.sum) in inr (t, (inl x, rw (← e) there))
+      | inl less ↦ let e : c.target ≡ k - w = omega (arith, less, c.sum) in inr (u, (inr y, rw (← e) over_there))
+      | inr more ↦ let e : c.next ≡ k - w = omega (arith, more, c.sum) in inr (t, (inl x, rw (← e) there))
     ]
 
--- A path of that length.
-pub record Attained (next : ℕ → Edges) (s k : ℕ) : Type 0 where
+-- A path of that weight.
+pub record Attained (next : ℕ → Edges) (ws : List ℕ) (s k : ℕ) : Type 0 where
   pub rest : List ℕ
   pub walk : IsWalk next s rest
-  pub long : suc (length rest) ≡ k
+  pub heavy : path_weight (weight_at ws) s rest ≡ k
 
-pub attained : (next : ℕ → Edges) (n : ℕ) (v : List (Option ℕ)) (fuel s k : ℕ) → k ≤ fuel → ArePartial next n v → length_of v s ≡ Some k → Attained next s k
-attained next n v zero s k few part is =
-    let c = comes v (next s) k (part.right s k is) in
-    absurd (omega (arith, few, c.sum))
-attained next n v (suc fuel) s k few part is =
-    let c = comes v (next s) k (part.right s k is) in
-    elim (chosen_by v (next s) k (next s).next (next s).target refl refl c) [
-      | inl one ↦ record { rest = []; walk = tt; long = sym one }
+pub attained : (next : ℕ → Edges) (n : ℕ) (ws : List ℕ) (v : List (Option ℕ)) (fuel s k : ℕ) → k ≤ fuel → ArePartial next n ws v → length_of v s ≡ Some k
+    → Attained next ws s k
+attained next n ws v zero s k few part is =
+    let c = comes (weight_at ws s) v (next s) k (part.right s k is) in
+    let heavy = part.heavy.least s in
+    absurd (omega (arith, few, c.sum, heavy))
+attained next n ws v (suc fuel) s k few part is =
+    let c = comes (weight_at ws s) v (next s) k (part.right s k is) in
+    let heavy = part.heavy.least s in
+    elim (chosen_by (weight_at ws s) v (next s) k (next s).next (next s).target refl refl c) [
+      | inl one ↦ record { rest = []; walk = tt; heavy = sym one }
       | inr found ↦
-          let rest = attained next n v fuel found.0 (k - 1) (omega (arith, few)) part found.1.1 in
-          record { rest = found.0 ∷ rest.rest; walk = (found.1.0, rest.walk); long = let l = rest.long in omega (arith, l, c.sum) }
+          let rest = attained next n ws v fuel found.0 (k - weight_at ws s) (omega (arith, few, heavy)) part found.1.1 in
+          record { rest = found.0 ∷ rest.rest; walk = (found.1.0, rest.walk); heavy = let l = rest.heavy in omega (arith, l, c.sum) }
     ]
 
 -- A slot without a length has an edge to another.
@@ -101,12 +109,12 @@ not_known : (v : List (Option ℕ)) (o : Option ℕ) → behind_edge v o ≡ Non
 not_known v None h = absurd (let bad : Some 0 ≡ None = h in cc)
 not_known v (Some t) h = (t, (refl, h))
 
-step_by : (v : List (Option ℕ)) (e : Edges) (a b : Option ℕ) → behind_edge v e.next ≡ a → behind_edge v e.target ≡ b → length_from v e ≡ None
+step_by : (w : ℕ) (v : List (Option ℕ)) (e : Edges) (a b : Option ℕ) → behind_edge v e.next ≡ a → behind_edge v e.target ≡ b → length_from w v e ≡ None
     → (t : ℕ) × (Leads e t × (length_of v t ≡ None))
 unfolding length_from
-step_by v e None b x y h = let found = not_known v e.next x in (found.0, (inl found.1.0, found.1.1))
-step_by v e (Some a) None x y h = let found = not_known v e.target y in (found.0, (inr found.1.0, found.1.1))
-step_by v e (Some a) (Some b) x y h = absurd (let bad : Some (1 + max a b) ≡ None = rw (x, y) at h in cc)
+step_by w v e None b x y h = let found = not_known v e.next x in (found.0, (inl found.1.0, found.1.1))
+step_by w v e (Some a) None x y h = let found = not_known v e.target y in (found.0, (inr found.1.0, found.1.1))
+step_by w v e (Some a) (Some b) x y h = absurd (let bad : Some (w + max a b) ≡ None = rw (x, y) at h in cc)
 
 -- So from such a slot there are walks of any length.
 pub record Wanders (next : ℕ → Edges) (n s k : ℕ) : Type 0 where
@@ -115,12 +123,12 @@ pub record Wanders (next : ℕ → Edges) (n s k : ℕ) : Type 0 where
   pub long : length slots ≡ k
   pub fits : (q : ℕ) → Has (s ∷ slots) q → q < n
 
-pub wander : (next : ℕ → Edges) (n : ℕ) (v : List (Option ℕ)) (k s : ℕ) → EdgesFit next n → AreSettled next n v → s < n → length_of v s ≡ None → Wanders next n s k
-wander next n v zero s fit settled inside none =
+pub wander : (next : ℕ → Edges) (n : ℕ) (ws : List ℕ) (v : List (Option ℕ)) (k s : ℕ) → EdgesFit next n → AreSettled next n ws v → s < n → length_of v s ≡ None → Wanders next n s k
+wander next n ws v zero s fit settled inside none =
     record { slots = []; walk = tt; long = refl; fits = λ q h. elim h [ inl e ↦ rw e inside | inr bad ↦ absurd bad ] }
-wander next n v (suc k) s fit settled inside none =
-    let found = step_by v (next s) (behind_edge v (next s).next) (behind_edge v (next s).target) refl refl (settled.stuck s inside none) in
-    let rest = wander next n v k found.0 fit settled (fit s found.0 found.1.0) found.1.1 in
+wander next n ws v (suc k) s fit settled inside none =
+    let found = step_by (weight_at ws s) v (next s) (behind_edge v (next s).next) (behind_edge v (next s).target) refl refl (settled.stuck s inside none) in
+    let rest = wander next n ws v k found.0 fit settled (fit s found.0 found.1.0) found.1.1 in
     record {
       slots = found.0 ∷ rest.slots;
       walk = (found.1.0, rest.walk);
@@ -129,9 +137,9 @@ wander next n v (suc k) s fit settled inside none =
     }
 
 -- A walk to a slot that it has.
-cut : (next : ℕ → Edges) (s x : ℕ) (p : List ℕ) → IsWalk next s p → Has p x → LeadsTo next (next s) x
+cut : (next : ℕ → Edges) (s x : ℕ) (p : List ℕ) → IsWalk next s p → Has p x → LeadsTo next (Leads (next s)) x
 cut next s x [] walk h = absurd h
-cut next s x (t ∷ p) walk (inl e) = leads_first next (next s) x (rw e walk.0)
+cut next s x (t ∷ p) walk (inl e) = leads_first next (Leads (next s)) x (rw e walk.0)
 cut next s x (t ∷ p) walk (inr h) =
     let rest = cut next t x p walk.1 h in
     record {
@@ -169,10 +177,10 @@ repeats next s (t ∷ p) walk =
     ]
 
 -- So a slot without a length tells of a cycle.
-pub stuck_cycle : (next : ℕ → Edges) (n : ℕ) (v : List (Option ℕ)) (s : ℕ) → EdgesFit next n → AreSettled next n v → s < n → length_of v s ≡ None
+pub stuck_cycle : (next : ℕ → Edges) (n : ℕ) (ws : List ℕ) (v : List (Option ℕ)) (s : ℕ) → EdgesFit next n → AreSettled next n ws v → s < n → length_of v s ≡ None
     → (c : ℕ) × OnCycle next c
-stuck_cycle next n v s fit settled inside none =
-    let way = wander next n v n s fit settled inside none in
+stuck_cycle next n ws v s fit settled inside none =
+    let way = wander next n ws v n s fit settled inside none in
     elim (repeats next s way.slots way.walk) [
       | inl distinct ↦
           let few = length-le_from_distinct_below (s ∷ way.slots) n distinct (λ q h. way.fits q (has_of_any q (s ∷ way.slots) h)) in
@@ -181,14 +189,14 @@ stuck_cycle next n v s fit settled inside none =
       | inr cycle ↦ cycle
     ]
 
-known_by : (next : ℕ → Edges) (n : ℕ) (v : List (Option ℕ)) (s : ℕ) (x : Option ℕ) → EdgesFit next n → AreSettled next n v → s < n
+known_by : (next : ℕ → Edges) (n : ℕ) (ws : List ℕ) (v : List (Option ℕ)) (s : ℕ) (x : Option ℕ) → EdgesFit next n → AreSettled next n ws v → s < n
     → ((c : ℕ) → OnCycle next c → ⊥) → length_of v s ≡ x → (k : ℕ) × (length_of v s ≡ Some k)
-known_by next n v s None fit settled inside straight is =
-    let cycle = stuck_cycle next n v s fit settled inside is in
+known_by next n ws v s None fit settled inside straight is =
+    let cycle = stuck_cycle next n ws v s fit settled inside is in
     absurd (straight cycle.0 cycle.1)
-known_by next n v s (Some k) fit settled inside straight is = (k, is)
+known_by next n ws v s (Some k) fit settled inside straight is = (k, is)
 
 -- Without a cycle each slot has a length.
-pub all_known : (next : ℕ → Edges) (n : ℕ) (v : List (Option ℕ)) (s : ℕ) → EdgesFit next n → AreSettled next n v → s < n
+pub all_known : (next : ℕ → Edges) (n : ℕ) (ws : List ℕ) (v : List (Option ℕ)) (s : ℕ) → EdgesFit next n → AreSettled next n ws v → s < n
     → ((c : ℕ) → OnCycle next c → ⊥) → (k : ℕ) × (length_of v s ≡ Some k)
-all_known next n v s fit settled inside straight = known_by next n v s (length_of v s) fit settled inside straight refl
+all_known next n ws v s fit settled inside straight = known_by next n ws v s (length_of v s) fit settled inside straight refl

@@ -22,7 +22,7 @@ has_split (x ∷ xs) ys t (inr h) = elim (has_split xs ys t h) [ inl l ↦ inl (
 pub has_last : (xs : List ℕ) (t s : ℕ) → Has (xs ++ s ∷ []) t → Has xs t ⊎ (t ≡ s)
 has_last xs t s h = elim (has_split xs (s ∷ []) t h) [ inl l ↦ inl l | inr (inl e) ↦ inr e | inr (inr n) ↦ absurd n ]
 
-same : (P : ℕ → Type 0) (m : List Bool) (w : List ℕ) → ((t : ℕ) → P t → t < length m → IsMarked m t) → Met P m w m w
+pub same : (P : ℕ → Type 0) (m : List Bool) (w : List ℕ) → ((t : ℕ) → P t → t < length m → IsMarked m t) → Met P m w m w
 same P m w met = record {
   kept = λ t h. h;
   only = λ t h. inl h;

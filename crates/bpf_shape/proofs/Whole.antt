@@ -13,9 +13,10 @@ use Rattle.bpf_shape.specs.Edges.{control, no_edges}
 use Rattle.bpf_shape.specs.Again.{calls_again, limit_before, answer_test, again_of, others_of, again_edge, plain, is_slot, is_target, is_head, heads}
 use Rattle.bpf_shape.specs.Paths.{Leads}
 use Rattle.bpf_shape.specs.Rules.{is_equality, has_form, keeps, Breaks, Holds, IsLowest, order, FirstOf, FirstBroken}
-use Rattle.bpf_shape.specs.Laws.{OneShape, OneFault, NoFaultInShaped, EdgesAreSplit, HeadsAreTargets, HeadsBySlot, EdgesLeadToInstructions, IsAround, AgainHasForm}
+use Rattle.bpf_shape.specs.Laws.{OneShape, OneFault, NoFaultInShaped, EdgesAreSplit, HeadsAreTargets, HeadsBySlot, EdgesLeadToInstructions, EntriesAreInstructions, CallsAreNested, DeeperIsTheSame, IsAround, AgainHasForm}
 use Rattle.bpf_shape.proofs.Ranges.{any_at, at_any}
-use Rattle.bpf_shape.proofs.Kept.{control_past, edges_begin}
+use Rattle.bpf_shape.proofs.Kept.{control_past, edges_begin, entries_begin}
+use Rattle.bpf_shape.proofs.Weighing.{deeper_same}
 use Rattle.bpf_shape.proofs.Budgets.{one_budget}
 
 pub one_shape : OneShape
@@ -51,8 +52,9 @@ no_fault_in_shaped program h c s (inr (_, inr (_, inl x))) = h.frame_pointer s x
 no_fault_in_shaped program h c s (inr (_, inr (_, inr (_, inl x)))) = h.helpers s x.1.breaks
 no_fault_in_shaped program h c s (inr (_, inr (_, inr (_, inr (_, inl x))))) = h.again s x.1.breaks
 no_fault_in_shaped program h c s (inr (_, inr (_, inr (_, inr (_, inr (_, inl x)))))) = h.loops s x.1.breaks
-no_fault_in_shaped program h c s (inr (_, inr (_, inr (_, inr (_, inr (_, inr (_, inl x))))))) = h.budget s x.1.breaks
-no_fault_in_shaped program h c s (inr (_, inr (_, inr (_, inr (_, inr (_, inr (_, inr x))))))) = x.1
+no_fault_in_shaped program h c s (inr (_, inr (_, inr (_, inr (_, inr (_, inr (_, inl x))))))) = h.calls s x.1.breaks
+no_fault_in_shaped program h c s (inr (_, inr (_, inr (_, inr (_, inr (_, inr (_, inr (_, inl x)))))))) = h.budget s x.1.breaks
+no_fault_in_shaped program h c s (inr (_, inr (_, inr (_, inr (_, inr (_, inr (_, inr (_, inr x)))))))) = x.1
 
 split : (test : Option Condition) (e : Edges) (t : ℕ) → Leads e t → (again_of test e ≡ Some t) ⊎ Leads (others_of test e) t
 split None e t h = inr h
@@ -120,6 +122,16 @@ heads_by_slot program t inside = get_or-map-range_with_len (is_head program) 0 (
 
 pub edges_lead_to_instructions : EdgesLeadToInstructions
 edges_lead_to_instructions program s t h leads = edges_begin program h.targets h.ends s t leads
+
+pub entries_are_instructions : EntriesAreInstructions
+entries_are_instructions program s t h enters = entries_begin program h.targets s t enters
+
+pub calls_are_nested : CallsAreNested
+unfolding Breaks
+calls_are_nested = record { recursive = λ program s h x. h.calls s (inl x); fourth = λ program s h x. h.calls s (inr x) }
+
+pub deeper_is_the_same : DeeperIsTheSame
+deeper_is_the_same program depth a b v w h enough three deep x y = deeper_same program depth a b v w h.calls enough three deep x y
 
 both : (a b : Bool) → (a && b) ≡ true → (a ≡ true) × (b ≡ true)
 both true b h = (refl, h)

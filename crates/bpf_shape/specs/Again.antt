@@ -1,6 +1,6 @@
 -- Calls of `again`, which is helper 3, and the edges and heads that they make (docs/VERIFIER.md, The
 -- form of `again`).
-use Rattle.std.specs.Prelude.{ℕ, ◌-◌, ◌==◌, nat_le, Bool, false, ◌&&◌, if◌then◌else◌, pos, List, Option, None, Some, length, map}
+use Rattle.std.specs.Prelude.{ℕ, ◌-◌, ◌==◌, nat_le, Bool, false, ◌&&◌, ◌||◌, if◌then◌else◌, pos, List, Option, None, Some, length, map}
 use Rattle.std.specs.Int.{cast_unsigned, w32, w64}
 use Rattle.std.specs.List.{list_any, range_with_len, sum}
 use Rattle.std.specs.Option.{option_map_or, option_and_then}
@@ -15,6 +15,7 @@ use Rattle.bpf_isa.specs.declared.instr.Condition.TheVariants as cond
 use Rattle.bpf_shape.specs.declared.edges.Edges.{Edges}
 use Rattle.bpf_isa.specs.Slots.{at}
 use Rattle.bpf_shape.specs.Edges.{edges, control}
+use Rattle.bpf_shape.specs.Calls.{callee}
 
 -- the number of the helper that an instruction calls
 abbrev pub helper_number : Instr → Option ℕ
@@ -67,9 +68,13 @@ plain program slot = others_of (answer_test program slot) (control program slot)
 abbrev pub is_slot : ℕ → Option ℕ → Bool
 is_slot slot to = option_map_or (λ t. t == slot) to false
 
--- a jump leads to the slot
+-- the jump or the local call at slot s leads to the slot
+abbrev pub aims_at : List (Option Instr) → ℕ → ℕ → Bool
+aims_at program slot s = is_slot slot (control program s).target || is_slot slot (callee program s)
+
+-- a jump or a local call leads to the slot
 unfoldable pub is_target : List (Option Instr) → ℕ → Bool
-is_target program slot = list_any (λ s. is_slot slot (control program s).target) (range_with_len 0 (length program))
+is_target program slot = list_any (aims_at program slot) (range_with_len 0 (length program))
 
 -- an again edge leads to the slot
 unfoldable pub is_head : List (Option Instr) → ℕ → Bool

@@ -1,25 +1,20 @@
--- The longest path and the budget (docs/VERIFIER.md, Budget). Each slot counts 1.
-use Rattle.std.specs.Prelude.{ℕ, suc, ◌+◌, ◌*◌, ◌≡◌, ◌≤◌, List, length, Option}
+-- The budget (docs/VERIFIER.md, Budget).
+use Rattle.std.specs.Prelude.{ℕ, ◌+◌, ◌*◌, ◌≡◌, List, Option}
 use Rattle.bpf_isa.specs.declared.instr.Instr.{Instr}
 use Rattle.bpf_shape.specs.Again.{turns}
-use Rattle.bpf_shape.specs.Paths.{IsPath, IsReached}
+use Rattle.bpf_shape.specs.Weights.{IsLongest, AreWeights}
 
--- a path of so many slots, which begins at a reached slot
-pub record HasPath (program : List (Option Instr)) (n : ℕ) : Type 0 where
-  pub start : ℕ
-  pub rest : List ℕ
-  pub reached : IsReached program start
-  pub path : IsPath program start rest
-  pub long : suc (length rest) ≡ n
+-- In a program without a chain of four calls from slot 0, all calls are followed where three deep are
+-- (law DeeperIsTheSame).
+abbrev pub most_calls : ℕ
+most_calls = 3
 
--- so many slots has a longest path that begins at a reached slot
-pub record IsLongest (program : List (Option Instr)) (n : ℕ) : Type 0 where
-  pub some : HasPath program n
-  pub most : (m : ℕ) → HasPath program m → m ≤ n
-
+-- one more than the sum of all K, times the longest path of slot 0
 pub record IsBudget (program : List (Option Instr)) (n : ℕ) : Type 0 where
+  pub weight : ℕ → ℕ
+  pub weights : AreWeights program most_calls weight
   pub longest : ℕ
-  pub path : IsLongest program longest
+  pub path : IsLongest program weight 0 longest
   pub product : n ≡ (1 + turns program) * longest
 
 -- the greatest budget that is accepted

@@ -33,6 +33,7 @@ edges_of slot (instr.Negate w dst) = goes_on slot
 edges_of slot (instr.SignExtend e dst src) = goes_on slot
 edges_of slot (instr.ByteOrder o size dst) = goes_on slot
 edges_of slot (instr.CallHelper number) = goes_on slot
+edges_of slot (instr.CallLocal distance) = goes_on slot
 edges_of slot (instr.Load size dst base offset) = goes_on slot
 edges_of slot (instr.LoadSigned size dst base offset) = goes_on slot
 edges_of slot (instr.StoreImmediate size base offset immediate) = goes_on slot

@@ -1,9 +1,12 @@
 -- How the rules that look at one slot are tested. Only this crate's own contracts cite it.
-use Rattle.std.specs.Prelude.{◌≡◌, List, Option}
+use Rattle.std.specs.Prelude.{ℕ, ◌≡◌, ◌⊎◌, Bool, true, List, length, Option, is_some}
 use Rattle.bpf_isa.specs.declared.instr.Instr.{Instr}
 use Rattle.base.specs.declared.causes.VerifierCause.{VerifierCause}
 use Rattle.base.specs.declared.causes.VerifierCause.TheVariants as cause
 use Rattle.bpf_shape.specs.declared.fault.Fault.{Fault}
+use Rattle.bpf_shape.specs.Calls.{callee}
+use Rattle.bpf_shape.specs.Chains.{IsFourth}
+use Rattle.bpf_shape.specs.Search.{IsMarked}
 use Rattle.bpf_shape.specs.Rules.{Holds, IsLowest}
 
 -- a refusal names that rule and its lowest slot
@@ -27,3 +30,13 @@ pub record KeepsAll (program : List (Option Instr)) : Type 0 where
   pub frame_pointer : Holds program cause.FramePointer
   pub helpers : Holds program cause.UnknownHelper
   pub again : Holds program cause.AgainForm
+
+-- the first broken one of the two rules about paths
+abbrev pub IsFirstOfPaths : List (Option Instr) → Fault → Type 0
+IsFirstOfPaths program f = IsBrokenAt program cause.Loop f ⊎ (Holds program cause.Loop × IsBrokenAt program cause.CallDepth f)
+
+-- the marked local calls are the last of four in a chain from slot 0
+pub record AreDeep (program : List (Option Instr)) (deep : List Bool) : Type 0 where
+  pub long : length deep ≡ length program
+  pub sound : (d : ℕ) → IsMarked deep d → is_some (callee program d) ≡ true → IsFourth program d
+  pub complete : (d : ℕ) → IsFourth program d → IsMarked deep d

@@ -1,11 +1,15 @@
 -- What holds of shapes: a program has at most one, or one first broken rule, and never both.
-use Rattle.std.specs.Prelude.{ℕ, ◌+◌, ◌≡◌, ◌⊎◌, ◌↔◌, ◌<◌, true, false, List, length, get_or, Option, Some}
+use Rattle.std.specs.Prelude.{ℕ, ◌+◌, ◌≡◌, ◌⊎◌, ◌↔◌, ◌<◌, ◌≤◌, true, false, List, length, get_or, Option, Some}
 use Rattle.bpf_isa.specs.declared.instr.Instr.{Instr}
 use Rattle.bpf_isa.specs.declared.instr.Condition.TheVariants as cond
 use Rattle.base.specs.declared.causes.VerifierCause.{VerifierCause}
 use Rattle.bpf_shape.specs.Edges.{begins, control}
 use Rattle.bpf_shape.specs.Again.{calls_again, limit_before, answer_test, again_edge, plain, is_target, is_head, heads}
+use Rattle.bpf_shape.specs.Calls.{callee}
 use Rattle.bpf_shape.specs.Paths.{Leads}
+use Rattle.bpf_shape.specs.Chains.{IsRecursive, IsFourth}
+use Rattle.bpf_shape.specs.Weights.{IsLongest, AreWeights}
+use Rattle.bpf_shape.specs.Budget.{most_calls}
 use Rattle.bpf_shape.specs.Rules.{FirstBroken, IsShaped}
 use Rattle.bpf_shape.specs.Shape.{ShapeValue, IsShapeOf}
 
@@ -34,8 +38,23 @@ HeadsBySlot = (program : List (Option Instr)) (t : ℕ) → t < length program �
 abbrev pub EdgesLeadToInstructions : Type 0
 EdgesLeadToInstructions = (program : List (Option Instr)) (s t : ℕ) → IsShaped program → Leads (control program s) t → begins program t ≡ true
 
+-- and so does each local call
+abbrev pub EntriesAreInstructions : Type 0
+EntriesAreInstructions = (program : List (Option Instr)) (s t : ℕ) → IsShaped program → callee program s ≡ Some t → begins program t ≡ true
+
+-- in a program of right shape no local call is within itself, and none is the last of four from slot 0
+pub record CallsAreNested : Type 0 where
+  pub recursive : (program : List (Option Instr)) (s : ℕ) → IsShaped program → IsRecursive program s → ⊥
+  pub fourth : (program : List (Option Instr)) (s : ℕ) → IsShaped program → IsFourth program s → ⊥
+
+-- In a program of right shape slot 0 has the same longest path where calls are followed deeper than
+-- three: so none is left out.
+abbrev pub DeeperIsTheSame : Type 0
+DeeperIsTheSame = (program : List (Option Instr)) (depth a b : ℕ) (v w : ℕ → ℕ) → IsShaped program → most_calls ≤ depth
+    → AreWeights program most_calls v → AreWeights program depth w → IsLongest program v 0 a → IsLongest program w 0 b → a ≡ b
+
 -- what stands around a call of `again`: K before it, a comparison for equal or not equal behind it, and
--- no jump leads to the call or to the comparison
+-- no jump or local call leads to the call or to the comparison
 pub record IsAround (program : List (Option Instr)) (s : ℕ) : Type 0 where
   pub limit : ℕ
   pub limit_is : limit_before program s ≡ Some limit

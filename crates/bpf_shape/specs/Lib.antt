@@ -1,8 +1,11 @@
 -- The shape of a program: its edges, the rules about them, its longest path and its budget.
 pub mod Fault
 pub mod Edges
+pub mod Calls
 pub mod Again
 pub mod Paths
+pub mod Chains
+pub mod Weights
 pub mod Budget
 pub mod Rules
 pub mod Shape

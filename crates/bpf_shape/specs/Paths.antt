@@ -25,15 +25,15 @@ pub record Reaches (next : ℕ → Edges) (s t : ℕ) : Type 0 where
   pub walk : IsWalk next s slots
   pub ends : end_of s slots ≡ t
 
--- one of these edges begins a walk to slot t
-pub record LeadsTo (next : ℕ → Edges) (from : Edges) (t : ℕ) : Type 0 where
+-- from one of these slots a walk leads to slot t
+pub record LeadsTo (next : ℕ → Edges) (starts : ℕ → Type 0) (t : ℕ) : Type 0 where
   pub first : ℕ
-  pub leads : Leads from first
+  pub leads : starts first
   pub on : Reaches next first t
 
 -- an edge of the slot begins a walk that leads back to it
 abbrev pub OnCycle : (ℕ → Edges) → ℕ → Type 0
-OnCycle next s = LeadsTo next (next s) s
+OnCycle next s = LeadsTo next (Leads (next s)) s
 
 -- a path: a walk without again edges
 abbrev pub IsPath : List (Option Instr) → ℕ → List ℕ → Type 0

@@ -10,7 +10,9 @@ use Rattle.base.specs.declared.causes.VerifierCause.TheVariants as cause
 use Rattle.bpf_isa.specs.Slots.{at}
 use Rattle.bpf_shape.specs.Edges.{begins, control}
 use Rattle.bpf_shape.specs.Again.{helper_number, calls_again, limit_before, answer_test, is_target, plain}
+use Rattle.bpf_shape.specs.Calls.{callee}
 use Rattle.bpf_shape.specs.Paths.{OnCycle}
+use Rattle.bpf_shape.specs.Chains.{IsRecursive, IsFourth}
 use Rattle.bpf_shape.specs.Budget.{IsBudget, most_steps}
 
 -- the register that arithmetic, a load or a 64-bit immediate writes
@@ -26,6 +28,7 @@ written (instr.Jump distance) = None
 written (instr.LongJump distance) = None
 written (instr.Branch w c dst from distance) = None
 written (instr.CallHelper number) = None
+written (instr.CallLocal distance) = None
 written instr.Exit = None
 written (instr.StoreImmediate size base offset immediate) = None
 written (instr.Store size base offset src) = None
@@ -37,18 +40,19 @@ is_equality (Some cond.Ne) = true
 is_equality _ = false
 
 -- a call of `again` at a slot has the form: K is set before it, its answer is compared behind it, and
--- no jump leads to the call or to the comparison
+-- no jump or local call leads to the call or to the comparison
 unfoldable pub has_form : List (Option Instr) → ℕ → Bool
 has_form program slot =
     is_some (limit_before program slot)
     && (is_equality (answer_test program (slot + 1))
     && (not (is_target program slot) && not (is_target program (slot + 1))))
 
--- The rules that look at one slot, and whether it keeps them: a jump's target and the next slot are
--- where an instruction begins, r10 isn't written, a helper is one of 1 to 7, a call of `again` has the
+-- The rules that look at one slot, and whether it keeps them: the target of a jump or of a local call
+-- and the next slot are where an instruction begins, r10 isn't written, a helper is one of 1 to 7, a call of `again` has the
 -- form.
 unfoldable pub keeps : List (Option Instr) → VerifierCause → ℕ → Bool
-keeps program cause.Target slot = option_map_or (begins program) (control program slot).target true
+keeps program cause.Target slot =
+    option_map_or (begins program) (control program slot).target true && option_map_or (begins program) (callee program slot) true
 keeps program cause.End slot = option_map_or (begins program) (control program slot).next true
 keeps program cause.FramePointer slot = option_map_or (λ r. not (r == 10)) (option_and_then written (at program slot)) true
 keeps program cause.UnknownHelper slot = option_map_or (λ n. nat_le 1 n && nat_le n 7) (option_and_then helper_number (at program slot)) true
@@ -61,10 +65,12 @@ pub record IsOver (program : List (Option Instr)) : Type 0 where
   pub is : IsBudget program budget
   pub over : most_steps < budget
 
--- the slot breaks the rule of that cause: it lies on a cycle without again edges; for the budget it is
--- slot 0; or it doesn't keep a rule of one slot
+-- the slot breaks the rule of that cause: it lies on a cycle without again edges; it is a local call that
+-- is within itself, or the last of four in a chain from slot 0; for the budget it is slot 0; or it doesn't
+-- keep a rule of one slot
 unfoldable pub Breaks : List (Option Instr) → VerifierCause → ℕ → Type 0
 Breaks program cause.Loop slot = OnCycle (plain program) slot
+Breaks program cause.CallDepth slot = IsRecursive program slot ⊎ IsFourth program slot
 Breaks program cause.Budget slot = (slot ≡ 0) × IsOver program
 Breaks program c slot = keeps program c slot ≡ false
 
@@ -79,7 +85,7 @@ pub record IsLowest (program : List (Option Instr)) (c : VerifierCause) (slot : 
 
 -- the rules in the order in which they are tested
 abbrev pub order : List VerifierCause
-order = cause.Target ∷ cause.End ∷ cause.FramePointer ∷ cause.UnknownHelper ∷ cause.AgainForm ∷ cause.Loop ∷ cause.Budget ∷ []
+order = cause.Target ∷ cause.End ∷ cause.FramePointer ∷ cause.UnknownHelper ∷ cause.AgainForm ∷ cause.Loop ∷ cause.CallDepth ∷ cause.Budget ∷ []
 
 -- of these rules the first that is broken, at its lowest slot
 abbrev pub FirstOf : List (Option Instr) → List VerifierCause → VerifierCause → ℕ → Type 0
@@ -98,4 +104,5 @@ pub record IsShaped (program : List (Option Instr)) : Type 0 where
   pub helpers : Holds program cause.UnknownHelper
   pub again : Holds program cause.AgainForm
   pub loops : Holds program cause.Loop
+  pub calls : Holds program cause.CallDepth
   pub budget : Holds program cause.Budget

@@ -5,7 +5,8 @@ use Rattle.bpf_isa.specs.declared.instr.Instr.{Instr}
 use Rattle.bpf_shape.specs.declared.edges.Edges.{Edges}
 use Rattle.bpf_shape.specs.declared.search.Kind.{Kind}
 use Rattle.bpf_shape.specs.declared.search.Kind.TheVariants as kind
-use Rattle.bpf_shape.specs.Edges.{control}
+use Rattle.bpf_shape.specs.Edges.{edges, control}
+use Rattle.bpf_shape.specs.Calls.{callee}
 use Rattle.bpf_shape.specs.Again.{plain}
 use Rattle.bpf_shape.specs.Paths.{Leads, LeadsTo}
 
@@ -50,17 +51,44 @@ pub record Met (P : ℕ → Type 0) (m : List Bool) (w : List ℕ) (marks : List
   pub long : length marks ≡ length m
   pub size : 2 * unmarked marks + length waiting ≤ 2 * unmarked m + length w
 
+-- the edges, and one to the entry of a local call, if there is one
+abbrev pub with_entry : Option ℕ → Edges → Edges
+with_entry None e = e
+with_entry (Some entry) e = edges e.next (Some entry)
+
+-- the control edges of a slot, and one from a local call to its entry
+unfoldable pub entering : List (Option Instr) → ℕ → Edges
+entering program slot = with_entry (callee program slot) (control program slot)
+
 -- the edges that a search follows
 abbrev pub followed : Kind → List (Option Instr) → ℕ → Edges
 followed kind.All program = control program
 followed kind.Plain program = plain program
+followed kind.Entering program = entering program
 
 -- each edge leads to a slot
 abbrev pub EdgesFit : (ℕ → Edges) → ℕ → Type 0
 EdgesFit next n = (s t : ℕ) → Leads (next s) t → t < n
 
--- the marks are of the slots to which these edges lead
-pub record AreMarks (next : ℕ → Edges) (n : ℕ) (from : Edges) (marks : List Bool) : Type 0 where
+-- the marked slots are those that wait
+pub record AllWait (n : ℕ) (marks : List Bool) (waiting : List ℕ) : Type 0 where
   pub long : length marks ≡ n
-  pub sound : (t : ℕ) → IsMarked marks t → LeadsTo next from t
-  pub complete : (t : ℕ) → LeadsTo next from t → IsMarked marks t
+  pub wait : (t : ℕ) → IsMarked marks t → Has waiting t
+  pub marked : (t : ℕ) → Has waiting t → IsMarked marks t
+
+-- the marks are of the slots to which a walk leads from one of these
+pub record AreMarks (next : ℕ → Edges) (n : ℕ) (starts : ℕ → Type 0) (marks : List Bool) : Type 0 where
+  pub long : length marks ≡ n
+  pub sound : (t : ℕ) → IsMarked marks t → LeadsTo next starts t
+  pub complete : (t : ℕ) → LeadsTo next starts t → IsMarked marks t
+
+-- a marked call enters slot t, one at a slot below n
+pub record Enters (program : List (Option Instr)) (outer : List Bool) (n t : ℕ) : Type 0 where
+  pub call : ℕ
+  pub below : call < n
+  pub marked : IsMarked outer call
+  pub enters : callee program call ≡ Some t
+
+-- each entry is a slot
+abbrev pub EntriesFit : List (Option Instr) → Type 0
+EntriesFit program = (s t : ℕ) → callee program s ≡ Some t → t < length program

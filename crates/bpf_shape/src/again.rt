@@ -2,8 +2,9 @@
 
 ghost use Rattle.std.specs.Prelude.{◌≡◌, ◌≤◌, ◌*◌, IfSome, IfOk};
 ghost use Rattle.bpf_shape.specs.Search.{with_mark};
-ghost use Rattle.bpf_shape.specs.Again.{helper_number, calls_again, limit_of, zero_test, limit_before, answer_test, again_edge, plain, is_slot, is_target, heads, turns_at, turns};
+ghost use Rattle.bpf_shape.specs.Again.{helper_number, calls_again, limit_of, zero_test, limit_before, answer_test, again_edge, plain, is_slot, aims_at, is_target, heads, turns_at, turns};
 
+use crate::calls::callee;
 use crate::edges::{Edges, control};
 use bpf_isa::instr::{Condition, Instr, Operator, Source, Width};
 use bpf_isa::program::Program;
@@ -148,13 +149,20 @@ fn is_slot(slot: usize, to: Option<usize>) -> bool
     }
 }
 
-/// Whether a jump leads to a slot.
+/// Whether the jump or the local call at a slot leads to that slot.
+fn aims_at(program: &Program, slot: usize, from: usize) -> bool
+    ensures { result ≡ aims_at program.now slot from }
+{
+    is_slot(slot, control(program, from).target) || is_slot(slot, callee(program, from))
+}
+
+/// Whether a jump or a local call leads to a slot.
 #[tactic(auto, unfolding(crate::specs::Again::is_target))]
 pub(crate) fn is_target(program: &Program, slot: usize) -> bool
     ensures { result ≡ is_target program.now slot }
 {
     for from in 0..program.slots() {
-        if is_slot(slot, control(program, from).target) {
+        if aims_at(program, slot, from) {
             return true;
         }
     }

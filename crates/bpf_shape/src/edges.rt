@@ -8,7 +8,7 @@ use bpf_isa::instr::Instr;
 use bpf_isa::program::Program;
 
 /// The control edges of a slot: one to the next slot, one to the target of a jump. Both may lead to
-/// the same slot. The target of a jump past either end of the program is a number of which the
+/// the same slot. A local call has one to the next slot alone. The target of a jump past either end of the program is a number of which the
 /// program has no slot.
 #[derive(Clone, Copy, Debug, PartialEq, Eq)]
 pub struct Edges {
@@ -53,6 +53,7 @@ pub fn edges_of(slot: usize, instr: &Instr) -> Edges
         | Instr::SignExtend { .. }
         | Instr::ByteOrder { .. }
         | Instr::CallHelper { .. }
+        | Instr::CallLocal { .. }
         | Instr::Load { .. }
         | Instr::LoadSigned { .. }
         | Instr::StoreImmediate { .. }
@@ -63,8 +64,8 @@ pub fn edges_of(slot: usize, instr: &Instr) -> Edges
     }
 }
 
-/// The slot at a distance from the one behind a jump.
-fn target_slot(slot: usize, distance: i64) -> usize
+/// The slot at a distance from the one behind a jump or a local call.
+pub(crate) fn target_slot(slot: usize, distance: i64) -> usize
     requires slot { slot < 4096 }
     requires low { negsuc 2147483647 ≤ℤ distance }
     requires high { distance ≤ℤ pos 2147483647 }

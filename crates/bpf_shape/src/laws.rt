@@ -1,6 +1,6 @@
 //! Laws of shapes. The functions do nothing; each contract is a theorem.
 
-ghost use Rattle.bpf_shape.specs.Laws.{OneShape, OneFault, NoFaultInShaped, EdgesAreSplit, HeadsAreTargets, HeadsBySlot, EdgesLeadToInstructions, AgainHasForm};
+ghost use Rattle.bpf_shape.specs.Laws.{OneShape, OneFault, NoFaultInShaped, EdgesAreSplit, HeadsAreTargets, HeadsBySlot, EdgesLeadToInstructions, EntriesAreInstructions, CallsAreNested, DeeperIsTheSame, AgainHasForm};
 
 /// A program has one shape at most.
 pub fn one_shape()
@@ -36,6 +36,22 @@ pub fn heads_by_slot()
 /// In a program of right shape each control edge leads to a slot in which an instruction begins.
 pub fn edges_lead_to_instructions()
     ensures { EdgesLeadToInstructions }
+{}
+
+/// And so does each local call.
+pub fn entries_are_instructions()
+    ensures { EntriesAreInstructions }
+{}
+
+/// In a program of right shape no local call is within itself, and none is the last of four in a chain
+/// from slot 0.
+pub fn calls_are_nested()
+    ensures { CallsAreNested }
+{}
+
+/// In a program of right shape no local call is left out where calls are followed three deep.
+pub fn deeper_is_the_same()
+    ensures { DeeperIsTheSame }
 {}
 
 /// In a program of right shape each call of `again` has the form.

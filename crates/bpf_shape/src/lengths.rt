@@ -1,17 +1,25 @@
-//! The length of the longest path of each slot, without again edges.
+//! The weight of the longest path of each slot, without again edges, by the weights of the slots.
 
 ghost use Rattle.std.specs.Prelude.{◌≡◌, ◌<◌, ◌≤◌, ℕ, IsTrue, IsFalse, OnOk, IfOk, Some, length};
 ghost use Rattle.bpf_isa.specs.Program.{IsProgram};
 ghost use Rattle.bpf_shape.specs.Again.{plain};
-ghost use Rattle.bpf_shape.specs.Lengths.{length_of, behind_edge, length_from, known, ArePartial, AreSettled, IsStuck};
+ghost use Rattle.bpf_shape.specs.Lengths.{weight_at, heaviest, length_of, behind_edge, length_from, known, AreHeavy, ArePartial, AreSettled, IsStuck};
 
 use crate::again::plain;
 use crate::edges::Edges;
 use bpf_isa::program::Program;
 use std::alloc::{AllocError, Global};
 
+/// What a slot weighs.
+fn weight_at(weights: &Vec<u64>, slot: usize) -> u64
+    requires { slot < length weights.now.items }
+    ensures { result ≡ weight_at weights.now.items slot }
+{
+    weights[slot]
+}
+
 /// The length behind an edge; 0 where there is no edge.
-fn behind_edge(lengths: &Vec<Option<usize>>, slot: Option<usize>) -> Option<usize>
+fn behind_edge(lengths: &Vec<Option<u64>>, slot: Option<usize>) -> Option<u64>
     ensures { result ≡ behind_edge lengths.now.items slot }
 {
     match slot {
@@ -26,31 +34,38 @@ fn behind_edge(lengths: &Vec<Option<usize>>, slot: Option<usize>) -> Option<usiz
     }
 }
 
-/// One more than the greater of the lengths behind two edges, where both are known.
+/// A weight and the greater of the lengths behind two edges, where both are known.
 #[tactic(auto, unfolding(crate::specs::Lengths::length_from))]
-fn length_from(lengths: &Vec<Option<usize>>, edges: Edges) -> Option<usize>
-    requires { (s k : ℕ) → length_of lengths.now.items s ≡ Some k → k ≤ 4096 }
-    ensures { result ≡ length_from lengths.now.items edges }
+fn length_from(weight: u64, lengths: &Vec<Option<u64>>, edges: Edges) -> Option<u64>
+    requires weight { weight ≤ 137438953472 }
+    requires lengths { (s k : ℕ) → length_of lengths.now.items s ≡ Some k → k ≤ 562949953421312 }
+    ensures { result ≡ length_from weight lengths.now.items edges }
 {
     let next = behind_edge(lengths, edges.next)?;
     let target = behind_edge(lengths, edges.target)?;
-    Some(1 + next.max(target))
+    Some(weight + next.max(target))
 }
 
 /// Gives a slot its length, where it has none and those behind its edges are known.
-fn settle(program: &Program, lengths: &mut Vec<Option<usize>>, slot: usize) -> bool
+fn settle(
+    program: &Program,
+    weights: &Vec<u64>,
+    lengths: &mut Vec<Option<u64>>,
+    slot: usize,
+) -> bool
     requires slot { slot < length program.now }
     requires count { length program.now ≤ 4096 }
-    requires partial { ArePartial (plain program.now) (length program.now) lengths.old.items }
-    ensures partial { ArePartial (plain program.now) (length program.now) lengths.new.items }
+    requires weights { heaviest weights.now.items ≤ 137438953472 }
+    requires partial { ArePartial (plain program.now) (length program.now) weights.now.items lengths.old.items }
+    ensures partial { ArePartial (plain program.now) (length program.now) weights.now.items lengths.new.items }
     ensures more { IsTrue result → known lengths.old.items < known lengths.new.items }
     ensures same { IsFalse result → lengths.new.items ≡ lengths.old.items }
-    ensures stuck { IsFalse result → IsStuck (plain program.now) lengths.new.items slot }
+    ensures stuck { IsFalse result → IsStuck (plain program.now) weights.now.items lengths.new.items slot }
 {
     if lengths[slot].is_some() {
         return false;
     }
-    match length_from(lengths, plain(program, slot)) {
+    match length_from(weight_at(weights, slot), lengths, plain(program, slot)) {
         Some(length) => {
             lengths[slot] = Some(length);
             true
@@ -60,33 +75,37 @@ fn settle(program: &Program, lengths: &mut Vec<Option<usize>>, slot: usize) -> b
 }
 
 /// Goes over the slots once, from the highest to the lowest, and says whether one got its length.
-fn sweep(program: &Program, lengths: &mut Vec<Option<usize>>) -> bool
-    requires { ArePartial (plain program.now) (length program.now) lengths.old.items }
-    ensures partial { ArePartial (plain program.now) (length program.now) lengths.new.items }
+fn sweep(program: &Program, weights: &Vec<u64>, lengths: &mut Vec<Option<u64>>) -> bool
+    requires weights { heaviest weights.now.items ≤ 137438953472 }
+    requires partial { ArePartial (plain program.now) (length program.now) weights.now.items lengths.old.items }
+    ensures partial { ArePartial (plain program.now) (length program.now) weights.now.items lengths.new.items }
     ensures more { IsTrue result → known lengths.old.items < known lengths.new.items }
-    ensures stuck { IsFalse result → (s : ℕ) → s < length program.now → IsStuck (plain program.now) lengths.new.items s }
+    ensures stuck { IsFalse result → (s : ℕ) → s < length program.now → IsStuck (plain program.now) weights.now.items lengths.new.items s }
 {
     let mut found = false;
     let mut slot = program.slots();
     while 0 < slot {
         slot -= 1;
-        if settle(program, lengths, slot) {
+        if settle(program, weights, lengths, slot) {
             found = true;
         }
     }
     found
 }
 
-/// For each slot the length of its longest path; none, where a path from it comes to a loop.
+/// For each slot the weight of its longest path; none, where a path from it comes to a loop.
 pub(crate) fn path_lengths(
     alloc: Global,
     program: &Program,
-) -> Result<Vec<Option<usize>>, AllocError>
-    ensures settled { IfOk result (λ lengths. AreSettled (plain program.now) (length program.now) lengths.items) }
+    weights: &Vec<u64>,
+) -> Result<Vec<Option<u64>>, AllocError>
+    requires heavy { AreHeavy (length program.now) weights.now.items }
+    requires weights { heaviest weights.now.items ≤ 137438953472 }
+    ensures settled { IfOk result (λ lengths. AreSettled (plain program.now) (length program.now) weights.now.items lengths.items) }
     ensures program { OnOk result (IsProgram program.now) }
 {
     let mut lengths = Vec::new(alloc);
     lengths.resize(program.slots(), None)?;
-    while sweep(program, &mut lengths) {}
+    while sweep(program, weights, &mut lengths) {}
     Ok(lengths)
 }

@@ -17,12 +17,16 @@
 //! A contract sees a program as the list of its slots. The definitions are in `specs/`:
 //!
 //! - `Edges`: `control program slot`, where control goes from a slot: to the next slot, to the target of
-//!   a jump, to both or nowhere.
+//!   a jump, to both or nowhere. `Calls`: `callee program slot`, the entry of a local call.
 //! - `Again`: calls of helper 3 with their K, the again edge of a slot, `plain`, which is the edges
 //!   without it, heads, and `turns`, the sum of all K.
 //! - `Paths`: walks along edges as lists of slots, what is reached, what lies on a cycle, paths.
-//! - `Budget`: `IsLongest program n`: some path that begins at a slot reached from slot 0 has n slots, and
-//!   no such path has more. `IsBudget` is one more than all K, times that n.
+//! - `Chains`: which local call is within which, chains of them, the last of four, recursion.
+//! - `Weights`: `IsLongest program weight entry n`: some path that begins at a slot reached from the entry
+//!   weighs n, and no such path weighs more. `AreWeights program depth weight`: a slot weighs 1, a local call
+//!   one more than the longest path of its entry, where calls are followed so many deep.
+//! - `Budget`: `IsBudget` is one more than all K, times the longest path of slot 0 with calls followed three
+//!   deep. In a program of right shape no more are to be followed (law `deeper_is_the_same`).
 //! - `Rules`: which slot `Breaks` which rule, their `order`, and `FirstBroken`.
 //! - `Shape`: `IsShapeOf`: each rule holds, and these are the budget and the heads.
 //!
@@ -30,24 +34,30 @@
 //! refusal, want of memory aside, is the first broken rule in their order at the lowest slot that breaks
 //! it. A program has at most one of each and never both (`laws`), so the answer is determined. Paths are
 //! stated over all lists of slots. That the code finds the longest one follows from an equation that the
-//! lengths meet: each is one more than the greatest of those behind the edges of its slot.
+//! lengths meet: each is the weight of its slot and the greatest of those behind its edges.
 //!
 //! Further laws say what the layers above rest on: a control edge of a program of right shape leads to an
-//! instruction, an edge is the again edge or a plain one, and how each call of `again` is enclosed.
+//! instruction, and so does a local call; an edge is the again edge or a plain one; no local call is within
+//! itself, and none is the last of four from slot 0; and how each call of `again` is enclosed.
 //!
 //! # How it is written
 //!
-//! - `edges`, `again`: the edges of a slot, by its instruction and the one before.
+//! - `edges`, `calls`, `again`: the edges of a slot, by its instruction and the one before, and the entry of
+//!   a local call.
 //! - `rules`: the rules that look at one slot, each tested over all slots.
-//! - `lengths`: sweeps from the highest slot to the lowest give each slot the length of its longest path,
+//! - `lengths`: sweeps from the highest slot to the lowest give each slot the weight of its longest path,
 //!   once those behind it are known. Where control mostly goes on to higher slots, few sweeps do; at most
 //!   there is one for each slot. A slot that gets no length leads to a cycle.
 //! - `search`: which slots are reached, by marks and a list of slots that wait. It tells the slots reached
-//!   from slot 0, and for a slot without a length whether it is on a cycle itself.
+//!   from an entry, and for a slot without a length whether it is on a cycle itself.
+//! - `depth`: rule 44. What is reached in the third function of a chain from slot 0 takes four searches.
+//!   Whether a local call is within itself takes one for each, along control edges and into functions.
+//! - `weights`: three rounds, each of which follows local calls one deeper: it weighs them by the lengths
+//!   before, with one search for each entry, and makes the lengths anew. A program without local calls needs
+//!   no round. With n slots, c local calls and e entries all this takes at most about (c + 3 e + 12) * n steps
+//!   beside the sweeps.
 //! - `shaping`: `shape`. `value`: `Shape`. `fault`: `Fault`, why and where the verifier refuses a
 //!   program, by the causes of `base`.
-//!
-//! Local calls, with their rule and weights, are not here yet: `bpf_isa` has no such instruction.
 //!
 //! # Example
 //!
@@ -63,6 +73,8 @@
 #![tactic(auto)]
 
 mod again;
+mod calls;
+mod depth;
 mod edges;
 mod fault;
 pub mod laws;
@@ -71,7 +83,9 @@ mod rules;
 mod search;
 mod shaping;
 mod value;
+mod weights;
 
+pub use calls::{callee, callee_of};
 pub use edges::{Edges, control, edges_of};
 pub use fault::Fault;
 pub use shaping::{MOST_STEPS, shape};

@@ -5,10 +5,12 @@ ghost use Rattle.std.specs.Option.{option_map_or, option_and_then};
 ghost use Rattle.bpf_isa.specs.Slots.{at};
 ghost use Rattle.bpf_shape.specs.Edges.{begins};
 ghost use Rattle.bpf_shape.specs.Again.{helper_number};
+ghost use Rattle.bpf_shape.specs.Calls.{callee};
 ghost use Rattle.bpf_shape.specs.Rules.{written, is_equality, has_form, keeps, Holds, FirstBroken};
 ghost use Rattle.bpf_shape.specs.Keeping.{IsOfSlots, IsBrokenAt, KeepsAll};
 
 use crate::again::{answer_test, calls_again, helper_number, is_target, limit_before};
+use crate::calls::callee;
 use crate::edges::control;
 use crate::fault::Fault;
 use base::causes::VerifierCause;
@@ -32,6 +34,7 @@ fn written(instr: &Instr) -> Option<Register>
         | Instr::LongJump { .. }
         | Instr::Branch { .. }
         | Instr::CallHelper { .. }
+        | Instr::CallLocal { .. }
         | Instr::Exit
         | Instr::StoreImmediate { .. }
         | Instr::Store { .. } => None,
@@ -100,7 +103,9 @@ fn keeps(program: &Program, rule: VerifierCause, slot: usize) -> bool
     ensures { result ≡ keeps program.now rule slot }
 {
     match rule {
-        VerifierCause::Target => begins(program, control(program, slot).target),
+        VerifierCause::Target => {
+            begins(program, control(program, slot).target) && begins(program, callee(program, slot))
+        }
         VerifierCause::End => begins(program, control(program, slot).next),
         VerifierCause::FramePointer => keeps_frame_pointer(program, slot),
         VerifierCause::UnknownHelper => calls_known_helper(program, slot),

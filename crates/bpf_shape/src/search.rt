@@ -1,10 +1,13 @@
 //! Which slots are reached along edges.
 
-ghost use Rattle.std.specs.Prelude.{◌≡◌, ◌<◌, ℕ, OnOk, IfOk, length};
+ghost use Rattle.std.specs.Prelude.{◌≡◌, ◌<◌, ℕ, Some, OnOk, IfOk, length};
 ghost use Rattle.bpf_shape.specs.Paths.{Leads};
-ghost use Rattle.bpf_shape.specs.Search.{followed, marks_after, waiting_after, Met, EdgesFit, AreMarks};
+ghost use Rattle.bpf_shape.specs.Edges.{control};
+ghost use Rattle.bpf_shape.specs.Calls.{callee};
+ghost use Rattle.bpf_shape.specs.Search.{entering, followed, marks_after, waiting_after, IsMarked, Met, EdgesFit, EntriesFit, AllWait, Enters, AreMarks};
 
 use crate::again::plain;
+use crate::calls::callee;
 use crate::edges::{Edges, control};
 use bpf_isa::program::Program;
 use std::alloc::{AllocError, Global};
@@ -16,6 +19,23 @@ pub(crate) enum Kind {
     All,
     /// The control edges without again edges.
     Plain,
+    /// The control edges, and one from each local call to its entry.
+    Entering,
+}
+
+/// The control edges of a slot, and one from a local call to its entry.
+#[tactic(auto, unfolding(crate::specs::Search::entering))]
+fn entering(program: &Program, slot: usize) -> Edges
+    ensures { result ≡ entering program.now slot }
+{
+    let edges = control(program, slot);
+    match callee(program, slot) {
+        Some(entry) => Edges {
+            next: edges.next,
+            target: Some(entry),
+        },
+        None => edges,
+    }
 }
 
 /// The edges of a slot of that kind.
@@ -25,6 +45,7 @@ fn edges_by(program: &Program, kind: Kind, slot: usize) -> Edges
     match kind {
         Kind::All => control(program, slot),
         Kind::Plain => plain(program, slot),
+        Kind::Entering => entering(program, slot),
     }
 }
 
@@ -58,6 +79,23 @@ fn meet(marks: &mut Vec<bool>, waiting: &mut Vec<usize>, edges: Edges) -> Result
     Ok(())
 }
 
+/// Marks what is reached along edges of that kind from the marked slots, all of which wait.
+fn spread(
+    program: &Program,
+    kind: Kind,
+    marks: &mut Vec<bool>,
+    waiting: &mut Vec<usize>,
+) -> Result<(), AllocError>
+    requires edges { EdgesFit (followed kind program.now) (length program.now) }
+    requires wait { AllWait (length program.now) marks.old.items waiting.old.items }
+    ensures { OnOk result (AreMarks (followed kind program.now) (length program.now) (IsMarked marks.old.items) marks.new.items) }
+{
+    while let Some(slot) = waiting.pop() {
+        meet(marks, waiting, edges_by(program, kind, slot))?;
+    }
+    Ok(())
+}
+
 /// For each slot, whether one of these edges begins a walk to it along edges of that kind.
 pub(crate) fn reached(
     alloc: Global,
@@ -67,14 +105,68 @@ pub(crate) fn reached(
 ) -> Result<Vec<bool>, AllocError>
     requires edges { EdgesFit (followed kind program.now) (length program.now) }
     requires within { (t : ℕ) → Leads from t → t < length program.now }
-    ensures { IfOk result (λ marks. AreMarks (followed kind program.now) (length program.now) from marks.items) }
+    ensures { IfOk result (λ marks. AreMarks (followed kind program.now) (length program.now) (Leads from) marks.items) }
 {
     let mut marks = Vec::new(alloc);
     marks.resize(program.slots(), false)?;
     let mut waiting = Vec::new(alloc);
     meet(&mut marks, &mut waiting, from)?;
-    while let Some(slot) = waiting.pop() {
-        meet(&mut marks, &mut waiting, edges_by(program, kind, slot))?;
+    spread(program, kind, &mut marks, &mut waiting)?;
+    Ok(marks)
+}
+
+/// For each slot, whether it is reached from that slot along edges of that kind.
+pub(crate) fn reached_from(
+    alloc: Global,
+    program: &Program,
+    kind: Kind,
+    slot: usize,
+) -> Result<Vec<bool>, AllocError>
+    requires edges { EdgesFit (followed kind program.now) (length program.now) }
+    requires within { slot < length program.now }
+    ensures { IfOk result (λ marks. AreMarks (followed kind program.now) (length program.now) (λ t. slot ≡ t) marks.items) }
+{
+    let start = Edges {
+        next: Some(slot),
+        target: None,
+    };
+    reached(alloc, program, kind, start)
+}
+
+/// Marks the entry of a local call, if the call is marked; it waits, if it wasn't marked.
+fn enter(
+    program: &Program,
+    outer: &Vec<bool>,
+    marks: &mut Vec<bool>,
+    waiting: &mut Vec<usize>,
+    slot: usize,
+) -> Result<(), AllocError>
+    requires { slot < length outer.now.items }
+    ensures { OnOk result (Met (λ t. IsMarked outer.now.items slot × (callee program.now slot ≡ Some t)) marks.old.items waiting.old.items marks.new.items waiting.new.items) }
+{
+    if outer[slot] {
+        meet_slot(marks, waiting, callee(program, slot))?;
     }
+    Ok(())
+}
+
+/// For each slot, whether it is reached from the entry of a marked local call.
+pub(crate) fn entered(
+    alloc: Global,
+    program: &Program,
+    outer: &Vec<bool>,
+) -> Result<Vec<bool>, AllocError>
+    requires edges { EdgesFit (control program.now) (length program.now) }
+    requires entries { EntriesFit program.now }
+    requires marks { length outer.now.items ≡ length program.now }
+    ensures { IfOk result (λ marks. AreMarks (control program.now) (length program.now) (Enters program.now outer.now.items (length program.now)) marks.items) }
+{
+    let mut marks = Vec::new(alloc);
+    marks.resize(program.slots(), false)?;
+    let mut waiting = Vec::new(alloc);
+    for slot in 0..program.slots() {
+        enter(program, outer, &mut marks, &mut waiting, slot)?;
+    }
+    spread(program, Kind::All, &mut marks, &mut waiting)?;
     Ok(marks)
 }

@@ -6,21 +6,20 @@ ghost use Rattle.bpf_shape.specs.Fault.{memory_fault};
 ghost use Rattle.bpf_shape.specs.Edges.{control};
 ghost use Rattle.bpf_shape.specs.Again.{plain};
 ghost use Rattle.bpf_shape.specs.Paths.{OnCycle};
-ghost use Rattle.bpf_shape.specs.Search.{EdgesFit};
-ghost use Rattle.bpf_shape.specs.Lengths.{AreSettled, marked_length, IsGreatest};
-ghost use Rattle.bpf_shape.specs.Budget.{IsBudget, most_steps};
+ghost use Rattle.bpf_shape.specs.Search.{EdgesFit, EntriesFit};
+ghost use Rattle.bpf_shape.specs.Lengths.{AreLengths, IsProduct, HasBudget};
 ghost use Rattle.bpf_shape.specs.Rules.{Holds, FirstBroken};
-ghost use Rattle.bpf_shape.specs.Keeping.{IsBrokenAt};
+ghost use Rattle.bpf_shape.specs.Keeping.{IsBrokenAt, IsFirstOfPaths};
 ghost use Rattle.bpf_shape.specs.Shape.{IsShapeOf};
 ghost use Rattle.base.specs.declared.causes.VerifierCause.TheVariants as cause;
 
 use crate::again::{heads, plain, turns};
-use crate::edges::Edges;
+use crate::depth::keep_calls;
 use crate::fault::Fault;
-use crate::lengths::path_lengths;
 use crate::rules::keep_all;
 use crate::search::{Kind, reached};
 use crate::value::Shape;
+use crate::weights::{followed_lengths, greatest_from, plain_lengths};
 use base::causes::VerifierCause;
 use bpf_isa::program::Program;
 use std::alloc::{AllocError, Global};
@@ -32,11 +31,11 @@ pub const MOST_STEPS: u64 = 1_000_000_000;
 fn is_on_cycle(
     alloc: Global,
     program: &Program,
-    lengths: &Vec<Option<usize>>,
+    lengths: &Vec<Option<u64>>,
     slot: usize,
 ) -> Result<bool, AllocError>
     requires edges { EdgesFit (plain program.now) (length program.now) }
-    requires settled { AreSettled (plain program.now) (length program.now) lengths.now.items }
+    requires lengths { AreLengths program.now 0 lengths.now.items }
     requires slot { slot < length program.now }
     ensures { IfOk result (λ found. IsTrue found ↔ OnCycle (plain program.now) slot) }
 {
@@ -48,9 +47,9 @@ fn is_on_cycle(
 }
 
 /// Tests that there is no cycle without again edges, and names the lowest slot on one.
-fn keep_loops(alloc: Global, program: &Program, lengths: &Vec<Option<usize>>) -> Result<(), Fault>
+fn keep_loops(alloc: Global, program: &Program, lengths: &Vec<Option<u64>>) -> Result<(), Fault>
     requires edges { EdgesFit (plain program.now) (length program.now) }
-    requires settled { AreSettled (plain program.now) (length program.now) lengths.now.items }
+    requires lengths { AreLengths program.now 0 lengths.now.items }
     ensures kept { OnOk result (Holds program.now cause.Loop) }
     ensures refused { IfErr result (λ f. (f ≡ memory_fault) ⊎ IsBrokenAt program.now cause.Loop f) }
 {
@@ -62,66 +61,54 @@ fn keep_loops(alloc: Global, program: &Program, lengths: &Vec<Option<usize>>) ->
     Ok(())
 }
 
-/// The length of a slot, if it is marked, else 0.
-fn marked_length(lengths: &Vec<Option<usize>>, marks: &Vec<bool>, slot: usize) -> usize
-    requires lengths { slot < length lengths.now.items }
-    requires marks { slot < length marks.now.items }
-    ensures { result ≡ marked_length lengths.now.items marks.now.items slot }
-{
-    if marks[slot] {
-        match lengths[slot] {
-            Some(length) => length,
-            None => 0,
-        }
-    } else {
-        0
-    }
-}
-
-/// The greatest length of the marked slots.
-fn greatest(lengths: &Vec<Option<usize>>, marks: &Vec<bool>) -> usize
-    requires { length marks.now.items ≡ length lengths.now.items }
-    ensures { IsGreatest lengths.now.items marks.now.items (length lengths.now.items) result }
-{
-    let mut longest = 0;
-    for slot in 0..lengths.len() {
-        longest = longest.max(marked_length(lengths, marks, slot));
-    }
-    longest
-}
-
-/// The budget, from the sum of all K and the length of the longest path.
-#[tactic(auto, using(crate::proofs::Budgets::product_fits))]
-fn steps(turns: u64, longest: usize) -> u64
-    requires turns { turns ≤ 4294967296 }
-    requires longest { longest ≤ 4096 }
-    ensures { result ≡ (1 + turns) * longest }
-{
-    (1 + turns) * longest as u64
-}
-
-/// Whether a budget is above what is accepted.
-fn is_over(budget: u64) -> bool
-    ensures over { IsTrue result → most_steps < budget }
-    ensures within { IsFalse result → budget ≤ most_steps }
-{
-    budget > MOST_STEPS
-}
-
-/// The budget of a program without cycles.
-fn budget(alloc: Global, program: &Program, lengths: &Vec<Option<usize>>) -> Result<u64, AllocError>
+/// Tests that there is no cycle without again edges, then the local calls within local calls.
+fn keep_paths(alloc: Global, program: &Program, lengths: &Vec<Option<u64>>) -> Result<(), Fault>
+    requires plain { EdgesFit (plain program.now) (length program.now) }
     requires edges { EdgesFit (control program.now) (length program.now) }
-    requires settled { AreSettled (plain program.now) (length program.now) lengths.now.items }
+    requires entries { EntriesFit program.now }
+    requires program { IsProgram program.now }
+    requires lengths { AreLengths program.now 0 lengths.now.items }
+    ensures loops { OnOk result (Holds program.now cause.Loop) }
+    ensures calls { OnOk result (Holds program.now cause.CallDepth) }
+    ensures refused { IfErr result (λ f. (f ≡ memory_fault) ⊎ IsFirstOfPaths program.now f) }
+{
+    let loops = keep_loops(alloc, program, lengths);
+    let calls = keep_calls(alloc, program);
+    loops.and(calls)
+}
+
+/// The budget, from the sum of all K and the longest path; none, where it is above what is accepted.
+#[tactic(auto, using(crate::proofs::Budgets::product_fits))]
+fn steps(turns: u64, longest: u64) -> Option<u64>
+    requires { turns ≤ 4294967296 }
+    ensures { IsProduct turns longest result }
+{
+    if longest > MOST_STEPS {
+        return None;
+    }
+    let steps = (1 + turns) * longest;
+    if steps > MOST_STEPS {
+        None
+    } else {
+        Some(steps)
+    }
+}
+
+/// The budget of a program without cycles; none, where it is above what is accepted.
+fn budget(
+    alloc: Global,
+    program: &Program,
+    lengths: Vec<Option<u64>>,
+) -> Result<Option<u64>, AllocError>
+    requires edges { EdgesFit (control program.now) (length program.now) }
+    requires entries { EntriesFit program.now }
     requires loops { Holds program.now cause.Loop }
     requires program { IsProgram program.now }
-    ensures { IfOk result (λ n. IsBudget program.now n) }
+    requires lengths { AreLengths program.now 0 lengths.items }
+    ensures { IfOk result (λ found. HasBudget program.now found) }
 {
-    let start = Edges {
-        next: Some(0),
-        target: None,
-    };
-    let marks = reached(alloc, program, Kind::All, start)?;
-    let longest = greatest(lengths, &marks);
+    let followed = followed_lengths(alloc, program, lengths)?;
+    let longest = greatest_from(alloc, program, &followed, 0)?;
     Ok(steps(turns(program), longest))
 }
 
@@ -132,12 +119,13 @@ pub fn shape(alloc: Global, program: &Program) -> Result<Shape, Fault>
     ensures refused { IfErr result (λ f. (f ≡ memory_fault) ⊎ FirstBroken program.now f.code f.slot) }
 {
     keep_all(program)?;
-    let lengths = path_lengths(alloc, program)?;
-    keep_loops(alloc, program, &lengths)?;
-    let budget = budget(alloc, program, &lengths)?;
-    if is_over(budget) {
-        return Err(Fault::at(VerifierCause::Budget, 0));
+    let lengths = plain_lengths(alloc, program)?;
+    keep_paths(alloc, program, &lengths)?;
+    match budget(alloc, program, lengths)? {
+        Some(budget) => {
+            let heads = heads(alloc, program)?;
+            Ok(Shape::new(budget, heads))
+        }
+        None => Err(Fault::at(VerifierCause::Budget, 0)),
     }
-    let heads = heads(alloc, program)?;
-    Ok(Shape::new(budget, heads))
 }

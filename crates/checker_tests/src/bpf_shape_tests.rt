@@ -5,10 +5,11 @@ use bpf_isa::codec::decode;
 use bpf_isa::instr::Instr;
 use bpf_isa::program::Program;
 use bpf_shape::laws::{
-    again_has_form, edges_are_split, edges_lead_to_instructions, heads_are_targets, heads_by_slot,
+    again_has_form, calls_are_nested, deeper_is_the_same, edges_are_split,
+    edges_lead_to_instructions, entries_are_instructions, heads_are_targets, heads_by_slot,
     no_fault_in_shaped, one_fault, one_shape,
 };
-use bpf_shape::{Edges, control, edges_of, shape};
+use bpf_shape::{Edges, callee, callee_of, control, edges_of, shape};
 use std::alloc::Global;
 use std::test::Fail;
 
@@ -103,6 +104,26 @@ const BOTH_EDGES: [Slot; 4] = [
     (0x15, 0, 0, 0), // 2: jeq r0, 0, +0
     EXIT, // 3: exit
 ];
+
+/// local_call
+const LOCAL_CALL: [Slot; 6] = [
+    (0xb7, 1, 0, 20), // 0: mov64 r1, 20
+    (0x85, 0x10, 0, 1), // 1: callf +1
+    EXIT, // 2: exit
+    (0xbf, 0x10, 0, 0), // 3: mov64 r0, r1
+    (0x07, 0, 0, 1), // 4: add64 r0, 1
+    EXIT, // 5: exit
+];
+
+/// So many times `callf +1; exit`, then `mov64 r0, 0; exit`.
+fn nested_calls(alloc: Global, depth: usize) -> Result<Program, Fail> {
+    let mut slots: Vec<Slot> = Vec::new(alloc);
+    for _ in 0..depth {
+        slots.extend_from_slice(&[(0x85, 0x10, 0, 1), EXIT])?;
+    }
+    slots.extend_from_slice(&[(0xb7, 0, 0, 0), EXIT])?;
+    program_of(alloc, slots.as_slice())
+}
 
 /// The program of these slots.
 fn program_of(alloc: Global, slots: &[Slot]) -> Result<Program, Fail> {
@@ -212,6 +233,77 @@ fn refusals(rt: HostRuntime) -> Result<(), Fail> {
     Ok(())
 }
 
+#[test]
+fn local_calls(rt: HostRuntime) -> Result<(), Fail> {
+    let program = nested_calls(rt.alloc(), 3)?;
+    assert_eq!(rt; answer(rt.alloc(), &program), Ok(8));
+    let program = nested_calls(rt.alloc(), 4)?;
+    assert_eq!(rt; answer(rt.alloc(), &program), Err((44, 6)));
+    let cases: [(&[Slot], Result<u64, (u8, u64)>); 9] = [
+        (&LOCAL_CALL, Ok(6)),
+        // callf -1; exit
+        (&[(0x85, 0x10, 0, -1), EXIT], Err((44, 0))),
+        // exit; callf +0; callf -2; exit: recursion that isn't reached
+        (
+            &[EXIT, (0x85, 0x10, 0, 1), EXIT, (0x85, 0x10, 0, -3), EXIT],
+            Err((44, 1)),
+        ),
+        // callf -1; mov64 r0, 0; ja -2: a loop and recursion
+        (
+            &[(0x85, 0x10, 0, -1), (0xb7, 0, 0, 0), (0x05, 0, -2, 0)],
+            Err((42, 1)),
+        ),
+        // callf +1; exit
+        (&[(0x85, 0x10, 0, 1), EXIT], Err((40, 0))),
+        // exit; callf -2
+        (&[EXIT, (0x85, 0x10, 0, -2)], Err((41, 1))),
+        // callf +1; exit; mov64 r1, 2; call 3; jne r0, 0, -3; exit: (1 + 2) * (2 + 4)
+        (
+            &[
+                (0x85, 0x10, 0, 1),
+                EXIT,
+                (0xb7, 1, 0, 2),
+                (0x85, 0, 0, 3),
+                (0x55, 0, -3, 0),
+                EXIT,
+            ],
+            Ok(18),
+        ),
+        // callf +2; exit; mov64 r1, 2; call 3; jne r0, 0, -3; exit
+        (
+            &[
+                (0x85, 0x10, 0, 2),
+                EXIT,
+                (0xb7, 1, 0, 2),
+                (0x85, 0, 0, 3),
+                (0x55, 0, -3, 0),
+                EXIT,
+            ],
+            Err((43, 3)),
+        ),
+        // callf +2; callf +1; exit; mov64 r0, 0; exit: both calls weigh 3
+        (
+            &[
+                (0x85, 0x10, 0, 2),
+                (0x85, 0x10, 0, 1),
+                EXIT,
+                (0xb7, 0, 0, 0),
+                EXIT,
+            ],
+            Ok(7),
+        ),
+    ];
+    for (number, (slots, expected)) in cases.iter().enumerate() {
+        let program = program_of(rt.alloc(), slots)?;
+        assert_eq!(rt;
+            answer(rt.alloc(), &program),
+            *expected,
+            "program {number}"
+        );
+    }
+    Ok(())
+}
+
 /// `mov64 r1, K; call 3; jne r0, 0, -3`, so many times `mov64 r0, 0`, then `exit`.
 fn long_program(alloc: Global, turns: i32, moves: usize) -> Result<Program, Fail> {
     let mut slots: Vec<Slot> = Vec::new(alloc);
@@ -284,6 +376,17 @@ fn edges(rt: HostRuntime) -> Result<(), Fail> {
             target: Some(0)
         }
     );
+    let program = program_of(rt.alloc(), &LOCAL_CALL)?;
+    assert_eq!(rt;
+        control(&program, 1),
+        Edges {
+            next: Some(2),
+            target: None
+        }
+    );
+    assert_eq!(rt; callee(&program, 1), Some(3));
+    assert_eq!(rt; callee(&program, 0), None);
+    assert_eq!(rt; callee_of(4, &Instr::CallLocal { offset: -5 }), Some(0));
     assert_eq!(rt; VerifierCause::Memory.number(), 60);
     Ok(())
 }
@@ -297,5 +400,8 @@ fn laws() {
     heads_are_targets();
     heads_by_slot();
     edges_lead_to_instructions();
+    entries_are_instructions();
+    calls_are_nested();
+    deeper_is_the_same();
     again_has_form();
 }

@@ -1,25 +1,19 @@
 use Rattle.std.proofs.Common.{rules, ◌≡◌, [], length, false, replicate}
 use Rattle.bpf_shape.specs.Paths.{Leads}
 use Rattle.bpf_shape.specs.Search.{followed, Met}
-use Rattle.bpf_shape.proofs.Searching.{begin, go_on, end}
+use Rattle.bpf_shape.proofs.Searching.{met_wait, marks_of}
 use Rattle.bpf_shape.proofs.search.reached.Goals as goal
 
-pub loop-slot-init : goal.loop-slot-init
-loop-slot-init c =
+pub spread-requires-clause-wait : goal.spread-requires-clause-wait
+spread-requires-clause-wait c =
+    let empty : c.resize.new.self.items ≡ replicate (length c.args.program.now) false = search rules in
+    let none : c.new-waiting.result.items ≡ [] = c.new-waiting.ensures.items in
+    met_wait (Leads c.args.from) (length c.args.program.now) _ _ (rw (empty, none) at c.in_ok-meet.ensures)
+
+pub returns : goal.returns
+returns c =
     let empty : c.resize.new.self.items ≡ replicate (length c.args.program.now) false = search rules in
     let none : c.new-waiting.result.items ≡ [] = c.new-waiting.ensures.items in
     let met : Met (Leads c.args.from) (replicate (length c.args.program.now) false) [] c.meet.new.marks.items c.meet.new.waiting.items =
     rw (empty, none) at c.in_ok-meet.ensures in
-    begin (followed c.args.kind c.args.program.now) (length c.args.program.now) c.args.from _ _ c.requires.within met
-
-pub loop-slot-preserved : goal.loop-slot-preserved
-loop-slot-preserved c =
-    let met : Met (Leads (followed c.args.kind c.args.program.now c.in-Some.slot)) c.loop-slot.marks.items c.pop.new.self.items c.meet-in-Some.new.marks.items c.meet-in-Some.new.waiting.items =
-    rw c.edges_by.ensures at c.in_ok-meet-2.ensures in
-    go_on (followed c.args.kind c.args.program.now) (length c.args.program.now) c.args.from c.loop-slot.marks.items _ c.pop.new.self.items _ c.loop-slot.waiting.items
-    c.in-Some.slot c.requires.edges c.in-Some.ensures.items c.loop-slot.invariant met
-
-pub returns : goal.returns
-returns c =
-    let none : c.loop-slot.waiting.items ≡ [] = search rules in
-    end (followed c.args.kind c.args.program.now) (length c.args.program.now) c.args.from c.loop-slot.marks.items c.loop-slot.waiting.items none c.loop-slot.invariant
+    marks_of (Leads c.args.from) (followed c.args.kind c.args.program.now) (length c.args.program.now) _ _ _ c.requires.within met c.in_ok-spread.ensures

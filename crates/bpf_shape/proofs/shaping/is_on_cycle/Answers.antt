@@ -8,9 +8,10 @@ use Rattle.bpf_shape.proofs.shaping.is_on_cycle.Goals as goal
 pub returns-then-is_some : goal.returns-then-is_some
 returns-then-is_some c =
     let n = length c.args.program.now in
-    let read = length_here c.args.lengths.now.items c.args.slot c.index.result.now (omega (arith, c.requires.slot, c.requires.settled.partial.long)) c.index.ensures (sym c.is_some.ensures ∙ c.if-is_some.true) in (
+    let l = c.requires.lengths in
+    let read = length_here c.args.lengths.now.items c.args.slot c.index.result.now (omega (arith, c.requires.slot, l.settled.partial.long)) c.index.ensures (sym c.is_some.ensures ∙ c.if-is_some.true) in (
       λ bad. absurd (let worse : false ≡ true = bad in cc),
-      λ cycle. absurd (no_cycle (plain c.args.program.now) n c.args.lengths.now.items c.args.slot read.0 c.requires.settled.partial read.1 cycle),
+      λ cycle. absurd (no_cycle (plain c.args.program.now) n l.weights c.args.lengths.now.items l.settled.partial c.args.slot read.0 read.1 cycle),
     )
 
 pub reached-requires-clause-within : goal.reached-requires-clause-within

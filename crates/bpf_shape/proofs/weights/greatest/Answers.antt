@@ -1,6 +1,6 @@
 use Rattle.std.proofs.Common.{length, ◌≡◌, rules, max}
 use Rattle.bpf_shape.proofs.Budgets.{greater}
-use Rattle.bpf_shape.proofs.shaping.greatest.Goals as goal
+use Rattle.bpf_shape.proofs.weights.greatest.Goals as goal
 
 pub loop-slot-preserved : goal.loop-slot-preserved
 loop-slot-preserved c =

@@ -1,0 +1,5 @@
+use Rattle.bpf_shape.proofs.Whole.{deeper_is_the_same}
+use Rattle.bpf_shape.proofs.laws.deeper_is_the_same.Goals as goal
+
+pub returns : goal.returns
+returns c = deeper_is_the_same
