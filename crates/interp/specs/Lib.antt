@@ -4,4 +4,5 @@ pub mod Checker
 pub mod Going
 pub mod Cells
 pub mod Reading
+pub mod Frames
 pub mod Operations

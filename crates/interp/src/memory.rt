@@ -1,15 +1,17 @@
 //! The memory of a program (docs/MACHINE.md, Address space). An access lies in one block, the context,
 //! the stack or a sector, or some address of it has no byte; so its block is found once.
 
-ghost use Rattle.std.specs.Prelude.{◌≡◌, ◌≤◌, ◌<◌, ◌+◌, ◌-◌, ◌/◌, ◌^◌, length, slice_get, IfNone, IfSome, Some, if◌then◌else◌};
+ghost use Rattle.std.specs.Prelude.{◌≡◌, ◌≤◌, ◌<◌, ◌+◌, ◌-◌, ◌*◌, ◌/◌, ◌^◌, ◌⊎◌, ℕ, List, Ok, Err, length, nat_le, slice_get, IfNone, IfSome, IfOk, Some, if◌then◌else◌};
 ghost use Rattle.base.specs.declared.causes.MachineFault.TheVariants.{ReadOnly, Unmapped};
 ghost use Rattle.std.specs.Option.{option_map};
-ghost use Rattle.machine.specs.Memory.{byte_count, stored};
-ghost use Rattle.machine.specs.State.{stack_start};
+ghost use Rattle.machine.specs.Memory.{byte_count, byte_at, stored};
+ghost use Rattle.machine.specs.State.{context_start, stack_start};
 ghost use Rattle.machine.specs.Step.{memory};
 ghost use Rattle.helpers.specs.Answers.{sector_start};
-ghost use Rattle.interp.specs.Reading.{reading, write_fault};
+ghost use Rattle.interp.specs.Frames.{AreLong, BeginsAt, LieAt};
+ghost use Rattle.interp.specs.Reading.{reading, refused, write_fault};
 
+use crate::frames::Frames;
 use crate::stack::{Stack, read_plain};
 use crate::state::{CONTEXT_START, Machine, STACK_START};
 use crate::step::World;
@@ -35,6 +37,27 @@ fn sector_at<'w, D: Device>(world: &World<'w, D>, address: u64) -> Option<&'w [u
         return None;
     }
     world.device.sector(number as u32)
+}
+
+/// A place in the stack of an open frame.
+#[derive(Clone, Copy)]
+pub(crate) struct Spot {
+    pub(crate) frame: usize,
+    pub(crate) place: usize,
+}
+
+/// A place in a stack, if so many bytes fit behind it.
+#[inline(always)]
+fn spot_within(spot: Spot, count: u64) -> Result<Spot, MachineFault>
+    requires place { spot.place < 512 }
+    requires few { count ≤ 512 }
+    ensures { result ≡ (if nat_le (spot.place + count) 512 then Ok spot else Err Unmapped) }
+{
+    if spot.place as u64 + count <= BLOCK {
+        Ok(spot)
+    } else {
+        Err(MachineFault::Unmapped)
+    }
 }
 
 /// Reads an access that begins at the sectors or behind them.
@@ -84,6 +107,25 @@ fn sector_fault<D: Device, const COUNTS: usize>(
     }
 }
 
+/// Where an access lies among the frames above the first, if it begins in the stack of an open one.
+fn spot_above(frames: &Frames, address: u64) -> Option<Spot>
+    requires { address < sector_start }
+    ensures found { IfSome result (λ s. BeginsAt frames.now address s.frame s.place) }
+    ensures long { AreLong frames.now }
+    ensures none { IfNone result ((q p : ℕ) → address ≡ stack_start + (1024 * (q + 1) + p) → q < length frames.now → p < 512 → ⊥) }
+{
+    let place = address.wrapping_sub(STACK_START);
+    let (frame, place) = (place / 1024, place % 1024);
+    let last = frames.count() as u64;
+    if frame == 0 || frame > last || place >= BLOCK {
+        return None;
+    }
+    Some(Spot {
+        frame: frame as usize,
+        place: place as usize,
+    })
+}
+
 impl<const COUNTS: usize> Machine<COUNTS> {
     /// Reads an access.
     #[inline(always)]
@@ -105,50 +147,95 @@ impl<const COUNTS: usize> Machine<COUNTS> {
             return read_plain(&world.context, place, size);
         }
         if address < SECTOR_START {
-            return Err(MachineFault::Unmapped);
+            return self.read_above(address, size);
         }
         read_sector(self, world, address, size)
     }
 
-    /// The fault of bytes that are written, if there is one.
+    /// Reads an access that begins below the sectors, and neither in the context nor in the first stack.
+    #[inline(never)]
+    fn read_above(&self, address: u64, size: Size) -> Result<u64, MachineFault>
+        requires below { address < sector_start }
+        requires context { (address < context_start) ⊎ (context_start + 32 ≤ address) }
+        requires first { (address < stack_start) ⊎ (stack_start + 512 ≤ address) }
+        ensures { (context : List ℕ) (device : List (List ℕ)) → length context ≡ 32 → result ≡ reading (byte_at context device self.now.frames) address (byte_count size) }
+    {
+        let _stack = &self.stack;
+        let Some(frames) = &self.called else {
+            return Err(MachineFault::Unmapped);
+        };
+        match spot_above(frames, address) {
+            Some(spot) => frames.stack(spot.frame - 1).read(spot.place as u64, size),
+            None => Err(MachineFault::Unmapped),
+        }
+    }
+
+    /// Where bytes that are written stand in a stack, or their fault.
     #[inline(always)]
-    pub(crate) fn write_fault<D: Device>(
+    pub(crate) fn writable<D: Device>(
         &self,
         world: &World<D>,
         address: u64,
         count: u64,
-    ) -> Option<MachineFault>
+    ) -> Result<Spot, MachineFault>
         requires some { 0 < count }
         requires few { count ≤ 512 }
-        ensures fault { result ≡ write_fault (memory world.now.context (D.content world.now.device.now) self.now) address count }
-        ensures from { IfNone result (stack_start ≤ address) }
-        ensures fits { IfNone result (address - stack_start + count ≤ 512) }
+        ensures fault { refused result ≡ write_fault (memory world.now.context (D.content world.now.device.now) self.now) address count }
+        ensures spot { IfOk result (λ s. LieAt self.now.frames address count s.frame s.place) }
     {
         let _stack = &self.stack;
         let place = address.wrapping_sub(STACK_START);
         if place < BLOCK {
-            if place + count <= BLOCK {
-                return None;
-            }
-            return Some(MachineFault::Unmapped);
+            return spot_within(
+                Spot {
+                    frame: 0,
+                    place: place as usize,
+                },
+                count,
+            );
         }
         let place = address.wrapping_sub(CONTEXT_START);
         if place < CONTEXT {
-            return Some(plain_fault(place + count <= CONTEXT));
+            return Err(plain_fault(place + count <= CONTEXT));
         }
         if address < SECTOR_START {
-            return Some(MachineFault::Unmapped);
+            return self.writable_above(address, count);
         }
-        Some(sector_fault(self, world, address, count))
+        Err(sector_fault(self, world, address, count))
     }
 
-    /// Stores bytes in the stack.
-    pub(crate) fn store(&mut self, address: u64, bytes: &[u8])
-        requires from { stack_start ≤ address }
-        requires fits { address - stack_start + length bytes.now ≤ 512 }
-        ensures { self.new ≡ record self.old { frames = stored self.old.frames address bytes.now } }
+    /// The same for bytes that begin below the sectors, and neither in the context nor in the first stack.
+    #[inline(never)]
+    fn writable_above(&self, address: u64, count: u64) -> Result<Spot, MachineFault>
+        requires some { 0 < count }
+        requires few { count ≤ 512 }
+        requires below { address < sector_start }
+        requires context { (address < context_start) ⊎ (context_start + 32 ≤ address) }
+        requires first { (address < stack_start) ⊎ (stack_start + 512 ≤ address) }
+        ensures fault { (context : List ℕ) (device : List (List ℕ)) → length context ≡ 32 → refused result ≡ write_fault (byte_at context device self.now.frames) address count }
+        ensures spot { IfOk result (λ s. LieAt self.now.frames address count s.frame s.place) }
     {
-        let place = address - STACK_START;
-        self.stack.write(place as usize, bytes);
+        let _stack = &self.stack;
+        let Some(frames) = &self.called else {
+            return Err(MachineFault::Unmapped);
+        };
+        match spot_above(frames, address) {
+            Some(spot) => spot_within(spot, count),
+            None => Err(MachineFault::Unmapped),
+        }
+    }
+
+    /// Stores bytes in a stack.
+    pub(crate) fn store(&mut self, spot: Spot, bytes: &[u8])
+        requires frame { spot.frame < length self.old.frames }
+        requires few { spot.frame < 4 }
+        requires fits { spot.place + length bytes.now ≤ 512 }
+        ensures { (a : ℕ) → LieAt self.old.frames a (length bytes.now) spot.frame spot.place → self.new ≡ record self.old { frames = stored self.old.frames a bytes.now } }
+    {
+        if spot.frame == 0 {
+            self.stack.write(spot.place, bytes);
+        } else if let Some(frames) = &mut self.called {
+            frames.write(spot.frame - 1, spot.place, bytes);
+        }
     }
 }

@@ -1,15 +1,24 @@
-use Rattle.std.proofs.Common.{◌-◌, refl, arith}
-use Rattle.machine.specs.State.{stack_start}
-use Rattle.interp.proofs.Cells.{stored_is}
+use Rattle.std.proofs.Common.{refl, arith}
+use Rattle.interp.proofs.Stacks.{stored_is}
+use Rattle.interp.proofs.Opened.{change_behind}
 use Rattle.interp.proofs.state.Machine.store.Goals as goal
 
-pub invariant_of-self : goal.invariant_of-self
-invariant_of-self g c = c.write.ensures.long
-
-pub returns : goal.returns
-returns g c =
+pub returns-then-spot-eq0 : goal.returns-then-spot-eq0
+returns-then-spot-eq0 g c = λ a lies.
+    let first = rw (← c.self.view_is, c.if-spot-eq0.true) at lies in
     rw (
       ← c.self.view_is,
       c.write.ensures.written,
-      stored_is c.args.bytes.now c.self.inside.stack c.args.address (c.args.address - stack_start) c.self.invariant (omega (arith, c.requires.from)) c.requires.fits,
+      stored_is c.args.bytes.now _ first.found a 0 c.args.spot.place first.there first.long first.few first.start first.fits,
+    ) refl
+
+pub returns-in-Some : goal.returns-in-Some
+returns-in-Some g c = λ a lies.
+    let there = rw (← c.self.view_is) at lies in
+    rw (
+      ← c.self.view_is,
+      stored_is c.args.bytes.now _ there.found a c.args.spot.frame c.args.spot.place there.there there.long there.few there.start there.fits,
+      change_behind c.args.spot.frame _ _ _ (omega (arith, c.if-spot-eq0.false)),
+      c.write-in-Some.ensures,
+      c.in-Some.is,
     ) refl
