@@ -99,6 +99,7 @@ said_again (instr.Branch w c dst (source.Register src) offset) h =
       in_16 offset h.2,
     ) refl
 said_again (instr.CallHelper k) h = rw (one_read number (signed_decimal k) (held_as k) (prints_number k (abs_32 k h)), in_32 k h) refl
+said_again (instr.CallLocal offset) h = rw (one_read target (with_sign offset) (At (held_as offset)) (prints_target offset (abs_32 offset h)), in_32 offset h) refl
 said_again instr.Exit h = nothing_left
 said_again (instr.Load s dst base offset) h =
     rw (two_read register place (register_text dst) (place_text base offset) dst (base, held_as offset) (prints_register dst h.0) (prints_place base offset h.1 (abs_16 offset h.2)), in_16 offset h.2) refl
@@ -123,6 +124,7 @@ colon_fails kind.Jump rest = refl
 colon_fails kind.LongJump rest = refl
 colon_fails (kind.Branch w c) rest = refl
 colon_fails kind.CallHelper rest = refl
+colon_fails kind.CallLocal rest = refl
 colon_fails kind.Exit rest = refl
 colon_fails (kind.Load s) rest = refl
 colon_fails (kind.LoadSigned s) rest = refl
@@ -229,6 +231,7 @@ operand_lines (instr.LongJump offset) h = (sign_line offset (abs_32 offset h), t
 operand_lines (instr.Branch w c dst (source.Immediate n) offset) h = (register_line dst h.0, (signed_line n (abs_32 n h.1), (sign_line offset (abs_16 offset h.2), tt)))
 operand_lines (instr.Branch w c dst (source.Register src) offset) h = (register_line dst h.0, (register_line src h.1, (sign_line offset (abs_16 offset h.2), tt)))
 operand_lines (instr.CallHelper k) h = (signed_line k (abs_32 k h), tt)
+operand_lines (instr.CallLocal offset) h = (sign_line offset (abs_32 offset h), tt)
 operand_lines instr.Exit h = tt
 operand_lines (instr.Load s dst base offset) h = (register_line dst h.0, (place_line base offset h.1 (abs_16 offset h.2), tt))
 operand_lines (instr.LoadSigned s dst base offset) h = (register_line dst h.0, (place_line base offset h.1 (abs_16 offset h.2), tt))

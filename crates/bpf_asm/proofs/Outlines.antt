@@ -218,6 +218,7 @@ aim_takes : (d : ℤ) (i : Instr) → length (entry (aim d i)) ≡ length (entry
 aim_takes d (instr.Jump _) = refl
 aim_takes d (instr.LongJump _) = refl
 aim_takes d (instr.Branch _ _ _ _ _) = refl
+aim_takes d (instr.CallLocal _) = refl
 aim_takes d i = refl
 
 -- an instruction takes the slots that its draft takes

@@ -99,6 +99,7 @@ name_of kind.Jump = codes "ja"
 name_of kind.LongJump = codes "ja32"
 name_of (kind.Branch w c) = condition_name c ++ branch_width_name w
 name_of kind.CallHelper = codes "call"
+name_of kind.CallLocal = codes "callf"
 name_of kind.Exit = codes "exit"
 name_of (kind.Load s) = codes "ldx" ++ size_name s
 name_of (kind.LoadSigned s) = codes "ldxs" ++ signed_size_name s
@@ -139,7 +140,7 @@ mnemonics =
     ++ flat_map (λ o. map (kind.ByteOrder o) order_sizes) orders
     ++ (kind.Jump ∷ kind.LongJump ∷ [])
     ++ flat_map (λ w. map (kind.Branch w) conditions) widths
-    ++ (kind.CallHelper ∷ kind.Exit ∷ [])
+    ++ (kind.CallHelper ∷ kind.CallLocal ∷ kind.Exit ∷ [])
     ++ map kind.Load sizes
     ++ map kind.LoadSigned signed_sizes
     ++ map kind.StoreImmediate sizes
@@ -160,6 +161,7 @@ mnemonic (instr.Jump offset) = kind.Jump
 mnemonic (instr.LongJump offset) = kind.LongJump
 mnemonic (instr.Branch w c dst source offset) = kind.Branch w c
 mnemonic (instr.CallHelper number) = kind.CallHelper
+mnemonic (instr.CallLocal offset) = kind.CallLocal
 mnemonic instr.Exit = kind.Exit
 mnemonic (instr.Load s dst base offset) = kind.Load s
 mnemonic (instr.LoadSigned s dst base offset) = kind.LoadSigned s

@@ -71,7 +71,7 @@ place ps = do
   rest ← mark 93 offset.1
   Some ((base.0, offset.0), rest)
 
--- where a jump goes: at a distance, or to a label
+-- where a jump or a local call goes: at a distance, or to a label
 pub data Target : Type 0 where
   At : Number → Target
   To : List ℕ → Target
@@ -164,6 +164,10 @@ draft kind.CallHelper ps = do
   n ← one number ps
   helper ← immediate_in_range n
   Some (whole (instr.CallHelper helper))
+draft kind.CallLocal ps = do
+  to ← one target ps
+  d ← aimed immediate_in_range to
+  Some (record { instr = instr.CallLocal d.0; label = d.1 })
 draft kind.Exit ps = if is_none_left ps then Some (whole instr.Exit) else None
 draft (kind.Load s) ps = do
   x ← two register place ps

@@ -36,6 +36,7 @@ abbrev pub aim : ℤ → Instr → Instr
 aim distance (instr.Jump _) = instr.Jump distance
 aim distance (instr.LongJump _) = instr.LongJump distance
 aim distance (instr.Branch w c dst source _) = instr.Branch w c dst source distance
+aim distance (instr.CallLocal _) = instr.CallLocal distance
 aim distance i = i
 
 -- the distance from the slot behind an instruction to a slot

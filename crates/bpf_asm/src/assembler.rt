@@ -36,6 +36,9 @@ fn aim(instr: Instr, distance: i16) -> Instr
             source,
             offset: distance,
         },
+        Instr::CallLocal { .. } => Instr::CallLocal {
+            offset: distance as i32,
+        },
         other => other,
     }
 }

@@ -159,7 +159,23 @@ fn call(line: &[u8]) -> Result<Draft<'_>, LineCause>
     }
 }
 
-/// The end of the program.
+/// The call of a function of the program.
+fn call_local(line: &[u8]) -> Result<Draft<'_>, LineCause>
+    ensures { Gives draft_value result (draft (kind.CallLocal) (parts line.now)) }
+{
+    let Some(target) = one_target(line) else {
+        return Err(LineCause::Operand);
+    };
+    let Some((offset, label)) = target.far() else {
+        return Err(LineCause::Range);
+    };
+    Ok(Draft {
+        instr: Instr::CallLocal { offset },
+        label,
+    })
+}
+
+/// The return from a local function, or the end of the program.
 fn exit(line: &[u8]) -> Result<Draft<'_>, LineCause>
     ensures { Gives draft_value result (draft (kind.Exit) (parts line.now)) }
 {
@@ -272,6 +288,7 @@ pub(crate) fn read_instruction(mnemonic: Mnemonic, line: &[u8]) -> Result<Draft<
         Mnemonic::LongJump => long_jump(line),
         Mnemonic::Branch(width, condition) => branch(width, condition, line),
         Mnemonic::CallHelper => call(line),
+        Mnemonic::CallLocal => call_local(line),
         Mnemonic::Exit => exit(line),
         Mnemonic::Load(size) => load(size, line),
         Mnemonic::LoadSigned(size) => load_signed(size, line),

@@ -41,9 +41,6 @@
 //! list(alloc, &program)?               // "mov64 r0, 7\nja -2\n"
 //! assemble(alloc, "exit\nja x\n")      // refused: unknown label, line 2
 //! ```
-//!
-//! Calls of functions of the program itself (`callf`) are not in the language yet: the word is refused
-//! as unknown. They will be one more form in `Mnemonic` and in the tables.
 #![tactic(auto)]
 
 mod assembler;

@@ -81,7 +81,7 @@ pub fn put_instr(out: &mut String, instr: &Instr) -> Result<(), AllocError>
             put_register(out, ", ", src)
         }
         Instr::Jump { offset } => put_distance(out, " ", offset as i32),
-        Instr::LongJump { offset } => put_distance(out, " ", offset),
+        Instr::LongJump { offset } | Instr::CallLocal { offset } => put_distance(out, " ", offset),
         Instr::Branch {
             dst,
             source,

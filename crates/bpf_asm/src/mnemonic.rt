@@ -21,6 +21,7 @@ pub(crate) enum Mnemonic {
     LongJump,
     Branch(Width, Condition),
     CallHelper,
+    CallLocal,
     Exit,
     Load(Size),
     LoadSigned(SignedSize),
@@ -30,7 +31,7 @@ pub(crate) enum Mnemonic {
 }
 
 /// The instructions of the language.
-const MNEMONICS: [Mnemonic; 86] = [
+const MNEMONICS: [Mnemonic; 87] = [
     Mnemonic::Arithmetic(Width::W64, Operator::Add),
     Mnemonic::Arithmetic(Width::W64, Operator::Sub),
     Mnemonic::Arithmetic(Width::W64, Operator::Mul),
@@ -100,6 +101,7 @@ const MNEMONICS: [Mnemonic; 86] = [
     Mnemonic::Branch(Width::W32, Condition::SignedLt),
     Mnemonic::Branch(Width::W32, Condition::SignedLe),
     Mnemonic::CallHelper,
+    Mnemonic::CallLocal,
     Mnemonic::Exit,
     Mnemonic::Load(Size::Byte),
     Mnemonic::Load(Size::Half),
@@ -284,6 +286,7 @@ impl Mnemonic {
                 ..
             } => Mnemonic::Branch(*width, *condition),
             Instr::CallHelper { .. } => Mnemonic::CallHelper,
+            Instr::CallLocal { .. } => Mnemonic::CallLocal,
             Instr::Exit => Mnemonic::Exit,
             Instr::Load { size, .. } => Mnemonic::Load(*size),
             Instr::LoadSigned { size, .. } => Mnemonic::LoadSigned(*size),
@@ -307,6 +310,7 @@ impl Mnemonic {
             Mnemonic::LongJump => "ja32",
             Mnemonic::Branch(width, condition) => branch_name(width, condition),
             Mnemonic::CallHelper => "call",
+            Mnemonic::CallLocal => "callf",
             Mnemonic::Exit => "exit",
             Mnemonic::Load(size) => load_name(size),
             Mnemonic::LoadSigned(size) => load_signed_name(size),

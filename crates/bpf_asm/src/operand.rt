@@ -31,7 +31,7 @@ impl Operand {
     }
 }
 
-/// Where a jump goes: at a distance, or to a label.
+/// Where a jump or a local call goes: at a distance, or to a label.
 #[derive(Clone, Copy, Debug)]
 pub(crate) enum Target<'t> {
     Distance(Number),
@@ -167,7 +167,7 @@ fn place(line: &[u8]) -> Option<((Register, Number), &[u8])>
     Some(((base, offset), rest))
 }
 
-/// Where a jump goes.
+/// Where a jump or a local call goes.
 fn any_target(line: &[u8]) -> Option<(Target<'_>, &[u8])>
     ensures { Reads target_value result (target (parts line.now)) }
 {
