@@ -1,13 +1,14 @@
 -- What an instruction passes on, edge by edge.
-use Rattle.std.proofs.Common.{◌≡◌, ℕ, Bool, true, List, ◌++◌, map, Option, Some, None, refl}
+use Rattle.std.proofs.Common.{◌≡◌, ℕ, Bool, List, ◌++◌, map, Option, Some, None, refl}
 use Rattle.std.specs.Option.{option_to_list}
 use Rattle.bpf_isa.specs.declared.instr.Instr.{Instr}
 use Rattle.bpf_isa.specs.declared.instr.Instr.TheVariants as instr
 use Rattle.bpf_shape.specs.Edges.{edges_of}
+use Rattle.bpf_shape.specs.Calls.{callee_of}
 use Rattle.ranges.specs.States.{Abstract}
 use Rattle.ranges.specs.Passing.{passes, edge_of, sent}
 use Rattle.verifier.specs.Tables.{arrival}
-use Rattle.verifier.specs.Passing.{next_state, along}
+use Rattle.verifier.specs.Passing.{next_state, target_of, target_state, along}
 
 two : (heads : List Bool) (a b : ℕ) (m n : Option Abstract) → option_to_list (along heads (Some a) m) ++ option_to_list (along heads (Some b) n) ≡ map (arrival heads) (sent a m ++ sent b n)
 two heads a b None None = refl
@@ -16,12 +17,13 @@ two heads a b (Some s) None = refl
 two heads a b (Some s) (Some t) = refl
 
 pub by_edges : (heads : List Bool) (sectors slot : ℕ) (s : Abstract) (i : Instr)
-    → option_to_list (along heads (edges_of slot i).next (next_state sectors s i)) ++ option_to_list (along heads (edges_of slot i).target (edge_of s i true))
+    → option_to_list (along heads (edges_of slot i).next (next_state sectors s i)) ++ option_to_list (along heads (target_of slot i) (target_state s i))
     ≡ map (arrival heads) (passes sectors s slot i)
-unfolding edges_of next_state passes edge_of
+unfolding edges_of callee_of next_state target_of target_state passes edge_of
 by_edges heads sectors slot s instr.Exit = refl
 by_edges heads sectors slot s (instr.Jump distance) = refl
 by_edges heads sectors slot s (instr.LongJump distance) = refl
 by_edges heads sectors slot s (instr.Branch w c dst from distance) = two heads _ _ _ _
+by_edges heads sectors slot s (instr.CallLocal distance) = refl
 by_edges heads sectors slot s (instr.LoadImmediate dst x) = refl
 by_edges heads sectors slot s _ = refl

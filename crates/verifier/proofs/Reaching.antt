@@ -1,5 +1,5 @@
 -- What a slot passes on are states, at slots of the program.
-use Rattle.std.proofs.Common.{◌≡◌, ◌<◌, ◌^◌, ◌≤◌, ℕ, zero, suc, Bool, true, false, if◌then◌else◌, List, [], ◌∷◌, ◌++◌, length, map, slice_get, get_or, Option, Some, None, refl, inl, inr}
+use Rattle.std.proofs.Common.{◌≡◌, ◌<◌, ◌^◌, ◌≤◌, ℕ, zero, suc, Bool, true, false, if◌then◌else◌, List, [], ◌∷◌, ◌++◌, length, map, slice_get, get_or, Option, Some, None, refl, inl, inr, ◌∙◌}
 use Rattle.std.specs.Option.{option_and_then, option_to_list}
 use Rattle.bpf_isa.specs.declared.instr.Instr.{Instr}
 use Rattle.bpf_isa.specs.declared.instr.Instr.TheVariants as instr
@@ -7,18 +7,19 @@ use Rattle.bpf_isa.specs.Spelling.{IsInRange, second_of}
 use Rattle.bpf_isa.specs.Program.{halves, slots_of, AllInRange, IsProgram}
 use Rattle.bpf_isa.specs.Slots.{at}
 use Rattle.bpf_shape.specs.Edges.{edges_of, control}
+use Rattle.bpf_shape.specs.Calls.{callee_of, callee}
 use Rattle.bpf_shape.specs.Paths.{Leads}
 use Rattle.bpf_shape.specs.Rules.{IsShaped}
 use Rattle.bpf_shape.specs.Keeping.{KeepsAll}
 use Rattle.bpf_shape.specs.Again.{heads}
-use Rattle.bpf_shape.proofs.Kept.{control_fits, at_past}
+use Rattle.bpf_shape.proofs.Kept.{control_fits, entries_fit, at_past}
 use Rattle.ranges.specs.States.{Abstract, round_state}
-use Rattle.ranges.specs.Passing.{passes, edge_of}
+use Rattle.ranges.specs.Passing.{passes}
 use Rattle.ranges.specs.Order.{IsState, Each, Holds}
 use Rattle.ranges.proofs.Fitting.{round_state_fits}
-use Rattle.ranges.proofs.Keeping.{after_fits, edge_fits}
+use Rattle.ranges.proofs.Keeping.{after_fits, edge_fits, entry_fits}
 use Rattle.verifier.specs.Tables.{state_at, arrival, passed_on, rule_at, sent_from, AreStates}
-use Rattle.verifier.specs.Passing.{next_state, along, Arrive}
+use Rattle.verifier.specs.Passing.{next_state, either, target_of, target_state, along, Arrive}
 use Rattle.verifier.proofs.Edges.{by_edges}
 
 pub each_append : {X : Type 0} (P : X → Type 0) (xs ys : List X) → Each P xs → Each P ys → Each P (xs ++ ys)
@@ -74,17 +75,27 @@ next_fits sectors s i few r a = after_fits sectors s i few r a
 keeps_all : (program : List (Option Instr)) → IsShaped program → KeepsAll program
 keeps_all program h = record { targets = h.targets; ends = h.ends; frame_pointer = h.frame_pointer; helpers = h.helpers; again = h.again }
 
+target_fits : (s : Abstract) (i : Instr) → IsInRange i → IsState s → Holds IsState (target_state s i)
+unfolding target_state
+target_fits s (instr.CallLocal distance) r a = entry_fits s a
+target_fits s i r a = edge_fits s i true r a
+
 passed_fits : (n sectors slot : ℕ) (marks : List Bool) (s : Abstract) (i : Instr) → sectors < 2 ^ 64 → IsInRange i → IsState s
-    → ((t : ℕ) → Leads (edges_of slot i) t → t < n) → Arrive n (map (arrival marks) (passes sectors s slot i))
-passed_fits n sectors slot marks s i few r a inside =
+    → ((t : ℕ) → Leads (edges_of slot i) t → t < n) → ((t : ℕ) → callee_of slot i ≡ Some t → t < n) → Arrive n (map (arrival marks) (passes sectors s slot i))
+unfolding target_of
+passed_fits n sectors slot marks s i few r a inside called =
     rw (← by_edges marks sectors slot s i)
     (each_append (λ p. (p.0 < n) × IsState p.1) _ _
     (along_fits n marks (edges_of slot i).next (next_state sectors s i) (λ t e. inside t (inl e)) (next_fits sectors s i few r a))
-    (along_fits n marks (edges_of slot i).target (edge_of s i true) (λ t e. inside t (inr e)) (edge_fits s i true r a)))
+    (along_fits n marks (target_of slot i) (target_state s i) (λ t e. by_callee t (callee_of slot i) refl e) (target_fits s i r a)))
+  where
+    by_callee : (t : ℕ) (m : Option ℕ) → callee_of slot i ≡ m → either m (edges_of slot i).target ≡ Some t → t < n
+    by_callee t None e f = inside t (inr f)
+    by_callee t (Some x) e f = called t (e ∙ f)
 
 pub sent_fits : (program : List (Option Instr)) (sectors : ℕ) (table : List (Option Abstract)) (slot : ℕ) → sectors < 2 ^ 64 → IsProgram program → IsShaped program → AreStates table
     → Arrive (length program) (sent_from program sectors table slot)
-unfolding sent_from control
+unfolding sent_from control callee
 sent_fits program sectors table slot few p h states = cases (at program slot) (state_at table slot) refl (states slot)
   where
     cases : (i : Option Instr) (s : Option Abstract) → at program slot ≡ i → Holds IsState s → Arrive (length program) (passed_on (heads program) sectors slot i s)
@@ -93,6 +104,7 @@ sent_fits program sectors table slot few p h states = cases (at program slot) (s
     cases (Some i) (Some s) e a =
         passed_fits (length program) sectors slot (heads program) s i few (in_range program slot i p e) a
         (λ t leads. let there : Leads (control program slot) t = rw e leads in control_fits program (keeps_all program h) slot t there)
+        (λ t calls. let there : callee program slot ≡ Some t = rw e calls in entries_fit program h.targets slot t there)
 
 -- past the end there is nothing
 pub nothing_past : (program : List (Option Instr)) (sectors : ℕ) (table : List (Option Abstract)) (slot : ℕ) → length program ≤ slot

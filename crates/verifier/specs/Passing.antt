@@ -3,9 +3,11 @@ use Rattle.std.specs.Prelude.{◌≡◌, ◌<◌, ℕ, Bool, true, false, if◌t
 use Rattle.std.specs.Option.{option_map}
 use Rattle.bpf_isa.specs.declared.instr.Instr.{Instr}
 use Rattle.bpf_isa.specs.declared.instr.Instr.TheVariants as instr
+use Rattle.bpf_shape.specs.Edges.{edges_of}
+use Rattle.bpf_shape.specs.Calls.{callee_of}
 use Rattle.ranges.specs.States.{Abstract, start}
 use Rattle.ranges.specs.After.{after_of}
-use Rattle.ranges.specs.Passing.{edge_of}
+use Rattle.ranges.specs.Passing.{edge_of, entry_state}
 use Rattle.ranges.specs.Order.{IsState, Each}
 use Rattle.std.specs.List.{fold, flat_map, range_with_len}
 use Rattle.verifier.specs.Tables.{state_at, Covers, CoversAll, AreStates, arriving}
@@ -21,12 +23,39 @@ next_state sectors s (instr.ByteOrder o size dst) = Some (after_of sectors s (in
 next_state sectors s (instr.Jump distance) = Some (after_of sectors s (instr.Jump distance))
 next_state sectors s (instr.LongJump distance) = Some (after_of sectors s (instr.LongJump distance))
 next_state sectors s (instr.CallHelper number) = Some (after_of sectors s (instr.CallHelper number))
+next_state sectors s (instr.CallLocal distance) = Some (after_of sectors s (instr.CallLocal distance))
 next_state sectors s instr.Exit = Some (after_of sectors s instr.Exit)
 next_state sectors s (instr.Load size dst base distance) = Some (after_of sectors s (instr.Load size dst base distance))
 next_state sectors s (instr.LoadSigned size dst base distance) = Some (after_of sectors s (instr.LoadSigned size dst base distance))
 next_state sectors s (instr.StoreImmediate size base distance n) = Some (after_of sectors s (instr.StoreImmediate size base distance n))
 next_state sectors s (instr.Store size base distance src) = Some (after_of sectors s (instr.Store size base distance src))
 next_state sectors s (instr.LoadImmediate dst x) = Some (after_of sectors s (instr.LoadImmediate dst x))
+
+-- where a state is passed besides the next slot: to the entry of a local function, or the target of a jump
+abbrev pub either : Option ℕ → Option ℕ → Option ℕ
+either None target = target
+either (Some entry) target = Some entry
+
+unfoldable pub target_of : ℕ → Instr → Option ℕ
+target_of slot i = either (callee_of slot i) (edges_of slot i).target
+
+-- the state that is passed there
+unfoldable pub target_state : Abstract → Instr → Option Abstract
+target_state s (instr.CallLocal distance) = Some (entry_state s)
+target_state s (instr.Arithmetic w o dst from) = edge_of s (instr.Arithmetic w o dst from) true
+target_state s (instr.Negate w dst) = edge_of s (instr.Negate w dst) true
+target_state s (instr.SignExtend e dst src) = edge_of s (instr.SignExtend e dst src) true
+target_state s (instr.ByteOrder o size dst) = edge_of s (instr.ByteOrder o size dst) true
+target_state s (instr.Jump distance) = edge_of s (instr.Jump distance) true
+target_state s (instr.LongJump distance) = edge_of s (instr.LongJump distance) true
+target_state s (instr.Branch w c dst from distance) = edge_of s (instr.Branch w c dst from distance) true
+target_state s (instr.CallHelper number) = edge_of s (instr.CallHelper number) true
+target_state s instr.Exit = edge_of s instr.Exit true
+target_state s (instr.Load size dst base distance) = edge_of s (instr.Load size dst base distance) true
+target_state s (instr.LoadSigned size dst base distance) = edge_of s (instr.LoadSigned size dst base distance) true
+target_state s (instr.StoreImmediate size base distance n) = edge_of s (instr.StoreImmediate size base distance n) true
+target_state s (instr.Store size base distance src) = edge_of s (instr.Store size base distance src) true
+target_state s (instr.LoadImmediate dst x) = edge_of s (instr.LoadImmediate dst x) true
 
 -- what arrives along an edge, if there is one and something is passed
 abbrev pub along : List Bool → Option ℕ → Option Abstract → Option (ℕ × Abstract)

@@ -3,7 +3,8 @@
 //!
 //! A `Table` says what is known at each slot of a program: an abstract state, or none. A table is good
 //! where the start is known at slot 0, no rule is broken at any slot, and what each slot passes on is
-//! known where it arrives. `check_table` tests that. `verify` finds such a table by rounds, each of
+//! known where it arrives: at the next slot, at the target of a jump, and at the entry of a function that
+//! is called. `check_table` tests that. `verify` finds such a table by rounds, each of
 //! which passes on what is known, and joins it to what is known where it arrives, until a round changes
 //! nothing.
 //!
@@ -16,7 +17,7 @@
 //!
 //! # Place
 //!
-//! On `bpf_shape`, which knows the edges, the heads and the budget, and whose `Fault` is the refusal
+//! On `bpf_shape`, which knows the edges, the entries, the heads and the budget, and whose `Fault` is the refusal
 //! here too; and on `ranges`, which knows what an instruction makes of a state. This crate says where
 //! states arrive and when they settle. Above it a `Verified` gives the program and the limit of its
 //! steps; it is run with every test, as all programs are.

@@ -8,15 +8,15 @@ ghost use Rattle.ranges.specs.SeenStates.{state_of};
 ghost use Rattle.ranges.specs.Rules.{rules};
 ghost use Rattle.ranges.specs.Passing.{edge_of};
 ghost use Rattle.verifier.specs.Tables.{arriving, arrival, rule_at, sent_from, passed_on};
-ghost use Rattle.verifier.specs.Passing.{next_state, along};
+ghost use Rattle.verifier.specs.Passing.{next_state, target_of, target_state, along};
 ghost use Rattle.verifier.specs.Seen.{arrival_of, arrivals_of};
 
 use crate::table::Table;
 use base::causes::VerifierCause;
 use bpf_isa::instr::Instr;
 use bpf_isa::program::Program;
-use bpf_shape::{Shape, edges_of};
-use ranges::{State, after, branch, check};
+use bpf_shape::{Shape, callee_of, edges_of};
+use ranges::{State, after, branch, check, entry};
 
 /// A state that arrives at a slot.
 #[derive(Clone, Copy)]
@@ -25,7 +25,8 @@ pub(crate) struct Arrival {
     pub state: State,
 }
 
-/// What an instruction passes on: to the next slot, and to the target of a jump.
+/// What an instruction passes on: to the next slot, and to the target of a jump or the entry of a local
+/// function.
 #[derive(Clone, Copy)]
 pub(crate) struct Arrivals {
     pub next: Option<Arrival>,
@@ -67,12 +68,50 @@ fn next_state(instr: &Instr, state: &State, sectors: u32) -> Option<State>
         | Instr::Jump { .. }
         | Instr::LongJump { .. }
         | Instr::CallHelper { .. }
+        | Instr::CallLocal { .. }
         | Instr::Exit
         | Instr::Load { .. }
         | Instr::LoadSigned { .. }
         | Instr::StoreImmediate { .. }
         | Instr::Store { .. }
         | Instr::LoadImmediate { .. } => Some(after(instr, state, sectors)),
+    }
+}
+
+/// Where an instruction passes a state besides the next slot: the entry of a local function, or the
+/// target of a jump.
+#[tactic(auto, unfolding(crate::specs::Passing::target_of))]
+fn target_of(slot: usize, instr: &Instr) -> Option<usize>
+    requires { slot < 4096 }
+    ensures { result ≡ target_of slot instr.now }
+{
+    match callee_of(slot, instr) {
+        Some(entry) => Some(entry),
+        None => edges_of(slot, instr).target,
+    }
+}
+
+/// The state that is passed there.
+#[tactic(auto, unfolding(crate::specs::Passing::target_state))]
+fn target_state(instr: &Instr, state: &State) -> Option<State>
+    ensures { option_map state_of result ≡ target_state (state_of state.now) instr.now }
+{
+    match instr {
+        Instr::CallLocal { .. } => Some(entry(state)),
+        Instr::Arithmetic { .. }
+        | Instr::Negate { .. }
+        | Instr::SignExtend { .. }
+        | Instr::ByteOrder { .. }
+        | Instr::Jump { .. }
+        | Instr::LongJump { .. }
+        | Instr::Branch { .. }
+        | Instr::CallHelper { .. }
+        | Instr::Exit
+        | Instr::Load { .. }
+        | Instr::LoadSigned { .. }
+        | Instr::StoreImmediate { .. }
+        | Instr::Store { .. }
+        | Instr::LoadImmediate { .. } => branch(instr, true, state),
     }
 }
 
@@ -105,10 +144,10 @@ fn passed_on(shape: &Shape, sectors: u32, slot: usize, instr: &Instr, state: &St
     requires { slot < 4096 }
     ensures { arrivals_of result ≡ passed_on shape.now.heads sectors slot (Some instr.now) (Some (state_of state.now)) }
 {
-    let edges = edges_of(slot, instr);
+    let next = edges_of(slot, instr).next;
     Arrivals {
-        next: along(shape, edges.next, next_state(instr, state, sectors)),
-        target: along(shape, edges.target, branch(instr, true, state)),
+        next: along(shape, next, next_state(instr, state, sectors)),
+        target: along(shape, target_of(slot, instr), target_state(instr, state)),
     }
 }
 
