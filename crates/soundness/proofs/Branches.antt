@@ -24,12 +24,12 @@ use Rattle.machine.specs.Arithmetic.{holds, compared}
 use Rattle.machine.specs.State.{State, word}
 use Rattle.machine.specs.Step as step
 use Rattle.bpf_isa.specs.Slots.{at, target_slot}
-use Rattle.machine.specs.Step.{source_registers, branch_slot, checks, effect, step_of, tested, go_to, Stepped, Next, Done, Fault}
+use Rattle.machine.specs.Step.{source_registers, branch_slot, checks, effect, step_of, tested, go_to, Next}
 use Rattle.intervals.specs.Spans.{Span, Has}
 use Rattle.intervals.specs.Edges.{refined}
 use Rattle.intervals.specs.Laws.{Leaves}
 use Rattle.intervals.proofs.Edges.{refined_leaves}
-use Rattle.ranges.specs.Kinds.{Kind, Unset, Num, SectorOrNull, is_unset, is_number}
+use Rattle.ranges.specs.Kinds.{Kind, Unset, Num, SectorOrNull, is_unset}
 use Rattle.ranges.specs.States.{Abstract}
 use Rattle.ranges.specs.Reading.{value, second, are_set, with_value, words}
 use Rattle.ranges.specs.Rules.{rules, compares, is_null_test, is_wide, is_equality, is_zero, may_be_null}
@@ -38,15 +38,15 @@ use Rattle.soundness.specs.Meaning.{Describes, Means}
 use Rattle.soundness.specs.Laws.{Arrives}
 use Rattle.soundness.proofs.Checks.{pass_one, pass_two, two_tell, tested_passes, and_parts}
 use Rattle.soundness.proofs.Meanings.{means_word}
-use Rattle.soundness.proofs.Standing.{Parts, machine, Stands, Goes, goes_first, covers_machine, is_machine, set_means, not_unset, reads_set}
+use Rattle.soundness.proofs.Standing.{Parts, machine, number, Stands, Goes, goes_first, goes_to, covers_machine, set_means, not_unset, reads_set}
 use Rattle.soundness.proofs.Computing.{Site, read_has, second_has, rest_set, first_describes}
 
 -- a register that is set
-register_is : (sectors : ℕ) (known : Abstract) (m : Parts) (r : ℕ) (rest : List ℕ) → Site sectors known m → are_set known (r ∷ rest) ≡ true
+pub register_is : (sectors : ℕ) (known : Abstract) (m : Parts) (r : ℕ) (rest : List ℕ) → Site sectors known m → are_set known (r ∷ rest) ≡ true
     → get_or m.registers r None ≡ Some (word (machine m) r)
 register_is sectors known m r rest site e =
     let set = and_parts (not (is_unset (value known r))) (are_set known rest) e in
-    let h = means_word sectors 0 (value known r) (get_or m.registers r None) (not_unset (is_unset (value known r)) set.0) (site.stands.values r) in
+    let h = means_word sectors (number m) (value known r) (get_or m.registers r None) (not_unset (is_unset (value known r)) set.0) (site.stands.values r) in
     by (get_or m.registers r None) h.0 h.1
   where
     by : (c : Option ℕ) (w : ℕ) → c ≡ Some w → c ≡ Some (unwrap_or c 0)
@@ -54,13 +54,13 @@ register_is sectors known m r rest site e =
     by (Some x) w f = refl
 
 -- another value of a register that stays as it is
-pub known_stands : (sectors : ℕ) (known : Abstract) (registers stack : List (Option ℕ)) (r : ℕ) (k : Kind) → length known.values ≡ 11
-    → Means sectors 0 k (get_or registers r None) → Stands sectors known registers stack → Stands sectors (with_value known r k) registers stack
-known_stands sectors known registers stack r k long means h = record {
+pub known_stands : (sectors frame : ℕ) (known : Abstract) (registers stack : List (Option ℕ)) (r : ℕ) (k : Kind) → length known.values ≡ 11
+    → Means sectors frame k (get_or registers r None) → Stands sectors frame known registers stack → Stands sectors frame (with_value known r k) registers stack
+known_stands sectors frame known registers stack r k long means h = record {
   words = h.words;
   cells = h.cells;
-  values = λ q. subst (λ (xs : List (Option ℕ)). Means sectors 0 (get_or (set known.values r k) q Unset) (get_or xs q None)) (set-get_or registers r None)
-      (set_means sectors 0 known.values registers r k (get_or registers r None) (long ∙ sym h.words.long) h.values means q);
+  values = λ q. subst (λ (xs : List (Option ℕ)). Means sectors frame (get_or (set known.values r k) q Unset) (get_or xs q None)) (set-get_or registers r None)
+      (set_means sectors frame known.values registers r k (get_or registers r None) (long ∙ sym h.words.long) h.values means q);
   groups = h.groups;
 }
 
@@ -68,7 +68,7 @@ known_stands sectors known registers stack r k long means h = record {
 pub record Edge (sectors : ℕ) (m : Parts) (passed : Option Abstract) : Type 0 where
   pub state : Abstract
   pub is : passed ≡ Some state
-  pub stands : Stands sectors state m.registers m.stack
+  pub stands : Stands sectors (number m) state m.registers m.stack
 
 -- the null test
 
@@ -121,23 +121,23 @@ equal_holds cond.Le a b taken e h = absurd (elim e [ inl f ↦ (let bad : cond.L
 equal_holds cond.SignedLt a b taken e h = absurd (elim e [ inl f ↦ (let bad : cond.SignedLt ≡ cond.Eq = f in cc) | inr f ↦ (let bad : cond.SignedLt ≡ cond.Ne = f in cc) ])
 equal_holds cond.SignedLe a b taken e h = absurd (elim e [ inl f ↦ (let bad : cond.SignedLe ≡ cond.Eq = f in cc) | inr f ↦ (let bad : cond.SignedLe ≡ cond.Ne = f in cc) ])
 
-tested_means : (sectors : ℕ) (w : ℕ) (zero : Bool) → Describes sectors 0 SectorOrNull w → (w == 0) ≡ zero → Means sectors 0 (tested_kind zero) (Some w)
-tested_means sectors w true (inl z) e = (w, refl, rw z (record { from = omega arith; upto = omega arith }))
-tested_means sectors w false (inl z) e = absurd (let bad : (0 == 0) ≡ false = rw z at e in let worse : true ≡ false = bad in cc)
-tested_means sectors w true (inr d) e = absurd (let at : w ≡ 0 = grind (arith, nat_tests) in omega (arith, d.2, at))
-tested_means sectors w false (inr d) e =
+tested_means : (sectors frame : ℕ) (w : ℕ) (zero : Bool) → Describes sectors frame SectorOrNull w → (w == 0) ≡ zero → Means sectors frame (tested_kind zero) (Some w)
+tested_means sectors frame w true (inl z) e = (w, refl, rw z (record { from = omega arith; upto = omega arith }))
+tested_means sectors frame w false (inl z) e = absurd (let bad : (0 == 0) ≡ false = rw z at e in let worse : true ≡ false = bad in cc)
+tested_means sectors frame w true (inr d) e = absurd (let at : w ≡ 0 = grind (arith, nat_tests) in omega (arith, d.2, at))
+tested_means sectors frame w false (inr d) e =
     (w, refl, (d.0, 0, d.1, record { from = omega arith; upto = omega arith }, (let plain : sector_start + 1024 * d.0 ≡ sector_start + 1024 * d.0 + 0 = omega arith in d.2 ∙ plain)))
 
 -- numbers
 
 second_stands : (sectors : ℕ) (known : Abstract) (m : Parts) (from : Source) (y : Span) → length known.values ≡ 11
-    → ((r : ℕ) → from ≡ source.Register r → Means sectors 0 (Num y) (get_or m.registers r None))
-    → Stands sectors known m.registers m.stack → Stands sectors (with_second known from y) m.registers m.stack
+    → ((r : ℕ) → from ≡ source.Register r → Means sectors (number m) (Num y) (get_or m.registers r None))
+    → Stands sectors (number m) known m.registers m.stack → Stands sectors (number m) (with_second known from y) m.registers m.stack
 second_stands sectors known m (source.Immediate n) y long means h = h
-second_stands sectors known m (source.Register r) y long means h = known_stands sectors known m.registers m.stack r (Num y) long (means r refl) h
+second_stands sectors known m (source.Register r) y long means h = known_stands sectors (number m) known m.registers m.stack r (Num y) long (means r refl) h
 
-number_means : (sectors : ℕ) (c : Option ℕ) (w : ℕ) (y : Span) → c ≡ Some w → Has y w → Means sectors 0 (Num y) c
-number_means sectors c w y e h = (w, e, h)
+number_means : (sectors frame : ℕ) (c : Option ℕ) (w : ℕ) (y : Span) → c ≡ Some w → Has y w → Means sectors frame (Num y) c
+number_means sectors frame c w y e h = (w, e, h)
 
 both_stand : (sectors : ℕ) (known : Abstract) (m : Parts) (dst : ℕ) (from : Source) (q : Option (Span × Span)) → Site sectors known m
     → are_set known (dst ∷ source_registers from) ≡ true → Leaves q (word (machine m) dst) (step.second (machine m) from) → Edge sectors m (option_map (with_both known dst from) q)
@@ -146,17 +146,17 @@ both_stand sectors known m dst from (Some p) site is leaves = record {
   state = with_both known dst from p;
   is = refl;
   stands = second_stands sectors (with_value known dst (Num p.0)) m from p.1 (length-set known.values dst (Num p.0) ∙ site.fits.registers) (other from is leaves.1)
-      (known_stands sectors known m.registers m.stack dst (Num p.0) site.fits.registers
-      (number_means sectors (get_or m.registers dst None) (word (machine m) dst) p.0 (register_is sectors known m dst (source_registers from) site is) leaves.0) site.stands);
+      (known_stands sectors (number m) known m.registers m.stack dst (Num p.0) site.fits.registers
+      (number_means sectors (number m) (get_or m.registers dst None) (word (machine m) dst) p.0 (register_is sectors known m dst (source_registers from) site is) leaves.0) site.stands);
 }
   where
     other : (from : Source) → are_set known (dst ∷ source_registers from) ≡ true → Has p.1 (step.second (machine m) from)
-        → (r : ℕ) → from ≡ source.Register r → Means sectors 0 (Num p.1) (get_or m.registers r None)
+        → (r : ℕ) → from ≡ source.Register r → Means sectors (number m) (Num p.1) (get_or m.registers r None)
     other (source.Immediate n) set has r e = absurd (let bad : source.Immediate n ≡ source.Register r = e in cc)
     other (source.Register q) set has r e =
         let same : q ≡ r = cc in
-        subst (λ (v : ℕ). Means sectors 0 (Num p.1) (get_or m.registers v None)) same
-        (number_means sectors (get_or m.registers q None) (word (machine m) q) p.1 (register_is sectors known m q [] site (rest_set known dst (q ∷ []) set)) has)
+        subst (λ (v : ℕ). Means sectors (number m) (Num p.1) (get_or m.registers v None)) same
+        (number_means sectors (number m) (get_or m.registers q None) (word (machine m) q) p.1 (register_is sectors known m q [] site (rest_set known dst (q ∷ []) set)) has)
 
 -- the edge that the machine takes
 edge_stands : (sectors : ℕ) (known : Abstract) (m : Parts) (w : Width) (c : Condition) (dst : ℕ) (from : Source) (distance : ℤ) (taken : Bool) → Site sectors known m
@@ -166,15 +166,15 @@ unfolding edge_of
 edge_stands sectors known m w c dst from distance taken site is h = by (is_null_test w c from (value known dst)) refl
   where
     null : (w ≡ width.W64) × ((c ≡ cond.Eq) ⊎ (c ≡ cond.Ne)) × (is_zero from ≡ true) × (value known dst ≡ SectorOrNull)
-        → Means sectors 0 (tested_kind (is_equal_edge c taken)) (get_or m.registers dst None)
+        → Means sectors (number m) (tested_kind (is_equal_edge c taken)) (get_or m.registers dst None)
     null p =
         let zero : step.second (machine m) from ≡ 0 = zero_second m from p.2 in
         let wide : holds width.W64 c (word (machine m) dst) 0 ≡ taken =
         ap (λ (v : Width). holds v c (word (machine m) dst) 0) (sym p.0) ∙ ap (λ (v : ℕ). holds w c (word (machine m) dst) v) (sym zero) ∙ h in
-        let describes : Describes sectors 0 SectorOrNull (word (machine m) dst) =
-        subst (λ k. Describes sectors 0 k (word (machine m) dst)) p.3 (first_describes sectors known m dst (source_registers from) site is) in
-        subst (Means sectors 0 (tested_kind (is_equal_edge c taken))) (sym (register_is sectors known m dst (source_registers from) site is))
-        (tested_means sectors (word (machine m) dst) (is_equal_edge c taken) describes (equal_holds c (word (machine m) dst) 0 taken p.1 wide))
+        let describes : Describes sectors (number m) SectorOrNull (word (machine m) dst) =
+        subst (λ k. Describes sectors (number m) k (word (machine m) dst)) p.3 (first_describes sectors known m dst (source_registers from) site is) in
+        subst (Means sectors (number m) (tested_kind (is_equal_edge c taken))) (sym (register_is sectors known m dst (source_registers from) site is))
+        (tested_means sectors (number m) (word (machine m) dst) (is_equal_edge c taken) describes (equal_holds c (word (machine m) dst) 0 taken p.1 wide))
 
     by : (b : Bool) → is_null_test w c from (value known dst) ≡ b → Edge sectors m
         (if b then Some (with_value known dst (tested_kind (is_equal_edge c taken)))
@@ -182,7 +182,7 @@ edge_stands sectors known m w c dst from distance taken site is h = by (is_null_
     by true t = record {
       state = with_value known dst (tested_kind (is_equal_edge c taken));
       is = refl;
-      stands = known_stands sectors known m.registers m.stack dst (tested_kind (is_equal_edge c taken)) site.fits.registers (null (null_parts w c from (value known dst) t)) site.stands;
+      stands = known_stands sectors (number m) known m.registers m.stack dst (tested_kind (is_equal_edge c taken)) site.fits.registers (null (null_parts w c from (value known dst) t)) site.stands;
     }
     by false t = both_stand sectors known m dst from (refined (instr.Branch w c dst from distance) taken (words (value known dst)) (words (second known from))) site is
         (refined_leaves w c dst from distance taken (words (value known dst)) (words (second known from)) (word (machine m) dst) (step.second (machine m) from)
@@ -200,15 +200,15 @@ arrives_right sectors [] ys t a = a
 arrives_right sectors (x ∷ xs) ys t a = inr (arrives_right sectors xs ys t a)
 
 arrives_sent : (sectors : ℕ) (m : Parts) (slot : ℕ) (passed : Option Abstract) → Edge sectors m passed
-    → Arrives sectors (sent slot passed) (machine (record { slot = slot; registers = m.registers; stack = m.stack; turns = m.turns; codes = m.codes }))
+    → Arrives sectors (sent slot passed) (machine (record { slot = slot; registers = m.registers; below = m.below; caller = m.caller; stack = m.stack; turns = m.turns; codes = m.codes }))
 arrives_sent sectors m slot passed e =
-    let to : Parts = record { slot = slot; registers = m.registers; stack = m.stack; turns = m.turns; codes = m.codes } in
+    let to : Parts = record { slot = slot; registers = m.registers; below = m.below; caller = m.caller; stack = m.stack; turns = m.turns; codes = m.codes } in
     subst (λ o. Arrives sectors (sent slot o) (machine to)) (sym e.is) (inl (refl, covers_machine sectors e.state to e.stands))
 
 pub branch_goes : (program : List (Option Instr)) (context : List ℕ) (device : List (List ℕ)) (sectors : ℕ) (known : Abstract) (m : Parts) (w : Width) (c : Condition) (dst : ℕ) (from : Source) (distance : ℤ)
     → Site sectors known m → is_some (at program (m.slot + 1)) ≡ true → is_some (at program (target_slot m.slot distance)) ≡ true
     → first_failing (rules known (instr.Branch w c dst from distance)) ≡ None
-    → Goes sectors (passes sectors known m.slot (instr.Branch w c dst from distance)) (step_of program context device (machine m) (instr.Branch w c dst from distance))
+    → Goes sectors m (passes sectors known m.slot (instr.Branch w c dst from distance)) (step_of program context device (machine m) (instr.Branch w c dst from distance))
 unfolding rules passes step_of checks effect
 branch_goes program context device sectors known m w c dst from distance site next there keeps =
     by (holds w c (word (machine m) dst) (step.second (machine m) from)) refl
@@ -223,37 +223,29 @@ branch_goes program context device sectors known m w c dst from distance site ne
     right = sent (target_slot m.slot distance) (edge_of known (instr.Branch w c dst from distance) true)
 
     goes : (slot : ℕ) → is_some (at program slot) ≡ true
-        → Arrives sectors (left ++ right) (machine (record { slot = slot; registers = m.registers; stack = m.stack; turns = m.turns; codes = m.codes }))
-        → Goes sectors (left ++ right) (tested (machine m) (step.reads (machine m) (dst ∷ source_registers from) ∷ step.goes_on program slot ∷ []) (go_to slot (machine m)))
+        → Arrives sectors (left ++ right) (machine (record { slot = slot; registers = m.registers; below = m.below; caller = m.caller; stack = m.stack; turns = m.turns; codes = m.codes }))
+        → Goes sectors m (left ++ right) (tested (machine m) (step.reads (machine m) (dst ∷ source_registers from) ∷ step.goes_on program slot ∷ []) (go_to slot (machine m)))
     goes slot begins arrives =
-        let to : Parts = record { slot = slot; registers = m.registers; stack = m.stack; turns = m.turns; codes = m.codes } in
+        let to : Parts = record { slot = slot; registers = m.registers; below = m.below; caller = m.caller; stack = m.stack; turns = m.turns; codes = m.codes } in
         let list_passes = pass_two fault.UnsetRegister fault.NoInstruction (list_all (λ r. is_some (get_or m.registers r None)) (dst ∷ source_registers from)) (is_some (at program slot))
-        (reads_set sectors known m.registers (dst ∷ source_registers from) site.stands.values is) begins in
-        subst (Goes sectors (left ++ right))
+        (reads_set sectors (number m) known m.registers (dst ∷ source_registers from) site.stands.values is) begins in
+        subst (Goes sectors m (left ++ right))
         (sym (tested_passes (machine m) (step.reads (machine m) (dst ∷ source_registers from) ∷ step.goes_on program slot ∷ []) (go_to slot (machine m)) list_passes))
-        (is_machine to site.stands.words site.stands.cells site.turns, arrives)
+        (goes_to sectors to (left ++ right) site.stands.words site.stands.cells site.turns arrives)
 
     by : (b : Bool) → holds w c (word (machine m) dst) (step.second (machine m) from) ≡ b
-        → Goes sectors (left ++ right) (tested (machine m) (step.reads (machine m) (dst ∷ source_registers from) ∷ step.goes_on program (if b then target_slot m.slot distance else m.slot + 1) ∷ [])
+        → Goes sectors m (left ++ right) (tested (machine m) (step.reads (machine m) (dst ∷ source_registers from) ∷ step.goes_on program (if b then target_slot m.slot distance else m.slot + 1) ∷ [])
         (go_to (if b then target_slot m.slot distance else m.slot + 1) (machine m)))
     by true h = goes (target_slot m.slot distance) there
-        (arrives_right sectors left right (machine (record { slot = target_slot m.slot distance; registers = m.registers; stack = m.stack; turns = m.turns; codes = m.codes }))
+        (arrives_right sectors left right (machine (record { slot = target_slot m.slot distance; registers = m.registers; below = m.below; caller = m.caller; stack = m.stack; turns = m.turns; codes = m.codes }))
         (arrives_sent sectors m (target_slot m.slot distance) (edge_of known (instr.Branch w c dst from distance) true) (edge_stands sectors known m w c dst from distance true site is h)))
     by false h = goes (m.slot + 1) next
-        (arrives_left sectors left right (machine (record { slot = m.slot + 1; registers = m.registers; stack = m.stack; turns = m.turns; codes = m.codes }))
+        (arrives_left sectors left right (machine (record { slot = m.slot + 1; registers = m.registers; below = m.below; caller = m.caller; stack = m.stack; turns = m.turns; codes = m.codes }))
         (arrives_sent sectors m (m.slot + 1) (edge_of known (instr.Branch w c dst from distance) false) (edge_stands sectors known m w c dst from distance false site is h)))
 
 pub jump_goes : (program : List (Option Instr)) (sectors : ℕ) (known : Abstract) (m : Parts) (slot : ℕ) → Site sectors known m → is_some (at program slot) ≡ true
-    → Goes sectors ((slot, known) ∷ []) (tested (machine m) (step.goes_on program slot ∷ []) (go_to slot (machine m)))
+    → Goes sectors m ((slot, known) ∷ []) (tested (machine m) (step.goes_on program slot ∷ []) (go_to slot (machine m)))
 jump_goes program sectors known m slot site begins =
-    let to : Parts = record { slot = slot; registers = m.registers; stack = m.stack; turns = m.turns; codes = m.codes } in
-    subst (Goes sectors ((slot, known) ∷ [])) (sym (tested_passes (machine m) (step.goes_on program slot ∷ []) (go_to slot (machine m)) (pass_one fault.NoInstruction (is_some (at program slot)) begins)))
+    let to : Parts = record { slot = slot; registers = m.registers; below = m.below; caller = m.caller; stack = m.stack; turns = m.turns; codes = m.codes } in
+    subst (Goes sectors m ((slot, known) ∷ [])) (sym (tested_passes (machine m) (step.goes_on program slot ∷ []) (go_to slot (machine m)) (pass_one fault.NoInstruction (is_some (at program slot)) begins)))
     (goes_first sectors known to [] site.stands site.turns)
-
-pub exit_goes : (program : List (Option Instr)) (context : List ℕ) (device : List (List ℕ)) (sectors : ℕ) (known : Abstract) (m : Parts) → Site sectors known m
-    → first_failing (rules known instr.Exit) ≡ None → Goes sectors (passes sectors known m.slot instr.Exit) (step_of program context device (machine m) instr.Exit)
-unfolding rules passes step_of checks effect
-exit_goes program context device sectors known m site keeps =
-    let is = (two_tell cause.UnsetRegister cause.PointerAsNumber (are_set known (0 ∷ [])) (is_number (value known 0)) keeps).0 in
-    let list_passes = pass_one fault.UnsetRegister (list_all (λ r. is_some (get_or m.registers r None)) (0 ∷ [])) (reads_set sectors known m.registers (0 ∷ []) site.stands.values is) in
-    subst (Goes sectors []) (sym (tested_passes (machine m) (step.reads (machine m) (0 ∷ []) ∷ []) (Done (word (machine m) 0) m.codes) list_passes)) tt

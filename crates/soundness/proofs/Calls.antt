@@ -39,7 +39,7 @@ use Rattle.ranges.proofs.Keeping.{value_fits}
 use Rattle.soundness.specs.Meaning.{Describes, Means}
 use Rattle.soundness.specs.Machines.{IsSetting}
 use Rattle.soundness.proofs.Checks.{pass_two, pass_three, pass_five, two_tell, three_tell, tested_passes, and_parts}
-use Rattle.soundness.proofs.Standing.{Parts, machine, frames_of, Stands, Goes, goes_first, answered_stands, reads_set, described_word}
+use Rattle.soundness.proofs.Standing.{Parts, machine, number, frames_of, all_frames, Stands, Goes, goes_first, answered_stands, reads_set, described_word}
 use Rattle.soundness.proofs.Places.{Lands, place_lands}
 use Rattle.soundness.proofs.Loads.{AreSmall}
 use Rattle.soundness.proofs.Stacks.{filled, stored_is, filled_is_stack, written_means}
@@ -48,14 +48,14 @@ use Rattle.soundness.proofs.Computing.{Site, first_describes, rest_set}
 
 -- a machine whose counts or codes changed, behind an answer
 answers : (sectors : ℕ) (known : Abstract) (m : Parts) (list : List (Check MachineFault)) (k : Kind) (x : ℕ) (turns codes : List ℕ) → Site sectors known m
-    → length turns ≡ 4096 → first_failing list ≡ None → x < 2 ^ 64 → Means sectors 0 k (Some x)
-    → Goes sectors ((m.slot + 1, after.answered known k) ∷ [])
-    (tested (machine m) list (step.answered (machine (record { slot = m.slot; registers = m.registers; stack = m.stack; turns = turns; codes = codes })) x))
+    → length turns ≡ 4096 → first_failing list ≡ None → x < 2 ^ 64 → Means sectors (number m) k (Some x)
+    → Goes sectors m ((m.slot + 1, after.answered known k) ∷ [])
+    (tested (machine m) list (step.answered (machine (record { slot = m.slot; registers = m.registers; below = m.below; caller = m.caller; stack = m.stack; turns = turns; codes = codes })) x))
 answers sectors known m list k x turns codes site long passes small means =
-    let to : Parts = record { slot = m.slot + 1; registers = step.with_answer m.registers x; stack = m.stack; turns = turns; codes = codes } in
-    let stands = answered_stands sectors known m.registers m.stack k x site.fits.registers small means site.stands in
-    let from : State = machine (record { slot = m.slot; registers = m.registers; stack = m.stack; turns = turns; codes = codes }) in
-    subst (Goes sectors ((m.slot + 1, after.answered known k) ∷ [])) (sym (tested_passes (machine m) list (step.answered from x) passes))
+    let to : Parts = record { slot = m.slot + 1; registers = step.with_answer m.registers x; below = m.below; caller = m.caller; stack = m.stack; turns = turns; codes = codes } in
+    let stands = answered_stands sectors (number m) known m.registers m.stack k x site.fits.registers small means site.stands in
+    let from : State = machine (record { slot = m.slot; registers = m.registers; below = m.below; caller = m.caller; stack = m.stack; turns = turns; codes = codes }) in
+    subst (Goes sectors m ((m.slot + 1, after.answered known k) ∷ [])) (sym (tested_passes (machine m) list (step.answered from x) passes))
     (goes_first sectors (after.answered known k) to [] stands long)
 
 -- the checks of a call that reads these registers
@@ -63,18 +63,18 @@ reads_pass : (program : List (Option Instr)) (sectors : ℕ) (known : Abstract) 
     → first_failing (step.reads (machine m) list ∷ step.goes_on program (m.slot + 1) ∷ []) ≡ None
 reads_pass program sectors known m list site is next =
     pass_two fault.UnsetRegister fault.NoInstruction (list_all (λ r. is_some (get_or m.registers r None)) list) (is_some (at program (m.slot + 1)))
-    (reads_set sectors known m.registers list site.stands.values is) next
+    (reads_set sectors (number m) known m.registers list site.stands.values is) next
 
-number_means : (sectors most x : ℕ) → x ≤ most → Means sectors 0 (Num (span 0 most)) (Some x)
-number_means sectors most x le = (x, refl, record { from = omega arith; upto = le })
+number_means : (sectors frame most x : ℕ) → x ≤ most → Means sectors frame (Num (span 0 most)) (Some x)
+number_means sectors frame most x le = (x, refl, record { from = omega arith; upto = le })
 
 -- what the helpers answer
 
-sector_means : (sectors : ℕ) (device : List (List ℕ)) (n : ℕ) → length device ≡ sectors → Describes sectors 0 SectorOrNull (sector_answer device n)
+sector_means : (sectors frame : ℕ) (device : List (List ℕ)) (n : ℕ) → length device ≡ sectors → Describes sectors frame SectorOrNull (sector_answer device n)
 unfolding sector_answer
-sector_means sectors device n count = by (nat_lt n (length device)) refl
+sector_means sectors frame device n count = by (nat_lt n (length device)) refl
   where
-    by : (b : Bool) → nat_lt n (length device) ≡ b → Describes sectors 0 SectorOrNull (if b then sector_start + 1024 * n else 0)
+    by : (b : Bool) → nat_lt n (length device) ≡ b → Describes sectors frame SectorOrNull (if b then sector_start + 1024 * n else 0)
     by true e = let lt : n < length device = grind (arith, nat_tests) in inr (n, omega (arith, lt, count), refl)
     by false e = inl refl
 
@@ -165,9 +165,9 @@ small_copied device position n h = small_mapped (device_byte device) (range_with
 -- copy to a place of the stack
 copies : (program : List (Option Instr)) (sectors : ℕ) (device : List (List ℕ)) (context : Context) (known : Abstract) (m : Parts) (p n : ℕ)
     → IsSetting program sectors device context → Site sectors known m → are_set known (1 ∷ 2 ∷ 3 ∷ []) ≡ true → is_length n ≡ true → word (machine m) 3 ≡ n
-    → is_some (at program (m.slot + 1)) ≡ true → (word (machine m) 2 ≡ stack_start + p) × (p + n ≤ 512)
-    → Goes sectors ((m.slot + 1, after.answered (with_groups known (written_at known.groups (place.Stack p) n)) (answer_kind helper.Copy)) ∷ [])
-    (tested (machine m) (call_checks program (byte_at (context_bytes context) device (frames_of m.stack)) (machine m) helper.Copy) (call_effect device (machine m) helper.Copy))
+    → is_some (at program (m.slot + 1)) ≡ true → (word (machine m) 2 ≡ stack_start + 1024 * number m + p) × (p + n ≤ 512)
+    → Goes sectors m ((m.slot + 1, after.answered (with_groups known (written_at known.groups (place.Stack p) n)) (answer_kind helper.Copy)) ∷ [])
+    (tested (machine m) (call_checks program (byte_at (context_bytes context) device (all_frames m)) (machine m) helper.Copy) (call_effect device (machine m) helper.Copy))
 unfolding call_checks call_effect
 copies program sectors device context known m p n set site is length_is count next lands =
     let w : ℕ = word (machine m) 3 in
@@ -182,35 +182,36 @@ copies program sectors device context known m p n set site is length_is count ne
     let less : Abstract = with_groups known groups in
     let k : Kind = answer_kind helper.Copy in
     let stack : List (Option ℕ) = filled m.stack p bytes in
-    let frames : stored (frames_of m.stack) a bytes ≡ frames_of stack = stored_is bytes m.stack a p lands.0 (omega (arith, long, lands.1)) in
-    let stands : Stands sectors less m.registers stack = record {
+    let frames : stored (all_frames m) a bytes ≡ frames_of m.below m.caller stack = stored_is bytes m.below m.caller m.stack a p site.few.frames lands.0 (omega (arith, long, lands.1)) in
+    let stands : Stands sectors (number m) less m.registers stack = record {
       words = site.stands.words;
       cells = filled_is_stack bytes m.stack p small site.stands.cells;
       values = site.stands.values;
-      groups = written_means sectors known.groups bytes m.stack p n site.fits.stack long lands.1 site.stands.cells.long site.stands.groups;
+      groups = written_means sectors (number m) known.groups bytes m.stack p n site.fits.stack long lands.1 site.stands.cells.long site.stands.groups;
     } in
     let most = copy_most device position w in
-    let to : Parts = record { slot = m.slot + 1; registers = step.with_answer m.registers x; stack = stack; turns = m.turns; codes = m.codes } in
-    let last = answered_stands sectors less m.registers stack k x site.fits.registers (omega (arith, most)) (number_means sectors 1 x most) stands in
-    let mem = byte_at (context_bytes context) device (frames_of m.stack) in
+    let to : Parts = record { slot = m.slot + 1; registers = step.with_answer m.registers x; below = m.below; caller = m.caller; stack = stack; turns = m.turns; codes = m.codes } in
+    let last = answered_stands sectors (number m) less m.registers stack k x site.fits.registers (omega (arith, most)) (number_means sectors (number m) 1 x most) stands in
+    let mem = byte_at (context_bytes context) device (all_frames m) in
     let list_passes = pass_five fault.UnsetRegister fault.HelperArgument fault.Unmapped fault.ReadOnly fault.NoInstruction
     (list_all (λ r. is_some (get_or m.registers r None)) (1 ∷ 2 ∷ 3 ∷ [])) (is_length w) (all_mapped mem a w) (all_in_stacks a w) (is_some (at program (m.slot + 1)))
-    (reads_set sectors known m.registers (1 ∷ 2 ∷ 3 ∷ []) site.stands.values is) (ap is_length count ∙ length_is)
-    (stack_mapped (context_bytes context) device m.stack a p w site.stands.cells.long lands.0 fits) (stack_in_stacks a p w lands.0 fits) next in
-    subst (Goes sectors ((m.slot + 1, after.answered less k) ∷ []))
+    (reads_set sectors (number m) known m.registers (1 ∷ 2 ∷ 3 ∷ []) site.stands.values is) (ap is_length count ∙ length_is)
+    (stack_mapped (context_bytes context) device m.below m.caller m.stack a p w site.few.frames site.stands.cells.long lands.0 fits)
+    (stack_in_stacks (number m) a p w site.few.frames lands.0 fits) next in
+    subst (Goes sectors m ((m.slot + 1, after.answered less k) ∷ []))
     (sym (tested_passes (machine m) (step.reads (machine m) (1 ∷ 2 ∷ 3 ∷ []) ∷ check fault.HelperArgument (is_length w) ∷ step.store_tests program mem (machine m) a w)
-    (step.answered (record { slot = m.slot; registers = m.registers; frames = stored (frames_of m.stack) a bytes; turns = m.turns; codes = m.codes }) x) list_passes
+    (step.answered (record { slot = m.slot; registers = m.registers; frames = stored (all_frames m) a bytes; turns = m.turns; codes = m.codes }) x) list_passes
     ∙ ap (λ f. Next (record { slot = m.slot + 1; registers = step.with_answer m.registers x; frames = f; turns = m.turns; codes = m.codes })) frames))
     (goes_first sectors (after.answered less k) to [] last site.turns)
 
 -- the length of a copy
-length_known : (sectors : ℕ) (k : Kind) (w : ℕ) → has_length k ≡ true → Describes sectors 0 k w → (w ≡ length_of k) × (is_length (length_of k) ≡ true)
-length_known sectors Unset w e d = absurd (let bad : false ≡ true = e in cc)
-length_known sectors (Ctx o) w e d = absurd (let bad : false ≡ true = e in cc)
-length_known sectors (Stack o) w e d = absurd (let bad : false ≡ true = e in cc)
-length_known sectors (Sector x) w e d = absurd (let bad : false ≡ true = e in cc)
-length_known sectors SectorOrNull w e d = absurd (let bad : false ≡ true = e in cc)
-length_known sectors (Num x) w e d =
+length_known : (sectors frame : ℕ) (k : Kind) (w : ℕ) → has_length k ≡ true → Describes sectors frame k w → (w ≡ length_of k) × (is_length (length_of k) ≡ true)
+length_known sectors frame Unset w e d = absurd (let bad : false ≡ true = e in cc)
+length_known sectors frame (Ctx o) w e d = absurd (let bad : false ≡ true = e in cc)
+length_known sectors frame (Stack o) w e d = absurd (let bad : false ≡ true = e in cc)
+length_known sectors frame (Sector x) w e d = absurd (let bad : false ≡ true = e in cc)
+length_known sectors frame SectorOrNull w e d = absurd (let bad : false ≡ true = e in cc)
+length_known sectors frame (Num x) w e d =
     let h = and_parts (is_constant x) (is_length x.low) e in
     let one = h.0 in
     let same : x.low ≡ x.high = grind (arith, nat_tests) in
@@ -218,8 +219,8 @@ length_known sectors (Num x) w e d =
 
 copy_goes : (program : List (Option Instr)) (sectors : ℕ) (device : List (List ℕ)) (context : Context) (known : Abstract) (m : Parts)
     → IsSetting program sectors device context → Site sectors known m → is_some (at program (m.slot + 1)) ≡ true → first_failing (call_rules known helper.Copy) ≡ None
-    → Goes sectors ((m.slot + 1, call_after known helper.Copy) ∷ [])
-    (tested (machine m) (call_checks program (byte_at (context_bytes context) device (frames_of m.stack)) (machine m) helper.Copy) (call_effect device (machine m) helper.Copy))
+    → Goes sectors m ((m.slot + 1, call_after known helper.Copy) ∷ [])
+    (tested (machine m) (call_checks program (byte_at (context_bytes context) device (all_frames m)) (machine m) helper.Copy) (call_effect device (machine m) helper.Copy))
 unfolding call_rules call_after
 copy_goes program sectors device context known m set site next keeps =
     let n : ℕ = length_of (value known 3) in
@@ -230,34 +231,34 @@ copy_goes program sectors device context known m set site next keeps =
     let rest = rest_set known 1 (2 ∷ 3 ∷ []) tell.0 in
     let third = first_describes sectors known m 3 [] site (rest_set known 2 (3 ∷ []) rest) in
     let second = first_describes sectors known m 2 (3 ∷ []) site rest in
-    let length_is = length_known sectors (value known 3) (word (machine m) 3) two.1 third in
+    let length_is = length_known sectors (number m) (value known 3) (word (machine m) 3) two.1 third in
     let found = stack_place (value known 2) (pos 0) n two.0 tell.2 in
-    let lands = place_lands sectors (value known 2) (pos 0) n (word (machine m) 2) site.few (omega arith) (value_fits known 2 site.fits) second tell.2 in
+    let lands = place_lands sectors (number m) (value known 2) (pos 0) n (word (machine m) 2) site.few (omega arith) (value_fits known 2 site.fits) second tell.2 in
     let small : word (machine m) 2 < 2 ^ 64 = stack_word (value known 2) two.0 (value_fits known 2 site.fits) second in
     let same : (word (machine m) 2 + cast_unsigned w64 (pos 0)) % 2 ^ 64 ≡ word (machine m) 2 = omega (arith, small) in
-    let lands_there : Lands sectors (place_of (value known 2) (pos 0) n) n (word (machine m) 2) = subst (Lands sectors (place_of (value known 2) (pos 0) n) n) same lands in
-    subst (λ q. Lands sectors q n (word (machine m) 2) → Goes sectors ((m.slot + 1, after.answered (with_groups known (written_at known.groups q n)) (answer_kind helper.Copy)) ∷ [])
-    (tested (machine m) (call_checks program (byte_at (context_bytes context) device (frames_of m.stack)) (machine m) helper.Copy) (call_effect device (machine m) helper.Copy)))
+    let lands_there : Lands sectors (number m) (place_of (value known 2) (pos 0) n) n (word (machine m) 2) = subst (Lands sectors (number m) (place_of (value known 2) (pos 0) n) n) same lands in
+    subst (λ q. Lands sectors (number m) q n (word (machine m) 2) → Goes sectors m ((m.slot + 1, after.answered (with_groups known (written_at known.groups q n)) (answer_kind helper.Copy)) ∷ [])
+    (tested (machine m) (call_checks program (byte_at (context_bytes context) device (all_frames m)) (machine m) helper.Copy) (call_effect device (machine m) helper.Copy)))
     (sym found.1) (copies program sectors device context known m found.0 n set site tell.0 length_is.1 length_is.0 next) lands_there
   where
-    stack_word : (k : Kind) → is_stack k ≡ true → IsBounded k → Describes sectors 0 k (word (machine m) 2) → word (machine m) 2 < 2 ^ 64
-    stack_word (Stack o) e b d = omega (arith, b, d)
+    stack_word : (k : Kind) → is_stack k ≡ true → IsBounded k → Describes sectors (number m) k (word (machine m) 2) → word (machine m) 2 < 2 ^ 64
+    stack_word (Stack o) e b d = omega (arith, b, d, site.few.frames)
     stack_word _ e b d = absurd (let bad : false ≡ true = e in cc)
 
 -- the helpers one by one; `again` takes a limit
 pub helper_goes : (program : List (Option Instr)) (sectors : ℕ) (device : List (List ℕ)) (context : Context) (known : Abstract) (m : Parts) (h : Helper)
     → IsSetting program sectors device context → Site sectors known m → is_some (at program (m.slot + 1)) ≡ true
     → (h ≡ helper.Again → is_limit (word (machine m) 1) ≡ true) → first_failing (call_rules known h) ≡ None
-    → Goes sectors ((m.slot + 1, call_after known h) ∷ [])
-    (tested (machine m) (call_checks program (byte_at (context_bytes context) device (frames_of m.stack)) (machine m) h) (call_effect device (machine m) h))
+    → Goes sectors m ((m.slot + 1, call_after known h) ∷ [])
+    (tested (machine m) (call_checks program (byte_at (context_bytes context) device (all_frames m)) (machine m) h) (call_effect device (machine m) h))
 unfolding call_rules call_after call_checks call_effect
 helper_goes program sectors device context known m helper.Copy set site next limit keeps = copy_goes program sectors device context known m set site next keeps
 helper_goes program sectors device context known m helper.Sector set site next limit keeps =
     let is = (two_tell cause.UnsetRegister cause.HelperArgument (are_set known (1 ∷ [])) (is_number (value known 1)) keeps).0 in
     let x : ℕ = sector_answer device (word (machine m) 1) in
-    let d : Describes sectors 0 SectorOrNull x = sector_means sectors device (word (machine m) 1) set.count in
+    let d : Describes sectors (number m) SectorOrNull x = sector_means sectors (number m) device (word (machine m) 1) set.count in
     answers sectors known m (step.reads (machine m) (1 ∷ []) ∷ step.goes_on program (m.slot + 1) ∷ []) SectorOrNull x m.turns m.codes site site.turns
-    (reads_pass program sectors known m (1 ∷ []) site is next) (described_word sectors SectorOrNull x site.few refl tt d) (x, refl, d)
+    (reads_pass program sectors known m (1 ∷ []) site is next) (described_word sectors (number m) SectorOrNull x site.few refl tt d) (x, refl, d)
 helper_goes program sectors device context known m helper.Again set site next limit keeps =
     let is = (two_tell cause.UnsetRegister cause.HelperArgument (are_set known (1 ∷ [])) (is_number (value known 1)) keeps).0 in
     let n : ℕ = word (machine m) 1 in
@@ -266,29 +267,29 @@ helper_goes program sectors device context known m helper.Again set site next li
     answers sectors known m (step.reads (machine m) (1 ∷ []) ∷ check fault.HelperArgument (is_limit n) ∷ step.goes_on program (m.slot + 1) ∷ []) (Num (span 0 1)) x
     (counted (machine m) n) m.codes site (counted_long m n site.turns)
     (pass_three fault.UnsetRegister fault.HelperArgument fault.NoInstruction (list_all (λ r. is_some (get_or m.registers r None)) (1 ∷ [])) (is_limit n) (is_some (at program (m.slot + 1)))
-    (reads_set sectors known m.registers (1 ∷ []) site.stands.values is) (limit refl) next)
-    (omega (arith, most)) (number_means sectors 1 x most)
+    (reads_set sectors (number m) known m.registers (1 ∷ []) site.stands.values is) (limit refl) next)
+    (omega (arith, most)) (number_means sectors (number m) 1 x most)
 helper_goes program sectors device context known m helper.Report set site next limit keeps =
     let is = (two_tell cause.UnsetRegister cause.HelperArgument (are_set known (1 ∷ [])) (is_number (value known 1)) keeps).0 in
     let x : ℕ = report_answer m.codes in
     let most = report_most m.codes in
     answers sectors known m (step.reads (machine m) (1 ∷ []) ∷ step.goes_on program (m.slot + 1) ∷ []) (Num (span 0 1)) x m.turns (reported m.codes (word (machine m) 1)) site site.turns
-    (reads_pass program sectors known m (1 ∷ []) site is next) (omega (arith, most)) (number_means sectors 1 x most)
+    (reads_pass program sectors known m (1 ∷ []) site is next) (omega (arith, most)) (number_means sectors (number m) 1 x most)
 helper_goes program sectors device context known m helper.Zero set site next limit keeps =
     let is = (two_tell cause.UnsetRegister cause.HelperArgument (are_set known (1 ∷ [])) (is_number (value known 1)) keeps).0 in
     let x : ℕ = zero_answer device (word (machine m) 1) in
     let most = zero_most device (word (machine m) 1) in
     answers sectors known m (step.reads (machine m) (1 ∷ []) ∷ step.goes_on program (m.slot + 1) ∷ []) (Num (span 0 2)) x m.turns m.codes site site.turns
-    (reads_pass program sectors known m (1 ∷ []) site is next) (omega (arith, most)) (number_means sectors 2 x most)
+    (reads_pass program sectors known m (1 ∷ []) site is next) (omega (arith, most)) (number_means sectors (number m) 2 x most)
 helper_goes program sectors device context known m helper.Mix set site next limit keeps =
     let is = (two_tell cause.UnsetRegister cause.HelperArgument (are_set known (1 ∷ [])) (is_number (value known 1)) keeps).0 in
     let x : ℕ = mix_answer device (word (machine m) 1) in
     let small = mix_word device (word (machine m) 1) in
     answers sectors known m (step.reads (machine m) (1 ∷ []) ∷ step.goes_on program (m.slot + 1) ∷ []) (Num any_word) x m.turns m.codes site site.turns
-    (reads_pass program sectors known m (1 ∷ []) site is next) small (number_means sectors (2 ^ 64 - 1) x (omega (arith, small)))
+    (reads_pass program sectors known m (1 ∷ []) site is next) small (number_means sectors (number m) (2 ^ 64 - 1) x (omega (arith, small)))
 helper_goes program sectors device context known m helper.Same set site next limit keeps =
     let is = (two_tell cause.UnsetRegister cause.HelperArgument (are_set known (1 ∷ 2 ∷ [])) (is_number (value known 1) && is_number (value known 2)) keeps).0 in
     let x : ℕ = same_answer device (word (machine m) 1) (word (machine m) 2) in
     let most = same_most device (word (machine m) 1) (word (machine m) 2) in
     answers sectors known m (step.reads (machine m) (1 ∷ 2 ∷ []) ∷ step.goes_on program (m.slot + 1) ∷ []) (Num (span 0 2)) x m.turns m.codes site site.turns
-    (reads_pass program sectors known m (1 ∷ 2 ∷ []) site is next) (omega (arith, most)) (number_means sectors 2 x most)
+    (reads_pass program sectors known m (1 ∷ 2 ∷ []) site is next) (omega (arith, most)) (number_means sectors (number m) 2 x most)

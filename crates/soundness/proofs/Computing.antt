@@ -41,14 +41,14 @@ use Rattle.ranges.proofs.Keeping.{words_fit, value_fits, second_fits}
 use Rattle.soundness.specs.Meaning.{Describes, Means}
 use Rattle.soundness.proofs.Checks.{first_check, pass_two, pass_three, and_parts}
 use Rattle.soundness.proofs.Meanings.{word_means}
-use Rattle.soundness.proofs.Standing.{Parts, machine, Stands, Goes, set_goes, not_unset, reads_set, described, words_has}
+use Rattle.soundness.proofs.Standing.{Parts, machine, number, AreFew, Stands, Goes, set_goes, not_unset, reads_set, described, words_has}
 use Rattle.soundness.proofs.Pointers.{shifted, moved_describes}
 
 -- what holds where an instruction begins
 pub record Site (sectors : ℕ) (known : Abstract) (m : Parts) : Type 0 where
-  pub few : sectors ≤ 16384
+  pub few : AreFew sectors (number m)
   pub fits : IsState known
-  pub stands : Stands sectors known m.registers m.stack
+  pub stands : Stands sectors (number m) known m.registers m.stack
   pub turns : length m.turns ≡ 4096
 
 below_most : (r : Span) (n : ℕ) → IsSpan (2 ^ 64 - 1) r → Has r n → n < 2 ^ 64
@@ -57,7 +57,7 @@ below_most r n f h = omega (arith, f.most, h.upto)
 -- the words of operands
 
 pub read_has : (sectors : ℕ) (known : Abstract) (m : Parts) (r : ℕ) → Site sectors known m → Has (words (value known r)) (word (machine m) r)
-read_has sectors known m r s = words_has sectors (value known r) (get_or m.registers r None) (s.stands.words.words r) (s.stands.values r)
+read_has sectors known m r s = words_has sectors (number m) (value known r) (get_or m.registers r None) (s.stands.words.words r) (s.stands.values r)
 
 itself : (n : ℕ) → Has (only n) n
 itself n = record { from = omega arith; upto = omega arith }
@@ -67,19 +67,19 @@ second_has sectors known m (source.Immediate n) s = itself (cast_unsigned w64 n)
 second_has sectors known m (source.Register r) s = read_has sectors known m r s
 
 pub read_describes : (sectors : ℕ) (known : Abstract) (m : Parts) (r : ℕ) → Site sectors known m → are_set known (r ∷ []) ≡ true
-    → Describes sectors 0 (value known r) (word (machine m) r)
+    → Describes sectors (number m) (value known r) (word (machine m) r)
 read_describes sectors known m r s e =
     let set = and_parts (not (is_unset (value known r))) true e in
-    described sectors 0 (value known r) (get_or m.registers r None) (not_unset (is_unset (value known r)) set.0) (s.stands.values r)
+    described sectors (number m) (value known r) (get_or m.registers r None) (not_unset (is_unset (value known r)) set.0) (s.stands.values r)
 
 pub first_describes : (sectors : ℕ) (known : Abstract) (m : Parts) (r : ℕ) (rest : List ℕ) → Site sectors known m → are_set known (r ∷ rest) ≡ true
-    → Describes sectors 0 (value known r) (word (machine m) r)
+    → Describes sectors (number m) (value known r) (word (machine m) r)
 first_describes sectors known m r rest s e =
     let set = and_parts (not (is_unset (value known r))) (are_set known rest) e in
-    described sectors 0 (value known r) (get_or m.registers r None) (not_unset (is_unset (value known r)) set.0) (s.stands.values r)
+    described sectors (number m) (value known r) (get_or m.registers r None) (not_unset (is_unset (value known r)) set.0) (s.stands.values r)
 
 pub second_describes : (sectors : ℕ) (known : Abstract) (m : Parts) (from : Source) → Site sectors known m → are_set known (source_registers from) ≡ true
-    → Describes sectors 0 (second known from) (step.second (machine m) from)
+    → Describes sectors (number m) (second known from) (step.second (machine m) from)
 second_describes sectors known m (source.Immediate n) s e = itself (cast_unsigned w64 n)
 second_describes sectors known m (source.Register r) s e = read_describes sectors known m r s e
 
@@ -95,13 +95,13 @@ computed_has sectors known m w o dst from s range =
     (words_fit (value known dst) (value_fits known dst s.fits)) (words_fit (second known from) (second_fits known from range s.fits))
     (read_has sectors known m dst s) (second_has sectors known m from s)
 
-moved_or : (sectors : ℕ) (down : Bool) (k l c : Kind) (a b v : ℕ) → (v ≡ shifted down a b) → sectors ≤ 16384 → IsBounded k → IsBounded l
-    → Describes sectors 0 k a → Describes sectors 0 l b → Describes sectors 0 c v → Describes sectors 0 (unwrap_or (moved down k l) c) v
-moved_or sectors down k l c a b v e few fk fl dk dl dc = by (moved down k l) refl
+moved_or : (sectors frame : ℕ) (down : Bool) (k l c : Kind) (a b v : ℕ) → (v ≡ shifted down a b) → AreFew sectors frame → IsBounded k → IsBounded l
+    → Describes sectors frame k a → Describes sectors frame l b → Describes sectors frame c v → Describes sectors frame (unwrap_or (moved down k l) c) v
+moved_or sectors frame down k l c a b v e few fk fl dk dl dc = by (moved down k l) refl
   where
-    by : (p : Option Kind) → moved down k l ≡ p → Describes sectors 0 (unwrap_or p c) v
+    by : (p : Option Kind) → moved down k l ≡ p → Describes sectors frame (unwrap_or p c) v
     by None f = dc
-    by (Some p) f = rw e (moved_describes sectors down k l p a b few fk fl dk dl f)
+    by (Some p) f = rw e (moved_describes sectors frame down k l p a b few fk fl dk dl f)
 
 move_is : (a b : ℕ) → arithmetic width.W64 op.Mov a b ≡ b
 unfolding arithmetic computed
@@ -117,18 +117,18 @@ difference_is a b = refl
 
 result_describes : (sectors : ℕ) (known : Abstract) (m : Parts) (w : Width) (o : Operator) (dst : ℕ) (from : Source) → Site sectors known m → IsSourceInRange from
     → are_set known (operands o dst from) ≡ true
-    → Describes sectors 0 (result_kind (instr.Arithmetic w o dst from) (value known dst) (second known from)) (arithmetic w o (word (machine m) dst) (step.second (machine m) from))
+    → Describes sectors (number m) (result_kind (instr.Arithmetic w o dst from) (value known dst) (second known from)) (arithmetic w o (word (machine m) dst) (step.second (machine m) from))
 unfolding result_kind result_of
 result_describes sectors known m width.W64 op.Mov dst from s range e =
     rw (move_is (word (machine m) dst) (step.second (machine m) from)) (second_describes sectors known m from s e)
 result_describes sectors known m width.W64 op.Add dst from s range e =
-    moved_or sectors false (value known dst) (second known from) (Num (arithmetic_result width.W64 op.Add (words (value known dst)) (words (second known from))))
+    moved_or sectors (number m) false (value known dst) (second known from) (Num (arithmetic_result width.W64 op.Add (words (value known dst)) (words (second known from))))
     (word (machine m) dst) (step.second (machine m) from) (arithmetic width.W64 op.Add (word (machine m) dst) (step.second (machine m) from)) (sum_is (word (machine m) dst) (step.second (machine m) from))
     s.few (value_fits known dst s.fits) (second_fits known from range s.fits)
     (first_describes sectors known m dst (source_registers from) s e) (second_describes sectors known m from s (rest_set known dst (source_registers from) e))
     (computed_has sectors known m width.W64 op.Add dst from s range)
 result_describes sectors known m width.W64 op.Sub dst from s range e =
-    moved_or sectors true (value known dst) (second known from) (Num (arithmetic_result width.W64 op.Sub (words (value known dst)) (words (second known from))))
+    moved_or sectors (number m) true (value known dst) (second known from) (Num (arithmetic_result width.W64 op.Sub (words (value known dst)) (words (second known from))))
     (word (machine m) dst) (step.second (machine m) from) (arithmetic width.W64 op.Sub (word (machine m) dst) (step.second (machine m) from)) (difference_is (word (machine m) dst) (step.second (machine m) from))
     s.few (value_fits known dst s.fits) (second_fits known from range s.fits)
     (first_describes sectors known m dst (source_registers from) s e) (second_describes sectors known m from s (rest_set known dst (source_registers from) e))
@@ -141,18 +141,18 @@ abbrev register_checks : List (Option Instr) → Parts → ℕ → List ℕ → 
 register_checks program m dst list = step.may_write dst ∷ step.reads (machine m) list ∷ step.goes_on program (m.slot + 1) ∷ []
 
 register_goes : (program : List (Option Instr)) (sectors : ℕ) (known : Abstract) (m : Parts) (dst x : ℕ) (k : Kind) (list : List ℕ) → Site sectors known m
-    → not (dst == 10) ≡ true → are_set known list ≡ true → is_some (at program (m.slot + 1)) ≡ true → x < 2 ^ 64 → Means sectors 0 k (Some x)
-    → Goes sectors ((m.slot + 1, with_value known dst k) ∷ []) (step.tested (machine m) (register_checks program m dst list) (set_and_go 1 (machine m) dst x))
+    → not (dst == 10) ≡ true → are_set known list ≡ true → is_some (at program (m.slot + 1)) ≡ true → x < 2 ^ 64 → Means sectors (number m) k (Some x)
+    → Goes sectors m ((m.slot + 1, with_value known dst k) ∷ []) (step.tested (machine m) (register_checks program m dst list) (set_and_go 1 (machine m) dst x))
 register_goes program sectors known m dst x k list s free set next small means =
     set_goes sectors known m (register_checks program m dst list) 1 dst x k
     (pass_three fault.FramePointer fault.UnsetRegister fault.NoInstruction (not (dst == 10)) (list_all (λ r. is_some (get_or m.registers r None)) list)
-    (is_some (at program (m.slot + 1))) free (reads_set sectors known m.registers list s.stands.values set) next)
+    (is_some (at program (m.slot + 1))) free (reads_set sectors (number m) known m.registers list s.stands.values set) next)
     s.fits s.stands s.turns small means
 
 pub arithmetic_goes : (program : List (Option Instr)) (context : List ℕ) (device : List (List ℕ)) (sectors : ℕ) (known : Abstract) (m : Parts)
     (w : Width) (o : Operator) (dst : ℕ) (from : Source) → Site sectors known m → IsSourceInRange from → not (dst == 10) ≡ true → is_some (at program (m.slot + 1)) ≡ true
     → first_failing (rules known (instr.Arithmetic w o dst from)) ≡ None
-    → Goes sectors (passes sectors known m.slot (instr.Arithmetic w o dst from)) (step_of program context device (machine m) (instr.Arithmetic w o dst from))
+    → Goes sectors m (passes sectors known m.slot (instr.Arithmetic w o dst from)) (step_of program context device (machine m) (instr.Arithmetic w o dst from))
 unfolding rules passes after_of step_of checks effect
 arithmetic_goes program context device sectors known m w o dst from s range free next keeps =
     let set = (first_check cause.UnsetRegister (are_set known (operands o dst from)) (computes (may_compute w o (value known dst) (second known from)) ∷ []) keeps).0 in
@@ -162,12 +162,12 @@ arithmetic_goes program context device sectors known m w o dst from s range free
     (arithmetic_fits w o (words (value known dst)) (words (second known from)) (words_fit (value known dst) (value_fits known dst s.fits)) (words_fit (second known from) (second_fits known from range s.fits)))
     (computed_has sectors known m w o dst from s range) in
     register_goes program sectors known m dst x k (operands o dst from) s free set next small
-    (word_means sectors 0 k x (result_describes sectors known m w o dst from s range set))
+    (word_means sectors (number m) k x (result_describes sectors known m w o dst from s range set))
 
 pub negate_goes : (program : List (Option Instr)) (context : List ℕ) (device : List (List ℕ)) (sectors : ℕ) (known : Abstract) (m : Parts)
     (w : Width) (dst : ℕ) → Site sectors known m → not (dst == 10) ≡ true → is_some (at program (m.slot + 1)) ≡ true
     → first_failing (rules known (instr.Negate w dst)) ≡ None
-    → Goes sectors (passes sectors known m.slot (instr.Negate w dst)) (step_of program context device (machine m) (instr.Negate w dst))
+    → Goes sectors m (passes sectors known m.slot (instr.Negate w dst)) (step_of program context device (machine m) (instr.Negate w dst))
 unfolding rules passes after_of step_of checks effect result_of
 negate_goes program context device sectors known m w dst s free next keeps =
     let set = (first_check cause.UnsetRegister (are_set known (dst ∷ [])) (computes (is_number (value known dst)) ∷ []) keeps).0 in
@@ -181,7 +181,7 @@ negate_goes program context device sectors known m w dst s free next keeps =
 pub extend_goes : (program : List (Option Instr)) (context : List ℕ) (device : List (List ℕ)) (sectors : ℕ) (known : Abstract) (m : Parts)
     (e : SignExtension) (dst src : ℕ) → Site sectors known m → not (dst == 10) ≡ true → is_some (at program (m.slot + 1)) ≡ true
     → first_failing (rules known (instr.SignExtend e dst src)) ≡ None
-    → Goes sectors (passes sectors known m.slot (instr.SignExtend e dst src)) (step_of program context device (machine m) (instr.SignExtend e dst src))
+    → Goes sectors m (passes sectors known m.slot (instr.SignExtend e dst src)) (step_of program context device (machine m) (instr.SignExtend e dst src))
 unfolding rules passes after_of step_of checks effect result_of
 extend_goes program context device sectors known m e dst src s free next keeps =
     let set = (first_check cause.UnsetRegister (are_set known (src ∷ [])) (computes (is_number (value known src)) ∷ []) keeps).0 in
@@ -195,7 +195,7 @@ extend_goes program context device sectors known m e dst src s free next keeps =
 pub order_goes : (program : List (Option Instr)) (context : List ℕ) (device : List (List ℕ)) (sectors : ℕ) (known : Abstract) (m : Parts)
     (o : Order) (size : OrderSize) (dst : ℕ) → Site sectors known m → not (dst == 10) ≡ true → is_some (at program (m.slot + 1)) ≡ true
     → first_failing (rules known (instr.ByteOrder o size dst)) ≡ None
-    → Goes sectors (passes sectors known m.slot (instr.ByteOrder o size dst)) (step_of program context device (machine m) (instr.ByteOrder o size dst))
+    → Goes sectors m (passes sectors known m.slot (instr.ByteOrder o size dst)) (step_of program context device (machine m) (instr.ByteOrder o size dst))
 unfolding rules passes after_of step_of checks effect result_of
 order_goes program context device sectors known m o size dst s free next keeps =
     let set = (first_check cause.UnsetRegister (are_set known (dst ∷ [])) (computes (is_number (value known dst)) ∷ []) keeps).0 in
@@ -208,7 +208,7 @@ order_goes program context device sectors known m o size dst s free next keeps =
 
 pub immediate_goes : (program : List (Option Instr)) (context : List ℕ) (device : List (List ℕ)) (sectors : ℕ) (known : Abstract) (m : Parts)
     (dst x : ℕ) → Site sectors known m → x < 2 ^ 64 → not (dst == 10) ≡ true → is_some (at program (m.slot + 2)) ≡ true
-    → Goes sectors (passes sectors known m.slot (instr.LoadImmediate dst x)) (step_of program context device (machine m) (instr.LoadImmediate dst x))
+    → Goes sectors m (passes sectors known m.slot (instr.LoadImmediate dst x)) (step_of program context device (machine m) (instr.LoadImmediate dst x))
 unfolding passes after_of step_of checks effect
 immediate_goes program context device sectors known m dst x s small free next =
     set_goes sectors known m (step.may_write dst ∷ step.goes_on program (m.slot + 2) ∷ []) 2 dst x (Num (only x))

@@ -12,6 +12,8 @@ pub mod Stores
 pub mod Branches
 pub mod Calls
 pub mod Programs
+pub mod Waiting
+pub mod Locals
 pub mod Steps
 pub mod Tables
 pub mod Going

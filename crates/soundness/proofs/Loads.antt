@@ -45,7 +45,7 @@ use Rattle.soundness.specs.Meaning.{Describes, Means, GroupMeans, IsSetAt, bare}
 use Rattle.soundness.specs.Machines.{IsSetting, IsStack}
 use Rattle.soundness.proofs.Checks.{pass_five, four_tell, and_parts}
 use Rattle.soundness.proofs.Meanings.{word_means}
-use Rattle.soundness.proofs.Standing.{Parts, machine, frames_of, Goes, set_goes, not_unset, reads_set}
+use Rattle.soundness.proofs.Standing.{Parts, machine, number, all_frames, Goes, set_goes, not_unset, reads_set}
 use Rattle.soundness.proofs.Memory.{Reads, reads_bytes, number_below, in_context, in_sector, set_in_stack, bare_at, long_bare}
 use Rattle.soundness.proofs.Places.{Lands, place_lands}
 use Rattle.soundness.proofs.Computing.{Site, first_describes}
@@ -132,11 +132,11 @@ word_three c =
     ap (λ (xs : List ℕ). number_at 8 24 (f ++ xs)) (sym (append-nil e)) ∙ number_at-number_bytes 8 0 24 f [] (omega arith) (three_words c)
 
 -- the four aligned words
-context_word_means : (sectors : ℕ) (c : Context) (at : ℕ) → c.sectors ≡ sectors → sectors ≤ 16384 → c.epoch ≤ 65536 → c.marks ≤ 65536
-    → at + 8 ≤ 32 → at % 8 ≡ 0 → Describes sectors 0 (context_word sectors at) (number_at 8 at (context_bytes c))
-context_word_means sectors c at told few epoch marks fits aligned = by (at / 8) (omega (arith, aligned))
+context_word_means : (sectors frame : ℕ) (c : Context) (at : ℕ) → c.sectors ≡ sectors → sectors ≤ 16384 → c.epoch ≤ 65536 → c.marks ≤ 65536
+    → at + 8 ≤ 32 → at % 8 ≡ 0 → Describes sectors frame (context_word sectors at) (number_at 8 at (context_bytes c))
+context_word_means sectors frame c at told few epoch marks fits aligned = by (at / 8) (omega (arith, aligned))
   where
-    by : (q : ℕ) → at ≡ 8 * q → Describes sectors 0 (context_word sectors at) (number_at 8 at (context_bytes c))
+    by : (q : ℕ) → at ≡ 8 * q → Describes sectors frame (context_word sectors at) (number_at 8 at (context_bytes c))
     by zero e0 = let e : at ≡ 0 = omega (arith, e0) in rw (e, word_zero c (omega (arith, told, few)), told) (record { from = omega arith; upto = omega arith })
     by (suc zero) e0 = let e : at ≡ 8 = omega (arith, e0) in rw (e, word_one c (omega (arith, epoch))) (record { from = omega arith; upto = epoch })
     by (suc (suc zero)) e0 = let e : at ≡ 16 = omega (arith, e0) in rw (e, word_two c (omega (arith, marks))) (record { from = omega arith; upto = marks })
@@ -145,11 +145,11 @@ context_word_means sectors c at told few epoch marks fits aligned = by (at / 8) 
 
 -- any number
 
-any_describes : (sectors : ℕ) (s : Size) (x : ℕ) → x < 256 ^ byte_count s → Describes sectors 0 (any_of (byte_count s)) x
-any_describes sectors size.Byte x lt = record { from = omega arith; upto = omega (arith, lt) }
-any_describes sectors size.Half x lt = record { from = omega arith; upto = omega (arith, lt) }
-any_describes sectors size.Word x lt = record { from = omega arith; upto = omega (arith, lt) }
-any_describes sectors size.Double x lt = record { from = omega arith; upto = omega (arith, lt) }
+any_describes : (sectors frame : ℕ) (s : Size) (x : ℕ) → x < 256 ^ byte_count s → Describes sectors frame (any_of (byte_count s)) x
+any_describes sectors frame size.Byte x lt = record { from = omega arith; upto = omega (arith, lt) }
+any_describes sectors frame size.Half x lt = record { from = omega arith; upto = omega (arith, lt) }
+any_describes sectors frame size.Word x lt = record { from = omega arith; upto = omega (arith, lt) }
+any_describes sectors frame size.Double x lt = record { from = omega arith; upto = omega (arith, lt) }
 
 any_word_below : (s : Size) (x : ℕ) → x < 256 ^ byte_count s → x < 2 ^ 64
 any_word_below size.Byte x lt = omega (arith, lt)
@@ -171,10 +171,10 @@ group_parts at n e =
 
 -- bytes of the stack
 
-pub mark_set : (sectors : ℕ) (gk : GroupKind) (stack : List (Option ℕ)) (g k : ℕ) → GroupMeans sectors 0 gk stack g → k < 8 → is_mark (mark_in gk k) mark.Unset ≡ false
+pub mark_set : (sectors frame : ℕ) (gk : GroupKind) (stack : List (Option ℕ)) (g k : ℕ) → GroupMeans sectors frame gk stack g → k < 8 → is_mark (mark_in gk k) mark.Unset ≡ false
     → IsSetAt stack g k
-mark_set sectors (Spilled kind) stack g k m lt e = m.0 k lt
-mark_set sectors (Marked marks) stack g k m lt e = by (get_or marks k false) refl e
+mark_set sectors frame (Spilled kind) stack g k m lt e = m.0 k lt
+mark_set sectors frame (Marked marks) stack g k m lt e = by (get_or marks k false) refl e
   where
     by : (b : Bool) → get_or marks k false ≡ b → is_mark (if b then mark.Written else mark.Unset) mark.Unset ≡ false → IsSetAt stack g k
     by true t f = m k lt t
@@ -192,10 +192,10 @@ none_at groups at (suc n) (suc i) e lt =
     let next : at + 1 + i ≡ at + suc i = omega arith in
     ap (λ (q : ℕ). is_mark (mark_at groups q) mark.Unset) (sym next) ∙ none_at groups (at + 1) n i h.1 (omega (arith, lt))
 
-pub set_at : (sectors : ℕ) (groups : List GroupKind) (stack : List (Option ℕ)) (q : ℕ) → ((g : ℕ) → GroupMeans sectors 0 (get_or groups g (Marked [])) stack g)
+pub set_at : (sectors frame : ℕ) (groups : List GroupKind) (stack : List (Option ℕ)) (q : ℕ) → ((g : ℕ) → GroupMeans sectors frame (get_or groups g (Marked [])) stack g)
     → is_mark (mark_at groups q) mark.Unset ≡ false → is_some (get_or stack q None) ≡ true
-set_at sectors groups stack q h e =
-    let there = mark_set sectors (get_or groups (q / 8) (Marked [])) stack (q / 8) (q % 8) (h (q / 8)) (mod-lt q (omega arith)) e in
+set_at sectors frame groups stack q h e =
+    let there = mark_set sectors frame (get_or groups (q / 8) (Marked [])) stack (q / 8) (q % 8) (h (q / 8)) (mod-lt q (omega arith)) e in
     let same : 8 * (q / 8) + q % 8 ≡ q = omega arith in
     ap (λ (p : ℕ). is_some (get_or stack p None)) (sym same) ∙ there
 
@@ -222,63 +222,63 @@ means_describes sectors frame SectorOrNull w m = subst (Describes sectors frame 
     by : (v : ℕ) → Some w ≡ Some v → v ≡ w
     by v e = cc
 
-group_describes : (sectors : ℕ) (gk : GroupKind) (stack : List (Option ℕ)) (g x : ℕ) → GroupMeans sectors 0 gk stack g → x ≡ number_at 8 (8 * g) (map bare stack) → x < 2 ^ 64
-    → Describes sectors 0 (group_value gk) x
-group_describes sectors (Marked marks) stack g x m e lt = record { from = omega arith; upto = omega (arith, lt) }
-group_describes sectors (Spilled k) stack g x m e lt = rw e (means_describes sectors 0 k (number_at 8 (8 * g) (map bare stack)) m.1)
+group_describes : (sectors frame : ℕ) (gk : GroupKind) (stack : List (Option ℕ)) (g x : ℕ) → GroupMeans sectors frame gk stack g → x ≡ number_at 8 (8 * g) (map bare stack) → x < 2 ^ 64
+    → Describes sectors frame (group_value gk) x
+group_describes sectors frame (Marked marks) stack g x m e lt = record { from = omega arith; upto = omega (arith, lt) }
+group_describes sectors frame (Spilled k) stack g x m e lt = rw e (means_describes sectors frame k (number_at 8 (8 * g) (map bare stack)) m.1)
 
 -- what a load finds
-pub record Found (bytes : ℕ → ByteAt) (a : ℕ) (s : Size) (sectors : ℕ) (k : Kind) : Type 0 where
+pub record Found (bytes : ℕ → ByteAt) (a : ℕ) (s : Size) (sectors frame : ℕ) (k : Kind) : Type 0 where
   pub number : ℕ
   pub reads : Reads bytes a (byte_count s) number
-  pub describes : Describes sectors 0 k number
+  pub describes : Describes sectors frame k number
   pub below : number < 256 ^ byte_count s
 
 found : (program : List (Option Instr)) (sectors : ℕ) (device : List (List ℕ)) (context : Context) (known : Abstract) (m : Parts) (s : Size) (p : Place) (a : ℕ)
-    → IsSetting program sectors device context → Site sectors known m → Lands sectors p (byte_count s) a → has_no mark.Unset known.groups p (byte_count s) ≡ true
-    → Found (byte_at (context_bytes context) device (frames_of m.stack)) a s sectors (loaded_kind sectors known.groups p (byte_count s))
+    → IsSetting program sectors device context → Site sectors known m → Lands sectors (number m) p (byte_count s) a → has_no mark.Unset known.groups p (byte_count s) ≡ true
+    → Found (byte_at (context_bytes context) device (all_frames m)) a s sectors (number m) (loaded_kind sectors known.groups p (byte_count s))
 unfolding loaded_kind
 found program sectors device context known m s place.Outside a set site lands none = absurd lands
 found program sectors device context known m s (place.Context at) a set site lands none =
     record {
       number = number_at (byte_count s) at (context_bytes context);
-      reads = reads_bytes (byte_at (context_bytes context) device (frames_of m.stack)) a (byte_count s) at (context_bytes context) (omega (arith, lands.0, lands.1))
+      reads = reads_bytes (byte_at (context_bytes context) device (all_frames m)) a (byte_count s) at (context_bytes context) (omega (arith, lands.0, lands.1))
           (omega (arith, long_context context, lands.1))
-          (λ i small. in_context (context_bytes context) device (frames_of m.stack) (a + i) (at + i) (omega (arith, lands.0)) (omega (arith, long_context context, lands.1, small))
+          (λ i small. in_context (context_bytes context) device (all_frames m) (a + i) (at + i) (omega (arith, lands.0)) (omega (arith, long_context context, lands.1, small))
           (omega (arith, long_context context)));
       describes = by (is_group at (byte_count s)) refl;
       below = number_below (byte_count s) at (context_bytes context) (small_context context);
     }
   where
     by : (b : Bool) → is_group at (byte_count s) ≡ b
-        → Describes sectors 0 (if b then context_word sectors at else any_of (byte_count s)) (number_at (byte_count s) at (context_bytes context))
+        → Describes sectors (number m) (if b then context_word sectors at else any_of (byte_count s)) (number_at (byte_count s) at (context_bytes context))
     by true e =
         let h = group_parts at (byte_count s) e in
         let fits : at + 8 ≤ 32 = omega (arith, h.0, lands.1) in
-        subst (λ (n : ℕ). Describes sectors 0 (context_word sectors at) (number_at n at (context_bytes context))) (sym h.0)
-        (context_word_means sectors context at set.told set.few set.epoch set.marks fits h.1)
-    by false e = any_describes sectors s (number_at (byte_count s) at (context_bytes context)) (number_below (byte_count s) at (context_bytes context) (small_context context))
+        subst (λ (n : ℕ). Describes sectors (number m) (context_word sectors at) (number_at n at (context_bytes context))) (sym h.0)
+        (context_word_means sectors (number m) context at set.told set.few set.epoch set.marks fits h.1)
+    by false e = any_describes sectors (number m) s (number_at (byte_count s) at (context_bytes context)) (number_below (byte_count s) at (context_bytes context) (small_context context))
 found program sectors device context known m s (place.Stack at) a set site lands none =
     record {
       number = number_at (byte_count s) at (map bare m.stack);
-      reads = reads_bytes (byte_at (context_bytes context) device (frames_of m.stack)) a (byte_count s) at (map bare m.stack) (omega (arith, lands.0, lands.1))
+      reads = reads_bytes (byte_at (context_bytes context) device (all_frames m)) a (byte_count s) at (map bare m.stack) (omega (arith, lands.0, lands.1, site.few.frames))
           (omega (arith, long_bare m.stack site.stands.cells.long, lands.1))
-          (λ i small. set_in_stack (context_bytes context) device m.stack (a + i) (at + i) (omega (arith, lands.0)) (omega (arith, lands.1, small)) site.stands.cells.long
-          (set_at sectors known.groups m.stack (at + i) site.stands.groups (none_at known.groups at (byte_count s) i none small)));
+          (λ i small. set_in_stack (context_bytes context) device m.below m.caller m.stack (a + i) (at + i) site.few.frames (omega (arith, lands.0)) (omega (arith, lands.1, small)) site.stands.cells.long
+          (set_at sectors (number m) known.groups m.stack (at + i) site.stands.groups (none_at known.groups at (byte_count s) i none small)));
       describes = by (is_group at (byte_count s)) refl;
       below = number_below (byte_count s) at (map bare m.stack) (small_stack m.stack site.stands.cells);
     }
   where
     by : (b : Bool) → is_group at (byte_count s) ≡ b
-        → Describes sectors 0 (if b then group_value (get_or known.groups (at / 8) (Marked [])) else any_of (byte_count s)) (number_at (byte_count s) at (map bare m.stack))
+        → Describes sectors (number m) (if b then group_value (get_or known.groups (at / 8) (Marked [])) else any_of (byte_count s)) (number_at (byte_count s) at (map bare m.stack))
     by true e =
         let h = group_parts at (byte_count s) e in
         let place : at ≡ 8 * (at / 8) = omega (arith, h.1) in
         let same : number_at (byte_count s) at (map bare m.stack) ≡ number_at 8 (8 * (at / 8)) (map bare m.stack) =
         ap (λ (n : ℕ). number_at n at (map bare m.stack)) h.0 ∙ ap (λ (q : ℕ). number_at 8 q (map bare m.stack)) place in
-        group_describes sectors (get_or known.groups (at / 8) (Marked [])) m.stack (at / 8) (number_at (byte_count s) at (map bare m.stack)) (site.stands.groups (at / 8)) same
+        group_describes sectors (number m) (get_or known.groups (at / 8) (Marked [])) m.stack (at / 8) (number_at (byte_count s) at (map bare m.stack)) (site.stands.groups (at / 8)) same
         (any_word_below s (number_at (byte_count s) at (map bare m.stack)) (number_below (byte_count s) at (map bare m.stack) (small_stack m.stack site.stands.cells)))
-    by false e = any_describes sectors s (number_at (byte_count s) at (map bare m.stack)) (number_below (byte_count s) at (map bare m.stack) (small_stack m.stack site.stands.cells))
+    by false e = any_describes sectors (number m) s (number_at (byte_count s) at (map bare m.stack)) (number_below (byte_count s) at (map bare m.stack) (small_stack m.stack site.stands.cells))
 found program sectors device context known m s place.Sector a set site lands none =
     let q : ℕ = lands.0 in
     let sector : List ℕ = get_or device q [] in
@@ -288,10 +288,10 @@ found program sectors device context known m s place.Sector a set site lands non
     let most = set.few in
     record {
       number = number_at (byte_count s) lands.1 sector;
-      reads = reads_bytes (byte_at (context_bytes context) device (frames_of m.stack)) a (byte_count s) lands.1 sector (omega (arith, lands.3, lands.4, inside, most))
+      reads = reads_bytes (byte_at (context_bytes context) device (all_frames m)) a (byte_count s) lands.1 sector (omega (arith, lands.3, lands.4, inside, most))
           (omega (arith, whole.long, lands.3))
-          (λ i small. in_sector (context_bytes context) device (frames_of m.stack) sector (a + i) q (lands.1 + i) (omega (arith, lands.4)) (omega (arith, lands.3, small)) there whole.long);
-      describes = any_describes sectors s (number_at (byte_count s) lands.1 sector) (number_below (byte_count s) lands.1 sector whole.bytes);
+          (λ i small. in_sector (context_bytes context) device (all_frames m) sector (a + i) q (lands.1 + i) (omega (arith, lands.4)) (omega (arith, lands.3, small)) there whole.long);
+      describes = any_describes sectors (number m) s (number_at (byte_count s) lands.1 sector) (number_below (byte_count s) lands.1 sector whole.bytes);
       below = number_below (byte_count s) lands.1 sector whole.bytes;
     }
 
@@ -300,11 +300,11 @@ load_found : (program : List (Option Instr)) (sectors : ℕ) (device : List (Lis
     → IsSetting program sectors device context → Site sectors known m → FitsSigned w16 distance
     → are_set known (base ∷ []) ≡ true → is_inside (place_of (value known base) distance (byte_count s)) ≡ true
     → has_no mark.Unset known.groups (place_of (value known base) distance (byte_count s)) (byte_count s) ≡ true
-    → Found (byte_at (context_bytes context) device (frames_of m.stack)) (step.address (machine m) base distance) s sectors
+    → Found (byte_at (context_bytes context) device (all_frames m)) (step.address (machine m) base distance) s sectors (number m)
     (loaded_kind sectors known.groups (place_of (value known base) distance (byte_count s)) (byte_count s))
 load_found program sectors device context known m s base distance set site fits is inside none =
     found program sectors device context known m s (place_of (value known base) distance (byte_count s)) (step.address (machine m) base distance) set site
-    (place_lands sectors (value known base) distance (byte_count s) (word (machine m) base) set.few fits (value_fits known base site.fits)
+    (place_lands sectors (number m) (value known base) distance (byte_count s) (word (machine m) base) site.few fits (value_fits known base site.fits)
     (first_describes sectors known m base [] site is) inside) none
 
 load_passes : (program : List (Option Instr)) (bytes : ℕ → ByteAt) (sectors : ℕ) (known : Abstract) (m : Parts) (dst base n x : ℕ) (distance : ℤ) → Site sectors known m
@@ -314,27 +314,27 @@ load_passes program bytes sectors known m dst base n x distance site reads is fr
     pass_five fault.FramePointer fault.UnsetRegister fault.Unmapped fault.UnsetByte fault.NoInstruction (not (dst == 10))
     (list_all (λ r. is_some (get_or m.registers r None)) (base ∷ [])) (all_mapped bytes (step.address (machine m) base distance) n)
     (all_set bytes (step.address (machine m) base distance) n) (is_some (at program (m.slot + 1)))
-    free (reads_set sectors known m.registers (base ∷ []) site.stands.values is) reads.mapped reads.whole next
+    free (reads_set sectors (number m) known m.registers (base ∷ []) site.stands.values is) reads.mapped reads.whole next
 
 pub load_goes : (program : List (Option Instr)) (sectors : ℕ) (device : List (List ℕ)) (context : Context) (known : Abstract) (m : Parts) (s : Size) (dst base : ℕ) (distance : ℤ)
     → IsSetting program sectors device context → Site sectors known m → FitsSigned w16 distance → not (dst == 10) ≡ true → is_some (at program (m.slot + 1)) ≡ true
     → first_failing (rules known (instr.Load s dst base distance)) ≡ None
-    → Goes sectors (passes sectors known m.slot (instr.Load s dst base distance)) (step_of program (context_bytes context) device (machine m) (instr.Load s dst base distance))
+    → Goes sectors m (passes sectors known m.slot (instr.Load s dst base distance)) (step_of program (context_bytes context) device (machine m) (instr.Load s dst base distance))
 unfolding rules load_rules passes after_of step_of checks effect
 load_goes program sectors device context known m s dst base distance set site fits free next keeps =
     let n : ℕ = byte_count s in
     let p : Place = place_of (value known base) distance n in
     let tell = four_tell cause.UnsetRegister cause.OutsideRegion cause.UnsetByte cause.PointerAsNumber (are_set known (base ∷ [])) (is_inside p)
     (has_no mark.Unset known.groups p n) (is_whole p n || has_no mark.Pointer known.groups p n) keeps in
-    let bytes : ℕ → ByteAt = byte_at (context_bytes context) device (frames_of m.stack) in
+    let bytes : ℕ → ByteAt = byte_at (context_bytes context) device (all_frames m) in
     let a : ℕ = step.address (machine m) base distance in
     let f = load_found program sectors device context known m s base distance set site fits tell.0 tell.1 tell.2 in
     let k : Kind = loaded_kind sectors known.groups p n in
     let x : ℕ = loaded bytes a n in
     let small : x < 2 ^ 64 = rw f.reads.number (any_word_below s f.number f.below) in
-    let describes : Describes sectors 0 k x = subst (Describes sectors 0 k) (sym f.reads.number) f.describes in
+    let describes : Describes sectors (number m) k x = subst (Describes sectors (number m) k) (sym f.reads.number) f.describes in
     set_goes sectors known m (step.load_checks program bytes (machine m) dst base distance n) 1 dst x k
-    (load_passes program bytes sectors known m dst base n f.number distance site f.reads tell.0 free next) site.fits site.stands site.turns small (word_means sectors 0 k x describes)
+    (load_passes program bytes sectors known m dst base n f.number distance site f.reads tell.0 free next) site.fits site.stands site.turns small (word_means sectors (number m) k x describes)
 
 extended_word : (e : SignExtension) (x : ℕ) → x < 2 ^ 64 → extended e x < 2 ^ 64
 extended_word e x lt =
@@ -347,14 +347,14 @@ extended_word e x lt =
 pub signed_load_goes : (program : List (Option Instr)) (sectors : ℕ) (device : List (List ℕ)) (context : Context) (known : Abstract) (m : Parts) (s : SignedSize) (dst base : ℕ) (distance : ℤ)
     → IsSetting program sectors device context → Site sectors known m → FitsSigned w16 distance → not (dst == 10) ≡ true → is_some (at program (m.slot + 1)) ≡ true
     → first_failing (rules known (instr.LoadSigned s dst base distance)) ≡ None
-    → Goes sectors (passes sectors known m.slot (instr.LoadSigned s dst base distance)) (step_of program (context_bytes context) device (machine m) (instr.LoadSigned s dst base distance))
+    → Goes sectors m (passes sectors known m.slot (instr.LoadSigned s dst base distance)) (step_of program (context_bytes context) device (machine m) (instr.LoadSigned s dst base distance))
 unfolding rules load_rules passes after_of step_of checks effect
 signed_load_goes program sectors device context known m s dst base distance set site fits free next keeps =
     let n : ℕ = byte_count (plain_size s) in
     let p : Place = place_of (value known base) distance n in
     let tell = four_tell cause.UnsetRegister cause.OutsideRegion cause.UnsetByte cause.PointerAsNumber (are_set known (base ∷ [])) (is_inside p)
     (has_no mark.Unset known.groups p n) (is_whole p n || has_no mark.Pointer known.groups p n) keeps in
-    let bytes : ℕ → ByteAt = byte_at (context_bytes context) device (frames_of m.stack) in
+    let bytes : ℕ → ByteAt = byte_at (context_bytes context) device (all_frames m) in
     let a : ℕ = step.address (machine m) base distance in
     let f = load_found program sectors device context known m (plain_size s) base distance set site fits tell.0 tell.1 tell.2 in
     let v : ℕ = loaded bytes a n in

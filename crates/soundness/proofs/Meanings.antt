@@ -1,13 +1,13 @@
 -- What values, groups and states mean.
-use Rattle.std.proofs.Common.{◌≡◌, ℕ, zero, suc, Bool, true, false, List, [], ◌∷◌, replicate, get_or, Option, Some, refl, sym, ◌∙◌, arith}
-use Rattle.machine.specs.State.{State, register}
+use Rattle.std.proofs.Common.{◌≡◌, ℕ, zero, suc, Bool, true, false, List, [], ◌∷◌, replicate, get_or, Option, Some, None, refl, sym, ◌∙◌, arith}
+use Rattle.machine.specs.State.{State}
 use Rattle.intervals.specs.Spans.{Span, Has, Within}
 use Rattle.ranges.specs.Kinds.{Kind, Unset, Num, Ctx, Stack, Sector, SectorOrNull, is_unset}
 use Rattle.ranges.specs.Groups.{GroupKind, Marked, Spilled}
 use Rattle.ranges.specs.States.{Abstract}
 use Rattle.ranges.specs.Order.{Under, MarksUnder, GroupUnder, EachUnder, StateUnder}
 use Rattle.ranges.specs.Reading.{value}
-use Rattle.soundness.specs.Meaning.{Describes, Means, GroupMeans, Covers}
+use Rattle.soundness.specs.Meaning.{Describes, Means, GroupMeans, CoversFrame, Covers, frame_number, last_stack}
 
 -- a set value is that of a word
 pub means_word : (sectors frame : ℕ) (k : Kind) (c : Option ℕ) → is_unset k ≡ false → Means sectors frame k c
@@ -91,8 +91,13 @@ each_at R (x ∷ xs) [] i d h p = absurd p
 each_at R (x ∷ xs) (y ∷ ys) zero d h p = p.0
 each_at R (x ∷ xs) (y ∷ ys) (suc i) d h p = each_at R xs ys i d h p.1
 
-pub covers_under : (sectors : ℕ) (known less : Abstract) (s : State) → StateUnder known less → Covers sectors known s → Covers sectors less s
-covers_under sectors known less s p c = record {
-  registers = λ r. means_under sectors _ (value known r) (value less r) (register s r) (each_at Under known.values less.values r Unset tt p.values) (c.registers r);
-  groups = λ g. group_under sectors _ (get_or known.groups g (Marked [])) (get_or less.groups g (Marked [])) _ g (each_at GroupUnder known.groups less.groups g (Marked []) tt p.groups) (c.groups g);
+pub frame_under : (sectors frame : ℕ) (known less : Abstract) (words stack : List (Option ℕ)) → StateUnder known less
+    → CoversFrame sectors frame known words stack → CoversFrame sectors frame less words stack
+frame_under sectors frame known less words stack p c = record {
+  registers = λ r. means_under sectors frame (value known r) (value less r) (get_or words r None) (each_at Under known.values less.values r Unset tt p.values) (c.registers r);
+  groups = λ g. group_under sectors frame (get_or known.groups g (Marked [])) (get_or less.groups g (Marked [])) stack g
+      (each_at GroupUnder known.groups less.groups g (Marked []) tt p.groups) (c.groups g);
 }
+
+pub covers_under : (sectors : ℕ) (known less : Abstract) (s : State) → StateUnder known less → Covers sectors known s → Covers sectors less s
+covers_under sectors known less s p c = frame_under sectors (frame_number s.frames) known less s.registers (last_stack s.frames) p c

@@ -1,5 +1,5 @@
 -- Bytes of the memory, and the numbers that they hold.
-use Rattle.std.proofs.Common.{◌≡◌, ◌<◌, ◌≤◌, ℕ, zero, suc, ◌+◌, ◌-◌, ◌*◌, ◌/◌, ◌%◌, ◌^◌, nat_lt, Bool, true, false, List, ◌∷◌, length, map, drop, get_or, slice_get, slice_index, Option, None, Some, is_some, refl, sym, ap, ◌∙◌, arith}
+use Rattle.std.proofs.Common.{◌≡◌, ◌<◌, ◌≤◌, ℕ, zero, suc, ◌+◌, ◌-◌, ◌*◌, ◌/◌, ◌%◌, ◌^◌, nat_lt, Bool, true, false, List, [], ◌∷◌, ◌++◌, length, map, drop, get_or, slice_get, slice_index, Option, None, Some, is_some, refl, sym, ap, ◌∙◌, arith}
 use Rattle.std.proofs.Math.Seq.{drop-cons}
 use Rattle.std.proofs.Math.ListN.{get_or-map}
 use Rattle.std.proofs.lemmas.List.{get_or-drop, length-map}
@@ -11,9 +11,9 @@ use Rattle.base.specs.Numbers.{number_at}
 use Rattle.helpers.specs.Answers.{sector_start}
 use Rattle.machine.specs.declared.ByteAt.{ByteAt}
 use Rattle.machine.specs.declared.ByteAt.TheVariants.{Holds}
-use Rattle.machine.specs.State.{Frame, context_start, stack_start}
+use Rattle.machine.specs.State.{Caller, Frame, context_start, stack_start}
 use Rattle.machine.specs.Memory as memory
-use Rattle.machine.specs.Memory.{addresses, all_at, all_mapped, all_set, all_in_stacks, is_mapped, is_set, loaded, held, cell, byte_at}
+use Rattle.machine.specs.Memory.{addresses, all_at, all_mapped, all_set, all_in_stacks, is_mapped, is_set, loaded, held, cell, stacks, byte_at}
 use Rattle.soundness.specs.Meaning.{bare}
 use Rattle.soundness.proofs.Standing.{frames_of}
 
@@ -114,17 +114,22 @@ in_context context device frames a q e lt short =
     let place : a - context_start ≡ q = omega (arith, e) in
     rw (one, two, place, slice_get-get_or context q 0 lt) refl
 
-pub in_stack : (context : List ℕ) (device : List (List ℕ)) (stack : List (Option ℕ)) (a q : ℕ) → a ≡ stack_start + q → q < 512 → length stack ≡ 512
-    → byte_at context device (frames_of stack) a ≡ cell (Some (get_or stack q None))
+last_found : (below : List Frame) (f : Frame) → slice_get (stacks (below ++ f ∷ [])) (length below) ≡ Some f.stack
+last_found [] f = refl
+last_found (g ∷ rest) f = last_found rest f
+
+pub in_stack : (context : List ℕ) (device : List (List ℕ)) (below : List Frame) (caller : Option Caller) (stack : List (Option ℕ)) (a q : ℕ)
+    → length below ≤ 3 → a ≡ stack_start + 1024 * length below + q → q < 512 → length stack ≡ 512
+    → byte_at context device (frames_of below caller stack) a ≡ cell (Some (get_or stack q None))
 unfolding byte_at
-in_stack context device stack a q e lt long =
+in_stack context device below caller stack a q few e lt long =
     let one : nat_lt a context_start ≡ false = grind (arith, nat_tests) in
     let two : nat_lt a stack_start ≡ false = grind (arith, nat_tests) in
     let three : nat_lt a sector_start ≡ true = grind (arith, nat_tests) in
-    let place : a - stack_start ≡ q = omega (arith, e) in
-    let block : q / 1024 ≡ 0 = omega (arith, lt) in
-    let rest : q % 1024 ≡ q = omega (arith, lt) in
-    rw (one, two, three, place, block, rest, slice_get-get_or stack q None (omega (arith, lt, long))) refl
+    let block : (a - stack_start) / 1024 ≡ length below = omega (arith, e, lt) in
+    let rest : (a - stack_start) % 1024 ≡ q = omega (arith, e, lt) in
+    let found = last_found below (record { stack = stack; caller = caller }) in
+    rw (one, two, three, block, rest, found, slice_get-get_or stack q None (omega (arith, lt, long))) refl
 
 pub in_sector : (context : List ℕ) (device : List (List ℕ)) (frames : List Frame) (sector : List ℕ) (a n q : ℕ) → a ≡ sector_start + 1024 * n + q → q < 512
     → slice_get device n ≡ Some sector → length sector ≡ 512 → byte_at context device frames a ≡ Holds (slice_index sector q)
@@ -145,10 +150,11 @@ pub bare_at : (stack : List (Option ℕ)) (q : ℕ) → slice_index (map bare st
 bare_at stack q = get_or-map bare stack q None
 
 -- a byte of the stack that is set
-pub set_in_stack : (context : List ℕ) (device : List (List ℕ)) (stack : List (Option ℕ)) (a q : ℕ) → a ≡ stack_start + q → q < 512 → length stack ≡ 512
-    → is_some (get_or stack q None) ≡ true → byte_at context device (frames_of stack) a ≡ Holds (slice_index (map bare stack) q)
-set_in_stack context device stack a q e lt long there =
-    in_stack context device stack a q e lt long
+pub set_in_stack : (context : List ℕ) (device : List (List ℕ)) (below : List Frame) (caller : Option Caller) (stack : List (Option ℕ)) (a q : ℕ)
+    → length below ≤ 3 → a ≡ stack_start + 1024 * length below + q → q < 512 → length stack ≡ 512
+    → is_some (get_or stack q None) ≡ true → byte_at context device (frames_of below caller stack) a ≡ Holds (slice_index (map bare stack) q)
+set_in_stack context device below caller stack a q few e lt long there =
+    in_stack context device below caller stack a q few e lt long
     ∙ ap (λ (c : Option ℕ). cell (Some c)) (some_is (get_or stack q None) there)
     ∙ ap Holds (sym (bare_at stack q))
 

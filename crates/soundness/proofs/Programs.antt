@@ -1,5 +1,5 @@
 -- What a program of right shape has at a slot.
-use Rattle.std.proofs.Common.{◌≡◌, ◌<◌, ℕ, zero, suc, ◌+◌, ◌-◌, ◌==◌, ◌&&◌, nat_le, not, Bool, true, false, if◌then◌else◌, ℤ, List, [], ◌∷◌, ◌++◌, length, map, is_some, slice_get, Option, None, Some, refl, sym, ap, ◌∙◌, inl, inr, subst, arith}
+use Rattle.std.proofs.Common.{◌≡◌, ◌<◌, ℕ, zero, suc, ◌+◌, ◌-◌, ◌==◌, ◌&&◌, ◌||◌, nat_le, not, Bool, true, false, if◌then◌else◌, ℤ, List, [], ◌∷◌, ◌++◌, length, map, is_some, slice_get, Option, None, Some, refl, sym, ap, ◌∙◌, inl, inr, subst, arith}
 use Rattle.std.specs.Option.{option_map_or, option_and_then}
 use Rattle.std.specs.Int.{cast_unsigned, w32, w64}
 use Rattle.std.proofs.lemmas.Bool.{cases_lt}
@@ -14,12 +14,13 @@ use Rattle.bpf_isa.specs.Program.{halves, slots_of, AllInRange, IsProgram}
 use Rattle.bpf_isa.specs.Spelling.{second_of, IsInRange}
 use Rattle.helpers.specs.declared.helper.Helper.TheVariants as helper
 use Rattle.helpers.specs.Helper.{helper_of}
-use Rattle.bpf_isa.specs.Slots.{at}
+use Rattle.bpf_isa.specs.Slots.{at, target_slot}
 use Rattle.machine.specs.Step.{is_limit}
 use Rattle.machine.proofs.HelperNumbers.{again_number}
 use Rattle.bpf_shape.specs.declared.edges.Edges.{Edges}
-use Rattle.bpf_shape.specs.Edges.{edges_of, control}
-use Rattle.bpf_shape.specs.Again.{helper_number, calls_again, limit_of, limit_before, answer_test, is_slot, is_target}
+use Rattle.bpf_shape.specs.Edges.{edges_of, begins, control}
+use Rattle.bpf_shape.specs.Calls.{callee_of, callee}
+use Rattle.bpf_shape.specs.Again.{helper_number, calls_again, limit_of, limit_before, answer_test, is_slot, aims_at, is_target}
 use Rattle.bpf_shape.specs.Paths.{Leads}
 use Rattle.bpf_shape.specs.Rules.{written, is_equality, has_form, keeps, Breaks, IsShaped}
 use Rattle.soundness.proofs.Checks.{and_parts}
@@ -199,23 +200,93 @@ before_again program s shaped calls =
     let limit = some_number (limit_before program s) one.0 in
     record { number = limit.0; is = limit.1; free = not_unset (is_target program s) three.0 }
 
+or_left : (a b : Bool) → a ≡ true → (a || b) ≡ true
+or_left a b e = rw e refl
+
+or_right : (a b : Bool) → b ≡ true → (a || b) ≡ true
+or_right true b e = refl
+or_right false b e = e
+
+itself : (t : ℕ) → (t == t) ≡ true
+itself t = grind (arith, nat_tests)
+
+inside : (program : List (Option Instr)) (s : ℕ) (i : Instr) → at program s ≡ Some i → s < length program
+inside program s i e = elim (cases_lt s (length program)) [
+  | inl less ↦ less
+  | inr past ↦ absurd (let bad : None ≡ Some i = sym (at_past program s past) ∙ e in cc)
+]
+
 -- a jump leads to no call of `again`
 pub target_marked : (program : List (Option Instr)) (s t : ℕ) (i : Instr) → at program s ≡ Some i → (edges_of s i).target ≡ Some t → is_target program t ≡ true
 unfolding is_target
 target_marked program s t i e h =
-    any_at (λ q. is_slot t (control program q).target) (length program) s inside
-    (ap (λ (x : Edges). is_slot t x.target) (control_is program s i e) ∙ ap (is_slot t) h ∙ same t)
-  where
-    same : (t : ℕ) → (t == t) ≡ true
-    same t = grind (arith, nat_tests)
-
-    inside : s < length program
-    inside = elim (cases_lt s (length program)) [
-      | inl less ↦ less
-      | inr past ↦ absurd (let bad : None ≡ Some i = sym (at_past program s past) ∙ e in cc)
-    ]
+    any_at (aims_at program t) (length program) s (inside program s i e)
+    (or_left (is_slot t (control program s).target) (is_slot t (callee program s))
+    (ap (λ (x : Edges). is_slot t x.target) (control_is program s i e) ∙ ap (is_slot t) h ∙ itself t))
 
 pub no_target : (program : List (Option Instr)) (s t : ℕ) (i : Instr) → IsShaped program → at program s ≡ Some i → (edges_of s i).target ≡ Some t → calls_again program t ≡ true → ⊥
 no_target program s t i shaped e h calls =
     let bad : true ≡ false = sym (target_marked program s t i e h) ∙ (before_again program t shaped calls).free in
+    cc
+
+-- local calls
+
+-- the instruction of a local call
+pub record CallsLocal (program : List (Option Instr)) (s t : ℕ) : Type 0 where
+  pub distance : ℤ
+  pub there : at program s ≡ Some (instr.CallLocal distance)
+  pub leads : target_slot s distance ≡ t
+
+pub callee_there : (program : List (Option Instr)) (s t : ℕ) → callee program s ≡ Some t → CallsLocal program s t
+unfolding callee callee_of
+callee_there program s t e = by_slot (at program s) refl e
+  where
+    by_instr : (i : Instr) → at program s ≡ Some i → callee_of s i ≡ Some t → CallsLocal program s t
+    by_instr (instr.CallLocal distance) is f =
+        let there : Some (target_slot s distance) ≡ Some t = f in
+        let same : target_slot s distance ≡ t = cc in
+        record { distance = distance; there = is; leads = same }
+    by_instr _ is f = absurd (let bad : None ≡ Some t = f in cc)
+
+    by_slot : (o : Option Instr) → at program s ≡ o → option_and_then (callee_of s) o ≡ Some t → CallsLocal program s t
+    by_slot None is f = absurd (let bad : None ≡ Some t = f in cc)
+    by_slot (Some i) is f = by_instr i is f
+
+pub callee_is : (program : List (Option Instr)) (s : ℕ) (distance : ℤ) → at program s ≡ Some (instr.CallLocal distance) → callee program s ≡ Some (target_slot s distance)
+unfolding callee callee_of
+callee_is program s distance e = ap (λ (o : Option Instr). option_and_then (callee_of s) o) e
+
+-- control goes on behind it
+pub behind_call : (program : List (Option Instr)) (s t : ℕ) → callee program s ≡ Some t → Leads (control program s) (s + 1)
+unfolding edges_of
+behind_call program s t e =
+    let call = callee_there program s t e in
+    leads_at program s (s + 1) (instr.CallLocal call.distance) call.there (inl refl)
+
+-- its entry is an instruction, and no call of `again`
+pub entry_begins : (program : List (Option Instr)) (s t : ℕ) → IsShaped program → callee program s ≡ Some t → is_some (at program t) ≡ true
+unfolding Breaks keeps
+entry_begins program s t shaped e =
+    let kept = holds_true (option_map_or (begins program) (control program s).target true && option_map_or (begins program) (callee program s) true) (shaped.targets s) in
+    let parts = and_parts (option_map_or (begins program) (control program s).target true) (option_map_or (begins program) (callee program s) true) kept in
+    ap (λ (o : Option ℕ). option_map_or (begins program) o true) (sym e) ∙ parts.1
+
+callee_marked : (program : List (Option Instr)) (s t : ℕ) → callee program s ≡ Some t → is_target program t ≡ true
+unfolding is_target
+callee_marked program s t e =
+    let call = callee_there program s t e in
+    any_at (aims_at program t) (length program) s (inside program s (instr.CallLocal call.distance) call.there)
+    (or_right (is_slot t (control program s).target) (is_slot t (callee program s)) (ap (is_slot t) e ∙ itself t))
+
+pub no_entry : (program : List (Option Instr)) (s t : ℕ) → IsShaped program → callee program s ≡ Some t → calls_again program t ≡ true → ⊥
+no_entry program s t shaped e calls =
+    let bad : true ≡ false = sym (callee_marked program s t e) ∙ (before_again program t shaped calls).free in
+    cc
+
+-- behind it no limit is set
+pub no_limit_behind : (program : List (Option Instr)) (s t k : ℕ) → callee program s ≡ Some t → limit_before program (s + 1) ≡ Some k → ⊥
+unfolding limit_of
+no_limit_behind program s t k e is =
+    let call = callee_there program s t e in
+    let bad : None ≡ Some k = limit_is program s k (instr.CallLocal call.distance) call.there is in
     cc

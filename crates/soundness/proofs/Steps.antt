@@ -24,30 +24,28 @@ use Rattle.machine.specs.Memory.{context_bytes, byte_at}
 use Rattle.machine.specs.declared.ByteAt.{ByteAt}
 use Rattle.machine.specs.Step as step
 use Rattle.bpf_isa.specs.Slots.{at, target_slot}
-use Rattle.machine.specs.Step.{checks, effect, step_of, tested, Stepped, Next, Done, Fault, call_checks, call_effect, is_limit}
+use Rattle.machine.specs.Step.{checks, effect, step_of, tested, Next, Done, Fault, call_checks, call_effect, is_limit}
 use Rattle.bpf_shape.specs.Edges.{edges_of}
 use Rattle.bpf_shape.specs.Again.{limit_of}
 use Rattle.bpf_shape.specs.Paths.{Leads}
 use Rattle.bpf_shape.specs.Rules.{IsShaped}
 use Rattle.ranges.specs.States.{Abstract, round_state}
-use Rattle.ranges.specs.Order.{Each, Holds, IsState}
+use Rattle.ranges.specs.Order.{Each, Holds, IsState, StateUnder}
 use Rattle.ranges.specs.Rules.{rules, call_rules}
 use Rattle.ranges.specs.After.{after_of, call_after, answered}
 use Rattle.ranges.specs.Reading.{any_word}
 use Rattle.ranges.specs.Kinds.{Num}
 use Rattle.ranges.specs.Passing.{passes, edge_of, sent}
-use Rattle.ranges.proofs.Keeping.{after_fits, edge_fits}
+use Rattle.ranges.proofs.Keeping.{after_fits, edge_fits, entry_fits}
 use Rattle.ranges.proofs.Covering.{state_round}
 use Rattle.verifier.specs.Tables.{arrival}
-use Rattle.soundness.specs.Meaning.{Covers}
 use Rattle.soundness.specs.Machines.{IsSetting, HasLimit}
-use Rattle.soundness.specs.Laws.{Arrives}
-use Rattle.soundness.proofs.Meanings.{covers_under}
-use Rattle.soundness.proofs.Standing.{Parts, machine, frames_of, Goes}
+use Rattle.soundness.specs.Laws.{IsSent, Arrives}
+use Rattle.soundness.proofs.Standing.{Parts, machine, all_frames, Goes}
 use Rattle.soundness.proofs.Computing.{Site, arithmetic_goes, negate_goes, extend_goes, order_goes, immediate_goes}
 use Rattle.soundness.proofs.Loads.{load_goes, signed_load_goes}
 use Rattle.soundness.proofs.Stores.{store_goes, store_immediate_goes}
-use Rattle.soundness.proofs.Branches.{branch_goes, jump_goes, exit_goes}
+use Rattle.soundness.proofs.Branches.{branch_goes, jump_goes}
 use Rattle.soundness.proofs.Calls.{helper_goes}
 use Rattle.soundness.proofs.Programs.{free_at, helper_known, begins_at, calls_at, limit_taken, before_again}
 
@@ -63,16 +61,16 @@ limit_here program m number shaped e limit is =
 call_goes : (program : List (Option Instr)) (sectors : ℕ) (device : List (List ℕ)) (context : Context) (known : Abstract) (m : Parts) (number : ℤ)
     → IsSetting program sectors device context → Site sectors known m → at program m.slot ≡ Some (instr.CallHelper number) → HasLimit program (machine m)
     → first_failing (rules known (instr.CallHelper number)) ≡ None
-    → Goes sectors (passes sectors known m.slot (instr.CallHelper number)) (step_of program (context_bytes context) device (machine m) (instr.CallHelper number))
+    → Goes sectors m (passes sectors known m.slot (instr.CallHelper number)) (step_of program (context_bytes context) device (machine m) (instr.CallHelper number))
 unfolding rules passes after_of step_of checks effect edges_of
 call_goes program sectors device context known m number set site e limit keeps =
     by (helper_of (cast_unsigned w32 number)) refl keeps
   where
     bytes : ℕ → ByteAt
-    bytes = byte_at (context_bytes context) device (frames_of m.stack)
+    bytes = byte_at (context_bytes context) device (all_frames m)
 
     by : (h : Option Helper) → helper_of (cast_unsigned w32 number) ≡ h → first_failing (option_map_or (call_rules known) h []) ≡ None
-        → Goes sectors ((m.slot + 1, option_map_or (call_after known) h (answered known (Num any_word))) ∷ [])
+        → Goes sectors m ((m.slot + 1, option_map_or (call_after known) h (answered known (Num any_word))) ∷ [])
         (tested (machine m) (option_map_or (call_checks program bytes (machine m)) h (check fault.UnknownHelper false ∷ []))
         (option_map_or (call_effect device (machine m)) h (Next (machine m))))
     by None f k = absurd (let there = helper_known program m.slot number set.shaped e in let bad : false ≡ true = rw f at there in cc)
@@ -82,57 +80,64 @@ call_goes program sectors device context known m number set site e limit keeps =
 
 jump_step : (program : List (Option Instr)) (context : List ℕ) (device : List (List ℕ)) (sectors : ℕ) (known : Abstract) (m : Parts) (distance : ℤ) → Site sectors known m
     → is_some (at program (target_slot m.slot distance)) ≡ true
-    → Goes sectors (passes sectors known m.slot (instr.Jump distance)) (step_of program context device (machine m) (instr.Jump distance))
+    → Goes sectors m (passes sectors known m.slot (instr.Jump distance)) (step_of program context device (machine m) (instr.Jump distance))
 unfolding passes step_of checks effect
 jump_step program context device sectors known m distance site begins = jump_goes program sectors known m (target_slot m.slot distance) site begins
 
 long_jump_step : (program : List (Option Instr)) (context : List ℕ) (device : List (List ℕ)) (sectors : ℕ) (known : Abstract) (m : Parts) (distance : ℤ) → Site sectors known m
     → is_some (at program (target_slot m.slot distance)) ≡ true
-    → Goes sectors (passes sectors known m.slot (instr.LongJump distance)) (step_of program context device (machine m) (instr.LongJump distance))
+    → Goes sectors m (passes sectors known m.slot (instr.LongJump distance)) (step_of program context device (machine m) (instr.LongJump distance))
 unfolding passes step_of checks effect
 long_jump_step program context device sectors known m distance site begins = jump_goes program sectors known m (target_slot m.slot distance) site begins
 
--- each form
+-- an instruction that stays in its frame
+abbrev pub stays : Instr → Bool
+stays (instr.CallLocal distance) = false
+stays instr.Exit = false
+stays _ = true
+
+-- each form that does
 pub instr_goes : (program : List (Option Instr)) (sectors : ℕ) (device : List (List ℕ)) (context : Context) (known : Abstract) (m : Parts) (i : Instr)
     → IsSetting program sectors device context → Site sectors known m → at program m.slot ≡ Some i → IsInRange i → HasLimit program (machine m)
-    → first_failing (rules known i) ≡ None
-    → Goes sectors (passes sectors known m.slot i) (step_of program (context_bytes context) device (machine m) i)
+    → first_failing (rules known i) ≡ None → stays i ≡ true
+    → Goes sectors m (passes sectors known m.slot i) (step_of program (context_bytes context) device (machine m) i)
 unfolding IsInRange edges_of
-instr_goes program sectors device context known m (instr.Arithmetic w o dst from) set site e range limit keeps =
+instr_goes program sectors device context known m (instr.Arithmetic w o dst from) set site e range limit keeps inside =
     arithmetic_goes program (context_bytes context) device sectors known m w o dst from site range.1 (free_at program m.slot (instr.Arithmetic w o dst from) set.shaped e)
     (begins_at program m.slot (m.slot + 1) (instr.Arithmetic w o dst from) set.shaped e (inl refl)) keeps
-instr_goes program sectors device context known m (instr.Negate w dst) set site e range limit keeps =
+instr_goes program sectors device context known m (instr.Negate w dst) set site e range limit keeps inside =
     negate_goes program (context_bytes context) device sectors known m w dst site (free_at program m.slot (instr.Negate w dst) set.shaped e)
     (begins_at program m.slot (m.slot + 1) (instr.Negate w dst) set.shaped e (inl refl)) keeps
-instr_goes program sectors device context known m (instr.SignExtend x dst src) set site e range limit keeps =
+instr_goes program sectors device context known m (instr.SignExtend x dst src) set site e range limit keeps inside =
     extend_goes program (context_bytes context) device sectors known m x dst src site (free_at program m.slot (instr.SignExtend x dst src) set.shaped e)
     (begins_at program m.slot (m.slot + 1) (instr.SignExtend x dst src) set.shaped e (inl refl)) keeps
-instr_goes program sectors device context known m (instr.ByteOrder o size dst) set site e range limit keeps =
+instr_goes program sectors device context known m (instr.ByteOrder o size dst) set site e range limit keeps inside =
     order_goes program (context_bytes context) device sectors known m o size dst site (free_at program m.slot (instr.ByteOrder o size dst) set.shaped e)
     (begins_at program m.slot (m.slot + 1) (instr.ByteOrder o size dst) set.shaped e (inl refl)) keeps
-instr_goes program sectors device context known m (instr.Jump distance) set site e range limit keeps =
+instr_goes program sectors device context known m (instr.Jump distance) set site e range limit keeps inside =
     jump_step program (context_bytes context) device sectors known m distance site (begins_at program m.slot (target_slot m.slot distance) (instr.Jump distance) set.shaped e (inr refl))
-instr_goes program sectors device context known m (instr.LongJump distance) set site e range limit keeps =
+instr_goes program sectors device context known m (instr.LongJump distance) set site e range limit keeps inside =
     long_jump_step program (context_bytes context) device sectors known m distance site (begins_at program m.slot (target_slot m.slot distance) (instr.LongJump distance) set.shaped e (inr refl))
-instr_goes program sectors device context known m (instr.Branch w c dst from distance) set site e range limit keeps =
+instr_goes program sectors device context known m (instr.Branch w c dst from distance) set site e range limit keeps inside =
     branch_goes program (context_bytes context) device sectors known m w c dst from distance site
     (begins_at program m.slot (m.slot + 1) (instr.Branch w c dst from distance) set.shaped e (inl refl))
     (begins_at program m.slot (target_slot m.slot distance) (instr.Branch w c dst from distance) set.shaped e (inr refl)) keeps
-instr_goes program sectors device context known m (instr.CallHelper number) set site e range limit keeps = call_goes program sectors device context known m number set site e limit keeps
-instr_goes program sectors device context known m instr.Exit set site e range limit keeps = exit_goes program (context_bytes context) device sectors known m site keeps
-instr_goes program sectors device context known m (instr.Load size dst base distance) set site e range limit keeps =
+instr_goes program sectors device context known m (instr.CallHelper number) set site e range limit keeps inside = call_goes program sectors device context known m number set site e limit keeps
+instr_goes program sectors device context known m (instr.CallLocal distance) set site e range limit keeps inside = absurd (let bad : false ≡ true = inside in cc)
+instr_goes program sectors device context known m instr.Exit set site e range limit keeps inside = absurd (let bad : false ≡ true = inside in cc)
+instr_goes program sectors device context known m (instr.Load size dst base distance) set site e range limit keeps inside =
     load_goes program sectors device context known m size dst base distance set site range.2 (free_at program m.slot (instr.Load size dst base distance) set.shaped e)
     (begins_at program m.slot (m.slot + 1) (instr.Load size dst base distance) set.shaped e (inl refl)) keeps
-instr_goes program sectors device context known m (instr.LoadSigned size dst base distance) set site e range limit keeps =
+instr_goes program sectors device context known m (instr.LoadSigned size dst base distance) set site e range limit keeps inside =
     signed_load_goes program sectors device context known m size dst base distance set site range.2 (free_at program m.slot (instr.LoadSigned size dst base distance) set.shaped e)
     (begins_at program m.slot (m.slot + 1) (instr.LoadSigned size dst base distance) set.shaped e (inl refl)) keeps
-instr_goes program sectors device context known m (instr.StoreImmediate size base distance z) set site e range limit keeps =
+instr_goes program sectors device context known m (instr.StoreImmediate size base distance z) set site e range limit keeps inside =
     store_immediate_goes program (context_bytes context) device sectors known m size base distance z site range.1 range.2
     (begins_at program m.slot (m.slot + 1) (instr.StoreImmediate size base distance z) set.shaped e (inl refl)) keeps
-instr_goes program sectors device context known m (instr.Store size base distance src) set site e range limit keeps =
+instr_goes program sectors device context known m (instr.Store size base distance src) set site e range limit keeps inside =
     store_goes program (context_bytes context) device sectors known m size base distance src site range.1
     (begins_at program m.slot (m.slot + 1) (instr.Store size base distance src) set.shaped e (inl refl)) keeps
-instr_goes program sectors device context known m (instr.LoadImmediate dst x) set site e range limit keeps =
+instr_goes program sectors device context known m (instr.LoadImmediate dst x) set site e range limit keeps inside =
     immediate_goes program (context_bytes context) device sectors known m dst x site range.1 (free_at program m.slot (instr.LoadImmediate dst x) set.shaped e)
     (begins_at program m.slot (m.slot + 2) (instr.LoadImmediate dst x) set.shaped e (inl refl))
 
@@ -158,19 +163,20 @@ next_leads e a b h = inl (ap (λ (n : ℕ). Some n) (sym h))
 target_leads : (e : Option ℕ) (a b : ℕ) → b ≡ a → (e ≡ Some b) ⊎ (Some a ≡ Some b)
 target_leads e a b h = inr (ap (λ (n : ℕ). Some n) (sym h))
 
-pub arrives_edge : (sectors : ℕ) (known : Abstract) (slot : ℕ) (i : Instr) (t : State) → Arrives sectors (passes sectors known slot i) t → Leads (edges_of slot i) t.slot
+pub arrives_edge : (sectors : ℕ) (known : Abstract) (slot : ℕ) (i : Instr) (t : State) → stays i ≡ true → Arrives sectors (passes sectors known slot i) t → Leads (edges_of slot i) t.slot
 unfolding passes edges_of
-arrives_edge sectors known slot instr.Exit t a = absurd a
-arrives_edge sectors known slot (instr.Jump distance) t a = target_leads None (target_slot slot distance) t.slot (one_slot sectors (target_slot slot distance) known t a)
-arrives_edge sectors known slot (instr.LongJump distance) t a = target_leads None (target_slot slot distance) t.slot (one_slot sectors (target_slot slot distance) known t a)
-arrives_edge sectors known slot (instr.Branch w c dst from distance) t a =
+arrives_edge sectors known slot instr.Exit t inside a = absurd a
+arrives_edge sectors known slot (instr.CallLocal distance) t inside a = absurd (let bad : false ≡ true = inside in cc)
+arrives_edge sectors known slot (instr.Jump distance) t inside a = target_leads None (target_slot slot distance) t.slot (one_slot sectors (target_slot slot distance) known t a)
+arrives_edge sectors known slot (instr.LongJump distance) t inside a = target_leads None (target_slot slot distance) t.slot (one_slot sectors (target_slot slot distance) known t a)
+arrives_edge sectors known slot (instr.Branch w c dst from distance) t inside a =
     elim (arrives_of sectors (sent (slot + 1) (edge_of known (instr.Branch w c dst from distance) false)) (sent (target_slot slot distance) (edge_of known (instr.Branch w c dst from distance) true)) t a) [
       | inl left ↦ next_leads (Some (target_slot slot distance)) (slot + 1) t.slot (sent_slot sectors (slot + 1) (edge_of known (instr.Branch w c dst from distance) false) t left)
       | inr right ↦ target_leads (Some (slot + 1)) (target_slot slot distance) t.slot (sent_slot sectors (target_slot slot distance) (edge_of known (instr.Branch w c dst from distance) true) t right)
     ]
-arrives_edge sectors known slot (instr.LoadImmediate dst x) t a =
+arrives_edge sectors known slot (instr.LoadImmediate dst x) t inside a =
     next_leads None (slot + 2) t.slot (one_slot sectors (slot + 2) (after_of sectors known (instr.LoadImmediate dst x)) t a)
-arrives_edge sectors known slot i t a = next_leads None (slot + 1) t.slot (one_slot sectors (slot + 1) (after_of sectors known i) t a)
+arrives_edge sectors known slot i t inside a = next_leads None (slot + 1) t.slot (one_slot sectors (slot + 1) (after_of sectors known i) t a)
 
 -- the limit of `again` is set before it
 
@@ -207,7 +213,7 @@ limit_set program context device m (instr.Arithmetic width.W64 op.Mov dst (sourc
         let one = first (dst == 1) (nat_le 1 (cast_unsigned w64 n) && nat_le (cast_unsigned w64 n) 1048576) f in
         let is : dst ≡ 1 = grind (arith, nat_tests) in
         let next : step.set_and_go 1 (machine m) dst x ≡ Next t = came (first_failing list) stepped in
-        let to : State = record { slot = m.slot + 1; registers = set m.registers dst (Some x); frames = frames_of m.stack; turns = m.turns; codes = m.codes } in
+        let to : State = record { slot = m.slot + 1; registers = set m.registers dst (Some x); frames = all_frames m; turns = m.turns; codes = m.codes } in
         let same : Next to ≡ Next t = next in
         let there : to ≡ t = next_same to t same in
         ap (λ (s : State). register s 1) (sym there) ∙ ap (λ (d : ℕ). get_or (set m.registers d (Some x)) 1 None) is
@@ -217,15 +223,15 @@ limit_set program context device m i k t long e stepped = absurd (let bad : None
 
 -- states that arrive, rounded
 
-pub arrives_rounded : (sectors : ℕ) (heads : List Bool) (xs : List (ℕ × Abstract)) (t : State) → Each (λ (p : ℕ × Abstract). IsState p.1) xs → Arrives sectors xs t
-    → Arrives sectors (map (arrival heads) xs) t
-arrives_rounded sectors heads [] t fits a = absurd a
-arrives_rounded sectors heads (p ∷ xs) t fits (inl h) = inl (h.0, by (get_or heads p.0 false))
+pub sent_rounded : (holds : Abstract → Type 0) (heads : List Bool) (xs : List (ℕ × Abstract)) (slot : ℕ) → ((k l : Abstract) → StateUnder k l → holds k → holds l)
+    → Each (λ (p : ℕ × Abstract). IsState p.1) xs → IsSent holds slot xs → IsSent holds slot (map (arrival heads) xs)
+sent_rounded holds heads [] slot more fits a = absurd a
+sent_rounded holds heads (p ∷ xs) slot more fits (inl h) = inl (h.0, by (get_or heads p.0 false))
   where
-    by : (b : Bool) → Covers sectors (if b then round_state p.1 else p.1) t
-    by true = covers_under sectors p.1 (round_state p.1) t (state_round p.1 fits.0) h.1
+    by : (b : Bool) → holds (if b then round_state p.1 else p.1)
+    by true = more p.1 (round_state p.1) (state_round p.1 fits.0) h.1
     by false = h.1
-arrives_rounded sectors heads (p ∷ xs) t fits (inr h) = inr (arrives_rounded sectors heads xs t fits.1 h)
+sent_rounded holds heads (p ∷ xs) slot more fits (inr h) = inr (sent_rounded holds heads xs slot more fits.1 h)
 
 each_append : (xs ys : List (ℕ × Abstract)) → Each (λ (p : ℕ × Abstract). IsState p.1) xs → Each (λ (p : ℕ × Abstract). IsState p.1) ys → Each (λ (p : ℕ × Abstract). IsState p.1) (xs ++ ys)
 each_append [] ys a b = b
@@ -238,6 +244,7 @@ each_sent slot (Some s) h = (h, tt)
 pub passes_fit : (sectors : ℕ) (known : Abstract) (slot : ℕ) (i : Instr) → sectors < 2 ^ 64 → IsInRange i → IsState known → Each (λ (p : ℕ × Abstract). IsState p.1) (passes sectors known slot i)
 unfolding passes
 passes_fit sectors known slot instr.Exit few range fits = tt
+passes_fit sectors known slot (instr.CallLocal distance) few range fits = (after_fits sectors known (instr.CallLocal distance) few range fits, (entry_fits known fits, tt))
 passes_fit sectors known slot (instr.Jump distance) few range fits = (fits, tt)
 passes_fit sectors known slot (instr.LongJump distance) few range fits = (fits, tt)
 passes_fit sectors known slot (instr.Branch w c dst from distance) few range fits =

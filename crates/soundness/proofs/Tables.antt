@@ -1,5 +1,5 @@
 -- A step over a table, and the machines that are reached.
-use Rattle.std.proofs.Common.{◌≡◌, ◌<◌, ◌≤◌, ℕ, zero, suc, ◌+◌, ◌^◌, Bool, true, false, if◌then◌else◌, List, [], ◌∷◌, length, map, replicate, get_or, Option, None, Some, is_some, refl, sym, ap, ◌∙◌, inl, inr, ◌⊎◌, subst, arith}
+use Rattle.std.proofs.Common.{◌≡◌, ◌<◌, ◌≤◌, ℕ, zero, suc, ◌+◌, ◌^◌, Bool, true, false, if◌then◌else◌, ℤ, List, [], ◌∷◌, ◌++◌, length, map, get_or, Option, None, Some, is_some, refl, sym, ap, ◌∙◌, inl, inr, ◌⊎◌, subst, arith}
 use Rattle.std.specs.Option.{option_map_or}
 use Rattle.std.proofs.Math.ListN.{length-replicate}
 use Rattle.base.specs.Check.{first_failing}
@@ -8,35 +8,37 @@ use Rattle.bpf_isa.specs.declared.instr.Instr.{Instr}
 use Rattle.bpf_isa.specs.declared.instr.Instr.TheVariants as instr
 use Rattle.bpf_isa.specs.Program.{slots_of, IsProgram}
 use Rattle.helpers.specs.declared.device.Context.{Context}
-use Rattle.machine.specs.State.{State, register, start, unset_stack, no_turns, context_start, frame_end}
+use Rattle.machine.specs.State.{Frame, State, register, start, unset_stack, no_turns, context_start, frame_end}
 use Rattle.machine.specs.Memory.{context_bytes}
 use Rattle.bpf_isa.specs.Slots.{at}
 use Rattle.machine.specs.Step.{step_of, step, Stepped, Next, Done, Fault}
 use Rattle.bpf_shape.specs.Edges.{edges_of, control}
 use Rattle.bpf_shape.specs.Again.{limit_before, heads}
-use Rattle.bpf_shape.specs.Paths.{Leads}
+use Rattle.bpf_shape.specs.Paths.{Leads, Reaches}
 use Rattle.bpf_shape.proofs.Kept.{edges_begin}
-use Rattle.ranges.specs.Groups.{Marked, unset_marks}
 use Rattle.ranges.specs.States as states
-use Rattle.ranges.specs.States.{Abstract, round_state, unset_groups}
-use Rattle.ranges.specs.Order.{Each, Holds, IsState}
+use Rattle.ranges.specs.States.{Abstract, round_state}
+use Rattle.ranges.specs.Order.{Each, Holds, IsState, StateUnder}
 use Rattle.ranges.specs.Reading.{value}
 use Rattle.ranges.specs.Rules.{rules}
 use Rattle.ranges.specs.Passing.{passes}
 use Rattle.ranges.proofs.Covering.{state_under}
 use Rattle.ranges.proofs.Fitting.{round_state_fits, start_fits}
 use Rattle.verifier.specs.Tables as tables
-use Rattle.verifier.specs.Tables.{state_at, CoversAll, AreStates, arriving, arrival, broken_rule, passed_on, rule_at, sent_from}
+use Rattle.verifier.specs.Tables.{state_at, CoversAll, AreStates, arrival, broken_rule, passed_on, rule_at, sent_from}
 use Rattle.verifier.specs.Good.{IsGood}
-use Rattle.soundness.specs.Meaning.{Means, GroupMeans, Covers}
-use Rattle.soundness.specs.Machines.{IsSetting, IsMachine, HasLimit}
+use Rattle.soundness.specs.Meaning.{Means, CoversFrame, Covers, frame_number, last_stack}
+use Rattle.soundness.specs.Machines.{IsSetting, IsStack, IsMachine, HasLimit}
+use Rattle.soundness.specs.Callers.{restored, CoversWaiting, Waits, AreWaiting}
 use Rattle.soundness.specs.Reaching.{Reached}
-use Rattle.soundness.specs.Laws.{Arrives, GoesOn, IsCovered, IsKnown, StepIsCovered, IsSafe, StepIsSafe, TableCovers}
-use Rattle.soundness.proofs.Meanings.{covers_under}
-use Rattle.soundness.proofs.Standing.{Parts, machine, Goes}
+use Rattle.soundness.specs.Laws.{IsSent, GoesOn, Enters, IsCovered, IsKnown, StepIsCovered, Follows, IsSafe, StepIsSafe, TableCovers}
+use Rattle.soundness.proofs.Meanings.{frame_under, covers_under}
+use Rattle.soundness.proofs.Standing.{Parts, machine, all_frames, number_is, last_is, Stays, Goes}
 use Rattle.soundness.proofs.Computing.{Site}
-use Rattle.soundness.proofs.Programs.{range_at, leads_at, limit_is, no_limit, no_target}
-use Rattle.soundness.proofs.Steps.{instr_goes, arrives_edge, limit_set, arrives_rounded, passes_fit}
+use Rattle.soundness.proofs.Programs.{range_at, leads_at, limit_is, no_limit, no_target, entry_begins}
+use Rattle.soundness.proofs.Waiting.{split_last, length_of, each_last, whole_kept, waiting_kept, waiting_pushed}
+use Rattle.soundness.proofs.Locals.{unset_is_stack, unset_means, local_call, exit_covered}
+use Rattle.soundness.proofs.Steps.{stays, instr_goes, arrives_edge, limit_set, sent_rounded, passes_fit}
 
 -- before a call of `again` its limit is set
 
@@ -63,25 +65,93 @@ limit_next program sectors device context m i t set long e (inl next) stepped = 
 
 -- a step at an instruction
 
-at_instr : (program : List (Option Instr)) (sectors : ℕ) (device : List (List ℕ)) (context : Context) (known : Abstract) (m : Parts) (i : Instr)
-    → IsSetting program sectors device context → Site sectors known m → at program m.slot ≡ Some i → HasLimit program (machine m) → first_failing (rules known i) ≡ None
-    → IsCovered program sectors (map (arrival (heads program)) (passes sectors known m.slot i)) (machine m) (step_of program (context_bytes context) device (machine m) i)
-at_instr program sectors device context known m i set site e limit keeps =
-    by (step_of program (context_bytes context) device (machine m) i) refl (instr_goes program sectors device context known m i set site e (range_at program m.slot i set.made e) limit keeps)
+-- within a frame
+goes_on : (program : List (Option Instr)) (sectors : ℕ) (device : List (List ℕ)) (context : Context) (known : Abstract) (m : Parts) (i : Instr) (t : State)
+    → IsSetting program sectors device context → Site sectors known m → IsMachine (machine m) → at program m.slot ≡ Some i → stays i ≡ true
+    → step_of program (context_bytes context) device (machine m) i ≡ Next t → Stays sectors m.below m.caller (passes sectors known m.slot i) t
+    → GoesOn program sectors (map (arrival (heads program)) (passes sectors known m.slot i)) (machine m) t
+goes_on program sectors device context known m i t set site whole e inside stepped g =
+    let leads = arrives_edge sectors known m.slot i t inside g.arrives in
+    record {
+      whole = whole_kept m t g.stack whole g.words g.frames g.cells g.turns;
+      limit = limit_next program sectors device context m i t set site.stands.words.long e leads stepped;
+      edge = leads_at program m.slot t.slot i e leads;
+      frames = record {
+        below = m.below;
+        old = record { stack = m.stack; caller = m.caller };
+        new = record { stack = g.stack; caller = m.caller };
+        had = refl;
+        has = g.frames;
+        caller = refl;
+      };
+      arrives = sent_rounded (λ k. Covers sectors k t) (heads program) (passes sectors known m.slot i) t.slot (λ k l under. covers_under sectors k l t under)
+          (passes_fit sectors known m.slot i (let few = set.few in omega arith) (range_at program m.slot i set.made e) site.fits) g.arrives;
+    }
+
+inside_covered : (program : List (Option Instr)) (sectors : ℕ) (device : List (List ℕ)) (context : Context) (table : List (Option Abstract)) (known : Abstract) (m : Parts) (i : Instr)
+    → IsSetting program sectors device context → Site sectors known m → IsMachine (machine m) → at program m.slot ≡ Some i → HasLimit program (machine m) → first_failing (rules known i) ≡ None
+    → stays i ≡ true
+    → IsCovered program sectors table (map (arrival (heads program)) (passes sectors known m.slot i)) (machine m) (step_of program (context_bytes context) device (machine m) i)
+inside_covered program sectors device context table known m i set site whole e limit keeps inside =
+    by (step_of program (context_bytes context) device (machine m) i) refl (instr_goes program sectors device context known m i set site e (range_at program m.slot i set.made e) limit keeps inside)
   where
-    by : (x : Stepped) → step_of program (context_bytes context) device (machine m) i ≡ x → Goes sectors (passes sectors known m.slot i) x
-        → IsCovered program sectors (map (arrival (heads program)) (passes sectors known m.slot i)) (machine m) x
-    by (Done answer codes) f g = tt
+    by : (x : Stepped) → step_of program (context_bytes context) device (machine m) i ≡ x → Goes sectors m (passes sectors known m.slot i) x
+        → IsCovered program sectors table (map (arrival (heads program)) (passes sectors known m.slot i)) (machine m) x
+    by (Done answer codes) f g = absurd g
     by (Fault cause slot) f g = g
-    by (Next t) f g =
-        let leads = arrives_edge sectors known m.slot i t g.1 in
-        record {
-          whole = g.0;
-          limit = limit_next program sectors device context m i t set site.stands.words.long e leads f;
-          edge = leads_at program m.slot t.slot i e leads;
-          arrives = arrives_rounded sectors (heads program) (passes sectors known m.slot i) t
-              (passes_fit sectors known m.slot i (let few = set.few in omega arith) (range_at program m.slot i set.made e) site.fits) g.1;
-        }
+    by (Next t) f g = inl (goes_on program sectors device context known m i t set site whole e inside f g)
+
+-- into a local function
+call_covered : (program : List (Option Instr)) (sectors : ℕ) (device : List (List ℕ)) (context : Context) (table : List (Option Abstract)) (known : Abstract) (m : Parts) (distance : ℤ)
+    → IsSetting program sectors device context → Site sectors known m → IsMachine (machine m) → AreWaiting program sectors table 0 0 (all_frames m) m.slot
+    → at program m.slot ≡ Some (instr.CallLocal distance)
+    → IsCovered program sectors table (map (arrival (heads program)) (passes sectors known m.slot (instr.CallLocal distance))) (machine m)
+    (step_of program (context_bytes context) device (machine m) (instr.CallLocal distance))
+call_covered program sectors device context table known m distance set site whole waiting e =
+    let i : Instr = instr.CallLocal distance in
+    let sent = passes sectors known m.slot i in
+    let call = local_call program (context_bytes context) device sectors table known m distance set.shaped site e whole waiting in
+    let h = call.enters in
+    let fits = passes_fit sectors known m.slot i (let few = set.few in omega arith) (range_at program m.slot i set.made e) site.fits in
+    let frame : ℕ = frame_number (all_frames m) in
+    let stack : List (Option ℕ) = last_stack (all_frames m) in
+    let rounded : Enters program sectors (map (arrival (heads program)) sent) (machine m) call.to = record {
+      whole = h.whole;
+      limit = h.limit;
+      calls = h.calls;
+      caller = h.caller;
+      back = h.back;
+      frames = h.frames;
+      registers = h.registers;
+      arrives = sent_rounded (λ k. Covers sectors k call.to) (heads program) sent call.to.slot (λ k l under. covers_under sectors k l call.to under) fits h.arrives;
+      waits = sent_rounded (λ k. CoversWaiting sectors frame k stack h.caller) (heads program) sent h.caller.slot
+          (λ k l under c x lt. frame_under sectors frame k l (restored h.caller x) stack under (c x lt)) fits h.waits;
+    } in
+    subst (IsCovered program sectors table (map (arrival (heads program)) sent) (machine m)) (sym call.is) (inr (inl rounded))
+
+-- an instruction stays in its frame, or it is a local call or the end of a function
+kind_of : (i : Instr) → (stays i ≡ true) ⊎ (((distance : ℤ) × (i ≡ instr.CallLocal distance)) ⊎ (i ≡ instr.Exit))
+kind_of (instr.CallLocal distance) = inr (inl (distance, refl))
+kind_of instr.Exit = inr (inr refl)
+kind_of _ = inl refl
+
+at_instr : (program : List (Option Instr)) (sectors : ℕ) (device : List (List ℕ)) (context : Context) (table : List (Option Abstract)) (known : Abstract) (m : Parts) (i : Instr)
+    → IsSetting program sectors device context → Site sectors known m → IsMachine (machine m) → AreWaiting program sectors table 0 0 (all_frames m) m.slot
+    → at program m.slot ≡ Some i → HasLimit program (machine m) → first_failing (rules known i) ≡ None
+    → IsCovered program sectors table (map (arrival (heads program)) (passes sectors known m.slot i)) (machine m) (step_of program (context_bytes context) device (machine m) i)
+at_instr program sectors device context table known m i set site whole waiting e limit keeps = by i (kind_of i) e keeps
+  where
+    by : (j : Instr) → (stays j ≡ true) ⊎ (((distance : ℤ) × (j ≡ instr.CallLocal distance)) ⊎ (j ≡ instr.Exit)) → at program m.slot ≡ Some j → first_failing (rules known j) ≡ None
+        → IsCovered program sectors table (map (arrival (heads program)) (passes sectors known m.slot j)) (machine m) (step_of program (context_bytes context) device (machine m) j)
+    by j (inl inside) f k = inside_covered program sectors device context table known m j set site whole f limit k inside
+    by j (inr (inl call)) f k =
+        subst (λ (q : Instr). IsCovered program sectors table (map (arrival (heads program)) (passes sectors known m.slot q)) (machine m) (step_of program (context_bytes context) device (machine m) q))
+        (sym call.1) (call_covered program sectors device context table known m call.0 set site whole waiting (f ∙ ap (λ (q : Instr). Some q) call.1))
+    by j (inr (inr exit)) f k =
+        let keeps_exit : first_failing (rules known instr.Exit) ≡ None = subst (λ (q : Instr). first_failing (rules known q) ≡ None) exit k in
+        subst (λ (q : Instr). IsCovered program sectors table (map (arrival (heads program)) (passes sectors known m.slot q)) (machine m) (step_of program (context_bytes context) device (machine m) q))
+        (sym exit)
+        (exit_covered program (context_bytes context) device sectors table known m (map (arrival (heads program)) (passes sectors known m.slot instr.Exit)) set.shaped site whole waiting keeps_exit)
 
 found_instr : (o : Option Instr) → is_some o ≡ true → (i : Instr) × (o ≡ Some i)
 found_instr None e = absurd (let bad : false ≡ true = e in cc)
@@ -107,40 +177,48 @@ pub step_covered : StepIsCovered
 step_covered program sectors device context table s set fit known keeps =
     let found = found_instr (at program s.slot) known.here in
     let i : Instr = found.0 in
-    let m : Parts = record { slot = s.slot; registers = s.registers; stack = known.whole.stack; turns = s.turns; codes = s.codes } in
-    let same : s ≡ machine m = λ d. record { slot = s.slot; registers = s.registers; frames = known.whole.only d; turns = s.turns; codes = s.codes } in
-    let covers : Covers sectors known.known (machine m) = subst (Covers sectors known.known) same known.covers in
+    let split = split_last s.frames known.whole.some in
+    let f : Frame = split.last in
+    let m : Parts = record { slot = s.slot; registers = s.registers; below = split.below; caller = f.caller; stack = f.stack; turns = s.turns; codes = s.codes } in
+    let same : s ≡ machine m = λ d. record { slot = s.slot; registers = s.registers; frames = split.is d; turns = s.turns; codes = s.codes } in
+    let covers : CoversFrame sectors (frame_number (all_frames m)) known.known s.registers (last_stack (all_frames m)) = subst (λ (u : State). Covers sectors known.known u) same known.covers in
+    let here : CoversFrame sectors (length split.below) known.known s.registers f.stack = rw (number_is split.below f, last_is split.below f) at covers in
+    let whole : IsMachine (machine m) = subst IsMachine same known.whole in
+    let waiting : AreWaiting program sectors table 0 0 (all_frames m) s.slot = subst (λ (fs : List Frame). AreWaiting program sectors table 0 0 fs s.slot) split.is known.waiting in
+    let limit : HasLimit program (machine m) = known.limit in
+    let long = length_of split.below f in
+    let most = whole.most in
     let site : Site sectors known.known m = record {
-      few = set.few;
+      few = record { device = set.few; frames = omega (arith, long, most) };
       fits = listed_fits (state_at table s.slot) known.known (fit s.slot) known.listed;
-      stands = record { words = known.whole.registers; cells = known.whole.cells; values = covers.registers; groups = covers.groups };
-      turns = known.whole.turns;
+      stands = record { words = whole.registers; cells = each_last (λ x. IsStack x.stack) split.below f whole.stacks; values = here.registers; groups = here.groups };
+      turns = whole.turns;
     } in
-    let there = at_instr program sectors device context known.known m i set site found.1 known.limit (rule_is program table s.slot i known.known found.1 known.listed keeps) in
-    let listed : IsCovered program sectors (sent_from program sectors table s.slot) (machine m) (step_of program (context_bytes context) device (machine m) i) =
-    subst (λ (xs : List (ℕ × Abstract)). IsCovered program sectors xs (machine m) (step_of program (context_bytes context) device (machine m) i))
+    let there = at_instr program sectors device context table known.known m i set site whole waiting found.1 limit (rule_is program table s.slot i known.known found.1 known.listed keeps) in
+    let listed : IsCovered program sectors table (sent_from program sectors table s.slot) (machine m) (step_of program (context_bytes context) device (machine m) i) =
+    subst (λ (xs : List (ℕ × Abstract)). IsCovered program sectors table xs (machine m) (step_of program (context_bytes context) device (machine m) i))
     (sym (sent_is program sectors table s.slot i known.known found.1 known.listed)) there in
-    let stepped : IsCovered program sectors (sent_from program sectors table s.slot) (machine m) (step program (context_bytes context) device (machine m)) =
-    subst (λ (o : Option Instr). IsCovered program sectors (sent_from program sectors table s.slot) (machine m)
+    let stepped : IsCovered program sectors table (sent_from program sectors table s.slot) (machine m) (step program (context_bytes context) device (machine m)) =
+    subst (λ (o : Option Instr). IsCovered program sectors table (sent_from program sectors table s.slot) (machine m)
     (option_map_or (step_of program (context_bytes context) device (machine m)) o (Fault fault.NoInstruction s.slot))) (sym found.1) listed in
-    subst (λ (u : State). IsCovered program sectors (sent_from program sectors table s.slot) u (step program (context_bytes context) device u)) (sym same) stepped
+    subst (λ (u : State). IsCovered program sectors table (sent_from program sectors table s.slot) u (step program (context_bytes context) device u)) (sym same) stepped
 
 -- where states arrive the table knows more
 
-pub record Lookup (sectors : ℕ) (table : List (Option Abstract)) (t : State) : Type 0 where
+pub record Lookup (holds : Abstract → Type 0) (table : List (Option Abstract)) (slot : ℕ) : Type 0 where
   pub known : Abstract
-  pub listed : state_at table t.slot ≡ Some known
-  pub covers : Covers sectors known t
+  pub listed : state_at table slot ≡ Some known
+  pub there : holds known
 
-look_up : (sectors : ℕ) (table : List (Option Abstract)) (xs : List (ℕ × Abstract)) (t : State) → AreStates table → Each (λ (p : ℕ × Abstract). IsState p.1) xs → CoversAll table xs
-    → Arrives sectors xs t → Lookup sectors table t
-look_up sectors table [] t states fits all a = absurd a
-look_up sectors table (p ∷ xs) t states fits all (inr rest) = look_up sectors table xs t states fits.1 all.1 rest
-look_up sectors table (p ∷ xs) t states fits all (inl h) = by (state_at table t.slot) refl (states t.slot) (subst (λ (s : ℕ). tables.Covers (state_at table s) p.1) h.0 all.0)
+look_up : (holds : Abstract → Type 0) (table : List (Option Abstract)) (xs : List (ℕ × Abstract)) (slot : ℕ) → ((k l : Abstract) → StateUnder k l → holds k → holds l) → AreStates table
+    → Each (λ (p : ℕ × Abstract). IsState p.1) xs → CoversAll table xs → IsSent holds slot xs → Lookup holds table slot
+look_up holds table [] slot more states fits all a = absurd a
+look_up holds table (p ∷ xs) slot more states fits all (inr rest) = look_up holds table xs slot more states fits.1 all.1 rest
+look_up holds table (p ∷ xs) slot more states fits all (inl h) = by (state_at table slot) refl (states slot) (subst (λ (s : ℕ). tables.Covers (state_at table s) p.1) h.0 all.0)
   where
-    by : (o : Option Abstract) → state_at table t.slot ≡ o → Holds IsState o → tables.Covers o p.1 → Lookup sectors table t
+    by : (o : Option Abstract) → state_at table slot ≡ o → Holds IsState o → tables.Covers o p.1 → Lookup holds table slot
     by None e fit c = absurd c
-    by (Some known) e fit c = record { known = known; listed = e; covers = covers_under sectors p.1 known t (state_under known p.1 fit fits.0 c) h.1 }
+    by (Some known) e fit c = record { known = known; listed = e; there = more p.1 known (state_under known p.1 fit fits.0 c) h.1 }
 
 arrivals_fit : (hs : List Bool) (xs : List (ℕ × Abstract)) → Each (λ (p : ℕ × Abstract). IsState p.1) xs → Each (λ (p : ℕ × Abstract). IsState p.1) (map (arrival hs) xs)
 arrivals_fit hs [] a = tt
@@ -164,23 +242,79 @@ pub step_safe : StepIsSafe
 step_safe program sectors device context table s set good known =
     by (step program (context_bytes context) device s) (step_covered program sectors device context table s set good.states known (good.slots s.slot).rules)
   where
-    goes_to : (t : State) → GoesOn program sectors (sent_from program sectors table s.slot) s t → IsKnown program sectors table t × Leads (control program s.slot) t.slot
-    goes_to t g =
-        let found = look_up sectors table (sent_from program sectors table s.slot) t good.states (sent_fit program sectors table s.slot set.made set.few good.states) (good.slots s.slot).edges g.arrives in (
+    sent : List (ℕ × Abstract)
+    sent = sent_from program sectors table s.slot
+
+    fits : Each (λ (p : ℕ × Abstract). IsState p.1) sent
+    fits = sent_fit program sectors table s.slot set.made set.few good.states
+
+    inside : (t : State) → GoesOn program sectors sent s t → IsKnown program sectors table t × Follows program s t
+    inside t g =
+        let found = look_up (λ k. Covers sectors k t) table sent t.slot (λ k l under. covers_under sectors k l t under) good.states fits (good.slots s.slot).edges g.arrives in
+        let q = g.frames in
+        let had = ap (λ (fs : List Frame). length fs) q.had ∙ length_of q.below q.old in
+        let has = ap (λ (fs : List Frame). length fs) q.has ∙ length_of q.below q.new in
+        let waiting : AreWaiting program sectors table 0 0 (q.below ++ q.old ∷ []) s.slot = subst (λ (fs : List Frame). AreWaiting program sectors table 0 0 fs s.slot) q.had known.waiting in (
           record {
             known = found.known;
             listed = found.listed;
-            covers = found.covers;
+            covers = found.there;
             whole = g.whole;
             limit = g.limit;
             here = edges_begin program set.shaped.targets set.shaped.ends s.slot t.slot g.edge;
+            waiting = subst (λ (fs : List Frame). AreWaiting program sectors table 0 0 fs t.slot) (sym q.has)
+                (waiting_kept program sectors table 0 0 q.below q.old q.new s.slot t.slot waiting g.edge q.caller);
           },
-          g.edge,
+          inl (has ∙ sym had, g.edge),
         )
 
-    by : (x : Stepped) → IsCovered program sectors (sent_from program sectors table s.slot) s x → IsSafe program sectors table s x
-    by (Next u) g = record { sound = tt; goes = λ t e. let same : u ≡ t = cc in subst (λ (v : State). IsKnown program sectors table v × Leads (control program s.slot) v.slot) same (goes_to u g) }
-    by (Done answer codes) g = record { sound = tt; goes = λ t e. absurd (let bad : Done answer codes ≡ Next t = e in cc) }
+    into : (t : State) → Enters program sectors sent s t → IsKnown program sectors table t × Follows program s t
+    into t g =
+        let found = look_up (λ k. Covers sectors k t) table sent t.slot (λ k l under. covers_under sectors k l t under) good.states fits (good.slots s.slot).edges g.arrives in
+        let frame : ℕ = frame_number s.frames in
+        let stack : List (Option ℕ) = last_stack s.frames in
+        let back = look_up (λ k. CoversWaiting sectors frame k stack g.caller) table sent g.caller.slot
+        (λ k l under c x lt. frame_under sectors frame k l (restored g.caller x) stack under (c x lt)) good.states fits (good.slots s.slot).edges g.waits in
+        let split = split_last s.frames known.whole.some in
+        let new : Frame = record { stack = unset_stack; caller = Some g.caller } in
+        let place : frame ≡ 0 + length split.below = ap frame_number split.is ∙ number_is split.below split.last ∙ omega arith in
+        let same : stack ≡ split.last.stack = ap last_stack split.is ∙ last_is split.below split.last in
+        let waiting : AreWaiting program sectors table 0 0 (split.below ++ split.last ∷ []) s.slot =
+        subst (λ (fs : List Frame). AreWaiting program sectors table 0 0 fs s.slot) split.is known.waiting in
+        let waits : (from : ℕ) → Reaches (control program) from s.slot → Waits program sectors table frame from t.slot split.last.stack g.caller =
+        λ from reached. record {
+          call = s.slot;
+          reached = reached;
+          calls = g.calls;
+          back = g.back;
+          registers = g.registers;
+          known = back.known;
+          listed = back.listed;
+          covers = subst (λ (cells : List (Option ℕ)). CoversWaiting sectors frame back.known cells g.caller) same back.there;
+        } in
+        let pushed = waiting_pushed program sectors table 0 0 frame split.below split.last new g.caller s.slot t.slot place waiting waits refl in
+        let frames : t.frames ≡ (split.below ++ split.last ∷ []) ++ new ∷ [] = g.frames ∙ ap (λ (fs : List Frame). fs ++ new ∷ []) split.is in
+        let long = ap (λ (fs : List Frame). length fs) g.frames ∙ length_of s.frames new in (
+          record {
+            known = found.known;
+            listed = found.listed;
+            covers = found.there;
+            whole = g.whole;
+            limit = g.limit;
+            here = entry_begins program s.slot t.slot set.shaped g.calls;
+            waiting = subst (λ (fs : List Frame). AreWaiting program sectors table 0 0 fs t.slot) (sym frames) pushed;
+          },
+          inr (inl (long, g.calls)),
+        )
+
+    each_way : (t : State) → IsCovered program sectors table sent s (Next t) → IsKnown program sectors table t × Follows program s t
+    each_way t (inl g) = inside t g
+    each_way t (inr (inl g)) = into t g
+    each_way t (inr (inr g)) = (g.known, inr (inr (g.frames, g.back)))
+
+    by : (x : Stepped) → IsCovered program sectors table sent s x → IsSafe program sectors table s x
+    by (Next u) g = record { sound = tt; goes = λ t e. let same : u ≡ t = cc in subst (λ (v : State). IsKnown program sectors table v × Follows program s v) same (each_way u g); ends = λ answer codes e. absurd (let bad : Next u ≡ Done answer codes = e in cc) }
+    by (Done answer codes) g = record { sound = tt; goes = λ t e. absurd (let bad : Done answer codes ≡ Next t = e in cc); ends = λ a c e. g }
     by (Fault cause slot) g = absurd g
 
 -- the start
@@ -209,21 +343,11 @@ start_registers sectors (suc (suc (suc (suc (suc (suc (suc (suc (suc zero)))))))
 start_registers sectors (suc (suc (suc (suc (suc (suc (suc (suc (suc (suc zero)))))))))) = (frame_end, refl, refl)
 start_registers sectors (suc (suc (suc (suc (suc (suc (suc (suc (suc (suc (suc r))))))))))) = tt
 
-no_mark : (n k : ℕ) → get_or (replicate n false) k false ≡ true → ⊥
-no_mark zero k e = let bad : false ≡ true = e in cc
-no_mark (suc n) zero e = let bad : false ≡ true = e in cc
-no_mark (suc n) (suc k) e = no_mark n k e
-
-nothing_known : (sectors n g h : ℕ) (stack : List (Option ℕ)) → GroupMeans sectors 0 (get_or (replicate n (Marked unset_marks)) g (Marked [])) stack h
-nothing_known sectors zero g h stack = λ k lt e. absurd (let bad : false ≡ true = e in cc)
-nothing_known sectors (suc n) zero h stack = λ k lt e. absurd (no_mark 8 k e)
-nothing_known sectors (suc n) (suc g) h stack = nothing_known sectors n g h stack
-
 start_covers : (sectors : ℕ) → Covers sectors states.start start
-unfolding start states.start unset_groups
+unfolding start states.start
 start_covers sectors = record {
   registers = start_registers sectors;
-  groups = λ g. nothing_known sectors 64 g g unset_stack;
+  groups = λ g. unset_means sectors 0 unset_stack g;
 }
 
 start_word : (c : Option ℕ) (v w : ℕ) → c ≡ Some v → v < 2 ^ 64 → c ≡ Some w → w < 2 ^ 64
@@ -244,18 +368,14 @@ start_words (suc (suc (suc (suc (suc (suc (suc (suc (suc zero))))))))) w e = abs
 start_words (suc (suc (suc (suc (suc (suc (suc (suc (suc (suc zero)))))))))) w e = start_word (Some frame_end) frame_end w refl (omega arith) e
 start_words (suc (suc (suc (suc (suc (suc (suc (suc (suc (suc (suc r))))))))))) w e = absurd (let bad : None ≡ Some w = e in cc)
 
-no_byte : (n p b : ℕ) → get_or (replicate {A = Option ℕ} n None) p None ≡ Some b → ⊥
-no_byte zero p b e = let bad : None ≡ Some b = e in cc
-no_byte (suc n) zero b e = let bad : None ≡ Some b = e in cc
-no_byte (suc n) (suc p) b e = no_byte n p b e
-
 start_machine : IsMachine start
-unfolding start unset_stack no_turns
+unfolding start no_turns
 start_machine = record {
   registers = record { long = refl; words = start_words };
-  stack = unset_stack;
-  only = refl;
-  cells = record { long = length-replicate {A = Option ℕ} 512 None; bytes = λ p b e. absurd (no_byte 512 p b e) };
+  some = omega arith;
+  most = omega arith;
+  stacks = (unset_is_stack, tt);
+  outermost = refl;
   turns = length-replicate {A = ℕ} 4096 0;
 }
 
@@ -277,6 +397,7 @@ start_known program sectors device context table set good = by (state_at table 0
       whole = start_machine;
       limit = start_limit program;
       here = first_begins program set.made;
+      waiting = record { slots = []; walk = tt; ends = refl };
     }
 
 reached : (program : List (Option Instr)) (sectors : ℕ) (device : List (List ℕ)) (context : Context) (table : List (Option Abstract)) (n : ℕ) (s : State)

@@ -5,7 +5,8 @@ use Rattle.bpf_isa.specs.Program.{IsProgram}
 use Rattle.bpf_shape.specs.Again.{calls_again, limit_before}
 use Rattle.bpf_shape.specs.Rules.{IsShaped}
 use Rattle.helpers.specs.declared.device.Context.{Context}
-use Rattle.machine.specs.State.{State, register}
+use Rattle.machine.specs.State.{Caller, Frame, State, register}
+use Rattle.ranges.specs.Order.{Each}
 
 -- a sector of a device: 512 bytes
 pub record IsSector (sector : List ℕ) : Type 0 where
@@ -33,12 +34,18 @@ pub record IsStack (stack : List (Option ℕ)) : Type 0 where
   pub long : length stack ≡ 512
   pub bytes : (p b : ℕ) → slice_index_or stack p None ≡ Some b → b < 256
 
--- a machine with one frame
+-- the outermost frame has no caller
+abbrev pub first_caller : List Frame → Option Caller
+first_caller [] = None
+first_caller (f ∷ rest) = f.caller
+
+-- a machine with one to four frames, each with a stack
 pub record IsMachine (s : State) : Type 0 where
   pub registers : AreRegisters s.registers
-  pub stack : List (Option ℕ)
-  pub only : s.frames ≡ record { stack = stack; caller = None } ∷ []
-  pub cells : IsStack stack
+  pub some : 1 ≤ length s.frames
+  pub most : length s.frames ≤ 4
+  pub stacks : Each (λ f. IsStack f.stack) s.frames
+  pub outermost : first_caller s.frames ≡ None
   pub turns : length s.turns ≡ 4096
 
 -- before a call of `again`, register 1 has the limit that is set there

@@ -3,7 +3,7 @@
 use Rattle.std.specs.Prelude.{◌≡◌, ◌<◌, ℕ, ◌+◌, ◌-◌, ◌*◌, ◌⊎◌, true, false, List, [], ◌∷◌, length, map, slice_index_or, Option, None, Some, is_some, unwrap_or}
 use Rattle.base.specs.Numbers.{number_at}
 use Rattle.helpers.specs.Answers.{sector_start}
-use Rattle.machine.specs.State.{Frame, State, register, context_start, stack_start}
+use Rattle.machine.specs.State.{Frame, State, context_start, stack_start}
 use Rattle.intervals.specs.Spans.{Has}
 use Rattle.ranges.specs.Kinds.{Kind, Unset, Num, Ctx, Stack, Sector, SectorOrNull}
 use Rattle.ranges.specs.Groups.{GroupKind, Marked, Spilled}
@@ -50,7 +50,12 @@ last_stack [] = []
 last_stack (f ∷ []) = f.stack
 last_stack (f ∷ g ∷ rest) = last_stack (g ∷ rest)
 
--- an abstract state covers a state of the machine: register by register, and group by group
-pub record Covers (sectors : ℕ) (known : Abstract) (s : State) : Type 0 where
-  pub registers : (r : ℕ) → Means sectors (frame_number s.frames) (value known r) (register s r)
-  pub groups : (g : ℕ) → GroupMeans sectors (frame_number s.frames) (slice_index_or known.groups g (Marked [])) (last_stack s.frames) g
+-- an abstract state covers the registers and the stack of the frame with this number: register by
+-- register, and group by group
+pub record CoversFrame (sectors frame : ℕ) (known : Abstract) (words stack : List (Option ℕ)) : Type 0 where
+  pub registers : (r : ℕ) → Means sectors frame (value known r) (slice_index_or words r None)
+  pub groups : (g : ℕ) → GroupMeans sectors frame (slice_index_or known.groups g (Marked [])) stack g
+
+-- it covers a state of the machine: the frame at hand
+abbrev pub Covers : ℕ → Abstract → State → Type 0
+Covers sectors known s = CoversFrame sectors (frame_number s.frames) known s.registers (last_stack s.frames)

@@ -3,8 +3,7 @@
 //! The verifier walks over a program with abstract states and never sees a device. This crate says what
 //! those states mean of the machine on which the program runs, and proves that a program which is accepted
 //! runs safely: on each image of the size for which it was accepted no step is a fault, and the run ends in
-//! a verdict within the budget (docs/PROVED.md, Verifier soundness; docs/VERIFIER.md). It speaks of
-//! programs without functions of their own, which are all that there are so far.
+//! a verdict within the budget (docs/PROVED.md, Verifier soundness; docs/VERIFIER.md).
 //!
 //! # Place
 //!
@@ -22,9 +21,12 @@
 //!   a spilled pointer says what it says of the number that its eight bytes hold. The frame at hand is the
 //!   last one.
 //! - `Machines`: `IsSetting` is a program of right shape with a device of 512-byte sectors and a context
-//!   that tells of it. `IsMachine` says how a machine with one frame looks between two steps, and
+//!   that tells of it. `IsMachine` says how a machine with one to four frames looks between two steps, and
 //!   `HasLimit` that register 1 holds the limit of a call of `again` that comes next. That is a fact about
 //!   the program and not about the table, whose state at the call may know less.
+//! - `Callers`: `AreWaiting` says of the frames below the one at hand that each is at a local call which it
+//!   reached from the entry of its own function, and that the state of the table behind the call covers it
+//!   (`CoversWaiting`): what its call saved, its stack, and any word that the function may answer.
 //! - `Reaching`: `Reached program context device n s` says that n steps lead from the start to state s.
 //!   `StepsWithoutFault`: no step from a reached state is a fault. `NeverFaults`: the run stops at none,
 //!   however many steps are made.
@@ -41,11 +43,13 @@
 //!   budget is a verdict.
 //! - `order_keeps_meaning`: a state that knows less covers all that one does which knows more. So joins and
 //!   rounding lose no machine.
-//! - `step_is_covered`: where a slot breaks no rule, the step of a machine that its state covers is the end,
-//!   or it goes on along a control edge to a machine which a state covers that the slot sends there. It is
-//!   never a fault. This holds for each instruction.
+//! - `step_is_covered`: where a slot breaks no rule, the step of a machine that its state covers is never a
+//!   fault. It is the end, in the outermost frame; or it goes on along a control edge to a machine which a state covers that the slot
+//!   sends there, and the frames below stay as they are; or it enters a local function, where a state that is
+//!   sent to the entry covers the machine and one that is sent behind the call covers the frame that waits; or
+//!   it returns to a frame that the table knows. This holds for each instruction.
 //! - `step_is_safe`: the same over a good table, so over each that `check_table` takes: the machine behind the
-//!   step is covered by the table again.
+//!   step is covered by the table again, and its frames below wait as before.
 //! - `table_covers`: so a good table covers each machine that is reached in any number of steps, and no step
 //!   of any of them is a fault.
 //! - `run_ends_within_budget`: a program of right shape whose run never faults ends in a verdict within its
@@ -57,7 +61,10 @@
 //!
 //! Each form of instruction has a lemma over plain variables, `.._goes`, which says that its step goes to a
 //! machine that its states cover: `Computing` and `Pointers` (arithmetic), `Loads`, `Stores` and `Stacks`,
-//! `Branches`, `Calls`. `Steps` puts them together, and `Tables` leads from one step to all of them.
+//! `Branches`, `Calls`. They speak of the frame at hand, with its number, over any frames below it. `Steps`
+//! puts them together. `Locals` has the two steps that change the number of frames: that no fifth is opened
+//! follows from the rule about chains of calls, since each frame keeps how its call was reached (`Waiting`).
+//! `Tables` leads from one step to all of them.
 //!
 //! That a run ends is another matter, of shape alone. Before each step three numbers are kept: how often the
 //! calls of `again` may still answer 1, a room that bounds each path from the slot at hand, and what is
