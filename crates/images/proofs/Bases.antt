@@ -63,12 +63,15 @@ one_flush es j (suc k) le same = elim (cases_lt j (suc k)) [
 ]
 
 -- cuts of one epoch have one last flush entry, and so one base
+pub one_flush_of : (es : List Entry) (j k : ℕ) → epoch_at es j ≡ epoch_at es k → last_flush es j ≡ last_flush es k
+one_flush_of es j k same = elim (cases_lt j k) [
+  | inl lt ↦ one_flush es j k (omega (arith, lt)) same
+  | inr past ↦ sym (one_flush es k j past (sym same))
+]
+
 pub one_base : (log : LogValue) (j k : ℕ) → epoch_at log.entries j ≡ epoch_at log.entries k → base_of log j ≡ base_of log k
 unfolding base_of
-one_base log j k same = ap (λ f. crash_image log.sectors log.entries f []) (elim (cases_lt j k) [
-  | inl lt ↦ one_flush log.entries j k (omega (arith, lt)) same
-  | inr past ↦ sym (one_flush log.entries k j past (sym same))
-])
+one_base log j k same = ap (λ f. crash_image log.sectors log.entries f []) (one_flush_of log.entries j k same)
 
 first_base : (log : LogValue) → base_of log 0 ≡ replicate log.sectors (replicate {A = ℕ} 512 0)
 unfolding base_of

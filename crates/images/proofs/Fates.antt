@@ -43,7 +43,7 @@ one_departure : (ds : List Departure) (u : LogUnit) (i : ℕ) (d : Departure) (f
 one_departure ds u i d f one is =
     survives_by_own ds u i ∙ ap (list_all (λ (e : Departure). keeps e.fate i)) one ∙ and_true (keeps d.fate i) ∙ ap (λ g. keeps g i) is
 
-whole_shows : (log : LogValue) (us : List LogUnit) (u : LogUnit) (ds : List Departure) → IsLog log → IsUnit log u → departures_of ds u ≡ []
+pub whole_shows : (log : LogValue) (us : List LogUnit) (u : LogUnit) (ds : List Departure) → IsLog log → IsUnit log u → departures_of ds u ≡ []
     → sector_after log.entries (us ++ u ∷ []) ds u.sector ≡ unit_content log.entries u
 whole_shows log us u ds is at none =
     let es = log.entries in

@@ -7,11 +7,13 @@ pub mod Rows
 pub mod Showing
 pub mod Spliced
 pub mod Tears
-pub mod Touched
+pub mod Sectors
 pub mod Fates
 pub mod Entries
 pub mod Members
-pub mod Differing
+pub mod Listed
+pub mod Departing
+pub mod Growing
 pub mod Identity
 pub mod Shards
 pub mod Bases

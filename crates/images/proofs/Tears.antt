@@ -75,7 +75,7 @@ one_torn log cut ds n torn more d t was here is number content =
     }
 
 -- a unit of which a byte is lost has a departure
-some_departure : (ds : List Departure) (u : LogUnit) (i : ℕ) → survives ds i u ≡ false
+pub some_departure : (ds : List Departure) (u : LogUnit) (i : ℕ) → survives ds i u ≡ false
     → (j : ℕ) × (d : Departure) × (slice_get ds j ≡ Some d) × (is_unit d.unit u ≡ true)
 unfolding survives
 some_departure [] u i lost = absurd (let bad : true ≡ false = lost in cc)
@@ -90,7 +90,7 @@ some_departure (d ∷ ds) u i lost =
     by (is_unit d.unit u) refl
 
 -- units of one entry and place are of one sector
-one_sector : (log : LogValue) (a b : LogUnit) → IsUnit log a → IsUnit log b → is_unit a b ≡ true → a.sector ≡ b.sector
+pub one_sector : (log : LogValue) (a b : LogUnit) → IsUnit log a → IsUnit log b → is_unit a b ≡ true → a.sector ≡ b.sector
 one_sector log a b one two same =
     let entry : a.entry ≡ b.entry = eqb-true a.entry b.entry (first_so (a.entry == b.entry) (a.place == b.place) same) in
     let place : a.place ≡ b.place = eqb-true a.place b.place (second_so (a.entry == b.entry) (a.place == b.place) same) in

@@ -8,15 +8,14 @@ use Rattle.std.proofs.lemmas.Option.{same_Some}
 use Rattle.logfmt.specs.Bounds.{LogValue}
 use Rattle.epochs.specs.Units.{epoch_at, marks_at}
 use Rattle.helpers.specs.declared.device.Context.{Context}
-use Rattle.images.specs.declared.key.ChangedSector.{ChangedSector}
 use Rattle.images.specs.Views.{ViewValue, sectors_of, context_at}
 use Rattle.images.specs.Whole.{length_view}
-use Rattle.images.specs.Keys.{KeyValue, base_of, content_at, differs, with_content, changed_below, changed, most_changed, identity_of, key_of}
+use Rattle.images.specs.Keys.{ChangedValue, KeyValue, base_of, content_at, differs, with_content, changed_below, changed, most_changed, identity_of, key_of, with_program}
 use Rattle.images.specs.Laws.{KeysTell}
 use Rattle.images.proofs.Bases.{one_base}
 
 -- the content of sector n in a list of sectors, or another where the list hasn't that sector
-abbrev content_in : List ChangedSector → ℕ → List ℕ → List ℕ
+abbrev content_in : List ChangedValue → ℕ → List ℕ → List ℕ
 content_in [] n other = other
 content_in (sector ∷ rest) n other = if sector.number == n then sector.content else content_in rest n other
 
@@ -132,3 +131,22 @@ keys_tell a b p q key other same one two =
       λ is. tells a b p q same (first ∙ is ∙ sym second),
       λ all. sym first ∙ told_by a b p q same all.0 all.1 all.2 ∙ second,
     )
+
+-- the key of the same image and of another program
+other_by : (view : ViewValue) (p q : ℕ) (key : KeyValue) (b : Bool) → (if b then None else Some (identity_of view p)) ≡ Some key
+    → (if b then None else Some (identity_of view q)) ≡ Some (with_program key q)
+other_by view p q key true h = absurd (let bad : None ≡ Some key = h in cc)
+other_by view p q key false h = ap (λ (k : KeyValue). Some (with_program k q)) (same_Some (identity_of view p) key h)
+
+pub other_program : (view : ViewValue) (p q : ℕ) (key : KeyValue) → key_of view p ≡ Some key → key_of view q ≡ Some (with_program key q)
+unfolding key_of
+other_program view p q key h = other_by view p q key (nat_lt most_changed (length (changed (base_of view.log view.cut) (sectors_of view)))) h
+
+-- an image without a key has none for any program
+none_by : (view : ViewValue) (p q : ℕ) (b : Bool) → (if b then None else Some (identity_of view p)) ≡ None → None ≡ (if b then None else Some (identity_of view q))
+none_by view p q true h = refl
+none_by view p q false h = absurd (let bad : Some (identity_of view p) ≡ None = h in cc)
+
+pub no_program : (view : ViewValue) (p q : ℕ) → key_of view p ≡ None → None ≡ key_of view q
+unfolding key_of
+no_program view p q h = none_by view p q (nat_lt most_changed (length (changed (base_of view.log view.cut) (sectors_of view)))) h

@@ -9,11 +9,10 @@ use Rattle.std.specs.Hash.{HashWrites}
 use Rattle.std.proofs.Common.{refl, sym, ap, ◌∙◌}
 use Rattle.std.proofs.lemmas.Bool.Decides.{Decides-eqb}
 use Rattle.lanes.specs.Sector.{mix}
-use Rattle.images.specs.declared.key.ChangedSector.{ChangedSector}
-use Rattle.images.specs.Keys.{KeyValue}
+use Rattle.images.specs.Keys.{ChangedValue, KeyValue}
 
 -- the same sector with the same bytes
-unfoldable pub same_sector : ChangedSector → ChangedSector → Bool
+unfoldable pub same_sector : ChangedValue → ChangedValue → Bool
 same_sector a b = (a.number == b.number) && pointwise nat_eq a.content b.content
 
 -- two keys are the same in all that they hold
@@ -21,7 +20,7 @@ unfoldable pub same_key : KeyValue → KeyValue → Bool
 same_key a b = (a.program == b.program) && ((a.epoch == b.epoch) && ((a.marks == b.marks) && pointwise same_sector a.changed b.changed))
 
 -- what is fed to a hasher: of each sector its number and the mix of its bytes
-unfoldable pub sector_input : ChangedSector → HashWrites
+unfoldable pub sector_input : ChangedValue → HashWrites
 sector_input sector = fed.u32 sector.number ++ fed.u64 (mix sector.content)
 
 -- what a key gives to a hasher
@@ -34,12 +33,12 @@ both a b l r = ap (λ c. c && b) l ∙ r
 same_content : (a b : List ℕ) → Decides (pointwise nat_eq a b) (a ≡ b)
 same_content a b = pointwise_decides Decides-eqb a b
 
-sector_itself : (a : ChangedSector) → same_sector a a ≡ true
+sector_itself : (a : ChangedValue) → same_sector a a ≡ true
 unfolding same_sector
 sector_itself a = both (a.number == a.number) (pointwise nat_eq a.content a.content) ((Decides-eqb a.number a.number).1 refl) ((same_content a.content a.content).1 refl)
 
 -- equality of sectors is sameness
-pub sector_decides : (a b : ChangedSector) → Decides (same_sector a b) (a ≡ b)
+pub sector_decides : (a b : ChangedValue) → Decides (same_sector a b) (a ≡ b)
 unfolding same_sector
 sector_decides a b = (
   λ e.
@@ -88,7 +87,7 @@ sector_equivalence = equivalence same_sector sector_decides
 pub key_equivalence : IsEquivalence same_key
 key_equivalence = equivalence same_key key_decides
 
-pub sector_alike : (a b : ChangedSector) → same_sector a b ≡ true → sector_input a ≡ sector_input b
+pub sector_alike : (a b : ChangedValue) → same_sector a b ≡ true → sector_input a ≡ sector_input b
 sector_alike a b e = ap sector_input ((sector_decides a b).0 e)
 
 pub key_alike : (a b : KeyValue) → same_key a b ≡ true → key_input a ≡ key_input b

@@ -7,7 +7,6 @@ use Rattle.lanes.specs.Sector.{mix}
 use Rattle.logfmt.specs.Bounds.{LogValue}
 use Rattle.epochs.specs.Units.{epoch_at, marks_at}
 use Rattle.epochs.specs.Laws.{last_flush}
-use Rattle.images.specs.declared.key.ChangedSector.{ChangedSector}
 use Rattle.images.specs.Images.{crash_image}
 use Rattle.images.specs.Views.{ViewValue, sectors_of}
 
@@ -20,20 +19,25 @@ base_of log k = crash_image log.sectors log.entries (last_flush log.entries k) [
 abbrev pub content_at : List (List ℕ) → ℕ → List ℕ
 content_at image n = slice_index_or image n []
 
+-- a sector of an image, with its content
+pub record ChangedValue : Type 0 where
+  pub number : ℕ
+  pub content : List ℕ
+
 -- sector n has another content than in the base
 unfoldable pub differs : List (List ℕ) → List (List ℕ) → ℕ → Bool
 differs base image n = not (pointwise nat_eq (content_at base n) (content_at image n))
 
--- a sector of an image, with its content
-abbrev pub with_content : List (List ℕ) → ℕ → ChangedSector
+-- a sector of an image as it stands in a key
+abbrev pub with_content : List (List ℕ) → ℕ → ChangedValue
 with_content image n = record { number = n; content = content_at image n }
 
 -- of the first m sectors of an image those that differ from the base, rising, each with its content
-unfoldable pub changed_below : List (List ℕ) → List (List ℕ) → ℕ → List ChangedSector
+unfoldable pub changed_below : List (List ℕ) → List (List ℕ) → ℕ → List ChangedValue
 changed_below base image m = map (with_content image) (filter (differs base image) (range_with_len 0 m))
 
 -- the sectors of an image that differ from the base
-abbrev pub changed : List (List ℕ) → List (List ℕ) → List ChangedSector
+abbrev pub changed : List (List ℕ) → List (List ℕ) → List ChangedValue
 changed base image = changed_below base image (length image)
 
 -- how many sectors a key has at most
@@ -45,7 +49,7 @@ pub record KeyValue : Type 0 where
   pub program : ℕ
   pub epoch : ℕ
   pub marks : ℕ
-  pub changed : List ChangedSector
+  pub changed : List ChangedValue
 
 -- what tells a program and a view: the program, epoch and marks of the cut, and the changed sectors
 abbrev pub identity_of : ViewValue → ℕ → KeyValue
@@ -62,6 +66,10 @@ key_of view program =
     if nat_lt most_changed (length (changed (base_of view.log view.cut) (sectors_of view))) then None
     else Some (identity_of view program)
 
+-- the key of the same image and of another program
+abbrev pub with_program : KeyValue → ℕ → KeyValue
+with_program key program = record { program = program; epoch = key.epoch; marks = key.marks; changed = key.changed }
+
 -- the shard of a key: the mixes and the numbers of its sectors and the program, summed, modulo the number of shards
 unfoldable pub shard_of : KeyValue → ℕ
-shard_of key = (key.program + sum_by (λ (sector : ChangedSector). mix sector.content + sector.number) key.changed) % 16
+shard_of key = (key.program + sum_by (λ (sector : ChangedValue). mix sector.content + sector.number) key.changed) % 16

@@ -4,5 +4,7 @@ pub mod Views
 pub mod Table
 pub mod Whole
 pub mod Keys
+pub mod Contents
+pub mod Changes
 pub mod Equal
 pub mod Laws

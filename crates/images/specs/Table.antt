@@ -61,7 +61,3 @@ pub record IsView (view : ViewValue) (torn : List TornSector) (context : Context
   pub owned : AreTorn view.log view.cut view.departures torn
   pub told : context ≡ context_at view.log view.cut
   pub fits : ContextFits context
-
--- a sector without mark is covered by no unit of an entry from `first` on and before the cut
-abbrev pub AreSpared : LogValue → ℕ → ℕ → List Bool → Type 0
-AreSpared log first cut marks = (n : ℕ) → slice_get marks n ≡ Some false → versions log.entries cut n ≡ versions log.entries first n

@@ -1,22 +1,158 @@
 //! The sectors of an image that differ from the base of its cut.
 
-ghost use Rattle.std.specs.Prelude.{◌≡◌, ◌≢◌, ◌+◌, ◌<◌, ◌≤◌, ℕ, false, length, slice_get, Some, IfOk, MatchOption};
+ghost use Rattle.std.specs.Prelude.{◌≡◌, ◌+◌, ◌<◌, ◌≤◌, ◌++◌, ◌∷◌, [], ℕ, List, length, IfOk, OnOk, MatchOption};
+ghost use Rattle.logfmt.specs.Bounds.{LogValue};
+ghost use Rattle.epochs.specs.declared.unit.Unit.{Unit as LogUnit};
 ghost use Rattle.epochs.specs.Laws.{last_flush};
-ghost use Rattle.epochs.specs.Units.{units_before};
+ghost use Rattle.epochs.specs.Plan.{IsUnit};
+ghost use Rattle.epochs.specs.Units.{epoch_at};
+ghost use Rattle.images.specs.Images.{sector_after};
 ghost use Rattle.images.specs.Keys.{base_of, changed, most_changed};
-ghost use Rattle.images.specs.Table.{covering, AreSpared};
 ghost use Rattle.images.specs.Views.{sectors_of};
+ghost use Rattle.images.specs.Changes.{changes, changes_between, whole_image, IsKnown};
 
-use crate::key::ChangedSector;
+use crate::changed::ChangedSector;
+use crate::history::History;
+use crate::image::content_of;
+use crate::key::Key;
+use crate::listing::{change_of, copied, put};
+use crate::versions::Versions;
 use crate::view::View;
-use logfmt::{Entry, Log};
+use epochs::Unit;
+use logfmt::Entry;
 use std::alloc::{AllocError, Global};
+use std::marker::Model;
+use std::mem;
 
 /// How many sectors a key has at most.
 const MOST_CHANGED: usize = 64;
 
-/// How many sectors a device has at most.
-pub(crate) const MOST_SECTORS: usize = 16384;
+/// What the images of a cut have in common: the sectors in which the image where nothing departs
+/// differs from the base.
+#[derive(Drop)]
+struct Known<'a> {
+    epoch: u32,
+    /// The last flush entry before the cut, or 0.
+    flush: u32,
+    cut: u32,
+    sectors: Vec<ChangedSector<'a>>,
+}
+
+/// Makes the keys of images, one after the other. It keeps what the images of a cut have in common,
+/// and carries it on to later cuts, so that a key costs what its choice changes.
+///
+/// Contracts see it as the log.
+#[derive(Drop)]
+pub struct Changes<'a> {
+    versions: Versions<'a>,
+    known: Known<'a>,
+}
+
+impl<'a> Model for Changes<'a> {
+    ghost use Rattle.logfmt.specs.Bounds.{LogValue};
+    ghost use Rattle.images.specs.Changes.{IsKnown};
+
+    ghost Value = { LogValue };
+
+    ghost view = { λ c. c.versions };
+
+    ghost invariant = { λ c. IsKnown c.versions c.known.epoch c.known.flush c.known.cut c.known.sectors.items };
+}
+
+impl<'a> Changes<'a> {
+    ghost use Rattle.images.specs.Keys.{key_of};
+
+    /// Nothing is known yet. It takes no memory.
+    pub fn new(alloc: Global, history: &'a History<'_>) -> Changes<'a>
+        ensures { result ≡ history.now.log }
+    {
+        Changes::over(alloc, history.versions())
+    }
+
+    /// The same, by a version table.
+    pub(crate) fn over(alloc: Global, versions: Versions<'a>) -> Changes<'a>
+        ensures { result ≡ versions.entry }
+    {
+        let known = nothing(alloc, &versions);
+        Changes { versions, known }
+    }
+
+    /// The key of an image and of program 0: `None` where more than 64 sectors differ from the base of
+    /// the cut.
+    ///
+    /// From one cut to a later one of the same epoch it looks at the sectors that the entries between
+    /// them cover, and from any other at those that were covered behind the last flush. At a cut that is
+    /// known it looks at the sectors of the departures alone.
+    ///
+    /// # Errors
+    ///
+    /// Memory was refused. It may be asked again.
+    pub fn key(&mut self, alloc: Global, view: &View<'a>) -> Result<Option<Key<'a>>, AllocError>
+        requires { view.now.log ≡ self.old }
+        ensures value { IfOk result (λ key. key ≡ key_of view.now 0) }
+        ensures log { self.new ≡ self.old }
+    {
+        let context = view.context();
+        let none = nothing(alloc, &self.versions);
+        let known = mem::replace(&mut self.known, none);
+        self.known = known_at(alloc, &self.versions, known, view.cut(), context.epoch)?;
+        match departed(alloc, view, self.known.flush, self.known.sectors.as_slice())? {
+            Some(changed) => Ok(Some(Key::of(0, context, changed))),
+            None => Ok(None),
+        }
+    }
+}
+
+/// What is known of cut 0 of a log: no sector differs.
+fn nothing<'a>(alloc: Global, versions: &Versions<'a>) -> Known<'a>
+    ensures { IsKnown versions.now result.epoch result.flush result.cut result.sectors.items }
+{
+    let _versions = versions;
+    Known {
+        epoch: 0,
+        flush: 0,
+        cut: 0,
+        sectors: Vec::new(alloc),
+    }
+}
+
+/// What there is to know of a cut, from what is known of another.
+fn known_at<'a>(
+    alloc: Global,
+    versions: &Versions<'a>,
+    known: Known<'a>,
+    cut: u32,
+    epoch: u32,
+) -> Result<Known<'a>, AllocError>
+    requires known { IsKnown versions.now known.epoch known.flush known.cut known.sectors.items }
+    requires cut { cut ≤ length versions.now.entries }
+    requires epoch { epoch ≡ epoch_at versions.now.entries cut }
+    ensures { IfOk result (λ more. (more.cut ≡ cut) × IsKnown versions.now more.epoch more.flush more.cut more.sectors.items) }
+{
+    let Known {
+        epoch: old,
+        flush,
+        cut: first,
+        sectors,
+    } = known;
+    if old == epoch && first <= cut {
+        let sectors = followed(versions, sectors, flush, first, cut)?;
+        return Ok(Known {
+            epoch,
+            flush,
+            cut,
+            sectors,
+        });
+    }
+    let flush = last_flush(versions.log().entries(), cut);
+    let sectors = followed(versions, Vec::new(alloc), flush, flush, cut)?;
+    Ok(Known {
+        epoch,
+        flush,
+        cut,
+        sectors,
+    })
+}
 
 /// The last flush entry before a cut, or 0 where there is none.
 fn last_flush(entries: &[Entry], cut: u32) -> u32
@@ -34,53 +170,94 @@ fn last_flush(entries: &[Entry], cut: u32) -> u32
     0
 }
 
-/// Marks the sectors that an entry covers.
-fn mark(marks: &mut [bool; MOST_SECTORS], entry: &Entry)
-    requires { 0 < entry.now.count → entry.now.sector + entry.now.count ≤ 16384 }
-    ensures { (n : ℕ) → slice_get marks.new n ≡ Some false
-        → (slice_get marks.old n ≡ Some false) × ((j : ℕ) → j < entry.now.count → entry.now.sector + j ≢ n) }
-{
-    for place in 0..entry.count {
-        marks[(entry.sector + place) as usize] = true;
-    }
-}
-
-/// Marks the sectors that the entries from one on and before a cut cover.
-fn touched(log: &Log, first: u32, cut: u32) -> [bool; MOST_SECTORS]
+/// The sectors in which the image of a cut differs from that of entry `flush`, from those of an earlier
+/// cut.
+fn followed<'a>(
+    versions: &Versions<'a>,
+    mut sectors: Vec<ChangedSector<'a>>,
+    flush: u32,
+    first: u32,
+    cut: u32,
+) -> Result<Vec<ChangedSector<'a>>, AllocError>
     requires order { first ≤ cut }
-    requires cut { cut ≤ length log.now.entries }
-    ensures { AreSpared log.now first cut result }
+    requires cut { cut ≤ length versions.now.entries }
+    requires flush { flush ≤ length versions.now.entries }
+    requires known { sectors.items ≡ changes_between versions.now flush first }
+    ensures { IfOk result (λ more. more.items ≡ changes_between versions.now flush cut) }
 {
-    let mut marks = [false; MOST_SECTORS];
     for number in first..cut {
-        mark(&mut marks, &log.entries()[number as usize]);
+        put_entry(&mut sectors, versions, flush, number)?;
     }
-    marks
+    Ok(sectors)
 }
 
-/// The sectors that differ from the base, rising, or `None` where there are more than a key has. It
-/// looks only at sectors that an entry from the last flush on covers.
-pub(crate) fn changed_sectors(
+/// Adds what an entry writes.
+fn put_entry<'a>(
+    sectors: &mut Vec<ChangedSector<'a>>,
+    versions: &Versions<'a>,
+    flush: u32,
+    number: u32,
+) -> Result<(), AllocError>
+    requires entry { number < length versions.now.entries }
+    requires flush { flush ≤ length versions.now.entries }
+    requires known { sectors.old.items ≡ changes_between versions.now flush number }
+    ensures { OnOk result (sectors.new.items ≡ changes_between versions.now flush (number + 1)) }
+{
+    let entry = &versions.log().entries()[number as usize];
+    for place in 0..entry.count {
+        let unit = Unit {
+            entry: number,
+            place: place as u32,
+            sector: (entry.sector + place) as u32,
+        };
+        put_unit(sectors, versions, flush, unit)?;
+    }
+    Ok(())
+}
+
+/// Adds what a unit writes.
+fn put_unit<'a>(
+    sectors: &mut Vec<ChangedSector<'a>>,
+    versions: &Versions<'a>,
+    flush: u32,
+    unit: Unit,
+) -> Result<(), AllocError>
+    requires unit { IsUnit versions.now unit }
+    requires flush { flush ≤ length versions.now.entries }
+    requires known { (us : List LogUnit) × (sectors.old.items ≡ changes (whole_image versions.now flush) (sector_after versions.now.entries us []) 0 versions.now.sectors) }
+    ensures { (us : List LogUnit) → sectors.old.items ≡ changes (whole_image versions.now flush) (sector_after versions.now.entries us []) 0 versions.now.sectors
+        → OnOk result (sectors.new.items ≡ changes (whole_image versions.now flush) (sector_after versions.now.entries (us ++ unit ∷ []) []) 0 versions.now.sectors) }
+{
+    let base = versions.durable(unit.sector, flush);
+    let change = change_of(unit.sector, base, content_of(versions.log(), unit));
+    put(sectors, unit.sector, change)
+}
+
+/// The sectors in which an image differs from the base, rising, or `None` where there are more than a
+/// key has: those of the image where nothing departs, but for the sectors of the departures.
+fn departed<'a>(
     alloc: Global,
-    view: &View<'_>,
-) -> Result<Option<Vec<ChangedSector>>, AllocError>
+    view: &View<'a>,
+    flush: u32,
+    whole: &[ChangedSector<'a>],
+) -> Result<Option<Vec<ChangedSector<'a>>>, AllocError>
+    requires flush { flush ≡ last_flush view.now.log.entries view.now.cut }
+    requires whole { whole.now ≡ changes_between view.now.log flush view.now.cut }
     ensures { IfOk result (λ found. MatchOption found (most_changed < length (changed (base_of view.now.log view.now.cut) (sectors_of view.now)))
         (λ sectors. (sectors.items ≡ changed (base_of view.now.log view.now.cut) (sectors_of view.now)) × (length sectors.items ≤ most_changed))) }
 {
-    let log = view.log();
-    let flush = last_flush(log.entries(), view.cut());
-    let marks = touched(log, flush, view.cut());
-    let mut sectors = Vec::new(alloc);
-    for number in 0..log.sectors() {
-        if view.is_changed(number, flush, &marks) {
-            if sectors.len() == MOST_CHANGED {
-                return Ok(None);
-            }
-            sectors.push(ChangedSector {
-                number,
-                content: *view.shown(number),
-            })?;
-        }
+    let departures = view.departures();
+    if whole.len() > MOST_CHANGED + departures.len() {
+        return Ok(None);
+    }
+    let mut sectors = copied(alloc, whole, departures.len())?;
+    for departure in departures {
+        let number = departure.unit.sector;
+        let change = view.change(alloc, number, flush)?;
+        put(&mut sectors, number, change)?;
+    }
+    if sectors.len() > MOST_CHANGED {
+        return Ok(None);
     }
     Ok(Some(sectors))
 }

@@ -47,6 +47,13 @@ impl<'a> History<'a> {
         Ok(History { plan, log, rows })
     }
 
+    /// The units that cover each sector.
+    pub(crate) fn versions(&self) -> Versions<'_>
+        ensures { result ≡ self.now.log }
+    {
+        Versions::of(&*self.log, self.rows.as_slice())
+    }
+
     /// The crash image of a choice of the plan, as a device. It borrows the sectors of the log, takes
     /// no memory, and never refuses.
     pub fn view(&self, _alloc: Global, choice: &Choice) -> Result<View<'_>, AllocError>

@@ -1,65 +1,35 @@
 //! Keys of images, by which equal work is known.
 
-ghost use Rattle.std.specs.Prelude.{◌≡◌, ◌<◌, ◌≤◌, length};
-ghost use Rattle.images.specs.Keys.{shard_of};
-ghost use Rattle.images.specs.Equal.{same_sector, same_key, sector_input, key_input, sector_equivalence, key_equivalence, sector_alike, key_alike};
+ghost use Rattle.std.specs.Prelude.{◌≡◌, ◌≤◌, ◌<◌, length, IfOk, ℕ, Some};
+ghost use Rattle.helpers.specs.declared.device.Context.{Context as ContextValue};
+ghost use Rattle.images.specs.Equal.{same_key, key_input, key_equivalence, key_alike};
+ghost use Rattle.images.specs.Keys.{shard_of, with_program, key_of};
+ghost use Rattle.images.specs.Views.{ViewValue};
 ghost use Rattle.std.specs.Cmp.{partial_equiv_from_equiv};
-ghost use Rattle.std.specs.Cmp.Lexicographic.{pointwise};
 
+use crate::changed::ChangedSector;
+use crate::listing::copied;
+use helpers::Context;
+use std::alloc::{AllocError, Global};
 use std::hash::{Hash, Hasher};
 use std::marker::Model;
 
 /// Among how many shards keys are spread.
 const SHARDS: u64 = 16;
 
-/// A sector of an image that differs from the base of its cut (docs/CRASH-MODEL.md, Keys of images).
-#[derive(Clone, Copy)]
-pub struct ChangedSector {
-    /// Its number on the device.
-    pub number: u32,
-    /// Its bytes in the image.
-    pub content: [u8; 512],
-}
-
-impl PartialEq for ChangedSector {
-    ghost eq = { same_sector };
-
-    ghost laws = { partial_equiv_from_equiv sector_equivalence };
-
-    #[tactic(auto, unfolding(crate::specs::Equal::same_sector), using(lanes::proofs::CallerLemmas::same_test))]
-    fn eq(&self, other: &ChangedSector) -> bool {
-        self.number == other.number && lanes::same(&self.content, &other.content)
-    }
-}
-
-impl Eq for ChangedSector {
-    ghost laws = { sector_equivalence };
-}
-
-impl Hash for ChangedSector {
-    ghost hash_input = { sector_input };
-
-    ghost respects_eq = { sector_alike };
-
-    #[tactic(auto, unfolding(crate::specs::Equal::sector_input))]
-    fn hash<H: Hasher>(&self, state: &mut H) {
-        state.write_u32(self.number);
-        state.write_u64(lanes::mix(&self.content));
-    }
-}
-
 /// What tells an image and the program that is run on it apart from the others of a log: the program,
 /// the context, and the sectors of the image that differ from the base of its cut
-/// (docs/CRASH-MODEL.md, Keys of images). At most 64 sectors differ.
+/// (docs/CRASH-MODEL.md, Keys of images). At most 64 sectors differ. It borrows their bytes from the
+/// log, but those of at most three in which a torn unit shows.
 #[derive(Drop)]
-pub struct Key {
-    pub(crate) program: u8,
-    pub(crate) epoch: u32,
-    pub(crate) marks: u32,
-    pub(crate) changed: Vec<ChangedSector>,
+pub struct Key<'a> {
+    program: u8,
+    epoch: u32,
+    marks: u32,
+    changed: Vec<ChangedSector<'a>>,
 }
 
-impl Model for Key {
+impl<'a> Model for Key<'a> {
     ghost use Rattle.std.specs.Prelude.{◌≤◌, length};
     ghost use Rattle.images.specs.Keys.{KeyValue};
 
@@ -70,12 +40,33 @@ impl Model for Key {
     ghost invariant = { λ k. length k.changed.items ≤ 64 };
 }
 
-impl Key {
+impl<'a> Key<'a> {
+    /// The key of these parts.
+    pub(crate) fn of(program: u8, context: Context, changed: Vec<ChangedSector<'a>>) -> Key<'a>
+        requires { length changed.items ≤ 64 }
+        ensures { result ≡ record { program = program; epoch = context.epoch; marks = context.marks; changed = changed.entry.items } }
+    {
+        Key {
+            program,
+            epoch: context.epoch,
+            marks: context.marks,
+            changed,
+        }
+    }
+
     /// The number of the program.
     pub fn program(&self) -> u8
         ensures { result ≡ self.now.program }
     {
         self.program
+    }
+
+    /// Makes it the key of the same image and of another program.
+    pub fn set_program(&mut self, program: u8)
+        ensures value { self.new ≡ with_program self.old program }
+        ensures told { (view : ViewValue) (old : ℕ) → key_of view old ≡ Some self.old → key_of view program ≡ Some self.new }
+    {
+        self.program = program;
     }
 
     /// The epoch of the cut.
@@ -93,11 +84,27 @@ impl Key {
     }
 
     /// The sectors that differ from the base, rising.
-    pub fn changed(&self) -> &[ChangedSector]
+    pub fn changed(&self) -> &[ChangedSector<'a>]
         ensures value { result.now ≡ self.now.changed }
         ensures few { length result.now ≤ 64 }
     {
         self.changed.as_slice()
+    }
+
+    /// The same key, for those who put one into a cache and keep one.
+    ///
+    /// # Errors
+    ///
+    /// Memory was refused.
+    pub fn copy(&self, alloc: Global) -> Result<Key<'a>, AllocError>
+        ensures { IfOk result (λ copy. copy ≡ self.now) }
+    {
+        Ok(Key {
+            program: self.program,
+            epoch: self.epoch,
+            marks: self.marks,
+            changed: copied(alloc, self.changed.as_slice(), 0)?,
+        })
     }
 
     /// The shard of the key, below 16. Keys of equal shards may differ.
@@ -107,20 +114,20 @@ impl Key {
     {
         let mut sum = u64::from(self.program);
         for sector in self.changed.as_slice() {
-            sum = sum.wrapping_add(lanes::mix(&sector.content));
-            sum = sum.wrapping_add(u64::from(sector.number));
+            sum = sum.wrapping_add(sector.mixed());
+            sum = sum.wrapping_add(u64::from(sector.number()));
         }
         (sum % SHARDS) as u8
     }
 }
 
-impl PartialEq for Key {
+impl<'a> PartialEq for Key<'a> {
     ghost eq = { same_key };
 
     ghost laws = { partial_equiv_from_equiv key_equivalence };
 
     #[tactic(auto, unfolding(crate::specs::Equal::same_key))]
-    fn eq(&self, other: &Key) -> bool {
+    fn eq(&self, other: &Key<'a>) -> bool {
         self.program == other.program
             && self.epoch == other.epoch
             && self.marks == other.marks
@@ -128,11 +135,11 @@ impl PartialEq for Key {
     }
 }
 
-impl Eq for Key {
+impl<'a> Eq for Key<'a> {
     ghost laws = { key_equivalence };
 }
 
-impl Hash for Key {
+impl<'a> Hash for Key<'a> {
     ghost hash_input = { key_input };
 
     ghost respects_eq = { key_alike };

@@ -27,6 +27,8 @@
 //! | `view.context()` | the number of sectors, the epoch of the cut, the marks before it |
 //! | `view.sectors()`, `view.sector(n)` | the image as a `helpers::Device` |
 //! | `view.key(alloc, program)` | the key of the image and a program, or `None` |
+//! | `Changes::new(alloc, history)`, `changes.key(alloc, view)` | the keys of many images, each of program 0 |
+//! | `key.set_program(program)`, `key.copy(alloc)` | the key of the image and another program; the same key |
 //! | `key.program()`, `key.epoch()`, `key.marks()`, `key.changed()` | the parts of a key |
 //! | `key.shard()` | which of 16 shards has the key |
 //!
@@ -52,7 +54,9 @@
 //! - `View::context` is that of the cut: the log's number of sectors, its flush entries and its marks
 //!   before the cut, each at most 65,536.
 //! - `View::key` is `key_of` of the view and the program (`specs/Keys.antt`), which is none exactly where
-//!   more than 64 sectors differ from the base, and `Key::shard` is `shard_of`.
+//!   more than 64 sectors differ from the base, and so is `Changes::key`, of program 0, whatever it was
+//!   asked for before. `Key::set_program` leads from it to that of another program (`told`), and
+//!   `Key::shard` is `shard_of`.
 //! - `==` of keys is `same_key` and a hash is fed `key_input` (`specs/Equal.antt`). Sectors are compared
 //!   byte by byte, and hashed by their mixes.
 //!
@@ -65,8 +69,8 @@
 //! - `==` answers whether two keys are the same (`equal_keys_are_same`), so a map finds a key exactly
 //!   where it has that key.
 //!
-//! `view` takes no memory and always answers `Ok`. Where memory is refused `new` and `key` answer
-//! `AllocError`. Nothing else is refused.
+//! `view` and `Changes::new` take no memory, and `view` always answers `Ok`. Where memory is refused
+//! `History::new`, `key` and `copy` answer `AllocError`. Nothing else is refused.
 //!
 //! # How it is written
 //!
@@ -80,37 +84,49 @@
 //! the unit's content and of what the units before it leave, back to the last whole one (`formed` in
 //! `image`).
 //!
-//! `changes` makes a key. It marks the sectors that entries from the last flush on cover, and compares
-//! only these with the base, of which it finds each sector in the same row: the last unit before the
-//! flush entry. `key` has the type and how it is compared.
+//! `changes` makes keys. It keeps the sectors in which the image where nothing departs differs from the
+//! base, and carries this list to a later cut by adding what the entries between the two write; behind
+//! a further flush, or at an earlier cut, it begins anew at the flush entry (`specs/Changes.antt`). The
+//! key of an image is this list, but for the sectors of the departures, at most three, which are
+//! compared with the base. `listing` keeps such a list in order: one search by halves for each sector.
+//!
+//! A changed sector (`changed`) borrows its bytes from the log and keeps their mix, so a key with
+//! n sectors has 32 n bytes beside its own 48. Where a torn unit shows it owns its 512 bytes
+//! (`content`), in at most three sectors. `key` has the type, its shard, and how it is compared.
 //!
 //! # Example
 //!
 //! ```
 //! use choices::nth;
 //! use helpers::Device;
-//! use images::History;
+//! use images::{Changes, History};
 //!
 //! // `log` writes sector 0 twice, first 0x11 and then 0x22, and `plan` has all of its cuts
 //! let history = History::new(alloc, &plan, &log)?;
 //! let view = history.view(alloc, &nth(&plan, 1, true, 20))?;
 //! // the cut behind both, the second write torn behind its first eighth: bytes 0 to 63 of
 //! // view.sector(0) are 0x22, and bytes 64 to 511 are 0x11
-//! let key = view.key(alloc, 0)?;
+//! let mut changes = Changes::new(alloc, &history);
+//! let key = changes.key(alloc, &view)?;
 //! // there is no flush, so the base is zeros, and the key has one changed sector
 //! ```
 #![tactic(auto)]
 
+mod changed;
 mod changes;
+mod content;
 mod history;
 mod image;
 mod key;
 mod laws;
+mod listing;
 mod torn;
 mod versions;
 mod view;
 
+pub use changed::ChangedSector;
+pub use changes::Changes;
 pub use history::History;
-pub use key::{ChangedSector, Key};
+pub use key::Key;
 pub use laws::{epoch_has_base, equal_keys_are_same, fates_show, keys_tell, last_writer_shows};
 pub use view::View;

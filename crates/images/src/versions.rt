@@ -38,6 +38,7 @@ impl<'a> Model for Versions<'a> {
 impl<'a> Versions<'a> {
     ghost use Rattle.std.specs.Prelude.{IfSome};
     ghost use Rattle.std.specs.Option.{is_none};
+    ghost use Rattle.logfmt.specs.Bounds.{IsLog};
     ghost use Rattle.images.specs.Images.{sector_after};
     ghost use Rattle.images.specs.Table.{versions, is_torn};
 
@@ -49,15 +50,26 @@ impl<'a> Versions<'a> {
         Versions { log, rows }
     }
 
+    /// The same table.
+    pub(crate) fn same(&self) -> Versions<'a>
+        ensures { result ≡ self.now }
+    {
+        Versions {
+            log: self.log,
+            rows: self.rows,
+        }
+    }
+
     /// The log.
-    pub(crate) fn log(&self) -> &Log
-        ensures { result.now ≡ self.now }
+    pub(crate) fn log(&self) -> &'a Log
+        ensures value { result.now ≡ self.now }
+        ensures bounds { IsLog self.now }
     {
         self.log
     }
 
     /// The units before a cut that cover a sector, in order. It takes a search by halves.
-    fn before(&self, number: u32, cut: u32) -> &[Unit]
+    fn before(&self, number: u32, cut: u32) -> &'a [Unit]
         requires number { number < self.now.sectors }
         requires cut { cut ≤ length self.now.entries }
         ensures { result.now ≡ versions self.now.entries cut number }
@@ -68,7 +80,7 @@ impl<'a> Versions<'a> {
 
     /// A sector of a crash image, where the log or a sector of zeros has it; `None` where a torn unit
     /// shows in it.
-    pub(crate) fn lent(&self, number: u32, cut: u32, departures: &[Departure]) -> Option<&Sector>
+    pub(crate) fn lent(&self, number: u32, cut: u32, departures: &[Departure]) -> Option<&'a Sector>
         requires number { number < self.now.sectors }
         requires cut { cut ≤ length self.now.entries }
         ensures lent { IfSome result (λ sector. sector.now ≡ sector_after self.now.entries (units_before self.now.entries cut) departures.now number) }
@@ -85,7 +97,7 @@ impl<'a> Versions<'a> {
     }
 
     /// A sector as all units before a cut leave it.
-    pub(crate) fn durable(&self, number: u32, cut: u32) -> &Sector
+    pub(crate) fn durable(&self, number: u32, cut: u32) -> &'a Sector
         requires number { number < self.now.sectors }
         requires cut { cut ≤ length self.now.entries }
         ensures { result.now ≡ sector_after self.now.entries (units_before self.now.entries cut) [] number }

@@ -2,9 +2,11 @@
 
 ghost use Rattle.std.specs.Prelude.{◌≡◌, ◌<◌, ◌≤◌, length, slice_get, Some, IfOk};
 
-use crate::changes::{MOST_SECTORS, changed_sectors};
+use crate::changed::ChangedSector;
+use crate::changes::Changes;
 use crate::image::Sector;
 use crate::key::Key;
+use crate::listing::{change_of, torn_change};
 use crate::torn::{TornSector, torn_content};
 use crate::versions::Versions;
 use arrayvec::ArrayVec;
@@ -39,10 +41,11 @@ impl<'a> Model for View<'a> {
 }
 
 impl<'a> View<'a> {
-    ghost use Rattle.epochs.specs.Laws.{last_flush};
+    ghost use Rattle.logfmt.specs.Bounds.{IsLog};
     ghost use Rattle.images.specs.Views.{context_at, sectors_of};
-    ghost use Rattle.images.specs.Keys.{base_of, differs, key_of};
-    ghost use Rattle.images.specs.Table.{AreSpared};
+    ghost use Rattle.images.specs.Keys.{key_of};
+    ghost use Rattle.images.specs.Table.{AreVolatile};
+    ghost use Rattle.images.specs.Changes.{change_at, whole_image, image_of};
 
     /// The context of the image: how many sectors the device has, the epoch of the cut, and how many
     /// marks stand before it.
@@ -84,34 +87,53 @@ impl<'a> View<'a> {
         }
     }
 
-    /// Whether a sector of the image has another content than in the base, where marks tell which sectors
-    /// entries from the last flush on cover.
-    pub(crate) fn is_changed(&self, number: u32, flush: u32, marks: &[bool; MOST_SECTORS]) -> bool
+    /// The departures, rising by unit.
+    pub(crate) fn departures(&self) -> &[Departure]
+        ensures value { result.now ≡ self.now.departures }
+        ensures few { length result.now ≤ 3 }
+        ensures units { AreVolatile self.now.log self.now.cut self.now.departures }
+        ensures bounds { IsLog self.now.log }
+        ensures within { self.now.cut ≤ length self.now.log.entries }
+    {
+        self.departures.as_slice()
+    }
+
+    /// A sector of the image, if it differs from what the units before a cut leave.
+    pub(crate) fn change(
+        &self,
+        alloc: Global,
+        number: u32,
+        flush: u32,
+    ) -> Result<Option<ChangedSector<'a>>, AllocError>
         requires number { number < self.now.log.sectors }
-        requires flush { flush ≡ last_flush self.now.log.entries self.now.cut }
-        requires marks { AreSpared self.now.log flush self.now.cut marks.now }
-        ensures { result ≡ differs (base_of self.now.log self.now.cut) (sectors_of self.now) number }
+        requires flush { flush ≤ length self.now.log.entries }
+        ensures { IfOk result (λ change. change ≡ change_at (whole_image self.now.log flush) (image_of self.now) number) }
     {
         let versions = &self.versions;
-        if !marks[number as usize] {
-            return false;
+        let base = versions.durable(number, flush);
+        match versions.lent(number, self.cut, self.departures.as_slice()) {
+            Some(sector) => Ok(change_of(number, base, sector)),
+            None => torn_change(
+                alloc,
+                number,
+                base,
+                torn_content(self.torn.as_slice(), number),
+            ),
         }
-        !lanes::same(versions.durable(number, flush), self.shown(number))
     }
 
     /// The key of the image and of the program with that number: `None` where more than 64 sectors
-    /// differ from the base of the cut. A call looks at the sectors that were touched behind the last
-    /// flush, and takes memory for those that differ.
-    pub fn key(&self, alloc: Global, program: u8) -> Result<Option<Key>, AllocError>
+    /// differ from the base of the cut. Each call looks at the sectors that were covered behind the last
+    /// flush; who wants the keys of many images keeps a `Changes`.
+    pub fn key(&self, alloc: Global, program: u8) -> Result<Option<Key<'a>>, AllocError>
         ensures { IfOk result (λ key. key ≡ key_of self.now program) }
     {
-        match changed_sectors(alloc, self)? {
-            Some(changed) => Ok(Some(Key {
-                program,
-                epoch: self.context.epoch,
-                marks: self.context.marks,
-                changed,
-            })),
+        let mut changes = Changes::over(alloc, self.versions.same());
+        match changes.key(alloc, self)? {
+            Some(mut key) => {
+                key.set_program(program);
+                Ok(Some(key))
+            }
             None => Ok(None),
         }
     }

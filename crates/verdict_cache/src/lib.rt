@@ -44,16 +44,32 @@
 //!   is the contract of the private function that makes them (`first_shards`); another puts each behind
 //!   a lock, and no contract can name what lies there.
 //!
+//! # Memory
+//!
+//! An entry's key borrows the sectors of the log, so the shards of a run live no longer than its
+//! history. An entry takes some 250 bytes, and 32 for each changed sector; where a torn unit shows in a
+//! sector, 512 more. So 65,536 entries of at most 16 changed sectors, none torn, stay below 64 MiB. At
+//! worst each key has 64 changed sectors, three of them torn: some 270 MiB.
+//!
+//! Keys are hashed by the mixes of their sectors, and the mix is linear. A log can be made so that all
+//! keys of a shard are hashed alike; then a look compares one entry after the other. It makes a shard
+//! slow, and never wrong.
+//!
 //! A trait, `Run`, names the plan, the checkers and the size in the types of the shards. Only contracts
 //! read it.
 //!
 //! # Example
 //!
 //! ```
+//! // once a run
 //! let shards = shards::<J>(alloc, &history, checkers, 1_000)?;
-//! let Some(key) = view.key(alloc, program)? else {
+//! // once a worker
+//! let mut changes = Changes::new(alloc, &history);
+//! // once an image
+//! let Some(key) = changes.key(alloc, &view)? else {
 //!     return Ok(checker.judge(&view.context(), &view));
 //! };
+//! // once a checker; `key.set_program(number)` makes it the key of the next
 //! let shard = &shards[usize::from(key.shard())];
 //! if let Some(outcome) = shard.lock(rt).look(&key) {
 //!     return Ok(outcome);

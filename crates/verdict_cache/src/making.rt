@@ -20,12 +20,12 @@ use std::sync::Mutex;
 /// # Errors
 ///
 /// Memory was refused.
-pub fn shards<J: Run>(
+pub fn shards<'a, J: Run>(
     alloc: Global,
-    history: &History<'_>,
+    history: &'a History<'_>,
     checkers: &[Checker<'_>],
     size: u32,
-) -> Result<Vec<Mutex<Shard<J>>>, AllocError>
+) -> Result<Vec<Mutex<Shard<'a, J>>>, AllocError>
     requires history { history.now ≡ J.plan }
     requires checkers { checkers.now ≡ J.checkers }
     requires size { (size ≡ J.size) × (size ≤ 65536) }
@@ -37,7 +37,7 @@ pub fn shards<J: Run>(
 }
 
 /// The shards of an empty cache of at most so many entries.
-fn empty_shards<J: Run>(alloc: Global, size: u32) -> Result<Vec<Shard<J>>, AllocError>
+fn empty_shards<'a, J: Run>(alloc: Global, size: u32) -> Result<Vec<Shard<'a, J>>, AllocError>
     requires { size ≡ J.size }
     ensures shards { IfOk result (λ shards. shards.items ≡ first_shards size 16) }
     ensures count { IfOk result (λ shards. length shards.items ≡ 16) }

@@ -28,15 +28,15 @@ pub(crate) const SHARDS: u32 = 16;
 /// Contracts see its number among the shards of the run, from 0, its entries, its capacity, and how many
 /// looks have found an entry.
 #[derive(Drop)]
-pub struct Shard<J: Run> {
+pub struct Shard<'a, J: Run> {
     number: u32,
     /// The entries; there is no map where the capacity is 0.
-    cache: Option<LruCache<Key, Outcome>>,
+    cache: Option<LruCache<Key<'a>, Outcome>>,
     hits: u64,
     run: PhantomData<J>,
 }
 
-impl<J: Run> Model for Shard<J> {
+impl<'a, J: Run> Model for Shard<'a, J> {
     ghost use Rattle.std.specs.Prelude.{◌≡◌};
     ghost use Rattle.verdict_cache.specs.Endings.{AreTrue};
     ghost use Rattle.verdict_cache.specs.Shard.{ShardValue, entries_of, capacity_of, shard_value};
@@ -49,10 +49,10 @@ impl<J: Run> Model for Shard<J> {
     ghost invariant = { λ s. AreTrue J.plan J.checkers (entries_of s.cache) × (capacity_of s.cache ≡ share_of J.size s.number) };
 }
 
-impl<J: Run> Shard<J> {
+impl<'a, J: Run> Shard<'a, J> {
     /// The shard of that number, without entries, in a cache of at most so many entries. Memory for
     /// entries is taken as they come.
-    pub fn new(alloc: Global, size: u32, number: u32) -> Result<Shard<J>, AllocError>
+    pub fn new(alloc: Global, size: u32, number: u32) -> Result<Shard<'a, J>, AllocError>
         requires { size ≡ J.size }
         ensures { IfOk result (λ shard. shard ≡ empty_shard size number) }
     {
@@ -69,7 +69,7 @@ impl<J: Run> Shard<J> {
     }
 
     /// The outcome that is listed for a key. Its entry becomes the most recently used.
-    pub fn look(&mut self, key: &Key) -> Option<Outcome>
+    pub fn look(&mut self, key: &Key<'a>) -> Option<Outcome>
         ensures answer { result ≡ listed self.old.entries key.now }
         ensures found { IfSome result (λ outcome. self.new ≡ after_look self.old key.now outcome) }
         ensures missing { IfNone result (self.new ≡ self.old) }
@@ -85,11 +85,11 @@ impl<J: Run> Shard<J> {
     }
 
     /// Lists an outcome for a key, as the most recently used entry.
-    pub fn put(&mut self, key: Key, outcome: Outcome) -> Kept
+    pub fn put(&mut self, key: Key<'a>, outcome: Outcome) -> Kept
         requires { IsEndingOf J.plan J.checkers key (ending_of outcome) }
-        ensures answer { Answers result self.old.entries self.old.capacity key }
+        ensures answer { Answers result self.old.entries self.old.capacity key.entry }
         ensures share { self.old.capacity ≡ share_of J.size self.old.number }
-        ensures kept { self.new ≡ after_put result self.old key outcome }
+        ensures kept { self.new ≡ after_put result self.old key.entry outcome }
     {
         match &mut self.cache {
             Some(cache) => put_in(cache, key, outcome),
@@ -132,7 +132,7 @@ fn share_of(size: u32, number: u32) -> u32
 
 /// The outcome of a key, whose entry becomes the most recently used.
 #[tactic(auto, using(crate::proofs::Listed::promoted_is))]
-fn used(cache: &mut LruCache<Key, Outcome>, key: &Key) -> Option<Outcome>
+fn used<'a>(cache: &mut LruCache<Key<'a>, Outcome>, key: &Key<'a>) -> Option<Outcome>
     ensures answer { result ≡ listed cache.old.entries key.now }
     ensures found { IfSome result (λ outcome. cache.new ≡ lru_cache (to_front cache.old.entries key.now outcome) cache.old.cap) }
     ensures missing { IfNone result (cache.new ≡ cache.old) }
@@ -146,9 +146,9 @@ fn used(cache: &mut LruCache<Key, Outcome>, key: &Key) -> Option<Outcome>
 }
 
 /// Puts an entry into a map of bounded size.
-fn put_in(cache: &mut LruCache<Key, Outcome>, key: Key, outcome: Outcome) -> Kept
-    ensures answer { Answers result cache.old.entries cache.old.cap key }
-    ensures kept { cache.new ≡ lru_cache (entries_after result cache.old.entries cache.old.cap key outcome) cache.old.cap }
+fn put_in<'a>(cache: &mut LruCache<Key<'a>, Outcome>, key: Key<'a>, outcome: Outcome) -> Kept
+    ensures answer { Answers result cache.old.entries cache.old.cap key.entry }
+    ensures kept { cache.new ≡ lru_cache (entries_after result cache.old.entries cache.old.cap key.entry outcome) cache.old.cap }
     ensures some { 0 < cache.old.cap }
 {
     let was_there = cache.contains(&key);

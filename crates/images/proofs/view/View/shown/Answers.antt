@@ -2,7 +2,7 @@ use Rattle.std.proofs.Common.{Some, slice_get, sym, ◌∙◌, ap}
 use Rattle.epochs.specs.Units.{units_before}
 use Rattle.images.specs.Images.{sector_after}
 use Rattle.images.specs.Views.{ViewValue}
-use Rattle.images.proofs.Touched.{view_there}
+use Rattle.images.proofs.Sectors.{view_there}
 use Rattle.images.proofs.view.View.shown.Goals as goal
 
 pub returns-in-Some : goal.returns-in-Some

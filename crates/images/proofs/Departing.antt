@@ -1,0 +1,183 @@
+-- What the departures of an image change: their sectors alone.
+use Rattle.std.proofs.Common.{ℕ, zero, suc, ◌≡◌, ◌≢◌, ◌+◌, ◌<◌, ◌≤◌, ◌⊎◌, ◌==◌, Bool, true, false, not, ◌&&◌, ◌||◌, cond, if◌then◌else◌, List, [], ◌∷◌, ◌++◌, length, map, filter, slice_get, Some, None, refl, sym, ◌∙◌, ap, inl, inr, arith}
+use Rattle.std.specs.List.{All, last_or, slice_index, range_with_len}
+use Rattle.std.specs.Option.{option_map_or}
+use Rattle.std.proofs.lemmas.Bool.{cases_lt, eq-eqb, eqb-true, ne_eqb}
+use Rattle.std.proofs.lemmas.Bool.Decides.{eqb_tells}
+use Rattle.std.proofs.lemmas.Option.{slice_get_cases, slice_get_within, same_Some, get_or_from_slice_get}
+use Rattle.logfmt.specs.declared.entry.Entry.{Entry}
+use Rattle.logfmt.specs.Bounds.{LogValue, IsLog}
+use Rattle.epochs.specs.declared.unit.Unit.{Unit as LogUnit}
+use Rattle.epochs.specs.Laws.{last_flush, IsVolatile}
+use Rattle.epochs.specs.Plan.{IsUnit}
+use Rattle.epochs.specs.Units.{unit_of, units_before, unit_content}
+use Rattle.choices.specs.declared.choice.Departure.{Departure}
+use Rattle.images.specs.Images.{is_unit, keeps, survives, writes, byte_after, sector_after}
+use Rattle.images.specs.Table.{AreVolatile}
+use Rattle.images.specs.Views.{ViewValue, sectors_of}
+use Rattle.images.specs.Whole.{length_view}
+use Rattle.images.specs.Keys.{ChangedValue, base_of, content_at, changed, changed_below}
+use Rattle.images.specs.Changes.{change_at, changes, with_sector, whole_image, image_of}
+use Rattle.images.proofs.Entries.{unit_of_entry}
+use Rattle.images.proofs.Rows.{all_units}
+use Rattle.images.proofs.Members.{volatile_unit}
+use Rattle.images.proofs.Tears.{some_departure, one_sector}
+use Rattle.images.proofs.Sectors.{view_there, base_there}
+use Rattle.images.proofs.Listed.{change_alike, changes_alike, changes_of_key, one_sector_less}
+
+filter_within : (p q : LogUnit → Bool) (us : List LogUnit) → All (λ u. p u ≡ q u) us → filter p us ≡ filter q us
+filter_within p q [] same = refl
+filter_within p q (u ∷ us) same =
+    let here : p u ≡ q u = same 0 u (omega arith) in
+    let rest : filter p us ≡ filter q us = filter_within p q us (λ i d lt. same (suc i) d (omega (arith, lt))) in
+    ap (λ b. cond b (u ∷ filter p us) (filter p us)) here ∙ ap (λ xs. cond (q u) (u ∷ xs) xs) rest
+
+alone : (u : LogUnit) (i : ℕ) → survives [] i u ≡ true
+unfolding survives
+alone u i = refl
+
+-- a unit of a sector in which nothing departs
+writes_alike : (log : LogValue) (cut : ℕ) (ds : List Departure) (n i : ℕ) (u : LogUnit) → IsLog log → IsUnit log u → AreVolatile log cut ds
+    → ((j : ℕ) (d : Departure) → slice_get ds j ≡ Some d → d.unit.sector ≢ n) → writes [] n i u ≡ writes ds n i u
+unfolding writes
+writes_alike log cut ds n i u bounds unit volatile others =
+    let none : survives [] i u ≡ true = alone u i in
+    let by : (b : Bool) → survives ds i u ≡ b → ((u.sector == n) && survives [] i u) ≡ ((u.sector == n) && survives ds i u) =
+    λ b. elim b as (λ c. survives ds i u ≡ c → ((u.sector == n) && survives [] i u) ≡ ((u.sector == n) && survives ds i u)) [
+      | true ↦ λ e. ap (λ c. (u.sector == n) && c) (none ∙ sym e)
+      | false ↦ λ e.
+          let departs = some_departure ds u i e in
+          let d = departs.1 in
+          let same : d.unit.sector ≡ u.sector =
+          one_sector log d.unit u (volatile_unit log cut d.unit bounds (volatile departs.0 d departs.2)) unit departs.3 in
+          let other : (u.sector == n) ≡ false = ne_eqb u.sector n (λ here. others departs.0 d departs.2 (same ∙ here)) in
+          ap (λ c. c && survives [] i u) other ∙ sym (ap (λ c. c && survives ds i u) other)
+    ] in
+    by (survives ds i u) refl
+
+pub departed_elsewhere : (log : LogValue) (cut : ℕ) (ds : List Departure) (n : ℕ) → IsLog log → cut ≤ length log.entries → AreVolatile log cut ds
+    → ((j : ℕ) (d : Departure) → slice_get ds j ≡ Some d → d.unit.sector ≢ n)
+    → sector_after log.entries (units_before log.entries cut) [] n ≡ sector_after log.entries (units_before log.entries cut) ds n
+unfolding sector_after byte_after
+departed_elsewhere log cut ds n bounds le volatile others =
+    ap (λ (f : ℕ → ℕ). map f (range_with_len 0 512))
+    (λ j i. ap (λ (vs : List LogUnit). option_map_or (λ (u : LogUnit). slice_index (unit_content log.entries u) i) (last_or None vs) 0)
+    (filter_within (writes [] n i) (writes ds n i) (units_before log.entries cut)
+    (all_units (λ u. writes [] n i u ≡ writes ds n i u) log.entries cut le
+    (λ e x p lt there within. writes_alike log cut ds n i (unit_of e x p) bounds (unit_of_entry log e x p bounds there within) volatile others))) j)
+
+-- a departure of that sector, or none
+abbrev Departs : List Departure → ℕ → ℕ → Type 0
+Departs ds j n = (i : ℕ) × (d : Departure) × (j ≤ i) × (slice_get ds i ≡ Some d) × (d.unit.sector ≡ n)
+
+no_first : (c : Departure) (cs : List Departure) (m : ℕ) → c.unit.sector ≢ m → ((i : ℕ) (e : Departure) → slice_get cs i ≡ Some e → e.unit.sector ≢ m)
+    → (i : ℕ) (e : Departure) → slice_get (c ∷ cs) i ≡ Some e → e.unit.sector ≢ m
+no_first c cs m other none zero e there = λ is. other (ap (λ (x : Departure). x.unit.sector) (same_Some c e there) ∙ is)
+no_first c cs m other none (suc i) e there = none i e there
+
+finds : (ds : List Departure) (n : ℕ) → Departs ds 0 n ⊎ ((i : ℕ) (d : Departure) → slice_get ds i ≡ Some d → d.unit.sector ≢ n)
+finds [] n = inr (λ i d there. absurd (let bad : None ≡ Some d = there in cc))
+finds (d ∷ ds) n = elim (eqb_tells d.unit.sector n) [
+  | inl same ↦ inl (0, d, omega arith, refl, same.1)
+  | inr other ↦ elim (finds ds n) [
+    | inl found ↦ inl (suc found.0, found.1, omega arith, found.3, found.4)
+    | inr none ↦ inr (no_first d ds n other.1 none)
+  ]
+]
+
+-- a list of an image on the way to another, of which the first j departures are done
+pub record Towards (base new : ℕ → List ℕ) (count : ℕ) (ds : List Departure) (j : ℕ) (sectors : List ChangedValue) : Type 0 where
+  pub image : ℕ → List ℕ
+  pub listed : sectors ≡ changes base image 0 count
+  pub left : (n : ℕ) → n < count → (image n ≡ new n) ⊎ Departs ds j n
+
+-- the list where nothing departs
+pub begins : (view : ViewValue) (base : ℕ → List ℕ) (sectors : List ChangedValue) → IsLog view.log → view.cut ≤ length view.log.entries
+    → AreVolatile view.log view.cut view.departures → sectors ≡ changes base (whole_image view.log view.cut) 0 view.log.sectors
+    → Towards base (image_of view) view.log.sectors view.departures 0 sectors
+begins view base sectors bounds le volatile is = record {
+  image = whole_image view.log view.cut;
+  listed = is;
+  left = λ n lt. elim (finds view.departures n) [
+    | inl found ↦ inr found
+    | inr none ↦ inl (departed_elsewhere view.log view.cut view.departures n bounds le volatile none)
+  ];
+}
+
+-- one departure more
+pub goes_on : (base new : ℕ → List ℕ) (count : ℕ) (ds : List Departure) (j : ℕ) (sectors more : List ChangedValue) (d : Departure)
+    → (was : Towards base new count ds j sectors) → slice_get ds j ≡ Some d
+    → more ≡ changes base (with_sector was.image d.unit.sector (new d.unit.sector)) 0 count → Towards base new count ds (j + 1) more
+goes_on base new count ds j sectors more d was there is =
+    let s : ℕ = d.unit.sector in
+    let old : ℕ → List ℕ = was.image in
+    record {
+      image = with_sector old s (new s);
+      listed = is;
+      left = λ n lt. elim (eqb_tells n s) [
+        | inl same ↦ inl (ap (λ b. if b then new s else old n) (eq-eqb n s same.1) ∙ ap new (sym same.1))
+        | inr other ↦ elim (was.left n lt) [
+          | inl so ↦ inl (ap (λ b. if b then new s else old n) (ne_eqb n s other.1) ∙ so)
+          | inr departs ↦ elim (cases_lt j departs.0) [
+            | inl behind ↦ inr (departs.0, departs.1, omega (arith, behind), departs.3, departs.4)
+            | inr past ↦
+                let low = departs.2 in
+                let here : departs.0 ≡ j = omega (arith, past, low) in
+                let one : departs.1 ≡ d = same_Some departs.1 d (sym departs.3 ∙ ap (slice_get ds) here ∙ there) in
+                absurd (other.1 (sym departs.4 ∙ ap (λ (x : Departure). x.unit.sector) one))
+          ]
+        ]
+      ];
+    }
+
+-- all departures
+pub ends : (base new : ℕ → List ℕ) (count : ℕ) (ds : List Departure) (j : ℕ) (sectors : List ChangedValue) → Towards base new count ds j sectors → length ds ≤ j
+    → sectors ≡ changes base new 0 count
+ends base new count ds j sectors so le =
+    so.listed ∙ changes_alike base base so.image new 0 count (λ n low high. refl) (λ n low high. elim (so.left n (omega (arith, high))) [
+      | inl same ↦ same
+      | inr departs ↦
+          let within = slice_get_within ds departs.0 departs.1 departs.3 in
+          let low = departs.2 in
+          absurd (omega (arith, within, low, le))
+    ])
+
+-- each departure takes away one listed sector at most
+pub few_left : (base new : ℕ → List ℕ) (count : ℕ) (ds : List Departure) (k j : ℕ) (sectors : List ChangedValue)
+    → ((i : ℕ) (d : Departure) → slice_get ds i ≡ Some d → d.unit.sector < count) → Towards base new count ds j sectors → length ds ≡ j + k
+    → length sectors ≤ length (changes base new 0 count) + k
+few_left base new count ds zero j sectors within so is =
+    let all = ap length (ends base new count ds j sectors so (omega (arith, is))) in
+    omega (arith, all)
+few_left base new count ds (suc k) j sectors within so is = elim (slice_get_cases ds j).1 [
+  | inl a ↦
+      let d : Departure = a.0 in
+      let s : ℕ = d.unit.sector in
+      let more : List ChangedValue = changes base (with_sector so.image s (new s)) 0 count in
+      let next = few_left base new count ds k (j + 1) more within (goes_on base new count ds j sectors more d so a.2 refl) (omega (arith, is)) in
+      let less = one_sector_less base so.image count s (new s) (within j d a.2) in
+      let here = ap length so.listed in
+      omega (arith, next, less, here)
+  | inr past ↦ let none = past.0 in absurd (omega (arith, none, is))
+]
+
+-- a sector as it is to be listed anew
+pub own_content : (image : ℕ → List ℕ) (n : ℕ) (content : List ℕ) → with_sector image n content n ≡ content
+own_content image n content = ap (λ b. if b then content else image n) (eq-eqb n n refl)
+
+pub change_here : (base new image : ℕ → List ℕ) (n : ℕ) → change_at base new n ≡ change_at base (with_sector image n (new n)) n
+change_here base new image n = change_alike base base new (with_sector image n (new n)) n refl (sym (own_content image n (new n)))
+
+-- the list of a key
+pub list_of_key : (view : ViewValue) (flush : ℕ) → flush ≡ last_flush view.log.entries view.cut
+    → changes (whole_image view.log flush) (image_of view) 0 view.log.sectors ≡ changed (base_of view.log view.cut) (sectors_of view)
+unfolding changed_below
+list_of_key view flush is =
+    let base = base_of view.log view.cut in
+    let image = sectors_of view in
+    let size : view.log.sectors ≡ length image = sym (length_view view) in
+    changes_alike (whole_image view.log flush) (content_at base) (image_of view) (content_at image) 0 view.log.sectors
+    (λ n low high. ap (λ f. whole_image view.log f n) is ∙ sym (get_or_from_slice_get base n _ [] (base_there view.log view.cut n (omega (arith, high)))))
+    (λ n low high. sym (get_or_from_slice_get image n _ [] (view_there view n (omega (arith, high)))))
+    ∙ ap (changes (content_at base) (content_at image) 0) size
+    ∙ changes_of_key base image 0 (length image)
