@@ -1,5 +1,5 @@
 -- How a run comes to a call of `again` and to the test behind it: from the slot before.
-use Rattle.std.proofs.Common.{ℕ, suc, ◌≡◌, ◌≢◌, ◌+◌, ◌-◌, ◌<◌, ◌==◌, Bool, true, false, if◌then◌else◌, List, length, Option, Some, None, refl, sym, ◌∙◌, ap, inl, inr, arith}
+use Rattle.std.proofs.Common.{ℕ, suc, ◌≡◌, ◌≢◌, ◌+◌, ◌-◌, ◌<◌, ◌==◌, ◌||◌, ℤ, Bool, true, false, if◌then◌else◌, List, length, Option, Some, None, refl, sym, ◌∙◌, ap, inl, inr, arith}
 use Rattle.std.specs.Option.{option_map_or, option_and_then}
 use Rattle.std.proofs.lemmas.Bool.{cases_lt}
 use Rattle.std.proofs.lemmas.Bool.Decides.{eqb_tells}
@@ -8,9 +8,10 @@ use Rattle.bpf_isa.specs.declared.instr.Instr.TheVariants as instr
 use Rattle.bpf_isa.specs.declared.instr.Condition.{Condition}
 use Rattle.bpf_isa.specs.Program.{IsProgram}
 use Rattle.bpf_shape.specs.declared.edges.Edges.{Edges}
-use Rattle.bpf_isa.specs.Slots.{at}
+use Rattle.bpf_isa.specs.Slots.{at, target_slot}
 use Rattle.bpf_shape.specs.Edges.{edges_of, control, no_edges}
-use Rattle.bpf_shape.specs.Again.{helper_number, calls_again, limit_of, limit_before, zero_test, answer_test, is_slot, is_target}
+use Rattle.bpf_shape.specs.Again.{helper_number, calls_again, limit_of, limit_before, zero_test, answer_test, is_slot, aims_at, is_target}
+use Rattle.bpf_shape.specs.Calls.{callee_of, callee}
 use Rattle.bpf_shape.specs.Paths.{Leads}
 use Rattle.bpf_shape.specs.Rules.{IsShaped}
 use Rattle.bpf_shape.specs.Laws.{AgainHasForm}
@@ -29,13 +30,32 @@ pub control_there : (program : List (Option Instr)) (s : ℕ) (i : Instr) → at
 unfolding control
 control_there program s i there = ap (λ (o : Option Instr). option_map_or (edges_of s) o no_edges) there
 
+pub callee_there : (program : List (Option Instr)) (s : ℕ) (distance : ℤ) → at program s ≡ Some (instr.CallLocal distance)
+    → callee program s ≡ Some (target_slot s distance)
+unfolding callee callee_of
+callee_there program s distance there = ap (λ (o : Option Instr). option_and_then (callee_of s) o) there
+
 -- a jump of the program leads to its target
 target_is : (program : List (Option Instr)) (s t : ℕ) (i : Instr) → at program s ≡ Some i → (edges_of s i).target ≡ Some t → is_target program t ≡ true
 unfolding is_target
 target_is program s t i there e =
     let jumps : (control program s).target ≡ Some t = ap (λ (x : Edges). x.target) (control_there program s i there) ∙ e in
     let same : is_slot t (Some t) ≡ true = elim (eqb_tells t t) [ inl equal ↦ equal.0 | inr other ↦ absurd (other.1 refl) ] in
-    any_at (λ q. is_slot t (control program q).target) (length program) s (inside program s i there) (rw jumps same)
+    any_at (aims_at program t) (length program) s (inside program s i there) (rw (jumps, same) refl)
+
+or_true : (b : Bool) → (b || true) ≡ true
+or_true true = refl
+or_true false = refl
+
+-- and so does a local call
+pub entry_is : (program : List (Option Instr)) (s t : ℕ) (distance : ℤ) → at program s ≡ Some (instr.CallLocal distance) → target_slot s distance ≡ t
+    → is_target program t ≡ true
+unfolding is_target
+entry_is program s t distance there e =
+    let same : is_slot t (Some t) ≡ true = elim (eqb_tells t t) [ inl equal ↦ equal.0 | inr other ↦ absurd (other.1 refl) ] in
+    let enters : callee program s ≡ Some t = callee_there program s distance there ∙ ap Some e in
+    let aims : (is_slot t (control program s).target || is_slot t (callee program s)) ≡ true = rw (enters, same) (or_true (is_slot t (control program s).target)) in
+    any_at (aims_at program t) (length program) s (inside program s (instr.CallLocal distance) there) aims
 
 -- the next slot, where an instruction begins at the one before it
 next_is : (program : List (Option Instr)) (s t : ℕ) (i j : Instr) → IsProgram program → at program s ≡ Some i → (edges_of s i).next ≡ Some t
@@ -69,7 +89,7 @@ pub record Before (program : List (Option Instr)) (t k : ℕ) : Type 0 where
   pub there : at program (t - 1) ≡ Some instr
   pub sets : limit_of instr ≡ Some k
 
-stands_before : (program : List (Option Instr)) (t k : ℕ) → limit_before program t ≡ Some k → Before program t k
+pub stands_before : (program : List (Option Instr)) (t k : ℕ) → limit_before program t ≡ Some k → Before program t k
 unfolding limit_before
 stands_before program t k e = by_test (t == 0) (at program (t - 1)) refl e
   where

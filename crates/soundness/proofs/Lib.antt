@@ -12,7 +12,7 @@ pub mod Stores
 pub mod Branches
 pub mod Calls
 pub mod Programs
-pub mod Waiting
+pub mod Frames
 pub mod Locals
 pub mod Steps
 pub mod Tables
@@ -22,6 +22,7 @@ pub mod Halves
 pub mod Coming
 pub mod Counts
 pub mod Room
+pub mod Saved
 pub mod Progress
 pub mod Within
 pub mod Safe

@@ -36,7 +36,7 @@ use Rattle.soundness.proofs.Standing.{Parts, machine, number, frames_of, all_fra
 use Rattle.soundness.proofs.Computing.{Site}
 use Rattle.soundness.proofs.Branches.{register_is}
 use Rattle.soundness.proofs.Programs.{callee_is, behind_call, entry_begins, no_entry, no_limit_behind}
-use Rattle.soundness.proofs.Waiting.{split_last, caller_is, without_last, length_of, each_below, each_pushed, first_pushed, waiting_popped, alone, not_deeper}
+use Rattle.soundness.proofs.Frames.{split_last, caller_is, without_last, length_of, each_below, each_pushed, first_pushed, waiting_popped, alone, not_deeper}
 
 -- the stack of a new frame
 

@@ -36,7 +36,7 @@ use Rattle.soundness.proofs.Meanings.{frame_under, covers_under}
 use Rattle.soundness.proofs.Standing.{Parts, machine, all_frames, number_is, last_is, Stays, Goes}
 use Rattle.soundness.proofs.Computing.{Site}
 use Rattle.soundness.proofs.Programs.{range_at, leads_at, limit_is, no_limit, no_target, entry_begins}
-use Rattle.soundness.proofs.Waiting.{split_last, length_of, each_last, whole_kept, waiting_kept, waiting_pushed}
+use Rattle.soundness.proofs.Frames.{split_last, length_of, each_last, whole_kept, waiting_kept, waiting_pushed}
 use Rattle.soundness.proofs.Locals.{unset_is_stack, unset_means, local_call, exit_covered}
 use Rattle.soundness.proofs.Steps.{stays, instr_goes, arrives_edge, limit_set, sent_rounded, passes_fit}
 

@@ -1,11 +1,11 @@
 -- What a step that leads on has done: it went along a control edge, and only a call of `again` counts.
-use Rattle.std.proofs.Common.{ℕ, ℤ, pos, ◌≡◌, ◌+◌, ◌<◌, ◌⊎◌, ◌&&◌, ◌==◌, Bool, true, false, if◌then◌else◌, List, [], ◌∷◌, length, slice_index_or, slice_set, Option, Some, None, refl, sym, ◌∙◌, ap, subst, inl, inr, arith}
+use Rattle.std.proofs.Common.{ℕ, zero, suc, ℤ, pos, ◌≡◌, ◌+◌, ◌-◌, ◌/◌, ◌%◌, ◌^◌, ◌<◌, nat_lt, ◌++◌, take, ◌&&◌, ◌==◌, Bool, true, false, if◌then◌else◌, List, [], ◌∷◌, length, slice_index_or, slice_set, Option, Some, None, refl, sym, ◌∙◌, ap, subst, inl, inr, arith}
 use Rattle.std.specs.Option.{option_map_or}
 use Rattle.std.specs.Int.{cast_unsigned, w32, w64}
 use Rattle.std.specs.Ordering.{int_eq}
 use Rattle.std.proofs.lemmas.Bool.{and_parts}
 use Rattle.std.proofs.lemmas.Bool.Decides.{eqb_tells, Decides-int_eq}
-use Rattle.std.proofs.lemmas.List.{length-set, get_or-set_same}
+use Rattle.std.proofs.lemmas.List.{length-set, get_or-set_same, map-append}
 use Rattle.base.specs.Check.{check, first_failing}
 use Rattle.base.specs.declared.causes.MachineFault.{MachineFault}
 use Rattle.base.specs.declared.causes.MachineFault.TheVariants as fault
@@ -19,29 +19,40 @@ use Rattle.bpf_isa.specs.declared.instr.Condition.TheVariants as cond
 use Rattle.helpers.specs.declared.helper.Helper.{Helper}
 use Rattle.helpers.specs.declared.helper.Helper.TheVariants as helper
 use Rattle.helpers.specs.Helper.{helper_of}
-use Rattle.helpers.specs.Answers.{sector_answer, copy_answer, again_answer, report_answer, zero_answer, mix_answer, same_answer}
+use Rattle.helpers.specs.Answers.{sector_answer, copied, copy_answer, again_answer, report_answer, zero_answer, mix_answer, same_answer}
 use Rattle.bpf_shape.specs.Edges.{edges, edges_of}
 use Rattle.bpf_shape.specs.Again.{helper_number, limit_of, zero_test, others_of}
 use Rattle.bpf_shape.specs.Paths.{Leads}
 use Rattle.machine.proofs.HelperNumbers.{again_number}
 use Rattle.machine.specs.declared.ByteAt.{ByteAt}
 use Rattle.machine.specs.Arithmetic.{arithmetic, computed, extended, in_order, holds, compared}
-use Rattle.machine.specs.Memory.{byte_count, plain_size, extension_of, loaded}
-use Rattle.machine.specs.State.{State, register, word}
+use Rattle.base.specs.Numbers.{number_bytes}
+use Rattle.machine.specs.Memory.{byte_count, plain_size, extension_of, loaded, change_at, with_byte, stored}
+use Rattle.machine.specs.State.{Caller, Frame, State, register, word, stack_start, stack_end, unset_stack}
 use Rattle.bpf_isa.specs.Slots.{at, target_slot}
-use Rattle.machine.specs.Step.{Stepped, Next, Done, Fault, second, address, memory, checks, call_checks, with_answer, set_and_go, turns_here, counted, effect, call_effect, tested, step_of, step}
+use Rattle.machine.specs.Step.{Stepped, Next, Done, Fault, second, address, memory, checks, call_checks, with_answer, set_and_go, turns_here, counted, effect, call_effect, goes_on, reads, returns_to, caller_of, saved, entered, exited, tested, step_of, step}
+use Rattle.soundness.proofs.Room.{callers}
 
--- an instruction that goes along an edge of its slot and counts nothing
+-- an instruction that is no call and no EXIT
+abbrev pub IsPlain : Instr → Type 0
+IsPlain (instr.CallHelper number) = ⊥
+IsPlain (instr.CallLocal distance) = ⊥
+IsPlain instr.Exit = ⊥
+IsPlain _ = Unit {0}
+
+-- an instruction that goes along an edge of its slot, counts nothing and stays in its frame
 pub record Moves (s : State) (i : Instr) (t : State) : Type 0 where
   pub leads : Leads (edges_of s.slot i) t.slot
   pub width : length t.registers ≡ length s.registers
   pub counts : t.turns ≡ s.turns
+  pub frames : callers t.frames ≡ callers s.frames
 
 -- a call of `again`
 pub record Asks (s : State) (i : Instr) (t : State) : Type 0 where
   pub leads : Leads (edges_of s.slot i) t.slot
   pub width : length t.registers ≡ length s.registers
   pub counts : t.turns ≡ counted s (word s 1)
+  pub frames : callers t.frames ≡ callers s.frames
   pub answer : t.registers ≡ with_answer s.registers (again_answer (turns_here s) (word s 1))
 
 -- what a predicate of next states says of a step
@@ -84,33 +95,128 @@ either true slot to = inr refl
 either false slot to = inl refl
 
 set_moves : (s : State) (i : Instr) (n r x : ℕ) → (edges_of s.slot i).next ≡ Some (s.slot + n) → OnNext (Moves s i) (set_and_go n s r x)
-set_moves s i n r x e = record { leads = inl e; width = length-set s.registers r (Some x); counts = refl }
+set_moves s i n r x e = record { leads = inl e; width = length-set s.registers r (Some x); counts = refl; frames = refl }
 
--- each instruction but a call
-pub effect_moves : (bytes : ℕ → ByteAt) (device : List (List ℕ)) (s : State) (i : Instr) → helper_number i ≡ None → OnNext (Moves s i) (effect bytes device s i)
+-- a store changes no caller
+changed_callers : (n : ℕ) (g : Frame → Frame) (fs : List Frame) → ((f : Frame) → (g f).caller ≡ f.caller) → callers (change_at n g fs) ≡ callers fs
+changed_callers n g [] same = refl
+changed_callers zero g (f ∷ fs) same = rw (same f) refl
+changed_callers (suc n) g (f ∷ fs) same = rw (changed_callers n g fs same) refl
+
+byte_callers : (fs : List Frame) (a b : ℕ) → callers (with_byte fs a b) ≡ callers fs
+unfolding with_byte
+byte_callers fs a b = by_test (nat_lt a stack_start)
+  where
+    by_test : (c : Bool)
+        → callers (if c then fs else change_at ((a - stack_start) / 1024) (λ f. record f { stack = slice_set f.stack ((a - stack_start) % 1024) (Some b) }) fs) ≡ callers fs
+    by_test true = refl
+    by_test false =
+        changed_callers ((a - stack_start) / 1024) (λ f. record f { stack = slice_set f.stack ((a - stack_start) % 1024) (Some b) }) fs (λ f. refl)
+
+pub stored_callers : (fs : List Frame) (a : ℕ) (bytes : List ℕ) → callers (stored fs a bytes) ≡ callers fs
+unfolding stored
+stored_callers fs a [] = refl
+stored_callers fs a (b ∷ bytes) = stored_callers (with_byte fs a b) ((a + 1) % 2 ^ 64) bytes ∙ byte_callers fs a b
+
+-- each instruction but a call and EXIT
+pub effect_moves : (bytes : ℕ → ByteAt) (device : List (List ℕ)) (s : State) (i : Instr) → IsPlain i → OnNext (Moves s i) (effect bytes device s i)
 unfolding effect edges_of
 effect_moves bytes device s (instr.Arithmetic w o dst from) h = set_moves s (instr.Arithmetic w o dst from) 1 dst (arithmetic w o (word s dst) (second s from)) refl
 effect_moves bytes device s (instr.Negate w dst) h = set_moves s (instr.Negate w dst) 1 dst (arithmetic w op.Sub 0 (word s dst)) refl
 effect_moves bytes device s (instr.SignExtend e dst src) h = set_moves s (instr.SignExtend e dst src) 1 dst (extended e (word s src)) refl
 effect_moves bytes device s (instr.ByteOrder o size dst) h = set_moves s (instr.ByteOrder o size dst) 1 dst (in_order o size (word s dst)) refl
-effect_moves bytes device s (instr.Jump distance) h = record { leads = inr refl; width = refl; counts = refl }
-effect_moves bytes device s (instr.LongJump distance) h = record { leads = inr refl; width = refl; counts = refl }
+effect_moves bytes device s (instr.Jump distance) h = record { leads = inr refl; width = refl; counts = refl; frames = refl }
+effect_moves bytes device s (instr.LongJump distance) h = record { leads = inr refl; width = refl; counts = refl; frames = refl }
 effect_moves bytes device s (instr.Branch w c dst from distance) h =
-    record { leads = either (holds w c (word s dst) (second s from)) s.slot (target_slot s.slot distance); width = refl; counts = refl }
-effect_moves bytes device s (instr.CallHelper number) h = absurd (let bad : Some (cast_unsigned w32 number) ≡ None = h in cc)
-effect_moves bytes device s instr.Exit h = tt
+    record { leads = either (holds w c (word s dst) (second s from)) s.slot (target_slot s.slot distance); width = refl; counts = refl; frames = refl }
+effect_moves bytes device s (instr.CallHelper number) h = absurd h
+effect_moves bytes device s (instr.CallLocal distance) h = absurd h
+effect_moves bytes device s instr.Exit h = absurd h
 effect_moves bytes device s (instr.Load size dst base distance) h =
     set_moves s (instr.Load size dst base distance) 1 dst (loaded bytes (address s base distance) (byte_count size)) refl
 effect_moves bytes device s (instr.LoadSigned size dst base distance) h =
     set_moves s (instr.LoadSigned size dst base distance) 1 dst (extended (extension_of size) (loaded bytes (address s base distance) (byte_count (plain_size size)))) refl
-effect_moves bytes device s (instr.StoreImmediate size base distance n) h = record { leads = inl refl; width = refl; counts = refl }
-effect_moves bytes device s (instr.Store size base distance src) h = record { leads = inl refl; width = refl; counts = refl }
+effect_moves bytes device s (instr.StoreImmediate size base distance n) h =
+    record { leads = inl refl; width = refl; counts = refl; frames = stored_callers s.frames (address s base distance) (number_bytes (byte_count size) (cast_unsigned w64 n)) }
+effect_moves bytes device s (instr.Store size base distance src) h =
+    record { leads = inl refl; width = refl; counts = refl; frames = stored_callers s.frames (address s base distance) (number_bytes (byte_count size) (word s src)) }
 effect_moves bytes device s (instr.LoadImmediate dst x) h = set_moves s (instr.LoadImmediate dst x) 2 dst x refl
 
--- a call of a helper, or none
-pub kind_of : (i : Instr) → (helper_number i ≡ None) ⊎ ((number : ℤ) × (i ≡ instr.CallHelper number))
-kind_of (instr.CallHelper number) = inr (number, refl)
-kind_of _ = inl refl
+-- a call of a helper, a local call, EXIT, or none of these
+pub data Kind (i : Instr) : Type 0 where
+  Plain : IsPlain i → Kind i
+  Helps : (number : ℤ) → i ≡ instr.CallHelper number → Kind i
+  Enters : (distance : ℤ) → i ≡ instr.CallLocal distance → Kind i
+  Exits : i ≡ instr.Exit → Kind i
+
+pub kind_of : (i : Instr) → Kind i
+kind_of (instr.CallHelper number) = Helps number refl
+kind_of (instr.CallLocal distance) = Enters distance refl
+kind_of instr.Exit = Exits refl
+kind_of _ = Plain tt
+
+pub no_helper : (i : Instr) → IsPlain i → helper_number i ≡ None
+no_helper (instr.CallHelper number) h = absurd h
+no_helper _ h = refl
+
+-- a local call
+pub record Entered (s : State) (distance : ℤ) (t : State) : Type 0 where
+  pub slot : t.slot ≡ target_slot s.slot distance
+  pub width : length t.registers ≡ 11
+  pub counts : t.turns ≡ s.turns
+  pub frames : callers t.frames ≡ callers s.frames ++ Some (saved s) ∷ []
+  pub few : nat_lt (length s.frames) 4 ≡ true
+
+pub local_entered : (program : List (Option Instr)) (context : List ℕ) (device : List (List ℕ)) (s t : State) (distance : ℤ)
+    → step_of program context device s (instr.CallLocal distance) ≡ Next t → Entered s distance t
+unfolding step_of checks effect
+local_entered program context device s t distance e = by_test (nat_lt (length s.frames) 4) refl e
+  where
+    here : State
+    here = record s {
+      slot = target_slot s.slot distance;
+      registers = None ∷ register s 1 ∷ register s 2 ∷ register s 3 ∷ register s 4 ∷ register s 5 ∷ None ∷ None ∷ None ∷ None ∷ Some (stack_end (length s.frames)) ∷ [];
+      frames = s.frames ++ record { stack = unset_stack; caller = Some (saved s) } ∷ [];
+    }
+
+    came_to : nat_lt (length s.frames) 4 ≡ true → Entered s distance here
+    came_to few = record { slot = refl; width = refl; counts = refl; frames = map-append (λ (f : Frame). f.caller) s.frames (record { stack = unset_stack; caller = Some (saved s) } ∷ []); few = few }
+
+    by_test : (b : Bool) → nat_lt (length s.frames) 4 ≡ b
+        → tested s (check fault.FrameLimit b ∷ goes_on program (target_slot s.slot distance) ∷ []) (entered s (target_slot s.slot distance)) ≡ Next t → Entered s distance t
+    by_test false is e = absurd (let bad : Fault fault.FrameLimit s.slot ≡ Next t = e in cc)
+    by_test true is e =
+        let came : entered s (target_slot s.slot distance) ≡ Next t = passed s (first_failing (goes_on program (target_slot s.slot distance) ∷ [])) _ t e in
+        subst (OnNext (Entered s distance)) came (came_to is)
+
+-- a return
+pub record Exited (s : State) (c : Caller) (t : State) : Type 0 where
+  pub caller : caller_of s.frames ≡ Some c
+  pub slot : t.slot ≡ c.slot
+  pub width : length t.registers ≡ 6 + length c.registers
+  pub counts : t.turns ≡ s.turns
+  pub frames : t.frames ≡ take (length s.frames - 1) s.frames
+
+pub has_exited : (program : List (Option Instr)) (context : List ℕ) (device : List (List ℕ)) (s t : State) → step_of program context device s instr.Exit ≡ Next t
+    → (c : Caller) × Exited s c t
+unfolding step_of checks effect
+has_exited program context device s t e = by_caller (caller_of s.frames) refl e
+  where
+    back : Caller → State
+    back c = record s {
+      slot = c.slot;
+      registers = register s 0 ∷ None ∷ None ∷ None ∷ None ∷ None ∷ c.registers;
+      frames = take (length s.frames - 1) s.frames;
+    }
+
+    by_caller : (o : Option Caller) → caller_of s.frames ≡ o → tested s (reads s (0 ∷ []) ∷ returns_to program o) (exited s o) ≡ Next t → (c : Caller) × Exited s c t
+    by_caller None is e =
+        let came : exited s None ≡ Next t = passed s (first_failing (reads s (0 ∷ []) ∷ [])) _ t e in
+        absurd (let bad : Done (word s 0) s.codes ≡ Next t = came in cc)
+    by_caller (Some c) is e =
+        let came : exited s (Some c) ≡ Next t = passed s (first_failing (reads s (0 ∷ []) ∷ returns_to program (Some c))) _ t e in
+        let there : Exited s c (back c) = record { caller = is; slot = refl; width = omega arith; counts = refl; frames = refl } in
+        (c, subst (OnNext (Exited s c)) came there)
 
 length_answered : (rs : List (Option ℕ)) (a : ℕ) → length (with_answer rs a) ≡ length rs
 length_answered rs a =
@@ -128,10 +234,10 @@ answer_there (x ∷ xs) a h = refl
 
 -- a state after a helper's answer that counts nothing
 answer_moves : (s : State) (number : ℤ) (t : State) (a : ℕ) → t.slot ≡ s.slot + 1 → t.registers ≡ with_answer s.registers a → t.turns ≡ s.turns
-    → Moves s (instr.CallHelper number) t
+    → callers t.frames ≡ callers s.frames → Moves s (instr.CallHelper number) t
 unfolding edges_of
-answer_moves s number t a slot registers counts =
-    record { leads = inl (ap Some (sym slot)); width = ap length registers ∙ length_answered s.registers a; counts = counts }
+answer_moves s number t a slot registers counts frames =
+    record { leads = inl (ap Some (sym slot)); width = ap length registers ∙ length_answered s.registers a; counts = counts; frames = frames }
 
 -- what the call of a helper has done
 abbrev pub Called : State → ℤ → Helper → State → Type 0
@@ -140,14 +246,14 @@ Called s number _ t = Moves s (instr.CallHelper number) t
 
 call_moves : (device : List (List ℕ)) (s : State) (number : ℤ) (h : Helper) → OnNext (Called s number h) (call_effect device s h)
 unfolding call_effect edges_of
-call_moves device s number helper.Sector = answer_moves s number _ (sector_answer device (word s 1)) refl refl refl
-call_moves device s number helper.Copy = answer_moves s number _ (copy_answer device (word s 1) (word s 3)) refl refl refl
+call_moves device s number helper.Sector = answer_moves s number _ (sector_answer device (word s 1)) refl refl refl refl
+call_moves device s number helper.Copy = answer_moves s number _ (copy_answer device (word s 1) (word s 3)) refl refl refl (stored_callers s.frames (word s 2) (copied device (word s 1) (word s 3)))
 call_moves device s number helper.Again =
-    record { leads = inl refl; width = length_answered s.registers (again_answer (turns_here s) (word s 1)); counts = refl; answer = refl }
-call_moves device s number helper.Report = answer_moves s number _ (report_answer s.codes) refl refl refl
-call_moves device s number helper.Zero = answer_moves s number _ (zero_answer device (word s 1)) refl refl refl
-call_moves device s number helper.Mix = answer_moves s number _ (mix_answer device (word s 1)) refl refl refl
-call_moves device s number helper.Same = answer_moves s number _ (same_answer device (word s 1) (word s 2)) refl refl refl
+    record { leads = inl refl; width = length_answered s.registers (again_answer (turns_here s) (word s 1)); counts = refl; frames = refl; answer = refl }
+call_moves device s number helper.Report = answer_moves s number _ (report_answer s.codes) refl refl refl refl
+call_moves device s number helper.Zero = answer_moves s number _ (zero_answer device (word s 1)) refl refl refl refl
+call_moves device s number helper.Mix = answer_moves s number _ (mix_answer device (word s 1)) refl refl refl refl
+call_moves device s number helper.Same = answer_moves s number _ (same_answer device (word s 1) (word s 2)) refl refl refl refl
 
 -- the helper that was called
 pub record CallsHelper (s : State) (number : ℤ) (t : State) : Type 0 where

@@ -63,16 +63,19 @@
 //! machine that its states cover: `Computing` and `Pointers` (arithmetic), `Loads`, `Stores` and `Stacks`,
 //! `Branches`, `Calls`. They speak of the frame at hand, with its number, over any frames below it. `Steps`
 //! puts them together. `Locals` has the two steps that change the number of frames: that no fifth is opened
-//! follows from the rule about chains of calls, since each frame keeps how its call was reached (`Waiting`).
+//! follows from the rule about chains of calls, since each frame keeps how its call was reached (`Frames`).
 //! `Tables` leads from one step to all of them.
 //!
 //! That a run ends is another matter, of shape alone. Before each step three numbers are kept: how often the
-//! calls of `again` may still answer 1, a room that bounds each path from the slot at hand, and what is
-//! pending. A step along an edge of paths takes one of the room. A call that answers 1 takes a turn, and a
-//! longest path is pending for it; its again edge takes what is pending and makes it the room. So the turns
-//! left times the longest path, what is pending and the room fall together with each step, and the room is
-//! never 0. The form of `again` matters twice: no jump leads to a call, so register 1 has its K, and none to
-//! the test behind it, so register 0 has its answer (`Room`, `Progress`, `Within`).
+//! calls of `again` may still answer 1; a room for each frame, which bounds the weight of each path from where
+//! it stands; and what is pending. A step along an edge of paths takes the weight of its slot from the room at
+//! hand. The weight of a local call is one more than the longest path of its function, which becomes the room of
+//! the new frame. A call of `again` that answers 1 takes a turn, and a longest path of slot 0 is pending for it;
+//! its again edge takes what is pending and makes the longest path of the running function its room, which with
+//! the rooms below is never more than a longest path of slot 0. So the turns left times that path, what is
+//! pending and the rooms fall together with each step, and the room at hand is never 0. The form of `again`
+//! matters twice: no jump or call leads to a call of it, so register 1 has its K, and none to the test behind it,
+//! so register 0 has its answer (`Room`, `Saved`, `Progress`, `Within`).
 //!
 //! # Example
 //!

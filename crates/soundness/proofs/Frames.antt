@@ -35,7 +35,7 @@ last_there : (below : List Frame) (f : Frame) → slice_get (below ++ f ∷ []) 
 last_there [] f = refl
 last_there (g ∷ rest) f = last_there rest f
 
-last_got : (below : List Frame) (f : Frame) → slice_get (below ++ f ∷ []) (length (below ++ f ∷ []) - 1) ≡ Some f
+pub last_got : (below : List Frame) (f : Frame) → slice_get (below ++ f ∷ []) (length (below ++ f ∷ []) - 1) ≡ Some f
 last_got below f = ap (λ (n : ℕ). slice_get (below ++ f ∷ []) n) (number_is below f) ∙ last_there below f
 
 pub caller_is : (m : Parts) → caller_of (all_frames m) ≡ m.caller
