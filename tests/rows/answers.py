@@ -198,6 +198,60 @@ CODES = [
     ("mov64 r1, 7; call 4; " * 17 + "exit", 99, f"answer 1 codes {','.join('7' * 16)}"),
 ]
 
+# Local calls: a frame of its own, of which four are open at most.
+LOCAL_CALL = "mov64 r1, 20; callf +1; exit; mov64 r0, r1; add64 r0, 1; exit"
+FOUR_FRAMES = "callf +1; exit; " * 3 + "mov64 r0, 7; exit"
+FIVE_FRAMES = "callf +1; exit; " * 4 + "mov64 r0, 7; exit"
+TWICE_CALLED = "mov64 r1, 1; callf +3; mov64 r1, 0; callf +1; exit; jeq r1, 0, +3; stb [r10-1], 3; mov64 r0, 0; exit; ldxb r0, [r10-1]; exit"
+COUNTED_CALLS = (
+    "callf +7; mov64 r6, r0; callf +5; add64 r6, r0; callf +3; add64 r6, r0; mov64 r0, r6; exit; mov64 r1, 2; call 3; exit"
+)
+
+CALLS = [
+    # local_call
+    (LOCAL_CALL, 6, "answer 21 codes -"),
+    (LOCAL_CALL, 5, "out of steps"),
+    (FOUR_FRAMES, 8, "answer 7 codes -"),
+    (FOUR_FRAMES, 7, "out of steps"),
+    # 87: a fifth frame, also where no instruction begins at the entry
+    ("callf -1; exit", 4, "fault 87 slot 0"),
+    ("callf -1; exit", 3, "out of steps"),
+    (FIVE_FRAMES, 10, "fault 87 slot 6"),
+    ("callf +1; exit; " * 3 + "callf +9; exit", 10, "fault 87 slot 6"),
+    # 80 at a call: no instruction begins at the entry
+    ("callf +1; exit", 10, "fault 80 slot 0"),
+    ("callf -2; exit", 10, "fault 80 slot 0"),
+    ("callf +2147483647; exit", 10, "fault 80 slot 0"),
+    ("callf +1; lddw r0, 0; exit", 10, "fault 80 slot 0"),
+    # 80 at the EXIT: no instruction begins behind the call
+    ("ja +2; mov64 r0, 1; exit; callf -3", 10, "fault 80 slot 2"),
+    # registers: 1 to 5 are the function's, and gone behind it; 6 to 10 are the caller's
+    ("mov64 r1, 5; callf +2; mov64 r0, r1; exit; mov64 r0, 0; exit", 10, "fault 81 slot 2"),
+    ("mov64 r5, 5; callf +2; mov64 r0, r5; exit; mov64 r0, 0; exit", 10, "fault 81 slot 2"),
+    ("mov64 r5, 5; callf +1; exit; mov64 r0, r5; exit", 10, "answer 5 codes -"),
+    ("mov64 r6, 4; callf +2; mov64 r0, r6; exit; mov64 r6, 9; mov64 r0, 0; exit", 10, "answer 4 codes -"),
+    ("mov64 r6, 4; callf +1; exit; mov64 r0, r6; exit", 10, "fault 81 slot 3"),
+    ("mov64 r9, 4; callf +1; exit; mov64 r0, r9; exit", 10, "fault 81 slot 3"),
+    ("mov64 r0, 4; callf +1; exit; exit", 10, "fault 81 slot 3"),
+    ("callf +1; exit; mov64 r0, r10; exit", 10, f"answer {2**33 + 1024 + 512} codes -"),
+    ("callf +2; mov64 r0, r10; exit; mov64 r0, 0; exit", 10, f"answer {2**33 + 512} codes -"),
+    # stacks: each frame has its own, and others are reached by their addresses while they are open
+    ("mov64 r1, r10; callf +1; exit; ldxb r0, [r1-1]; exit", 10, "fault 82 slot 3"),
+    ("stb [r10-1], 7; mov64 r1, r10; callf +1; exit; ldxb r0, [r1-1]; exit", 10, "answer 7 codes -"),
+    ("mov64 r1, r10; callf +2; ldxb r0, [r10-1]; exit; stb [r1-1], 5; mov64 r0, 0; exit", 10, "answer 5 codes -"),
+    ("stb [r10-1], 7; callf +2; ldxb r0, [r10-1]; exit; stb [r10-1], 9; mov64 r0, 0; exit", 10, "answer 7 codes -"),
+    ("stb [r10-1], 7; callf +1; exit; ldxb r0, [r10-1]; exit", 10, "fault 82 slot 3"),
+    ("callf +1; exit; stdw [r10-512], 3; ldxdw r0, [r10-512]; exit", 10, "answer 3 codes -"),
+    ("callf +1; exit; ldxb r0, [r10+0]; exit", 10, "fault 83 slot 2"),
+    ("callf +1; exit; ldxb r0, [r10-513]; exit", 10, "fault 83 slot 2"),
+    ("callf +1; exit; stdw [r10-4], 1; exit", 10, "fault 83 slot 2"),
+    ("callf +1; exit; ldxb r0, [r10+1023]; exit", 10, "fault 83 slot 2"),
+    ("callf +2; ldxb r0, [r0-1]; exit; stb [r10-1], 3; mov64 r0, r10; exit", 10, "fault 83 slot 1"),
+    (TWICE_CALLED, 20, "fault 82 slot 9"),
+    # `again` counts for its slot over the whole run, whatever the frame
+    (COUNTED_CALLS, 30, "answer 2 codes -"),
+]
+
 
 def outcome(text, limit, line, entries=(), cuts="all", about="four sectors of zeros"):
     """A program on the only image of a log: its failing line, or none where it answers 0."""
@@ -296,6 +350,9 @@ ON_EE = [
     on_ee("mov64 r1, 3; call 1; ldxsh r0, [r0+510]; exit", f"answer {2**64 - 2**16 + 0xEEEE} codes -"),
     on_ee("mov64 r1, 3; call 5; exit", None),
     on_ee("mov64 r1, 0; mov64 r2, 3; call 7; exit", "answer 1 codes -"),
+    # to the stack of a local function, and from there to that of its caller
+    on_ee("callf +1; exit; mov64 r1, 0; mov64 r2, r10; sub64 r2, 8; mov64 r3, 8; call 2; ldxb r0, [r10-8]; exit", "answer 238 codes -"),
+    on_ee("mov64 r2, r10; callf +2; ldxb r0, [r10-8]; exit; mov64 r1, 0; sub64 r2, 8; mov64 r3, 8; call 2; exit", "answer 238 codes -"),
 ]
 
 # The words of the context at each cut: two flushes and a mark.
@@ -378,7 +435,7 @@ ANEW = [
 ROWS = [
     *(answered(text, answer) for table in [ARITHMETIC, MEMORY, HELPERS] for text, answer in table.items()),
     *(outcome(f"{text}; exit", 10, f"fault {fault}") for text, fault in FAULTS.items()),
-    *(outcome(*about) for table in [LIMITS, AGAIN, CODES] for about in table),
+    *(outcome(*about) for table in [LIMITS, AGAIN, CODES, CALLS] for about in table),
     *MIXED,
     *ON_EE,
     *CONTEXT,

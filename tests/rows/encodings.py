@@ -81,6 +81,9 @@ def jumps():
     yield "ja32 -2147483648", slot(0x06, imm=-(2**31))
     yield "call 1", slot(0x85, imm=1)
     yield "call -1", slot(0x85, imm=-1)
+    yield "callf +0", slot(0x85, 0, 1)
+    yield "callf +2147483647", slot(0x85, 0, 1, 0, 2**31 - 1)
+    yield "callf -2147483648", slot(0x85, 0, 1, 0, -(2**31))
     yield "exit", slot(0x95)
 
 
@@ -309,6 +312,8 @@ NO_PROGRAMS = {
     "jeq imm with a source": ("1510000000000000", "24 at 0"),
     "call with a destination": ("8501000001000000", "24 at 0"),
     "call with an offset": ("8500010001000000", "24 at 0"),
+    "callf with a destination": ("8511000001000000", "24 at 0"),
+    "callf with an offset": ("8510010001000000", "24 at 0"),
     "exit with a destination": (f"{EXIT} 9501000000000000", "24 at 1"),
     "exit with an imm": ("9500000001000000", "24 at 0"),
     "exit with a source": ("9510000000000000", "24 at 0"),

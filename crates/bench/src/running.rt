@@ -1,8 +1,8 @@
 //! Runs of checkers by the interpreter, with every check of the machine.
 //!
 //! The programs are those that `bench/running.c` runs on DPDK's interpreter: a loop of five
-//! instructions, a loop of loads and stores, and instructions in a row. The last one is short, so that
-//! its time is that of a run itself.
+//! instructions, a loop of loads and stores, and instructions in a row; and a loop of calls of a local
+//! function, which that one doesn't have. The last one is short, so that its time is that of a run itself.
 
 use crate::timing::{Best, ROUNDS};
 use bpf_isa::codec::decode;
@@ -49,6 +49,18 @@ const MEMORY: [u64; 12] = [
     0x71a5_f8ff_0000_0000, // ldxb r5, [r10-8]
     0x1703_0000_0100_0000, // sub64 r3, 1
     0x5503_f8ff_0000_0000, // jne r3, 0, -8
+    EXIT,
+];
+
+/// A loop in which a local function is called: five instructions, 20,000,000 times.
+const CALLS: [u64; 8] = [
+    0xb700_0000_0000_0000, // mov64 r0, 0
+    0xb706_0000_002d_3101, // mov64 r6, 20000000
+    0x8510_0000_0300_0000, // callf +3
+    0x1706_0000_0100_0000, // sub64 r6, 1
+    0x5506_fdff_0000_0000, // jne r6, 0, -3
+    EXIT,
+    0xb700_0000_0700_0000, // mov64 r0, 7
     EXIT,
 ];
 
@@ -133,6 +145,7 @@ pub fn run<R: Clock + Print + AllocGlobal>(rt: &R) -> io::Result<()> {
     )?;
     time(rt, "count", &COUNT, 100_000_004.0, 1)?;
     time(rt, "memory", &MEMORY, 100_000_004.0, 1)?;
+    time(rt, "calls", &CALLS, 100_000_003.0, 1)?;
     let long = row(rt.alloc())?;
     time(rt, "row", long.as_slice(), 3999.0, 25_000)?;
     drop(long);

@@ -27,7 +27,7 @@ fn both_ways(alloc: Global, text: &str, bytes: &[u8], listed: &str) -> Result<bo
 
 #[test]
 fn forms(rt: HostRuntime) -> Result<(), Fail> {
-    let cases: [(&str, [u8; 8], &str); 15] = [
+    let cases: [(&str, [u8; 8], &str); 16] = [
         (
             "stdw [r10-8], -1",
             [0x7a, 0x0a, 0xf8, 0xff, 0xff, 0xff, 0xff, 0xff],
@@ -67,6 +67,11 @@ fn forms(rt: HostRuntime) -> Result<(), Fail> {
             [0x85, 0, 0, 0, 0xff, 0xff, 0xff, 0xff],
             "call -1\n",
         ),
+        (
+            "callf - 2",
+            [0x85, 0x10, 0, 0, 0xfe, 0xff, 0xff, 0xff],
+            "callf -2\n",
+        ),
         ("exit", [0x95, 0, 0, 0, 0, 0, 0, 0], "exit\n"),
         (
             "ldxdw r0, [r1+16]",
@@ -104,10 +109,12 @@ fn labels(rt: HostRuntime) -> Result<(), Fail> {
         0x18, 0, 0, 0, 7, 0, 0, 0, 0, 0, 0, 0, 0, 0, 0, 0, // lddw r0, 7
         5, 0, 0xff, 0xff, 0, 0, 0, 0, // to itself
         5, 0, 0xfc, 0xff, 0, 0, 0, 0, // to slot 0
+        0x85, 0x10, 0, 0, 0xfd, 0xff, 0xff, 0xff, // to slot 2
         0x15, 0, 0, 0, 1, 0, 0, 0, // behind the end
     ];
-    let text = "r1:\n lddw r0, 007 ; two slots\n\texit:\nja exit\nja r1\njeq r0, 1, end\nend :\n";
-    let listed = "lddw r0, 7\nja -1\nja -4\njeq r0, 1, +0\n";
+    let text =
+        "r1:\n lddw r0, 007 ; two slots\n\texit:\nja exit\nja r1\ncallf exit\njeq r0, 1, end\nend :\n";
+    let listed = "lddw r0, 7\nja -1\nja -4\ncallf -3\njeq r0, 1, +0\n";
     assert!(rt; both_ways(rt.alloc(), text, &bytes, listed)?);
     Ok(())
 }
@@ -134,7 +141,7 @@ fn refusals(rt: HostRuntime) -> Result<(), Fail> {
         ("exit\ncall3", (30, 2)),
         ("add64r1, r2", (30, 1)),
         ("MOV64 r0, 0", (30, 1)),
-        ("callf +1", (30, 1)),
+        ("callfn +1", (30, 1)),
         ("1x:", (30, 1)),
         ("_x:", (30, 1)),
         ("exit\n\r\n", (30, 2)),

@@ -65,7 +65,7 @@ fn examples_both_ways(rt: HostRuntime) -> Result<(), Fail> {
     let r1 = Register::new(1).ok_or("r1")?;
     let r10 = Register::FRAME_POINTER;
     let zero = Source::Immediate(0);
-    let examples: [([u8; 8], Instr); 5] = [
+    let examples: [([u8; 8], Instr); 6] = [
         (
             [0xb7, 1, 0, 0, 0, 0, 0, 0],
             Instr::Arithmetic {
@@ -76,6 +76,10 @@ fn examples_both_ways(rt: HostRuntime) -> Result<(), Fail> {
             },
         ),
         ([0x85, 0, 0, 0, 1, 0, 0, 0], Instr::CallHelper { number: 1 }),
+        (
+            [0x85, 0x10, 0, 0, 0xfe, 0xff, 0xff, 0xff],
+            Instr::CallLocal { offset: -2 },
+        ),
         (
             [0x72, 0x0a, 0xff, 0xff, 7, 0, 0, 0],
             Instr::StoreImmediate {
@@ -141,17 +145,19 @@ fn made_ready(rt: HostRuntime) -> Result<(), Fail> {
         0x95, 0, 0, 0, 0, 0, 0, 0, // exit
         0x05, 0, 0xfc, 0xff, 0, 0, 0, 0, // ja -4, before the first slot
         0xa6, 0x02, 0xfd, 0xff, 0xff, 0xff, 0xff, 0xff, // jlt32 r2, -1, -3
+        0x85, 0x10, 0, 0, 0xfc, 0xff, 0xff, 0xff, // callf -4
     ];
     let program = decode(rt.alloc(), &bytes)?;
     let again = round_trip(rt.alloc(), &program)?;
     let wanted = [
         (Code::Jump, 2, 0),
         (Code::Exit, 0, 0),
-        (Code::Jump, 4, 0),
+        (Code::Jump, 5, 0),
         (Code::JumpLt32Immediate, 1, u64::MAX),
+        (Code::CallLocal, 1, 0),
         (Code::Missing, 0, 0),
     ];
-    assert_eq!(rt; again.ready().len(), 5);
+    assert_eq!(rt; again.ready().len(), 6);
     for (record, (code, target, immediate)) in again.ready().iter().zip(wanted) {
         assert_eq!(rt; record.code, code);
         assert_eq!(rt; record.target, target);
@@ -188,9 +194,9 @@ fn refusals(rt: HostRuntime) -> Result<(), Fail> {
             (23, 0),
         ), // register 11
         (
-            [5, 0, 0, 0, 0, 0, 0, 0, 0x85, 0x10, 0, 0, 0, 0, 0, 0],
+            [5, 0, 0, 0, 0, 0, 0, 0, 0x85, 0x20, 0, 0, 0, 0, 0, 0],
             (23, 1),
-        ), // a call that is not of a helper
+        ), // a call of a third kind
         ([5, 0, 0, 0, 0, 0, 0, 0, 0x95, 1, 0, 0, 0, 0, 0, 0], (24, 1)), // a register of an exit
     ];
     for (bytes, want) in refused {

@@ -1,6 +1,5 @@
 //! Worked runs of docs/MACHINE.md, by programs decoded from their bytes.
 
-use base::causes::MachineFault;
 use bpf_isa::codec::decode;
 use helpers::{Context, Filled};
 use interp::{Outcome, run_checked};
@@ -113,6 +112,44 @@ fn arithmetic_answers(rt: HostRuntime) {
         came_to(rt.alloc(), &[0xb400_0000_ffff_ffff, EXIT]),
         End::Answer(4294967295)
     );
+}
+
+#[test]
+fn local_functions(rt: HostRuntime) {
+    let alloc = rt.alloc();
+    let recursive = [0x8510_0000_ffff_ffff, EXIT];
+    assert_eq!(rt; end_within(alloc, &recursive, 4), End::Fault(87, 0));
+    assert_eq!(rt; end_within(alloc, &recursive, 3), End::OutOfSteps);
+    // mov64 r1, 20; callf +1; exit; mov64 r0, r1; add64 r0, 1; exit
+    let local_call = [
+        0xb701_0000_1400_0000,
+        0x8510_0000_0100_0000,
+        EXIT,
+        0xbf10_0000_0000_0000,
+        0x0700_0000_0100_0000,
+        EXIT,
+    ];
+    assert_eq!(rt; end_within(alloc, &local_call, 6), End::Answer(21));
+    assert_eq!(rt; end_within(alloc, &local_call, 5), End::OutOfSteps);
+    // mov64 r1, r10; callf +1; exit; ldxb r0, [r1-1]; exit
+    let stack_of_caller = [
+        0xbfa1_0000_0000_0000,
+        0x8510_0000_0100_0000,
+        EXIT,
+        0x7110_ffff_0000_0000,
+        EXIT,
+    ];
+    assert_eq!(rt; came_to(alloc, &stack_of_caller), End::Fault(82, 3));
+    // mov64 r1, 5; callf +2; mov64 r0, r1; exit; mov64 r0, 0; exit
+    let arguments_gone = [
+        0xb701_0000_0500_0000,
+        0x8510_0000_0200_0000,
+        0xbf10_0000_0000_0000,
+        EXIT,
+        0xb700_0000_0000_0000,
+        EXIT,
+    ];
+    assert_eq!(rt; came_to(alloc, &arguments_gone), End::Fault(81, 2));
 }
 
 #[test]
@@ -424,5 +461,4 @@ fn counts_and_codes(rt: HostRuntime) {
     ];
     assert_eq!(rt; end_within(alloc, &nested, 29), End::Answer(0));
     assert_eq!(rt; end_within(alloc, &nested, 28), End::OutOfSteps);
-    assert!(rt; MachineFault::FrameLimit.number() == 87);
 }
