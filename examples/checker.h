@@ -11,10 +11,10 @@
  *     clang -O2 -target bpfel -mcpu=v2 -c checker.c -o checker.o
  *     llvm-objcopy -O binary --only-section=.text checker.o checker.bpf
  *
- * Nothing but the instructions of that one function reaches the program. So it
- * has no global variables, no string literals and no constant tables, and what it
- * calls is INLINED. It is for clang 14 or newer; gcc's assembler for BPF knows
- * another syntax.
+ * Nothing but the instructions of that one function reaches the program, and of
+ * those that are LOCAL to it. So it has no global variables, no string literals
+ * and no constant tables, and what it calls is INLINED or LOCAL. It is for clang
+ * 14 or newer; gcc's assembler for BPF knows another syntax.
  */
 #ifndef CHECKER_H
 #define CHECKER_H
@@ -26,6 +26,14 @@ typedef unsigned long long u64;
 
 /* In front of each function that a checker calls: its body goes to where it is called. */
 #define INLINED static inline __attribute__((always_inline))
+
+/*
+ * In front of a function that the function `checker` of the file calls and that is
+ * to stand in the program once: LOCAL(check) u64 sum_of(u64 n) { .. }. It takes up
+ * to five numbers and answers one; no pointer passes, in neither direction. At most
+ * three calls deep, and none within itself.
+ */
+#define LOCAL(checker) static __attribute__((noinline, section(".text." #checker)))
 
 /* Where a program starts, r1 points to this. It is read-only. */
 struct context {

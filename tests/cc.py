@@ -31,6 +31,7 @@ def stored():
     yield "examples/two_slots/checker.c", "check", TOP / "examples/two_slots/checker_c.bpf"
     for path in sorted((TOP / "examples/checkers").glob("*.c")):
         yield path, "check", path.with_suffix(".bpf")
+    yield TOP / "examples/refused/not_inlined.c", "not_inlined", TOP / "examples/refused/not_inlined.bpf"
     refused = TOP / "examples/refused/refused.c"
     for name in re.findall(r"^u64 (\w+)\(const struct context", refused.read_text(), re.M):
         yield refused, name, refused.with_name(f"{name}.bpf")
@@ -66,7 +67,7 @@ REFUSALS = [
     (SOURCE, "counts", f"cc: source.c:8 (slot 0) needs counter, {OUTSIDE} counts"),
     (SOURCE, "tabled", f"cc: source.c:7 (slot 2) needs .rodata.cst4, {OUTSIDE} tabled"),
     (SOURCE, "absent", f"cc: source.c:9 (slot 1) needs outside, {OUTSIDE} absent"),
-    (SOURCE, "first", "cc: the section mine of first holds more than this function"),
+    (SOURCE, "first", "cc: the section mine of first holds more than this function and what is LOCAL to it"),
     (SOURCE, "second", "cc: second isn't the first function of its section mine, and a program starts at the first"),
     (SOURCE, "nobody", "cc: source.c has no function nobody that is compiled by itself; there are: other calls tabled"),
     ("u64 check(", "check", "source.c:1:1: error: unknown type name 'u64'"),

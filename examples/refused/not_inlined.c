@@ -1,21 +1,13 @@
 /*
- * Two functions in one section. By hand the whole of .text is taken, which begins with the first
- * function of the file, so that is what runs:
+ * A local function gets numbers alone. Its parameter here is a pointer, of which nothing is known at its
+ * entry, so the first read of it is refused 50. It is cured by INLINED, or by a position in place of the
+ * pointer: u64 number_at(u64 position).
  *
- *     clang -O2 -target bpfel -mcpu=v2 -c not_inlined.c -o not_inlined.o
- *     llvm-objcopy -O binary --only-section=.text not_inlined.o not_inlined.bpf
- *
- * It is refused 23 for the call. examples/cc takes the function that it is told, and refuses the
- * call with its line.
+ *     examples/cc not_inlined.c not_inlined not_inlined.bpf
  */
 #include "../checker.h"
 
-u64 recovered(const struct context *context)
-{
-	return zero(0) == 1 ? 1 : 0;
-}
-
-static __attribute__((noinline)) u64 number_at(const u8 *bytes)
+LOCAL(not_inlined) u64 number_at(const u8 *bytes)
 {
 	return (u64)bytes[0] << 8 | bytes[1];
 }

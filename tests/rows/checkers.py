@@ -40,6 +40,7 @@ CHECKERS = {
     "tested_index": 21,
     "tree_path": 6762,
     "two_copies": 1365,
+    "two_tables": 7112,
     "type_counts": 147780,
     "volume_label": 408,
     "xor_sum": 1105,
@@ -69,13 +70,13 @@ REFUSED = {
     "mix_of_address": ("refused 56 at 6", 15),
 }
 
-# Refused, without a cured one beside it: a call that isn't inlined, and a helper of Linux.
-ALONE = {"not_inlined": "refused 23 at 15", "linux_helper": "refused 58 at 0"}
+# Refused, without a cured one beside it: a call of a function with a pointer, and a helper of Linux.
+ALONE = {"not_inlined": "refused 50 at 20", "linux_helper": "refused 58 at 0"}
 
 
 # Budgets by the rule
 
-LDDW, JA, EXIT, JEQ, JMP, JMP32 = 0x18, 0x05, 0x95, 0x15, 5, 6
+LDDW, JA, EXIT, JEQ, JMP, JMP32, CALL = 0x18, 0x05, 0x95, 0x15, 5, 6, 0x85
 AGAIN = struct.pack("<BBhi", 0x85, 0, 0, 3)
 
 
@@ -91,7 +92,7 @@ def edges(code, slot):
         return [], []
     if opcode == JA:
         return [slot + 1 + offset], []
-    if opcode & 7 not in (JMP, JMP32) or opcode == AGAIN[0]:
+    if opcode & 7 not in (JMP, JMP32) or opcode == CALL:
         return [slot + (2 if opcode == LDDW else 1)], []
     following, target = slot + 1, slot + 1 + offset
     if slot == 0 or slot_of(code, slot - 1) != AGAIN:
@@ -99,9 +100,15 @@ def edges(code, slot):
     return ([target], [following]) if opcode == JEQ else ([following], [target])
 
 
-def longest_path(code):
-    """The most slots on a path without again edges, from any slot that is reached from slot 0."""
-    reached, left = set(), [0]
+def weight(code, slot):
+    """1, and of a local call one more than the longest path of its entry."""
+    opcode, registers, _, distance = struct.unpack("<BBhi", slot_of(code, slot))
+    return 1 + longest_path(code, slot + 1 + distance) if (opcode, registers) == (CALL, 0x10) else 1
+
+
+def longest_path(code, entry=0):
+    """The greatest weight of a path without again edges, from any slot that is reached from the entry."""
+    reached, left = set(), [entry]
     while left:
         slot = left.pop()
         if slot not in reached:
@@ -112,7 +119,7 @@ def longest_path(code):
         slot, seen = left.pop()
         ways = edges(code, slot)[0]
         if seen:
-            longest[slot] = 1 + max((longest[it] for it in ways), default=0)
+            longest[slot] = weight(code, slot) + max((longest[it] for it in ways), default=0)
         elif slot not in longest:
             left += [(slot, True), *((it, False) for it in ways)]
     return max(longest.values())
@@ -200,6 +207,7 @@ WORDS = [0x9E3779B97F4A7C15 * it % 2**64 for it in range(1, 65)]
 XORED = 0
 for WORD in WORDS[:63]:
     XORED ^= WORD
+SUMS = sum(WORDS[:63]) % 2**64
 BITS = sum(bin(it).count("1") for it in WORDS)
 
 
@@ -273,6 +281,11 @@ DEVICES = {
         ({0: u64(*WORDS), 512: u64(1, *WORDS[1:])},),
         ({0: u64(*WORDS), 512: u64(*WORDS[:63])}, 2, "63"),
         ({0: u64(*WORDS), 512: u64(*WORDS[:1])}, 2, "1"),
+    ],
+    "two_tables": [
+        ({512: u64(*WORDS[:63], SUMS), 1024: u64(*WORDS[:63], SUMS)},),
+        ({512: u64(*WORDS[:63], SUMS - 1), 1024: u64(*WORDS[:63], SUMS)}, 2),
+        ({512: u64(*WORDS[:63], SUMS), 1024: u64(1, *WORDS[1:63], SUMS)}, 3),
     ],
     "xor_sum": [({0: u64(*WORDS[:63], XORED)},), ({0: u64(*WORDS[:63], XORED ^ 1)}, 2)],
     "crc_sector": [

@@ -612,6 +612,14 @@ ONE_WORD_MORE = Assembly(named("sum_words").replace("jge r6, 64", "jge r6, 65"))
 UNWRITTEN_BYTE = program("ldxdw r0, [r1+8]; jeq r0, 0, +1; stb [r10-1], 7; ldxb r0, [r10-1]; exit")
 NULL_POINTER = program("mov64 r1, 0; call 1; ldxb r0, [r0+0]; exit")
 JUMP_INTO_SECOND_HALF = program("ja +1; lddw r0, 0; exit")
+LOCAL_CALL = program("mov64 r1, 20; callf +1; exit; mov64 r0, r1; add64 r0, 1; exit")
+FOUR_FRAMES = program("callf +1; exit; " * 3 + "mov64 r0, 0; exit")
+FIVE_FRAMES = program("callf +1; exit; " * 4 + "mov64 r0, 0; exit")
+RECURSION = program("callf -1; exit")
+STACK_OF_CALLER = program("mov64 r1, r10; callf +1; exit; ldxb r0, [r1-1]; exit")
+REGISTERS_OF_CALL = program("mov64 r1, 5; callf +2; mov64 r0, r1; exit; mov64 r0, 0; exit")
+REGISTERS_OF_CALLER = program("mov64 r6, 5; callf +1; exit; mov64 r0, r6; exit")
+BYTES_OF_CALLER = program("stb [r10-1], 7; callf +1; exit; ldxb r0, [r10-1]; exit")
 
 VERIFIED = [
     verified("verify first_byte", named("first_byte"), "accepted budget 5"),
@@ -627,6 +635,15 @@ VERIFIED = [
     verified("null_pointer", NULL_POINTER, "refused 52 at 2"),
     verified("jump_into_second_half", JUMP_INTO_SECOND_HALF, "refused 40 at 0"),
     verified("exit_alone", EXIT_ALONE, "refused 50 at 0"),
+    verified("verify local_call", LOCAL_CALL, "accepted budget 6"),
+    verified("four frames", FOUR_FRAMES, "accepted budget 8"),
+    verified("a fifth frame", FIVE_FRAMES, "refused 44 at 6"),
+    verified("recursion", RECURSION, "refused 44 at 0"),
+    verified("the stack of a caller", STACK_OF_CALLER, "refused 50 at 3"),
+    verified("registers behind a call", REGISTERS_OF_CALL, "refused 50 at 2"),
+    verified("registers of a caller", REGISTERS_OF_CALLER, "refused 50 at 3"),
+    verified("bytes of a caller", BYTES_OF_CALLER, "refused 51 at 3"),
+    unexplored("recursion, explored", "--sectors 4", [], RECURSION, "refused 44 at 0 of program 0"),
     unexplored("unwritten_byte, explored", "--sectors 4", [], UNWRITTEN_BYTE, "refused 51 at 3 of program 0"),
     unexplored("null_pointer, explored", "--sectors 4", [], NULL_POINTER, "refused 52 at 2 of program 0"),
     unexplored(
@@ -671,6 +688,31 @@ VERIFIED = [
         report("""
             sectors 4 entries 0 cuts all bound 1 tears no first no
             program 0 slots 9 limit 29
+            images 1 failing 0 lines 0
+            """),
+        0,
+    ),
+    explore(
+        "local_call, verified",
+        "--sectors 4",
+        [],
+        LOCAL_CALL,
+        report("""
+            sectors 4 entries 0 cuts all bound 1 tears no first no
+            program 0 slots 6 budget 6
+            image 0 cut 0 program 0 answer 21 codes - choice -
+            images 1 failing 1 lines 1
+            """),
+        1,
+    ),
+    explore(
+        "four frames, verified",
+        "--sectors 4",
+        [],
+        FOUR_FRAMES,
+        report("""
+            sectors 4 entries 0 cuts all bound 1 tears no first no
+            program 0 slots 8 budget 8
             images 1 failing 0 lines 0
             """),
         0,

@@ -1,10 +1,10 @@
 //! Programs of docs/VERIFIER.md that go straight on, each with the instruction at which a rule is
-//! broken and its number there, and the edges of a null test.
+//! broken and its number there, the edges of a null test, and what a local call passes on.
 
 use bpf_isa::instr::{Condition, Instr, Operator, Size, Source, Width};
 use bpf_isa::register::Register;
 use intervals::Range;
-use ranges::{SectorOffsets, State, Value, after, branch, check};
+use ranges::{SectorOffsets, StackOffset, State, Value, after, branch, check, entry};
 use std::test::Fail;
 
 /// The register of this number.
@@ -297,4 +297,27 @@ fn joined(rt: HostRuntime) {
 /// The state behind `stdw [r10-8], 7`.
 fn store_byte() -> State {
     after(&store_number(10, -8), &State::start(), 4)
+}
+
+#[test]
+fn local_calls(rt: HostRuntime) {
+    // r1 stays the context, r6 is 7, and r2 is 3
+    let before = after(&put(2, 3), &after(&put(6, 7), &store_byte(), 4), 4);
+    let call = Instr::CallLocal { offset: 1 };
+    assert_eq!(rt; broken(&call, &before), 0);
+    let behind = after(&call, &before, 4);
+    assert_eq!(rt; behind.values[0], Value::Num(Range::full()));
+    assert_eq!(rt; behind.values[1], Value::Unset);
+    assert_eq!(rt; behind.values[2], Value::Unset);
+    assert_eq!(rt; behind.values[6], Value::Num(Range::constant(7)));
+    assert_eq!(rt; broken(&load(Size::Byte, 0, 10, -1), &behind), 0);
+    let entered = entry(&before);
+    assert_eq!(rt; entered.values[1], Value::Unset);
+    assert_eq!(rt; entered.values[2], Value::Num(Range::constant(3)));
+    assert_eq!(rt; entered.values[6], Value::Unset);
+    assert_eq!(rt;
+        entered.values[10],
+        Value::Stack(StackOffset { offset: 512 })
+    );
+    assert_eq!(rt; broken(&load(Size::Byte, 0, 10, -1), &entered), 51);
 }

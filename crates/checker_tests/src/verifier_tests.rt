@@ -99,7 +99,7 @@ fn answer(alloc: Global, program: &Program) -> Result<u64, (u8, u64)> {
 
 #[test]
 fn budgets(rt: HostRuntime) -> Result<(), Fail> {
-    let cases: [(&[Slot], u64); 5] = [
+    let cases: [(&[Slot], u64); 7] = [
         // the program of empty_log_good: mov64 r0, 0; exit
         (&[(0xb7, 0, 0, 0), EXIT], 2),
         // stxdw [r10-8], r1; ldxdw r2, [r10-8]; ldxdw r0, [r2+0]; exit
@@ -115,6 +115,32 @@ fn budgets(rt: HostRuntime) -> Result<(), Fail> {
         (&NESTED_LOOPS, 54),
         (&sum_words(64), 910),
         (&MASKED_INDEX, 40),
+        // local_call: mov64 r1, 20; callf +1; exit; mov64 r0, r1; add64 r0, 1; exit
+        (
+            &[
+                (0xb7, 1, 0, 20),
+                (0x85, 0x10, 0, 1),
+                EXIT,
+                (0xbf, 0x10, 0, 0),
+                (0x07, 0, 0, 1),
+                EXIT,
+            ],
+            6,
+        ),
+        // four frames: callf +1; exit; callf +1; exit; callf +1; exit; mov64 r0, 0; exit
+        (
+            &[
+                (0x85, 0x10, 0, 1),
+                EXIT,
+                (0x85, 0x10, 0, 1),
+                EXIT,
+                (0x85, 0x10, 0, 1),
+                EXIT,
+                (0xb7, 0, 0, 0),
+                EXIT,
+            ],
+            8,
+        ),
     ];
     for (number, (slots, budget)) in cases.iter().enumerate() {
         let program = program_of(rt.alloc(), slots)?;
@@ -129,7 +155,7 @@ fn budgets(rt: HostRuntime) -> Result<(), Fail> {
 
 #[test]
 fn refusals(rt: HostRuntime) -> Result<(), Fail> {
-    let cases: [(&[Slot], (u8, u64)); 12] = [
+    let cases: [(&[Slot], (u8, u64)); 14] = [
         // exit_alone: exit
         (&[EXIT], (50, 0)),
         // unwritten_byte: ldxdw r0, [r1+8]; jeq r0, 0, +1; stb [r10-1], 7; ldxb r0, [r10-1]; exit
@@ -182,6 +208,29 @@ fn refusals(rt: HostRuntime) -> Result<(), Fail> {
         ),
         // call -1; exit
         (&[(0x85, 0, 0, -1), EXIT], (58, 0)),
+        // the caller's stack: mov64 r1, r10; callf +1; exit; ldxb r0, [r1-1]; exit
+        (
+            &[
+                (0xbf, 0xa1, 0, 0),
+                (0x85, 0x10, 0, 1),
+                EXIT,
+                (0x71, 0x10, -1, 0),
+                EXIT,
+            ],
+            (50, 3),
+        ),
+        // the caller's registers: mov64 r1, 5; callf +2; mov64 r0, r1; exit; mov64 r0, 0; exit
+        (
+            &[
+                (0xb7, 1, 0, 5),
+                (0x85, 0x10, 0, 2),
+                (0xbf, 0x10, 0, 0),
+                EXIT,
+                (0xb7, 0, 0, 0),
+                EXIT,
+            ],
+            (50, 2),
+        ),
     ];
     for (number, (slots, refusal)) in cases.iter().enumerate() {
         let program = program_of(rt.alloc(), slots)?;
