@@ -88,7 +88,7 @@ fn row(alloc: Global) -> Result<Vec<u64>, AllocError> {
 }
 
 /// The program of slots.
-fn program(alloc: Global, slots: &[u64]) -> Result<Program, CodeFault> {
+pub(crate) fn program(alloc: Global, slots: &[u64]) -> Result<Program, CodeFault> {
     let bytes = spelled(alloc, slots)?;
     decode(alloc, bytes.as_slice())
 }
