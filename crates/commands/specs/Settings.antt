@@ -1,5 +1,5 @@
 -- The options of a run, and which are refused (docs/REPORT.md, Options).
-use Rattle.std.specs.Prelude.{ℕ, ◌≡◌, ◌==◌, ◌≤◌, true, ◌&&◌, nat_le, List, [], ◌∷◌, Option, None}
+use Rattle.std.specs.Prelude.{ℕ, ◌≡◌, ◌≤◌, true, ◌&&◌, nat_le, List, [], ◌∷◌, Option, None}
 use Rattle.std.specs.Option.{option_map, option_map_or}
 use Rattle.base.specs.Check.{Check, check, first_failing}
 use Rattle.base.specs.declared.causes.RequestCause.TheVariants as request
@@ -14,14 +14,13 @@ use Rattle.commands.specs.Places.{place_number}
 abbrev pub option_refusal : OptionPlace → Refusal
 option_refusal at = record { code = Request request.Option; at = place_number at; program = None }
 
--- the checks of the options, each with its place. What is not built yet is refused: more than one worker,
--- and a cache.
+-- the checks of the options, each with its place
 unfoldable pub option_checks : Settings → List (Check OptionPlace)
 option_checks s =
     check place.Sectors (nat_le 1 s.sectors && nat_le s.sectors 16384)
     ∷ check place.Bound (nat_le s.bound 3)
-    ∷ check place.Workers (s.workers == 1)
-    ∷ check place.Cache (nat_le s.cache 0)
+    ∷ check place.Workers (nat_le 1 s.workers && nat_le s.workers 64)
+    ∷ check place.Cache (nat_le s.cache 65536)
     ∷ check place.Checked (option_map_or (λ limit. nat_le limit 1000000000) s.checked true)
     ∷ []
 
@@ -34,4 +33,7 @@ pub record IsAsked (s : Settings) : Type 0 where
   pub some : 1 ≤ s.sectors
   pub device : s.sectors ≤ 16384
   pub bound : s.bound ≤ 3
+  pub some_worker : 1 ≤ s.workers
+  pub few_workers : s.workers ≤ 64
+  pub cache : s.cache ≤ 65536
   pub passed : first_failing (option_checks s) ≡ None

@@ -26,6 +26,8 @@ use interp::Checker;
 use logfmt::Log;
 use report::{Head, ProgramHead, write_report};
 use std::alloc::{AllocError, Global};
+use std::sync::Wait;
+use std::thread::Threads;
 use verifier::verify;
 use workers::{Gate, Input, OpenGate, Work, explore_all};
 
@@ -37,7 +39,7 @@ const MAX_PROGRAMS: usize = 8;
 pub struct Explored {
     /// The report, of the first failing image alone where that was asked for.
     pub bytes: Vec<u8>,
-    /// How many judgements were taken from a cache.
+    /// How many judgements were taken from the cache, at most 2^64 - 1.
     pub hits: u64,
     /// Whether there is a failing image.
     pub failing: bool,
@@ -223,7 +225,8 @@ fn reported(
 }
 
 /// Judges the crash images of a plan by checkers, and reports those that fail.
-fn judged<'x, G: Gate>(
+fn judged<'x, G: Gate + Sync, R: Threads + Wait + Sync>(
+    rt: &R,
     alloc: Global,
     gate: &G,
     log: &'x Log,
@@ -239,7 +242,6 @@ fn judged<'x, G: Gate>(
     requires few { images ≤ limit }
     ensures bytes { IfOk result (λ e. e.bytes.items ≡ report_of options.now log.now checkers.now) }
     ensures failing { IfOk result (λ e. IsTrue e.failing ↔ (failing_lines (subject_of options.now log.now checkers.now) ≢ [])) }
-    ensures hits { IfOk result (λ e. e.hits ≡ 0) }
     ensures refused { IfErr result (RefusesPlan options.now log.now) }
 {
     let history = match History::new(alloc, &*plan, &*log) {
@@ -252,10 +254,12 @@ fn judged<'x, G: Gate>(
         &*checkers,
         options.bound(),
         options.tears(),
+        options.workers(),
+        options.cache(),
         options.first(),
         images,
     );
-    let work = explore_all(alloc, gate, &input)?;
+    let work = explore_all(rt, alloc, gate, &input)?;
     match reported(alloc, log, checkers, options, images, &work) {
         Ok(bytes) => Ok(Explored {
             bytes,
@@ -268,13 +272,16 @@ fn judged<'x, G: Gate>(
 
 /// Explores the crash images of a log: judges each by the one to eight programs, and reports those that
 /// fail, or the first of them alone (docs/REPORT.md). Without a limit of steps each program has to be
-/// accepted by the verifier. `gate` is told of each block of images before and after it is judged.
+/// accepted by the verifier. `gate` is told of each block of images before and after it is judged. The
+/// number of workers and the size of the cache change nothing but `hits`. It waits until all workers are
+/// back.
 ///
 /// # Errors
 ///
 /// The first refusal in the order of docs/REPORT.md: the number of programs, the log, the number of its
 /// images, then each program; or want of memory.
-pub fn explore_with<G: Gate>(
+pub fn explore_with<G: Gate + Sync, R: Threads + Wait + Sync>(
+    rt: &R,
     alloc: Global,
     gate: &G,
     log: &[u8],
@@ -282,7 +289,6 @@ pub fn explore_with<G: Gate>(
     options: &Options,
 ) -> Result<Explored, Refusal>
     ensures report { IfOk result (λ e. IsReport log.now (map (λ f. f.items) programs.now) options.now e.bytes.items e.failing) }
-    ensures hits { IfOk result (λ e. e.hits ≡ 0) }
     ensures refused { IfErr result (Refuses log.now (map (λ f. f.items) programs.now) options.now) }
 {
     if !is_program_count(programs.len()) {
@@ -296,6 +302,7 @@ pub fn explore_with<G: Gate>(
         return Err(refusal);
     }
     judged(
+        rt,
         alloc,
         gate,
         &log,
@@ -307,7 +314,8 @@ pub fn explore_with<G: Gate>(
 }
 
 /// The bytes of `explore_with`, with a gate that does nothing.
-pub fn explore(
+pub fn explore<R: Threads + Wait + Sync>(
+    rt: &R,
     alloc: Global,
     log: &[u8],
     programs: &[Vec<u8>],
@@ -316,6 +324,6 @@ pub fn explore(
     ensures report { IfOk result (λ bytes. HasReport log.now (map (λ f. f.items) programs.now) options.now bytes.items) }
     ensures refused { IfErr result (Refuses log.now (map (λ f. f.items) programs.now) options.now) }
 {
-    let explored = explore_with(alloc, &OpenGate, log, programs, options)?;
+    let explored = explore_with(rt, alloc, &OpenGate, log, programs, options)?;
     Ok(explored.bytes)
 }

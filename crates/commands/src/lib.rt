@@ -41,7 +41,8 @@
 //! listing of the program that the bytes spell (`specs/Assembly.antt`). What `log` answers is the table of the
 //! log (`specs/Table.antt`). Which notes are said is no part of a contract; the parts are.
 //!
-//! A run has one program to eight. So far it has one worker and no cache; more is refused.
+//! A run has one program to eight, one worker to 64, and a cache of up to 65,536 outcomes. The bytes and
+//! the refusals are the same for every number of workers and every size of the cache.
 //!
 //! # Example
 //!
@@ -83,4 +84,4 @@ pub use options::Options;
 pub use refusals::fault_line;
 pub use settings::{OptionPlace, Settings};
 pub use words::Words;
-pub use workers::Gate;
+pub use workers::{Gate, OpenGate};

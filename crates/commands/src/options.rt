@@ -16,6 +16,12 @@ const MAX_SECTORS: u64 = 16_384;
 /// The most units that may depart.
 const MAX_BOUND: u64 = 3;
 
+/// The most workers.
+const MAX_WORKERS: u64 = 64;
+
+/// The most entries of the cache.
+const MAX_CACHE: u64 = 65_536;
+
 /// The greatest limit of steps.
 const MAX_STEPS: u64 = 1_000_000_000;
 
@@ -58,7 +64,7 @@ impl Options {
     ///
     /// # Errors
     ///
-    /// The first option that is out of its range, or not built yet, by its place.
+    /// The first option that is out of its range, by its place.
     #[tactic(auto, unfolding(crate::specs::Settings::option_checks))]
     pub fn new(settings: &Settings) -> Result<Options, Refusal>
         ensures made { IfOk result (λ o. o ≡ settings.now) }
@@ -70,10 +76,10 @@ impl Options {
         if settings.bound > MAX_BOUND {
             return Err(option_refusal_of(OptionPlace::Bound));
         }
-        if settings.workers != 1 {
+        if settings.workers < 1 || settings.workers > MAX_WORKERS {
             return Err(option_refusal_of(OptionPlace::Workers));
         }
-        if settings.cache > 0 {
+        if settings.cache > MAX_CACHE {
             return Err(option_refusal_of(OptionPlace::Cache));
         }
         if is_too_long(settings.checked) {
@@ -119,6 +125,20 @@ impl Options {
         ensures { result ≡ self.now.tears }
     {
         self.tears
+    }
+
+    /// How many workers judge, 1 to 64.
+    pub(crate) fn workers(&self) -> u8
+        ensures { (1 ≤ result) × (result ≤ 64) }
+    {
+        self.workers
+    }
+
+    /// How many entries the cache has at most, up to 65,536.
+    pub(crate) fn cache(&self) -> u32
+        ensures { result ≤ 65536 }
+    {
+        self.cache
     }
 
     /// Whether the report is to hold the first failing image alone.

@@ -195,8 +195,8 @@ fn with_run_options<'a>(alloc: Global, command: Command<'a>) -> Result<Command<'
         .action(ArgAction::SetTrue)
         .help("Report the first failing image alone");
     command
-        .arg(number_option(alloc, "workers", "1", "Threads; only 1 as yet"))?
-        .arg(number_option(alloc, "cache", "0", "Verdicts to keep; only 0 as yet"))?
+        .arg(number_option(alloc, "workers", "1", "Threads, 1 to 64"))?
+        .arg(number_option(alloc, "cache", "0", "Verdicts to keep, up to 65536"))?
         .arg(checked)?
         .arg(first)
 }

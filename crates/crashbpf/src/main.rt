@@ -22,6 +22,8 @@ use std::alloc::AllocError;
 use std::io::Write;
 use std::process::ExitCode;
 use std::rt::{Env, Files};
+use std::sync::Wait;
+use std::thread::Threads;
 use std::{env, fs, io};
 
 /// The status of a run that was refused or could not be written.
@@ -47,9 +49,12 @@ fn print_notes<R: Eprint>(rt: &R, notes: Result<String, AllocError>) {
 }
 
 /// Performs a command, and prints its answer or its refusal, with the notes on it.
-fn run<R: Files + AllocGlobal + Print + Eprint>(rt: &R, words: &Words) -> io::Result<u8> {
+fn run<R: Files + AllocGlobal + Print + Eprint + Threads + Wait + Sync>(
+    rt: &R,
+    words: &Words,
+) -> io::Result<u8> {
     let files = read_files(rt, words.files())?;
-    match act(rt.alloc(), words, files.as_slice()) {
+    match act(rt, rt.alloc(), words, files.as_slice()) {
         Ok((bytes, status)) => {
             io::writer(rt).write_all(bytes.as_slice())?;
             print_notes(rt, notes_beside(rt.alloc(), words, files.as_slice()));
@@ -70,7 +75,9 @@ fn run<R: Files + AllocGlobal + Print + Eprint>(rt: &R, words: &Words) -> io::Re
 }
 
 /// Reads the command line, and performs what it asks for.
-fn start<R: Env + Files + AllocGlobal + Print + Eprint>(rt: &R) -> io::Result<u8> {
+fn start<R: Env + Files + AllocGlobal + Print + Eprint + Threads + Wait + Sync>(
+    rt: &R,
+) -> io::Result<u8> {
     let mut words: Vec<String> = env::args(rt)?.collect(rt.alloc())?;
     if !words.is_empty() {
         words.remove(0);

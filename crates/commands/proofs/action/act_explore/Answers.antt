@@ -4,10 +4,10 @@ use Rattle.commands.proofs.Runs.{one_err}
 use Rattle.commands.proofs.action.act_explore.Goals as goal
 
 pub returns-in_err-options-clause-refused : goal.returns-in_err-options-clause-refused
-returns-in_err-options-clause-refused c =
+returns-in_err-options-clause-refused g c =
     let p = err_from_is_err_and c.from_residual.result c.from_residual.ensures.1 in
     rw (p.1, p.2) (for_words c.in_err-options.field-0.0 c.in_err-options.ensures)
 
 pub returns-clause-refused : goal.returns-clause-refused
-returns-clause-refused c =
+returns-clause-refused g c =
     one_err c.explore_readable.result _ _ c.explore_readable.ensures.refused (λ r refused. for_settings c.in_ok-options.options r c.in_ok-options.ensures refused)

@@ -5,19 +5,19 @@ use Rattle.commands.proofs.Runs.{both_ok, one_err}
 use Rattle.commands.proofs.action.explore_readable.Goals as goal
 
 pub returns-in_default-clause-refused : goal.returns-in_default-clause-refused
-returns-in_default-clause-refused c = no_file (λ f. f.items) c.args.files.now _ _ c.in_default.ensures.cases c.unreadable.ensures
+returns-in_default-clause-refused g c = no_file (λ f. f.items) c.args.files.now _ _ c.in_default.ensures.cases c.unreadable.ensures
 
 pub returns-in_default-first-clause-refused : goal.returns-in_default-first-clause-refused
-returns-in_default-first-clause-refused c =
+returns-in_default-first-clause-refused g c =
     no_log (λ f. f.items) c.args.files.now c.in-Some.first.now c.in-Some.others.now _ _ c.in-Some.ensures.cases.0 c.in_default-first.is c.unreadable-in_default-first.ensures
 
 pub returns-in-Some-first_unreadable-clause-refused : goal.returns-in-Some-first_unreadable-clause-refused
-returns-in-Some-first_unreadable-clause-refused c =
+returns-in-Some-first_unreadable-clause-refused g c =
     no_program (λ f. f.items) c.args.files.now c.in-Some.first.now c.in-Some.others.now c.in-Some-first.log c.in-Some-first_unreadable.place _ _
     c.in-Some.ensures.cases.0 c.in-Some-first.is (sym c.in-Some-first_unreadable.ensures) c.unreadable-in-Some-first_unreadable.ensures
 
 pub returns-in-Ok-clause-answers : goal.returns-in-Ok-clause-answers
-returns-in-Ok-clause-answers c =
+returns-in-Ok-clause-answers g c =
     let readable : position is_none c.in-Some.others.now ≡ None = sym c.first_unreadable.ensures ∙ c.in_default-first_unreadable.is in
     both_ok c.explore_files.result _ _ _ c.explore_files.ensures.answers c.explore_files.ensures.answers
     (λ answer run same. record {
@@ -29,7 +29,7 @@ returns-in-Ok-clause-answers c =
     })
 
 pub returns-in-Ok-clause-refused : goal.returns-in-Ok-clause-refused
-returns-in-Ok-clause-refused c =
+returns-in-Ok-clause-refused g c =
     let readable : position is_none c.in-Some.others.now ≡ None = sym c.first_unreadable.ensures ∙ c.in_default-first_unreadable.is in
     one_err c.explore_files.result _ _ c.explore_files.ensures.refused
     (λ r refused.
@@ -39,6 +39,6 @@ returns-in-Ok-clause-refused c =
     refused)
 
 pub returns-in-Err-clause-refused : goal.returns-in-Err-clause-refused
-returns-in-Err-clause-refused c =
+returns-in-Err-clause-refused g c =
     let readable : position is_none c.in-Some.others.now ≡ None = sym c.first_unreadable.ensures ∙ c.in_default-first_unreadable.is in
     memory_wanting (λ f. f.items) c.args.files.now c.in-Some.first.now c.in-Some.others.now c.in-Some-first.log _ _ c.in-Some.ensures.cases.0 c.in-Some-first.is readable c.of_memory.ensures
