@@ -152,8 +152,8 @@ IMAGES = [
 OPTIONS = [
     noted("sectors", "images log --sectors 0", {}, "refused 13 at 1", "--sectors is 1 to 16384"),
     noted("bound", "images log --sectors 4 --bound 4", {}, "refused 13 at 2", "--bound is 0 to 3"),
-    noted("workers", "explore log p0 --sectors 4 --workers 2", {}, "refused 13 at 3", "--workers is 1 as yet"),
-    noted("cache", "explore log p0 --sectors 4 --cache 1", {}, "refused 13 at 4", "--cache is 0 as yet"),
+    noted("workers", "explore log p0 --sectors 4 --workers 65", {}, "refused 13 at 3", "--workers is 1 to 64"),
+    noted("cache", "explore log p0 --sectors 4 --cache 65537", {}, "refused 13 at 4", "--cache is 0 to 65536"),
     noted("checked", "explore log p0 --sectors 4 --checked 1000000001", {}, "refused 13 at 5", "--checked is 0 to 1000000000"),
     noted(
         "too many programs",

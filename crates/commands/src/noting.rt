@@ -226,8 +226,8 @@ fn option_rule(place: u64) -> &'static str {
     match place {
         1 => "--sectors is 1 to 16384",
         2 => "--bound is 0 to 3",
-        3 => "--workers is 1 as yet",
-        4 => "--cache is 0 as yet",
+        3 => "--workers is 1 to 64",
+        4 => "--cache is 0 to 65536",
         5 => "--checked is 0 to 1000000000",
         6 => "a run has 1 to 8 programs",
         7 => "--cuts is all, flush or mark",
