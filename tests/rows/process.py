@@ -84,10 +84,13 @@ WRITTEN = [
 ]
 
 
+UNWRITABLE = "crashbpf: standard output can't be written"
+
+
 def unwritten(what, words, content):
     """The same run with each kind of standard output that takes nothing."""
     return [
-        Row(f"standard output {to}: {what}", words, content, status=2, error=None, to=to)
+        Row(f"standard output {to}: {what}", words, content, status=2, error=UNWRITABLE, to=to)
         for to in ["closed", "full", "unread"]
     ]
 
@@ -110,7 +113,7 @@ UNWRITTEN = [
 FIRST_BYTES = Long(lambda: LONG_REPORT.make()[:LIMITED])
 
 PARTLY_WRITTEN = [
-    Row("a long report on a disk that fills up", LONG_WORDS, LONG_FILES, FIRST_BYTES, 2, None, "limited"),
+    Row("a long report on a disk that fills up", LONG_WORDS, LONG_FILES, FIRST_BYTES, 2, UNWRITABLE, "limited"),
     Row("a short report on a disk that has room", "", {}, STORED_RUN, 0, "", "limited"),
 ]
 

@@ -1,4 +1,5 @@
 pub mod Acts
+pub mod Appending
 pub mod Findings
 pub mod OneReport
 pub mod Plans

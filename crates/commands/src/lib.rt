@@ -22,6 +22,7 @@
 //! - `words`, `action`: the words of the command line, and what a command answers.
 //! - `laws`: that there is one report at most, and no refusal beside it but for memory.
 //! - `refusals`: the refusals of files and options, and `fault_line`, the line of a refusal.
+//! - `writing`: `emit`, which writes all of an answer.
 //! - `noting`, `unreached`: the notes behind a refusal and beside an answer, of the parts that `notes` has.
 //!
 //! # What is proved
@@ -72,6 +73,7 @@ mod source;
 mod unreached;
 mod verify_command;
 mod words;
+mod writing;
 
 pub use action::act;
 pub use epochs::Cuts;
@@ -84,4 +86,5 @@ pub use options::Options;
 pub use refusals::fault_line;
 pub use settings::{OptionPlace, Settings};
 pub use words::Words;
+pub use writing::emit;
 pub use workers::{Gate, OpenGate};

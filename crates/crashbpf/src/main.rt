@@ -17,9 +17,9 @@
 //! it can be, and its behaviour is shown by runs of the built program.
 #![tactic(auto)]
 
-use commands::{Words, act, fault_line, notes_behind, notes_beside};
+use commands::{Words, act, emit, fault_line, notes_behind, notes_beside};
 use std::alloc::AllocError;
-use std::io::Write;
+use std::io::ErrorKind;
 use std::process::ExitCode;
 use std::rt::{Env, Files};
 use std::sync::Wait;
@@ -28,6 +28,24 @@ use std::{env, fs, io};
 
 /// The status of a run that was refused or could not be written.
 const REFUSED: u8 = 2;
+
+/// The line of a standard output that takes no more.
+const UNWRITTEN: &str = "crashbpf: standard output can't be written\n";
+
+/// The line of what stops the program outside a command.
+fn line_of(kind: ErrorKind) -> &'static str {
+    match kind {
+        ErrorKind::OutOfMemory => "error: out of memory\n",
+        ErrorKind::InvalidData => "error: the command line is not UTF-8\n",
+        _ => UNWRITTEN,
+    }
+}
+
+/// Prints a line on standard error, if it takes it, and answers the status.
+fn stopped<R: Eprint>(rt: &R, line: &str) -> u8 {
+    rt.eprint(line).ok();
+    REFUSED
+}
 
 /// What the files hold, none for one that cannot be read.
 fn read_files<R: Files + AllocGlobal>(
@@ -56,7 +74,9 @@ fn run<R: Files + AllocGlobal + Print + Eprint + Threads + Wait + Sync>(
     let files = read_files(rt, words.files())?;
     match act(rt, rt.alloc(), words, files.as_slice()) {
         Ok((bytes, status)) => {
-            io::writer(rt).write_all(bytes.as_slice())?;
+            if emit(&mut io::writer(rt), bytes.as_slice()).is_err() {
+                return Ok(stopped(rt, UNWRITTEN));
+            }
             print_notes(rt, notes_beside(rt.alloc(), words, files.as_slice()));
             Ok(status)
         }
@@ -94,6 +114,6 @@ fn start<R: Env + Files + AllocGlobal + Print + Eprint + Threads + Wait + Sync>(
 fn main(rt: HostRuntime) -> ExitCode {
     match start(&rt) {
         Ok(status) => ExitCode::from(status),
-        Err(_error) => ExitCode::from(REFUSED),
+        Err(error) => ExitCode::from(stopped(&rt, line_of(error.kind()))),
     }
 }
