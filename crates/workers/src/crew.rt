@@ -48,13 +48,13 @@ fn jobs_of(alloc: Global, seats: Vec<Seat>) -> Result<Vec<Job>, AllocError>
 
 impl Job {
     /// Takes blocks until there is none left.
-    fn done<J: Run, G: Gate, R: Wait>(
+    fn done<'a, J: Run, G: Gate, R: Wait>(
         self,
         rt: &R,
         alloc: Global,
         gate: &G,
-        input: &Input<'_>,
-        shards: &[Mutex<Shard<J>>],
+        input: &Input<'a>,
+        shards: &[Mutex<Shard<'a, J>>],
         board: &Board,
     ) -> Done
         requires run { IsRunOf J.plan J.checkers input.now }
@@ -70,12 +70,12 @@ impl Job {
 }
 
 /// What the workers come back with. Each job has a thread, the last one that of the caller.
-fn all_done<J: Run + Send + Sync, G: Gate + Sync, R: Threads + Wait + Sync>(
+fn all_done<'a, J: Run + Send + Sync, G: Gate + Sync, R: Threads + Wait + Sync>(
     rt: &R,
     alloc: Global,
     gate: &G,
-    input: &Input<'_>,
-    shards: &[Mutex<Shard<J>>],
+    input: &Input<'a>,
+    shards: &[Mutex<Shard<'a, J>>],
     board: &Board,
     jobs: Vec<Job>,
 ) -> Result<Vec<Done>, AllocError>
@@ -128,12 +128,12 @@ fn parted(alloc: Global, done: Vec<Done>) -> Result<(Vec<Seat>, Vec<Piece>), All
 /// # Errors
 ///
 /// Memory was refused, here or to a worker.
-pub(crate) fn crew_back<J: Run + Send + Sync, G: Gate + Sync, R: Threads + Wait + Sync>(
+pub(crate) fn crew_back<'a, J: Run + Send + Sync, G: Gate + Sync, R: Threads + Wait + Sync>(
     rt: &R,
     alloc: Global,
     gate: &G,
-    input: &Input<'_>,
-    shards: &[Mutex<Shard<J>>],
+    input: &Input<'a>,
+    shards: &[Mutex<Shard<'a, J>>],
 ) -> Result<Back, AllocError>
     requires run { IsRunOf J.plan J.checkers input.now }
     requires shards { length shards.now ≡ 16 }

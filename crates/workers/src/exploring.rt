@@ -33,12 +33,12 @@ pub struct Work {
 }
 
 /// The pieces of all blocks.
-fn all_pieces<J: Run + Send + Sync, G: Gate + Sync, R: Threads + Wait + Sync>(
+fn all_pieces<'a, J: Run + Send + Sync, G: Gate + Sync, R: Threads + Wait + Sync>(
     rt: &R,
     alloc: Global,
     gate: &G,
-    input: &Input<'_>,
-    shards: &[Mutex<Shard<J>>],
+    input: &Input<'a>,
+    shards: &[Mutex<Shard<'a, J>>],
 ) -> Result<Vec<Piece>, Refusal>
     requires run { IsRunOf J.plan J.checkers input.now }
     requires shards { length shards.now ≡ 16 }
@@ -61,7 +61,7 @@ fn all_pieces<J: Run + Send + Sync, G: Gate + Sync, R: Threads + Wait + Sync>(
 }
 
 /// How many looks have found an entry, in all shards.
-fn hits_of<J: Run, R: Wait>(rt: &R, shards: &[Mutex<Shard<J>>]) -> u64 {
+fn hits_of<J: Run, R: Wait>(rt: &R, shards: &[Mutex<Shard<'_, J>>]) -> u64 {
     let mut hits = 0u64;
     for shard in shards {
         hits = hits.saturating_add(shard.lock(rt).hits());

@@ -101,7 +101,7 @@ impl<'a> Input<'a> {
     }
 
     /// The history of its plan.
-    pub(crate) fn history(&self) -> &History<'a>
+    pub(crate) fn history(&self) -> &'a History<'a>
         ensures { result.now ≡ self.now.plan }
     {
         self.history

@@ -3,6 +3,7 @@
 ghost use Rattle.std.specs.Prelude.{◌≡◌, ◌<◌, ◌≤◌, ◌-◌, ◌++◌, length, IfOk, OnOk, Some, slice_get};
 ghost use Rattle.interp.specs.Ending.{ending_of};
 ghost use Rattle.images.specs.Views.{view_of};
+ghost use Rattle.images.specs.Keys.{key_of};
 ghost use Rattle.lines.specs.Line.{fails};
 ghost use Rattle.verdict_cache.specs.Endings.{ending_on};
 ghost use Rattle.workers.specs.Failing.{Subject, choices_of, image_count, ending_at, line_if, image_lines, lines_from, part};
@@ -13,7 +14,7 @@ use crate::block_lines::BlockLines;
 use crate::input::Input;
 use crate::piece::{BLOCK, Piece};
 use choices::{Choice, next, nth};
-use images::View;
+use images::{Changes, Key, View};
 use interp::{Checker, Outcome};
 use lines::Line;
 use std::alloc::{AllocError, Global};
@@ -75,34 +76,34 @@ fn judge_checker(
     )
 }
 
-/// What a checker ends in on an image: what the cache has for it, or else what it ends in when it is
-/// run, which is then put into the cache. An image without a key is judged without the cache.
-fn outcome_of<J: Run, R: Wait>(
+/// What the checker of a key ends in on the key's image: what the cache has for it, or else what it ends
+/// in when it is run, which is then put into the cache, if there is memory for that.
+fn outcome_of<'a, J: Run, R: Wait>(
     rt: &R,
     alloc: Global,
-    shards: &[Mutex<Shard<J>>],
+    shards: &[Mutex<Shard<'a, J>>],
     choice: &Choice,
-    view: &View<'_>,
-    number: u8,
+    view: &View<'a>,
+    key: &Key<'a>,
     checker: &Checker<'_>,
-) -> Result<Outcome, AllocError>
+) -> Outcome
     requires shards { length shards.now ≡ 16 }
     requires image { view.now ≡ view_of J.plan choice.now }
-    requires checker { slice_get J.checkers number ≡ Some checker.now }
-    ensures { IfOk result (λ outcome. ending_of outcome ≡ ending_on J.plan choice.now checker.now) }
+    requires key { key_of view.now key.now.program ≡ Some key.now }
+    requires checker { slice_get J.checkers key.now.program ≡ Some checker.now }
+    ensures { ending_of result ≡ ending_on J.plan choice.now checker.now }
 {
-    let Some(key) = view.key(alloc, number)? else {
-        return Ok(checker.judge(&view.context(), view));
-    };
     let shard = &shards[usize::from(key.shard())];
-    let known = shard.lock(rt).look(&key);
+    let known = shard.lock(rt).look(key);
     if let Some(outcome) = known {
-        return Ok(outcome);
+        return outcome;
     }
     let outcome = checker.judge(&view.context(), view);
     one_image_tells();
-    let _kept = shard.lock(rt).put(key, copy_of(&outcome));
-    Ok(outcome)
+    if let Ok(own) = key.copy(alloc) {
+        let _kept = shard.lock(rt).put(own, copy_of(&outcome));
+    }
+    outcome
 }
 
 impl<'a> Input<'a> {
@@ -124,28 +125,58 @@ impl<'a> Input<'a> {
         Ok(())
     }
 
-    /// Appends the lines of an image, with the help of the cache.
-    fn judge_by_cache<J: Run, R: Wait>(
+    /// Appends the lines of an image that has this key for its first checker, with the help of the cache.
+    fn judge_by_key<J: Run, R: Wait>(
         &self,
         rt: &R,
         alloc: Global,
-        shards: &[Mutex<Shard<J>>],
+        shards: &[Mutex<Shard<'a, J>>],
         lines: &mut BlockLines,
         image: u64,
         choice: &Choice,
-        view: &View<'_>,
+        view: &View<'a>,
+        mut key: Key<'a>,
     ) -> Result<(), AllocError>
         requires run { IsRunOf J.plan J.checkers self.now }
         requires shards { length shards.now ≡ 16 }
         requires choice { slice_get (choices_of self.now) image ≡ Some choice.now }
         requires view { view.now ≡ view_of self.now.plan choice.now }
+        requires key { key_of view.now 0 ≡ Some key }
         ensures { OnOk result (lines.new ≡ lines.old ++ image_lines self.now image) }
     {
         for (number, checker) in self.checkers.iter().enumerate() {
-            let outcome = outcome_of(rt, alloc, shards, choice, view, number as u8, checker)?;
+            key.set_program(number as u8);
+            let outcome = outcome_of(rt, alloc, shards, choice, view, &key, checker);
             push_failing(lines, image, choice, number as u8, outcome)?;
         }
         Ok(())
+    }
+
+    /// Appends the lines of an image, with the help of the cache. Its key is made once, for all checkers;
+    /// an image without a key is judged without the cache.
+    fn judge_by_cache<J: Run, R: Wait>(
+        &self,
+        rt: &R,
+        alloc: Global,
+        shards: &[Mutex<Shard<'a, J>>],
+        changes: &mut Changes<'a>,
+        lines: &mut BlockLines,
+        image: u64,
+        choice: &Choice,
+        view: &View<'a>,
+    ) -> Result<(), AllocError>
+        requires run { IsRunOf J.plan J.checkers self.now }
+        requires shards { length shards.now ≡ 16 }
+        requires changes { changes.old ≡ self.now.plan.log }
+        requires choice { slice_get (choices_of self.now) image ≡ Some choice.now }
+        requires view { view.now ≡ view_of self.now.plan choice.now }
+        ensures lines { OnOk result (lines.new ≡ lines.old ++ image_lines self.now image) }
+        ensures changes { changes.new ≡ changes.old }
+    {
+        match changes.key(alloc, view)? {
+            Some(key) => { self.judge_by_key(rt, alloc, shards, lines, image, choice, view, key) }
+            None => self.judge_by_runs(lines, image, choice, view),
+        }
     }
 
     /// Appends the lines of an image. Without a cache no key is made.
@@ -153,21 +184,24 @@ impl<'a> Input<'a> {
         &self,
         rt: &R,
         alloc: Global,
-        shards: &[Mutex<Shard<J>>],
+        shards: &[Mutex<Shard<'a, J>>],
+        changes: &mut Changes<'a>,
         lines: &mut BlockLines,
         image: u64,
         choice: &Choice,
     ) -> Result<(), AllocError>
         requires run { IsRunOf J.plan J.checkers self.now }
         requires shards { length shards.now ≡ 16 }
+        requires changes { changes.old ≡ self.now.plan.log }
         requires choice { slice_get (choices_of self.now) image ≡ Some choice.now }
-        ensures { OnOk result (lines.new ≡ lines.old ++ image_lines self.now image) }
+        ensures lines { OnOk result (lines.new ≡ lines.old ++ image_lines self.now image) }
+        ensures changes { changes.new ≡ changes.old }
     {
         let view = self.history.view(alloc, choice)?;
         if self.cache() == 0 {
             self.judge_by_runs(lines, image, choice, &view)
         } else {
-            self.judge_by_cache(rt, alloc, shards, lines, image, choice, &view)
+            self.judge_by_cache(rt, alloc, shards, changes, lines, image, choice, &view)
         }
     }
 
@@ -176,24 +210,51 @@ impl<'a> Input<'a> {
         &self,
         rt: &R,
         alloc: Global,
-        shards: &[Mutex<Shard<J>>],
+        shards: &[Mutex<Shard<'a, J>>],
+        changes: &mut Changes<'a>,
         lines: &mut BlockLines,
         first: u64,
         end: u64,
     ) -> Result<(), AllocError>
         requires run { IsRunOf J.plan J.checkers self.now }
         requires shards { length shards.now ≡ 16 }
+        requires changes { changes.old ≡ self.now.plan.log }
         requires some { first < end }
         requires end { end ≤ image_count self.now }
-        ensures { OnOk result (lines.new ≡ lines.old ++ lines_from self.now first (end - first)) }
+        ensures lines { OnOk result (lines.new ≡ lines.old ++ lines_from self.now first (end - first)) }
+        ensures changes { changes.new ≡ changes.old }
     {
         let mut choice = nth(self.plan, self.bound, self.tears, first);
         for image in first..end {
-            self.judge_image(rt, alloc, shards, lines, image, &choice)?;
+            self.judge_image(rt, alloc, shards, changes, lines, image, &choice)?;
             let _moved = next(self.plan, self.bound, self.tears, &mut choice);
         }
         Ok(())
     }
+}
+
+/// Judges the images of a block, with what is known of the changes of the log's images so far.
+#[tactic(auto, unfolding(crate::specs::Failing::part))]
+pub(crate) fn judge_taken<'a, J: Run, R: Wait>(
+    rt: &R,
+    alloc: Global,
+    input: &Input<'a>,
+    shards: &[Mutex<Shard<'a, J>>],
+    changes: &mut Changes<'a>,
+    block: u32,
+) -> Result<Piece, AllocError>
+    requires run { IsRunOf J.plan J.checkers input.now }
+    requires shards { length shards.now ≡ 16 }
+    requires changes { changes.old ≡ input.now.plan.log }
+    requires block { block < block_count input.now }
+    ensures piece { IfOk result (λ piece. piece ≡ piece_of input.now block) }
+    ensures changes { changes.new ≡ changes.old }
+{
+    let first = BLOCK * u64::from(block);
+    let end = input.image_count().min(first + BLOCK);
+    let mut lines = BlockLines::new(alloc);
+    input.judge_row(rt, alloc, shards, changes, &mut lines, first, end)?;
+    Ok(Piece::of(block, lines))
 }
 
 /// Judges the images of a block: 64 in a row from `64 * block` on, or those that are left. The sixteen
@@ -201,12 +262,11 @@ impl<'a> Input<'a> {
 ///
 /// Without a cache it takes memory for the lines alone, since an image borrows its sectors from the
 /// log; with one, for keys as well.
-#[tactic(auto, unfolding(crate::specs::Failing::part))]
-pub fn judge_block<J: Run, R: Wait>(
+pub fn judge_block<'a, J: Run, R: Wait>(
     rt: &R,
     alloc: Global,
-    input: &Input<'_>,
-    shards: &[Mutex<Shard<J>>],
+    input: &Input<'a>,
+    shards: &[Mutex<Shard<'a, J>>],
     block: u32,
 ) -> Result<Piece, AllocError>
     requires run { IsRunOf J.plan J.checkers input.now }
@@ -214,9 +274,6 @@ pub fn judge_block<J: Run, R: Wait>(
     requires block { block < block_count input.now }
     ensures { IfOk result (λ piece. piece ≡ piece_of input.now block) }
 {
-    let first = BLOCK * u64::from(block);
-    let end = input.image_count().min(first + BLOCK);
-    let mut lines = BlockLines::new(alloc);
-    input.judge_row(rt, alloc, shards, &mut lines, first, end)?;
-    Ok(Piece::of(block, lines))
+    let mut changes = Changes::new(alloc, input.history());
+    judge_taken(rt, alloc, input, shards, &mut changes, block)
 }

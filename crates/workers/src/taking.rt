@@ -11,8 +11,9 @@ ghost use Rattle.workers.specs.Taking.{KeepsPosts, HandsOver, AddsPiece};
 
 use crate::gate::Gate;
 use crate::input::Input;
-use crate::judging::judge_block;
+use crate::judging::judge_taken;
 use crate::piece::Piece;
+use images::Changes;
 use shares::{Board, Seat};
 use std::alloc::{AllocError, Global};
 use std::sync::{Mutex, Wait};
@@ -53,11 +54,12 @@ fn first_failing(input: &Input<'_>, piece: &Piece) -> Option<u64>
 
 /// The piece of a block that a worker took. It is passed over where it can be; else it is judged, and
 /// its first failing image is posted.
-fn piece_taken<J: Run, R: Wait>(
+fn piece_taken<'a, J: Run, R: Wait>(
     rt: &R,
     alloc: Global,
-    input: &Input<'_>,
-    shards: &[Mutex<Shard<J>>],
+    input: &Input<'a>,
+    shards: &[Mutex<Shard<'a, J>>],
+    changes: &mut Changes<'a>,
     board: &Board,
     seat: &mut Seat,
     block: u32,
@@ -65,7 +67,9 @@ fn piece_taken<J: Run, R: Wait>(
     requires run { IsRunOf J.plan J.checkers input.now }
     requires shards { length shards.now ≡ 16 }
     requires board { seat.old.board ≡ board.now.name }
+    requires changes { changes.old ≡ input.now.plan.log }
     requires block { block < block_count input.now }
+    ensures changes { changes.new ≡ changes.old }
     ensures board { seat.new.board ≡ seat.old.board }
     ensures taken { taken seat.new ≡ taken seat.old }
     ensures seen { next_seen seat.old.steps ≤ next_seen seat.new.steps }
@@ -74,7 +78,7 @@ fn piece_taken<J: Run, R: Wait>(
     if let Some(image) = image_before(input, board, seat, block) {
         return Ok(Piece::passed(block, image));
     }
-    let piece = judge_block(rt, alloc, input, shards, block)?;
+    let piece = judge_taken(rt, alloc, input, shards, changes, block)?;
     if let Some(image) = first_failing(input, &piece) {
         board.post(seat, image);
     }
@@ -83,12 +87,12 @@ fn piece_taken<J: Run, R: Wait>(
 
 /// The pieces of the blocks that a worker takes, until there is none left. The gate is told before and
 /// after each.
-pub(crate) fn pieces_taken<J: Run, G: Gate, R: Wait>(
+pub(crate) fn pieces_taken<'a, J: Run, G: Gate, R: Wait>(
     rt: &R,
     alloc: Global,
     gate: &G,
-    input: &Input<'_>,
-    shards: &[Mutex<Shard<J>>],
+    input: &Input<'a>,
+    shards: &[Mutex<Shard<'a, J>>],
     board: &Board,
     worker: u8,
     seat: &mut Seat,
@@ -101,10 +105,11 @@ pub(crate) fn pieces_taken<J: Run, G: Gate, R: Wait>(
     ensures pieces { IfOk result (λ pieces. HandsOver input.now (taken seat.new) seat.new.steps pieces.items) }
     ensures ended { IfOk result (λ _. HasEnded seat.new) }
 {
+    let mut changes = Changes::new(alloc, input.history());
     let mut pieces = Vec::new(alloc);
     while let Some(block) = board.draw(seat) {
         gate.before(worker, block);
-        let piece = piece_taken(rt, alloc, input, shards, board, seat, block)?;
+        let piece = piece_taken(rt, alloc, input, shards, &mut changes, board, seat, block)?;
         gate.after(worker, block);
         pieces.push(piece)?;
     }

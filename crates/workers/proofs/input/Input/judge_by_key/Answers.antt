@@ -2,18 +2,22 @@ use Rattle.std.proofs.Common.{◌≡◌, ◌∙◌, ◌++◌, refl, sym, ap, ari
 use Rattle.std.proofs.lemmas.Option.{slice_get_read}
 use Rattle.lines.specs.Line.{FailingLine}
 use Rattle.workers.proofs.JudgedLines.{same_ending, checker_found, lines_of_image}
-use Rattle.workers.proofs.input.Input.judge_by_cache.Goals as goal
+use Rattle.workers.proofs.input.Input.judge_by_key.Goals as goal
 
 pub returns : goal.returns
 returns g c =
     let last : c.loop-number.number ≡ length c.args.self.now.checkers = rw (← c.self.view_is) (omega (arith, c.loop-number-test.false, c.loop-number.auto.number-end)) in
-    c.loop-number.invariant ∙ ap (λ (ls : List FailingLine). c.args.lines.now ++ ls) (lines_of_image c.args.self.now c.args.image c.loop-number.number last)
+    c.loop-number.invariant.0 ∙ ap (λ (ls : List FailingLine). c.args.lines.now ++ ls) (lines_of_image c.args.self.now c.args.image c.loop-number.number last)
 
 pub loop-number-preserved : goal.loop-number-preserved
 loop-number-preserved g c =
     let checkers = c.self.inside.checkers.now in
     let there : slice_get checkers c.loop-number.number ≡ Some c.checker-item.result =
     slice_get_read checkers (length checkers) c.loop-number.number c.checker-item.result refl c.loop-number-test.true c.checker-item.is in
-    checker_found c.args.self.now c.args.image c.loop-number.number c.args.choice.now c.checker-item.result _ c.args.lines.now c.loop-number.lines _ c.requires.choice (rw (← c.self.view_is) there)
-    (c.in_ok-outcome.ensures ∙ same_ending c.args.self.now _ c.args.choice.now c.checker-item.result c.requires.run.plan_is)
-    c.loop-number.invariant c.in_ok-push_failing.ensures
+    let (lines, program, told) = c.loop-number.invariant in (
+      checker_found c.args.self.now c.args.image c.loop-number.number c.args.choice.now c.checker-item.result _ c.args.lines.now c.loop-number.lines _ c.requires.choice (rw (← c.self.view_is) there)
+          (c.outcome_of-outcome.ensures ∙ same_ending c.args.self.now _ c.args.choice.now c.checker-item.result c.requires.run.plan_is)
+          lines c.in_ok-push_failing.ensures,
+      _,
+      c.set_program.ensures.told c.args.view.now program told,
+    )

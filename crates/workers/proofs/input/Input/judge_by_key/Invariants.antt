@@ -1,0 +1,10 @@
+use Rattle.std.proofs.Common.{◌≡◌, ◌++◌, ℕ, Some}
+use Rattle.images.specs.Keys.{key_of}
+use Rattle.std.specs.List.{filter_map, range_with_len}
+use Rattle.workers.specs.Failing.{line_of}
+use Rattle.workers.proofs.input.Input.judge_by_key.Given as goal
+
+abbrev pub invariant-loop-number : goal.invariant-loop-number
+invariant-loop-number g l =
+    (l.lines ≡ l.initial.lines ++ filter_map (line_of l.self l.image) (range_with_len 0 l.number))
+    × (p : ℕ) × (key_of l.view p ≡ Some l.key)
