@@ -47,9 +47,9 @@
 //! # Memory
 //!
 //! An entry's key borrows the sectors of the log, so the shards of a run live no longer than its
-//! history. An entry takes some 250 bytes, and 32 for each changed sector; where a torn unit shows in a
+//! history. An entry takes some 300 bytes, and 32 for each changed sector; where a torn unit shows in a
 //! sector, 512 more. So 65,536 entries of at most 16 changed sectors, none torn, stay below 64 MiB. At
-//! worst each key has 64 changed sectors, three of them torn: some 270 MiB.
+//! worst each key has 64 changed sectors, three of them torn: some 250 MiB.
 //!
 //! Keys are hashed by the mixes of their sectors, and the mix is linear. A log can be made so that all
 //! keys of a shard are hashed alike; then a look compares one entry after the other. It makes a shard
