@@ -104,6 +104,7 @@ impl Frames {
     }
 
     /// Writes bytes from a place of the stack of an open frame on.
+    #[inline(never)]
     pub(crate) fn write(&mut self, number: usize, place: usize, bytes: &[u8])
         requires number { number < length self.old }
         requires few { number < 3 }

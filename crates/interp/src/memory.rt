@@ -226,6 +226,7 @@ impl<const COUNTS: usize> Machine<COUNTS> {
     }
 
     /// Stores bytes in a stack.
+    #[inline(always)]
     pub(crate) fn store(&mut self, spot: Spot, bytes: &[u8])
         requires frame { spot.frame < length self.old.frames }
         requires few { spot.frame < 4 }
