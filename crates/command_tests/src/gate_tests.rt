@@ -1,10 +1,19 @@
-//! What the gate of a run is told, and runs without programs.
+//! What the gate of a run is told, by one worker and by two, how often its cache is hit, and runs without
+//! programs.
+
+ghost use Rattle.std.specs.Prelude.{◌≤◌};
 
 use base::refusal::Refusal;
-use commands::{Cuts, Explored, Gate, Options, Settings, explore, explore_with, fault_line};
+use commands::{
+    Cuts, Explored, Gate, OpenGate, Options, Settings, explore, explore_with, fault_line,
+};
 use std::alloc::Global;
-use std::cell::Cell;
+use std::process::Abort;
+use std::sync::Wait;
+use std::sync::atomic::{AtomicU64, Ordering};
 use std::test::Fail;
+use std::thread;
+use std::thread::Threads;
 
 /// `mov64 r0, 1; exit`.
 const ANSWER_1: [u8; 16] = [0xb7, 0, 0, 0, 1, 0, 0, 0, 0x95, 0, 0, 0, 0, 0, 0, 0];
@@ -46,17 +55,80 @@ fn flushes(alloc: Global, count: u8) -> Result<Vec<u8>, Fail> {
     Ok(log)
 }
 
+/// `mov64 r1, 0; call 1; jne r0, 0, +2; mov64 r0, 0; exit; ldxb r0, [r0+0]; exit`.
+const FIRST_BYTE: [u8; 56] = [
+    0xb7, 1, 0, 0, 0, 0, 0, 0, 0x85, 0, 0, 0, 1, 0, 0, 0, 0x55, 0, 2, 0, 0, 0, 0, 0, 0xb7, 0, 0, 0,
+    0, 0, 0, 0, 0x95, 0, 0, 0, 0, 0, 0, 0, 0x71, 0, 0, 0, 0, 0, 0, 0, 0x95, 0, 0, 0, 0, 0, 0, 0,
+];
+
+/// The same of byte 64.
+const BYTE_64: [u8; 56] = [
+    0xb7, 1, 0, 0, 0, 0, 0, 0, 0x85, 0, 0, 0, 1, 0, 0, 0, 0x55, 0, 2, 0, 0, 0, 0, 0, 0xb7, 0, 0, 0,
+    0, 0, 0, 0, 0x95, 0, 0, 0, 0, 0, 0, 0, 0x71, 0, 64, 0, 0, 0, 0, 0, 0x95, 0, 0, 0, 0, 0, 0, 0,
+];
+
+/// Appends an entry that writes sector 0, every byte of it that byte.
+fn put_write(log: &mut Vec<u8>, flags: u8, byte: u8) -> Result<(), Fail> {
+    put_sector(
+        log,
+        &[0, 0, 0, 0, 0, 0, 0, 0, 1, 0, 0, 0, 0, 0, 0, 0, flags],
+    )?;
+    log.extend_from_slice(&[byte; 512])?;
+    Ok(())
+}
+
+/// The log of these writes to sector 0, each with its flags and its byte.
+fn writes(alloc: Global, items: &[(u8, u8)]) -> Result<Vec<u8>, Fail> {
+    let mut log = Vec::new(alloc);
+    let head = [
+        0x72,
+        0x68,
+        0x73,
+        0x77,
+        0x66,
+        0x73,
+        0x6a,
+        0,
+        1,
+        0,
+        0,
+        0,
+        0,
+        0,
+        0,
+        0,
+        items.len().min(255) as u8,
+        0,
+        0,
+        0,
+        0,
+        0,
+        0,
+        0,
+        0,
+        2,
+        0,
+        0,
+    ];
+    put_sector(&mut log, &head)?;
+    for (flags, byte) in items {
+        put_write(&mut log, *flags, *byte)?;
+    }
+    Ok(log)
+}
+
 /// Keeps the calls that it is told of, as digits: 1 before block 0, 2 after it, 3 and 4 for block 1.
 #[derive(Drop)]
 struct Keeping {
-    calls: Cell<u64>,
+    calls: AtomicU64,
 }
 
 impl Keeping {
     fn keep(&self, worker: u8, call: u64) {
         let told = if worker == 0 { call } else { 9 };
-        self.calls
-            .set(self.calls.get().wrapping_mul(10).wrapping_add(told));
+        let before = self.calls.load(Ordering::SeqCst);
+        let after = before.wrapping_mul(10).wrapping_add(told);
+        self.calls.store(after, Ordering::SeqCst);
     }
 }
 
@@ -77,9 +149,10 @@ fn tells_the_gate_of_each_block(rt: HostRuntime) -> Result<(), Fail> {
     let mut programs = Vec::new(alloc);
     programs.push(ANSWER_1.to_vec(alloc)?)?;
     let gate = Keeping {
-        calls: Cell::new(0),
+        calls: AtomicU64::new(0),
     };
     let explored: Explored = explore_with(
+        &rt,
         alloc,
         &gate,
         &flushes(alloc, 64)?,
@@ -88,7 +161,7 @@ fn tells_the_gate_of_each_block(rt: HostRuntime) -> Result<(), Fail> {
     )
     .ok()
     .ok_or("a report")?;
-    assert_eq!(rt; gate.calls.get(), 1234);
+    assert_eq!(rt; gate.calls.load(Ordering::SeqCst), 1234);
     assert!(rt; explored.failing);
     assert_eq!(rt; explored.hits, 0);
     Ok(())
@@ -99,12 +172,151 @@ fn refuses_a_run_without_programs(rt: HostRuntime) -> Result<(), Fail> {
     let alloc = rt.alloc();
     let options = Options::new(&SETTINGS).ok().ok_or("options")?;
     let programs = Vec::new(alloc);
-    let refusal: Refusal = explore(alloc, &flushes(alloc, 0)?, programs.as_slice(), &options)
-        .err()
-        .ok_or("a refusal")?;
+    let refusal: Refusal = explore(
+        &rt,
+        alloc,
+        &flushes(alloc, 0)?,
+        programs.as_slice(),
+        &options,
+    )
+    .err()
+    .ok_or("a refusal")?;
     assert_eq!(rt;
         fault_line(alloc, &refusal)?.as_slice(),
         "refused 13 at 6\n".as_bytes()
     );
+    Ok(())
+}
+
+/// Holds block 0 before it is judged, until block 1 has ended, or for a million turns.
+#[derive(Drop)]
+struct Holding {
+    /// The block that ended first, plus one.
+    first: AtomicU64,
+    ended: AtomicU64,
+}
+
+impl Gate for Holding {
+    fn before(&self, _worker: u8, block: u32) {
+        if block != 0 {
+            return;
+        }
+        for _turn in 0..1_000_000u32 {
+            if self.ended.load(Ordering::SeqCst) > 0 {
+                break;
+            }
+            thread::yield_now();
+        }
+    }
+
+    fn after(&self, _worker: u8, block: u32) {
+        if self.ended.fetch_add(1, Ordering::SeqCst) == 0 {
+            self.first
+                .store(u64::from(block).wrapping_add(1), Ordering::SeqCst);
+        }
+    }
+}
+
+/// Explores a log of two blocks by two workers, of whom one is held, and answers the report.
+fn held<R: Threads + Wait + Sync + Abort>(
+    rt: &R,
+    alloc: Global,
+    log: &[u8],
+    settings: &Settings,
+) -> Result<Vec<u8>, Fail> {
+    let options = Options::new(settings).ok().ok_or("options")?;
+    let mut programs = Vec::new(alloc);
+    programs.push(ANSWER_1.to_vec(alloc)?)?;
+    let gate = Holding {
+        first: AtomicU64::new(0),
+        ended: AtomicU64::new(0),
+    };
+    let explored = explore_with(rt, alloc, &gate, log, programs.as_slice(), &options)
+        .ok()
+        .ok_or("a report")?;
+    assert_eq!(rt; gate.ended.load(Ordering::SeqCst), 2);
+    assert_eq!(rt; gate.first.load(Ordering::SeqCst), 2, "block 1 ended first");
+    Ok(explored.bytes)
+}
+
+/// What two workers are asked.
+fn by_two(cache: u64, first: bool) -> Settings {
+    Settings {
+        sectors: 1,
+        cuts: Cuts::All,
+        bound: 0,
+        tears: false,
+        workers: 2,
+        cache,
+        checked: Some(2),
+        first,
+    }
+}
+
+#[test]
+fn block_1_ends_while_block_0_is_held(rt: HostRuntime) -> Result<(), Fail> {
+    let alloc = rt.alloc();
+    let log = flushes(alloc, 64)?;
+    let options = Options::new(&Settings {
+        tears: false,
+        ..SETTINGS
+    })
+    .ok()
+    .ok_or("options")?;
+    let mut programs = Vec::new(alloc);
+    programs.push(ANSWER_1.to_vec(alloc)?)?;
+    let alone = explore(&rt, alloc, &log, programs.as_slice(), &options)
+        .ok()
+        .ok_or("a report")?;
+    let bytes = held(&rt, alloc, &log, &by_two(0, false))?;
+    assert!(rt; bytes.as_slice() == alone.as_slice());
+    let bytes = held(&rt, alloc, &log, &by_two(16, true))?;
+    assert!(rt; !bytes.is_empty());
+    Ok(())
+}
+
+/// How often the cache is hit by one worker, on a log of writes to sector 0 with one departure.
+fn hits_of<R: Threads + Wait + Sync>(
+    rt: &R,
+    alloc: Global,
+    items: &[(u8, u8)],
+    both: bool,
+    cache: u64,
+) -> Result<u64, Fail> {
+    let options = Options::new(&Settings {
+        sectors: 4,
+        cuts: Cuts::All,
+        bound: 1,
+        tears: false,
+        workers: 1,
+        cache,
+        checked: Some(7),
+        first: false,
+    })
+    .ok()
+    .ok_or("options")?;
+    let mut programs = Vec::new(alloc);
+    programs.push(FIRST_BYTE.to_vec(alloc)?)?;
+    if both {
+        programs.push(BYTE_64.to_vec(alloc)?)?;
+    }
+    let log = writes(alloc, items)?;
+    let explored = explore_with(rt, alloc, &OpenGate, &log, programs.as_slice(), &options)
+        .ok()
+        .ok_or("a report")?;
+    Ok(explored.hits)
+}
+
+#[test]
+fn equal_images_hit_the_cache(rt: HostRuntime) -> Result<(), Fail> {
+    let alloc = rt.alloc();
+    let forced_write = [(0, 0x11), (2, 0xbb)];
+    assert_eq!(rt; hits_of(&rt, alloc, &forced_write, false, 65_536)?, 2);
+    assert_eq!(rt; hits_of(&rt, alloc, &forced_write, false, 0)?, 0);
+    let zeros = [(0, 0)];
+    assert_eq!(rt; hits_of(&rt, alloc, &zeros, false, 65_536)?, 2);
+    // The images of flush_with_data are of two epochs.
+    let flush_with_data = [(1, 0x33)];
+    assert_eq!(rt; hits_of(&rt, alloc, &flush_with_data, true, 65_536)?, 0);
     Ok(())
 }
