@@ -4,7 +4,7 @@ ghost use Rattle.std.specs.Prelude.{◌≡◌, ◌<◌, ◌≤◌, length};
 ghost use Rattle.choices.specs.Choices.{ranked};
 
 use crate::log_text::{FLUSH, text_without_data};
-use choices::{Choice, Departure, Eighths, Fate, TooMany, count, count_at, next, nth};
+use choices::{Choice, Departure, Eighths, Fate, Starts, TooMany, count, count_at, next, nth};
 use epochs::{Cuts, Plan, Unit};
 use logfmt::read;
 use std::process::Abort;
@@ -137,6 +137,49 @@ fn next_walks_all_choices(rt: HostRuntime) -> Result<(), Fail> {
         if total > 0 {
             walk(&rt, &plan, 2, true, total);
         }
+    }
+    Ok(())
+}
+
+/// Looks at the choice of a number by a table: its cut, and how many departures it has.
+fn check_start(
+    rt: &impl Abort,
+    starts: &Starts<'_>,
+    total: u64,
+    number: u64,
+    cut: u32,
+    departures: usize,
+)
+    requires { total ≡ length (ranked starts.now.plan starts.now.bound starts.now.tears) }
+{
+    assert!(rt; number < total, "at {number}");
+    if number < total {
+        let choice = starts.nth(number);
+        assert_eq!(rt; choice.cut(), cut, "at {number}");
+        assert_eq!(rt; choice.departures().len(), departures, "at {number}");
+    }
+}
+
+#[test]
+fn table_finds_the_cut(rt: HostRuntime) -> Result<(), Fail> {
+    // cuts 0 to 3 have 1, 9, 1 and 9 choices
+    let text = text_without_data(rt.alloc(), &[(0, 1, 0), (0, 0, FLUSH), (0, 1, 0)])?;
+    let log = read(rt.alloc(), &text, 4)?;
+    let plan = Plan::new(rt.alloc(), &log, Cuts::All)?;
+    let Ok(total) = count(&plan, 1, true) else {
+        return Err("too many choices".into());
+    };
+    let starts = Starts::new(rt.alloc(), &plan, 1, true)?;
+    for (number, cut, departures) in [
+        (0, 0, 0),
+        (1, 1, 0),
+        (2, 1, 1),
+        (9, 1, 1),
+        (10, 2, 0),
+        (11, 3, 0),
+        (19, 3, 1),
+    ] {
+        check_start(&rt, &starts, total, number, cut, departures);
     }
     Ok(())
 }

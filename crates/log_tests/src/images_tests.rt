@@ -1,13 +1,14 @@
 //! The examples of docs/CRASH-MODEL.md: the bytes and the contexts of images of small logs.
 
-ghost use Rattle.std.specs.Prelude.{◌≡◌, ◌≤◌};
+ghost use Rattle.std.specs.Prelude.{◌≡◌, ◌≤◌, true, length};
+ghost use Rattle.choices.specs.Choices.{ranked};
 
 use crate::log_text::{DISCARD, FLUSH, FUA, Item, MARK, text_of};
 use choices::{Choice, Departure, Fate, count, nth};
 use epochs::{Cuts, Plan};
 use helpers::{Context, Device};
 use images::{
-    History, Key, View, epoch_has_base, equal_keys_are_same, fates_show, keys_tell,
+    Changes, History, Key, View, epoch_has_base, equal_keys_are_same, fates_show, keys_tell,
     last_writer_shows,
 };
 use logfmt::{Entry, read};
@@ -359,13 +360,13 @@ fn contexts_count_what_was_passed(rt: HostRuntime) -> Result<(), Fail> {
 }
 
 /// The key of an image, without torn writes, and of a program.
-fn key_of(
+fn key_of<'a>(
     alloc: Global,
-    plan: &Plan,
-    history: &History,
+    plan: &Plan<'_>,
+    history: &'a History<'_>,
     number: u64,
     program: u8,
-) -> Result<Option<Key>, Fail>
+) -> Result<Option<Key<'a>>, Fail>
     requires history { history.now ≡ plan.now }
 {
     if count(plan, 1, false).is_ok_and(|counted| number < counted) {
@@ -382,13 +383,13 @@ type Told = (u64, u8, usize);
 /// Two of them, and whether their keys are equal.
 type Pair = (Told, Told, bool);
 
-fn told_key(
+fn told_key<'a>(
     alloc: Global,
-    plan: &Plan,
-    history: &History,
+    plan: &Plan<'_>,
+    history: &'a History<'_>,
     told: Told,
     rt: &impl Abort,
-) -> Result<Key, Fail>
+) -> Result<Key<'a>, Fail>
     requires history { history.now ≡ plan.now }
 {
     let (number, program, changed) = told;
@@ -495,9 +496,9 @@ fn check_many(rt: &impl Abort, alloc: Global, written: u64) -> Result<Option<usi
     let mut number: u32 = 0;
     let mut wanted: u8 = 0xaa;
     for sector in key.changed() {
-        assert_eq!(rt; sector.number, number);
+        assert_eq!(rt; sector.number(), number);
         assert!(rt;
-            sector.content.iter().all(|byte| *byte == wanted),
+            sector.content().iter().all(|byte| *byte == wanted),
             "sector {number}"
         );
         number = number.wrapping_add(1);
@@ -524,8 +525,8 @@ fn last_sector_of_a_large_device_changes(rt: HostRuntime) -> Result<(), Fail> {
     };
     assert_eq!(rt; key.changed().len(), 1);
     for sector in key.changed() {
-        assert_eq!(rt; sector.number, 16383);
-        assert!(rt; sector.content.iter().all(|byte| *byte == 0x11));
+        assert_eq!(rt; sector.number(), 16383);
+        assert!(rt; sector.content().iter().all(|byte| *byte == 0x11));
     }
     Ok(())
 }
@@ -548,5 +549,80 @@ fn shards_sum_mixes(rt: HostRuntime) -> Result<(), Fail> {
     for (at, program, shard) in [(504, 0, 4), (496, 0, 6), (440, 0, 6), (504, 13, 1)] {
         assert_eq!(rt; shard_of(rt.alloc(), at, program)?, Some(shard));
     }
+    Ok(())
+}
+
+/// Whether the key of an image that `changes` makes is that which its view makes alone, and a copy of it
+/// for another program too.
+fn check_kept_key<'a>(
+    rt: &impl Abort,
+    alloc: Global,
+    changes: &mut Changes<'a>,
+    view: &View<'a>,
+    number: u64,
+) -> Result<(), Fail>
+    requires { view.now.log ≡ changes.old }
+    ensures { changes.new ≡ changes.old }
+{
+    let own = view.key(alloc, 0)?;
+    let kept = changes.key(alloc, view)?;
+    assert!(rt; own == kept, "image {number}");
+    let Some(key) = kept else {
+        return Ok(());
+    };
+    let mut copy = key.copy(alloc)?;
+    assert!(rt; copy == key, "image {number}");
+    copy.set_program(3);
+    assert!(rt; Some(copy) == view.key(alloc, 3)?, "image {number}");
+    Ok(())
+}
+
+/// Compares the keys of so many images, in their order and back.
+fn compare_keys(
+    rt: &impl Abort,
+    alloc: Global,
+    plan: &Plan<'_>,
+    history: &History<'_>,
+    total: u64,
+) -> Result<(), Fail>
+    requires history { history.now ≡ plan.now }
+    requires total { total ≡ length (ranked plan.now 2 true) }
+{
+    let mut changes = Changes::new(alloc, history);
+    for number in 0..total {
+        let view = history.view(alloc, &nth(plan, 2, true, number))?;
+        check_kept_key(rt, alloc, &mut changes, &view, number)?;
+        let back = history.view(alloc, &nth(plan, 2, true, total - 1 - number))?;
+        check_kept_key(rt, alloc, &mut changes, &back, number)?;
+    }
+    Ok(())
+}
+
+/// Compares the keys of all images of a log, with torn writes, in their order and back.
+fn check_kept_keys(rt: &impl Abort, alloc: Global, items: &[Item]) -> Result<u64, Fail> {
+    let text = text_of(alloc, items)?;
+    let log = read(alloc, &text, SECTORS)?;
+    let plan = Plan::new(alloc, &log, Cuts::All)?;
+    let history = History::new(alloc, &plan, &log)?;
+    let Ok(total) = count(&plan, 2, true) else {
+        return Err("too many images".into());
+    };
+    compare_keys(rt, alloc, &plan, &history, total)?;
+    Ok(total)
+}
+
+#[test]
+fn kept_changes_make_the_same_keys(rt: HostRuntime) -> Result<(), Fail> {
+    // sector 0 goes back to zeros, two sectors at once, and a flush with data of its own
+    let items = [
+        (0, 1, 0, 0x11),
+        (0, 1, 0, 0),
+        (1, 2, FLUSH, 0x22),
+        (0, 2, 0, 0x11),
+        (0, 0, MARK, 0),
+        (3, 1, FUA, 0x33),
+    ];
+    // the cuts have 0, 1, 2, 2, 4, 4 and 4 volatile units: 1 + 9 + 81 + 81 + 3 * 417 images
+    assert_eq!(rt; check_kept_keys(&rt, rt.alloc(), &items)?, 1_423);
     Ok(())
 }

@@ -40,13 +40,13 @@ fn one_write(alloc: Global) -> Result<Log, Fail> {
 }
 
 /// The key of a work, and what its checker ends in.
-fn judged(
+fn judged<'a>(
     alloc: Global,
     plan: &Plan<'_>,
-    history: &History<'_>,
+    history: &'a History<'_>,
     checkers: &[Checker<'_>],
     work: Work,
-) -> Result<(Key, Outcome), Fail>
+) -> Result<(Key<'a>, Outcome), Fail>
     requires history { history.now ≡ plan.now }
     ensures { IfOk result (λ own. IsEndingOf plan.now checkers.now own.0 (ending_of own.1)) }
 {
@@ -97,7 +97,7 @@ fn check_calls<J: Run, R: Abort>(
     requires checkers { checkers.now ≡ J.checkers }
     requires size { size ≡ J.size }
 {
-    let mut shard: Shard<J> = Shard::new(alloc, size, 0)?;
+    let mut shard: Shard<'_, J> = Shard::new(alloc, size, 0)?;
     for call in calls {
         match *call {
             Call::Put(work, kept) => {
@@ -114,12 +114,12 @@ fn check_calls<J: Run, R: Abort>(
 }
 
 /// How many of two entries a shard takes.
-fn room_of<J: Run>(
+fn room_of<'a, J: Run>(
     alloc: Global,
     plan: &Plan<'_>,
-    history: &History<'_>,
+    history: &'a History<'_>,
     checkers: &[Checker<'_>],
-    mut shard: Shard<J>,
+    mut shard: Shard<'a, J>,
 ) -> Result<u8, Fail>
     requires plan { plan.now ≡ J.plan }
     requires history { history.now ≡ J.plan }
@@ -140,11 +140,11 @@ fn room_of<J: Run>(
 fn can_be_shared<T: Sync>(_shards: &[T]) {}
 
 /// Of the shards of a cache of that size the first ones have room for one entry more.
-fn check_rooms<J: Run + Send + Sync, R: Abort>(
+fn check_rooms<'a, J: Run + Send + Sync, R: Abort>(
     rt: &R,
     alloc: Global,
     plan: &Plan<'_>,
-    history: &History<'_>,
+    history: &'a History<'_>,
     checkers: &[Checker<'_>],
     size: u32,
     rooms: (usize, u8, u8),
@@ -155,7 +155,7 @@ fn check_rooms<J: Run + Send + Sync, R: Abort>(
     requires size { (size ≡ J.size) × (size ≤ 65536) }
 {
     let (first, room_of_first, room_of_others) = rooms;
-    let shards: Vec<Mutex<Shard<J>>> = shards(alloc, history, checkers, size)?;
+    let shards: Vec<Mutex<Shard<'a, J>>> = shards(alloc, history, checkers, size)?;
     can_be_shared(shards.as_slice());
     assert_eq!(rt; shards.len(), 16);
     let mut number = 0usize;
