@@ -303,8 +303,8 @@ fn put_survey_notes(
         return Ok(());
     };
     match read_log(alloc, bytes, options.sectors()) {
-        Ok(log) => put_large(out, &log, options.bound()),
-        Err(_refusal) => Ok(()),
+        Ok(log) if options.bound() > 0 => put_large(out, &log, options.bound()),
+        _ => Ok(()),
     }
 }
 

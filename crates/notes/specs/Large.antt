@@ -11,7 +11,7 @@ unfoldable pub bound_text : ℕ → List ℕ
 bound_text bound = codes "note: entries with more than " ++ decimal bound
 
 unfoldable pub number_text : ℕ → List ℕ
-number_text n = codes " sectors: " ++ decimal n ++ codes "; no image loses one of them as a whole\n"
+number_text n = codes " sectors: " ++ decimal n ++ codes "; none is ever dropped as a whole\n"
 
 abbrev pub count_text : ℕ → ℕ → List ℕ
 count_text bound n = bound_text bound ++ number_text n

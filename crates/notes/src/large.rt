@@ -50,10 +50,7 @@ fn put_bound(out: &mut String, bound: u8) -> Result<(), AllocError>
 fn put_number(out: &mut String, count: usize) -> Result<(), AllocError>
     ensures { OnOk result (string_bytes out.new ≡ string_bytes out.old ++ number_text count) }
 {
-    write!(
-        out,
-        " sectors: {count}; no image loses one of them as a whole\n"
-    )
+    write!(out, " sectors: {count}; none is ever dropped as a whole\n")
 }
 
 /// Appends a note with a count of large entries.

@@ -1,5 +1,4 @@
-use Rattle.std.proofs.Common.{refl, arith}
-use Rattle.std.proofs.lemmas.Option.{slice_get_read}
+use Rattle.std.proofs.Common.{arith}
 use Rattle.notes.proofs.Devices.{fits, next, whole}
 use Rattle.notes.proofs.device.least_device.Goals as goal
 

@@ -1,4 +1,4 @@
-use Rattle.std.proofs.Common.{ℕ, ◌≡◌, ◌++◌, List, length, ◌∙◌, ap, sym, arith, string_bytes}
+use Rattle.std.proofs.Common.{ℕ, ◌≡◌, ◌++◌, List, length, ◌∙◌, ap, sym, arith}
 use Rattle.std.specs.List.{flat_map, range_with_len}
 use Rattle.bpf_isa.specs.Slots.{at}
 use Rattle.notes.specs.Listing.{numbered_slot}
