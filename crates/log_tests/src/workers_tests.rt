@@ -1,6 +1,8 @@
-//! Pieces of a run of two blocks, in any order, full ones and passed ones.
+//! Pieces of a run of two blocks, in any order, full ones and passed ones; and whole runs by some workers
+//! with a cache.
 
-ghost use Rattle.std.specs.Prelude.{◌≡◌, ◌<◌, All, IfOk};
+ghost use Rattle.std.specs.Prelude.{◌≡◌, ◌<◌, ◌≤◌, All, IfOk, length};
+ghost use Rattle.workers.specs.Input.{IsRunOf};
 ghost use Rattle.workers.specs.Pieces.{block_count};
 
 use crate::log_text::{FLUSH, text_of};
@@ -12,7 +14,11 @@ use images::History;
 use interp::Checker;
 use logfmt::{Log, read};
 use std::alloc::{AllocError, Global};
+use std::marker::Brand;
+use std::sync::{Mutex, Wait};
 use std::test::Fail;
+use std::thread::Threads;
+use verdict_cache::{Run, Shard, shards};
 use workers::{Input, OpenGate, Piece, collect, explore_all, judge_block};
 
 /// Answers 1.
@@ -30,34 +36,42 @@ fn flushes(alloc: Global) -> Result<Log, Fail> {
 }
 
 /// The full piece of a block, or one that was passed over after that image.
-fn piece(
+fn piece<J: Run, R: Wait>(
+    rt: &R,
     alloc: Global,
     input: &Input<'_>,
+    shards: &[Mutex<Shard<J>>],
     block: u32,
     passed: Option<u64>,
 ) -> Result<Piece, AllocError>
-    requires { block < block_count input.now }
+    requires run { IsRunOf J.plan J.checkers input.now }
+    requires shards { length shards.now ≡ 16 }
+    requires block { block < block_count input.now }
     ensures { IfOk result (λ piece. piece.block ≡ block) }
 {
     match passed {
         Some(image) => Ok(Piece::passed(block, image)),
-        None => judge_block(alloc, input, block),
+        None => judge_block(rt, alloc, input, shards, block),
     }
 }
 
 /// The pieces of these blocks, in this order.
-fn pieces_of(
+fn pieces_of<J: Run, R: Wait>(
+    rt: &R,
     alloc: Global,
     input: &Input<'_>,
+    shards: &[Mutex<Shard<J>>],
     blocks: &[(u32, Option<u64>)],
 ) -> Result<Vec<Piece>, AllocError>
+    requires run { IsRunOf J.plan J.checkers input.now }
+    requires shards { length shards.now ≡ 16 }
     ensures { IfOk result (λ pieces. All (λ piece. piece.block < block_count input.now) pieces.items) }
 {
     let mut pieces: Vec<Piece> = Vec::new(alloc);
     for wanted in blocks {
         let (block, passed) = *wanted;
         if block < input.block_count() {
-            pieces.push(piece(alloc, input, block, passed)?)?;
+            pieces.push(piece(rt, alloc, input, shards, block, passed)?)?;
         }
     }
     Ok(pieces)
@@ -65,7 +79,31 @@ fn pieces_of(
 
 /// What the pieces of these blocks are collected to: the number of a refusal and its place, or 0 and
 /// whether there is a line.
-fn collected(
+fn collected_by<J: Run, R: Wait>(
+    rt: &R,
+    alloc: Global,
+    input: &Input<'_>,
+    history: &History<'_>,
+    checkers: &[Checker<'_>],
+    cache: u32,
+    blocks: &[(u32, Option<u64>)],
+) -> Result<(u8, u64), Fail>
+    requires run { IsRunOf J.plan J.checkers input.now }
+    requires history { history.now ≡ J.plan }
+    requires checkers { checkers.now ≡ J.checkers }
+    requires cache { (cache ≡ J.size) × (cache ≤ 65536) }
+{
+    let shards: Vec<Mutex<Shard<J>>> = shards(alloc, history, checkers, cache)?;
+    let pieces = pieces_of(rt, alloc, input, shards.as_slice(), blocks)?;
+    match collect(alloc, pieces, input.block_count()) {
+        Ok(lines) => Ok((0, if lines.is_empty() { 0 } else { 1 })),
+        Err(refusal) => Ok((numbered(&refusal), refusal.at)),
+    }
+}
+
+/// The same of a run of one program, with a cache of 16 entries.
+fn collected<R: Wait>(
+    rt: &R,
     alloc: Global,
     program: &[u8],
     blocks: &[(u32, Option<u64>)],
@@ -74,15 +112,10 @@ fn collected(
     let plan = Plan::new(alloc, &log, Cuts::All)?;
     let history = History::new(alloc, &plan, &log)?;
     let program = decode(alloc, program).ok().ok_or("a program")?;
-    let mut checkers = Vec::new(alloc);
-    checkers.push(Checker::limited(&program, 3))?;
+    let checkers = [Checker::limited(&program, 3)];
     let images = count(&plan, 0, false).ok().ok_or("few images")?;
-    let input = Input::new(&plan, &history, checkers.as_slice(), 0, false, true, images);
-    let pieces = pieces_of(alloc, &input, blocks)?;
-    match collect(alloc, pieces, input.block_count()) {
-        Ok(lines) => Ok((0, if lines.is_empty() { 0 } else { 1 })),
-        Err(refusal) => Ok((numbered(&refusal), refusal.at)),
-    }
+    let input = Input::new(&plan, &history, &checkers, 0, false, 2, 16, true, images);
+    collected_by::<Brand, R>(rt, alloc, &input, &history, &checkers, 16, blocks)
 }
 
 fn numbered(refusal: &Refusal) -> u8 {
@@ -109,7 +142,7 @@ fn collects_pieces_in_any_order(rt: HostRuntime) -> Result<(), Fail> {
         ([(1, Some(0)), (1, None)].as_slice(), (70, 1)),
     ];
     for (blocks, wanted) in rows {
-        let (number, at) = collected(alloc, &ANSWER_1, blocks)?;
+        let (number, at) = collected(&rt, alloc, &ANSWER_1, blocks)?;
         let (wanted_number, wanted_at) = wanted;
         assert_eq!(rt; number, wanted_number, "{} pieces", blocks.len());
         assert_eq!(rt; at, wanted_at, "{} pieces", blocks.len());
@@ -126,7 +159,7 @@ fn takes_no_pass_before_the_first_failing_image(rt: HostRuntime) -> Result<(), F
         ([(0, None), (1, Some(63))].as_slice(), (71, 1)),
     ];
     for (blocks, wanted) in rows {
-        let (number, at) = collected(alloc, &FROM_70, blocks)?;
+        let (number, at) = collected(&rt, alloc, &FROM_70, blocks)?;
         let (wanted_number, wanted_at) = wanted;
         assert_eq!(rt; number, wanted_number, "{} pieces", blocks.len());
         assert_eq!(rt; at, wanted_at, "{} pieces", blocks.len());
@@ -134,37 +167,61 @@ fn takes_no_pass_before_the_first_failing_image(rt: HostRuntime) -> Result<(), F
     Ok(())
 }
 
-/// Whether a run finds a failing line, and how many of its judgements came from a cache.
-fn explored(alloc: Global, program: &[u8], first: bool) -> Result<(bool, u64), Fail> {
-    let log = flushes(alloc)?;
-    let plan = Plan::new(alloc, &log, Cuts::All)?;
-    let history = History::new(alloc, &plan, &log)?;
+/// Whether a run of 71 images finds a failing line, and how many of its judgements came from the cache.
+/// The images are of as many epochs, or all of one.
+fn explored<R: Threads + Wait + Sync>(
+    rt: &R,
+    alloc: Global,
+    log: &Log,
+    program: &[u8],
+    workers: u8,
+    cache: u32,
+    first: bool,
+) -> Result<(bool, u64), Fail>
+    requires workers { (1 ≤ workers) × (workers ≤ 64) }
+    requires cache { cache ≤ 65536 }
+{
+    let plan = Plan::new(alloc, log, Cuts::All)?;
+    let history = History::new(alloc, &plan, log)?;
     let program = decode(alloc, program).ok().ok_or("a program")?;
-    let mut checkers = Vec::new(alloc);
-    checkers.push(Checker::limited(&program, 3))?;
+    let checkers = [Checker::limited(&program, 3)];
     let images = count(&plan, 0, false).ok().ok_or("few images")?;
     let input = Input::new(
-        &plan,
-        &history,
-        checkers.as_slice(),
-        0,
-        false,
-        first,
-        images,
+        &plan, &history, &checkers, 0, false, workers, cache, first, images,
     );
-    let work = explore_all(alloc, &OpenGate, &input).ok().ok_or("work")?;
+    let work = explore_all(rt, alloc, &OpenGate, &input)
+        .ok()
+        .ok_or("work")?;
     Ok((!work.lines.is_empty(), work.hits))
 }
 
 #[test]
 fn explores_for_all_and_for_the_first(rt: HostRuntime) -> Result<(), Fail> {
     let alloc = rt.alloc();
+    let log = flushes(alloc)?;
     for first in [false, true] {
-        let (fails, hits) = explored(alloc, &ANSWER_1, first)?;
+        let (fails, hits) = explored(&rt, alloc, &log, &ANSWER_1, 1, 0, first)?;
         assert!(rt; fails);
         assert_eq!(rt; hits, 0);
-        let (fails, _hits) = explored(alloc, &FROM_70, first)?;
+        let (fails, hits) = explored(&rt, alloc, &log, &FROM_70, 4, 65_536, first)?;
         assert!(rt; fails);
+        assert_eq!(rt; hits, 0);
     }
+    Ok(())
+}
+
+#[test]
+fn cache_is_asked_where_a_block_is_judged(rt: HostRuntime) -> Result<(), Fail> {
+    let alloc = rt.alloc();
+    let bytes = text_of(alloc, &[(0, 1, 0, 0); 70])?;
+    let log = read(alloc, bytes.as_slice(), 1).ok().ok_or("a log")?;
+    let (_fails, hits) = explored(&rt, alloc, &log, &ANSWER_1, 1, 65_536, false)?;
+    assert_eq!(rt; hits, 70);
+    let (_fails, hits) = explored(&rt, alloc, &log, &ANSWER_1, 1, 0, false)?;
+    assert_eq!(rt; hits, 0);
+    // The second block lies behind image 0, and is passed over.
+    let (fails, hits) = explored(&rt, alloc, &log, &ANSWER_1, 1, 65_536, true)?;
+    assert!(rt; fails);
+    assert_eq!(rt; hits, 63);
     Ok(())
 }
