@@ -120,7 +120,7 @@ impl AsmCause {
 /// Why a program is refused by the verifier (docs/VERIFIER.md, Refusals).
 #[derive(Clone, Copy, Debug, PartialEq, Eq, Error)]
 pub enum VerifierCause {
-    #[error("the target of a jump is no slot in which an instruction begins")]
+    #[error("the target of a jump or of a local call is no slot in which an instruction begins")]
     Target = 40,
     #[error("the program ends without an exit")]
     End = 41,

@@ -16,7 +16,7 @@ pub appends_more : (bytes : List ℕ) (a b c : Option (List ℕ)) (n m : ℕ) �
     → Appends b c (take m (take (length bytes - n) (drop n bytes))) → Appends a c (take (n + m) bytes)
 appends_more bytes a b c n m p q =
     subst (Appends a c) (sym (take-add n m bytes))
-        (appended_twice a b c (take n bytes) (take m (drop n bytes)) p (subst (λ l. Appends b c (take m l)) (take_rest bytes n) q))
+    (appended_twice a b c (take n bytes) (take m (drop n bytes)) p (subst (λ l. Appends b c (take m l)) (take_rest bytes n) q))
 
 -- some bytes, and then nothing
 pub keeps_appended : (a b c : Option (List ℕ)) (some : List ℕ) → Appends a b some → Keeps b c → Appends a c some

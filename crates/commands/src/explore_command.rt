@@ -20,6 +20,7 @@ use base::refusal::{Cause, Refusal};
 use bpf_isa::codec::decode;
 use bpf_isa::program::{CodeFault, Program};
 use bpf_shape::Fault;
+use choices::Starts;
 use epochs::Plan;
 use images::History;
 use interp::Checker;
@@ -248,8 +249,13 @@ fn judged<'x, G: Gate + Sync, R: Threads + Wait + Sync>(
         Ok(history) => history,
         Err(_error) => return Err(Refusal::of_memory()),
     };
+    let starts = match Starts::new(alloc, &*plan, options.bound(), options.tears()) {
+        Ok(starts) => starts,
+        Err(_error) => return Err(Refusal::of_memory()),
+    };
     let input = Input::new(
         &*plan,
+        &starts,
         &history,
         &*checkers,
         options.bound(),

@@ -86,5 +86,5 @@ pub use options::Options;
 pub use refusals::fault_line;
 pub use settings::{OptionPlace, Settings};
 pub use words::Words;
-pub use writing::emit;
 pub use workers::{Gate, OpenGate};
+pub use writing::emit;

@@ -8,7 +8,7 @@ ghost use Rattle.workers.specs.Pieces.{block_count};
 use crate::log_text::{FLUSH, text_of};
 use base::refusal::Refusal;
 use bpf_isa::codec::decode;
-use choices::count;
+use choices::{Starts, count};
 use epochs::{Cuts, Plan};
 use images::History;
 use interp::Checker;
@@ -114,7 +114,10 @@ fn collected<R: Wait>(
     let program = decode(alloc, program).ok().ok_or("a program")?;
     let checkers = [Checker::limited(&program, 3)];
     let images = count(&plan, 0, false).ok().ok_or("few images")?;
-    let input = Input::new(&plan, &history, &checkers, 0, false, 2, 16, true, images);
+    let starts = Starts::new(alloc, &plan, 0, false)?;
+    let input = Input::new(
+        &plan, &starts, &history, &checkers, 0, false, 2, 16, true, images,
+    );
     collected_by::<Brand, R>(rt, alloc, &input, &history, &checkers, 16, blocks)
 }
 
@@ -186,8 +189,9 @@ fn explored<R: Threads + Wait + Sync>(
     let program = decode(alloc, program).ok().ok_or("a program")?;
     let checkers = [Checker::limited(&program, 3)];
     let images = count(&plan, 0, false).ok().ok_or("few images")?;
+    let starts = Starts::new(alloc, &plan, 0, false)?;
     let input = Input::new(
-        &plan, &history, &checkers, 0, false, workers, cache, first, images,
+        &plan, &starts, &history, &checkers, 0, false, workers, cache, first, images,
     );
     let work = explore_all(rt, alloc, &OpenGate, &input)
         .ok()

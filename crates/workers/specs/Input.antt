@@ -3,12 +3,14 @@ use Rattle.std.specs.Prelude.{ℕ, ◌≡◌, ◌≤◌, List, [], ◌∷◌, le
 use Rattle.epochs.specs.Plan.{PlanValue}
 use Rattle.interp.specs.Checker.{CheckerValue}
 use Rattle.choices.specs.Choices.{limit}
+use Rattle.choices.specs.Sums.{StartsValue}
 use Rattle.lines.specs.Line.{FailingLine}
 use Rattle.workers.specs.Failing.{Subject, image_count}
 
--- the history is that of the plan, the images are counted, and each number is within its limit
-pub record IsInput (s : Subject) (plan : PlanValue) (workers cache images : ℕ) : Type 0 where
+-- the history and the table of choices are those of the plan, the images are counted, and each number is within its limit
+pub record IsInput (s : Subject) (plan : PlanValue) (starts : StartsValue) (workers cache images : ℕ) : Type 0 where
   pub history : plan ≡ s.plan
+  pub table : starts ≡ record { plan = s.plan; bound = s.bound; tears = s.tears }
   pub bound : s.bound ≤ 3
   pub checkers : length s.checkers ≤ 8
   pub some_worker : 1 ≤ workers

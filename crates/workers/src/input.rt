@@ -1,12 +1,13 @@
 //! What the work is given.
 
-ghost use Rattle.std.specs.Prelude.{◌≡◌, ◌≤◌, ◌<◌, length};
+ghost use Rattle.std.specs.Prelude.{◌≡◌, ◌≤◌, ◌<◌, length, slice_get, Some};
 ghost use Rattle.choices.specs.Choices.{limit, ranked};
-ghost use Rattle.workers.specs.Failing.{image_count};
+ghost use Rattle.workers.specs.Failing.{choices_of, image_count};
 ghost use Rattle.workers.specs.Pieces.{block_count};
 ghost use Rattle.workers.specs.Exploring.{passes_over};
 
 use crate::piece::BLOCK;
+use choices::{Choice, Starts};
 use epochs::Plan;
 use images::History;
 use interp::Checker;
@@ -17,6 +18,7 @@ use std::marker::Model;
 /// see this much; how many workers judge, and how many entries their cache has, changes no answer.
 #[derive(Drop)]
 pub struct Input<'a> {
+    starts: &'a Starts<'a>,
     pub(crate) plan: &'a Plan<'a>,
     pub(crate) history: &'a History<'a>,
     pub(crate) checkers: &'a [Checker<'a>],
@@ -36,15 +38,16 @@ impl<'a> Model for Input<'a> {
 
     ghost view = { λ i. record { plan = i.plan.now; checkers = i.checkers.now; bound = i.bound; tears = i.tears; first = i.first } };
 
-    ghost invariant = { λ i. IsInput (record { plan = i.plan.now; checkers = i.checkers.now; bound = i.bound; tears = i.tears; first = i.first }) i.history.now i.workers i.cache i.images };
+    ghost invariant = { λ i. IsInput (record { plan = i.plan.now; checkers = i.checkers.now; bound = i.bound; tears = i.tears; first = i.first }) i.history.now i.starts.now i.workers i.cache i.images };
 }
 
 impl<'a> Input<'a> {
-    /// What is judged by a run. The history is that of the plan, and the images are counted, as
+    /// What is judged by a run. The history and the table of choices are those of the plan, and the images are counted, as
     /// `choices::count` does. With `first` the run looks for the first failing image alone. It is
     /// judged by 1 to 64 workers, who keep at most `cache` outcomes, 0 to 65,536.
     pub fn new(
         plan: &'a Plan<'a>,
+        starts: &'a Starts<'a>,
         history: &'a History<'a>,
         checkers: &'a [Checker<'a>],
         bound: u8,
@@ -54,6 +57,7 @@ impl<'a> Input<'a> {
         first: bool,
         images: u64,
     ) -> Input<'a>
+        requires starts { starts.now ≡ record { plan = plan.now; bound = bound; tears = tears } }
         requires history { history.now ≡ plan.now }
         requires checkers { length checkers.now ≤ 8 }
         requires bound { bound ≤ 3 }
@@ -64,6 +68,7 @@ impl<'a> Input<'a> {
         ensures { result ≡ record { plan = plan.now; checkers = checkers.now; bound = bound; tears = tears; first = first } }
     {
         Input {
+            starts,
             plan,
             history,
             checkers,
@@ -98,6 +103,14 @@ impl<'a> Input<'a> {
         ensures { (0 < result) × (result ≤ 64) }
     {
         u32::from(self.workers).min(self.block_count()).max(1) as u8
+    }
+
+    /// The choice of the image of that number.
+    pub(crate) fn choice(&self, image: u64) -> Choice
+        requires { image < image_count self.now }
+        ensures { slice_get (choices_of self.now) image ≡ Some result }
+    {
+        self.starts.nth(image)
     }
 
     /// The history of its plan.

@@ -13,7 +13,7 @@ ghost use Rattle.workers.specs.Input.{line_list, IsRunOf};
 use crate::block_lines::BlockLines;
 use crate::input::Input;
 use crate::piece::{BLOCK, Piece};
-use choices::{Choice, next, nth};
+use choices::{Choice, next};
 use images::{Changes, Key, View};
 use interp::{Checker, Outcome};
 use lines::Line;
@@ -224,7 +224,7 @@ impl<'a> Input<'a> {
         ensures lines { OnOk result (lines.new ≡ lines.old ++ lines_from self.now first (end - first)) }
         ensures changes { changes.new ≡ changes.old }
     {
-        let mut choice = nth(self.plan, self.bound, self.tears, first);
+        let mut choice = self.choice(first);
         for image in first..end {
             self.judge_image(rt, alloc, shards, changes, lines, image, &choice)?;
             let _moved = next(self.plan, self.bound, self.tears, &mut choice);
