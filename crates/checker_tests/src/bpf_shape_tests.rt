@@ -295,11 +295,7 @@ fn local_calls(rt: HostRuntime) -> Result<(), Fail> {
     ];
     for (number, (slots, expected)) in cases.iter().enumerate() {
         let program = program_of(rt.alloc(), slots)?;
-        assert_eq!(rt;
-            answer(rt.alloc(), &program),
-            *expected,
-            "program {number}"
-        );
+        assert_eq!(rt; answer(rt.alloc(), &program), *expected, "program {number}");
     }
     Ok(())
 }

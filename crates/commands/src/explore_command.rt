@@ -249,7 +249,8 @@ fn judged<'x, G: Gate + Sync, R: Threads + Wait + Sync>(
         Ok(history) => history,
         Err(_error) => return Err(Refusal::of_memory()),
     };
-    let starts = match Starts::new(alloc, &*plan, options.bound(), options.tears()) {
+    let (bound, tears) = (options.bound(), options.tears());
+    let starts = match Starts::new(alloc, &*plan, bound, tears) {
         Ok(starts) => starts,
         Err(_error) => return Err(Refusal::of_memory()),
     };
@@ -258,8 +259,8 @@ fn judged<'x, G: Gate + Sync, R: Threads + Wait + Sync>(
         &starts,
         &history,
         &*checkers,
-        options.bound(),
-        options.tears(),
+        bound,
+        tears,
         options.workers(),
         options.cache(),
         options.first(),

@@ -36,11 +36,11 @@ fn flushes(alloc: Global) -> Result<Log, Fail> {
 }
 
 /// The full piece of a block, or one that was passed over after that image.
-fn piece<J: Run, R: Wait>(
+fn piece<'a, J: Run, R: Wait>(
     rt: &R,
     alloc: Global,
-    input: &Input<'_>,
-    shards: &[Mutex<Shard<J>>],
+    input: &Input<'a>,
+    shards: &[Mutex<Shard<'a, J>>],
     block: u32,
     passed: Option<u64>,
 ) -> Result<Piece, AllocError>
@@ -56,11 +56,11 @@ fn piece<J: Run, R: Wait>(
 }
 
 /// The pieces of these blocks, in this order.
-fn pieces_of<J: Run, R: Wait>(
+fn pieces_of<'a, J: Run, R: Wait>(
     rt: &R,
     alloc: Global,
-    input: &Input<'_>,
-    shards: &[Mutex<Shard<J>>],
+    input: &Input<'a>,
+    shards: &[Mutex<Shard<'a, J>>],
     blocks: &[(u32, Option<u64>)],
 ) -> Result<Vec<Piece>, AllocError>
     requires run { IsRunOf J.plan J.checkers input.now }
@@ -79,11 +79,11 @@ fn pieces_of<J: Run, R: Wait>(
 
 /// What the pieces of these blocks are collected to: the number of a refusal and its place, or 0 and
 /// whether there is a line.
-fn collected_by<J: Run, R: Wait>(
+fn collected_by<'a, J: Run, R: Wait>(
     rt: &R,
     alloc: Global,
-    input: &Input<'_>,
-    history: &History<'_>,
+    input: &Input<'a>,
+    history: &'a History<'a>,
     checkers: &[Checker<'_>],
     cache: u32,
     blocks: &[(u32, Option<u64>)],
@@ -93,7 +93,7 @@ fn collected_by<J: Run, R: Wait>(
     requires checkers { checkers.now ≡ J.checkers }
     requires cache { (cache ≡ J.size) × (cache ≤ 65536) }
 {
-    let shards: Vec<Mutex<Shard<J>>> = shards(alloc, history, checkers, cache)?;
+    let shards: Vec<Mutex<Shard<'a, J>>> = shards(alloc, history, checkers, cache)?;
     let pieces = pieces_of(rt, alloc, input, shards.as_slice(), blocks)?;
     match collect(alloc, pieces, input.block_count()) {
         Ok(lines) => Ok((0, if lines.is_empty() { 0 } else { 1 })),

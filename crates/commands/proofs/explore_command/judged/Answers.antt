@@ -8,8 +8,11 @@ use Rattle.commands.proofs.explore_command.judged.Goals as goal
 pub returns-in-Err-clause-refused : goal.returns-in-Err-clause-refused
 returns-in-Err-clause-refused g c = rw c.of_memory.ensures no_plan_memory
 
+pub returns-in-Err-new-clause-refused : goal.returns-in-Err-new-clause-refused
+returns-in-Err-new-clause-refused g c = rw c.of_memory-in-Err-new.ensures no_plan_memory
+
 pub new-input-requires-clause-images : goal.new-input-requires-clause-images
-new-input-requires-clause-images g c = counted_of _ _ _ _ _ _ c.args.images c.requires.plan c.bound.ensures.value c.tears.ensures c.requires.images
+new-input-requires-clause-images g c = counted_of _ _ _ _ _ _ c.args.images c.requires.plan c.bound-bound.ensures.value c.tears-tears.ensures c.requires.images
 
 pub returns-in_err-work-clause-refused : goal.returns-in_err-work-clause-refused
 returns-in_err-work-clause-refused g c =
@@ -23,11 +26,11 @@ pub returns-in-Ok-reported-clause-bytes : goal.returns-in-Ok-reported-clause-byt
 returns-in-Ok-reported-clause-bytes g c =
     c.in-Ok-reported.ensures
     ∙ report_of_work c.args.options.now c.args.log.now c.args.checkers.now c.new-input.result c.in_ok-work.work.lines
-    (c.new-input.ensures ∙ same_subject c.args.options.now c.args.log.now c.args.checkers.now _ _ _ _ c.requires.plan c.bound.ensures.value c.tears.ensures c.first.ensures)
+    (c.new-input.ensures ∙ same_subject c.args.options.now c.args.log.now c.args.checkers.now _ _ _ _ c.requires.plan c.bound-bound.ensures.value c.tears-tears.ensures c.first.ensures)
     c.in_ok-work.ensures.whole c.in_ok-work.ensures.first
 
 pub returns-in-Ok-reported-clause-failing : goal.returns-in-Ok-reported-clause-failing
 returns-in-Ok-reported-clause-failing g c =
     fails_of_work c.args.options.now c.args.log.now c.args.checkers.now c.new-input.result c.in_ok-work.work.lines c.is_empty.result
-    (c.new-input.ensures ∙ same_subject c.args.options.now c.args.log.now c.args.checkers.now _ _ _ _ c.requires.plan c.bound.ensures.value c.tears.ensures c.first.ensures)
+    (c.new-input.ensures ∙ same_subject c.args.options.now c.args.log.now c.args.checkers.now _ _ _ _ c.requires.plan c.bound-bound.ensures.value c.tears-tears.ensures c.first.ensures)
     c.in_ok-work.ensures.first c.is_empty.ensures
