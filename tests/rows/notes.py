@@ -194,7 +194,7 @@ BYTES = [
     undecoded("no slot", b"", "refused 21 at 0", f"a program has 1 to 4096 slots {DECODING}", IS_IT_ONE),
     undecoded("an opcode", code("ff00000000000000"), "refused 22 at 0", f"there is no such opcode {DECODING}", IS_IT_ONE, words="list p"),
     undecoded("a register", code("b70b000000000000"), "refused 23 at 0", REGISTER, INLINED),
-    undecoded("a local call", code("8510000000000000 9500000000000000"), "refused 23 at 0", REGISTER, INLINED),
+    undecoded("a call of a third kind", code("8520000000000000 9500000000000000"), "refused 23 at 0", REGISTER, INLINED),
     undecoded(
         "a field",
         code("9500000000000000 9500000001000000"),

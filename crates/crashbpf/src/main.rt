@@ -48,13 +48,22 @@ fn stopped<R: Eprint>(rt: &R, line: &str) -> u8 {
 }
 
 /// What the files hold, none for one that cannot be read.
+///
+/// # Errors
+///
+/// There is not enough memory for them.
 fn read_files<R: Files + AllocGlobal>(
     rt: &R,
     names: &[String],
 ) -> Result<Vec<Option<Vec<u8>>>, AllocError> {
     let mut files = Vec::new(rt.alloc());
     for name in names {
-        files.push(fs::read(rt, name.as_str()).ok())?;
+        let file = match fs::read(rt, name.as_str()) {
+            Ok(bytes) => Some(bytes),
+            Err(error) if error.kind() == ErrorKind::OutOfMemory => return Err(AllocError),
+            Err(_error) => None,
+        };
+        files.push(file)?;
     }
     Ok(files)
 }
