@@ -10,7 +10,7 @@ or appended), and gives it to a command with options of which some are out of ra
     the status is 0, 1 or 2; 1 only of `explore`;
     there is nothing on standard output where the status is 2, and one line at least on standard error there, and else
     nothing on standard error but notes;
-    no run takes longer than LIMIT seconds, or more memory than its log and 128 MiB.
+    no run takes longer than LIMIT seconds, or more memory than its log, 128 MiB, and 4 KiB for each entry of its cache.
 
 Each run is made of its own number and the seed alone, and a run that isn't as expected is printed with it, so that it can
 be made again: `--only NUMBER` makes that run and leaves its files in the folder soak. The last line is as in run.py.
@@ -18,10 +18,10 @@ be made again: `--only NUMBER` makes that run and leaves its files in the folder
 import argparse
 import os
 import random
-import resource
 import subprocess
 import sys
 import tempfile
+import threading
 from concurrent.futures import ThreadPoolExecutor
 from pathlib import Path
 
@@ -33,6 +33,7 @@ from run import Assembler, all_rows, made, shortened, split_notes
 
 LIMIT = 20
 MEMORY = 128 << 20
+ENTRY = 4 << 10
 GREATEST = 1 << 20
 
 # Numbers near which things change.
@@ -152,11 +153,15 @@ def made_run(stock, seed, number):
     return words + options_of(chance, command), files
 
 
-def wrong(words, done):
+def wrong(words, done, most):
     """What isn't as expected of a run that ended, or None."""
     error, _notes = split_notes(done.stderr)
+    if done.returncode == -9:
+        return f"no end within {LIMIT} seconds"
     if WANT_OF_MEMORY.fullmatch(error):
         return "not enough memory"
+    if done.memory > most:
+        return f"{done.memory >> 20} MiB of memory"
     if done.returncode not in (0, 1, 2) or done.returncode == 1 and words[0] != "explore":
         return f"status {done.returncode}"
     if done.returncode == 2 and (done.stdout or not error.endswith(b"\n")):
@@ -166,28 +171,30 @@ def wrong(words, done):
     return None
 
 
-def limited(content):
-    """Limits the memory of the process that is to be started."""
-    most = len(content) + MEMORY
-    return lambda: resource.setrlimit(resource.RLIMIT_DATA, (most, most))
+class Done:
+    """How a run ended: its status, its outputs, and the most memory that it had, in bytes."""
+
+    def __init__(self, folder, ended):
+        _pid, status, used = ended
+        self.returncode = os.waitstatus_to_exitcode(status)
+        self.stdout, self.stderr = Path(folder, "stdout").read_bytes(), Path(folder, "stderr").read_bytes()
+        self.memory = used.ru_maxrss << 10
 
 
 def run_one(program, stock, seed, number, folder):
+    """The words of the run of that number, and what isn't as expected of it, or None."""
     words, files = made_run(stock, seed, number)
     for name, content in files.items():
         Path(folder, name).write_bytes(content)
-    try:
-        done = subprocess.run(
-            [program, *words],
-            cwd=folder,
-            stdin=subprocess.DEVNULL,
-            capture_output=True,
-            timeout=LIMIT,
-            preexec_fn=limited(files.get("log", b"")),
-        )
-    except subprocess.TimeoutExpired:
-        return words, f"no end within {LIMIT} seconds"
-    return words, wrong(words, done)
+    with open(Path(folder, "stdout"), "wb") as out, open(Path(folder, "stderr"), "wb") as error:
+        started = subprocess.Popen([program, *words], cwd=folder, stdin=subprocess.DEVNULL, stdout=out, stderr=error)
+    late = threading.Timer(LIMIT, started.kill)
+    late.start()
+    done = Done(folder, os.wait4(started.pid, 0))
+    started.returncode = done.returncode
+    late.cancel()
+    cache = int(words[words.index("--cache") + 1]) if "--cache" in words else 0
+    return words, wrong(words, done, len(files.get("log", b"")) + MEMORY + ENTRY * min(cache, 65536))
 
 
 def soaked(program, stock, seed, numbers):
