@@ -27,6 +27,7 @@ pub line_alone : (xs : List ℕ) → IsLine xs → lines xs ≡ xs ∷ []
 line_alone [] h = refl
 line_alone (c ∷ xs) h = rw (h.0, line_alone xs h.1) refl
 
+-- the first newline ends the first line
 pub split_there : (text : List ℕ) (i : ℕ) → i < length text → get_or text i 0 ≡ 10 → IsLine (take i text) → lines text ≡ take i text ∷ lines (drop (i + 1) text)
 split_there text i there e h =
     ap lines (sym (take-append-drop i text) ∙ ap (λ (r : List ℕ). take i text ++ r) (drop_there text i there ∙ ap (λ (c : ℕ). c ∷ drop (i + 1) text) e))

@@ -252,9 +252,11 @@ pub width_of : (i : Instr) (wide : Bool) → halves i ≡ (if wide then None ∷
 width_of i true e = ap (λ (h : List (Option Instr)). suc (length h)) e
 width_of i false e = ap (λ (h : List (Option Instr)). suc (length h)) e
 
+-- an instruction takes a slot
 pub takes_some : (i : Instr) → 0 < length (entry i)
 takes_some i = omega arith
 
+-- a statement that fails makes its line the one at fault
 pub breaks_with : (line : List ℕ) (next : Statement) (o : code.Outline) (r : Result (Unit {0}) AsmFault) → statement_of line ≡ Some next
     → IfErr r (λ f. (f ≡ memory_fault) ⊎ ((said : List Statement) → IsOutline o said → Fails (said ++ next ∷ [])))
     → IfErr r (λ f. (f ≡ memory_fault) ⊎ ((said : List Statement) → IsOutline o said → Breaks line said))
@@ -271,6 +273,7 @@ pub record FirstOf (text first : List ℕ) (behind : Option (Bor (List ℕ))) : 
   pub split : lines text ≡ first ∷ lines_left behind
   pub shorter : length_left behind < length text + 1
 
+-- a text cut at a line's end, as its lines
 pub first_of : (text first : List ℕ) (behind : Option (Bor (List ℕ))) → IfNone behind (lines text ≡ first ∷ []) → IfSome behind (λ rest. lines text ≡ first ∷ lines rest.now)
     → IfSome behind (λ rest. length rest.now < length text) → FirstOf text first behind
 first_of text first None alone more shorter = record { split = alone; shorter = omega arith }

@@ -27,6 +27,7 @@ one_program text p q a b =
     let instrs : a.instrs ≡ b.instrs = cc in
     a.listed ∙ ap slots_of instrs ∙ sym b.listed
 
+-- what was read of all lines stands for the text
 pub stands : (text : List ℕ) (o : code.Outline) → Outlines text o → Stands o
 stands text o h = record { said = h.said; outline = h.outline }
 

@@ -11,6 +11,7 @@ pub record NumeralSoFar (base : ℕ) (digits : List ℕ) (i : ℕ) (magnitude : 
   pub is : magnitude ≡ held n
   pub rest : numeral_from base n (drop i digits) ≡ numeral_from base 0 digits
 
+-- no digit was read
 pub start : (base : ℕ) (digits : List ℕ) → NumeralSoFar base digits 0 (Some 0)
 start base digits = record { n = 0; is = refl; rest = refl }
 

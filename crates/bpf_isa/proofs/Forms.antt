@@ -158,6 +158,7 @@ size_known : (s : OrderSize) → is_one_of (16 ∷ 32 ∷ 64 ∷ []) (order_imme
 size_known bits.Bits16 = refl
 size_known _ = refl
 
+-- the fields of an instruction in range pass all checks of its form
 pub passes : (i : Instr) (next : Option Fields) → IsInRange i → Follows (second_of i) next → first_failing (checks (shape i) (fields_of i) next) ≡ None
 unfolding checks layout_of fields_of IsInRange
 passes (instr.Arithmetic w o dst (source.Immediate n)) next range there = rw (lt-ltb dst 11 range.0, offset_known o) refl

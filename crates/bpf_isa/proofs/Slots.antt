@@ -92,6 +92,7 @@ push_two bytes slots i s are b there spelled e =
           (append_assoc (flat_map slot_bytes slots) (field_bytes (fields_at bytes (length slots))) (field_bytes s));
     }
 
+-- the bytes begin with one instruction more
 pub goes_on : (bytes : List ℕ) (slots : List (Option Instr)) (i : Instr) → AreBytes bytes → Begins bytes slots → length slots < length bytes / 8
     → IsSpelled (fields_at bytes (length slots)) (slot_at bytes (length slots + 1)) i → Begins bytes (slots ++ entry i)
 goes_on bytes slots (instr.LoadImmediate dst value) are b there spelled =

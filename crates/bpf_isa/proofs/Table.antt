@@ -38,6 +38,7 @@ at_known n f e back =
 pub forth : (n : ℕ) (f : Form) → n < 256 → form_of n ≡ Some f → opcode_of f ≡ n
 forth n f h e = at_known n f e (each 256 n h table)
 
+-- a byte that tells a form is the opcode of that form
 pub known : (n : ℕ) (o : Option Form) → n < 256 → o ≡ form_of n → IfSome o (λ f. opcode_of f ≡ n)
 known n None h e = tt
 known n (Some f) h e = forth n f h (sym e)

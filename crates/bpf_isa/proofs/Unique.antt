@@ -232,6 +232,7 @@ pub record Splits (instrs before : List Instr) (rest : List ℕ) : Type 0 where
   pub spelled : flat_map spelling after ≡ rest
   pub ranges : AllInRange after
 
+-- instructions whose bytes begin with those of others begin with the others
 pub splits : (instrs before : List Instr) (rest : List ℕ) → AllInRange instrs → AllInRange before → flat_map spelling instrs ≡ flat_map spelling before ++ rest → Splits instrs before rest
 splits instrs [] rest all some e = record { after = instrs; joined = refl; spelled = e; ranges = all }
 splits [] (j ∷ js) rest all some e = absurd (never_empty j (flat_map spelling js ++ rest) (e ∙ append_assoc (spelling j) (flat_map spelling js) rest))

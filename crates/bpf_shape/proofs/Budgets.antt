@@ -24,6 +24,7 @@ marked_by true (Some j) v marks n a b =
     let here : marked_length v marks n ≡ j = rw (a, b) refl in
     inr (a, b ∙ ap Some (sym here))
 
+-- the greatest length of the marked slots below n, with slot n too
 pub greater : (v : List (Option ℕ)) (marks : List Bool) (n k : ℕ) → IsGreatest v marks n k → IsGreatest v marks (n + 1) (max k (marked_length v marks n))
 greater v marks n k g = record {
   most = λ s j inside is length_is. elim (cases_lt s n) [

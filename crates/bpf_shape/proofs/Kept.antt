@@ -47,6 +47,7 @@ keeps_past program cause.UnknownHelper s past = rw (at_past program s past) refl
 keeps_past program cause.AgainForm s past = rw (calls_past program s past) refl
 keeps_past program _ s past = refl
 
+-- a rule that each slot keeps is broken nowhere
 pub never : (program : List (Option Instr)) (c : VerifierCause) → ((s : ℕ) → s < length program → keeps program c s ≡ true)
     → (s : ℕ) → keeps program c s ≡ false → ⊥
 never program c kept s broken =

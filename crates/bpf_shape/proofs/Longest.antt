@@ -123,6 +123,7 @@ pub record Wanders (next : ℕ → Edges) (n s k : ℕ) : Type 0 where
   pub long : length slots ≡ k
   pub fits : (q : ℕ) → Has (s ∷ slots) q → q < n
 
+-- from a slot that got no length a walk can be of any number of edges
 pub wander : (next : ℕ → Edges) (n : ℕ) (ws : List ℕ) (v : List (Option ℕ)) (k s : ℕ) → EdgesFit next n → AreSettled next n ws v → s < n → length_of v s ≡ None → Wanders next n s k
 wander next n ws v zero s fit settled inside none =
     record { slots = []; walk = tt; long = refl; fits = λ q h. elim h [ inl e ↦ rw e inside | inr bad ↦ absurd bad ] }

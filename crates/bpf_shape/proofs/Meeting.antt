@@ -22,6 +22,7 @@ has_split (x ∷ xs) ys t (inr h) = elim (has_split xs ys t h) [ inl l ↦ inl (
 pub has_last : (xs : List ℕ) (t s : ℕ) → Has (xs ++ s ∷ []) t → Has xs t ⊎ (t ≡ s)
 has_last xs t s h = elim (has_split xs (s ∷ []) t h) [ inl l ↦ inl l | inr (inl e) ↦ inr e | inr (inr n) ↦ absurd n ]
 
+-- where all that is met was marked before, marks and waiting slots stay
 pub same : (P : ℕ → Type 0) (m : List Bool) (w : List ℕ) → ((t : ℕ) → P t → t < length m → IsMarked m t) → Met P m w m w
 same P m w met = record {
   kept = λ t h. h;
@@ -102,6 +103,7 @@ meet_by : (b : Bool) (m : List Bool) (w : List ℕ) (s : ℕ) → is_new m s ≡
 meet_by true m w s h = let parts = new_parts true m s h in one_new m w s parts.0 parts.1
 meet_by false m w s h = one_old m w s h
 
+-- at most one slot is met
 pub meet_one : (o : Option ℕ) (m : List Bool) (w : List ℕ) → Met (λ t. o ≡ Some t) m w (marks_after m o) (waiting_after m w o)
 meet_one None m w = same (λ t. None ≡ Some t) m w (λ t p _. absurd (let bad : None ≡ Some t = p in cc))
 meet_one (Some s) m w = meet_by (is_new m s) m w s refl

@@ -45,9 +45,11 @@ comes_by (Some a) (Some b) weight lengths e k x y h =
     let is : Some (weight + max a b) ≡ Some k = rw (x, y) at h in
     record { next = a; target = b; next_is = x; target_is = y; sum = let back : weight + max a b ≡ k = cc in sym back }
 
+-- a length is the weight and the greatest behind the edges
 pub comes : (weight : ℕ) (lengths : List (Option ℕ)) (e : Edges) (k : ℕ) → length_from weight lengths e ≡ Some k → Comes weight lengths e k
 comes weight lengths e k h = comes_by (behind_edge lengths e.next) (behind_edge lengths e.target) weight lengths e k refl refl h
 
+-- and such a length is computed
 pub comes_back : (weight : ℕ) (lengths : List (Option ℕ)) (e : Edges) (k : ℕ) → Comes weight lengths e k → length_from weight lengths e ≡ Some k
 unfolding length_from
 comes_back weight lengths e k c = rw (c.next_is, c.target_is, c.sum) refl
@@ -88,6 +90,7 @@ edge_bound : (v : List (Option ℕ)) (o : Option ℕ) (j n : ℕ) → ((s k : �
 edge_bound v None j n bound is = let e : 0 ≡ j = cc in omega (arith, e)
 edge_bound v (Some t) j n bound is = bound t j is
 
+-- a slot gets its length, and all lengths are still partial ones
 pub grow : (next : ℕ → Edges) (n : ℕ) (ws : List ℕ) (v : List (Option ℕ)) (s k : ℕ) → s < n → ArePartial next n ws v → length_of v s ≡ None
     → length_from (weight_at ws s) v (next s) ≡ Some k → ArePartial next n ws (set v s (Some k))
 grow next n ws v s k inside p none is =
@@ -125,6 +128,7 @@ grow next n ws v s k inside p none is =
       ];
     }
 
+-- and one slot more has a length
 pub grows : (next : ℕ → Edges) (n : ℕ) (ws : List ℕ) (v : List (Option ℕ)) (s k : ℕ) → s < n → ArePartial next n ws v → length_of v s ≡ None
     → known v < known (set v s (Some k))
 grows next n ws v s k inside p none =
@@ -139,6 +143,7 @@ at_most next n ws v p s k h =
     let times : known v * heaviest ws ≤ n * heaviest ws = mul-le-mul_right (heaviest ws) few in
     omega (arith, times, p.bound s k h)
 
+-- a length is at most 4096 times the heaviest weight
 pub few_enough : (next : ℕ → Edges) (n b : ℕ) (ws : List ℕ) (v : List (Option ℕ)) → ArePartial next n ws v → n ≤ 4096 → heaviest ws ≤ b
     → (s k : ℕ) → length_of v s ≡ Some k → k ≤ 4096 * b
 few_enough next n b ws v p small light s k h =

@@ -21,6 +21,7 @@ reaches_more next s t u r l =
       ends = end_more s u r.slots;
     }
 
+-- a slot reaches itself
 pub stays : (next : ℕ → Edges) (s : ℕ) → Reaches next s s
 stays next s = record { slots = []; walk = tt; ends = refl }
 

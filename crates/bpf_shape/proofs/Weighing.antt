@@ -152,12 +152,15 @@ ones n s =
       | inr past ↦ get_or_past (replicate {A = ℕ} n 1) s 1 (rw (length-replicate {A = ℕ} n 1) past)
     ]
 
+-- where each slot weighs 1, none weighs more
 pub ones_few : (n : ℕ) → heaviest (replicate n 1) ≤ 1
 ones_few n = heaviest_le (replicate n 1) 1 (λ s inside. let one = ones n s in omega (arith, one))
 
+-- and none weighs less
 pub ones_heavy : (n : ℕ) → AreHeavy n (replicate n 1)
 ones_heavy n = record { long = length-replicate {A = ℕ} n 1; least = λ s. let one = ones n s in omega (arith, one) }
 
+-- lengths that are settled with weight 1 everywhere are those of depth 0
 pub plain_are : (program : List (Option Instr)) (v : List (Option ℕ)) → AreSettled (plain program) (length program) (replicate (length program) 1) v
     → AreLengths program 0 v
 plain_are program v settled = record {

@@ -45,6 +45,7 @@ pairs_closed (suc k) h =
     let twice : suc k * (suc k - 1) ≡ pairs (suc k) * 2 + 0 = rw less (omega (arith, twice_pairs k)) in
     ap (λ n. n / 2) twice ∙ div-mul-add (pairs (suc k)) 2 0 (omega arith)
 
+-- the closed form of the number of triples
 pub triples_closed : (k : ℕ) → 2 ≤ k → k * (k - 1) * (k - 2) / 6 ≡ triples k
 triples_closed zero h = absurd (omega (arith, h))
 triples_closed (suc zero) h = absurd (omega (arith, h))

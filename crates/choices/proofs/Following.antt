@@ -127,6 +127,7 @@ behind_end xs ys n h =
     let at : n ≡ length xs + 0 = omega (arith, h) in
     ap (slice_get (xs ++ ys)) at ∙ slice_get-append_right xs ys 0
 
+-- an element keeps its place before what is appended
 pub in_front : {X : Type 0} (xs ys : List X) (n : ℕ) (x : X) → slice_get xs n ≡ Some x → slice_get (xs ++ ys) n ≡ Some x
 in_front xs ys n x h = slice_get-append_left xs ys n (slice_get_within xs n x h) ∙ h
 

@@ -269,12 +269,14 @@ sum_on plan b tears number cuts place rest own so is le =
     let ways = so.ways in
     omega (arith, before_more plan b tears place so.cut wanted, sum, ways, le)
 
+-- a number that isn't at this cut has a cut behind it
 pub walk_room : (plan : PlanValue) (b : ℕ) (tears : Bool) (number : ℕ) (cuts : List ℕ) (place rest own : ℕ) → Walks plan b tears number cuts place rest own
     → cuts ≡ cuts_of plan.kind plan.log.entries → own ≤ rest → number < length (ranked plan b tears) → place + 1 < length cuts
 walk_room plan b tears number cuts place rest own so is le lt =
     let next = sum_on plan b tears number cuts place rest own so is le in
     omega (arith, not_past plan b tears number (place + 1) (rest - own) lt next, ap length is)
 
+-- and the walk goes on there
 pub walk_on : (plan : PlanValue) (b : ℕ) (tears : Bool) (number : ℕ) (cuts : List ℕ) (place rest own : ℕ) → Walks plan b tears number cuts place rest own
     → cuts ≡ cuts_of plan.kind plan.log.entries → own ≤ rest → number < length (ranked plan b tears)
     → (more : ℕ) → more ≡ length (ranked_at plan b tears (slice_index_or cuts (place + 1) 0))
@@ -371,6 +373,7 @@ new_picks plan b tears n old picks so h =
     let there = stands plan b tears (n + 1) (choice_of plan.log.entries old.place old.cut picks) (stepped_on plan b tears n old picks so h) in
     picks_weaker (fates_of tears) (length (volatile_units plan.log.entries old.cut)) picks (fates_high tears) there.picks
 
+-- behind the last choice of a cut comes the first of the next cut
 pub moved_on : (plan : PlanValue) (b : ℕ) (tears : Bool) (n : ℕ) (old : ChoiceValue) (cut : ℕ) → Standing plan b tears n old
     → following_below (fates_of tears) (b + 1) (length (volatile_units plan.log.entries old.cut)) old.picks ≡ None
     → slice_get (cuts_of plan.kind plan.log.entries) (old.place + 1) ≡ Some cut
@@ -379,6 +382,7 @@ moved_on plan b tears n old cut so none more =
     so.next ∙ ap (λ o. next_choice plan.log.entries old.place old.cut o (slice_get (cuts_of plan.kind plan.log.entries) (old.place + 1))) none
     ∙ ap (option_map (first_at plan.log.entries (old.place + 1))) more
 
+-- the last choice of the last cut is the last of all
 pub at_last : (plan : PlanValue) (b : ℕ) (tears : Bool) (n : ℕ) (old : ChoiceValue) → Standing plan b tears n old
     → slice_get (ranked plan b tears) n ≡ Some old
     → following_below (fates_of tears) (b + 1) (length (volatile_units plan.log.entries old.cut)) old.picks ≡ None

@@ -73,6 +73,7 @@ step_found m e ds place behind d next at lt none found =
     ∙ following_front m e (take place ds) (drop place ds) (next ∷ first_picks behind (next.unit + 1)) (step_at m e ds place behind d at lt none ∙ sym found)
     ∙ ap (λ b. Some (take place ds ++ next ∷ first_picks b (next.unit + 1))) (sym others)
 
+-- where one place can't step, the search goes on one place before it
 pub step_missed : (m e : ℕ) (ds : List Pick) (place behind : ℕ) (d : Pick) → place ≡ length ds - 1 - behind → behind < length ds
     → following m e (drop (length ds - behind) ds) ≡ None → None ≡ stepped m e (slice_index_or ds place d) behind
     → following m e (drop (length ds - (behind + 1)) ds) ≡ None

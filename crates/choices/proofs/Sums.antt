@@ -65,11 +65,13 @@ some_cut plan b tears number sums are lt = elim (cases_lt 0 (length (cuts_of pla
       absurd (omega (arith, all, first, lt))
 ]
 
+-- a number isn't before the first cut
 pub not_below : (plan : PlanValue) (b : ℕ) (tears : Bool) (number : ℕ) (sums : List ℕ) → AreSums plan b tears sums → slice_index_or sums 0 0 ≤ number
 not_below plan b tears number sums are =
     let first = are.each 0 (omega arith) ∙ before_none plan b tears in
     omega (arith, first)
 
+-- and a number of a choice isn't behind the last
 pub not_above : (plan : PlanValue) (b : ℕ) (tears : Bool) (number : ℕ) (sums : List ℕ) → AreSums plan b tears sums → number < length (ranked plan b tears)
     → number < slice_index_or sums (length sums - 1) 0
 not_above plan b tears number sums are lt =

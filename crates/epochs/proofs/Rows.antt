@@ -112,6 +112,7 @@ begin es row is =
     let first : IsRow es 0 row = subst P (sym is) (first_is_row es) in
     record { count = refl; each = one_row es row first; last = first }
 
+-- the table with one row more
 pub go_on : (es : List Entry) (i : ℕ) (rows : List Row) (row : Row) (x : Entry) → Filled es i rows row → slice_get es i ≡ Some x
     → Filled es (i + 1) (rows ++ next_row row x ∷ []) (next_row row x)
 go_on es i rows row x so here =
@@ -125,5 +126,6 @@ go_on es i rows row x so here =
       last = rw (add-one i) next;
     }
 
+-- the table when all entries have their rows
 pub all_rows : (es : List Entry) (i : ℕ) (rows : List Row) (row : Row) → Filled es i rows row → i ≡ length es → AreRows es rows
 all_rows es i rows row so end = record { count = omega (arith, so.count, end); each = so.each }

@@ -19,6 +19,7 @@ one_more p k =
 pub kept_cut : (p : ℕ → Bool) (k : ℕ) → p k ≡ true → filter p (range_with_len 0 (k + 1)) ≡ filter p (range_with_len 0 k) ++ k ∷ []
 kept_cut p k h = one_more p k ∙ ap (λ b. filter p (range_with_len 0 k) ++ (if b then k ∷ [] else [])) h
 
+-- a cut that isn't wanted changes no list of wanted cuts
 pub left_cut : (p : ℕ → Bool) (k : ℕ) → p k ≡ false → filter p (range_with_len 0 (k + 1)) ≡ filter p (range_with_len 0 k)
 left_cut p k h =
     one_more p k ∙ ap (λ b. filter p (range_with_len 0 k) ++ (if b then k ∷ [] else [])) h ∙ append-nil (filter p (range_with_len 0 k))

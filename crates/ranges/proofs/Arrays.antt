@@ -82,6 +82,7 @@ pub read_two : {X Y : Type 0} (f : X → Y) (j : Y → Y → Y) (a b : List X) (
     → f r ≡ j (f (get_or a k u)) (f (get_or b k v)) → f r ≡ j (f (get_or a k d)) (f (get_or b k d))
 read_two f j a b k u v d r ia ib h = rw (get_or_default a k d u ia, get_or_default b k d v ib) h
 
+-- what was read at a place is what stands there, by any default
 pub read_one : {X Y : Type 0} (f : X → Y) (g : Y → Y) (a : List X) (k : ℕ) (u d r : X) → k < length a
     → f r ≡ g (f (get_or a k u)) → f r ≡ g (f (get_or a k d))
 read_one f g a k u d r ia h = rw (get_or_default a k d u ia) h

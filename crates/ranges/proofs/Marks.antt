@@ -9,6 +9,7 @@ none_more : (m : Mark) (groups : List GroupKind) (at n : ℕ)
 unfolding none_is
 none_more m groups at n = refl
 
+-- a byte without the mark: the answer is that of the bytes behind it
 pub none_next : (m : Mark) (groups : List GroupKind) (at n k : ℕ) (whole : Bool) → k < n
     → is_mark (mark_at groups (at + k)) m ≡ false
     → none_is m groups (at + k) (n - k) ≡ whole
@@ -21,6 +22,7 @@ none_next m groups at n k whole inside other so =
     let so4 : (not false && none_is m groups (at + k + 1) (n - (k + 1))) ≡ whole = rw other at so3 in
     rw (← next) so4
 
+-- a byte with the mark: the answer is false
 pub none_here : (m : Mark) (groups : List GroupKind) (at n k : ℕ) (whole : Bool) → k < n
     → is_mark (mark_at groups (at + k)) m ≡ true
     → none_is m groups (at + k) (n - k) ≡ whole
@@ -32,6 +34,7 @@ none_here m groups at n k whole inside same so =
     let so4 : (not true && none_is m groups (at + k + 1) (n - (k + 1))) ≡ whole = rw same at so3 in
     so4
 
+-- no byte is left: the answer is true
 pub none_ends : (m : Mark) (groups : List GroupKind) (at n k : ℕ) (whole : Bool) → n ≤ k
     → none_is m groups (at + k) (n - k) ≡ whole
     → true ≡ whole
