@@ -1,6 +1,6 @@
 //! The fields of an instruction, a case for each form.
 
-ghost use Rattle.std.specs.Prelude.{◌≡◌, ◌<◌, ◌≤◌, ◌%◌, ◌/◌, ◌^◌, ◌++◌, OnOk};
+ghost use Rattle.std.specs.Prelude.{ℕ, ℤ, ◌≡◌, ◌<◌, ◌≤◌, ◌%◌, ◌/◌, ◌^◌, ◌++◌, OnOk};
 ghost use Rattle.bpf_isa.specs.Table.{opcode_of, operator_code, condition_code, size_code, signed_size_code, source_bit, alu_class, jump_class, order_opcode};
 ghost use Rattle.bpf_isa.specs.Fields.{fields, field_bytes};
 ghost use Rattle.bpf_isa.specs.Spelling.{fields_of, second_of, operator_offset, extension_width, extension_offset, order_immediate, bits16, bits32};
@@ -193,202 +193,160 @@ fn register_field(register: Register) -> u8
     register.number() as u8
 }
 
-/// The fields of a form of which nothing but the opcode is used.
-fn bare(form: Form) -> Fields
-    ensures { result ≡ fields (opcode_of form) 0 0 0 0 }
-{
-    Fields {
-        opcode: opcode(form),
-        dst: 0,
-        src: 0,
-        offset: 0,
-        immediate: 0,
-    }
-}
-
-/// The fields of arithmetic with two operands.
+/// The bits of a second operand that is a constant; 0 for a register.
 #[tactic(auto, unfolding(crate::specs::Spelling::fields_of))]
-fn arithmetic_fields(width: Width, operator: Operator, dst: Register, source: &Source) -> Fields
-    ensures fields { result ≡ fields_of (instruction.Arithmetic width operator dst source.now) }
-    ensures dst { result.dst < 16 }
-    ensures src { result.src < 16 }
+fn constant_field(source: &Source) -> u32
+    ensures computes { (w : Width) (o : Operator) (dst : ℕ) → result ≡ (fields_of (instruction.Arithmetic w o dst source.now)).immediate }
+    ensures compares { (w : Width) (c : Condition) (dst : ℕ) (offset : ℤ) → result ≡ (fields_of (instruction.Branch w c dst source.now offset)).immediate }
 {
-    let register = matches!(source, Source::Register(_));
-    let form = bare(Form::Arithmetic {
-        width,
-        operator,
-        register,
-    });
-    let (dst, offset) = (register_field(dst), signed_offset(operator));
     match source {
-        Source::Immediate(n) => Fields {
-            dst,
-            offset,
-            immediate: n.cast_unsigned(),
-            ..form
-        },
-        Source::Register(src) => Fields {
-            dst,
-            src: register_field(*src),
-            offset,
-            ..form
-        },
+        Source::Immediate(n) => n.cast_unsigned(),
+        Source::Register(_) => 0,
     }
 }
 
-/// The fields of a branch.
+/// The field of a second operand that is a register; 0 for a constant.
 #[tactic(auto, unfolding(crate::specs::Spelling::fields_of))]
-fn branch_fields(
-    width: Width,
-    condition: Condition,
-    dst: Register,
-    source: &Source,
-    offset: i16,
-) -> Fields
-    ensures fields { result ≡ fields_of (instruction.Branch width condition dst source.now offset) }
-    ensures dst { result.dst < 16 }
-    ensures src { result.src < 16 }
+fn source_field(source: &Source) -> u8
+    ensures computes { (w : Width) (o : Operator) (dst : ℕ) → result ≡ (fields_of (instruction.Arithmetic w o dst source.now)).src }
+    ensures compares { (w : Width) (c : Condition) (dst : ℕ) (offset : ℤ) → result ≡ (fields_of (instruction.Branch w c dst source.now offset)).src }
+    ensures small { result < 16 }
 {
-    let register = matches!(source, Source::Register(_));
-    let form = bare(Form::Branch {
-        width,
-        condition,
-        register,
-    });
-    let (dst, offset) = (register_field(dst), offset.cast_unsigned());
     match source {
-        Source::Immediate(n) => Fields {
-            dst,
-            offset,
-            immediate: n.cast_unsigned(),
-            ..form
-        },
-        Source::Register(src) => Fields {
-            dst,
-            src: register_field(*src),
-            offset,
-            ..form
-        },
+        Source::Immediate(_) => 0,
+        Source::Register(src) => register_field(*src),
     }
 }
 
-/// The fields of a load or of a store of a register.
-fn access_fields(form: Form, dst: Register, src: Register, offset: i16) -> Fields
-    ensures fields { result ≡ fields (opcode_of form) dst src (bits16 offset) 0 }
-    ensures dst { result.dst < 16 }
-    ensures src { result.src < 16 }
-{
-    Fields {
-        dst: register_field(dst),
-        src: register_field(src),
-        offset: offset.cast_unsigned(),
-        ..bare(form)
-    }
-}
-
-/// The fields of a call, where `kind` tells a helper from a function of the program.
-fn call_fields(kind: u8, immediate: i32) -> Fields
-    requires { kind < 16 }
-    ensures fields { result ≡ fields (opcode_of known.Call) 0 kind 0 (bits32 immediate) }
-    ensures dst { result.dst < 16 }
-    ensures src { result.src < 16 }
-{
-    Fields {
-        src: kind,
-        immediate: immediate.cast_unsigned(),
-        ..bare(Form::Call)
-    }
-}
-
-/// The fields of an instruction, of its first slot where it has two.
+/// Whether a second operand is a register.
 #[tactic(auto, unfolding(crate::specs::Spelling::fields_of))]
-fn instr_fields(instr: &Instr) -> Fields
-    ensures fields { result ≡ fields_of instr.now }
-    ensures dst { result.dst < 16 }
-    ensures src { result.src < 16 }
+fn is_register(source: &Source) -> bool
+    ensures computes { (w : Width) (o : Operator) (dst : ℕ) → opcode_of (known.Arithmetic w o result) ≡ (fields_of (instruction.Arithmetic w o dst source.now)).opcode }
+    ensures compares { (w : Width) (c : Condition) (dst : ℕ) (offset : ℤ) → opcode_of (known.Branch w c result) ≡ (fields_of (instruction.Branch w c dst source.now offset)).opcode }
+{
+    matches!(source, Source::Register(_))
+}
+
+/// The form of an instruction, which tells its opcode.
+#[tactic(auto, unfolding(crate::specs::Spelling::fields_of))]
+fn form(instr: &Instr) -> Form
+    ensures { opcode_of result ≡ (fields_of instr.now).opcode }
 {
     match instr {
         Instr::Arithmetic {
             width,
             operator,
-            dst,
             source,
-        } => arithmetic_fields(*width, *operator, *dst, source),
-        Instr::Negate { width, dst } => Fields {
-            dst: register_field(*dst),
-            ..bare(Form::Negate { width: *width })
+            ..
+        } => Form::Arithmetic {
+            width: *width,
+            operator: *operator,
+            register: is_register(source),
         },
-        Instr::SignExtend {
-            extension,
-            dst,
-            src,
-        } => Fields {
-            dst: register_field(*dst),
-            src: register_field(*src),
-            offset: move_offset(*extension),
-            ..bare(Form::Arithmetic {
-                width: extension.width(),
-                operator: Operator::Mov,
-                register: true,
-            })
+        Instr::Negate { width, .. } => Form::Negate { width: *width },
+        Instr::SignExtend { extension, .. } => Form::Arithmetic {
+            width: extension.width(),
+            operator: Operator::Mov,
+            register: true,
         },
-        Instr::ByteOrder { order, size, dst } => Fields {
-            dst: register_field(*dst),
-            immediate: swap_bits(*size),
-            ..bare(Form::ByteOrder { order: *order })
-        },
-        Instr::Jump { offset } => Fields {
-            offset: offset.cast_unsigned(),
-            ..bare(Form::Jump)
-        },
-        Instr::LongJump { offset } => Fields {
-            immediate: offset.cast_unsigned(),
-            ..bare(Form::LongJump)
-        },
+        Instr::ByteOrder { order, .. } => Form::ByteOrder { order: *order },
+        Instr::Jump { .. } => Form::Jump,
+        Instr::LongJump { .. } => Form::LongJump,
         Instr::Branch {
             width,
             condition,
-            dst,
             source,
-            offset,
-        } => branch_fields(*width, *condition, *dst, source, *offset),
-        Instr::CallHelper { number } => call_fields(0, *number),
-        Instr::CallLocal { offset } => call_fields(1, *offset),
-        Instr::Exit => bare(Form::Exit),
-        Instr::Load {
-            size,
-            dst,
-            base,
-            offset,
-        } => access_fields(Form::Load { size: *size }, *dst, *base, *offset),
-        Instr::LoadSigned {
-            size,
-            dst,
-            base,
-            offset,
-        } => access_fields(Form::LoadSigned { size: *size }, *dst, *base, *offset),
-        Instr::StoreImmediate {
-            size,
-            base,
-            offset,
-            immediate,
-        } => Fields {
-            dst: register_field(*base),
-            offset: offset.cast_unsigned(),
-            immediate: immediate.cast_unsigned(),
-            ..bare(Form::StoreImmediate { size: *size })
+            ..
+        } => Form::Branch {
+            width: *width,
+            condition: *condition,
+            register: is_register(source),
         },
-        Instr::Store {
-            size,
-            base,
-            offset,
-            src,
-        } => access_fields(Form::Store { size: *size }, *base, *src, *offset),
-        Instr::LoadImmediate { dst, value } => Fields {
-            dst: register_field(*dst),
-            immediate: (*value % 0x1_0000_0000) as u32,
-            ..bare(Form::LoadImmediate)
-        },
+        Instr::CallHelper { .. } | Instr::CallLocal { .. } => Form::Call,
+        Instr::Exit => Form::Exit,
+        Instr::Load { size, .. } => Form::Load { size: *size },
+        Instr::LoadSigned { size, .. } => Form::LoadSigned { size: *size },
+        Instr::StoreImmediate { size, .. } => Form::StoreImmediate { size: *size },
+        Instr::Store { size, .. } => Form::Store { size: *size },
+        Instr::LoadImmediate { .. } => Form::LoadImmediate,
+    }
+}
+
+/// The field of the low four bits: the destination, or the base of a store.
+#[tactic(auto, unfolding(crate::specs::Spelling::fields_of))]
+fn dst_field(instr: &Instr) -> u8
+    ensures value { result ≡ (fields_of instr.now).dst }
+    ensures small { result < 16 }
+{
+    match instr {
+        Instr::Arithmetic { dst, .. } | Instr::Negate { dst, .. } => register_field(*dst),
+        Instr::SignExtend { dst, .. } | Instr::ByteOrder { dst, .. } => register_field(*dst),
+        Instr::Branch { dst, .. } | Instr::LoadImmediate { dst, .. } => register_field(*dst),
+        Instr::Load { dst, .. } | Instr::LoadSigned { dst, .. } => register_field(*dst),
+        Instr::StoreImmediate { base, .. } | Instr::Store { base, .. } => register_field(*base),
+        _ => 0,
+    }
+}
+
+/// The field of the high four bits: the source, the base of a load, or the kind of a call.
+#[tactic(auto, unfolding(crate::specs::Spelling::fields_of))]
+fn src_field(instr: &Instr) -> u8
+    ensures value { result ≡ (fields_of instr.now).src }
+    ensures small { result < 16 }
+{
+    match instr {
+        Instr::Arithmetic { source, .. } | Instr::Branch { source, .. } => source_field(source),
+        Instr::SignExtend { src, .. } | Instr::Store { src, .. } => register_field(*src),
+        Instr::Load { base, .. } | Instr::LoadSigned { base, .. } => register_field(*base),
+        Instr::CallLocal { .. } => 1,
+        _ => 0,
+    }
+}
+
+/// The bits of the offset.
+#[tactic(auto, unfolding(crate::specs::Spelling::fields_of))]
+fn offset_field(instr: &Instr) -> u16
+    ensures { result ≡ (fields_of instr.now).offset }
+{
+    match instr {
+        Instr::Arithmetic { operator, .. } => signed_offset(*operator),
+        Instr::SignExtend { extension, .. } => move_offset(*extension),
+        Instr::Jump { offset } | Instr::Branch { offset, .. } => offset.cast_unsigned(),
+        Instr::Load { offset, .. } | Instr::LoadSigned { offset, .. } => offset.cast_unsigned(),
+        Instr::StoreImmediate { offset, .. } | Instr::Store { offset, .. } =>
+            offset.cast_unsigned(),
+        _ => 0,
+    }
+}
+
+/// The bits of the immediate; of one of 64 bits the low half.
+#[tactic(auto, unfolding(crate::specs::Spelling::fields_of))]
+fn immediate_field(instr: &Instr) -> u32
+    ensures { result ≡ (fields_of instr.now).immediate }
+{
+    match instr {
+        Instr::Arithmetic { source, .. } | Instr::Branch { source, .. } => constant_field(source),
+        Instr::ByteOrder { size, .. } => swap_bits(*size),
+        Instr::LongJump { offset } | Instr::CallLocal { offset } => offset.cast_unsigned(),
+        Instr::CallHelper { number } => number.cast_unsigned(),
+        Instr::StoreImmediate { immediate, .. } => immediate.cast_unsigned(),
+        Instr::LoadImmediate { value, .. } => (*value % 0x1_0000_0000) as u32,
+        _ => 0,
+    }
+}
+
+/// The fields of an instruction, of its first slot where it has two.
+fn instr_fields(instr: &Instr) -> Fields
+    ensures fields { result ≡ fields_of instr.now }
+    ensures dst { result.dst < 16 }
+    ensures src { result.src < 16 }
+{
+    Fields {
+        opcode: opcode(form(instr)),
+        dst: dst_field(instr),
+        src: src_field(instr),
+        offset: offset_field(instr),
+        immediate: immediate_field(instr),
     }
 }
 
