@@ -1,4 +1,4 @@
-//! The fields of an instruction, a case for each form.
+//! The fields of an instruction, a function for each field.
 
 ghost use Rattle.std.specs.Prelude.{ℕ, ℤ, ◌≡◌, ◌<◌, ◌≤◌, ◌%◌, ◌/◌, ◌^◌, ◌++◌, OnOk};
 ghost use Rattle.bpf_isa.specs.Table.{opcode_of, operator_code, condition_code, size_code, signed_size_code, source_bit, alu_class, jump_class, order_opcode};
