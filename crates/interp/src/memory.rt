@@ -146,6 +146,21 @@ impl<const COUNTS: usize> Machine<COUNTS> {
         if place < CONTEXT {
             return read_plain(&world.context, place, size);
         }
+        self.read_outside(world, address, size)
+    }
+
+    /// Reads an access that begins neither in the context nor in the first stack.
+    #[inline(never)]
+    fn read_outside<D: Device>(
+        &self,
+        world: &World<D>,
+        address: u64,
+        size: Size,
+    ) -> Result<u64, MachineFault>
+        requires context { (address < context_start) ⊎ (context_start + 32 ≤ address) }
+        requires first { (address < stack_start) ⊎ (stack_start + 512 ≤ address) }
+        ensures { result ≡ reading (memory world.now.context (D.content world.now.device.now) self.now) address (byte_count size) }
+    {
         if address < SECTOR_START {
             return self.read_above(address, size);
         }
@@ -194,6 +209,23 @@ impl<const COUNTS: usize> Machine<COUNTS> {
                 count,
             );
         }
+        self.writable_outside(world, address, count)
+    }
+
+    /// The same for bytes that don't begin in the first stack.
+    #[inline(never)]
+    fn writable_outside<D: Device>(
+        &self,
+        world: &World<D>,
+        address: u64,
+        count: u64,
+    ) -> Result<Spot, MachineFault>
+        requires some { 0 < count }
+        requires few { count ≤ 512 }
+        requires first { (address < stack_start) ⊎ (stack_start + 512 ≤ address) }
+        ensures fault { refused result ≡ write_fault (memory world.now.context (D.content world.now.device.now) self.now) address count }
+        ensures spot { IfOk result (λ s. LieAt self.now.frames address count s.frame s.place) }
+    {
         let place = address.wrapping_sub(CONTEXT_START);
         if place < CONTEXT {
             return Err(plain_fault(place + count <= CONTEXT));
