@@ -4,3 +4,4 @@ pub mod Unique
 pub mod Canonical
 pub mod NoFault
 pub mod OneFault
+pub mod DataBytes

@@ -1,5 +1,6 @@
 -- A log as a value: its device and its entries, within the limits of docs/LOG-FORMAT.md.
 use Rattle.std.specs.Prelude.{ℕ, zero, suc, ◌+◌, ◌*◌, ◌^◌, ◌≡◌, ◌<◌, ◌≤◌, true, false, if◌then◌else◌, List, [], length, sum_by, slice_get, Some}
+use Rattle.std.specs.List.{slice_index}
 use Rattle.std.specs.Option.{option_map_or}
 use Rattle.logfmt.specs.declared.entry.Entry.{Entry}
 
@@ -33,6 +34,10 @@ pub record IsMark (e : Entry) : Type 0 where
   pub count : e.count ≡ 0
   pub text : length e.text ≤ 480
 
+-- each number is a byte
+abbrev pub AreBytes : List ℕ → Type 0
+AreBytes bytes = (i : ℕ) → slice_index bytes i < 256
+
 -- an entry for a device of that many sectors
 pub record IsEntry (sectors : ℕ) (e : Entry) : Type 0 where
   pub fits : e.sector < 2 ^ 64
@@ -40,6 +45,7 @@ pub record IsEntry (sectors : ℕ) (e : Entry) : Type 0 where
   pub other : e.flags.mark ≡ false → e.text ≡ []
   pub device : 0 < e.count → e.sector + e.count ≤ sectors
   pub content : length e.content ≡ 512 * data_of e
+  pub bytes : AreBytes e.content
 
 -- each entry of the list is one for that device
 abbrev pub AreEntries : ℕ → List Entry → Type 0

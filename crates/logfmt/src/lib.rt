@@ -25,6 +25,8 @@
 //!
 //! - `LogText bytes log` says by an equation of positions where each field of each entry stands, and
 //!   which bounds hold. Where `read` is `Ok`, the bytes are a log text of its result.
+//! - The data of each entry of a `Log` are bytes (`IsEntry`), so layers above know of each number that it is
+//!   below 256.
 //! - `FirstFault bytes sectors code at` says which check of docs/LOG-FORMAT.md is the first to fail.
 //!   It speaks of the bytes alone. Where `read` is `Err`, that is its fault, or memory ran out. Where
 //!   it is `Ok`, no check fails.

@@ -4,7 +4,8 @@ ghost use Rattle.std.specs.Prelude.{◌≡◌, ◌≤◌, ◌<◌, ◌+◌, ◌*
 ghost use Rattle.base.specs.Check.{first_failing};
 ghost use Rattle.base.specs.Numbers.{number_at};
 ghost use Rattle.base.specs.declared.causes.LogCause.TheVariants as cause;
-ghost use Rattle.logfmt.specs.Bounds.{IsEntry, data_of};
+ghost use Rattle.logfmt.specs.Bounds.{AreBytes, IsEntry, data_of};
+ghost use Rattle.std.specs.List.{slice_range};
 ghost use Rattle.logfmt.specs.LogText.{LogText, StandsAt};
 ghost use Rattle.logfmt.specs.Faults.{FirstFault, HasNoFault, super_checks, SuperPasses};
 ghost use Rattle.logfmt.specs.Header.{HeaderStands, HeaderFits};
@@ -51,6 +52,17 @@ fn super_fault(bytes: &[u8]) -> Option<LogCause>
     None
 }
 
+/// The bytes from `start` up to `end`, copied.
+fn copied(alloc: Global, bytes: &[u8], start: usize, end: usize) -> Result<Bytes, AllocError>
+    requires order { start ≤ end }
+    requires inside { end ≤ length bytes.now }
+    ensures value { IfOk result (λ copy. copy ≡ slice_range bytes.now start end) }
+    ensures bytes { IfOk result AreBytes }
+{
+    let copy = bytes[start..end].to_vec(alloc)?;
+    Ok(Bytes::of(copy))
+}
+
 /// The entry whose header stands in sector `at`, with its text and its data.
 fn entry_of(
     alloc: Global,
@@ -69,13 +81,18 @@ fn entry_of(
     let text = SECTOR * at + 32;
     let data = SECTOR * (at + 1);
     let text = bytes[text..text + header.text_length as usize].to_vec(alloc)?;
-    let content = bytes[data..data + SECTOR * header.data_sectors() as usize].to_vec(alloc)?;
+    let content = copied(
+        alloc,
+        bytes,
+        data,
+        data + SECTOR * header.data_sectors() as usize,
+    )?;
     Ok(Entry {
         sector: header.sector,
         count: header.count,
         flags: header.flags,
         text: Bytes::of(text),
-        content: Bytes::of(content),
+        content,
     })
 }
 
