@@ -18,3 +18,4 @@ pub mod Identity
 pub mod Shards
 pub mod Bases
 pub mod Telling
+pub mod Devices

@@ -1,15 +1,15 @@
 -- Laws of crash images: what one more unit changes, and what a key tells (docs/CRASH-MODEL.md, Crash image, Keys of
 -- images).
-use Rattle.std.specs.Prelude.{ℕ, ◌*◌, ◌≡◌, ◌≢◌, ◌<◌, ◌↔◌, true, false, IsTrue, List, [], ◌∷◌, ◌++◌, filter, take, drop, replicate, slice_index, Some}
+use Rattle.std.specs.Prelude.{ℕ, ◌*◌, ◌≡◌, ◌≢◌, ◌<◌, ◌↔◌, true, false, IsTrue, List, [], ◌∷◌, ◌++◌, length, filter, take, drop, replicate, slice_get, slice_index, Some}
 use Rattle.logfmt.specs.declared.entry.Entry.{Entry}
-use Rattle.logfmt.specs.Bounds.{LogValue, IsLog}
+use Rattle.logfmt.specs.Bounds.{LogValue, IsLog, AreBytes}
 use Rattle.epochs.specs.declared.unit.Unit.{Unit as LogUnit}
 use Rattle.epochs.specs.Units.{unit_content, epoch_at}
 use Rattle.epochs.specs.Plan.{IsUnit}
 use Rattle.choices.specs.declared.fate.Fate.TheVariants as fate
 use Rattle.choices.specs.declared.choice.Departure.{Departure}
 use Rattle.images.specs.Images.{is_unit, writes, byte_after, sector_after}
-use Rattle.images.specs.Views.{ViewValue, sectors_of, context_at}
+use Rattle.images.specs.Views.{ViewValue, sectors_of, context_at, ContextFits}
 use Rattle.images.specs.Keys.{KeyValue, base_of, key_of}
 use Rattle.images.specs.Equal.{same_key}
 
@@ -52,3 +52,14 @@ KeysTell = (a b : ViewValue) (p q : ℕ) (key other : KeyValue) → a.log ≡ b.
 -- `==` of keys answers whether they are the same
 abbrev pub EqualKeysAreSame : Type 0
 EqualKeysAreSame = (a b : KeyValue) → IsTrue (same_key a b) ↔ (a ≡ b)
+
+-- what a view shows is a device of its log's size, of sectors of 512 bytes, and a context with small numbers
+pub record ShowsDevice (view : ViewValue) : Type 0 where
+  pub count : length (sectors_of view) ≡ view.log.sectors
+  pub long : (n : ℕ) (sector : List ℕ) → slice_get (sectors_of view) n ≡ Some sector → length sector ≡ 512
+  pub bytes : (n : ℕ) (sector : List ℕ) → slice_get (sectors_of view) n ≡ Some sector → AreBytes sector
+  pub fits : ContextFits (context_at view.log view.cut)
+
+-- whichever the cut and the departures
+abbrev pub ImagesAreDevices : Type 0
+ImagesAreDevices = (view : ViewValue) → IsLog view.log → ShowsDevice view

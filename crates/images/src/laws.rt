@@ -1,6 +1,6 @@
 //! Laws of crash images. The functions do nothing; each contract is a theorem.
 
-ghost use Rattle.images.specs.Laws.{LastWriterShows, FatesShow, EpochHasBase, KeysTell, EqualKeysAreSame};
+ghost use Rattle.images.specs.Laws.{LastWriterShows, FatesShow, EpochHasBase, KeysTell, EqualKeysAreSame, ImagesAreDevices};
 
 /// A byte of a crash image is that of the last unit that writes it: a unit that is laid over others
 /// shows its own byte where it reaches the device, and else what the others leave.
@@ -28,4 +28,10 @@ pub fn keys_tell()
 /// `==` of keys answers whether they are the same. So a map finds a key exactly where it has that key.
 pub fn equal_keys_are_same()
     ensures { EqualKeysAreSame }
+{}
+
+/// A crash image of a log is a device of the log's size: each sector has 512 numbers below 256. The
+/// numbers of its context are at most 65,536.
+pub fn images_are_devices()
+    ensures { ImagesAreDevices }
 {}

@@ -68,6 +68,8 @@
 //! - Two keys of one log are the same exactly where program, context and image are (`keys_tell`).
 //! - `==` answers whether two keys are the same (`equal_keys_are_same`), so a map finds a key exactly
 //!   where it has that key.
+//! - A crash image is a device of the log's size, of sectors of 512 bytes, and the numbers of its context
+//!   are at most 65,536 (`images_are_devices`).
 //!
 //! `view` and `Changes::new` take no memory, and `view` always answers `Ok`. Where memory is refused
 //! `History::new`, `key` and `copy` answer `AllocError`. Nothing else is refused.
@@ -128,5 +130,8 @@ pub use changed::ChangedSector;
 pub use changes::Changes;
 pub use history::History;
 pub use key::Key;
-pub use laws::{epoch_has_base, equal_keys_are_same, fates_show, keys_tell, last_writer_shows};
+pub use laws::{
+    epoch_has_base, equal_keys_are_same, fates_show, images_are_devices, keys_tell,
+    last_writer_shows,
+};
 pub use view::View;
