@@ -7,3 +7,4 @@ pub mod Runs
 pub mod Collected
 pub mod HandingOver
 pub mod Back
+pub mod Safe

@@ -9,3 +9,4 @@ pub mod Exploring
 pub mod Taking
 pub mod Crew
 pub mod Laws
+pub mod Safe

@@ -1,6 +1,9 @@
 //! Laws of the failing lines. The functions do nothing; each contract is a theorem.
 
 ghost use Rattle.workers.specs.Laws.{LinesAreSet, CollectionIsFailing, CollectionBeginsWithFirst};
+ghost use Rattle.workers.specs.Safe.{AcceptedCheckersRunSafely};
+
+use soundness::accepted_runs_safely;
 
 /// The failing lines of a run are those that docs/REPORT.md says, no other, each once, by image and
 /// then by program.
@@ -19,3 +22,11 @@ pub fn collection_is_failing()
 pub fn collection_begins_with_first()
     ensures { CollectionBeginsWithFirst }
 {}
+
+/// A checker that the verifier accepts for the device of the log ends in a verdict on each image, within
+/// its budget and without a fault. So each of its failing lines is that of a verdict.
+pub fn accepted_checkers_run_safely()
+    ensures { AcceptedCheckersRunSafely }
+{
+    accepted_runs_safely();
+}

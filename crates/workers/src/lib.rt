@@ -26,7 +26,7 @@
 //! # Place
 //!
 //! It stands on `choices` and `images`, which number and form the images, on `interp`,
-//! whose `Checker` judges them, on `shares` and `verdict_cache`, which the workers share, on `lines`, which
+//! whose `Checker` judges them, on `soundness` for its law alone, on `shares` and `verdict_cache`, which the workers share, on `lines`, which
 //! keeps failing lines, and on `base`, which has the type of a refusal. `commands` calls it.
 //!
 //! # What is proved
@@ -34,7 +34,9 @@
 //! `failing_lines` (`specs/Failing.antt`) says what a run finds: the lines of each image with each
 //! checker whose ending there, by the definition of the machine on the definition of the image, is not a
 //! verdict with answer 0. A law stands above it (`lines_are_set`): it has exactly these lines, by image
-//! and then by checker, each once.
+//! and then by checker, each once. A second law (`accepted_checkers_run_safely`, `specs/Safe.antt`): a checker
+//! that the verifier accepts for the device of the log meets no fault on any image and ends in a verdict within
+//! its budget, so each of its lines is that of a verdict. It rests on `soundness`, and on `images_are_devices`.
 //!
 //! - `judge_block` gives exactly the block's part of it, whatever other workers do to the shards: what a
 //!   shard has is true by its type.
@@ -83,5 +85,8 @@ pub use exploring::{Work, explore_all};
 pub use gate::{Gate, OpenGate};
 pub use input::Input;
 pub use judging::judge_block;
-pub use laws::{collection_begins_with_first, collection_is_failing, lines_are_set};
+pub use laws::{
+    accepted_checkers_run_safely, collection_begins_with_first, collection_is_failing,
+    lines_are_set,
+};
 pub use piece::Piece;

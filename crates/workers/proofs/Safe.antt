@@ -1,0 +1,52 @@
+-- Accepted checkers run safely on crash images, since these are devices of their log's size.
+use Rattle.std.proofs.Common.{ℕ, ◌≡◌, List, slice_get, Option, Some, sym, refl, subst, ◌∙◌}
+use Rattle.std.proofs.lemmas.Option.{same_Some}
+use Rattle.logfmt.specs.Bounds.{IsLog}
+use Rattle.choices.specs.Choices.{ChoiceValue}
+use Rattle.images.specs.Views.{ViewValue, view_of, sectors_of, context_at}
+use Rattle.images.proofs.Devices.{images_are_devices}
+use Rattle.machine.specs.Outcome.{Ending, Verdict, outcome}
+use Rattle.interp.specs.Checker.{CheckerValue, judged}
+use Rattle.lines.specs.Line.{FailingLine}
+use Rattle.soundness.specs.Accepted.{IsImage, IsSafeRun, AcceptedRunsSafely}
+use Rattle.workers.specs.Failing.{Subject, choices_of, ending_at, failing_lines}
+use Rattle.workers.specs.Laws.{IsFailing}
+use Rattle.workers.specs.Safe.{IsVerdict, RunsSafely, IsAcceptedFor, AcceptedCheckersRunSafely}
+use Rattle.workers.proofs.Sets.{listed}
+
+-- a crash image is one on which accepted programs run safely
+pub is_image : (view : ViewValue) → IsLog view.log → IsImage view.log.sectors (sectors_of view) (context_at view.log view.cut)
+is_image view is =
+    let shows = images_are_devices view is in
+    record {
+      count = shows.count;
+      whole = λ n sector there. record { long = shows.long n sector there; bytes = shows.bytes n sector there };
+      told = refl;
+      epoch = shows.fits.epoch;
+      marks = shows.fits.marks;
+    }
+
+safe_at : AcceptedRunsSafely → (s : Subject) (checker : CheckerValue) (choice : ChoiceValue) → IsLog s.plan.log → IsAcceptedFor s checker
+    → IsSafeRun checker.program (sectors_of (view_of s.plan choice)) (context_at s.plan.log choice.cut) checker.limit
+safe_at sound s checker choice is accepted =
+    sound checker.program s.plan.log.sectors checker.limit (sectors_of (view_of s.plan choice)) (context_at s.plan.log choice.cut) accepted
+    (is_image (view_of s.plan choice) is)
+
+verdict_at : (s : Subject) (checker : CheckerValue) (choice : ChoiceValue)
+    → IsSafeRun checker.program (sectors_of (view_of s.plan choice)) (context_at s.plan.log choice.cut) checker.limit → IsVerdict (ending_at s choice checker)
+unfolding ending_at judged
+verdict_at s checker choice safe = (safe.answer, safe.codes, safe.ends)
+
+of_line : AcceptedRunsSafely → (s : Subject) (l : FailingLine) (checker : CheckerValue) → IsLog s.plan.log → IsFailing s l
+    → slice_get s.checkers l.program ≡ Some checker → IsAcceptedFor s checker → IsVerdict l.ending
+of_line sound s l checker is failing named accepted =
+    let same : checker ≡ failing.checker = same_Some checker failing.checker (sym named ∙ failing.of_program) in
+    subst IsVerdict (sym (failing.ends))
+    (verdict_at s failing.checker failing.choice
+    (safe_at sound s failing.checker failing.choice is (subst (IsAcceptedFor s) same accepted)))
+
+pub accepted_run_safely : AcceptedRunsSafely → AcceptedCheckersRunSafely
+accepted_run_safely sound = record {
+  images = λ s checker is accepted image choice there. safe_at sound s checker choice is accepted;
+  lines = λ s i l checker is there named accepted. of_line sound s l checker is ((listed s).sound i l there) named accepted;
+}
