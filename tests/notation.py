@@ -150,6 +150,8 @@ class Row:
             standard error is closed)
     seconds how long the run may take
     notes   the notes on standard error, each without `note: ` and the newline; None where nothing is asked of them
+    images  how many images the line of `--progress` ends with, judged and in all; standard error begins with it, and
+            `error` is the rest. None where there is no such line
     """
 
     name: str
@@ -161,6 +163,7 @@ class Row:
     to: str = "pipe"
     seconds: int = SECONDS
     notes: object = None
+    images: object = None
 
 
 def files(entries, *programs):

@@ -51,6 +51,7 @@ compares what it makes of each instruction with bytes that were written down by 
 A new row is a line in one of the tables; a new table is a module of rows/ with a list ROWS, named in TABLES below.
 """
 import os
+import re
 import subprocess
 import sys
 import tempfile
@@ -187,6 +188,16 @@ def output_differs(what, found, wanted):
     return [] if found == wanted else [f"{what} {first_difference(found, wanted)}"]
 
 
+# What `--progress` says: a line that is written again, and its end.
+PROGRESS = re.compile(rb"(progress: \d+ of \d+ images\r)*(?P<last>progress: \d+ of \d+ images)\n")
+
+
+def split_progress(error):
+    """The last of the lines of progress with which standard error begins, or nothing, and what follows them."""
+    begun = PROGRESS.match(error)
+    return (begun["last"], error[begun.end() :]) if begun else (b"", error)
+
+
 def split_notes(error):
     """Standard error without its notes, and the notes."""
     parts = {True: b"", False: b""}
@@ -201,9 +212,11 @@ def differences(row, done, out):
     found += output_differs("standard output", out, row.out)
     if row.error is not None:
         line = f"{row.error}\n" if row.error and isinstance(row.error, str) else row.error
-        rest, notes = split_notes(done.stderr)
+        last, error = split_progress(done.stderr) if row.images is not None else (b"", done.stderr)
+        found += output_differs("the progress", last, f"progress: {row.images} of {row.images} images" if row.images else "")
+        rest, notes = split_notes(error)
         found += output_differs("standard error", rest, line)
-        found += [] if rest + notes == done.stderr else ["a note stands before the line of the refusal"]
+        found += [] if rest + notes == error else ["a note stands before the line of the refusal"]
         if row.notes is not None:
             found += output_differs("the notes", notes, "".join(f"note: {it}\n" for it in row.notes))
     return found

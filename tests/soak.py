@@ -29,7 +29,7 @@ sys.dont_write_bytecode = True
 
 from memory import WANT_OF_MEMORY
 from notation import SECTOR, TOP, Assembly
-from run import Assembler, all_rows, made, shortened, split_notes
+from run import Assembler, all_rows, made, shortened, split_notes, split_progress
 
 LIMIT = 20
 MEMORY = 128 << 20
@@ -131,6 +131,8 @@ def options_of(chance, command):
         words.append("--tears")
     if command == "explore" and chance.random() < 0.3:
         words.append("--first")
+    if command == "explore" and chance.random() < 0.1:
+        words.append("--progress")
     return words
 
 
@@ -155,7 +157,8 @@ def made_run(stock, seed, number):
 
 def wrong(words, done, most):
     """What isn't as expected of a run that ended, or None."""
-    error, _notes = split_notes(done.stderr)
+    _progress, error = split_progress(done.stderr) if "--progress" in words else (b"", done.stderr)
+    error, _notes = split_notes(error)
     if done.returncode == -9:
         return f"no end within {LIMIT} seconds"
     if WANT_OF_MEMORY.fullmatch(error):

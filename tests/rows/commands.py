@@ -113,6 +113,7 @@ FAULTS = [
         "images log --sectors 4 --cache 0",
         "images log --sectors 4 --checked 1",
         "images log --sectors 4 --first",
+        "images log --sectors 4 --progress",
         "image",
         "image log",
         "image log 0",

@@ -1,9 +1,11 @@
 """Runs by many workers, with and without a cache: the same bytes for any of them.
 
 Each run is made by every number of workers with every size of the cache, and the report is the model's, or that of the
-worked example. One run fails in its last block alone, one only behind many blocks.
+worked example. One run fails in its last block alone, one only behind many blocks. Runs that say how far they are say
+nothing else otherwise.
 """
 import functools
+from dataclasses import replace
 
 import model
 from model import Checker, Run, explored
@@ -86,7 +88,36 @@ RUNS = [
     run_of("commits, eight programs, first", COMMITS, EIGHT, EIGHT_CHECKERS, first=True),
 ]
 
+# Runs that say how far they are, by the number of their images.
+PROGRESS = {
+    "torn_sector": 10,
+    "torn_sector, first": 10,
+    "sixteen_codes": 81,
+    "sixteen_codes, first": 81,
+}
+
+
+def with_progress(row, images):
+    """A row of which all but the line of progress is as ever, by one worker and by four."""
+    return [
+        replace(
+            row,
+            name=f"{row.name}, {workers} workers, with progress",
+            words=f"{row.words} --workers {workers} --progress",
+            images=images,
+        )
+        for workers in [1, 4]
+    ]
+
+
+def worked_row(name):
+    """The worked example of that name."""
+    return next(it for it in worked.ROWS if it.name == name)
+
+
 ROWS = [
-    *(row for name in EXAMPLES for row in each_way(next(it for it in worked.ROWS if it.name == name))),
+    *(row for name in EXAMPLES for row in each_way(worked_row(name))),
     *(row for run in RUNS for row in each_way(run)),
+    *(row for name, images in PROGRESS.items() for row in with_progress(worked_row(name), images)),
+    *(row for run in RUNS[:2] for row in with_progress(run, 421)),
 ]

@@ -25,7 +25,7 @@ use epochs::Cuts;
 use std::alloc::{AllocError, Global};
 use std::sync::Wait;
 use std::thread::Threads;
-use workers::OpenGate;
+use workers::Gate;
 
 /// The first bytes of the log of the stored run, a super block without entries; zeros follow.
 pub(crate) const STORED_SUPER: [u8; 32] = [
@@ -88,9 +88,10 @@ fn programs_of(alloc: Global, files: &[Option<Vec<u8>>]) -> Result<Vec<Vec<u8>>,
 }
 
 /// Explores a log, and answers the report with its status: 1 where there is a failing image.
-fn explore_files<R: Threads + Wait + Sync>(
+fn explore_files<G: Gate + Sync, R: Threads + Wait + Sync>(
     rt: &R,
     alloc: Global,
+    gate: &G,
     log: &[u8],
     programs: &[Vec<u8>],
     options: &Options,
@@ -98,7 +99,7 @@ fn explore_files<R: Threads + Wait + Sync>(
     ensures answers { IfOk result (λ answer. AnswersRun options.now log.now (map (λ f. f.items) programs.now) answer.0.items answer.1) }
     ensures refused { IfErr result (Refuses log.now (map (λ f. f.items) programs.now) options.now) }
 {
-    let explored = explore_with(rt, alloc, &OpenGate, log, programs, options)?;
+    let explored = explore_with(rt, alloc, gate, log, programs, options)?;
     let status = if explored.failing { 1 } else { 0 };
     Ok((explored.bytes, status))
 }
@@ -127,9 +128,10 @@ fn first_of(files: &[Option<Vec<u8>>]) -> Result<&[u8], Refusal>
 }
 
 /// Explores the files of a command, of which the first is the log.
-fn act_explore<R: Threads + Wait + Sync>(
+fn act_explore<G: Gate + Sync, R: Threads + Wait + Sync>(
     rt: &R,
     alloc: Global,
+    gate: &G,
     words: OptionWords,
     files: &[Option<Vec<u8>>],
 ) -> Result<(Vec<u8>, u8), Refusal>
@@ -137,13 +139,14 @@ fn act_explore<R: Threads + Wait + Sync>(
     ensures refused { IfErr result (RefusesToAct (request.Explore words) (map (option_map (λ f. f.items)) files.now)) }
 {
     let options = options_of(words)?;
-    explore_readable(rt, alloc, &options, files)
+    explore_readable(rt, alloc, gate, &options, files)
 }
 
 /// Explores files, each of which has to be readable.
-fn explore_readable<R: Threads + Wait + Sync>(
+fn explore_readable<G: Gate + Sync, R: Threads + Wait + Sync>(
     rt: &R,
     alloc: Global,
+    gate: &G,
     options: &Options,
     files: &[Option<Vec<u8>>],
 ) -> Result<(Vec<u8>, u8), Refusal>
@@ -160,7 +163,14 @@ fn explore_readable<R: Threads + Wait + Sync>(
         return Err(unreadable(place + 1));
     }
     match programs_of(alloc, others) {
-        Ok(programs) => explore_files(rt, alloc, log.as_slice(), programs.as_slice(), options),
+        Ok(programs) => explore_files(
+            rt,
+            alloc,
+            gate,
+            log.as_slice(),
+            programs.as_slice(),
+            options,
+        ),
         Err(_error) => Err(Refusal::of_memory()),
     }
 }
@@ -177,14 +187,25 @@ fn stored_options() -> Options
 }
 
 /// The run that the program holds itself.
-fn act_stored<R: Threads + Wait + Sync>(rt: &R, alloc: Global) -> Result<(Vec<u8>, u8), Refusal>
+fn act_stored<G: Gate + Sync, R: Threads + Wait + Sync>(
+    rt: &R,
+    alloc: Global,
+    gate: &G,
+) -> Result<(Vec<u8>, u8), Refusal>
     ensures answers { IfOk result (λ answer. AnswersRun STORED_SETTINGS stored_log stored_programs answer.0.items answer.1) }
     ensures refused { IfErr result (λ r. (r ≡ memory_refusal) ⊎ Refuses stored_log stored_programs STORED_SETTINGS r) }
 {
     let options = stored_options();
     match stored_files(alloc) {
         Ok((log, programs)) => {
-            explore_files(rt, alloc, log.as_slice(), programs.as_slice(), &options)
+            explore_files(
+                rt,
+                alloc,
+                gate,
+                log.as_slice(),
+                programs.as_slice(),
+                &options,
+            )
         }
         Err(_error) => Err(Refusal::of_memory()),
     }
@@ -278,15 +299,16 @@ fn act_list(
 /// Performs a command on what its files hold, one for each of `Words::files`, none where a file could
 /// not be read; with no file at all the first cannot be read. Answers the bytes for standard output and
 /// the status: 0 where the command succeeded and no image fails, 1 where some do. An exploration waits
-/// until its workers are back.
+/// until its workers are back; `gate` is told of its blocks as by `explore_with`, and changes nothing.
 ///
 /// # Errors
 ///
 /// The first refusal in the order of docs/REPORT.md: an option, a file, then those of `explore`,
 /// `survey` or `image`; those of a source text, and those of a program.
-pub fn act<R: Threads + Wait + Sync>(
+pub fn act<G: Gate + Sync, R: Threads + Wait + Sync>(
     rt: &R,
     alloc: Global,
+    gate: &G,
     words: &Words,
     files: &[Option<Vec<u8>>],
 ) -> Result<(Vec<u8>, u8), Refusal>
@@ -294,8 +316,8 @@ pub fn act<R: Threads + Wait + Sync>(
     ensures refused { IfErr result (RefusesToAct words.now.request (map (option_map (λ f. f.items)) files.now)) }
 {
     match words.request() {
-        Request::StoredRun => act_stored(rt, alloc),
-        Request::Explore(options) => act_explore(rt, alloc, options, files),
+        Request::StoredRun => act_stored(rt, alloc, gate),
+        Request::Explore(options) => act_explore(rt, alloc, gate, options, files),
         Request::Images(options) => act_images(alloc, options, files),
         Request::Log(options) => act_log(alloc, options, files),
         Request::Image(options, number) => act_image(alloc, options, number, files),

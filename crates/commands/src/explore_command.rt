@@ -279,9 +279,9 @@ fn judged<'x, G: Gate + Sync, R: Threads + Wait + Sync>(
 
 /// Explores the crash images of a log: judges each by the one to eight programs, and reports those that
 /// fail, or the first of them alone (docs/REPORT.md). Without a limit of steps each program has to be
-/// accepted by the verifier. `gate` is told of each block of images before and after it is judged. The
-/// number of workers and the size of the cache change nothing but `hits`. It waits until all workers are
-/// back.
+/// accepted by the verifier. `gate` is told the number of images, then of each block before and after it
+/// is judged. The number of workers and the size of the cache change nothing but `hits`. It waits until
+/// all workers are back.
 ///
 /// # Errors
 ///

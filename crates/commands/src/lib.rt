@@ -23,6 +23,7 @@
 //! - `laws`: that there is one report at most, and no refusal beside it but for memory.
 //! - `refusals`: the refusals of files and options, and `fault_line`, the line of a refusal.
 //! - `writing`: `emit`, which writes all of an answer.
+//! - `progress`: the gate that says on standard error how far an exploration is.
 //! - `noting`, `unreached`: the notes behind a refusal and beside an answer, of the parts that `notes` has.
 //!
 //! # What is proved
@@ -67,6 +68,7 @@ mod list_command;
 mod log_command;
 mod noting;
 mod options;
+mod progress;
 mod refusals;
 mod settings;
 mod source;
@@ -83,6 +85,7 @@ pub use images_command::survey;
 pub use laws::{one_report, report_or_refusal};
 pub use noting::{notes_behind, notes_beside};
 pub use options::Options;
+pub use progress::Progress;
 pub use refusals::fault_line;
 pub use settings::{OptionPlace, Settings};
 pub use words::Words;

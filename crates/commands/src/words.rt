@@ -48,6 +48,7 @@ pub(crate) enum Request {
 pub struct Words {
     request: Request,
     files: Vec<String>,
+    progress: bool,
 }
 
 impl Model for Words {
@@ -194,11 +195,16 @@ fn with_run_options<'a>(alloc: Global, command: Command<'a>) -> Result<Command<'
         .long("first")
         .action(ArgAction::SetTrue)
         .help("Report the first failing image alone");
+    let progress = Arg::new(alloc, "progress")
+        .long("progress")
+        .action(ArgAction::SetTrue)
+        .help("Say on standard error how many images are judged");
     command
         .arg(number_option(alloc, "workers", "1", "Threads, 1 to 64"))?
         .arg(number_option(alloc, "cache", "0", "Verdicts to keep, up to 65536"))?
         .arg(checked)?
-        .arg(first)
+        .arg(first)?
+        .arg(progress)
 }
 
 /// The command `explore`.
@@ -409,6 +415,7 @@ impl Words {
             return Ok(Words {
                 request: Request::StoredRun,
                 files: Vec::new(alloc),
+                progress: false,
             });
         }
         let matches = commands(alloc)?.try_get_matches_from(words)?;
@@ -416,10 +423,12 @@ impl Words {
             Some((name, inner)) => Ok(Words {
                 request: request_of(name, inner),
                 files: file_words(alloc, name, inner)?,
+                progress: name == "explore" && inner.get_flag("progress"),
             }),
             None => Ok(Words {
                 request: Request::StoredRun,
                 files: Vec::new(alloc),
+                progress: false,
             }),
         }
     }
@@ -429,6 +438,11 @@ impl Words {
         ensures { map string_bytes result.now ≡ self.now.files }
     {
         self.files.as_slice()
+    }
+
+    /// Whether an exploration is to say how far it is.
+    pub fn progress(&self) -> bool {
+        self.progress
     }
 
     /// What is asked for.

@@ -11,19 +11,21 @@
 //! The top. What a command answers, with which status, and when it is refused, is all decided by
 //! `commands`, whose `act` takes what the files hold and gives the bytes. Here files are read, and the
 //! answer is written: to standard output, or a refusal's line to standard error with status 2. Notes stand on
-//! standard error in both cases, and change neither the status nor standard output.
+//! standard error in both cases, and change neither the status nor standard output; nor does the line that
+//! says how far an exploration is, which comes before them.
 //!
 //! No contract can say what a file holds or what standard output takes: this crate is kept as short as
 //! it can be, and its behaviour is shown by runs of the built program.
 #![tactic(auto)]
 
-use commands::{Words, act, emit, fault_line, notes_behind, notes_beside};
+use commands::{Progress, Words, act, emit, fault_line, notes_behind, notes_beside};
 use std::alloc::AllocError;
 use std::io::ErrorKind;
 use std::process::ExitCode;
 use std::rt::{Env, Files};
 use std::sync::Wait;
 use std::thread::Threads;
+use std::time::Clock;
 use std::{env, fs, io};
 
 /// The status of a run that was refused or could not be written.
@@ -76,12 +78,15 @@ fn print_notes<R: Eprint>(rt: &R, notes: Result<String, AllocError>) {
 }
 
 /// Performs a command, and prints its answer or its refusal, with the notes on it.
-fn run<R: Files + AllocGlobal + Print + Eprint + Threads + Wait + Sync>(
+fn run<R: Files + AllocGlobal + Print + Eprint + Clock + Threads + Wait + Sync>(
     rt: &R,
     words: &Words,
 ) -> io::Result<u8> {
     let files = read_files(rt, words.files())?;
-    match act(rt, rt.alloc(), words, files.as_slice()) {
+    let progress = Progress::new(rt, words.progress());
+    let acted = act(rt, rt.alloc(), &progress, words, files.as_slice());
+    progress.end();
+    match acted {
         Ok((bytes, status)) => {
             if emit(&mut io::writer(rt), bytes.as_slice()).is_err() {
                 return Ok(stopped(rt, UNWRITTEN));
@@ -104,7 +109,7 @@ fn run<R: Files + AllocGlobal + Print + Eprint + Threads + Wait + Sync>(
 }
 
 /// Reads the command line, and performs what it asks for.
-fn start<R: Env + Files + AllocGlobal + Print + Eprint + Threads + Wait + Sync>(
+fn start<R: Env + Files + AllocGlobal + Print + Eprint + Clock + Threads + Wait + Sync>(
     rt: &R,
 ) -> io::Result<u8> {
     let mut words: Vec<String> = env::args(rt)?.collect(rt.alloc())?;

@@ -106,7 +106,7 @@ fn explored<J: Run + Send + Sync, G: Gate + Sync, R: Threads + Wait + Sync>(
 /// first failing image and perhaps some behind them, since blocks that lie wholly after a failing image
 /// are passed over. It takes as many workers as `Input::new` was told, but no more than there are blocks:
 /// the caller is worker 0, and each other one has a thread of its own, where one can be made. `gate` is
-/// told of each block before and after it is taken.
+/// told the number of images first, and then of each block before and after it is taken.
 ///
 /// How many workers there are, and how much they keep, changes no line. It waits until all are back.
 ///
@@ -125,5 +125,6 @@ pub fn explore_all<G: Gate + Sync, R: Threads + Wait + Sync>(
     ensures order { IfOk result (λ work. IsNonDecreasing (map (λ l. l.image) work.lines)) }
     ensures refused { IfErr result (λ r. r ≡ memory_refusal) }
 {
+    gate.begin(input.image_count());
     explored::<Brand, G, R>(rt, alloc, gate, input, input.cache())
 }

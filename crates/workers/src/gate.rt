@@ -1,8 +1,12 @@
 //! A gate through which every block of the work passes.
 
-/// Called by the worker that is about to judge a block, and when it has judged it. A test holds
-/// workers by it; a run has one that does nothing.
+/// Is told how many images there are, before any of them is judged; then called by the worker that is
+/// about to judge a block, and when it has judged it or passed over it. A test holds workers by it, and a
+/// run may count by it how far it is.
 pub trait Gate {
+    /// So many images are to be judged. Where it is left out, nothing is done.
+    fn begin(&self, _images: u64) {}
+
     /// The worker takes the block.
     fn before(&self, worker: u8, block: u32);
 

@@ -11,7 +11,7 @@
 //! | `Piece::passed(block, image)` | the piece of a block that was passed over after a failing image |
 //! | `collect(alloc, pieces, blocks)` | all lines, of pieces in any order; refused where a block has two pieces or none |
 //! | `explore_all(rt, alloc, gate, input)` | the work as a whole: the failing lines, in order |
-//! | `Gate` | is told of each block before and after it is taken |
+//! | `Gate` | is told how many images there are, and of each block before and after it is taken |
 //!
 //! Workers share the board of `shares`, from which each takes blocks until there is none left, and the
 //! shards of `verdict_cache`. The caller is worker 0, each other one has a thread of its own where one can
@@ -89,4 +89,4 @@ pub use laws::{
     accepted_checkers_run_safely, collection_begins_with_first, collection_is_failing,
     lines_are_set,
 };
-pub use piece::Piece;
+pub use piece::{BLOCK, Piece};

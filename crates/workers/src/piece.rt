@@ -13,7 +13,7 @@ use std::alloc::AllocError;
 use std::marker::Model;
 
 /// How many images, in a row, are one piece of work.
-pub(crate) const BLOCK: u64 = 64;
+pub const BLOCK: u64 = 64;
 
 /// What one block of images has: its failing lines, or the failing image after which it was passed
 /// over. Contracts see the block and which of the two.

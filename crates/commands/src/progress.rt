@@ -1,0 +1,84 @@
+//! How far an exploration is, said on standard error.
+
+use std::sync::atomic::{AtomicU64, Ordering};
+use std::time::{Clock, Instant};
+use workers::{BLOCK, Gate};
+
+/// A gate that says on standard error how many images are judged, of how many. It is one line, which is
+/// written again once a second at most, with a carriage return behind it, and ended by `end`. Where that
+/// isn't asked for, or the clock can't be read, nothing is said.
+#[derive(Drop)]
+pub struct Progress<'r, R> {
+    rt: &'r R,
+    /// When it was made, where progress is asked for.
+    start: Option<Instant>,
+    /// How many images there are; 0 until the exploration begins.
+    images: AtomicU64,
+    /// How many images are judged or passed over.
+    judged: AtomicU64,
+    /// In which second from the start the line was last written.
+    second: AtomicU64,
+}
+
+impl<'r, R: Clock + Eprint> Progress<'r, R> {
+    /// The progress of an exploration that hasn't begun.
+    pub fn new(rt: &'r R, wanted: bool) -> Progress<'r, R> {
+        Progress {
+            rt,
+            start: if wanted { Instant::now(rt).ok() } else { None },
+            images: AtomicU64::new(0),
+            judged: AtomicU64::new(0),
+            second: AtomicU64::new(0),
+        }
+    }
+
+    /// Writes the line a last time and ends it, if the exploration has begun.
+    pub fn end(&self) {
+        if self.start.is_some() && self.images.load(Ordering::SeqCst) > 0 {
+            self.say("\n");
+        }
+    }
+
+    /// Writes the line. Where standard error doesn't take it, it is left out.
+    fn say(&self, end: &str) {
+        let judged = self.judged.load(Ordering::SeqCst);
+        let images = self.images.load(Ordering::SeqCst);
+        eprint!(self.rt; "progress: {judged} of {images} images{end}").ok();
+    }
+
+    /// Whether a second has passed since the line was last written. One worker alone is told so.
+    fn is_due(&self) -> bool {
+        match self.start.map(|start: Instant| start.elapsed(self.rt)) {
+            Some(Ok(elapsed)) => {
+                let second = elapsed.as_secs();
+                self.second.fetch_max(second, Ordering::SeqCst) < second
+            }
+            _ => false,
+        }
+    }
+}
+
+/// How many images a block has, of a run of so many.
+fn images_in(block: u32, images: u64) -> u64 {
+    images.saturating_sub(BLOCK * u64::from(block)).min(BLOCK)
+}
+
+impl<R: Clock + Eprint> Gate for Progress<'_, R> {
+    fn begin(&self, images: u64) {
+        self.images.store(images, Ordering::SeqCst);
+    }
+
+    fn before(&self, _worker: u8, _block: u32) {}
+
+    fn after(&self, _worker: u8, block: u32) {
+        if self.start.is_none() {
+            return;
+        }
+        let images = self.images.load(Ordering::SeqCst);
+        self.judged
+            .fetch_add(images_in(block, images), Ordering::SeqCst);
+        if self.is_due() {
+            self.say("\r");
+        }
+    }
+}
