@@ -19,7 +19,8 @@
 //!
 //! It stands on `base` alone and has no thread, lock or device. The layers with threads answer to it: a
 //! draw of the board of `shares` is one `Draw`, a post one `Post`, the load of the least image that in
-//! `Pass`, and a look or a put on a locked shard of the cache is one `Look` or `Put`.
+//! `Pass`, and a look or a put on a locked shard of the cache is one `Look` or `Put`. That the images and
+//! checkers of a run are jobs, as they are meant here, is a law of `run_jobs`, which stands on both.
 //!
 //! # What is proved
 //!

@@ -21,6 +21,8 @@ mod log_text;
 #[cfg(test)]
 mod logfmt_tests;
 #[cfg(test)]
+mod replay_tests;
+#[cfg(test)]
 mod shares_tests;
 #[cfg(test)]
 mod verdict_cache_tests;

@@ -1,0 +1,3 @@
+mod Failing
+mod Listed
+pub mod Runs
