@@ -39,10 +39,11 @@ fn put_sector(log: &mut Vec<u8>, head: &[u8]) -> Result<(), Fail> {
 }
 
 /// The log of so many flush entries without sectors.
-fn flushes(alloc: Global, count: u8) -> Result<Vec<u8>, Fail> {
+fn flushes(alloc: Global, count: u16) -> Result<Vec<u8>, Fail> {
     let mut log = Vec::new(alloc);
+    let [low, high] = count.to_le_bytes();
     let head = [
-        0x72, 0x68, 0x73, 0x77, 0x66, 0x73, 0x6a, 0, 1, 0, 0, 0, 0, 0, 0, 0, count, 0, 0, 0, 0, 0,
+        0x72, 0x68, 0x73, 0x77, 0x66, 0x73, 0x6a, 0, 1, 0, 0, 0, 0, 0, 0, 0, low, high, 0, 0, 0, 0,
         0, 0, 0, 2, 0, 0,
     ];
     put_sector(&mut log, &head)?;
@@ -217,16 +218,17 @@ impl Gate for Holding {
     }
 }
 
-/// Explores a log of two blocks by two workers, of whom one is held, and answers the report.
+/// Explores a log of two blocks by workers, of whom one is held, and answers the report.
 fn held<R: Threads + Wait + Sync + Abort>(
     rt: &R,
     alloc: Global,
     log: &[u8],
+    program: &[u8],
     settings: &Settings,
 ) -> Result<Vec<u8>, Fail> {
     let options = Options::new(settings).ok().ok_or("options")?;
     let mut programs = Vec::new(alloc);
-    programs.push(ANSWER_1.to_vec(alloc)?)?;
+    programs.push(program.to_vec(alloc)?)?;
     let gate = Holding {
         first: AtomicU64::new(0),
         ended: AtomicU64::new(0),
@@ -239,14 +241,14 @@ fn held<R: Threads + Wait + Sync + Abort>(
     Ok(explored.bytes)
 }
 
-/// What two workers are asked.
-fn by_two(cache: u64, first: bool) -> Settings {
+/// What workers are asked of a log of flush entries.
+fn by_workers(workers: u64, cache: u64, first: bool) -> Settings {
     Settings {
         sectors: 1,
         cuts: Cuts::All,
         bound: 0,
         tears: false,
-        workers: 2,
+        workers,
         cache,
         checked: Some(2),
         first,
@@ -268,10 +270,119 @@ fn block_1_ends_while_block_0_is_held(rt: HostRuntime) -> Result<(), Fail> {
     let alone = explore(&rt, alloc, &log, programs.as_slice(), &options)
         .ok()
         .ok_or("a report")?;
-    let bytes = held(&rt, alloc, &log, &by_two(0, false))?;
-    assert!(rt; bytes.as_slice() == alone.as_slice());
-    let bytes = held(&rt, alloc, &log, &by_two(16, true))?;
+    for workers in [2, 64] {
+        let bytes = held(&rt, alloc, &log, &ANSWER_1, &by_workers(workers, 0, false))?;
+        assert!(rt; bytes.as_slice() == alone.as_slice());
+    }
+    let bytes = held(&rt, alloc, &log, &ANSWER_1, &by_workers(2, 16, true))?;
     assert!(rt; !bytes.is_empty());
+    Ok(())
+}
+
+/// Reports the codes 0, 1, 2, .. in 17 turns, of which the machine keeps 16, and answers 1
+/// (tests/programs/report_codes.s).
+const REPORT_CODES: [u8; 80] = [
+    0xb7, 6, 0, 0, 0, 0, 0, 0, 0xb7, 1, 0, 0, 17, 0, 0, 0, 0x85, 0, 0, 0, 3, 0, 0, 0, 0x15, 0, 4,
+    0, 0, 0, 0, 0, 0xbf, 0x61, 0, 0, 0, 0, 0, 0, 0x85, 0, 0, 0, 4, 0, 0, 0, 0x07, 6, 0, 0, 1, 0, 0,
+    0, 0x05, 0, 0xf9, 0xff, 0, 0, 0, 0, 0xb7, 0, 0, 0, 1, 0, 0, 0, 0x95, 0, 0, 0, 0, 0, 0, 0,
+];
+
+/// The log of one write to the sectors 0 and 1.
+fn pair(alloc: Global) -> Result<Vec<u8>, Fail> {
+    let mut log = Vec::new(alloc);
+    let head = [
+        0x72, 0x68, 0x73, 0x77, 0x66, 0x73, 0x6a, 0, 1, 0, 0, 0, 0, 0, 0, 0, 1, 0, 0, 0, 0, 0, 0,
+        0, 0, 2, 0, 0,
+    ];
+    put_sector(&mut log, &head)?;
+    put_sector(&mut log, &[0, 0, 0, 0, 0, 0, 0, 0, 2])?;
+    log.extend_from_slice(&[0x11; 1024])?;
+    Ok(log)
+}
+
+/// The run sixteen_codes of docs/REPORT.md, with 81 images, by two workers.
+const SIXTEEN_CODES: Settings = Settings {
+    sectors: 4,
+    cuts: Cuts::BeforeFlush,
+    bound: 2,
+    tears: true,
+    workers: 2,
+    cache: 0,
+    checked: None,
+    first: false,
+};
+
+#[test]
+fn sixteen_codes_ends_while_block_0_is_held(rt: HostRuntime) -> Result<(), Fail> {
+    let alloc = rt.alloc();
+    let log = pair(alloc)?;
+    let bytes = held(&rt, alloc, &log, &REPORT_CODES, &SIXTEEN_CODES)?;
+    let report = str::from_utf8(bytes.as_slice()).ok().ok_or("a text")?;
+    assert!(rt; report.ends_with("choice 0.0:head7,0.1:head7\nimages 81 failing 81 lines 81\n"));
+    let many = Settings {
+        workers: 64,
+        cache: 65_536,
+        ..SIXTEEN_CODES
+    };
+    let again = held(&rt, alloc, &log, &REPORT_CODES, &many)?;
+    assert!(rt; again.as_slice() == bytes.as_slice());
+    Ok(())
+}
+
+/// Holds each block before it is judged, until 64 of them are held, or for a million turns.
+#[derive(Drop)]
+struct Gathering {
+    /// How many images there are.
+    images: AtomicU64,
+    /// How many blocks were begun.
+    here: AtomicU64,
+    /// How many were let go before the others came.
+    alone: AtomicU64,
+}
+
+impl Gate for Gathering {
+    fn begin(&self, images: u64) {
+        self.images.store(images, Ordering::SeqCst);
+    }
+
+    fn before(&self, _worker: u8, _block: u32) {
+        self.here.fetch_add(1, Ordering::SeqCst);
+        for _turn in 0..1_000_000u32 {
+            if self.here.load(Ordering::SeqCst) >= 64 {
+                return;
+            }
+            thread::yield_now();
+        }
+        self.alone.fetch_add(1, Ordering::SeqCst);
+    }
+
+    fn after(&self, _worker: u8, _block: u32) {}
+}
+
+#[test]
+fn sixty_four_workers_hold_a_block_each(rt: HostRuntime) -> Result<(), Fail> {
+    let alloc = rt.alloc();
+    let log = flushes(alloc, 4095)?;
+    let options = Options::new(&by_workers(64, 0, false))
+        .ok()
+        .ok_or("options")?;
+    let mut programs = Vec::new(alloc);
+    programs.push(ANSWER_1.to_vec(alloc)?)?;
+    let gate = Gathering {
+        images: AtomicU64::new(0),
+        here: AtomicU64::new(0),
+        alone: AtomicU64::new(0),
+    };
+    let explored = explore_with(&rt, alloc, &gate, &log, programs.as_slice(), &options)
+        .ok()
+        .ok_or("a report")?;
+    assert_eq!(rt; gate.images.load(Ordering::SeqCst), 4096);
+    assert_eq!(rt; gate.here.load(Ordering::SeqCst), 64);
+    assert_eq!(rt; gate.alone.load(Ordering::SeqCst), 0);
+    let report = str::from_utf8(explored.bytes.as_slice())
+        .ok()
+        .ok_or("a text")?;
+    assert!(rt; report.ends_with("images 4096 failing 4096 lines 4096\n"));
     Ok(())
 }
 
