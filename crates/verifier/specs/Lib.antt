@@ -7,3 +7,4 @@ pub mod Rounds
 pub mod Verdicts
 pub mod Passing
 pub mod Laws
+pub mod Inferred

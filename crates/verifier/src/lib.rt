@@ -11,6 +11,7 @@
 //! | Call | Answer |
 //! |---|---|
 //! | `verify(alloc, &program, sectors)` | the program with its budget and its table, or why it is refused |
+//! | `inferred(alloc, &program, sectors)` | the table on which `verify` looks for the first broken rule, also of a program that is refused |
 //! | `check_table(&program, &shape, sectors, &table)` | that a table is good, or its first breach; takes no memory |
 //! | `Verified`: `program`, `sectors`, `budget`, `table` | what was accepted, for which devices, how many steps a run takes at most, and what is known |
 //! | `Table`: `of`, `into_states`, `states`, `slots`, `state` | a table by its states |
@@ -44,6 +45,7 @@
 //! - What it refuses, want of memory aside, breaks this shape rule first; or it breaks this rule first on
 //!   its settled table; or its rounds don't settle in time. No program is both accepted and refused, and
 //!   there is one budget, one table and one refusal at most (`laws`).
+//! - `inferred` answers the settled table of each program of right shape, also of one that breaks a rule.
 //!
 //! That the settled table is the least of all good tables is not proved yet; that a run of an accepted
 //! program meets no fault is proved in `soundness`.
@@ -70,6 +72,7 @@
 #![tactic(auto)]
 
 mod check;
+mod inferring;
 pub mod laws;
 mod passing;
 mod rounds;
@@ -77,5 +80,6 @@ mod table;
 mod verified;
 
 pub use check::check_table;
+pub use inferring::inferred;
 pub use table::Table;
 pub use verified::{Verified, verify};
