@@ -5,3 +5,4 @@ pub mod Listing
 pub mod LogTable
 pub mod Device
 pub mod Large
+pub mod Known

@@ -3,8 +3,8 @@
 //!
 //! # Place
 //!
-//! On `logfmt` and `epochs`, whose logs it shows, and on `bpf_isa` and `bpf_asm`, whose instructions it writes as the
-//! assembler does. `commands` chooses which notes are said. No rule of a log or a program is known here but in words.
+//! On `logfmt` and `epochs`, whose logs it shows, on `bpf_isa` and `bpf_asm`, whose instructions it writes as the
+//! assembler does, and on `ranges`, whose states it puts into words. `commands` chooses which notes are said. No rule of a log or a program is known here but in words.
 //!
 //! | Call | Says |
 //! |---|---|
@@ -13,6 +13,7 @@
 //! | `put_note(out, text)` | one line of a note |
 //! | `put_refused(out, rule, cure)` | what a refusal means, and what helps, if anything is known |
 //! | `put_slot(out, program, slot)` | the instruction at a slot, if one begins there |
+//! | `put_known(out, instr, state)` | what is known of the registers that an instruction reads, and what an access wants |
 //! | `put_large(out, log, bound)` | how many entries have more sectors than may depart, if any has |
 //! | `put_entry(alloc, out, log, number)` | an entry, as in the table |
 //! | `put_least(out, log)` | the size of the least device that holds a log |
@@ -35,6 +36,7 @@
 
 mod device;
 mod escaped;
+mod known;
 mod large;
 mod line;
 mod listing;
@@ -43,6 +45,7 @@ mod table;
 
 pub use device::put_least;
 pub use escaped::put_escaped;
+pub use known::put_known;
 pub use large::put_large;
 pub use line::{put_note, put_refused};
 pub use listing::{numbered_listing, put_slot};
