@@ -1,8 +1,8 @@
 """Runs by many workers, with and without a cache: the same bytes for any of them.
 
 Each run is made by every number of workers with every size of the cache, and the report is the model's, or that of the
-worked example. One run fails in its last block alone, one only behind many blocks. Runs that say how far they are say
-nothing else otherwise.
+worked example. One run fails in its last block alone, one only behind many blocks, and two end in time only by the cache.
+Runs that say how far they are say nothing else otherwise.
 """
 import functools
 from dataclasses import replace
@@ -114,8 +114,22 @@ def worked_row(name):
     """The worked example of that name."""
     return next(it for it in worked.ROWS if it.name == name)
 
+# 8,128 images, all alike: every write is of zeros. The program takes some four million steps on each, so a run that judges
+# more than a few of them takes minutes.
+ALIKE = Run([W(0, 1, 0)] * 126, 1)
+MANY_TURNS = program("mov64 r1, 1048576; call 3; jeq r0, 0, +1; ja -4; exit")
+TURNS_CHECKER = Checker(f"slots 5 budget {(1 + 1_048_576) * 5}", lambda image: (0, ()))
+
+
+def judged_once(workers):
+    """A run of equal images. It ends in time only where verdicts are put into the cache, and it is asked for them."""
+    report = functools.lru_cache(maxsize=None)(lambda: explored(ALIKE, [TURNS_CHECKER], False))
+    options = f"{ALIKE.options()} --workers {workers} --cache 65536"
+    return explore(f"workers: equal images, {workers} workers", options, ALIKE.entries, MANY_TURNS, Long(report), 0)
+
 
 ROWS = [
+    *map(judged_once, [1, 4]),
     *(row for name in EXAMPLES for row in each_way(worked_row(name))),
     *(row for run in RUNS for row in each_way(run)),
     *(row for name, images in PROGRESS.items() for row in with_progress(worked_row(name), images)),
