@@ -404,6 +404,19 @@ ANSWERS = [
         f"entries with more than 2 sectors: 2; {NOT_AMONG}",
     ),
     answered(
+        "writes of more sectors than the bound where none is given",
+        "images log --sectors 4",
+        files([W(0, 1, 1), W(0, 2, 1), F]),
+        lines("""
+        cut 0 epoch 0 marks 0 volatile 0 images 1
+        cut 1 epoch 0 marks 0 volatile 1 images 2
+        cut 2 epoch 0 marks 0 volatile 3 images 4
+        cut 3 epoch 1 marks 0 volatile 0 images 1
+        total 8
+        """),
+        f"entries with more than 1 sectors: 1; {NOT_AMONG}",
+    ),
+    answered(
         "nothing of bound 0, with which nothing is lost",
         "images log --sectors 4 --bound 0",
         files([W(0, 1, 1)]),
