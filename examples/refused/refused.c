@@ -261,6 +261,47 @@ u64 turned_test_cured(const struct context *context)
 	return sum == block->header[1] ? 0 : 2;
 }
 
+/* 52: the address of an element in a loop inside: at its head the verifier rounds up where that may point, past the sector. */
+struct element {
+	u64 sum;
+	u64 words[3];
+};
+
+u64 inner_loop(const struct context *context)
+{
+	const struct element *elements = SECTOR(1, return 1);
+
+	for (u64 i = 0; i < 16; i++) {
+		TURN(16, return TURNS_SPENT);
+		const struct element *element = ELEMENT(elements, i, 16, return 2);
+		u64 sum = 0;
+		for (u64 j = 0; j < 3; j++) {
+			TURN(48, return TURNS_SPENT);
+			sum += *ELEMENT(element->words, j, 3, return 2);
+		}
+		if (sum != element->sum)
+			return 3;
+	}
+	return 0;
+}
+
+u64 inner_loop_cured(const struct context *context)
+{
+	const u64 *words = SECTOR(1, return 1);
+
+	for (u64 i = 0; i < 16; i++) {
+		TURN(16, return TURNS_SPENT);
+		u64 sum = 0;
+		for (u64 j = 1; j < 4; j++) {
+			TURN(48, return TURNS_SPENT);
+			sum += *ELEMENT(words, 4 * i + j, 64, return 2);
+		}
+		if (sum != *ELEMENT(words, 4 * i, 64, return 2))
+			return 3;
+	}
+	return 0;
+}
+
 /* 53: the image can't be written. */
 u64 written_sector(const struct context *context)
 {

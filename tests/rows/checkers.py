@@ -60,6 +60,7 @@ REFUSED = {
     "short_copy": ("refused 51 at 9", 15),
     "no_null_test": ("refused 52 at 2", 12),
     "turned_test": ("refused 52 at 16", 1037),
+    "inner_loop": ("refused 52 at 36", 2210),
     "written_sector": ("refused 53 at 7", 21),
     "int_index": ("refused 54 at 17", 23),
     "short_index": ("refused 54 at 24", 12525),
@@ -411,6 +412,11 @@ DEVICES = {
 
 # The same for functions of examples/refused whose cure is an address that is tested.
 CURED_DEVICES = {
+    "inner_loop": [
+        ({512: u64(6, 1, 2, 3), 992: u64(2**64 - 1, 0, 2**64 - 2, 1)},),
+        ({512: u64(6, 1, 2, 4)}, 3),
+        ({992: u64(6, 0, 2, 3)}, 3),
+    ],
     "int_index": [
         ({4: u32(127), 1020: u32(1)},),
         ({4: u32(128), 1020: u32(1)}, 2),

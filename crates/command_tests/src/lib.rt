@@ -7,3 +7,5 @@
 
 #[cfg(test)]
 mod gate_tests;
+#[cfg(test)]
+mod writing_tests;
