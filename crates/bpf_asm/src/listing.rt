@@ -65,21 +65,65 @@ fn put_place(
     write!(out, "]")
 }
 
+/// Appends the operands of arithmetic, or of a branch before its distance.
+fn put_operands(out: &mut String, dst: Register, source: Source) -> Result<(), AllocError>
+    ensures { OnOk result (string_bytes out.new ≡ string_bytes out.old ++ (codes " " ++ register_text dst ++ codes ", " ++ source_text source)) }
+{
+    put_register(out, " ", dst)?;
+    put_source(out, ", ", source)
+}
+
+/// Appends the operands of a branch.
+fn put_branch(
+    out: &mut String,
+    dst: Register,
+    source: Source,
+    offset: i16,
+) -> Result<(), AllocError>
+    ensures { OnOk result (string_bytes out.new ≡ string_bytes out.old ++ (codes " " ++ register_text dst ++ codes ", " ++ source_text source ++ codes ", " ++ with_sign offset)) }
+{
+    put_operands(out, dst, source)?;
+    put_distance(out, ", ", offset as i32)
+}
+
+/// Appends the operands of a load.
+fn put_load(out: &mut String, dst: Register, base: Register, offset: i16) -> Result<(), AllocError>
+    ensures { OnOk result (string_bytes out.new ≡ string_bytes out.old ++ (codes " " ++ register_text dst ++ codes ", " ++ place_text base offset)) }
+{
+    put_register(out, " ", dst)?;
+    put_place(out, ", ", base, offset)
+}
+
+/// Appends the operands of a store.
+fn put_store(
+    out: &mut String,
+    base: Register,
+    offset: i16,
+    stored: Source,
+) -> Result<(), AllocError>
+    ensures { OnOk result (string_bytes out.new ≡ string_bytes out.old ++ (codes " " ++ place_text base offset ++ codes ", " ++ source_text stored)) }
+{
+    put_place(out, " ", base, offset)?;
+    put_source(out, ", ", stored)
+}
+
+/// Appends the operands of a load of a constant of 64 bits.
+fn put_wide(out: &mut String, dst: Register, value: u64) -> Result<(), AllocError>
+    ensures { OnOk result (string_bytes out.new ≡ string_bytes out.old ++ (codes " " ++ register_text dst ++ codes ", " ++ decimal value)) }
+{
+    put_register(out, " ", dst)?;
+    write!(out, ", {value}")
+}
+
 /// Appends the line of an instruction without its end.
 pub fn put_instr(out: &mut String, instr: &Instr) -> Result<(), AllocError>
     ensures { OnOk result (string_bytes out.new ≡ string_bytes out.old ++ line_text instr.now) }
 {
     out.push_str(Mnemonic::of(instr).name())?;
     match *instr {
-        Instr::Arithmetic { dst, source, .. } => {
-            put_register(out, " ", dst)?;
-            put_source(out, ", ", source)
-        }
+        Instr::Arithmetic { dst, source, .. } => put_operands(out, dst, source),
         Instr::Negate { dst, .. } | Instr::ByteOrder { dst, .. } => put_register(out, " ", dst),
-        Instr::SignExtend { dst, src, .. } => {
-            put_register(out, " ", dst)?;
-            put_register(out, ", ", src)
-        }
+        Instr::SignExtend { dst, src, .. } => put_operands(out, dst, Source::Register(src)),
         Instr::Jump { offset } => put_distance(out, " ", offset as i32),
         Instr::LongJump { offset } | Instr::CallLocal { offset } => put_distance(out, " ", offset),
         Instr::Branch {
@@ -87,11 +131,7 @@ pub fn put_instr(out: &mut String, instr: &Instr) -> Result<(), AllocError>
             source,
             offset,
             ..
-        } => {
-            put_register(out, " ", dst)?;
-            put_source(out, ", ", source)?;
-            put_distance(out, ", ", offset as i32)
-        }
+        } => put_branch(out, dst, source, offset),
         Instr::CallHelper { number } => put_number(out, " ", number),
         Instr::Exit => Ok(()),
         Instr::Load {
@@ -105,32 +145,20 @@ pub fn put_instr(out: &mut String, instr: &Instr) -> Result<(), AllocError>
             base,
             offset,
             ..
-        } => {
-            put_register(out, " ", dst)?;
-            put_place(out, ", ", base, offset)
-        }
+        } => put_load(out, dst, base, offset),
         Instr::StoreImmediate {
             base,
             offset,
             immediate,
             ..
-        } => {
-            put_place(out, " ", base, offset)?;
-            put_number(out, ", ", immediate)
-        }
+        } => put_store(out, base, offset, Source::Immediate(immediate)),
         Instr::Store {
             base,
             offset,
             src,
             ..
-        } => {
-            put_place(out, " ", base, offset)?;
-            put_register(out, ", ", src)
-        }
-        Instr::LoadImmediate { dst, value } => {
-            put_register(out, " ", dst)?;
-            write!(out, ", {value}")
-        }
+        } => put_store(out, base, offset, Source::Register(src)),
+        Instr::LoadImmediate { dst, value } => put_wide(out, dst, value),
     }
 }
 
