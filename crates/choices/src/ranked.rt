@@ -12,8 +12,8 @@ use arrayvec::ArrayVec;
 use epochs::Plan;
 use thiserror::Error;
 
-/// How many choices a run may have.
-const LIMIT: u64 = 16_777_216;
+/// The greatest number of choices, and so of crash images, of a run (docs/CRASH-MODEL.md, Limits).
+const MOST_CHOICES: u64 = 16_777_216;
 
 /// There are more choices than a run may have.
 #[derive(Clone, Copy, Debug, PartialEq, Eq, Error)]
@@ -44,7 +44,7 @@ pub fn count(plan: &Plan, bound: u8, tears: bool) -> Result<u64, TooMany>
     let mut sum = 0;
     for cut in plan.cuts() {
         sum += ways_at(plan, bound, tears, *cut);
-        if sum > LIMIT {
+        if sum > MOST_CHOICES {
             return Err(TooMany { at: *cut });
         }
     }
@@ -61,7 +61,7 @@ pub fn count_at(plan: &Plan, bound: u8, tears: bool, cut: u32) -> Result<u64, To
     ensures at { IfErr result (λ fault. fault.at ≡ cut) }
 {
     let number = ways_at(plan, bound, tears, cut);
-    if number > LIMIT {
+    if number > MOST_CHOICES {
         Err(TooMany { at: cut })
     } else {
         Ok(number)

@@ -5,15 +5,15 @@ use Rattle.choices.proofs.ranked.count.Goals as goal
 pub loop-cut-init : goal.loop-cut-init
 loop-cut-init c = (sym (before_none _ _ _), omega arith)
 
-pub returns-then-sum-gt-LIMIT-clause-past : goal.returns-then-sum-gt-LIMIT-clause-past
-returns-then-sum-gt-LIMIT-clause-past c =
+pub returns-then-sum-gt-MOST_CHOICES-clause-past : goal.returns-then-sum-gt-MOST_CHOICES-clause-past
+returns-then-sum-gt-MOST_CHOICES-clause-past c =
     let so = c.loop-cut.invariant in
-    first_past _ _ _ _ _ _ _ c.cuts-cut-items.ensures.value c.loop-cut-test.true so.0 c.ways_at-sum.ensures.value so.1 c.if-sum-gt-LIMIT.true
+    first_past _ _ _ _ _ _ _ c.cuts-cut-items.ensures.value c.loop-cut-test.true so.0 c.ways_at-sum.ensures.value so.1 c.if-sum-gt-MOST_CHOICES.true
 
 pub loop-cut-preserved : goal.loop-cut-preserved
 loop-cut-preserved c = (
   counted _ _ _ _ _ _ _ c.cuts-cut-items.ensures.value c.loop-cut-test.true c.loop-cut.invariant.0 c.ways_at-sum.ensures.value,
-  c.if-sum-gt-LIMIT.false,
+  c.if-sum-gt-MOST_CHOICES.false,
 )
 
 pub returns-clause-value : goal.returns-clause-value
