@@ -10,6 +10,10 @@ ghost use Rattle.ranges.specs.Places.{place_of, is_inside, none_is, is_group, Fi
 ghost use Rattle.ranges.specs.Rules.{may_compute, compares, is_null_test, is_zero, is_equality, may_be_null, has_no, is_whole, load_rules, store_rules, call_rules, rules, reads, computes, lies};
 ghost use Rattle.ranges.specs.Seen.{kind_of};
 ghost use Rattle.ranges.specs.SeenStates.{state_of};
+ghost use Rattle.std.specs.Int.{cast_unsigned, w32};
+ghost use Rattle.std.specs.Option.{option_map_or};
+ghost use Rattle.helpers.specs.Helper.{helper_of};
+ghost use Rattle.bpf_isa.specs.declared.instr.Source.TheVariants as operand;
 
 use crate::bytes::{has_no, is_whole};
 use crate::place::{Mark, Place, place_of};
@@ -19,7 +23,7 @@ use crate::state::State;
 use crate::value::Value;
 use arithmetic::{byte_count, plain_size};
 use base::causes::VerifierCause;
-use bpf_isa::instr::{Condition, Instr, Operator, Source, Width};
+use bpf_isa::instr::{Condition, Instr, Operator, Size, Source, Width};
 use bpf_isa::register::Register;
 use helpers::Helper;
 use intervals::Range;
@@ -232,6 +236,45 @@ fn call_breach(state: &State, helper: Helper) -> Option<VerifierCause>
     }
 }
 
+/// The first rule that a call of the helper of this number breaks; none where there is no such helper.
+fn number_breach(state: &State, number: i32) -> Option<VerifierCause>
+    ensures { result ≡ first_failing (option_map_or (call_rules (state_of state.now)) (helper_of (cast_unsigned w32 number)) []) }
+{
+    match Helper::of(number.cast_unsigned()) {
+        Some(helper) => call_breach(state, helper),
+        None => None,
+    }
+}
+
+/// The first rule that a store of a constant breaks.
+fn constant_store_breach(
+    state: &State,
+    size: Size,
+    base: Register,
+    offset: i16,
+    immediate: i32,
+) -> Option<VerifierCause>
+    ensures { result ≡ first_failing (store_rules (state_of state.now) (are_set (state_of state.now) (base ∷ [])) (second (state_of state.now) (operand.Immediate immediate)) base offset (byte_count size)) }
+{
+    let stored = Value::Num(Range::immediate(immediate));
+    let set = is_set(state, base);
+    store_breach(state, set, stored, base, offset, byte_count(size))
+}
+
+/// The first rule that a store of a register breaks.
+fn register_store_breach(
+    state: &State,
+    size: Size,
+    base: Register,
+    offset: i16,
+    src: Register,
+) -> Option<VerifierCause>
+    ensures { result ≡ first_failing (store_rules (state_of state.now) (are_set (state_of state.now) (base ∷ src ∷ [])) (value (state_of state.now) src) base offset (byte_count size)) }
+{
+    let set = are_two_set(state, base, src);
+    store_breach(state, set, state.value(src), base, offset, byte_count(size))
+}
+
 /// The first rule that an instruction breaks at a state, in the order of docs/VERIFIER.md, Rules at a
 /// slot.
 #[tactic(auto, unfolding(crate::specs::Rules::rules))]
@@ -248,10 +291,7 @@ pub fn broken_rule(instr: &Instr, state: &State) -> Option<VerifierCause>
         Instr::Negate { dst, .. } => register_breach(state, *dst),
         Instr::SignExtend { src, .. } => register_breach(state, *src),
         Instr::ByteOrder { dst, .. } => register_breach(state, *dst),
-        Instr::Jump { .. }
-        | Instr::LongJump { .. }
-        | Instr::CallLocal { .. }
-        | Instr::LoadImmediate { .. } => None,
+        Instr::Jump { .. } | Instr::LongJump { .. } | Instr::CallLocal { .. } => None,
         Instr::Branch {
             width,
             condition,
@@ -259,10 +299,7 @@ pub fn broken_rule(instr: &Instr, state: &State) -> Option<VerifierCause>
             source,
             ..
         } => branch_breach(state, *width, *condition, *dst, source),
-        Instr::CallHelper { number } => match Helper::of(number.cast_unsigned()) {
-            Some(helper) => call_breach(state, helper),
-            None => None,
-        },
+        Instr::CallHelper { number } => number_breach(state, *number),
         Instr::Exit => exit_breach(state),
         Instr::Load {
             size,
@@ -281,27 +318,14 @@ pub fn broken_rule(instr: &Instr, state: &State) -> Option<VerifierCause>
             base,
             offset,
             immediate,
-        } => store_breach(
-            state,
-            is_set(state, *base),
-            Value::Num(Range::immediate(*immediate)),
-            *base,
-            *offset,
-            byte_count(*size),
-        ),
+        } => constant_store_breach(state, *size, *base, *offset, *immediate),
         Instr::Store {
             size,
             base,
             offset,
             src,
-        } => store_breach(
-            state,
-            are_two_set(state, *base, *src),
-            state.value(*src),
-            *base,
-            *offset,
-            byte_count(*size),
-        ),
+        } => register_store_breach(state, *size, *base, *offset, *src),
+        Instr::LoadImmediate { .. } => None,
     }
 }
 
