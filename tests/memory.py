@@ -25,22 +25,26 @@ from pathlib import Path
 sys.dont_write_bytecode = True
 
 from notation import SECONDS, TESTS, TOP
-from run import Assembler, all_rows, made, put, shortened, split_notes
+from run import Assembler, all_rows, made, put, shortened, split_notes, split_progress
 
 WANT_OF_MEMORY = re.compile(rb"refused (11|26|35|60|72) at 0( of program [0-7])?\n|error: out of memory\n")
 
 ROWS = {
     "no word at all: the stored run": 37,
-    "empty_log_bad": 192,
-    "empty_log_bad, first": 196,
-    "torn_sector": 218,
-    "torn_sector, first": 220,
-    "torn_sector, within 9 steps": 213,
+    "empty_log_bad": 196,
+    "empty_log_bad, first": 200,
+    "torn_sector": 222,
+    "torn_sector, first": 224,
+    "torn_sector, within 9 steps": 217,
     "pairs_of_drops": 152,
-    "pairs_of_drops, each choice": 234,
-    "sixteen_codes": 829,
-    "sixteen_codes, first": 822,
-    "eight programs": 341,
+    "pairs_of_drops, each choice": 238,
+    "sixteen_codes": 833,
+    "sixteen_codes, first": 826,
+    "eight programs": 345,
+    "torn_sector, 2 workers, cache 16": None,
+    "marks, 2 workers, cache 16": None,
+    "sixteen_codes, 2 workers, cache 16": None,
+    "sixteen_codes, 4 workers, with progress": None,
     "two_epochs": 148,
     "a mark after a write": 140,
     "two_epochs, image 13": 146,
@@ -96,14 +100,19 @@ def run_refusing(program, library, row, folder, number):
     return done, int(counted.read_text()) if counted.exists() else None
 
 
+def error_of(done, row):
+    """Standard error, of a run that says how far it is without the line that says so."""
+    return done.stderr if row.images is None else split_progress(done.stderr)[1]
+
+
 def is_right(done, row):
     """What the row says; notes may be left out."""
-    error, _notes = split_notes(done.stderr)
+    error, _notes = split_notes(error_of(done, row))
     return (done.returncode, done.stdout, error) == (row.status, made(row.out), made(f"{row.error}\n" if row.error else ""))
 
 
-def is_want_of_memory(done):
-    error, _notes = split_notes(done.stderr)
+def is_want_of_memory(done, row):
+    error, _notes = split_notes(error_of(done, row))
     return done.returncode == 2 and not done.stdout and WANT_OF_MEMORY.fullmatch(error) is not None
 
 
@@ -121,7 +130,7 @@ def swept(program, library, row, wanted, assembler):
         number = 1
         while asked is not None and asked >= number - 1:
             done, asked = run_refusing(program, library, row, folder, number)
-            if not is_right(done, row) and not is_want_of_memory(done):
+            if not is_right(done, row) and not is_want_of_memory(done, row):
                 found.append(f"allocation {number}: status {done.returncode}, standard error '{shortened(done.stderr)}'")
             number += 1
         if asked is None:

@@ -9,7 +9,7 @@ files and words. It needs Python 3.9 or later, nothing but its own library, and 
 
 A row is one run of the program: the words behind its name, the files that lie in its folder (a fresh one for each row),
 and what is expected: standard output byte by byte, the status, and standard error, which is either empty or the one line
-of a refusal, with notes behind it. A row fails where one of these differs, or where the run takes too long (`seconds` of notation.py). Rows run
+of a refusal, with notes behind it, and before it what `--progress` says. A row fails where one of these differs, or where the run takes too long (`seconds` of notation.py). Rows run
 side by side.
 
 What is printed is a line for each row that failed, with what differed, and last

@@ -1,16 +1,14 @@
 -- The jobs of a run are jobs of the exploration as a list of events.
 use Rattle.std.proofs.Common.{ℕ, zero, suc, ◌≡◌, ◌+◌, List, length, map, refl, sym, ◌∙◌, ap, subst, arith}
-use Rattle.std.specs.List.{count_by, range_with_len}
-use Rattle.lines.specs.Line.{FailingLine}
+use Rattle.std.specs.List.{range_with_len}
 use Rattle.verdict_cache.specs.Laws.{OneImageTells}
-use Rattle.workers.specs.Failing.{Subject, image_count, failing_lines}
+use Rattle.workers.specs.Failing.{Subject, image_count}
 use Rattle.workers.specs.Pieces.{block_count}
 use Rattle.explore_core.specs.declared.job.Job.{Job}
 use Rattle.explore_core.specs.Jobs.{Rise, Agree, all_jobs, failing}
-use Rattle.explore_core.specs.Sound.{IsSound, IsComplete, WholeIsFailing, is_passed, by_block}
-use Rattle.explore_core.specs.State.{State}
-use Rattle.run_jobs.specs.Jobs.{Numbers, AreNumbers, block_jobs, jobs_of, job_of_line}
-use Rattle.run_jobs.specs.Laws.{FailByOutcome, AreRunJobs, RunsAreJobs, EventsFindFailingLines}
+use Rattle.explore_core.specs.Sound.{WholeIsFailing, by_block}
+use Rattle.run_jobs.specs.Jobs.{Numbers, block_jobs, jobs_of}
+use Rattle.run_jobs.specs.Laws.{FailByOutcome, RunsAreJobs, EventsFindFailingLines}
 use Rattle.run_jobs.proofs.Failing.{all_is, each_fails, all_fail}
 use Rattle.run_jobs.proofs.Listed.{rise_images, agree_images, fail_images}
 

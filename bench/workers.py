@@ -1,0 +1,85 @@
+#!/usr/bin/env python3
+"""Times whole runs by workers and with the cache, as ratios of one round.
+
+    python3 bench/workers.py [PROGRAM [BEFORE]]
+
+PROGRAM is crates/crashbpf/out/crashbpf where it isn't given; BEFORE an older program, timed beside it with one worker.
+Each round makes every run once, and the best time of each counts. It takes about a minute on an idle machine, and is no
+part of the gate.
+
+    workers   4,001,222 images of one cut, two sectors of 2,828 lost, and a checker of five steps: by 1, 2 and 4 workers
+    cache     18,001 images, equal but for their choice, and a checker of 20,003 steps: with no cache and one of 65,536
+"""
+import os
+import subprocess
+import sys
+import tempfile
+import time
+from pathlib import Path
+
+sys.dont_write_bytecode = True
+TOP = Path(__file__).resolve().parent.parent
+sys.path.insert(0, str(TOP / "tests"))
+
+from notation import W, log  # noqa: E402
+
+ROUNDS = 3
+FIVE_STEPS = "mov64 r1, 0\nmov64 r2, 0\nmov64 r3, 0\nmov64 r0, 0\nexit\n"
+MANY_STEPS = "mov64 r1, 5000\ncall 3\njeq r0, 0, +1\nja -4\nmov64 r0, 0\nexit\n"
+
+LOGS = {
+    "drops.log": lambda: [W(sector, 1, 0x55) for sector in range(2828)],
+    "equal.log": lambda: [W(sector % 64, 1, 0) for sector in range(2250)],
+}
+
+DROPS = "explore drops.log five --sectors 4096 --cuts flush --bound 2"
+EQUAL = "explore equal.log many --sectors 64 --cuts flush --bound 1 --tears"
+
+RUNS = {
+    "1 worker": DROPS,
+    "2 workers": f"{DROPS} --workers 2",
+    "4 workers": f"{DROPS} --workers 4",
+    "no cache": EQUAL,
+    "cache": f"{EQUAL} --cache 65536",
+}
+
+
+def seconds(program, words, folder):
+    """How long a run takes, which has to end with status 0."""
+    start = time.perf_counter()
+    subprocess.run([program, *words.split()], cwd=folder, stdout=subprocess.DEVNULL, stderr=subprocess.DEVNULL, check=True)
+    return time.perf_counter() - start
+
+
+def prepare(program, folder):
+    for name, entries in LOGS.items():
+        Path(folder, name).write_bytes(log(entries()))
+    for name, text in [("five", FIVE_STEPS), ("many", MANY_STEPS)]:
+        Path(folder, "source").write_text(text)
+        done = subprocess.run([program, "asm", "source"], cwd=folder, capture_output=True, check=True)
+        Path(folder, name).write_bytes(done.stdout)
+
+
+def main(words):
+    program = str(Path(words[0] if words else TOP / "crates/crashbpf/out/crashbpf").resolve())
+    runs = {name: (program, row) for name, row in RUNS.items()}
+    if len(words) > 1:
+        runs["1 worker, before"] = (str(Path(words[1]).resolve()), DROPS)
+    best = {}
+    with tempfile.TemporaryDirectory() as folder:
+        prepare(program, folder)
+        for _round in range(ROUNDS):
+            for name, (which, row) in runs.items():
+                best[name] = min(best.get(name, 1e9), seconds(which, row, folder))
+    for name, took in best.items():
+        print(f"{name:22} {took:8.3f} s")
+    print(f"processors {os.cpu_count()}")
+    print(f"2 workers  {best['1 worker'] / best['2 workers']:6.2f} times one")
+    print(f"4 workers  {best['1 worker'] / best['4 workers']:6.2f} times one")
+    print(f"cache      {best['no cache'] / best['cache']:6.2f} times none")
+    if len(words) > 1:
+        print(f"one worker {best['1 worker, before'] / best['1 worker']:6.2f} times before")
+
+
+if __name__ == "__main__":
+    main(sys.argv[1:])
