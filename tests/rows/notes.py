@@ -181,8 +181,7 @@ OPTIONS = [
 
 DECODING = "(docs/MACHINE.md, Faults of decoding)"
 IS_IT_ONE = "is the file a program? examples/cc makes one of C, 'crashbpf asm' one of an assembly text"
-REGISTER = f"there is no such register, or a function is called that isn't inlined {DECODING}"
-INLINED = "in C write INLINED before each function, and no memset, memcpy or memcmp; examples/cc names what is called"
+REGISTER = f"there is no such register, or a call is neither of a helper nor of a local function {DECODING}"
 
 
 def undecoded(name, content, error, *notes, words="verify p --sectors 4"):
@@ -193,8 +192,8 @@ BYTES = [
     undecoded("half a slot", code("9500000000000000 95"), "refused 20 at 1", f"a program has whole slots of 8 bytes {DECODING}", IS_IT_ONE),
     undecoded("no slot", b"", "refused 21 at 0", f"a program has 1 to 4096 slots {DECODING}", IS_IT_ONE),
     undecoded("an opcode", code("ff00000000000000"), "refused 22 at 0", f"there is no such opcode {DECODING}", IS_IT_ONE, words="list p"),
-    undecoded("a register", code("b70b000000000000"), "refused 23 at 0", REGISTER, INLINED),
-    undecoded("a call of a third kind", code("8520000000000000 9500000000000000"), "refused 23 at 0", REGISTER, INLINED),
+    undecoded("a register", code("b70b000000000000"), "refused 23 at 0", REGISTER, IS_IT_ONE),
+    undecoded("a call of a third kind", code("8520000000000000 9500000000000000"), "refused 23 at 0", REGISTER, IS_IT_ONE),
     undecoded(
         "a field",
         code("9500000000000000 9500000001000000"),
@@ -284,8 +283,15 @@ RULES = [
         "mov64 r1, 0; call 3; jeq r0, 0, +0; exit",
         "43 at 1",
         "slot 1: call 3",
-        "call 3 stands behind mov64 r1, K, with K from 1 to 1048576, and before a test of r0 against 0, and no jump leads between them (docs/VERIFIER.md, The form of `again`)",
+        "call 3 stands behind mov64 r1, K, with K from 1 to 1048576, and before a test of r0 against 0, and no jump or local call leads between them (docs/VERIFIER.md, The form of `again`)",
         "in C write TURN, with a constant from 1 to 1048576",
+    ),
+    (
+        "callf -1; exit",
+        "44 at 0",
+        "slot 0: callf -1",
+        "a function calls itself, or it is the last of four calls within each other (docs/VERIFIER.md, Calls within calls)",
+        "in C write INLINED before a function, a loop in place of recursion, and no memset, memcpy or memcmp; examples/cc names what is called",
     ),
     (
         "; ".join(["mov64 r1, 1048576; call 3; jeq r0, 0, +0"] * 30 + ["mov64 r0, 0; exit"]),
@@ -298,7 +304,7 @@ RULES = [
         "50 at 2",
         "slot 2: jgt r3, 1, +0",
         f"a register that is read may be unset {AT_SLOT}",
-        "give each variable a value; a checker has one parameter, the context",
+        "give each variable a value; a checker has one parameter, the context, and a LOCAL function takes and answers numbers alone",
     ),
     (
         "ldxb r0, [r10-1]; exit",

@@ -57,7 +57,7 @@ pub fn code_rule(cause: CodeCause) -> &'static str {
         }
         CodeCause::Opcode => "there is no such opcode (docs/MACHINE.md, Faults of decoding)",
         CodeCause::Register => {
-            "there is no such register, or a function is called that isn't inlined (docs/MACHINE.md, Faults of decoding)"
+            "there is no such register, or a call is neither of a helper nor of a local function (docs/MACHINE.md, Faults of decoding)"
         }
         CodeCause::Field => {
             "a field isn't zero that has to be, or has no meaning there (docs/MACHINE.md, Faults of decoding)"
@@ -72,9 +72,6 @@ pub fn code_rule(cause: CodeCause) -> &'static str {
 /// What most likely helps against it; empty where nothing is known.
 pub fn code_cure(cause: CodeCause) -> &'static str {
     match cause {
-        CodeCause::Register => {
-            "in C write INLINED before each function, and no memset, memcpy or memcmp; examples/cc names what is called"
-        }
         CodeCause::Memory => "",
         _ => {
             "is the file a program? examples/cc makes one of C, 'crashbpf asm' one of an assembly text"
@@ -126,10 +123,10 @@ pub fn verifier_rule(cause: VerifierCause) -> &'static str {
             "a loop has a way round without a call of again, helper 3 (docs/VERIFIER.md, Shape rules)"
         }
         VerifierCause::AgainForm => {
-            "call 3 stands behind mov64 r1, K, with K from 1 to 1048576, and before a test of r0 against 0, and no jump leads between them (docs/VERIFIER.md, The form of `again`)"
+            "call 3 stands behind mov64 r1, K, with K from 1 to 1048576, and before a test of r0 against 0, and no jump or local call leads between them (docs/VERIFIER.md, The form of `again`)"
         }
         VerifierCause::CallDepth => {
-            "calls of functions are recursive or too deep (docs/VERIFIER.md, Calls within calls)"
+            "a function calls itself, or it is the last of four calls within each other (docs/VERIFIER.md, Calls within calls)"
         }
         VerifierCause::Budget => {
             "a run could take more than 1000000000 steps: the longest path, times 1 and all turns (docs/VERIFIER.md, Budget)"
@@ -174,9 +171,12 @@ pub fn verifier_cure(cause: VerifierCause) -> &'static str {
         }
         VerifierCause::Loop => "in C begin the loop's body with TURN(times, otherwise)",
         VerifierCause::AgainForm => "in C write TURN, with a constant from 1 to 1048576",
+        VerifierCause::CallDepth => {
+            "in C write INLINED before a function, a loop in place of recursion, and no memset, memcpy or memcmp; examples/cc names what is called"
+        }
         VerifierCause::Budget => "fewer turns, or whole sectors by same, zero and mix",
         VerifierCause::UnsetRegister => {
-            "give each variable a value; a checker has one parameter, the context"
+            "give each variable a value; a checker has one parameter, the context, and a LOCAL function takes and answers numbers alone"
         }
         VerifierCause::UnsetByte => "copy fills a local only with the whole size of the local",
         VerifierCause::OutsideRegion => {
