@@ -40,19 +40,43 @@ LOGS = [
         f"the log's sectors don't have 512 bytes {SUPER}",
         "record over a device with sectors of 512 bytes",
     ),
-    bad_log("a log that is cut short", log(LOG)[:-1], "refused 5 at 1", CUT_SHORT, "copy more of the log device"),
-    bad_log("a flag", [Entry(flags=32)], "refused 6 at 0", "the entry has a flag above 16 (docs/LOG-FORMAT.md, Flags)"),
+    bad_log(
+        "a log that is cut short in a header",
+        log(LOG)[:-1],
+        "refused 5 at 1",
+        CUT_SHORT,
+        "copy more of the log device",
+        "the file has 2047 bytes; the entry begins at byte 1536",
+    ),
+    bad_log(
+        "a log that is cut short in data",
+        log([F, D(1, 2), M("a"), W(1, 3, 7)])[:-1],
+        "refused 5 at 3",
+        CUT_SHORT,
+        "copy more of the log device",
+        "the header of entry 3 has sector 1 count 3 flags 0 length 0",
+        "the file has 4095 bytes; the entry ends at byte 4096",
+    ),
+    bad_log(
+        "a flag",
+        [Entry(flags=32)],
+        "refused 6 at 0",
+        "the entry has a flag above 16 (docs/LOG-FORMAT.md, Flags)",
+        "the header of entry 0 has sector 0 count 0 flags 32 length 0",
+    ),
     bad_log(
         "a data length",
         [F, Entry(text=b"a")],
         "refused 7 at 1",
         "the entry has a data length, which only a mark may have (docs/LOG-FORMAT.md, Entry header)",
+        "the header of entry 1 has sector 0 count 0 flags 0 length 1",
     ),
     bad_log(
         "a mark of another form",
         [Entry(flags=MARK | FUA)],
         "refused 8 at 0",
         "a mark has no other flag but 16, no sectors, and at most 480 bytes of text (docs/LOG-FORMAT.md, Flags)",
+        f"the header of entry 0 has sector 0 count 0 flags {MARK | FUA} length 0",
     ),
     bad_log(
         "a device that is too small",
@@ -135,6 +159,22 @@ IMAGES = [
         [W(0, 1024, 0xAA), F],
         "refused 12 at 1",
         f"with --bound 2 there are {2 * (1 + 1024 + 1024 * 1023 // 2) - 1024 - 1024 * 1023 // 2}",
+    ),
+    too_many(
+        "too many images, fewer with other cuts",
+        "--sectors 64 --bound 3 --tears",
+        [W(0, 48, 0xAA), M("a")],
+        "refused 12 at 2",
+        f"with --cuts flush there are {1 + 48 * 8 + 48 * 47 // 2 * 64 + 48 * 47 * 46 // 6 * 512}",
+        f"with --cuts mark there are {1 + 48 * 8 + 48 * 47 // 2 * 64 + 48 * 47 * 46 // 6 * 512}",
+        f"with --bound 2 there are {1 + 2 * (1 + 48 * 8 + 48 * 47 // 2 * 64)}",
+    ),
+    too_many(
+        "too many images, other cuts not fewer, or none",
+        "--sectors 64 --bound 3 --tears",
+        [W(0, 60, 0xAA)],
+        "refused 12 at 1",
+        f"with --bound 2 there are {1 + 1 + 60 * 8 + 60 * 59 // 2 * 64}",
     ),
     noted(
         "too many images to explore",
@@ -303,6 +343,7 @@ RULES = [
         "lddw r2, 5; jgt r3, 1, +0; mov64 r0, 0; exit",
         "50 at 2",
         "slot 2: jgt r3, 1, +0",
+        "r3: unset, or not of one kind on all paths",
         f"a register that is read may be unset {AT_SLOT}",
         "give each variable a value; a checker has one parameter, the context, and a LOCAL function takes and answers numbers alone",
     ),
@@ -310,6 +351,7 @@ RULES = [
         "ldxb r0, [r10-1]; exit",
         "51 at 0",
         "slot 0: ldxb r0, [r10-1]",
+        "r10: the stack, 0 below r10; an access of size 1 at -1 has to lie within its 512",
         f"a byte of the stack that is read may be unwritten {AT_SLOT}",
         "copy fills a local only with the whole size of the local",
     ),
@@ -317,14 +359,23 @@ RULES = [
         "mov64 r1, 0; call 1; ldxb r0, [r0+0]; exit",
         "52 at 2",
         "slot 2: ldxb r0, [r0+0]",
+        "r0: a sector or 0; a test against 0 has to come first",
         f"the bytes may lie outside of the 512 of a sector or the stack, or the 32 of the context, or the address may be 0 or a number {AT_SLOT}",
         "in C take SECTOR(n, ..), which tests for 0, and test a u64 index with < right before its use: TURN_BELOW, ELEMENT; or read by position, as u64_at(p)",
     ),
-    ("stw [r1+0], 7; mov64 r0, 0; exit", "53 at 0", "slot 0: stw [r1+0], 7", f"a sector or the context is written {AT_SLOT}", "write to a local copy"),
+    (
+        "stw [r1+0], 7; mov64 r0, 0; exit",
+        "53 at 0",
+        "slot 0: stw [r1+0], 7",
+        "r1: the context, offset 0; an access of size 4 at +0 has to lie within its 32",
+        f"a sector or the context is written {AT_SLOT}",
+        "write to a local copy",
+    ),
     (
         "mul64 r1, 2; mov64 r0, 0; exit",
         "54 at 0",
         "slot 0: mul64 r1, 2",
+        "r1: the context, offset 0",
         f"this arithmetic isn't allowed with a pointer, or leaves its range {AT_SLOT}",
         "in C make the index a u64 and test it right before its use, or read by position, as u64_at(p)",
     ),
@@ -332,6 +383,7 @@ RULES = [
         "mov64 r0, r1; exit",
         "55 at 1",
         "slot 1: exit",
+        "r0: the context, offset 0",
         f"a pointer is compared, answered, stored in part or read as a number {AT_SLOT}",
         "compare indices in place of pointers",
     ),
@@ -339,6 +391,7 @@ RULES = [
         "call 4; mov64 r0, 0; exit",
         "56 at 0",
         "slot 0: call 4",
+        "r1: the context, offset 0",
         f"an argument of the helper isn't of its kind {AT_SLOT}",
         "copy takes a local and a constant length from 1 to 512; the others take numbers, a sector by its number",
     ),
@@ -352,7 +405,48 @@ RULES = [
     ),
 ]
 
-VERIFIER = [
+# What is known at a slot: a program in one line, where it is refused, the instruction, and what is known of its registers
+
+INSIDE = "; an access of size 8 at +508 has to lie within its 512"
+NO_ADDRESS = "; an address is wanted"
+TOLD = {error: told for _, error, *told in RULES}
+KNOWN = [
+    ("mov64 r1, 0; call 1; jeq r0, 0, +1; ldxdw r0, [r0+508]; exit", "52 at 3", "ldxdw r0, [r0+508]", "r0: a sector, offset 0 to 0" + INSIDE),
+    (
+        "mov64 r1, 0; call 1; jeq r0, 0, +3; ldxh r1, [r0+0]; add64 r0, r1; ldxsb r0, [r0-2]; exit",
+        "52 at 5",
+        "ldxsb r0, [r0-2]",
+        "r0: a sector, offset 0 to 65535; an access of size 1 at -2 has to lie within its 512",
+    ),
+    ("ldxw r2, [r1+32]; exit", "52 at 0", "ldxw r2, [r1+32]", "r1: the context, offset 0; an access of size 4 at +32 has to lie within its 32"),
+    ("mov64 r0, 5; ldxb r0, [r0+0]; exit", "52 at 1", "ldxb r0, [r0+0]", "r0: the number 5" + NO_ADDRESS),
+    ("stxb [r10-1], r10; exit", "55 at 0", "stxb [r10-1], r10", "r10: the stack, 0 below r10; an access of size 1 at -1 has to lie within its 512", "r10: the stack, 0 below r10"),
+    ("mov64 r2, r10; add64 r2, -8; mul64 r2, r3; exit", "50 at 2", "mul64 r2, r3", "r2: the stack, 8 below r10", "r3: unset, or not of one kind on all paths"),
+    ("mov32 r10, r1; exit", "57 at 0", "mov32 r10, r1"),
+    ("mov32 r0, r1; exit", "54 at 0", "mov32 r0, r1", "r1: the context, offset 0"),
+    ("neg64 r1; exit", "54 at 0", "neg64 r1", "r1: the context, offset 0"),
+    ("movsx8to64 r0, r1; exit", "54 at 0", "movsx8to64 r0, r1", "r1: the context, offset 0"),
+    ("jgt r1, r10, +0; exit", "55 at 0", "jgt r1, r10, +0", "r1: the context, offset 0", "r10: the stack, 0 below r10"),
+    (
+        "mov64 r1, 0; mov64 r2, r10; add64 r2, -8; mov64 r3, 600; call 2; exit",
+        "56 at 4",
+        "call 2",
+        "r1: the number 0",
+        "r2: the stack, 8 below r10",
+        "r3: the number 600",
+    ),
+    ("mov64 r2, 0; call 7; exit", "56 at 1", "call 7", "r1: the context, offset 0", "r2: the number 0"),
+]
+
+
+def known(text, error, instruction, *registers):
+    """A row of a program that breaks the rule of an instruction."""
+    number, slot = error.split(" at ")
+    rule, cure = next(told[-2:] for of, told in TOLD.items() if of.startswith(number))
+    return noted(f"known at {instruction}", "verify p --sectors 4", {"p": program(text)}, f"refused {error}", f"slot {slot}: {instruction}", *registers, rule, cure)
+
+
+VERIFIER = [known(*row) for row in KNOWN] + [
     noted(f"rule {error}", "verify p --sectors 4", {"p": program(text)}, f"refused {error}", *told) for text, error, *told in RULES
 ] + [
     noted(f"rule {error}, of a second program", "explore log p0 p1 --sectors 4", files(LOG, GOOD, program(text)), f"refused {error} of program 1", *told)
@@ -385,6 +479,19 @@ STORED_RUN = report("""
     program 0 slots 2 limit 2
     images 1 failing 0 lines 0
     """)
+UNREACHED_ONE = program("mov64 r0, 0; exit; lddw r0, 1; exit")
+EXPLORED = report("""
+    sectors 4 entries 2 cuts all bound 0 tears no first no
+    program 0 slots 5 limit 2
+    program 1 slots 2 limit 2
+    program 2 slots 5 limit 2
+    images 3 failing 0 lines 0
+    """)
+EXPLORED_CHECKED = report("""
+    sectors 4 entries 2 cuts all bound 0 tears no first no
+    program 0 slots 5 limit 7
+    images 3 failing 0 lines 0
+    """)
 ANSWERS = [
     answered("nothing to say of a program", "verify p --sectors 4", {"p": GOOD}, "accepted budget 2\n"),
     answered(
@@ -401,6 +508,15 @@ ANSWERS = [
         "accepted budget 3\n",
         f"instructions that no run reaches: 1, the first at slot 3; {UNREACHED}",
     ),
+    answered(
+        "functions that aren't reached, of programs that are explored",
+        "explore log p0 p1 p2 --sectors 4 --bound 0",
+        files(LOG, UNREACHED_ONE, GOOD, UNREACHED_ONE),
+        EXPLORED,
+        f"program 0: instructions that no run reaches: 2, the first at slot 2; {UNREACHED}",
+        f"program 2: instructions that no run reaches: 2, the first at slot 2; {UNREACHED}",
+    ),
+    answered("nothing of a program that isn't verified", "explore log p0 --sectors 4 --bound 0 --checked 7", files(LOG, UNREACHED_ONE), EXPLORED_CHECKED),
     answered("nothing to say of a log", "images log --sectors 4", files([W(0, 1, 1), F, W(0, 4, 1, FUA)]), NO_LARGE),
     answered(
         "writes of more sectors than the bound",

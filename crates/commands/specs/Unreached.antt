@@ -1,5 +1,5 @@
 -- The instructions of an accepted program that no path reaches (docs/VERIFIER.md, Good table).
-use Rattle.std.specs.Prelude.{ℕ, Bool, ◌&&◌, List, [], ◌∷◌, ◌++◌, length, filter, codes, is_none}
+use Rattle.std.specs.Prelude.{ℕ, Bool, ◌&&◌, List, [], ◌∷◌, ◌++◌, length, filter, codes, is_none, Option, None, Some}
 use Rattle.std.specs.Option.{is_some}
 use Rattle.std.specs.List.{range_with_len}
 use Rattle.std.specs.Fmt.{decimal}
@@ -14,8 +14,13 @@ is_unreached v slot = is_some (at v.program slot) && is_none (state_at v.table s
 abbrev pub unreached_slots : VerifiedValue → List ℕ
 unreached_slots v = filter (is_unreached v) (range_with_len 0 (length v.program))
 
+-- of a program of several it says of which
+unfoldable pub head_text : Option ℕ → List ℕ
+head_text None = codes "note: "
+head_text (Some program) = codes "note: program " ++ decimal program ++ codes ": "
+
 unfoldable pub count_text : ℕ → List ℕ
-count_text n = codes "note: instructions that no run reaches: " ++ decimal n
+count_text n = codes "instructions that no run reaches: " ++ decimal n
 
 unfoldable pub first_text : ℕ → List ℕ
 first_text slot = codes ", the first at slot " ++ decimal slot
@@ -23,9 +28,12 @@ first_text slot = codes ", the first at slot " ++ decimal slot
 unfoldable pub question : List ℕ
 question = codes "; is the checker the first function of its file?\n"
 
-abbrev pub unreached_text : List ℕ → List ℕ
-unreached_text [] = []
-unreached_text (first ∷ rest) = count_text (length (first ∷ rest)) ++ first_text first ++ question
+abbrev pub found_text : ℕ → ℕ → List ℕ
+found_text n first = count_text n ++ first_text first ++ question
 
-abbrev pub unreached_note : VerifiedValue → List ℕ
-unreached_note v = unreached_text (unreached_slots v)
+abbrev pub unreached_text : Option ℕ → List ℕ → List ℕ
+unreached_text whose [] = []
+unreached_text whose (first ∷ rest) = head_text whose ++ found_text (length (first ∷ rest)) first
+
+abbrev pub unreached_note : Option ℕ → VerifiedValue → List ℕ
+unreached_note whose v = unreached_text whose (unreached_slots v)

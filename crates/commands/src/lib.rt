@@ -24,7 +24,7 @@
 //! - `refusals`: the refusals of files and options, and `fault_line`, the line of a refusal.
 //! - `writing`: `emit`, which writes all of an answer.
 //! - `progress`: the gate that says on standard error how far an exploration is.
-//! - `noting`, `unreached`: the notes behind a refusal and beside an answer, of the parts that `notes` has.
+//! - `noting`, `unreached`, `headers`: the notes behind a refusal and beside an answer, of the parts that `notes` has.
 //!
 //! # What is proved
 //!
@@ -61,6 +61,7 @@
 mod action;
 mod asm_command;
 mod explore_command;
+mod headers;
 mod image_command;
 mod images_command;
 mod laws;

@@ -3,27 +3,33 @@
 ghost use Rattle.std.specs.Prelude.{◌≤◌};
 
 use crate::action::options_of;
+use crate::headers::{put_end, put_header};
+use crate::options::Options;
 use crate::source::read_log;
 use crate::unreached::put_unreached;
 use crate::words::{OptionWords, Request, Words};
 use base::causes::{CodeCause, LogCause, RequestCause, VerifierCause};
 use base::refusal::{Cause, Refusal};
 use bpf_isa::codec::decode;
+use bpf_isa::program::Program;
 use choices::count;
-use epochs::Plan;
-use logfmt::read;
+use epochs::{Cuts, Plan};
+use logfmt::{Log, read};
 use notes::{
     asm_cure, asm_rule, code_cure, code_rule, log_cure, log_rule, put_entry, put_escaped,
-    put_large, put_least, put_note, put_refused, put_slot, verifier_cure, verifier_rule,
+    put_known, put_large, put_least, put_note, put_refused, put_slot, verifier_cure, verifier_rule,
 };
 use std::alloc::{AllocError, Global};
-use verifier::verify;
+use verifier::{inferred, verify};
 
 /// With what a log begins.
 const LOG_MAGIC: &[u8] = b"rhswfsj\0";
 
 /// With what an object file begins.
 const OBJECT_MAGIC: &[u8] = b"\x7fELF";
+
+/// How many programs a run has at most.
+const MOST_PROGRAMS: u8 = 8;
 
 /// The number of sectors of the largest device.
 const LARGEST_DEVICE: u32 = 16_384;
@@ -83,6 +89,26 @@ fn put_device(alloc: Global, out: &mut String, bytes: &[u8], at: usize) -> Resul
     }
 }
 
+/// Appends the header of an entry that is refused for it, and where it ends, if the file ends before.
+fn put_broken_entry(
+    out: &mut String,
+    files: &[Option<Vec<u8>>],
+    cause: LogCause,
+    at: usize,
+) -> Result<(), AllocError> {
+    let Some(bytes) = held(files, 0) else {
+        return Ok(());
+    };
+    match cause {
+        LogCause::Flags | LogCause::DataLength | LogCause::MarkForm => put_header(out, bytes, at),
+        LogCause::CutShort => {
+            put_header(out, bytes, at)?;
+            put_end(out, bytes, at)
+        }
+        _ => Ok(()),
+    }
+}
+
 /// Appends what is wrong with a log.
 fn put_log_notes(
     alloc: Global,
@@ -99,7 +125,7 @@ fn put_log_notes(
             None => Ok(()),
         },
         LogCause::Short | LogCause::Magic => put_kind(out, words, files, 1),
-        _ => Ok(()),
+        _ => put_broken_entry(out, files, cause, at),
     }
 }
 
@@ -131,42 +157,77 @@ fn names_instruction(cause: VerifierCause) -> bool {
     )
 }
 
-/// Appends the instruction at which a program is refused.
-fn put_refused_slot(
-    alloc: Global,
-    out: &mut String,
-    files: &[Option<Vec<u8>>],
-    refusal: &Refusal,
-) -> Result<(), AllocError> {
-    let Some(bytes) = held(files, place_of(refusal.program)) else {
-        return Ok(());
-    };
-    match decode(alloc, bytes) {
-        Ok(program) => put_slot(out, &program, refusal.at as usize),
-        Err(_fault) => Ok(()),
-    }
-}
-
-/// Appends which rule a program breaks, and the instruction that does.
-fn put_verifier_notes(
-    alloc: Global,
-    out: &mut String,
-    files: &[Option<Vec<u8>>],
-    cause: VerifierCause,
-    refusal: &Refusal,
-) -> Result<(), AllocError> {
-    if names_instruction(cause) {
-        put_refused_slot(alloc, out, files, refusal)?;
-    }
-    put_refused(out, verifier_rule(cause), verifier_cure(cause))
-}
-
 /// The options that a command takes, where it takes some of a log.
 fn log_options(request: Request) -> Option<OptionWords> {
     match request {
         Request::Explore(words) | Request::Images(words) | Request::Image(words, _) => Some(words),
         _ => None,
     }
+}
+
+/// The options that a command takes, where it verifies programs.
+fn verifier_options(request: Request) -> Option<OptionWords> {
+    match request {
+        Request::Explore(words) | Request::Verify(words) => Some(words),
+        _ => None,
+    }
+}
+
+/// Appends what is known of the registers that the instruction at a slot reads, in a program of right shape.
+fn put_known_at(
+    alloc: Global,
+    out: &mut String,
+    program: &Program,
+    sectors: u32,
+    slot: usize,
+) -> Result<(), AllocError> {
+    let Ok(table) = inferred(alloc, program, sectors) else {
+        return Ok(());
+    };
+    match (program.at(slot), table.state(slot)) {
+        (Some(instr), Some(state)) => put_known(out, &instr, state),
+        _ => Ok(()),
+    }
+}
+
+/// Appends the instruction at which a program is refused, and what is known there.
+fn put_refused_slot(
+    alloc: Global,
+    out: &mut String,
+    words: &Words,
+    files: &[Option<Vec<u8>>],
+    refusal: &Refusal,
+) -> Result<(), AllocError> {
+    let Some(bytes) = held(files, place_of(refusal.program)) else {
+        return Ok(());
+    };
+    let Ok(program) = decode(alloc, bytes) else {
+        return Ok(());
+    };
+    let slot = refusal.at as usize;
+    put_slot(out, &program, slot)?;
+    let Some(options) = verifier_options(words.request()) else {
+        return Ok(());
+    };
+    match options_of(options) {
+        Ok(options) => put_known_at(alloc, out, &program, options.sectors(), slot),
+        Err(_refusal) => Ok(()),
+    }
+}
+
+/// Appends which rule a program breaks, the instruction that does, and what is known there.
+fn put_verifier_notes(
+    alloc: Global,
+    out: &mut String,
+    words: &Words,
+    files: &[Option<Vec<u8>>],
+    cause: VerifierCause,
+    refusal: &Refusal,
+) -> Result<(), AllocError> {
+    if names_instruction(cause) {
+        put_refused_slot(alloc, out, words, files, refusal)?;
+    }
+    put_refused(out, verifier_rule(cause), verifier_cure(cause))
 }
 
 /// Appends the greatest smaller bound with which a plan hasn't too many images, and how many it has then.
@@ -186,7 +247,37 @@ fn put_smaller_bound(
     put_note(out, "there are too many with --bound 0 as well")
 }
 
-/// Appends with how small a bound a log hasn't too many images.
+/// Appends how many images a log has with other cuts, where it has some, and not too many.
+fn put_cuts(
+    alloc: Global,
+    out: &mut String,
+    log: &Log,
+    options: &Options,
+    cuts: Cuts,
+    name: &str,
+) -> Result<(), AllocError> {
+    let plan = Plan::new(alloc, log, cuts)?;
+    match count(&plan, options.bound(), options.tears()) {
+        Ok(images) if images > 0 => write!(out, "note: with --cuts {name} there are {images}\n"),
+        _ => Ok(()),
+    }
+}
+
+/// Appends with which cuts in place of all a log hasn't too many images.
+fn put_fewer_cuts(
+    alloc: Global,
+    out: &mut String,
+    log: &Log,
+    options: &Options,
+) -> Result<(), AllocError> {
+    if options.cuts() != Cuts::All {
+        return Ok(());
+    }
+    put_cuts(alloc, out, log, options, Cuts::BeforeFlush, "flush")?;
+    put_cuts(alloc, out, log, options, Cuts::AfterMark, "mark")
+}
+
+/// Appends with which cuts, and with how small a bound, a log hasn't too many images.
 fn put_fewer(
     alloc: Global,
     out: &mut String,
@@ -199,6 +290,7 @@ fn put_fewer(
     let Ok(log) = read_log(alloc, bytes, options.sectors()) else {
         return Ok(());
     };
+    put_fewer_cuts(alloc, out, &log, &options)?;
     let plan = Plan::new(alloc, &log, options.cuts())?;
     put_smaller_bound(out, &plan, options.bound(), options.tears())
 }
@@ -262,7 +354,9 @@ pub fn notes_behind(
         Cause::Log(cause) => put_log_notes(alloc, &mut out, words, files, cause, place)?,
         Cause::Code(cause) => put_code_notes(&mut out, words, files, cause, refusal.program)?,
         Cause::Asm(cause) => put_refused(&mut out, asm_rule(cause), asm_cure(cause))?,
-        Cause::Verifier(cause) => put_verifier_notes(alloc, &mut out, files, cause, refusal)?,
+        Cause::Verifier(cause) => put_verifier_notes(
+            alloc, &mut out, words, files, cause, refusal,
+        )?,
         Cause::Request(RequestCause::TooManyImages) => {
             put_images_notes(alloc, &mut out, words, files)?
         }
@@ -273,6 +367,26 @@ pub fn notes_behind(
     Ok(out)
 }
 
+/// Appends what no run of an accepted program reaches, which may be one of several.
+fn put_reached_notes(
+    alloc: Global,
+    out: &mut String,
+    whose: Option<u8>,
+    sectors: u32,
+    bytes: &[u8],
+) -> Result<(), AllocError>
+    requires some { 1 ≤ sectors }
+    requires device { sectors ≤ 16384 }
+{
+    let Ok(program) = decode(alloc, bytes) else {
+        return Ok(());
+    };
+    match verify(alloc, &program, sectors) {
+        Ok(verified) => put_unreached(alloc, out, whose, &verified),
+        Err(_fault) => Ok(()),
+    }
+}
+
 /// Appends what no run of an accepted program reaches.
 fn put_verified_notes(
     alloc: Global,
@@ -280,16 +394,31 @@ fn put_verified_notes(
     words: OptionWords,
     bytes: &[u8],
 ) -> Result<(), AllocError> {
+    match options_of(words) {
+        Ok(options) => put_reached_notes(alloc, out, None, options.sectors(), bytes),
+        Err(_refusal) => Ok(()),
+    }
+}
+
+/// Appends what no run of the programs reaches that were verified for a run. They are verified once more.
+fn put_explored_notes(
+    alloc: Global,
+    out: &mut String,
+    words: OptionWords,
+    files: &[Option<Vec<u8>>],
+) -> Result<(), AllocError> {
     let Ok(options) = options_of(words) else {
         return Ok(());
     };
-    let Ok(program) = decode(alloc, bytes) else {
+    if options.checked().is_some() {
         return Ok(());
-    };
-    match verify(alloc, &program, options.sectors()) {
-        Ok(verified) => put_unreached(alloc, out, &verified),
-        Err(_fault) => Ok(()),
     }
+    for number in 0..MOST_PROGRAMS {
+        if let Some(bytes) = held(files, usize::from(number) + 1) {
+            put_reached_notes(alloc, out, Some(number), options.sectors(), bytes)?;
+        }
+    }
+    Ok(())
 }
 
 /// Appends how many writes of a log have more sectors than may depart.
@@ -308,7 +437,7 @@ fn put_survey_notes(
     }
 }
 
-/// The notes beside the answer of a command that succeeded: what no run of a program reaches (`verify`), and how many
+/// The notes beside the answer of a command that succeeded: what no run of a program reaches (`verify`, `explore`), and how many
 /// writes never depart as a whole (`images`). Each line begins with `note: `; mostly there is none.
 pub fn notes_beside(
     alloc: Global,
@@ -320,6 +449,7 @@ pub fn notes_beside(
         (Request::Verify(options), Some(bytes)) => {
             put_verified_notes(alloc, &mut out, options, bytes)?
         }
+        (Request::Explore(options), _) => put_explored_notes(alloc, &mut out, options, files)?,
         (Request::Images(options), Some(bytes)) => {
             put_survey_notes(alloc, &mut out, options, bytes)?
         }

@@ -1,7 +1,7 @@
 //! What no run reaches.
 
 ghost use Rattle.std.specs.Prelude.{◌≡◌, ◌++◌, ◌∷◌, [], IfOk, OnOk, filter, string_bytes};
-ghost use Rattle.commands.specs.Unreached.{is_unreached, unreached_slots, count_text, first_text, question, unreached_text, unreached_note};
+ghost use Rattle.commands.specs.Unreached.{is_unreached, unreached_slots, head_text, count_text, first_text, question, found_text, unreached_text, unreached_note};
 
 use std::alloc::{AllocError, Global};
 use verifier::Verified;
@@ -38,12 +38,23 @@ fn unreached(alloc: Global, verified: &Verified<'_>) -> Result<Vec<usize>, Alloc
     Ok(slots)
 }
 
+/// Appends of which program it is said, where that is one of several.
+#[tactic(auto, unfolding(crate::specs::Unreached::head_text))]
+fn put_head(out: &mut String, whose: Option<u8>) -> Result<(), AllocError>
+    ensures { OnOk result (string_bytes out.new ≡ string_bytes out.old ++ head_text whose) }
+{
+    match whose {
+        Some(program) => write!(out, "note: program {program}: "),
+        None => out.push_str("note: "),
+    }
+}
+
 /// Appends how many instructions are meant.
 #[tactic(auto, unfolding(crate::specs::Unreached::count_text))]
 fn put_count(out: &mut String, count: usize) -> Result<(), AllocError>
     ensures { OnOk result (string_bytes out.new ≡ string_bytes out.old ++ count_text count) }
 {
-    write!(out, "note: instructions that no run reaches: {count}")
+    write!(out, "instructions that no run reaches: {count}")
 }
 
 /// Appends the slot of the first one.
@@ -62,28 +73,38 @@ fn put_question(out: &mut String) -> Result<(), AllocError>
     out.push_str("; is the checker the first function of its file?\n")
 }
 
+/// Appends how many there are, the first, and what that mostly means.
+fn put_found(out: &mut String, count: usize, first: usize) -> Result<(), AllocError>
+    ensures { OnOk result (string_bytes out.new ≡ string_bytes out.old ++ found_text count first) }
+{
+    put_count(out, count)?;
+    put_first(out, first)?;
+    put_question(out)
+}
+
 /// Appends a note with slots, if there are any.
-fn put_slots(out: &mut String, slots: &[usize]) -> Result<(), AllocError>
-    ensures { OnOk result (string_bytes out.new ≡ string_bytes out.old ++ unreached_text slots.now) }
+fn put_slots(out: &mut String, whose: Option<u8>, slots: &[usize]) -> Result<(), AllocError>
+    ensures { OnOk result (string_bytes out.new ≡ string_bytes out.old ++ unreached_text whose slots.now) }
 {
     match slots {
         [] => Ok(()),
         [first, ..] => {
-            put_count(out, slots.len())?;
-            put_first(out, *first)?;
-            put_question(out)
+            put_head(out, whose)?;
+            put_found(out, slots.len(), *first)
         }
     }
 }
 
-/// Appends a note where an accepted program has instructions that no run reaches: how many, and the first.
+/// Appends a note where an accepted program has instructions that no run reaches: how many, and the first. Of a program
+/// that is one of several it says which one.
 pub(crate) fn put_unreached(
     alloc: Global,
     out: &mut String,
+    whose: Option<u8>,
     verified: &Verified<'_>,
 ) -> Result<(), AllocError>
-    ensures { OnOk result (string_bytes out.new ≡ string_bytes out.old ++ unreached_note verified.now) }
+    ensures { OnOk result (string_bytes out.new ≡ string_bytes out.old ++ unreached_note whose verified.now) }
 {
     let slots = unreached(alloc, verified)?;
-    put_slots(out, slots.as_slice())
+    put_slots(out, whose, slots.as_slice())
 }
