@@ -7,3 +7,4 @@ pub mod Ranges
 pub mod RefusalLemmas
 pub mod Runs
 pub mod Texts
+pub mod Faultless

@@ -10,6 +10,7 @@ use Rattle.commands.specs.Table as table
 use Rattle.interp.specs.Checker.{CheckerValue}
 use Rattle.workers.specs.Failing.{failing_lines}
 use Rattle.commands.specs.Explore.{Refuses, for_source, AreCheckersOf, subject_of, report_of, IsProgramCount, IsReport}
+use Rattle.commands.proofs.Faultless.{faultless}
 
 pub is_log : (text : List ℕ) (s : Settings) (log : LogValue) (sectors : ℕ) → log.sectors ≡ sectors → sectors ≡ s.sectors → LogText text log → IsLogOf text s log
 is_log text s log sectors e f h = record { device = e ∙ f; of_log = h }
@@ -50,4 +51,5 @@ reported text files s log checkers now bytes failing count source made same repo
       made = subst (AreCheckersOf s files) (sym same) made;
       report = report;
       fails = fails;
+      faultless = faultless text s files log now source (subst (AreCheckersOf s files) (sym same) made);
     }

@@ -10,7 +10,9 @@ use Rattle.bpf_isa.specs.Program as code_fault
 use Rattle.interp.specs.Checker.{CheckerValue}
 use Rattle.report.specs.declared.head.ProgramHead.{ProgramHead}
 use Rattle.report.specs.Report.{HeadValue, report_bytes}
+use Rattle.lines.specs.Line.{FailingLine}
 use Rattle.workers.specs.Failing.{Subject, failing_lines}
+use Rattle.workers.specs.Safe.{IsVerdict, RunsSafely}
 use Rattle.commands.specs.declared.settings.OptionPlace.TheVariants as place
 use Rattle.commands.specs.declared.settings.Settings.{Settings}
 use Rattle.commands.specs.Settings.{option_refusal}
@@ -58,7 +60,14 @@ head_of s value checkers = record {
 abbrev pub report_of : Settings → LogValue → List CheckerValue → List ℕ
 report_of s value checkers = report_bytes (head_of s value checkers) (failing_lines (subject_of s value checkers))
 
--- the bytes report every failing image of the log and no other, or the first alone where that is asked for
+-- No program has a fault or spends its limit: on each image each ends in the machine's verdict within the limit
+-- that the report prints, and each line is that of a verdict.
+pub record IsFaultless (subject : Subject) : Type 0 where
+  pub runs : (program : ℕ) (checker : CheckerValue) → slice_get subject.checkers program ≡ Some checker → RunsSafely subject checker
+  pub lines : (i : ℕ) (l : FailingLine) → slice_get (failing_lines subject) i ≡ Some l → IsVerdict l.ending
+
+-- the bytes report every failing image of the log and no other, or the first alone where that is asked for;
+-- where no limit of steps is asked for, nothing has a fault or spends a limit
 pub record IsReport (text : List ℕ) (files : List (List ℕ)) (s : Settings) (bytes : List ℕ) (failing : Bool) : Type 0 where
   pub count : IsProgramCount (length files)
   pub value : LogValue
@@ -67,6 +76,7 @@ pub record IsReport (text : List ℕ) (files : List (List ℕ)) (s : Settings) (
   pub made : AreCheckersOf s files checkers
   pub report : bytes ≡ report_of s value checkers
   pub fails : IsTrue failing ↔ (failing_lines (subject_of s value checkers) ≢ [])
+  pub faultless : s.checked ≡ None → IsFaultless (subject_of s value checkers)
 
 -- the same, whether or not there is a failing image
 abbrev pub HasReport : List ℕ → List (List ℕ) → Settings → List ℕ → Type 0

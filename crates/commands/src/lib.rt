@@ -33,7 +33,9 @@
 //! machine on the definition of the image, is not a verdict with answer 0. With the option `first` they
 //! are the report of the first failing image alone. A program runs within the limit
 //! of steps that is asked for, or, without one, within the budget with which the verifier accepts it for
-//! the device; what it doesn't accept is refused (`specs/Programs.antt`). `image` answers the bytes of
+//! the device; what it doesn't accept is refused (`specs/Programs.antt`). Without a limit that is asked for no
+//! run has a fault or spends its budget, and no line says so (`IsFaultless` in `specs/Explore.antt`), by the
+//! soundness of the verifier. `image` answers the bytes of
 //! the image of a number, and `survey` the text of `specs/Survey.antt`. Where one of them answers `Err`,
 //! the refusal is the first in the order of docs/REPORT.md (`specs/Explore.antt`, `specs/Image.antt`,
 //! `specs/Survey.antt`), or memory ran out.

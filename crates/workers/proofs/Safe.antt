@@ -1,17 +1,16 @@
 -- Accepted checkers run safely on crash images, since these are devices of their log's size.
-use Rattle.std.proofs.Common.{ℕ, ◌≡◌, List, slice_get, Option, Some, sym, refl, subst, ◌∙◌}
+use Rattle.std.proofs.Common.{◌≡◌, slice_get, Some, sym, refl, subst, ◌∙◌}
 use Rattle.std.proofs.lemmas.Option.{same_Some}
 use Rattle.logfmt.specs.Bounds.{IsLog}
 use Rattle.choices.specs.Choices.{ChoiceValue}
 use Rattle.images.specs.Views.{ViewValue, view_of, sectors_of, context_at}
 use Rattle.images.proofs.Devices.{images_are_devices}
-use Rattle.machine.specs.Outcome.{Ending, Verdict, outcome}
 use Rattle.interp.specs.Checker.{CheckerValue, judged}
 use Rattle.lines.specs.Line.{FailingLine}
 use Rattle.soundness.specs.Accepted.{IsImage, IsSafeRun, AcceptedRunsSafely}
-use Rattle.workers.specs.Failing.{Subject, choices_of, ending_at, failing_lines}
+use Rattle.workers.specs.Failing.{Subject, ending_at}
 use Rattle.workers.specs.Laws.{IsFailing}
-use Rattle.workers.specs.Safe.{IsVerdict, RunsSafely, IsAcceptedFor, AcceptedCheckersRunSafely}
+use Rattle.workers.specs.Safe.{IsVerdict, IsAcceptedFor, AcceptedCheckersRunSafely}
 use Rattle.workers.proofs.Sets.{listed}
 
 -- a crash image is one on which accepted programs run safely
