@@ -195,10 +195,14 @@ struct Holding {
     /// The block that ended first, plus one.
     first: AtomicU64,
     ended: AtomicU64,
+    /// The sum of the numbers of the workers that took a block, each plus one.
+    workers: AtomicU64,
 }
 
 impl Gate for Holding {
-    fn before(&self, _worker: u8, block: u32) {
+    fn before(&self, worker: u8, block: u32) {
+        self.workers
+            .fetch_add(u64::from(worker).wrapping_add(1), Ordering::SeqCst);
         if block != 0 {
             return;
         }
@@ -232,12 +236,18 @@ fn held<R: Threads + Wait + Sync + Abort>(
     let gate = Holding {
         first: AtomicU64::new(0),
         ended: AtomicU64::new(0),
+        workers: AtomicU64::new(0),
     };
     let explored = explore_with(rt, alloc, &gate, log, programs.as_slice(), &options)
         .ok()
         .ok_or("a report")?;
     assert_eq!(rt; gate.ended.load(Ordering::SeqCst), 2);
     assert_eq!(rt; gate.first.load(Ordering::SeqCst), 2, "block 1 ended first");
+    assert_eq!(rt;
+        gate.workers.load(Ordering::SeqCst),
+        3,
+        "worker 0 and worker 1 took a block each"
+    );
     Ok(explored.bytes)
 }
 

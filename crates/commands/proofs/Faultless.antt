@@ -4,21 +4,13 @@ use Rattle.std.proofs.lemmas.Option.{same_Some}
 use Rattle.logfmt.specs.Bounds.{LogValue, IsLog}
 use Rattle.verifier.specs.Verdicts.{IsAccepted}
 use Rattle.interp.specs.Checker.{CheckerValue}
-use Rattle.bpf_shape.proofs.Whole.{again_has_form}
-use Rattle.soundness.proofs.Going.{faults_are_of_steps}
-use Rattle.soundness.proofs.Within.{runs_end}
-use Rattle.soundness.proofs.Safe.{runs_safely}
 use Rattle.workers.specs.Failing.{Subject}
 use Rattle.workers.specs.Safe.{IsAcceptedFor, AcceptedCheckersRunSafely}
-use Rattle.workers.proofs.Safe.{accepted_run_safely}
 use Rattle.workers.proofs.Sets.{listed}
 use Rattle.commands.specs.declared.settings.Settings.{Settings}
 use Rattle.commands.specs.Programs.{IsRunWithin}
 use Rattle.commands.specs.Source.{HasImages}
 use Rattle.commands.specs.Explore.{AreCheckersOf, IsFaultless, subject_of}
-
-sound : AcceptedCheckersRunSafely
-sound = accepted_run_safely (runs_safely (runs_end again_has_form) faults_are_of_steps)
 
 accepted_one : (checked : Option ℕ) (sectors : ℕ) (c : CheckerValue) → checked ≡ None → IsRunWithin checked sectors c → IsAccepted c.program sectors c.limit
 accepted_one None sectors c free within = within.0
@@ -34,9 +26,9 @@ accepted_all s (bytes ∷ files) (d ∷ checkers) zero c made free there =
 accepted_all s (bytes ∷ files) (d ∷ checkers) (suc n) c made free there = accepted_all s files checkers n c made.1 free there
 
 -- so the run has no fault
-pub faultless : (text : List ℕ) (s : Settings) (files : List (List ℕ)) (log : LogValue) (checkers : List CheckerValue) → HasImages text s log
+pub faultless : AcceptedCheckersRunSafely → (text : List ℕ) (s : Settings) (files : List (List ℕ)) (log : LogValue) (checkers : List CheckerValue) → HasImages text s log
     → AreCheckersOf s files checkers → s.checked ≡ None → IsFaultless (subject_of s log checkers)
-faultless text s files log checkers source made free =
+faultless sound text s files log checkers source made free =
     let is : IsLog log = source.reads.of_log.bounds in
     let subject : Subject = subject_of s log checkers in
     let accepted : (n : ℕ) (c : CheckerValue) → slice_get checkers n ≡ Some c → IsAcceptedFor subject c =

@@ -9,6 +9,7 @@ use Rattle.commands.specs.Source.{IsLogOf, HasImages, images_of, RefusesLog, Ref
 use Rattle.commands.specs.Table as table
 use Rattle.interp.specs.Checker.{CheckerValue}
 use Rattle.workers.specs.Failing.{failing_lines}
+use Rattle.workers.specs.Safe.{AcceptedCheckersRunSafely}
 use Rattle.commands.specs.Explore.{Refuses, for_source, AreCheckersOf, subject_of, report_of, IsProgramCount, IsReport}
 use Rattle.commands.proofs.Faultless.{faultless}
 
@@ -39,10 +40,10 @@ pub of_log : (text : List ℕ) (files : List (List ℕ)) (s : Settings) (sectors
 of_log text files s sectors r count e h = for_source r count (for_log r (rw (← e) h))
 
 -- the report of a run
-pub reported : (text : List ℕ) (files : List (List ℕ)) (s : Settings) (log : LogValue) (checkers now : List CheckerValue) (bytes : List ℕ) (failing : Bool)
+pub reported : AcceptedCheckersRunSafely → (text : List ℕ) (files : List (List ℕ)) (s : Settings) (log : LogValue) (checkers now : List CheckerValue) (bytes : List ℕ) (failing : Bool)
     → IsProgramCount (length files) → HasImages text s log → AreCheckersOf s files checkers → now ≡ checkers → bytes ≡ report_of s log now
     → IsTrue failing ↔ (failing_lines (subject_of s log now) ≢ []) → IsReport text files s bytes failing
-reported text files s log checkers now bytes failing count source made same report fails =
+reported sound text files s log checkers now bytes failing count source made same report fails =
     record {
       count = count;
       value = log;
@@ -51,5 +52,5 @@ reported text files s log checkers now bytes failing count source made same repo
       made = subst (AreCheckersOf s files) (sym same) made;
       report = report;
       fails = fails;
-      faultless = faultless text s files log now source (subst (AreCheckersOf s files) (sym same) made);
+      faultless = faultless sound text s files log now source (subst (AreCheckersOf s files) (sym same) made);
     }

@@ -30,7 +30,7 @@ use std::alloc::{AllocError, Global};
 use std::sync::Wait;
 use std::thread::Threads;
 use verifier::verify;
-use workers::{Gate, Input, OpenGate, Work, explore_all};
+use workers::{Gate, Input, OpenGate, Work, accepted_checkers_run_safely, explore_all};
 
 /// The most programs of a run.
 const MAX_PROGRAMS: usize = 8;
@@ -308,6 +308,8 @@ pub fn explore_with<G: Gate + Sync, R: Threads + Wait + Sync>(
     if let Some(refusal) = decoded.refusal {
         return Err(refusal);
     }
+    // A law of the machine, which does nothing: an accepted program meets no fault.
+    accepted_checkers_run_safely();
     judged(
         rt,
         alloc,

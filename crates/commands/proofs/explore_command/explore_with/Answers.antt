@@ -56,7 +56,7 @@ pub returns-clause-report : goal.returns-clause-report
 returns-clause-report g c =
     both_ok c.judged.result _ _ _ c.judged.ensures.bytes c.judged.ensures.failing
     (λ e bytes failing.
-    reported _ _ _ c.in_ok-log.log c.in_ok-checkers.checkers.items c.as_slice-2.result.now _ _ (counted _ c.args.programs.now (c.is_program_count.ensures.0 c.if-not-is_program_count.false))
+    reported c.accepted_checkers_run_safely.ensures _ _ _ c.in_ok-log.log c.in_ok-checkers.checkers.items c.as_slice-2.result.now _ _ (counted _ c.args.programs.now (c.is_program_count.ensures.0 c.if-not-is_program_count.false))
     (has_images _ _ _ c.sectors.result _ c.in_ok-log.ensures.sectors c.sectors.ensures.value c.in_ok-log.ensures.text c.in_ok-plan.ensures.count c.in_ok-plan.ensures.few)
     (checkers_decoded _ _ _ c.as_slice.result.now _ _ c.as_slice.ensures.value c.in_ok-decoded.ensures.decoded c.in_default.not-Some
     c.in_ok-checkers.ensures.made c.in_ok-checkers.ensures.all)
