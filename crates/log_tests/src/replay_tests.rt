@@ -65,7 +65,7 @@ impl Recording {
     /// By which worker a block was taken.
     fn taker(&self, block: u64) -> u8 {
         match self.takers.get(block as usize) {
-            Some(worker) => worker.load(Ordering::SeqCst) as u8,
+            Some(worker) => (worker.load(Ordering::SeqCst) % 64) as u8,
             None => 0,
         }
     }
