@@ -482,9 +482,9 @@ STORED_RUN = report("""
 UNREACHED_ONE = program("mov64 r0, 0; exit; lddw r0, 1; exit")
 EXPLORED = report("""
     sectors 4 entries 2 cuts all bound 0 tears no first no
-    program 0 slots 5 limit 2
-    program 1 slots 2 limit 2
-    program 2 slots 5 limit 2
+    program 0 slots 5 budget 2
+    program 1 slots 2 budget 2
+    program 2 slots 5 budget 2
     images 3 failing 0 lines 0
     """)
 EXPLORED_CHECKED = report("""
