@@ -1,0 +1,3 @@
+pub mod Records
+pub mod Agreeing
+pub mod Runs

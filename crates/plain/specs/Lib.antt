@@ -1,0 +1,5 @@
+-- The plain machine, how it agrees with the machine, and its runs.
+pub mod Operations
+pub mod Machine
+pub mod Steps
+pub mod Runs
