@@ -12,6 +12,11 @@ from notation import DISCARD, FIRST_LINE, FLUSH, FUA, MARK, SECTOR
 
 ZEROS = bytes(SECTOR)
 HEADS = [f"head{eighths}" for eighths in range(1, 8)]
+TAILS = [f"tail{eighths}" for eighths in range(1, 8)]
+
+# What may become of a unit that isn't whole, in order, without tears and with them.
+LOST = ["drop"]
+LOST_OR_TORN = [*LOST, *HEADS, *TAILS]
 
 
 @dataclass(frozen=True)
@@ -58,14 +63,20 @@ class Image:
         return b"".join(self.sector(number) for number in range(self.run.sectors))
 
 
+def kept(fate):
+    """Which bytes of a unit with that fate reach the device: from the first of two positions to before the second."""
+    if fate == "whole":
+        return 0, SECTOR
+    if fate == "drop":
+        return 0, 0
+    size = 64 * int(fate[-1])
+    return (0, size) if fate in HEADS else (SECTOR - size, SECTOR)
+
+
 def written(content, old, fate):
     """What a unit with that fate makes of a sector."""
-    if fate == "whole":
-        return content
-    if fate == "drop":
-        return old
-    size = 64 * int(fate.removeprefix("head"))
-    return content[:size] + old[size:]
+    first, end = kept(fate)
+    return old[:first] + content[first:end] + old[end:]
 
 
 def units_of(number, entry):
@@ -128,7 +139,7 @@ class Run:
         ]
 
     def choices(self, cut):
-        fates = ["drop"] + (HEADS if self.tears else [])
+        fates = LOST_OR_TORN if self.tears else LOST
         units = self.volatile(cut)
         for count in range(self.bound + 1):
             yield from departures(units, count, fates)
@@ -234,6 +245,40 @@ def sectors_0_and_1(image):
     first, second = image.sector(0), image.sector(1)
     last_word, next_word = struct.unpack("<Q", first[504:]), struct.unpack("<Q", second[:8])
     return 1, (int(first == ZEROS), int(first == second), *last_word, *next_word)
+
+
+# What the checkers of examples/ answer
+
+
+def word(sector, at):
+    """The word that begins at a byte of a sector."""
+    return struct.unpack_from("<Q", sector, at)[0]
+
+
+def two_slots(image):
+    """By examples/two_slots/checker.s: of the slots whose mix is 1 the one with the greatest number vouches for a payload."""
+    slots = [(word(image.sector(it), 0), it) for it in (0, 1) if mix(image.sector(it)) == 1]
+    number, slot = max(slots, default=(0, 0))
+    if number < image.marks():
+        return 2, ()
+    if number == 0 or mix(image.sector(slot + 2)) == word(image.sector(slot), 8):
+        return 0, ()
+    return 1, (number,)
+
+
+def journal(image):
+    """By examples/journal/checker.s: each record that the header counts is there, and each that a mark acknowledged is
+    counted."""
+    count = word(image.sector(0), 0)
+    if count < image.marks():
+        return 2, ()
+    if count >= image.run.sectors:
+        return 3, ()
+    for number in range(1, count + 1):
+        record = image.sector(number)
+        if mix(record) != 1 or word(record, 0) != number:
+            return 1, (number,)
+    return 0, ()
 
 
 def one(_image):

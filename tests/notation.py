@@ -17,7 +17,7 @@ MAGIC = b"rhswfsj\0"
 FLUSH, FUA, DISCARD, MARK, METADATA = 1, 2, 4, 8, 16
 
 # The first line of every report.
-FIRST_LINE = "crash report 1\n"
+FIRST_LINE = "crash report 2\n"
 
 
 # Logs

@@ -169,7 +169,7 @@ def judged(name, budget, number, pieces, answer=0, codes="-"):
     line = f"image 0 cut 2 program 0 answer {answer} codes {codes} choice -\n" if answer else ""
     failing = 1 if answer else 0
     report = (
-        "crash report 1\n"
+        "crash report 2\n"
         f"sectors {SECTORS} entries 2 cuts mark bound 0 tears no first no\n"
         f"program 0 slots {len(code) // 8} budget {budget}\n"
         f"{line}images 1 failing {failing} lines {failing}\n"

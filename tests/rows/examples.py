@@ -1,7 +1,9 @@
 """The designs of examples/: their logs, their checkers and their reports, compared byte by byte."""
 import struct
 
-from notation import FLUSH, TOP, F, M, Row, S, W, explore, log, verified
+import model
+from model import Checker, Run, explored
+from notation import FLUSH, TOP, F, M, Row, S, W, explore, verified
 
 EXAMPLES = TOP / "examples"
 LOGS = TOP / "crates/example_logs/data"
@@ -19,20 +21,14 @@ def design(name, which, checker, options, report, status):
 
 
 TWO_SLOTS = "--sectors 4 --bound 2 --tears"
+TWO_DEPART = "--sectors 8 --bound 2 --tears"
 WRONG_BY_C = data(EXAMPLES / "two_slots/wrong.report").replace(b"slots 39 budget 87", b"slots 42 budget 111")
 
 REPORTS = [
     design("two_slots, right", "two_slots/right.log", "two_slots/checker.bpf", TWO_SLOTS, "two_slots/right.report", 0),
     design("two_slots, wrong", "two_slots/wrong.log", "two_slots/checker.bpf", TWO_SLOTS, "two_slots/wrong.report", 1),
     design("two_slots, by the checker in C", "two_slots/wrong.log", "two_slots/checker_c.bpf", TWO_SLOTS, WRONG_BY_C, 1),
-    design(
-        "journal, right",
-        "journal/right.log",
-        "journal/checker.bpf",
-        "--sectors 8 --bound 2 --tears",
-        "journal/right.report",
-        0,
-    ),
+    design("journal, right", "journal/right.log", "journal/checker.bpf", TWO_DEPART, "journal/right.report", 0),
     design("journal, wrong", "journal/wrong.log", "journal/checker.bpf", "--sectors 8 --bound 1", "journal/wrong.report", 1),
     # none of the checkers takes more than 62 steps on any image here
     design(
@@ -48,11 +44,11 @@ REPORTS = [
         "two_slots/wrong.log",
         "two_slots/checker.bpf",
         f"{TWO_SLOTS} --first",
-        b"crash report 1\n"
+        b"crash report 2\n"
         b"sectors 4 entries 12 cuts all bound 2 tears yes first yes\n"
         b"program 0 slots 39 budget 87\n"
-        b"image 11 cut 2 program 0 answer 1 codes 1 choice 0.0:drop\n"
-        b"images 277 first 11\n",
+        b"image 18 cut 2 program 0 answer 1 codes 1 choice 0.0:drop\n"
+        b"images 823 first 18\n",
         1,
     ),
 ]
@@ -61,19 +57,19 @@ REPORTS = [
 
 WRONG_SURVEY = """\
 cut 0 epoch 0 marks 0 volatile 0 images 1
-cut 1 epoch 0 marks 0 volatile 1 images 9
-cut 2 epoch 0 marks 0 volatile 2 images 81
+cut 1 epoch 0 marks 0 volatile 1 images 16
+cut 2 epoch 0 marks 0 volatile 2 images 256
 cut 3 epoch 1 marks 0 volatile 0 images 1
 cut 4 epoch 1 marks 1 volatile 0 images 1
-cut 5 epoch 1 marks 1 volatile 1 images 9
-cut 6 epoch 1 marks 1 volatile 2 images 81
+cut 5 epoch 1 marks 1 volatile 1 images 16
+cut 6 epoch 1 marks 1 volatile 2 images 256
 cut 7 epoch 2 marks 1 volatile 0 images 1
 cut 8 epoch 2 marks 2 volatile 0 images 1
-cut 9 epoch 2 marks 2 volatile 1 images 9
-cut 10 epoch 2 marks 2 volatile 2 images 81
+cut 9 epoch 2 marks 2 volatile 1 images 16
+cut 10 epoch 2 marks 2 volatile 2 images 256
 cut 11 epoch 3 marks 2 volatile 0 images 1
 cut 12 epoch 3 marks 3 volatile 0 images 1
-total 277
+total 823
 """
 
 
@@ -88,8 +84,10 @@ SLOTS = {
     3: slot(3, 0xC5EBA6E5B9140700, 0xA32C5D015C613066),
 }
 
-# Slot 1 says commit 3, whose payload arrived with its first 64 bytes alone.
-IMAGE_196 = SLOTS[2] + SLOTS[3] + b"\xa2" * 512 + b"\xa3" * 64 + b"\xa1" * 448
+# Slot 1 says commit 3, whose payload arrived with its first 64 bytes alone, or with its last 64.
+BEFORE_PAYLOAD = SLOTS[2] + SLOTS[3] + b"\xa2" * 512
+IMAGE_567 = BEFORE_PAYLOAD + b"\xa3" * 64 + b"\xa1" * 448
+IMAGE_574 = BEFORE_PAYLOAD + b"\xa1" * 448 + b"\xa3" * 64
 
 
 def record(number, seal):
@@ -115,7 +113,8 @@ SHOWN = [
         {"log": data(LOGS / "two_slots/wrong.log")},
         WRONG_SURVEY,
     ),
-    Row("two_slots, image 196", f"image log 196 {TWO_SLOTS}", {"log": data(LOGS / "two_slots/wrong.log")}, IMAGE_196),
+    Row("two_slots, image 567", f"image log 567 {TWO_SLOTS}", {"log": data(LOGS / "two_slots/wrong.log")}, IMAGE_567),
+    Row("two_slots, image 574", f"image log 574 {TWO_SLOTS}", {"log": data(LOGS / "two_slots/wrong.log")}, IMAGE_574),
     Row("journal, image 17", "image log 17 --sectors 8 --bound 1", {"log": data(LOGS / "journal/wrong.log")}, IMAGE_17),
 ]
 
@@ -130,59 +129,66 @@ def commit(number, slot_sector, area, flags):
 
 
 def two_slots(flags):
-    return log([*commit(1, 1, 3, flags), *commit(2, 0, 2, flags), *commit(3, 1, 3, flags)])
+    return [*commit(1, 1, 3, flags), *commit(2, 0, 2, flags), *commit(3, 1, 3, flags)]
 
 
-JOURNAL_RIGHT = log(
-    [
-        S(1, RECORDS[1]),
-        S(2, RECORDS[2]),
-        S(0, count(2), FLUSH),
-        F,
-        M("record 1"),
-        M("record 2"),
-        S(3, RECORDS[3]),
-        S(0, count(3), FLUSH),
-        F,
-        M("record 3"),
-    ]
-)
+JOURNAL_RIGHT = [
+    S(1, RECORDS[1]),
+    S(2, RECORDS[2]),
+    S(0, count(2), FLUSH),
+    F,
+    M("record 1"),
+    M("record 2"),
+    S(3, RECORDS[3]),
+    S(0, count(3), FLUSH),
+    F,
+    M("record 3"),
+]
 
-JOURNAL_WRONG = log(
-    [
-        S(0, count(2)),
-        S(1, RECORDS[1]),
-        S(2, RECORDS[2]),
-        F,
-        M("record 1"),
-        M("record 2"),
-        S(0, count(3)),
-        S(3, RECORDS[3]),
-        F,
-        M("record 3"),
-    ]
-)
+JOURNAL_WRONG = [
+    S(0, count(2)),
+    S(1, RECORDS[1]),
+    S(2, RECORDS[2]),
+    F,
+    M("record 1"),
+    M("record 2"),
+    S(0, count(3)),
+    S(3, RECORDS[3]),
+    F,
+    M("record 3"),
+]
 
 
-def written(name, content, checker, options, report, status):
-    """A run of a log that was written entry by entry here."""
-    return explore(name, options, content, data(EXAMPLES / checker), data(EXAMPLES / report), status)
+def written(which, run, first=False):
+    """The run of a log that was written entry by entry here; its report is the stored one, or that of its first failing
+    image, and the model's."""
+    folder = which.split("/")[0]
+    judges = {"two_slots": ("slots 39 budget 87", model.two_slots), "journal": ("slots 33 budget 144", model.journal)}
+    report = explored(run, [Checker(*judges[folder])], first)
+    if not first:
+        assert report.encode() == data(EXAMPLES / f"{which}.report"), f"{which}.report isn't the model's"
+    return explore(
+        f"{which}, written here{', first' if first else ''}",
+        f"{run.options()}{' --first' if first else ''}",
+        run.entries,
+        data(EXAMPLES / f"{folder}/checker.bpf"),
+        report,
+        0 if "failing 0" in report or "first none" in report else 1,
+    )
 
+
+# of this run 729 images fail, as examples/README.md says
+TORN_JOURNAL = explored(Run(JOURNAL_WRONG, 8, bound=2, tears=True), [Checker("slots 33 budget 144", model.journal)])
+assert TORN_JOURNAL.endswith("\nimages 1271 failing 729 lines 729\n")
 
 WRITTEN = [
-    written("two_slots, right, written here", two_slots(FLUSH), "two_slots/checker.bpf", TWO_SLOTS, "two_slots/right.report", 0),
-    written("two_slots, wrong, written here", two_slots(0), "two_slots/checker.bpf", TWO_SLOTS, "two_slots/wrong.report", 1),
-    written(
-        "journal, right, written here",
-        JOURNAL_RIGHT,
-        "journal/checker.bpf",
-        "--sectors 8 --bound 2 --tears",
-        "journal/right.report",
-        0,
-    ),
-    written(
-        "journal, wrong, written here", JOURNAL_WRONG, "journal/checker.bpf", "--sectors 8 --bound 1", "journal/wrong.report", 1
-    ),
+    written("two_slots/right", Run(two_slots(FLUSH), 4, bound=2, tears=True)),
+    written("two_slots/right", Run(two_slots(FLUSH), 4, bound=2, tears=True), first=True),
+    written("two_slots/wrong", Run(two_slots(0), 4, bound=2, tears=True)),
+    written("journal/right", Run(JOURNAL_RIGHT, 8, bound=2, tears=True)),
+    written("journal/wrong", Run(JOURNAL_WRONG, 8)),
+    written("journal/wrong", Run(JOURNAL_WRONG, 8, bound=2, tears=True), first=True),
+    design("journal, wrong, torn", "journal/wrong.log", "journal/checker.bpf", TWO_DEPART, TORN_JOURNAL.encode(), 1),
 ]
 
 CHECKERS = [

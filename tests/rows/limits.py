@@ -217,7 +217,8 @@ MANY_ENTRIES = [
         + "image 0 cut 65536 program 0 answer 1 codes - choice -\n"
         + "image 1 cut 65536 program 0 answer 1 codes - choice 65535.0:drop\n"
         + "".join(f"image {it + 1} cut 65536 program 0 answer 1 codes - choice 65535.0:head{it}\n" for it in range(1, 8))
-        + "images 9 failing 9 lines 9\n",
+        + "".join(f"image {it + 8} cut 65536 program 0 answer 1 codes - choice 65535.0:tail{it}\n" for it in range(1, 8))
+        + "images 16 failing 16 lines 16\n",
         1,
     ),
     *refused_everywhere("65,537 entries", Long(lambda: log([F] * 65537)), "--sectors 1", "refused 10 at 0"),
@@ -226,47 +227,66 @@ MANY_ENTRIES = [
 
 # More than 65,536 images
 
+# The last three units depart in the last 15*15*15 choices; of the fifteen fates head7 is number 7, counted from 0.
 TORN_OPTIONS = "--sectors 16 --cuts flush --bound 3 --tears"
-TORN_LINE = "image 294528 cut 1 program 0 answer 1 codes - choice 0.13:head7,0.14:head7,0.15:head7\n"
-MANY_LINES = Run([W(0, 46, 0xAA)], 46, "flush", 2, True)
+TORN_IMAGES = 1 + 16 * 15 + 120 * 15**2 + 560 * 15**3
+THREE_HEADS = TORN_IMAGES - 15**3 + 7 * 15**2 + 7 * 15 + 7
+THREE_TAILS = TORN_IMAGES - 1
+HEADS_LINE = f"image {THREE_HEADS} cut 1 program 0 answer 1 codes - choice 0.13:head7,0.14:head7,0.15:head7\n"
+TAILS_LINE = f"image {THREE_TAILS} cut 1 program {{}} answer 1 codes - choice 0.13:tail7,0.14:tail7,0.15:tail7\n"
+assert TORN_IMAGES == 1_917_241 and THREE_HEADS == 1_915_553
+
+
+def torn_image(number, part):
+    """An image whose last three sectors have these bytes of what was written."""
+    return Row(
+        f"limit: one of 1,917,241 images, shown: {number}",
+        f"image log {number} {TORN_OPTIONS}",
+        files([W(0, 16, 0xAA)]),
+        b"\xaa" * (SECTOR * 13) + part * 3,
+    )
+
+
+# More lines than 65,536: 1 + 25*15 + 300*225
+MANY_LINES = Run([W(0, 25, 0xAA)], 25, "flush", 2, True)
+
+# Some seconds for each of these runs, more on a slow machine.
+LONG_RUN = 120
 
 MANY_IMAGES = [
-    # 1 + 16*8 + 120*64 + 560*512 images, of which the last one alone fails
     explore(
-        "limit: the last of 294,529 images",
+        "limit: two of 1,917,241 images, the second the last",
         TORN_OPTIONS,
         [W(0, 16, 0xAA)],
-        named("three_torn"),
-        head("16 entries 1 cuts flush bound 3 tears yes first no", "slots 25 budget 23")
-        + TORN_LINE
-        + "images 294529 failing 1 lines 1\n",
+        [named("three_heads"), named("three_tails")],
+        head("16 entries 1 cuts flush bound 3 tears yes first no", "slots 25 budget 23", "slots 25 budget 23")
+        + HEADS_LINE
+        + TAILS_LINE.format(1)
+        + f"images {TORN_IMAGES} failing 2 lines 2\n",
         1,
+        LONG_RUN,
     ),
     explore(
-        "limit: the last of 294,529 images, first",
+        "limit: the last of 1,917,241 images, first",
         f"{TORN_OPTIONS} --first",
         [W(0, 16, 0xAA)],
-        named("three_torn"),
+        named("three_tails"),
         head("16 entries 1 cuts flush bound 3 tears yes first yes", "slots 25 budget 23")
-        + TORN_LINE
-        + "images 294529 first 294528\n",
+        + TAILS_LINE.format(0)
+        + f"images {TORN_IMAGES} first {THREE_TAILS}\n",
         1,
+        LONG_RUN,
     ),
-    Row(
-        "limit: the last of 294,529 images, shown",
-        f"image log 294528 {TORN_OPTIONS}",
-        files([W(0, 16, 0xAA)]),
-        b"\xaa" * (SECTOR * 13) + (b"\xaa" * 448 + bytes(64)) * 3,
-    ),
+    torn_image(THREE_HEADS, b"\xaa" * 448 + bytes(64)),
+    torn_image(THREE_TAILS, bytes(64) + b"\xaa" * 448),
     refused(
-        "limit: past the last of 294,529 images",
-        f"image log 294529 {TORN_OPTIONS}",
+        "limit: past the last of 1,917,241 images",
+        f"image log {TORN_IMAGES} {TORN_OPTIONS}",
         files([W(0, 16, 0xAA)]),
         "refused 13 at 9",
     ),
-    # 1 + 46*8 + 1035*64 images, each with a line
     explore(
-        "limit: 66,609 lines",
+        "limit: 67,876 lines",
         MANY_LINES.options(),
         MANY_LINES.entries,
         BAD,
@@ -278,17 +298,13 @@ MANY_IMAGES = [
 
 # 16,777,216 images: stretches of so many volatile units, each ended by a flush; two units may depart, torn or dropped
 
-STRETCHES = [724, 25, 7, 2, *[1] * 8, *[0] * 3]
+STRETCHES = [386, 22, 2, *[1] * 14, *[0] * 13]
 MOST_IMAGES = 16777216
-COUNT_OPTIONS = "--sectors 724 --cuts flush --bound 2 --tears"
-
-
-# Some seconds for each of these runs, more on a slow machine.
-LONG_RUN = 120
+COUNT_OPTIONS = "--sectors 386 --cuts flush --bound 2 --tears"
 
 
 def images_of(units):
-    return 1 + 8 * units + 64 * units * (units - 1) // 2
+    return 1 + 15 * units + 225 * units * (units - 1) // 2
 
 
 STRETCHED = list(chain.from_iterable([D(0, units), F] for units in STRETCHES))
@@ -302,14 +318,14 @@ def stretched_survey():
 
 MOST = [
     Row("limit: 16,777,216 images", f"images log {COUNT_OPTIONS}", files(STRETCHED), stretched_survey()),
-    Row("limit: the last of 16,777,216 images", f"image log 16777215 {COUNT_OPTIONS}", files(STRETCHED), bytes(SECTOR * 724)),
+    Row("limit: the last of 16,777,216 images", f"image log 16777215 {COUNT_OPTIONS}", files(STRETCHED), bytes(SECTOR * 386)),
     refused("limit: past the last of 16,777,216", f"image log 16777216 {COUNT_OPTIONS}", files(STRETCHED), "refused 13 at 9"),
     explore(
         "limit: 16,777,216 images, none of which fails",
         COUNT_OPTIONS,
         STRETCHED,
         GOOD,
-        head("724 entries 30 cuts flush bound 2 tears yes first no", "slots 2 budget 2") + "images 16777216 failing 0 lines 0\n",
+        head("386 entries 60 cuts flush bound 2 tears yes first no", "slots 2 budget 2") + "images 16777216 failing 0 lines 0\n",
         0,
         LONG_RUN,
     ),
@@ -318,12 +334,12 @@ MOST = [
         f"{COUNT_OPTIONS} --first",
         STRETCHED,
         EPOCH,
-        head("724 entries 30 cuts flush bound 2 tears yes first yes", "slots 2 budget 2")
-        + f"image {images_of(724)} cut 3 program 0 answer 1 codes - choice -\nimages 16777216 first {images_of(724)}\n",
+        head("386 entries 60 cuts flush bound 2 tears yes first yes", "slots 2 budget 2")
+        + f"image {images_of(386)} cut 3 program 0 answer 1 codes - choice -\nimages 16777216 first {images_of(386)}\n",
         1,
         LONG_RUN,
     ),
-    *refused_everywhere("16,777,217 images", [*STRETCHED, F], COUNT_OPTIONS, "refused 12 at 31"),
+    *refused_everywhere("16,777,217 images", [*STRETCHED, F], COUNT_OPTIONS, "refused 12 at 61"),
 ]
 
 

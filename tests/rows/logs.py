@@ -291,7 +291,7 @@ def too_many(name, cuts, entries, cut):
 COUNTS = [
     too_many("the cut of the flush", "flush", [F, M("x"), ALL, F], 3),
     too_many("the cut of the mark", "mark", [ALL, F, ALL, M("x"), F], 4),
-    too_many("the sum over cuts", "all", [W(0, 55, 1)] + [M("x")] * 9, 2),
+    too_many("the sum over cuts", "all", [W(0, 30, 1)] + [M("x")] * 9, 2),
     Row(
         "count: no such cut is wanted",
         f"images log {TOO_MANY} --cuts mark",

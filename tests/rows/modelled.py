@@ -11,7 +11,7 @@ import model
 from model import Checker, Run, explored
 from notation import DISCARD, FLUSH, FUA, METADATA, SECTOR, D, Entry, F, Long, M, Row, S, W, explore, files, named
 
-MOST = 5000
+MOST = 6000
 
 
 def noise(seed, sectors=1):
@@ -88,7 +88,7 @@ CHECKERS = [
 
 def count(run):
     """How many images a run has."""
-    fates = 8 if run.tears else 1
+    fates = 15 if run.tears else 1
     volatile = [len(run.volatile(cut)) for cut in run.wanted_cuts()]
     return sum(comb(units, picked) * fates**picked for units in volatile for picked in range(run.bound + 1))
 
@@ -147,7 +147,7 @@ WIDE = Run(ENDS, 64, "flush", 2, True)
 
 ROWS = [
     *(row for name, run in runs() for row in modelled(name, run)),
-    *shown("torn_over_torn", TORN, [0, 1, 2, 9, 24, 25, 26, 217, 300, 471, 500, 600, 727, 728]),
+    *shown("torn_over_torn", TORN, [0, 1, 2, 9, 15, 45, 46, 47, 54, 151, 720, 721, 959, 1687, 2409, 3000, 3968, 4094, 4095]),
     *shown("discarded", LOST, range(count(LOST))),
     *shown("ends", WIDE, [0, 1, 30, count(WIDE) - 1]),
 ]

@@ -144,14 +144,14 @@ IMAGES = [
         "--sectors 64 --bound 3 --tears",
         [W(0, 64, 0xAA)],
         "refused 12 at 1",
-        f"with --bound 2 there are {1 + 1 + 64 * 8 + 64 * 63 // 2 * 64}",
+        f"with --bound 2 there are {1 + 1 + 64 * 15 + 64 * 63 // 2 * 225}",
     ),
     too_many(
         "too many images with one less too",
         "--sectors 1024 --bound 3 --tears",
         [W(0, 1024, 0xAA)],
         "refused 12 at 1",
-        f"with --bound 1 there are {1 + 1 + 1024 * 8}",
+        f"with --bound 1 there are {1 + 1 + 1024 * 15}",
     ),
     too_many(
         "too many images, fewer cuts counted",
@@ -163,18 +163,18 @@ IMAGES = [
     too_many(
         "too many images, fewer with other cuts",
         "--sectors 64 --bound 3 --tears",
-        [W(0, 48, 0xAA), M("a")],
+        [W(0, 30, 0xAA), M("a")],
         "refused 12 at 2",
-        f"with --cuts flush there are {1 + 48 * 8 + 48 * 47 // 2 * 64 + 48 * 47 * 46 // 6 * 512}",
-        f"with --cuts mark there are {1 + 48 * 8 + 48 * 47 // 2 * 64 + 48 * 47 * 46 // 6 * 512}",
-        f"with --bound 2 there are {1 + 2 * (1 + 48 * 8 + 48 * 47 // 2 * 64)}",
+        f"with --cuts flush there are {1 + 30 * 15 + 30 * 29 // 2 * 225 + 30 * 29 * 28 // 6 * 3375}",
+        f"with --cuts mark there are {1 + 30 * 15 + 30 * 29 // 2 * 225 + 30 * 29 * 28 // 6 * 3375}",
+        f"with --bound 2 there are {1 + 2 * (1 + 30 * 15 + 30 * 29 // 2 * 225)}",
     ),
     too_many(
         "too many images, other cuts not fewer, or none",
         "--sectors 64 --bound 3 --tears",
         [W(0, 60, 0xAA)],
         "refused 12 at 1",
-        f"with --bound 2 there are {1 + 1 + 60 * 8 + 60 * 59 // 2 * 64}",
+        f"with --bound 2 there are {1 + 1 + 60 * 15 + 60 * 59 // 2 * 225}",
     ),
     noted(
         "too many images to explore",
@@ -183,7 +183,7 @@ IMAGES = [
         "refused 12 at 1",
         TOO_MANY,
         TAKE_FEWER,
-        f"with --bound 2 there are {1 + 1 + 64 * 8 + 64 * 63 // 2 * 64}",
+        f"with --bound 2 there are {1 + 1 + 64 * 15 + 64 * 63 // 2 * 225}",
     ),
 ]
 

@@ -65,8 +65,8 @@ NO_TEXTS = [
     refused("a byte order mark", "asm s", {"s": "\ufeffexit\n"}, "refused 30 at 1"),
 ]
 
-# A report of more than 2 MB: 30 units of which two may depart, torn or dropped.
-LONG = Run([W(0, 30, 0xAA)], sectors=64, bound=2, tears=True)
+# A report of more than 2 MB: 17 units of which two may depart, torn or dropped.
+LONG = Run([W(0, 17, 0xAA)], sectors=64, bound=2, tears=True)
 LONG_FILES = files(LONG.entries, BAD)
 LONG_WORDS = f"explore log p0 {LONG.options()}"
 LONG_REPORT = Long(lambda: explored(LONG, [Checker("slots 2 budget 2", one)]))

@@ -199,10 +199,15 @@ FLUSHES = [
 ]
 
 
+# What becomes of the one unit of torn_sector from image 2 on.
+TORN_FATES = """
+    drop head1 head2 head3 head4 head5 head6 head7 tail1 tail2 tail3 tail4 tail5 tail6 tail7
+    """.split()
+
+
 def torn(images):
     """The lines of torn_sector for these images, with the choices from `drop` on at image 2."""
-    fates = ["drop", *model.HEADS]
-    return "".join(f"image {it} cut 1 program 0 answer 1 codes - choice 0.0:{fates[it - 2]}\n" for it in images)
+    return "".join(f"image {it} cut 1 program 0 answer 1 codes - choice 0.0:{TORN_FATES[it - 2]}\n" for it in images)
 
 
 TORN_SECTOR = [
@@ -215,8 +220,8 @@ TORN_SECTOR = [
             sectors 4 entries 1 cuts all bound 1 tears yes first no
             program 0 slots 11 budget 9
             """)
-        + torn(range(3, 10))
-        + "images 10 failing 7 lines 7\n",
+        + torn(range(3, 17))
+        + "images 17 failing 14 lines 14\n",
         1,
     ),
     explore(
@@ -228,8 +233,8 @@ TORN_SECTOR = [
             sectors 4 entries 1 cuts all bound 1 tears yes first no
             program 0 slots 11 limit 9
             """)
-        + torn(range(3, 10))
-        + "images 10 failing 7 lines 7\n",
+        + torn(range(3, 17))
+        + "images 17 failing 14 lines 14\n",
         1,
     ),
     explore(
@@ -241,7 +246,7 @@ TORN_SECTOR = [
             sectors 4 entries 1 cuts all bound 1 tears yes first yes
             program 0 slots 11 budget 9
             image 3 cut 1 program 0 answer 1 codes - choice 0.0:head1
-            images 10 first 3
+            images 17 first 3
             """),
         1,
     ),
@@ -256,8 +261,58 @@ TORN_SECTOR = [
             image 0 cut 0 program 0 answer 1 codes - choice -
             image 1 cut 1 program 0 answer 1 codes - choice -
             """)
-        + torn(range(2, 10))
-        + "images 10 failing 10 lines 10\n",
+        + torn(range(2, 17))
+        + "images 17 failing 17 lines 17\n",
+        1,
+    ),
+]
+
+# A program that fails where the last byte of the sector is there and the first isn't: on its tails alone.
+TAILS = [
+    explore(
+        "torn_sector, tails alone",
+        "--sectors 4 --tears",
+        ONE_WRITE,
+        named("end_is_greater"),
+        report("""
+            sectors 4 entries 1 cuts all bound 1 tears yes first no
+            program 0 slots 11 budget 9
+            """)
+        + torn(range(10, 17))
+        + "images 17 failing 7 lines 7\n",
+        1,
+    ),
+    explore(
+        "torn_sector, tails alone, first",
+        "--sectors 4 --tears --first",
+        ONE_WRITE,
+        named("end_is_greater"),
+        report("""
+            sectors 4 entries 1 cuts all bound 1 tears yes first yes
+            program 0 slots 11 budget 9
+            image 10 cut 1 program 0 answer 1 codes - choice 0.0:tail1
+            images 17 first 10
+            """),
+        1,
+    ),
+    # over the write before: what the discard keeps of its end is zeros
+    explore(
+        "a torn discard",
+        "--sectors 4 --cuts flush --tears",
+        [W(0, 1, 0x44), F, D(0, 1)],
+        [named("first_byte"), named("end_is_greater")],
+        report("""
+            sectors 4 entries 3 cuts flush bound 1 tears yes first no
+            program 0 slots 7 budget 5
+            program 1 slots 11 budget 9
+            image 0 cut 1 program 0 answer 68 codes - choice -
+            """)
+        + "".join(f"image {it} cut 1 program 0 answer 68 codes - choice 0.0:head{it - 1}\n" for it in range(2, 9))
+        + "".join(f"image {it} cut 1 program 1 answer 1 codes - choice 0.0:tail{it - 8}\n" for it in range(9, 16))
+        + "image 17 cut 3 program 0 answer 68 codes - choice 2.0:drop\n"
+        + "".join(f"image {it} cut 3 program 1 answer 1 codes - choice 2.0:head{it - 17}\n" for it in range(18, 25))
+        + "".join(f"image {it} cut 3 program 0 answer 68 codes - choice 2.0:tail{it - 24}\n" for it in range(25, 32))
+        + "images 32 failing 30 lines 30\n",
         1,
     ),
 ]
@@ -269,10 +324,10 @@ SURVEYS = [
         files(TWO_EPOCHS),
         lines("""
             cut 0 epoch 0 marks 0 volatile 0 images 1
-            cut 1 epoch 0 marks 0 volatile 1 images 9
+            cut 1 epoch 0 marks 0 volatile 1 images 16
             cut 2 epoch 1 marks 0 volatile 0 images 1
-            cut 3 epoch 1 marks 0 volatile 1 images 9
-            total 20
+            cut 3 epoch 1 marks 0 volatile 1 images 16
+            total 34
             """),
     ),
     Row("two_epochs, no cut", "images log --sectors 4 --cuts mark", files(TWO_EPOCHS), "total 0\n"),
@@ -290,7 +345,7 @@ SURVEYS = [
         "pairs_of_drops",
         "images log --sectors 4 --bound 2 --tears --cuts flush",
         files(PAIR),
-        "cut 1 epoch 0 marks 0 volatile 2 images 81\ntotal 81\n",
+        "cut 1 epoch 0 marks 0 volatile 2 images 256\ntotal 256\n",
     ),
     Row(
         "a mark after a write",
@@ -302,7 +357,7 @@ SURVEYS = [
         "three units, two departures",
         "images log --sectors 4 --bound 2 --tears --cuts flush",
         files([W(0, 3, 0xAA)]),
-        "cut 1 epoch 0 marks 0 volatile 3 images 217\ntotal 217\n",
+        "cut 1 epoch 0 marks 0 volatile 3 images 721\ntotal 721\n",
     ),
     Row("the log without entries", "images log --sectors 1", files([]), "cut 0 epoch 0 marks 0 volatile 0 images 1\ntotal 1\n"),
 ]
@@ -312,16 +367,22 @@ PAIR_CHOICES = {
     0: "-",
     1: "0.0:drop",
     8: "0.0:head7",
-    9: "0.1:drop",
-    16: "0.1:head7",
-    17: "0.0:drop,0.1:drop",
-    18: "0.0:drop,0.1:head1",
-    25: "0.0:head1,0.1:drop",
-    80: "0.0:head7,0.1:head7",
+    9: "0.0:tail1",
+    15: "0.0:tail7",
+    16: "0.1:drop",
+    23: "0.1:head7",
+    24: "0.1:tail1",
+    30: "0.1:tail7",
+    31: "0.0:drop,0.1:drop",
+    32: "0.0:drop,0.1:head1",
+    39: "0.0:drop,0.1:tail1",
+    46: "0.0:head1,0.1:drop",
+    151: "0.0:tail1,0.1:drop",
+    255: "0.0:tail7,0.1:tail7",
 }
 
 
-def pair_report(codes, about, last, only=range(81), first="no"):
+def pair_report(codes, about, last, only=range(256), first="no"):
     """The report of pairs_of_drops in which each of these images fails with answer 1 and these codes."""
     choices = [image.choice() for image in Run(PAIR, cuts="flush", bound=2, tears=True).images()]
     for number, choice in PAIR_CHOICES.items():
@@ -342,7 +403,7 @@ PAIRS = [
         PAIR_OPTIONS,
         PAIR,
         BAD,
-        pair_report("-", "slots 2 budget 2", "images 81 failing 81 lines 81"),
+        pair_report("-", "slots 2 budget 2", "images 256 failing 256 lines 256"),
         1,
     ),
     explore(
@@ -350,7 +411,7 @@ PAIRS = [
         PAIR_OPTIONS,
         PAIR,
         named("report_codes"),
-        pair_report(SIXTEEN, "slots 10 budget 162", "images 81 failing 81 lines 81"),
+        pair_report(SIXTEEN, "slots 10 budget 162", "images 256 failing 256 lines 256"),
         1,
     ),
     explore(
@@ -358,7 +419,7 @@ PAIRS = [
         f"{PAIR_OPTIONS} --checked 162",
         PAIR,
         named("report_codes"),
-        pair_report(SIXTEEN, "slots 10 limit 162", "images 81 failing 81 lines 81"),
+        pair_report(SIXTEEN, "slots 10 limit 162", "images 256 failing 256 lines 256"),
         1,
     ),
     explore(
@@ -366,37 +427,109 @@ PAIRS = [
         f"{PAIR_OPTIONS} --first",
         PAIR,
         named("report_codes"),
-        pair_report(SIXTEEN, "slots 10 budget 162", "images 81 first 0", range(1), "yes"),
+        pair_report(SIXTEEN, "slots 10 budget 162", "images 256 first 0", range(1), "yes"),
         1,
     ),
 ]
 
 
-def overwritten_report(judge, about, wanted_line, last):
-    """The report of overwritten_sector by a program of 7 slots, which has this line and ends in this one."""
+def overwritten_report(judge, about, wanted_lines, last):
+    """The report of overwritten_sector by a program of 7 slots, which has these lines and ends in this one."""
     text = model.explored(Run(OVERWRITTEN, tears=True), [Checker(about, judge)])
-    assert f"\n{wanted_line}\n" in text and text.endswith(f"\n{last}\n")
+    assert f"\n{wanted_lines}" in text and text.endswith(f"\n{last}\n")
     return text
 
 
 USUAL = "--sectors 4 --bound 1 --tears"
-BYTE_64_LINE = "image 20 cut 2 program 0 answer 17 codes - choice 1.0:head1"
-FIRST_BYTE_LINE = "image 20 cut 2 program 0 answer 34 codes - choice 1.0:head1"
-MOST_FAIL = "images 27 failing 24 lines 24"
-ALL_BUT_TWO_FAIL = "images 27 failing 25 lines 25"
+
+# At the last cut each image has a line: first those where the second write is whole, then those where it isn't.
+BYTE_64_LINES = lines("""
+    image 33 cut 2 program 0 answer 17 codes - choice 1.0:drop
+    image 34 cut 2 program 0 answer 17 codes - choice 1.0:head1
+    image 35 cut 2 program 0 answer 34 codes - choice 1.0:head2
+    image 36 cut 2 program 0 answer 34 codes - choice 1.0:head3
+    image 37 cut 2 program 0 answer 34 codes - choice 1.0:head4
+    image 38 cut 2 program 0 answer 34 codes - choice 1.0:head5
+    image 39 cut 2 program 0 answer 34 codes - choice 1.0:head6
+    image 40 cut 2 program 0 answer 34 codes - choice 1.0:head7
+    image 41 cut 2 program 0 answer 17 codes - choice 1.0:tail1
+    image 42 cut 2 program 0 answer 17 codes - choice 1.0:tail2
+    image 43 cut 2 program 0 answer 17 codes - choice 1.0:tail3
+    image 44 cut 2 program 0 answer 17 codes - choice 1.0:tail4
+    image 45 cut 2 program 0 answer 17 codes - choice 1.0:tail5
+    image 46 cut 2 program 0 answer 17 codes - choice 1.0:tail6
+    image 47 cut 2 program 0 answer 34 codes - choice 1.0:tail7
+    """)
+FIRST_BYTE_LINES = lines("""
+    image 33 cut 2 program 0 answer 17 codes - choice 1.0:drop
+    image 34 cut 2 program 0 answer 34 codes - choice 1.0:head1
+    image 35 cut 2 program 0 answer 34 codes - choice 1.0:head2
+    image 36 cut 2 program 0 answer 34 codes - choice 1.0:head3
+    image 37 cut 2 program 0 answer 34 codes - choice 1.0:head4
+    image 38 cut 2 program 0 answer 34 codes - choice 1.0:head5
+    image 39 cut 2 program 0 answer 34 codes - choice 1.0:head6
+    image 40 cut 2 program 0 answer 34 codes - choice 1.0:head7
+    image 41 cut 2 program 0 answer 17 codes - choice 1.0:tail1
+    image 42 cut 2 program 0 answer 17 codes - choice 1.0:tail2
+    image 43 cut 2 program 0 answer 17 codes - choice 1.0:tail3
+    image 44 cut 2 program 0 answer 17 codes - choice 1.0:tail4
+    image 45 cut 2 program 0 answer 17 codes - choice 1.0:tail5
+    image 46 cut 2 program 0 answer 17 codes - choice 1.0:tail6
+    image 47 cut 2 program 0 answer 17 codes - choice 1.0:tail7
+    """)
+
+# byte_64 sees zeros at cut 0, and where the first write is dropped or keeps too little: head1, tail1 to tail6. first_byte
+# sees them at cut 0, and where the first write is dropped or keeps a tail.
+NINE_ARE_GOOD = "images 48 failing 39 lines 39"
+
+
+def overwritten_image(number, *parts, bound=1):
+    """An image of overwritten_sector: its sector 0 has so many bytes of each of these."""
+    sector = b"".join(bytes([byte]) * size for size, byte in parts)
+    assert len(sector) == 512
+    return Row(
+        f"overwritten_sector, bound {bound}, image {number}",
+        f"image log {number} --sectors 4 --bound {bound} --tears",
+        files(OVERWRITTEN),
+        sector + bytes(1536),
+    )
+
 
 OVERWRITTEN_SECTOR = [
-    Row("overwritten_sector, image 20", f"image log 20 {USUAL}", files(OVERWRITTEN), b"\x22" * 64 + b"\x11" * 448 + bytes(1536)),
-    refused("overwritten_sector, image 27", f"image log 27 {USUAL}", files(OVERWRITTEN), "refused 13 at 9"),
+    # at cut 1 over zeros
+    overwritten_image(0, (512, 0)),
+    overwritten_image(1, (512, 0x11)),
+    overwritten_image(2, (512, 0)),
+    overwritten_image(3, (64, 0x11), (448, 0)),
+    overwritten_image(9, (448, 0x11), (64, 0)),
+    overwritten_image(10, (448, 0), (64, 0x11)),
+    overwritten_image(16, (64, 0), (448, 0x11)),
+    # at cut 2, first with a first write that isn't whole
+    overwritten_image(17, (512, 0x22)),
+    overwritten_image(19, (512, 0x22)),
+    overwritten_image(32, (512, 0x22)),
+    overwritten_image(33, (512, 0x11)),
+    overwritten_image(34, (64, 0x22), (448, 0x11)),
+    overwritten_image(40, (448, 0x22), (64, 0x11)),
+    overwritten_image(41, (448, 0x11), (64, 0x22)),
+    overwritten_image(44, (256, 0x11), (256, 0x22)),
+    overwritten_image(47, (64, 0x11), (448, 0x22)),
+    # both are torn: 48 + 15 times the fate of the first, counted from 0, + that of the second
+    overwritten_image(48 + 15 * 4 + 9, (256, 0x11), (128, 0), (128, 0x22), bound=2),
+    overwritten_image(48 + 15 * 9 + 4, (256, 0x22), (128, 0), (128, 0x11), bound=2),
+    overwritten_image(48 + 15 * 13 + 4, (256, 0x22), (256, 0x11), bound=2),
+    overwritten_image(48 + 15 * 7 + 14, (64, 0x11), (448, 0x22), bound=2),
+    overwritten_image(48 + 15 * 14 + 14, (64, 0), (448, 0x22), bound=2),
+    refused("overwritten_sector, image 48", f"image log 48 {USUAL}", files(OVERWRITTEN), "refused 13 at 9"),
     Row(
         "overwritten_sector, survey",
         f"images log {USUAL}",
         files(OVERWRITTEN),
         lines("""
             cut 0 epoch 0 marks 0 volatile 0 images 1
-            cut 1 epoch 0 marks 0 volatile 1 images 9
-            cut 2 epoch 0 marks 0 volatile 2 images 17
-            total 27
+            cut 1 epoch 0 marks 0 volatile 1 images 16
+            cut 2 epoch 0 marks 0 volatile 2 images 31
+            total 48
             """),
     ),
     explore(
@@ -404,7 +537,7 @@ OVERWRITTEN_SECTOR = [
         USUAL,
         OVERWRITTEN,
         named("byte_64"),
-        overwritten_report(model.byte_64, "slots 7 budget 5", BYTE_64_LINE, MOST_FAIL),
+        overwritten_report(model.byte_64, "slots 7 budget 5", BYTE_64_LINES, NINE_ARE_GOOD),
         1,
     ),
     explore(
@@ -412,16 +545,15 @@ OVERWRITTEN_SECTOR = [
         f"{USUAL} --checked 9",
         OVERWRITTEN,
         named("byte_64"),
-        overwritten_report(model.byte_64, "slots 7 limit 9", BYTE_64_LINE, MOST_FAIL),
+        overwritten_report(model.byte_64, "slots 7 limit 9", BYTE_64_LINES, NINE_ARE_GOOD),
         1,
     ),
-    # zeros at cut 0 and where the first write is dropped
     explore(
         "overwritten_sector, first_byte",
         USUAL,
         OVERWRITTEN,
         named("first_byte"),
-        overwritten_report(model.first_byte, "slots 7 budget 5", FIRST_BYTE_LINE, ALL_BUT_TWO_FAIL),
+        overwritten_report(model.first_byte, "slots 7 budget 5", FIRST_BYTE_LINES, NINE_ARE_GOOD),
         1,
     ),
 ]
@@ -490,12 +622,18 @@ IMAGES = [
     Row("flush_with_data, image 2", "image log 2 --sectors 4", files(FLUSH_WITH_DATA), bytes(2048)),
     Row("discard, image 5", "image log 5 --sectors 4", files(DISCARDED), b"\x44" * 512 + bytes(1536)),
     Row("discard, image 6", "image log 6 --sectors 4", files(DISCARDED), bytes(2048)),
-    Row("two_epochs, image 12", "image log 12 --sectors 4 --tears", files(TWO_EPOCHS), b"\xaa" * 512 + bytes(1536)),
+    Row("two_epochs, image 19", "image log 19 --sectors 4 --tears", files(TWO_EPOCHS), b"\xaa" * 512 + bytes(1536)),
     Row(
-        "two_epochs, image 13",
-        "image log 13 --sectors 4 --tears",
+        "two_epochs, image 20",
+        "image log 20 --sectors 4 --tears",
         files(TWO_EPOCHS),
         b"\xbb" * 64 + b"\xaa" * 448 + bytes(1536),
+    ),
+    Row(
+        "two_epochs, image 27",
+        "image log 27 --sectors 4 --tears",
+        files(TWO_EPOCHS),
+        b"\xaa" * 448 + b"\xbb" * 64 + bytes(1536),
     ),
     Row("the log without entries, image 0", "image log 0 --sectors 1", files([]), bytes(512)),
     refused("two_epochs, no image after marks", "image log 0 --sectors 4 --cuts mark", files(TWO_EPOCHS), "refused 13 at 9"),
@@ -737,6 +875,7 @@ ROWS = [
     *LIMITS_OF_STEPS,
     *FLUSHES,
     *TORN_SECTOR,
+    *TAILS,
     *SURVEYS,
     *PAIRS,
     *OVERWRITTEN_SECTOR,

@@ -41,6 +41,10 @@ EXAMPLES = [
     "empty_log_bad",
     "torn_sector",
     "torn_sector, first",
+    "torn_sector, tails alone",
+    "torn_sector, tails alone, first",
+    "a torn discard",
+    "overwritten_sector, byte_64",
     "forced_write",
     "discard",
     "marks",
@@ -90,10 +94,10 @@ RUNS = [
 
 # Runs that say how far they are, by the number of their images.
 PROGRESS = {
-    "torn_sector": 10,
-    "torn_sector, first": 10,
-    "sixteen_codes": 81,
-    "sixteen_codes, first": 81,
+    "torn_sector": 17,
+    "torn_sector, first": 17,
+    "sixteen_codes": 256,
+    "sixteen_codes, first": 256,
 }
 
 

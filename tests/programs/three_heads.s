@@ -1,4 +1,4 @@
-; Answers 1 where the sectors 13, 14 and 15 are torn: byte 447 isn't zero and byte 511 is.
+; Answers 1 where of the sectors 13, 14 and 15 all but the end is there: byte 447 isn't zero and byte 511 is.
     mov64 r1, 13
     call 1
     jeq r0, 0, good

@@ -1,0 +1,27 @@
+; Answers 1 where of the sectors 13, 14 and 15 all but the start is there: byte 64 isn't zero and byte 0 is.
+    mov64 r1, 13
+    call 1
+    jeq r0, 0, good
+    ldxb r2, [r0+64]
+    jeq r2, 0, good
+    ldxb r2, [r0+0]
+    jne r2, 0, good
+    mov64 r1, 14
+    call 1
+    jeq r0, 0, good
+    ldxb r2, [r0+64]
+    jeq r2, 0, good
+    ldxb r2, [r0+0]
+    jne r2, 0, good
+    mov64 r1, 15
+    call 1
+    jeq r0, 0, good
+    ldxb r2, [r0+64]
+    jeq r2, 0, good
+    ldxb r2, [r0+0]
+    jne r2, 0, good
+    mov64 r0, 1
+    exit
+good:
+    mov64 r0, 0
+    exit
