@@ -8,6 +8,9 @@ Each round makes every run once, and the best time of each counts. It takes abou
 part of the gate.
 
     workers   4,001,222 images of one cut, two sectors of 2,828 lost, and a checker of five steps: by 1, 2 and 4 workers
+    tears     some 4,000,000 images of one cut, two sectors lost or torn, and the same checker: images a second. The log
+              has as many sectors as it takes, so that an older program, for which a sector is torn in fewer ways, makes as
+              many images
     cache     18,001 images, equal but for their choice, and a checker of 20,003 steps: with no cache and one of 65,536
 """
 import os
@@ -29,10 +32,12 @@ MANY_STEPS = "mov64 r1, 5000\ncall 3\njeq r0, 0, +1\nja -4\nmov64 r0, 0\nexit\n"
 
 LOGS = {
     "drops.log": lambda: [W(sector, 1, 0x55) for sector in range(2828)],
-    "equal.log": lambda: [W(sector % 64, 1, 0) for sector in range(2250)],
+    "equal.log": lambda: [W(sector % 64, 1, 0) for sector in range(1200)],
 }
 
 DROPS = "explore drops.log five --sectors 4096 --cuts flush --bound 2"
+TEARS = "--sectors 1024 --cuts flush --bound 2 --tears"
+TORN_IMAGES = 4_000_000
 EQUAL = "explore equal.log many --sectors 64 --cuts flush --bound 1 --tears"
 
 RUNS = {
@@ -60,25 +65,45 @@ def prepare(program, folder):
         Path(folder, name).write_bytes(done.stdout)
 
 
+def torn_log(program, name, folder):
+    """Makes the shortest log with TORN_IMAGES images for that program, and answers how many it has."""
+    for sectors in range(64, 1024):
+        Path(folder, name).write_bytes(log([W(0, sectors, 0x55)]))
+        words = [program, "images", name, *TEARS.split()]
+        images = int(subprocess.run(words, cwd=folder, capture_output=True, check=True).stdout.split()[-1])
+        if images >= TORN_IMAGES:
+            return images
+    sys.exit("no log has so many images")
+
+
 def main(words):
     program = str(Path(words[0] if words else TOP / "crates/crashbpf/out/crashbpf").resolve())
     runs = {name: (program, row) for name, row in RUNS.items()}
-    if len(words) > 1:
-        runs["1 worker, before"] = (str(Path(words[1]).resolve()), DROPS)
-    best = {}
+    runs["tears"] = (program, f"explore torn.log five {TEARS}")
+    images, best = {}, {}
     with tempfile.TemporaryDirectory() as folder:
         prepare(program, folder)
+        images["tears"] = torn_log(program, "torn.log", folder)
+        if len(words) > 1:
+            before = str(Path(words[1]).resolve())
+            runs["1 worker, before"] = (before, DROPS)
+            runs["tears, before"] = (before, f"explore torn_before.log five {TEARS}")
+            images["tears, before"] = torn_log(before, "torn_before.log", folder)
         for _round in range(ROUNDS):
             for name, (which, row) in runs.items():
                 best[name] = min(best.get(name, 1e9), seconds(which, row, folder))
     for name, took in best.items():
         print(f"{name:22} {took:8.3f} s")
+    fast = {name: count / best[name] for name, count in images.items()}
+    for name, count in images.items():
+        print(f"{name:22} {count} images, {fast[name]:,.0f} a second")
     print(f"processors {os.cpu_count()}")
     print(f"2 workers  {best['1 worker'] / best['2 workers']:6.2f} times one")
     print(f"4 workers  {best['1 worker'] / best['4 workers']:6.2f} times one")
     print(f"cache      {best['no cache'] / best['cache']:6.2f} times none")
     if len(words) > 1:
         print(f"one worker {best['1 worker, before'] / best['1 worker']:6.2f} times before")
+        print(f"tears      {fast['tears'] / fast['tears, before']:6.2f} times the images a second of before")
 
 
 if __name__ == "__main__":
