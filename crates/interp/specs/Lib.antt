@@ -6,3 +6,5 @@ pub mod Cells
 pub mod Reading
 pub mod Frames
 pub mod Operations
+pub mod Stopping
+pub mod Accesses

@@ -4,11 +4,12 @@
 ghost use Rattle.std.specs.Prelude.{◌≡◌, ◌≤◌, ◌<◌, ◌+◌, ◌-◌, ◌*◌, ◌/◌, ◌^◌, ◌⊎◌, ℕ, List, Ok, Err, length, nat_le, slice_get, IfNone, IfSome, IfOk, Some, if◌then◌else◌};
 ghost use Rattle.base.specs.declared.causes.MachineFault.TheVariants.{ReadOnly, Unmapped};
 ghost use Rattle.std.specs.Option.{option_map};
-ghost use Rattle.machine.specs.Memory.{byte_count, byte_at, stored};
+ghost use Rattle.machine.specs.Memory.{byte_count, byte_at, change_at, stored};
 ghost use Rattle.machine.specs.State.{context_start, stack_start};
 ghost use Rattle.machine.specs.Step.{memory};
 ghost use Rattle.helpers.specs.Answers.{sector_start};
-ghost use Rattle.interp.specs.Frames.{AreLong, BeginsAt, LieAt};
+ghost use Rattle.interp.specs.Cells.{written};
+ghost use Rattle.interp.specs.Frames.{AreLong, BeginsAt, LieAt, frames_above};
 ghost use Rattle.interp.specs.Reading.{reading, refused, write_fault};
 
 use crate::frames::Frames;
@@ -61,8 +62,8 @@ fn spot_within(spot: Spot, count: u64) -> Result<Spot, MachineFault>
 }
 
 /// Reads an access that begins at the sectors or behind them.
-fn read_sector<D: Device, const COUNTS: usize>(
-    machine: &Machine<COUNTS>,
+fn read_sector<D: Device, const COUNTS: usize, const FRAMES: usize>(
+    machine: &Machine<COUNTS, FRAMES>,
     world: &World<D>,
     address: u64,
     size: Size,
@@ -89,8 +90,8 @@ fn plain_fault(within: bool) -> MachineFault
 }
 
 /// The fault of bytes that are written from the sectors or behind them on.
-fn sector_fault<D: Device, const COUNTS: usize>(
-    machine: &Machine<COUNTS>,
+fn sector_fault<D: Device, const COUNTS: usize, const FRAMES: usize>(
+    machine: &Machine<COUNTS, FRAMES>,
     world: &World<D>,
     address: u64,
     count: u64,
@@ -105,6 +106,29 @@ fn sector_fault<D: Device, const COUNTS: usize>(
         Some(_) => plain_fault(place + count <= BLOCK),
         None => MachineFault::Unmapped,
     }
+}
+
+/// The fault of bytes that are written to the context, or from the sectors or behind them on.
+fn block_fault<D: Device, const COUNTS: usize, const FRAMES: usize>(
+    machine: &Machine<COUNTS, FRAMES>,
+    world: &World<D>,
+    address: u64,
+    count: u64,
+) -> Option<MachineFault>
+    requires some { 0 < count }
+    requires few { count ≤ 512 }
+    ensures fault { IfSome result (λ f. Some f ≡ write_fault (memory world.now.context (D.content world.now.device.now) machine.now) address count) }
+    ensures context { IfNone result ((address < context_start) ⊎ (context_start + 32 ≤ address)) }
+    ensures below { IfNone result (address < sector_start) }
+{
+    let place = address.wrapping_sub(CONTEXT_START);
+    if place < CONTEXT {
+        return Some(plain_fault(place + count <= CONTEXT));
+    }
+    if address < SECTOR_START {
+        return None;
+    }
+    Some(sector_fault(machine, world, address, count))
 }
 
 /// Where an access lies among the frames above the first, if it begins in the stack of an open one.
@@ -126,7 +150,25 @@ fn spot_above(frames: &Frames, address: u64) -> Option<Spot>
     })
 }
 
-impl<const COUNTS: usize> Machine<COUNTS> {
+/// The frames above the first, where there are places for them.
+fn above(called: &[Frames]) -> &Frames
+    requires { 0 < length called.now }
+    ensures { result.now ≡ frames_above called.now }
+{
+    &called[0]
+}
+
+/// Writes bytes from a place of the stack of an open frame above the first on.
+fn write_above(called: &mut [Frames], number: usize, place: usize, bytes: &[u8])
+    requires number { number < length (frames_above called.old) }
+    requires few { number < 3 }
+    requires fits { place + length bytes.now ≤ 512 }
+    ensures { frames_above called.new ≡ change_at number (λ f. record f { stack = written f.stack place bytes.now }) (frames_above called.old) }
+{
+    called[0].write(number, place, bytes);
+}
+
+impl<const COUNTS: usize, const FRAMES: usize> Machine<COUNTS, FRAMES> {
     /// Reads an access.
     #[inline(always)]
     pub(crate) fn read<D: Device>(
@@ -175,10 +217,11 @@ impl<const COUNTS: usize> Machine<COUNTS> {
         requires first { (address < stack_start) ⊎ (stack_start + 512 ≤ address) }
         ensures { (context : List ℕ) (device : List (List ℕ)) → length context ≡ 32 → result ≡ reading (byte_at context device self.now.frames) address (byte_count size) }
     {
-        let _stack = &self.stack;
-        let Some(frames) = &self.called else {
+        let (_stack, _called) = (&self.stack, &self.called);
+        if FRAMES == 0 {
             return Err(MachineFault::Unmapped);
-        };
+        }
+        let frames = above(&self.called);
         match spot_above(frames, address) {
             Some(spot) => frames.stack(spot.frame - 1).read(spot.place as u64, size),
             None => Err(MachineFault::Unmapped),
@@ -198,7 +241,7 @@ impl<const COUNTS: usize> Machine<COUNTS> {
         ensures fault { refused result ≡ write_fault (memory world.now.context (D.content world.now.device.now) self.now) address count }
         ensures spot { IfOk result (λ s. LieAt self.now.frames address count s.frame s.place) }
     {
-        let _stack = &self.stack;
+        let (_stack, _called) = (&self.stack, &self.called);
         let place = address.wrapping_sub(STACK_START);
         if place < BLOCK {
             return spot_within(
@@ -209,10 +252,13 @@ impl<const COUNTS: usize> Machine<COUNTS> {
                 count,
             );
         }
+        if FRAMES == 0 {
+            return Err(self.fault_outside(world, address, count));
+        }
         self.writable_outside(world, address, count)
     }
 
-    /// The same for bytes that don't begin in the first stack.
+    /// The same for bytes that don't begin in the first stack, where there are places for frames above it.
     #[inline(never)]
     fn writable_outside<D: Device>(
         &self,
@@ -226,14 +272,26 @@ impl<const COUNTS: usize> Machine<COUNTS> {
         ensures fault { refused result ≡ write_fault (memory world.now.context (D.content world.now.device.now) self.now) address count }
         ensures spot { IfOk result (λ s. LieAt self.now.frames address count s.frame s.place) }
     {
-        let place = address.wrapping_sub(CONTEXT_START);
-        if place < CONTEXT {
-            return Err(plain_fault(place + count <= CONTEXT));
+        match block_fault(self, world, address, count) {
+            Some(cause) => Err(cause),
+            None => self.writable_above(address, count),
         }
-        if address < SECTOR_START {
-            return self.writable_above(address, count);
+    }
+
+    /// The fault of bytes that are written and don't begin in the first stack, where it is the only one.
+    #[inline(never)]
+    fn fault_outside<D: Device>(&self, world: &World<D>, address: u64, count: u64) -> MachineFault
+        requires some { 0 < count }
+        requires few { count ≤ 512 }
+        requires first { (address < stack_start) ⊎ (stack_start + 512 ≤ address) }
+        requires only { FRAMES ≡ 0 }
+        ensures { Some result ≡ write_fault (memory world.now.context (D.content world.now.device.now) self.now) address count }
+    {
+        let (_stack, _called) = (&self.stack, &self.called);
+        match block_fault(self, world, address, count) {
+            Some(cause) => cause,
+            None => MachineFault::Unmapped,
         }
-        Err(sector_fault(self, world, address, count))
     }
 
     /// The same for bytes that begin below the sectors, and neither in the context nor in the first stack.
@@ -247,10 +305,11 @@ impl<const COUNTS: usize> Machine<COUNTS> {
         ensures fault { (context : List ℕ) (device : List (List ℕ)) → length context ≡ 32 → refused result ≡ write_fault (byte_at context device self.now.frames) address count }
         ensures spot { IfOk result (λ s. LieAt self.now.frames address count s.frame s.place) }
     {
-        let _stack = &self.stack;
-        let Some(frames) = &self.called else {
+        let (_stack, _called) = (&self.stack, &self.called);
+        if FRAMES == 0 {
             return Err(MachineFault::Unmapped);
-        };
+        }
+        let frames = above(&self.called);
         match spot_above(frames, address) {
             Some(spot) => spot_within(spot, count),
             None => Err(MachineFault::Unmapped),
@@ -267,8 +326,8 @@ impl<const COUNTS: usize> Machine<COUNTS> {
     {
         if spot.frame == 0 {
             self.stack.write(spot.place, bytes);
-        } else if let Some(frames) = &mut self.called {
-            frames.write(spot.frame - 1, spot.place, bytes);
+        } else {
+            write_above(&mut self.called, spot.frame - 1, spot.place, bytes);
         }
     }
 }

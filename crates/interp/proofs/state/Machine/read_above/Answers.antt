@@ -4,13 +4,13 @@ use Rattle.machine.specs.Memory.{byte_count, byte_at}
 use Rattle.interp.specs.Frames.{frames_above}
 use Rattle.interp.specs.Reading.{reading, stacked}
 use Rattle.interp.proofs.Regions.{some_bytes, few_bytes, around, nothing_read, stack_reading}
-use Rattle.interp.proofs.Opened.{all_long, nowhere, find_frame}
+use Rattle.interp.proofs.Opened.{none_above, all_long, nowhere, find_frame}
 use Rattle.interp.proofs.state.Machine.read_above.Goals as goal
 
-pub returns-in_default : goal.returns-in_default
-returns-in_default g c = λ context device long.
+pub returns-then-this-eq0 : goal.returns-then-this-eq0
+returns-then-this-eq0 g c = λ context device long.
     let first : Frame = record { stack = c.self.inside.stack; caller = None } in
-    let none : frames_above c.self.inside.called ≡ [] = rw c.in_default.is refl in
+    let none : frames_above c.self.inside.called ≡ [] = none_above c.self.inside.called (c.self.told ∙ c.if-this-eq0.true) in
     rw (← c.self.view_is, none)
     (sym (nothing_read (byte_at context device (first ∷ [])) c.args.address (byte_count c.args.size) (some_bytes c.args.size)
     (around context device (first ∷ []) c.args.address long (all_long first [] c.self.invariant (λ i f e. absurd (let bad : None ≡ Some f = e in cc))) c.requires.below c.requires.context
@@ -19,22 +19,22 @@ returns-in_default g c = λ context device long.
 pub returns-in-None : goal.returns-in-None
 returns-in-None g c = λ context device long.
     let first : Frame = record { stack = c.self.inside.stack; caller = None } in
-    let above : List Frame = c.in-Some.frames in
-    let some : frames_above c.self.inside.called ≡ above = rw c.in-Some.is refl in
+    let above : List Frame = c.above-frames.result.now in
+    let some : frames_above c.self.inside.called ≡ above = sym c.above-frames.ensures in
     rw (← c.self.view_is, some)
     (sym (nothing_read (byte_at context device (first ∷ above)) c.args.address (byte_count c.args.size) (some_bytes c.args.size)
     (around context device (first ∷ above) c.args.address long (all_long first above c.self.invariant c.spot_above.ensures.long) c.requires.below c.requires.context
     (nowhere first above c.args.address c.requires.first c.in-None.ensures.none))))
 
-pub returns-in-Some-spot_above : goal.returns-in-Some-spot_above
-returns-in-Some-spot_above g c = λ context device long.
+pub returns-in-Some : goal.returns-in-Some
+returns-in-Some g c = λ context device long.
     let first : Frame = record { stack = c.self.inside.stack; caller = None } in
-    let above : List Frame = c.in-Some.frames in
-    let some : frames_above c.self.inside.called ≡ above = rw c.in-Some.is refl in
-    let at = c.in-Some-spot_above.ensures.found in
-    let frame = find_frame first above c.in-Some-spot_above.spot.frame c.stack.result.now at.some c.stack.ensures in
+    let above : List Frame = c.above-frames.result.now in
+    let some : frames_above c.self.inside.called ≡ above = sym c.above-frames.ensures in
+    let at = c.in-Some.ensures.found in
+    let frame = find_frame first above c.in-Some.spot.frame c.stack.result.now at.some c.stack.ensures in
     rw (← c.self.view_is, some)
     (c.read.ensures
-    ∙ ap (λ (s : List (Option ℕ)). reading (stacked s) c.in-Some-spot_above.spot.place (byte_count c.args.size)) (sym frame.same)
-    ∙ sym (stack_reading context device (first ∷ above) frame.found c.args.address c.in-Some-spot_above.spot.frame c.in-Some-spot_above.spot.place (byte_count c.args.size)
+    ∙ ap (λ (s : List (Option ℕ)). reading (stacked s) c.in-Some.spot.place (byte_count c.args.size)) (sym frame.same)
+    ∙ sym (stack_reading context device (first ∷ above) frame.found c.args.address c.in-Some.spot.frame c.in-Some.spot.place (byte_count c.args.size)
     frame.there at.few at.start at.short (few_bytes c.args.size)))

@@ -12,13 +12,12 @@ returns-then-spot-eq0 g c = λ a lies.
       stored_is c.args.bytes.now _ first.found a 0 c.args.spot.place first.there first.long first.few first.start first.fits,
     ) refl
 
-pub returns-in-Some : goal.returns-in-Some
-returns-in-Some g c = λ a lies.
+pub returns-else-spot-eq0 : goal.returns-else-spot-eq0
+returns-else-spot-eq0 g c = λ a lies.
     let there = rw (← c.self.view_is) at lies in
     rw (
       ← c.self.view_is,
       stored_is c.args.bytes.now _ there.found a c.args.spot.frame c.args.spot.place there.there there.long there.few there.start there.fits,
       change_behind c.args.spot.frame _ _ _ (omega (arith, c.if-spot-eq0.false)),
-      c.write-in-Some.ensures,
-      c.in-Some.is,
+      c.write_above.ensures,
     ) refl

@@ -25,5 +25,11 @@ returns-then-place-lt-BLOCK-clause-spot g c =
     spot_lies c.spot_within.result spot c.args.self.now.frames first c.args.address c.args.count
     (rw (← c.self.view_is) refl) c.self.invariant (omega arith) start c.spot_within.ensures
 
+pub fault_outside-requires : goal.fault_outside-requires
+fault_outside-requires g c = (
+  search rules,
+  (c.requires.some, (c.requires.few, (not_in_first c.args.address c.ranges.address.fits c.if-place-lt-BLOCK.false, c.if-this-eq0.true))),
+)
+
 pub writable_outside-requires : goal.writable_outside-requires
 writable_outside-requires g c = (search rules, (c.requires.some, (c.requires.few, not_in_first c.args.address c.ranges.address.fits c.if-place-lt-BLOCK.false)))

@@ -1,35 +1,14 @@
-use Rattle.std.proofs.Common.{ℕ, ◌≡◌, ◌-◌, ◌+◌, ◌%◌, ◌^◌, List, Some, length, sym, ap, ◌∙◌, arith, rules}
-use Rattle.base.specs.declared.causes.MachineFault.{MachineFault}
-use Rattle.machine.specs.State.{context_start}
-use Rattle.interp.proofs.Regions.{context_written}
-use Rattle.interp.proofs.Opened.{not_in_context}
+use Rattle.std.proofs.Common.{ℕ, ◌≡◌, List, length, rules}
 use Rattle.interp.proofs.state.Machine.writable_outside.Goals as goal
 
-pub returns-then-place-lt-CONTEXT-clause-fault : goal.returns-then-place-lt-CONTEXT-clause-fault
-returns-then-place-lt-CONTEXT-clause-fault g c =
-    let device : List (List ℕ) = g.D.Device.content c.args.world.now.device.now in
-    let long : length c.args.world.now.context ≡ 32 = search rules in
-    ap (λ (f : MachineFault). Some f) c.plain_fault.ensures
-    ∙ sym (context_written c.args.world.now.context device c.args.self.now.frames c.args.address ((c.args.address + (2 ^ 64 - context_start)) % 2 ^ 64) c.args.count
-    long (omega (arith, c.ranges.address, c.if-place-lt-CONTEXT.true)) c.if-place-lt-CONTEXT.true c.requires.some c.requires.few)
-
 pub writable_above-requires : goal.writable_above-requires
-writable_above-requires g c = (
-  search rules,
-  (
-    c.requires.some,
-    (
-      c.requires.few,
-      (
-        c.if-address-lt-SECTOR_START.true,
-        (not_in_context c.args.address c.ranges.address.fits c.if-place-lt-CONTEXT.false, c.requires.first),
-      ),
-    ),
-  ),
-)
+writable_above-requires g c =
+    let below = rw c.in-None.is at c.block_fault.ensures.below in
+    let context = rw c.in-None.is at c.block_fault.ensures.context in
+    (search rules, (c.requires.some, (c.requires.few, (below, (context, c.requires.first)))))
 
-pub returns-then-address-lt-SECTOR_START-clause-fault : goal.returns-then-address-lt-SECTOR_START-clause-fault
-returns-then-address-lt-SECTOR_START-clause-fault g c =
+pub returns-in-None-clause-fault : goal.returns-in-None-clause-fault
+returns-in-None-clause-fault g c =
     let device : List (List ℕ) = g.D.Device.content c.args.world.now.device.now in
     let long : length c.args.world.now.context ≡ 32 = search rules in
     c.writable_above.ensures.fault c.args.world.now.context device long
