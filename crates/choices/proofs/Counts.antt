@@ -1,6 +1,7 @@
 -- Closed forms of the numbers of choices.
 use Rattle.std.proofs.Common.{ℕ, zero, suc, ◌≡◌, ◌+◌, ◌-◌, ◌*◌, ◌/◌, ◌<◌, ◌≤◌, refl, ◌∙◌, ap, arith}
 use Rattle.std.proofs.lemmas.Nat.{div-mul-add, mul-le}
+use Rattle.choices.specs.Picks.{most_fates}
 use Rattle.choices.specs.Ways.{ways, ways_below, pairs, triples}
 
 -- how many choices of 0, 1, 2 and 3 departures there are
@@ -68,12 +69,20 @@ triples_none zero h = refl
 triples_none (suc zero) h = refl
 triples_none (suc (suc k)) h = absurd (omega (arith, h))
 
--- the greatest product that the code forms is below 2^61
-pub cube_le : (m t : ℕ) → m ≤ 8 → t ≤ 3002399751580331 → m * m * m * t ≤ 1537228672809129472
+-- the products that the code forms: the greatest is below 2^64, those of two factors less are below 2^43
+pub line_le : (m k : ℕ) → m ≤ most_fates → k ≤ 262144 → m * k ≤ 7730941132800
+line_le m k h le = let line : m * k ≤ 3932160 = mul-le m k 15 262144 h le in omega (arith, line)
+
+pub square_le : (m t : ℕ) → m ≤ most_fates → t ≤ 34359738368 → m * m * t ≤ 7730941132800
+square_le m t h k =
+    let square : m * m ≤ 225 = mul-le m m 15 15 h h in
+    mul-le (m * m) t 225 34359738368 square k
+
+pub cube_le : (m t : ℕ) → m ≤ most_fates → t ≤ 3002399751580331 → m * m * m * t ≤ 10133099161583617125
 cube_le m t h k =
-    let square : m * m ≤ 64 = mul-le m m 8 8 h h in
-    let cube : m * m * m ≤ 512 = mul-le (m * m) m 64 8 square h in
-    mul-le (m * m * m) t 512 3002399751580331 cube k
+    let square : m * m ≤ 225 = mul-le m m 15 15 h h in
+    let cube : m * m * m ≤ 3375 = mul-le (m * m) m 225 15 square h in
+    mul-le (m * m * m) t 3375 3002399751580331 cube k
 
 -- the sum over the numbers of departures: its start, and one more
 pub ways_below_none : (m v : ℕ) → 0 ≡ ways_below m 0 v

@@ -1,7 +1,7 @@
 -- The order of departures and of choices: what their numbers say of it, and that nothing is before itself.
-use Rattle.std.proofs.Common.{ℕ, zero, suc, ◌≡◌, ◌<◌, Bool, true, false, List, [], ◌∷◌, length, map, take, slice_get, Some, refl, sym, ◌∙◌, ap, subst, inl, inr, arith}
+use Rattle.std.proofs.Common.{ℕ, zero, suc, ◌≡◌, ◌+◌, ◌-◌, ◌<◌, ◌≤◌, Bool, true, false, if◌then◌else◌, List, [], ◌∷◌, length, map, take, slice_get, Some, refl, sym, ◌∙◌, ap, subst, inl, inr, arith}
 use Rattle.std.specs.List.{slice_index_or}
-use Rattle.std.proofs.lemmas.Bool.{cases_lt}
+use Rattle.std.proofs.lemmas.Bool.{cases_lt, lt-ltb, le-ltb}
 use Rattle.std.proofs.lemmas.Option.{slice_get-get_or, same_Some}
 use Rattle.logfmt.specs.declared.entry.Entry.{Entry}
 use Rattle.epochs.specs.declared.unit.Unit.{Unit as LogUnit}
@@ -10,34 +10,73 @@ use Rattle.choices.specs.declared.pick.Pick.{Pick}
 use Rattle.choices.specs.declared.fate.Fate.{Fate}
 use Rattle.choices.specs.declared.fate.Fate.TheVariants as fate
 use Rattle.choices.specs.declared.choice.Departure.{Departure}
-use Rattle.choices.specs.Picks.{fates_of}
+use Rattle.choices.specs.Picks.{fates_of, tears_of_unit}
 use Rattle.choices.specs.Laws.{Before}
 use Rattle.choices.specs.Choices.{ChoiceValue, departure_of, fate_of, nowhere}
 use Rattle.choices.specs.CrashModel.{IsFate, FatePrecedes, DeparturePrecedes, DiffersFirst, ChoicePrecedes}
 use Rattle.choices.proofs.Plans.{fates_low}
 
+-- the numbers of the heads, and those of the tails
+is_head : (t : ℕ) → t < tears_of_unit → fate_of (suc t) ≡ fate.Head (suc t)
+is_head t lt = ap (λ b. if b then fate.Head (suc t) else fate.Tail (suc t - tears_of_unit)) (lt-ltb t tears_of_unit lt)
+
+is_tail : (t : ℕ) → tears_of_unit ≤ t → fate_of (suc t) ≡ fate.Tail (suc t - tears_of_unit)
+is_tail t le = ap (λ b. if b then fate.Head (suc t) else fate.Tail (suc t - tears_of_unit)) (le-ltb t tears_of_unit le)
+
 -- a number below that of the fates is one of the fates
 pub fate_said : (tears : Bool) (t : ℕ) → t < fates_of tears → IsFate tears (fate_of t)
 fate_said tears zero h = tt
-fate_said true (suc t) h = (refl, omega arith, omega (arith, h))
+fate_said true (suc t) h =
+    let P : Fate → Type 0 = λ f. IsFate true f in
+    elim (cases_lt t tears_of_unit) [
+      | inl lt ↦ subst P (sym (is_head t lt)) (refl, omega arith, omega (arith, lt))
+      | inr le ↦ subst P (sym (is_tail t le)) (refl, omega (arith, le), omega (arith, h))
+    ]
 fate_said false (suc t) h = absurd (omega (arith, h))
 
 -- and each of the fates has one
 pub fate_number : (tears : Bool) (f : Fate) → IsFate tears f → (t : ℕ) × (t < fates_of tears) × (fate_of t ≡ f)
 fate_number tears fate.Drop h = (0, fates_low tears, refl)
 fate_number tears (fate.Head zero) h = absurd (omega (arith, h.1))
-fate_number true (fate.Head (suc t)) h = (suc t, h.2, refl)
+fate_number tears (fate.Tail zero) h = absurd (omega (arith, h.1))
+fate_number true (fate.Head (suc t)) h = (suc t, omega (arith, h.2), is_head t (omega (arith, h.2)))
+fate_number true (fate.Tail (suc t)) h =
+    let eighths : suc (t + tears_of_unit) - tears_of_unit ≡ suc t = omega arith in
+    (suc (t + tears_of_unit), omega (arith, h.2), is_tail (t + tears_of_unit) (omega arith) ∙ ap (λ n. fate.Tail n) eighths)
 fate_number false (fate.Head (suc t)) h = absurd (let bad : false ≡ true = h.0 in cc)
+fate_number false (fate.Tail (suc t)) h = absurd (let bad : false ≡ true = h.0 in cc)
+
+-- a greater number is a later fate
+drop_first : (t : ℕ) → FatePrecedes fate.Drop (fate_of (suc t))
+drop_first t =
+    let P : Fate → Type 0 = λ f. FatePrecedes fate.Drop f in
+    elim (cases_lt t tears_of_unit) [ inl lt ↦ subst P (sym (is_head t lt)) tt | inr le ↦ subst P (sym (is_tail t le)) tt ]
+
+head_rises : (s t : ℕ) → s < t → FatePrecedes (fate.Head (suc s)) (fate_of (suc t))
+head_rises s t h =
+    let P : Fate → Type 0 = λ f. FatePrecedes (fate.Head (suc s)) f in
+    elim (cases_lt t tears_of_unit) [ inl lt ↦ subst P (sym (is_head t lt)) (omega (arith, h)) | inr le ↦ subst P (sym (is_tail t le)) tt ]
+
+tail_rises : (s t : ℕ) → tears_of_unit ≤ s → s < t → FatePrecedes (fate.Tail (suc s - tears_of_unit)) (fate_of (suc t))
+tail_rises s t le h =
+    let P : Fate → Type 0 = λ f. FatePrecedes (fate.Tail (suc s - tears_of_unit)) f in
+    subst P (sym (is_tail t (omega (arith, le, h)))) (omega (arith, le, h))
 
 fate_rises : (s t : ℕ) → s < t → FatePrecedes (fate_of s) (fate_of t)
 fate_rises zero zero h = absurd (omega (arith, h))
-fate_rises zero (suc t) h = tt
+fate_rises zero (suc t) h = drop_first t
 fate_rises (suc s) zero h = absurd (omega (arith, h))
-fate_rises (suc s) (suc t) h = h
+fate_rises (suc s) (suc t) h =
+    let P : Fate → Type 0 = λ f. FatePrecedes f (fate_of (suc t)) in
+    elim (cases_lt s tears_of_unit) [
+      | inl lt ↦ subst P (sym (is_head s lt)) (head_rises s t (omega (arith, h)))
+      | inr le ↦ subst P (sym (is_tail s le)) (tail_rises s t le (omega (arith, h)))
+    ]
 
 fate_once : (f : Fate) → FatePrecedes f f → ⊥
 fate_once fate.Drop h = h
 fate_once (fate.Head t) h = omega (arith, h)
+fate_once (fate.Tail t) h = omega (arith, h)
 
 unit_once : (u : LogUnit) → UnitPrecedes u u → ⊥
 unit_once u h = elim h [

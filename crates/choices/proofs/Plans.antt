@@ -11,19 +11,19 @@ use Rattle.epochs.specs.Cuts.{cuts_of}
 use Rattle.epochs.specs.Plan.{PlanValue}
 use Rattle.epochs.proofs.Wanted.{cuts_within}
 use Rattle.choices.specs.declared.pick.Pick.{Pick}
-use Rattle.choices.specs.Picks.{chosen, fewer, fates_of, picks_within, ArePicks}
+use Rattle.choices.specs.Picks.{chosen, fewer, most_fates, fates_of, picks_within, ArePicks}
 use Rattle.choices.specs.Ways.{ways_within}
 use Rattle.choices.specs.Steps.{following_below}
 use Rattle.choices.specs.Choices.{ChoiceValue, departure_of, choice_of, choices_at, choices_over, ranked, ranked_before, ranked_at, limit, IsFirstPast, InCut}
 use Rattle.choices.proofs.Ranks.{length-fewer}
 use Rattle.choices.proofs.Following.{follows_below, fewer_picks, at_end, behind_end, in_front}
 
--- there are 1 to 8 fates
+-- there is at least one fate, and no more than there are with tears
 pub fates_low : (tears : Bool) → 1 ≤ fates_of tears
 fates_low tears = elim tears as (λ b. 1 ≤ fates_of b) [ true ↦ omega arith | false ↦ omega arith ]
 
-pub fates_high : (tears : Bool) → fates_of tears ≤ 8
-fates_high tears = elim tears as (λ b. fates_of b ≤ 8) [ true ↦ omega arith | false ↦ omega arith ]
+pub fates_high : (tears : Bool) → fates_of tears ≤ most_fates
+fates_high tears = elim tears as (λ b. fates_of b ≤ most_fates) [ true ↦ omega arith | false ↦ omega arith ]
 
 -- how many choices a cut has
 at_ways : (es : List Entry) (m b p cut : ℕ) → length (choices_at es m b p cut) ≡ ways_within m b (length (volatile_units es cut))
@@ -314,7 +314,7 @@ pub counted_all : (plan : PlanValue) (b : ℕ) (tears : Bool) (cuts : List ℕ) 
 counted_all plan b tears cuts i sum is le so = so ∙ ap length (before_all plan b tears i (omega (arith, le, ap length is)))
 
 -- departures by few fates
-pub picks_weaker : (m v : ℕ) (picks : List Pick) → m ≤ 8 → ArePicks m v picks → ArePicks 8 v picks
+pub picks_weaker : (m v : ℕ) (picks : List Pick) → m ≤ most_fates → ArePicks m v picks → ArePicks most_fates v picks
 picks_weaker m v picks le are = λ k d lt. let here = are k d lt in (here.0, omega (arith, here.1, le))
 
 -- where a choice of the list stands, and what follows it
@@ -367,7 +367,7 @@ stepped_on plan b tears n old picks so h =
 
 pub new_picks : (plan : PlanValue) (b : ℕ) (tears : Bool) (n : ℕ) (old : ChoiceValue) (picks : List Pick) → Standing plan b tears n old
     → following_below (fates_of tears) (b + 1) (length (volatile_units plan.log.entries old.cut)) old.picks ≡ Some picks
-    → ArePicks 8 (length (volatile_units plan.log.entries old.cut)) picks
+    → ArePicks most_fates (length (volatile_units plan.log.entries old.cut)) picks
 unfolding choice_of
 new_picks plan b tears n old picks so h =
     let there = stands plan b tears (n + 1) (choice_of plan.log.entries old.place old.cut picks) (stepped_on plan b tears n old picks so h) in
@@ -397,7 +397,7 @@ at_last plan b tears n old so here none last =
     omega (arith, long)
 
 -- a choice by its number at its cut
-pub nth_picks : (m b v n : ℕ) (picks : List Pick) → m ≤ 8 → slice_get (picks_within m b v) n ≡ Some picks → ArePicks 8 v picks
+pub nth_picks : (m b v n : ℕ) (picks : List Pick) → m ≤ most_fates → slice_get (picks_within m b v) n ≡ Some picks → ArePicks most_fates v picks
 nth_picks m b v n picks le h = picks_weaker m v picks le (fewer_picks m (suc b) v n picks h)
 
 -- a choice that is put together from its parts

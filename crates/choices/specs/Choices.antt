@@ -1,6 +1,6 @@
 -- The ranked choices of a plan: at each wanted cut the choices of its volatile units, cut after cut
 -- (docs/CRASH-MODEL.md, Order and numbers of the images). Image n of a run is element n of this list.
-use Rattle.std.specs.Prelude.{ℕ, zero, suc, ◌+◌, ◌≡◌, ◌<◌, ◌≤◌, Bool, List, [], ◌∷◌, ◌++◌, length, map, take, slice_get, Some}
+use Rattle.std.specs.Prelude.{ℕ, zero, suc, ◌+◌, ◌-◌, ◌≡◌, ◌<◌, ◌≤◌, nat_lt, Bool, if◌then◌else◌, List, [], ◌∷◌, ◌++◌, length, map, take, slice_get, Some}
 use Rattle.std.specs.List.{slice_index_or}
 use Rattle.logfmt.specs.declared.entry.Entry.{Entry}
 use Rattle.epochs.specs.declared.unit.Unit.{Unit as LogUnit}
@@ -11,7 +11,7 @@ use Rattle.choices.specs.declared.pick.Pick.{Pick}
 use Rattle.choices.specs.declared.fate.Fate.{Fate}
 use Rattle.choices.specs.declared.fate.Fate.TheVariants as fate
 use Rattle.choices.specs.declared.choice.Departure.{Departure}
-use Rattle.choices.specs.Picks.{picks_within, fates_of}
+use Rattle.choices.specs.Picks.{picks_within, tears_of_unit, fates_of}
 
 -- a choice: the cut, its place among the wanted cuts, and the departures, also by their numbers
 pub record ChoiceValue : Type 0 where
@@ -20,10 +20,10 @@ pub record ChoiceValue : Type 0 where
   pub picks : List Pick
   pub departures : List Departure
 
--- the fates in their order: dropped, then torn behind 1 to 7 eighths
+-- the fates in their order: dropped, then the heads of 1 to 7 eighths, then the tails of 1 to 7 eighths
 abbrev pub fate_of : ℕ → Fate
 fate_of zero = fate.Drop
-fate_of (suc t) = fate.Head (suc t)
+fate_of (suc t) = if nat_lt t tears_of_unit then fate.Head (suc t) else fate.Tail (suc t - tears_of_unit)
 
 -- the unit that stands for none, where a number is past the end
 abbrev pub nowhere : LogUnit

@@ -9,17 +9,25 @@ use Rattle.choices.specs.declared.fate.Fate.TheVariants as fate
 use Rattle.choices.specs.declared.choice.Departure.{Departure}
 use Rattle.choices.specs.Choices.{ChoiceValue}
 
--- a unit that departs is dropped, or, where writes may be torn, torn behind 1 to 7 eighths
+-- a unit that departs is dropped, or, where writes may be torn, of it arrive the first or the last 1 to 7
+-- eighths
 abbrev pub IsFate : Bool → Fate → Type 0
 IsFate tears fate.Drop = Unit {0}
 IsFate tears (fate.Head t) = (tears ≡ true) × (1 ≤ t) × (t < 8)
+IsFate tears (fate.Tail t) = (tears ≡ true) × (1 ≤ t) × (t < 8)
 
--- the drop comes before each head, and a shorter head before a longer one
+-- the drop comes before each head and each tail, each head before each tail, and of two heads or two
+-- tails the shorter before the longer
 abbrev pub FatePrecedes : Fate → Fate → Type 0
 FatePrecedes fate.Drop fate.Drop = ⊥
 FatePrecedes fate.Drop (fate.Head t) = Unit {0}
+FatePrecedes fate.Drop (fate.Tail t) = Unit {0}
 FatePrecedes (fate.Head s) fate.Drop = ⊥
 FatePrecedes (fate.Head s) (fate.Head t) = s < t
+FatePrecedes (fate.Head s) (fate.Tail t) = Unit {0}
+FatePrecedes (fate.Tail s) fate.Drop = ⊥
+FatePrecedes (fate.Tail s) (fate.Head t) = ⊥
+FatePrecedes (fate.Tail s) (fate.Tail t) = s < t
 
 -- first by unit (by entry, then by sector of the entry), and then by fate
 abbrev pub DeparturePrecedes : Departure → Departure → Type 0

@@ -1,13 +1,21 @@
 -- The choices of departures at one cut, as one list in its order (docs/CRASH-MODEL.md, Fates and choices,
 -- Order and numbers of the images). A departure is given by numbers: its unit by the place among the
 -- volatile units of the cut, its fate by the place in the order of the fates.
-use Rattle.std.specs.Prelude.{ℕ, zero, suc, ◌+◌, ◌<◌, Bool, true, false, List, [], ◌∷◌, ◌++◌, map}
+use Rattle.std.specs.Prelude.{ℕ, zero, suc, ◌+◌, ◌*◌, ◌<◌, Bool, true, false, List, [], ◌∷◌, ◌++◌, map}
 use Rattle.std.specs.List.{All}
 use Rattle.choices.specs.declared.pick.Pick.{Pick}
 
--- how many fates a unit may have beside whole: it is dropped, or torn behind 1 to 7 eighths
+-- in how many places a unit may be torn: behind 1 to 7 of its eighths
+abbrev pub tears_of_unit : ℕ
+tears_of_unit = 7
+
+-- how many fates a unit may have beside whole: it is dropped, or one side of a tear is lost
+abbrev pub most_fates : ℕ
+most_fates = 1 + 2 * tears_of_unit
+
+-- with torn writes, or without
 abbrev pub fates_of : Bool → ℕ
-fates_of true = 8
+fates_of true = most_fates
 fates_of false = 1
 
 -- unit a with each of j fates from t on, before each of the given rests

@@ -2,7 +2,7 @@
 
 ghost use Rattle.std.specs.Prelude.{◌≡◌, ◌<◌, ◌≤◌, length, map};
 ghost use Rattle.epochs.specs.Units.{volatile_units};
-ghost use Rattle.choices.specs.Picks.{ArePicks};
+ghost use Rattle.choices.specs.Picks.{ArePicks, most_fates};
 ghost use Rattle.choices.specs.Choices.{choice_of, departure_of};
 
 use crate::fate::Fate;
@@ -86,7 +86,7 @@ impl Choice {
     #[tactic(auto, unfolding(crate::specs::Choices::choice_of))]
     pub(crate) fn of(plan: &Plan, place: usize, cut: u32, picks: ArrayVec<Pick, 3>) -> Choice
         requires cut { cut ≤ length plan.now.log.entries }
-        requires picks { ArePicks 8 (length (volatile_units plan.now.log.entries cut)) picks.items }
+        requires picks { ArePicks most_fates (length (volatile_units plan.now.log.entries cut)) picks.items }
         ensures { result ≡ choice_of plan.now.log.entries place cut picks.items }
     {
         let departures = departures_of(plan, cut, picks.as_slice());
@@ -103,7 +103,7 @@ impl Choice {
 pub(crate) fn departures_of(plan: &Plan, cut: u32, picks: &[Pick]) -> ArrayVec<Departure, 3>
     requires cut { cut ≤ length plan.now.log.entries }
     requires few { length picks.now ≤ 3 }
-    requires picks { ArePicks 8 (length (volatile_units plan.now.log.entries cut)) picks.now }
+    requires picks { ArePicks most_fates (length (volatile_units plan.now.log.entries cut)) picks.now }
     ensures { result.items ≡ map (departure_of (volatile_units plan.now.log.entries cut)) picks.now }
 {
     let mut departures = ArrayVec::new();

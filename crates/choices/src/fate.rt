@@ -1,12 +1,12 @@
 //! What becomes of a unit that is not whole.
 
 ghost use Rattle.std.specs.Prelude.{◌≡◌, ◌<◌, ◌≤◌};
-ghost use Rattle.choices.specs.Picks.{fates_of};
+ghost use Rattle.choices.specs.Picks.{fates_of, most_fates};
 ghost use Rattle.choices.specs.Choices.{fate_of};
 
 use std::marker::Model;
 
-/// How many eighths of a sector a torn write leaves, 1 to 7. Contracts see the number.
+/// How many eighths of a torn write reach the device, 1 to 7. Contracts see the number.
 #[derive(Clone, Copy, Debug, PartialEq, Eq)]
 pub struct Eighths {
     count: u8,
@@ -51,24 +51,31 @@ pub enum Fate {
     Drop,
     /// Its first eighths reach the device, and nothing else of it.
     Head(Eighths),
+    /// Its last eighths reach the device, and nothing else of it.
+    Tail(Eighths),
 }
 
+/// In how many places a unit may be torn: behind 1 to 7 of its eighths.
+const TEARS_OF_UNIT: u8 = 7;
+
 impl Fate {
-    /// The fate of a number: the drop, then the heads, rising.
+    /// The fate of a number: the drop, then the heads, rising, then the tails, rising.
     pub(crate) fn of(number: u8) -> Fate
-        requires { number < 8 }
+        requires { number < most_fates }
         ensures { result ≡ fate_of number }
     {
         if number == 0 {
             Fate::Drop
-        } else {
+        } else if number <= TEARS_OF_UNIT {
             Fate::Head(Eighths::new(number))
+        } else {
+            Fate::Tail(Eighths::new(number - TEARS_OF_UNIT))
         }
     }
 }
 
-/// The drop, and a head of each number of eighths.
-const WITH_TEARS: u8 = 8;
+/// The drop, and a head and a tail for each place of a tear.
+const WITH_TEARS: u8 = 1 + 2 * TEARS_OF_UNIT;
 
 /// The drop.
 const WITHOUT_TEARS: u8 = 1;
@@ -77,7 +84,7 @@ const WITHOUT_TEARS: u8 = 1;
 pub(crate) fn fates_of(tears: bool) -> u8
     ensures value { result ≡ fates_of tears }
     ensures low { 1 ≤ result }
-    ensures high { result ≤ 8 }
+    ensures high { result ≤ most_fates }
 {
     if tears { WITH_TEARS } else { WITHOUT_TEARS }
 }

@@ -2,7 +2,7 @@
 //!
 //! At a cut of a log a crash may lose each of the volatile units, in whole or in part. A choice names
 //! at most three of them, the departures, each with its fate: the unit is dropped, or, where writes
-//! may be torn, only its first eighths reach the device. Every other unit is whole. All choices at all
+//! may be torn, only its first or only its last eighths reach the device. Every other unit is whole. All choices at all
 //! wanted cuts of a plan stand in one order, and so each has a number:
 //!
 //! 1. by cut, rising;
@@ -46,7 +46,7 @@
 //!
 //! # How it is written
 //!
-//! `ways` has closed forms of the numbers of choices of one cut; their products stay below 2^63, so
+//! `ways` has closed forms of the numbers of choices of one cut; their sums stay below 2^64, so
 //! nothing wraps, at 262,144 units and three departures too. `rank` finds a choice by its number: the
 //! number of departures by taking off the smaller ones, then each departure by a search by halves for
 //! its unit and a division for its fate. `step` changes the last departure that has a next fate or a
@@ -56,8 +56,8 @@
 //! (`starts`). A caller that wants many choices in a row takes `nth` once, and then `next`; one that
 //! begins at many places makes a `Starts`.
 //!
-//! Further fates would change only their number (`fates_of`) and what a fate's number means
-//! (`fate_of`).
+//! Which fates there are stands in one place: their number (`most_fates`) and what a fate's number
+//! means (`fate_of`). All else goes by numbers.
 //!
 //! # Example
 //!
@@ -66,11 +66,11 @@
 //!
 //! // `plan` has one wanted cut, and two volatile units there
 //! let total = count(&plan, 2, true)?;
-//! // 1 + 2 * 8 + 1 * 64 choices are 81
-//! let mut choice = nth(&plan, 2, true, 17);
+//! // 1 + 2 * 15 + 1 * 225 choices are 256
+//! let mut choice = nth(&plan, 2, true, 31);
 //! // both units are dropped
 //! let moved = next(&plan, 2, true, &mut choice);
-//! // the second unit now is torn behind its first eighth; `moved` is true
+//! // of the second unit now only the first eighth arrives; `moved` is true
 //! ```
 #![tactic(auto)]
 

@@ -5,6 +5,6 @@
 pub(crate) struct Pick {
     /// Which of the volatile units of its cut, from 0 in their order.
     pub unit: u32,
-    /// Which fate, from 0 in their order: the drop, then the heads.
+    /// Which fate, from 0 in their order: the drop, then the heads, then the tails.
     pub fate: u8,
 }

@@ -1,7 +1,7 @@
 //! A choice by its number.
 
 ghost use Rattle.std.specs.Prelude.{◌≡◌, ◌+◌, ◌-◌, ◌<◌, ◌≤◌, slice_get, Some, length};
-ghost use Rattle.choices.specs.Picks.{chosen, picks_within};
+ghost use Rattle.choices.specs.Picks.{chosen, most_fates, picks_within};
 ghost use Rattle.choices.specs.Ways.{ways, ways_below, ways_within};
 ghost use Rattle.choices.specs.Seeks.{Begins, Reaches};
 
@@ -11,7 +11,7 @@ use arrayvec::ArrayVec;
 
 /// The least number of units among which there are `left` choices, by a search by halves.
 fn reaching(fates: u8, size: u8, units: u32, left: u64) -> u32
-    requires fates { fates ≤ 8 }
+    requires fates { fates ≤ most_fates }
     requires some { 1 ≤ size }
     requires size { size ≤ 3 }
     requires units { units ≤ 262144 }
@@ -36,7 +36,7 @@ fn reaching(fates: u8, size: u8, units: u32, left: u64) -> u32
 /// The first departure of a choice, and the number of what follows it among all that may. The units
 /// are those from `begin` to below `end`.
 fn first_pick(fates: u8, size: u8, begin: u32, end: u32, number: u64) -> (Pick, u64)
-    requires fates { fates ≤ 8 }
+    requires fates { fates ≤ most_fates }
     requires some { 1 ≤ size }
     requires size { size ≤ 3 }
     requires units { end ≤ 262144 }
@@ -58,7 +58,7 @@ fn first_pick(fates: u8, size: u8, begin: u32, end: u32, number: u64) -> (Pick, 
 
 /// A choice of `size` departures among that many units, by its number.
 pub(crate) fn nth_of_size(fates: u8, size: u8, units: u32, number: u64) -> ArrayVec<Pick, 3>
-    requires fates { fates ≤ 8 }
+    requires fates { fates ≤ most_fates }
     requires size { size ≤ 3 }
     requires units { units ≤ 262144 }
     requires number { number < ways fates size units }
@@ -78,7 +78,7 @@ pub(crate) fn nth_of_size(fates: u8, size: u8, units: u32, number: u64) -> Array
 
 /// The number of departures of a choice, and its number among those with as many.
 fn size_of(fates: u8, bound: u8, units: u32, number: u64) -> (u8, u64)
-    requires fates { fates ≤ 8 }
+    requires fates { fates ≤ most_fates }
     requires bound { bound ≤ 3 }
     requires units { units ≤ 262144 }
     requires number { number < ways_within fates bound units }
@@ -99,7 +99,7 @@ fn size_of(fates: u8, bound: u8, units: u32, number: u64) -> (u8, u64)
 
 /// A choice of at most `bound` departures among that many units, by its number.
 pub(crate) fn nth_within(fates: u8, bound: u8, units: u32, number: u64) -> ArrayVec<Pick, 3>
-    requires fates { fates ≤ 8 }
+    requires fates { fates ≤ most_fates }
     requires bound { bound ≤ 3 }
     requires units { units ≤ 262144 }
     requires number { number < ways_within fates bound units }

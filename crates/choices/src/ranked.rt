@@ -28,7 +28,7 @@ pub(crate) fn ways_at(plan: &Plan, bound: u8, tears: bool, cut: u32) -> u64
     requires bound { bound ≤ 3 }
     requires cut { cut ≤ length plan.now.log.entries }
     ensures value { result ≡ length (ranked_at plan.now bound tears cut) }
-    ensures small { result ≤ 6148914691236517888 }
+    ensures small { result ≤ 10133122354407015525 }
 {
     ways_within(fates_of(tears), bound, plan.volatile(cut))
 }

@@ -3,7 +3,7 @@ use Rattle.std.proofs.lemmas.Option.{slice_get_within, slice_get_past, slice_get
 use Rattle.epochs.specs.Units.{volatile_units}
 use Rattle.epochs.specs.Cuts.{cuts_of}
 use Rattle.choices.specs.declared.pick.Pick.{Pick}
-use Rattle.choices.specs.Picks.{ArePicks}
+use Rattle.choices.specs.Picks.{ArePicks, most_fates}
 use Rattle.choices.specs.Choices.{ChoiceValue, choice_of, departure_of}
 use Rattle.choices.proofs.Plans.{stands, same_step, stepped_on, new_picks, moved_on, at_last, choice_is}
 use Rattle.choices.proofs.ranked.next.Goals as goal
@@ -31,7 +31,7 @@ departures_of-choice-inside-requires-clause-picks c =
     let at = c.requires.member in
     let so = stands _ _ _ at.0 _ (at.1 ∙ ap (λ (v : ChoiceValue). Some v) (sym c.choice.view_is)) in
     let step = same_step _ _ _ _ _ _ _ c.fates_of.ensures.value c.volatile.ensures.value (c.if-step.ensures.moved refl) in
-    let P : List Pick → Type 0 = λ ps. ArePicks 8 (length (volatile_units c.args.plan.now.log.entries c.choice.inside.cut)) ps in
+    let P : List Pick → Type 0 = λ ps. ArePicks most_fates (length (volatile_units c.args.plan.now.log.entries c.choice.inside.cut)) ps in
     subst P (sym c.as_slice.ensures.value) (new_picks _ _ _ _ _ _ so step)
 
 pub returns-then-step-clause-moved : goal.returns-then-step-clause-moved

@@ -1,5 +1,5 @@
 use Rattle.std.proofs.Common.{sym, arith, ◌≡◌}
-use Rattle.choices.proofs.Counts.{ways_zero, ways_one, ways_two, ways_three, cube_le}
+use Rattle.choices.proofs.Counts.{ways_zero, ways_one, ways_two, ways_three, line_le, square_le, cube_le}
 use Rattle.choices.proofs.ways.ways.Goals as goal
 
 pub overflow_mul-result-in_default-3 : goal.overflow_mul-result-in_default-3
@@ -23,3 +23,12 @@ returns-in_default-clause-value c =
 pub returns-in_default-clause-bound : goal.returns-in_default-clause-bound
 returns-in_default-clause-bound c =
     cube_le c.from-fates.result c.triples.result (omega (arith, c.from-fates.ensures, c.requires.fates)) c.triples.ensures.bound
+
+pub returns-in-1-clause-few : goal.returns-in-1-clause-few
+returns-in-1-clause-few c = λ _. line_le c.from-fates.result c.from.result (omega (arith, c.from-fates.ensures, c.requires.fates)) (omega (arith, c.from.ensures, c.requires.units))
+
+pub returns-in-2-clause-few : goal.returns-in-2-clause-few
+returns-in-2-clause-few c = λ _. square_le c.from-fates.result c.pairs.result (omega (arith, c.from-fates.ensures, c.requires.fates)) c.pairs.ensures.bound
+
+pub returns-in_default-clause-few : goal.returns-in_default-clause-few
+returns-in_default-clause-few c = λ few. absurd (omega (arith, few, c.in_default, c.requires.size))
