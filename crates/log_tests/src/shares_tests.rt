@@ -1,10 +1,10 @@
-//! Boards of two blocks with two seats.
+//! Boards with two seats, and hands.
 
 ghost use Rattle.std.specs.Prelude.{◌≡◌, ◌<◌, [], ◌∷◌, IfOk};
 
 use base::causes::WorkCause;
 use base::refusal::Refusal;
-use shares::{Board, Seat};
+use shares::{Board, Deal, Seat, hands};
 use std::alloc::{AllocError, Global};
 use std::test::Fail;
 
@@ -14,11 +14,11 @@ fn shared<T: Sync>(_value: &T) {}
 /// Accepts what may be handed to another thread.
 fn handed_over<T: Send>(_value: &T) {}
 
-/// A board of two blocks with its two seats.
-fn board_of_two(alloc: Global) -> Result<(Board, Seat, Seat), Fail>
-    ensures { IfOk result (λ made. (made.1.board ≡ made.0.name) × (made.2.board ≡ made.0.name)) }
+/// A board of so many blocks with its two seats.
+fn board_of(alloc: Global, blocks: u32) -> Result<(Board, Seat, Seat), Fail>
+    ensures { IfOk result (λ made. (made.0.name.blocks ≡ blocks) × (made.1.board ≡ made.0.name) × (made.2.board ≡ made.0.name)) }
 {
-    let (board, seats) = Board::new(alloc, 2, 2)?;
+    let (board, seats) = Board::new(alloc, blocks, 2)?;
     let mut seats = seats.into_iter();
     let first = seats.next().ok_or("a first seat")?;
     let second = seats.next().ok_or("a second seat")?;
@@ -41,7 +41,7 @@ fn refused(cause: WorkCause, at: u64) -> Result<Option<u64>, Refusal> {
 
 #[test]
 fn each_block_is_drawn_once(rt: HostRuntime) -> Result<(), Fail> {
-    let (board, mut first, mut second) = board_of_two(rt.alloc())?;
+    let (board, mut first, mut second) = board_of(rt.alloc(), 2)?;
     shared(&board);
     handed_over(&first);
     assert_eq!(rt; board.left(&mut first), 2);
@@ -57,11 +57,11 @@ fn each_block_is_drawn_once(rt: HostRuntime) -> Result<(), Fail> {
 
 #[test]
 fn undrawn_blocks_and_missing_seats_are_refused(rt: HostRuntime) -> Result<(), Fail> {
-    let (board, mut first, second) = board_of_two(rt.alloc())?;
+    let (board, mut first, second) = board_of(rt.alloc(), 2)?;
     assert_eq!(rt; board.draw(&mut first), Some(0));
     let seats = both(rt.alloc(), first, second)?;
     assert_eq!(rt; board.gather(seats), refused(WorkCause::PieceMissing, 1));
-    let (board, first, _second) = board_of_two(rt.alloc())?;
+    let (board, first, _second) = board_of(rt.alloc(), 2)?;
     let mut seats = Vec::new(rt.alloc());
     seats.push(first)?;
     assert_eq!(rt; board.gather(seats), refused(WorkCause::SeatsMissing, 1));
@@ -72,7 +72,7 @@ fn undrawn_blocks_and_missing_seats_are_refused(rt: HostRuntime) -> Result<(), F
 fn least_of_posts(alloc: Global, one: u64, other: u64) -> Result<(Option<u64>, Option<u64>), Fail>
     requires { (one < 16777216) × (other < 16777216) }
 {
-    let (board, mut first, mut second) = board_of_two(alloc)?;
+    let (board, mut first, mut second) = board_of(alloc, 2)?;
     board.draw(&mut first);
     board.draw(&mut second);
     board.post(&mut first, one);
@@ -89,7 +89,39 @@ fn least_image_posted_is_read(rt: HostRuntime) -> Result<(), Fail> {
     assert_eq!(rt; falling, (Some(17), Some(17)));
     let rising = least_of_posts(rt.alloc(), 17, 20)?;
     assert_eq!(rt; rising, (Some(17), Some(17)));
-    let (board, mut first, _second) = board_of_two(rt.alloc())?;
+    let (board, mut first, _second) = board_of(rt.alloc(), 2)?;
     assert_eq!(rt; board.least(&mut first), None);
+    Ok(())
+}
+
+/// Eight blocks are dealt out.
+struct Eight;
+
+impl Deal for Eight {
+    ghost blocks = { 8 };
+}
+
+#[test]
+fn hands_draw_ahead_and_steal(rt: HostRuntime) -> Result<(), Fail> {
+    let (board, mut first, mut second) = board_of(rt.alloc(), 8)?;
+    let mut both = hands::<Eight>(rt.alloc(), 2)?.into_iter();
+    let mut own = both.next().ok_or("a first hand")?;
+    let mut other = both.next().ok_or("a second hand")?;
+    handed_over(&own);
+    assert_eq!(rt; own.take(&board, &mut first), Some(0));
+    assert_eq!(rt;
+        board.left(&mut second),
+        4,
+        "three more blocks are drawn for later"
+    );
+    assert_eq!(rt; other.take(&board, &mut second), Some(4));
+    assert_eq!(rt; other.take(&board, &mut second), Some(5));
+    assert_eq!(rt; other.take(&board, &mut second), Some(6));
+    assert_eq!(rt; other.take(&board, &mut second), Some(7));
+    assert_eq!(rt; other.take(&board, &mut second), Some(1));
+    assert_eq!(rt; other.take(&board, &mut second), Some(2));
+    assert_eq!(rt; other.take(&board, &mut second), Some(3));
+    assert_eq!(rt; other.take(&board, &mut second), None);
+    assert_eq!(rt; own.take(&board, &mut first), None);
     Ok(())
 }

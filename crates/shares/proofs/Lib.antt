@@ -1,5 +1,7 @@
--- The proofs of the board rule and of what seats know.
+-- The proofs of the board rule, of what seats know, and of the hands.
 pub mod Lists
 pub mod Moves
 pub mod Ends
 pub mod Seats
+pub mod Deques
+pub mod Takes

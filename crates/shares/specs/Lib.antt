@@ -1,5 +1,7 @@
--- The board of blocks.
+-- The board of blocks, and the hands.
 pub mod Steps
 pub mod Board
 pub mod Moves
 pub mod Seats
+pub mod Deques
+pub mod Hands

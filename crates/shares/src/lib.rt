@@ -1,10 +1,15 @@
-//! What the workers of a run share: the board of blocks.
+//! What the workers of a run share: the board of blocks, and the hands.
 //!
 //! **The board** deals the blocks of a run out to its workers, each block once, and keeps the least
 //! failing image that one of them posted. It is two atomic words, `next` and `least`. Threads share a
 //! `Board` by reference, and each has a `Seat` of its own, which keeps in contracts the steps that were
 //! made with it, in order, each with the number that it found. No call waits for another thread, and
 //! only `Board::new` takes memory.
+//!
+//! **A hand** is a worker's own deque of blocks, which the others may steal from, with the stealers of the
+//! others' deques, and a short list of blocks that its deque had no place for. A worker with a seat and a
+//! hand draws some blocks ahead, and takes from others when no block is left to draw. No worker has a hand
+//! as yet.
 //!
 //! | Call | Its one step | Answer |
 //! |---|---|---|
@@ -14,11 +19,14 @@
 //! | `board.least(&mut seat)` | load of `least` | the least image posted by now |
 //! | `board.left(&mut seat)` | load of `next` | how many blocks nobody drew by now |
 //! | `board.gather(seats)` | | the end of the board: the least image posted, or a refusal |
+//! | `hands(alloc, workers)` | | a hand for each worker, which hold no block |
+//! | `hand.take(&board, &mut seat)` | some, of the board and of deques | the next block for this worker, or none where it found none |
 //!
 //! # Place
 //!
 //! It stands low, on the causes of `base` and on the kit's `atomic_table`, which proves that single
-//! steps on words keep a rule. `workers` stands above it.
+//! steps on words keep a rule, and `crossbeam_deque`, which proves the same of pushes, pops and steals.
+//! `workers` stands above it.
 //!
 //! # What is proved
 //!
@@ -48,9 +56,23 @@
 //!
 //! Nothing is said of the order in time of two threads' calls.
 //!
+//! The rule of a deque (`DequeRule` in `specs/Deques.antt`) holds between any two steps of any threads:
+//! what it gave out and still holds is what its owner pushed, in that order; what it gave out is what its
+//! owner popped and the others stole, each as often; and each is below the number of blocks. Contracts see
+//! a hand as its list, the blocks that it pushed, and those that it popped or stole (`specs/Hands.antt`).
+//!
+//! - `take` speaks of its own hand and seat. The list before, the blocks that the seat drew, at most four,
+//!   and the block that the hand popped or stole, if any, are together, each as often, the answer, what it
+//!   pushed, and the list after. A block popped or stolen is the answer, and nothing is posted.
+//! - It gives none only where its list was empty and its draw found no block.
+//!
+//! In which order it looks for a block, and that the other hands are asked, is tested. No clause speaks of
+//! two hands together.
+//!
 //! # How it is written
 //!
-//! `view` has what a seat knows, `rule` the rule and what each kind of step tells, and `board` the calls.
+//! `view` has what a seat knows, `rule` the rule and what each kind of step tells, and `board` the calls;
+//! `deque` has what a port of a deque knows, its rule and its steps, and `hand` the calls of hands.
 //! Each seat has one part of the right to know the whole. `gather` joins the seats into one, and who has
 //! every part knows that nobody else drew or posted: one load of each word then tells the rest.
 //!
@@ -64,11 +86,23 @@
 //! board.least(&mut second)                // Some(20)
 //! board.gather(seats)                     // Ok(Some(20))
 //! ```
+//!
+//! Of eight blocks, by two hands on one thread: the first `take` draws 0 to 3, and the other hand steals
+//! three of them.
+//!
+//! ```text
+//! own.take(&board, &mut first)            // Some(0)
+//! other.take(&board, &mut second)         // Some(4), then 5, 6, 7, 1, 2, 3, and None
+//! ```
 #![tactic(auto)]
 
 mod board;
+mod deque;
+mod hand;
 mod rule;
 mod view;
 
 pub use board::{Board, Seat};
+pub use deque::{Deal, Port};
+pub use hand::{Hand, hands};
 pub use view::SeatStep;

@@ -1,0 +1,6 @@
+use Rattle.std.proofs.Common.{◌≡◌, ◌≤◌, length}
+use Rattle.shares.specs.Hands.{IsStocked}
+use Rattle.shares.proofs.hand.Hand.stock.Given as goal
+
+abbrev pub invariant-loop-more : goal.invariant-loop-more
+invariant-loop-more g l = (l.seat.board ≡ l.board.name) × (length l.self.list ≤ l.more) × IsStocked l.more l.initial.self l.initial.seat l.self l.seat

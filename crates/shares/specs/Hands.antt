@@ -1,0 +1,62 @@
+-- The hands of the workers, as contracts see them, and what a take is.
+use Rattle.std.specs.Prelude.{◌≡◌, ℕ, ◌+◌, ◌≤◌, ◌⊎◌, List, [], ◌∷◌, ◌++◌, length}
+use Rattle.shares.specs.declared.view.SeatStep.{SeatStep}
+use Rattle.shares.specs.Steps.{posts}
+use Rattle.shares.specs.Seats.{SeatValue, taken, times}
+
+-- a hand: its own list, the blocks that it pushed on its deque, in order, and those that it popped or stole
+pub record HandValue : Type 0 where
+  pub list : List ℕ
+  pub pushed : List ℕ
+  pub got : List ℕ
+
+abbrev pub hand_value : List ℕ → List ℕ → List ℕ → HandValue
+hand_value list pushed got = record { list = list; pushed = pushed; got = got }
+
+-- the second list has those blocks more, each as often
+abbrev pub HasMore : List ℕ → List ℕ → List ℕ → Type 0
+HasMore before more after = (x : ℕ) → times x after ≡ times x before + times x more
+
+-- the steps that came to the first ones, none of which posts an image
+pub record PostsNothing (before after : List SeatStep) : Type 0 where
+  pub made : List SeatStep
+  pub steps : after ≡ before ++ made
+  pub silent : (image : ℕ) → posts image made ≡ 0
+
+-- a block of its own that a hand gives: it stood first in its list, or was popped
+abbrev pub GivesOwn : HandValue → ℕ → HandValue → Type 0
+GivesOwn before block after =
+    (after.pushed ≡ before.pushed)
+    × (((before.list ≡ block ∷ after.list) × (after.got ≡ before.got)) ⊎ ((after.list ≡ before.list) × HasMore before.got (block ∷ []) after.got))
+
+-- a block that a hand keeps: it is pushed on its deque, or put into its list
+abbrev pub KeepsBlock : HandValue → ℕ → HandValue → Type 0
+KeepsBlock before block after =
+    (after.got ≡ before.got)
+    × (((after.pushed ≡ before.pushed ++ block ∷ []) × (after.list ≡ before.list)) ⊎ ((after.pushed ≡ before.pushed) × (after.list ≡ before.list ++ block ∷ [])))
+
+-- a hand keeps the blocks that its seat drew, at most so many
+pub record IsStocked (most : ℕ) (before : HandValue) (seat : SeatValue) (after : HandValue) (seat_after : SeatValue) : Type 0 where
+  pub drawn : List ℕ
+  pub pushed : List ℕ
+  pub draws : taken seat_after ≡ taken seat ++ drawn
+  pub few : length drawn ≤ most
+  pub pushes : after.pushed ≡ before.pushed ++ pushed
+  pub gets : after.got ≡ before.got
+  pub together : (x : ℕ) → times x before.list + times x drawn ≡ times x pushed + times x after.list
+  pub quiet : PostsNothing seat.steps seat_after.steps
+
+-- what a take of a hand with its seat at the board is: the list before, the blocks that the seat drew, and the block that the hand
+-- popped or stole, if any, are together, each as often, the answer, what it pushed, and the list after
+pub record IsTake (before : HandValue) (seat : SeatValue) (answer : List ℕ) (after : HandValue) (seat_after : SeatValue) : Type 0 where
+  pub drawn : List ℕ
+  pub pushed : List ℕ
+  pub got : List ℕ
+  pub draws : taken seat_after ≡ taken seat ++ drawn
+  pub few : length drawn ≤ 4
+  pub pushes : after.pushed ≡ before.pushed ++ pushed
+  pub gets : HasMore before.got got after.got
+  -- a block that was popped or stolen is the answer
+  pub given : (got ≡ []) ⊎ (got ≡ answer)
+  pub together : (x : ℕ) → times x before.list + times x drawn + times x got ≡ times x answer + times x pushed + times x after.list
+  pub quiet : PostsNothing seat.steps seat_after.steps
