@@ -21,6 +21,7 @@ use Rattle.images.specs.Changes.{change_at, changes, with_sector, whole_image, i
 use Rattle.images.proofs.Entries.{unit_of_entry}
 use Rattle.images.proofs.Rows.{all_units}
 use Rattle.images.proofs.Members.{volatile_unit}
+use Rattle.images.proofs.Kept.{lost_departs}
 use Rattle.images.proofs.Tears.{some_departure, one_sector}
 use Rattle.images.proofs.Sectors.{view_there, base_there}
 use Rattle.images.proofs.Listed.{change_alike, changes_alike, changes_of_key, one_sector_less}
@@ -46,7 +47,7 @@ writes_alike log cut ds n i u bounds unit volatile others =
     λ b. elim b as (λ c. survives ds i u ≡ c → ((u.sector == n) && survives [] i u) ≡ ((u.sector == n) && survives ds i u)) [
       | true ↦ λ e. ap (λ c. (u.sector == n) && c) (none ∙ sym e)
       | false ↦ λ e.
-          let departs = some_departure ds u i e in
+          let departs = some_departure ds u (lost_departs ds u i e) in
           let d = departs.1 in
           let same : d.unit.sector ≡ u.sector =
           one_sector log d.unit u (volatile_unit log cut d.unit bounds (volatile departs.0 d departs.2)) unit departs.3 in

@@ -9,9 +9,8 @@ use Rattle.epochs.specs.declared.unit.Unit.{Unit as LogUnit}
 use Rattle.epochs.specs.Laws.{last_flush}
 use Rattle.epochs.specs.Plan.{IsUnit}
 use Rattle.epochs.specs.Units.{units_before, unit_content, epoch_at}
-use Rattle.images.specs.Images.{sector_after}
+use Rattle.images.specs.Images.{departures_of, sector_after}
 use Rattle.images.specs.Keys.{ChangedValue}
-use Rattle.images.specs.Laws.{departures_of}
 use Rattle.images.specs.Changes.{changes, changes_between, with_sector, whole_image, IsKnown}
 use Rattle.images.proofs.Bases.{one_flush_of}
 use Rattle.images.proofs.Entries.{units_up_to}

@@ -1,7 +1,7 @@
 -- A unit that is laid over what the units before it have left.
-use Rattle.std.proofs.Common.{ℕ, ◌≡◌, ◌≢◌, ◌+◌, ◌-◌, ◌*◌, ◌<◌, ◌≤◌, false, nat_lt, ◌&&◌, if◌then◌else◌, List, [], ◌∷◌, ◌++◌, length, map, take, drop, refl, sym, ◌∙◌, ap, arith, inl, inr}
+use Rattle.std.proofs.Common.{ℕ, ◌≡◌, ◌≢◌, ◌+◌, ◌-◌, ◌*◌, ◌<◌, ◌≤◌, Bool, false, nat_lt, nat_le, ◌&&◌, if◌then◌else◌, List, [], ◌∷◌, ◌++◌, length, map, take, drop, refl, sym, ◌∙◌, ap, arith, inl, inr}
 use Rattle.std.specs.List.{range_with_len, slice_index}
-use Rattle.std.proofs.lemmas.Bool.{cases_lt, lt-ltb, le-ltb, eq-eqb, ne_eqb}
+use Rattle.std.proofs.lemmas.Bool.{cases_lt, lt-ltb, le-ltb, lt-leb, le-leb, eq-eqb, ne_eqb}
 use Rattle.std.proofs.lemmas.Grind.{same_number_lists}
 use Rattle.std.proofs.lemmas.List.{length-append, length-take-le, length-drop, get_or-take, get_or-drop, get_or_append_left, get_or-append_right}
 use Rattle.std.proofs.lemmas.List.FromFn.{length-map-range_with_len, get_or-map-range_with_len}
@@ -29,7 +29,7 @@ sector_elsewhere es us u ds s other =
     ap (λ (f : ℕ → ℕ). map f (range_with_len 0 512)) (λ j i. sym (byte_after_lost es us u ds s i (writes_elsewhere ds s i u other)) j)
 
 -- a byte of a spliced sector
-spliced_byte : (new old : List ℕ) (m i : ℕ) → m ≤ length new → slice_index (take m new ++ drop m old) i ≡ (if nat_lt i m then slice_index new i else slice_index old i)
+pub spliced_byte : (new old : List ℕ) (m i : ℕ) → m ≤ length new → slice_index (take m new ++ drop m old) i ≡ (if nat_lt i m then slice_index new i else slice_index old i)
 spliced_byte new old m i le =
     let long : length (take m new) ≡ m = length-take-le m new le in
     elim (cases_lt i m) [
@@ -42,28 +42,60 @@ spliced_byte new old m i le =
           ∙ ap (λ b. if b then slice_index new i else slice_index old i) (sym (le-ltb i m past))
     ]
 
--- its own sector is spliced
-pub sector_here : (es : List Entry) (us : List LogUnit) (u : LogUnit) (ds : List Departure) (new old : List ℕ) (n : ℕ) → n ≤ 8
-    → new ≡ unit_content es u → length new ≡ 512 → old ≡ sector_after es us ds u.sector
-    → ((i : ℕ) → i < 512 → survives ds i u ≡ nat_lt i (64 * n))
-    → take (64 * n) new ++ drop (64 * n) old ≡ sector_after es (us ++ u ∷ []) ds u.sector
+-- its own sector has the bytes of the unit that survive, and else those of before
+pub sector_laid : (es : List Entry) (us : List LogUnit) (u : LogUnit) (ds : List Departure) (new old made : List ℕ) (kept : ℕ → Bool)
+    → new ≡ unit_content es u → old ≡ sector_after es us ds u.sector → length made ≡ 512
+    → ((i : ℕ) → i < 512 → survives ds i u ≡ kept i)
+    → ((i : ℕ) → i < 512 → slice_index made i ≡ (if kept i then slice_index new i else slice_index old i))
+    → made ≡ sector_after es (us ++ u ∷ []) ds u.sector
 unfolding sector_after
-sector_here es us u ds new old n le content long below kept =
+sector_laid es us u ds new old made kept content below size survived bytes =
     let byte : ℕ → ℕ = byte_after es (us ++ u ∷ []) ds u.sector in
     let old_byte : ℕ → ℕ = byte_after es us ds u.sector in
-    let old_long : length old ≡ 512 = ap length below ∙ length-map-range_with_len old_byte 0 512 in
-    let size : length (take (64 * n) new ++ drop (64 * n) old) ≡ 512 =
-    omega (arith, length-append (take (64 * n) new) (drop (64 * n) old), length-take-le (64 * n) new (omega (arith, long, le)), length-drop (64 * n) old, old_long, le) in
     same_number_lists _ _ (size ∙ sym (length-map-range_with_len byte 0 512)) (λ i lt.
     let within : i < 512 = omega (arith, lt, size) in
     let here : 0 + i ≡ i = omega arith in
-    spliced_byte new old (64 * n) i (omega (arith, long, le))
-    ∙ ap (λ x. if nat_lt i (64 * n) then x else slice_index old i) (ap (λ xs. slice_index xs i) content)
-    ∙ ap (λ x. if nat_lt i (64 * n) then slice_index (unit_content es u) i else x)
+    bytes i within
+    ∙ ap (λ x. if kept i then x else slice_index old i) (ap (λ xs. slice_index xs i) content)
+    ∙ ap (λ x. if kept i then slice_index (unit_content es u) i else x)
     (ap (λ xs. slice_index xs i) below ∙ get_or-map-range_with_len old_byte 0 512 i i 0 within here)
-    ∙ ap (λ b. if b then slice_index (unit_content es u) i else old_byte i) (sym (writes_here ds i u ∙ kept i within))
+    ∙ ap (λ b. if b then slice_index (unit_content es u) i else old_byte i) (sym (writes_here ds i u ∙ survived i within))
     ∙ sym (byte_after-push es us u ds u.sector i)
     ∙ sym (get_or-map-range_with_len byte 0 512 i i 0 within here))
+
+-- two sectors spliced behind n eighths
+pub spliced_size : (front behind : List ℕ) (n : ℕ) → n ≤ 8 → length front ≡ 512 → length behind ≡ 512
+    → length (take (64 * n) front ++ drop (64 * n) behind) ≡ 512
+spliced_size front behind n le first second =
+    omega (arith, length-append (take (64 * n) front) (drop (64 * n) behind), length-take-le (64 * n) front (omega (arith, first, le)), length-drop (64 * n) behind, second, le)
+
+-- the tests for a byte of the head and of the tail
+other_part : (m i : ℕ) (x y : ℕ) → (if nat_lt i m then y else x) ≡ (if nat_le m i then x else y)
+other_part m i x y = elim (cases_lt i m) [
+  | inl lt ↦ ap (λ b. if b then y else x) (lt-ltb i m lt) ∙ sym (ap (λ b. if b then x else y) (lt-leb m i lt))
+  | inr le ↦ ap (λ b. if b then y else x) (le-ltb i m le) ∙ sym (ap (λ b. if b then x else y) (le-leb m i le))
+]
+
+pub tail_byte : (new old : List ℕ) (m i : ℕ) → m ≤ length old → slice_index (take m old ++ drop m new) i ≡ (if nat_le m i then slice_index new i else slice_index old i)
+tail_byte new old m i le = spliced_byte old new m i le ∙ other_part m i (slice_index new i) (slice_index old i)
+
+-- its head of n eighths survives
+pub sector_here : (es : List Entry) (us : List LogUnit) (u : LogUnit) (ds : List Departure) (new old : List ℕ) (n : ℕ) → n ≤ 8
+    → new ≡ unit_content es u → length new ≡ 512 → old ≡ sector_after es us ds u.sector → length old ≡ 512
+    → ((i : ℕ) → i < 512 → survives ds i u ≡ nat_lt i (64 * n))
+    → take (64 * n) new ++ drop (64 * n) old ≡ sector_after es (us ++ u ∷ []) ds u.sector
+sector_here es us u ds new old n le content long below old_long kept =
+    sector_laid es us u ds new old (take (64 * n) new ++ drop (64 * n) old) (λ i. nat_lt i (64 * n)) content below (spliced_size new old n le long old_long) kept
+    (λ i lt. spliced_byte new old (64 * n) i (omega (arith, long, le)))
+
+-- its tail behind n eighths survives
+pub tail_here : (es : List Entry) (us : List LogUnit) (u : LogUnit) (ds : List Departure) (new old : List ℕ) (n : ℕ) → n ≤ 8
+    → new ≡ unit_content es u → length new ≡ 512 → old ≡ sector_after es us ds u.sector → length old ≡ 512
+    → ((i : ℕ) → i < 512 → survives ds i u ≡ nat_le (64 * n) i)
+    → take (64 * n) old ++ drop (64 * n) new ≡ sector_after es (us ++ u ∷ []) ds u.sector
+tail_here es us u ds new old n le content long below old_long kept =
+    sector_laid es us u ds new old (take (64 * n) old ++ drop (64 * n) new) (λ i. nat_le (64 * n) i) content below (spliced_size old new n le old_long long) kept
+    (λ i lt. tail_byte new old (64 * n) i (omega (arith, old_long, le)))
 
 -- laying units keeps the number of sectors
 pub length-device_after : (sectors : ℕ) (es : List Entry) (us : List LogUnit) (ds : List Departure) → length (device_after sectors es us ds) ≡ sectors

@@ -1,5 +1,5 @@
 -- Lemmas of the crate.
-pub mod Eighths
+pub mod Kept
 pub mod Writers
 pub mod Laying
 pub mod Blank

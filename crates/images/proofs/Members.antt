@@ -1,11 +1,13 @@
 -- The view of a choice: its cut is one of the log, and its parts are as they are to be.
-use Rattle.std.proofs.Common.{ℕ, suc, ◌≡◌, ◌+◌, ◌<◌, ◌≤◌, List, length, map, slice_get, slice_index_or, Some, None, ap, sym, subst, ◌∙◌, inl, inr, arith}
+use Rattle.std.proofs.Common.{ℕ, suc, ◌≡◌, ◌+◌, ◌<◌, ◌≤◌, ◌==◌, Bool, true, false, cond, ◌&&◌, List, [], ◌∷◌, length, map, slice_get, slice_index_or, Some, None, refl, ap, sym, subst, ◌∙◌, inl, inr, arith}
+use Rattle.std.specs.Cmp.{first_so, second_so}
 use Rattle.std.specs.Option.{option_map}
+use Rattle.std.proofs.lemmas.Bool.{eqb-true, ne_eqb}
 use Rattle.std.proofs.lemmas.Option.{slice_get_cases, slice_get-map, slice_get-get_or, same_Some}
 use Rattle.logfmt.specs.Bounds.{LogValue, IsLog}
 use Rattle.epochs.specs.declared.unit.Unit.{Unit as LogUnit}
 use Rattle.epochs.specs.Units.{epoch_at, marks_at, volatile_units}
-use Rattle.epochs.specs.Laws.{IsVolatile}
+use Rattle.epochs.specs.Laws.{IsVolatile, Precedes as UnitPrecedes}
 use Rattle.epochs.specs.Plan.{PlanValue, IsUnit}
 use Rattle.epochs.proofs.Sets.{volatile_is_set}
 use Rattle.choices.specs.declared.pick.Pick.{Pick}
@@ -14,10 +16,13 @@ use Rattle.choices.specs.Choices.{ChoiceValue, choice_of, departure_of, nowhere,
 use Rattle.choices.specs.Picks.{fates_of, ArePicks}
 use Rattle.choices.proofs.Following.{fewer_picks}
 use Rattle.choices.proofs.Plans.{goes, Goes, fates_low, wanted_within}
+use Rattle.choices.proofs.CrashModel.{ranked_is_model}
 use Rattle.choices.specs.declared.choice.Departure.{Departure}
 use Rattle.images.specs.declared.torn.TornSector.{TornSector}
 use Rattle.images.specs.Views.{IsMember}
-use Rattle.images.specs.Table.{AreVolatile, AreTorn, IsView}
+use Rattle.images.specs.Table.{AreVolatile, AreTorn, DepartOnce, IsView}
+use Rattle.images.specs.Images.{is_unit, departures_of}
+use Rattle.images.proofs.Kept.{and_false}
 
 -- the cut of a choice of a plan is one of its log
 pub member_cut : (plan : PlanValue) (choice : ChoiceValue) → IsMember plan choice → choice.cut ≤ length plan.log.entries
@@ -60,6 +65,42 @@ member_departs plan choice is =
     departed units at.picks (fates_of is.tears) (λ u. IsVolatile es at.cut u) are set.sound in
     let P : ChoiceValue → Type 0 = λ c. AreVolatile plan.log c.cut c.departures in
     subst P (sym at.is) all
+
+-- departures that rise by unit are of different units
+other_unit : (a b u : LogUnit) → UnitPrecedes a b → is_unit a u ≡ true → is_unit b u ≡ false
+other_unit a b u less same =
+    let entry : a.entry ≡ u.entry = eqb-true a.entry u.entry (first_so (a.entry == u.entry) (a.place == u.place) same) in
+    let place : a.place ≡ u.place = eqb-true a.place u.place (second_so (a.entry == u.entry) (a.place == u.place) same) in
+    elim less [
+      | inl earlier ↦ ap (λ c. c && (b.place == u.place)) (ne_eqb b.entry u.entry (λ e. omega (arith, earlier, entry, e)))
+      | inr before ↦
+          ap (λ c. (b.entry == u.entry) && c) (ne_eqb b.place u.place (λ e. let lt = before.1 in omega (arith, lt, place, e))) ∙ and_false (b.entry == u.entry)
+    ]
+
+none_of : (ds : List Departure) (u : LogUnit) → ((i : ℕ) (d : Departure) → slice_get ds i ≡ Some d → is_unit d.unit u ≡ false) → departures_of ds u ≡ []
+unfolding departures_of
+none_of [] u other = refl
+none_of (d ∷ ds) u other =
+    ap (λ c. cond c (d ∷ departures_of ds u) (departures_of ds u)) (other 0 d refl) ∙ none_of ds u (λ i e there. other (suc i) e there)
+
+rise_once : (ds : List Departure) → ((i j : ℕ) (c d : Departure) → i < j → slice_get ds i ≡ Some c → slice_get ds j ≡ Some d → UnitPrecedes c.unit d.unit)
+    → DepartOnce ds
+unfolding departures_of
+rise_once [] rising u = omega arith
+rise_once (d ∷ ds) rising u =
+    let by : (b : Bool) → is_unit d.unit u ≡ b → length (cond b (d ∷ departures_of ds u) (departures_of ds u)) ≤ 1 =
+    λ b. elim b as (λ c. is_unit d.unit u ≡ c → length (cond c (d ∷ departures_of ds u) (departures_of ds u)) ≤ 1) [
+      | true ↦ λ own.
+          let none = none_of ds u (λ i e there. other_unit d.unit e.unit u (rising 0 (suc i) d e (omega arith) refl there) own) in
+          let long : length (d ∷ departures_of ds u) ≡ 1 = ap (λ (es : List Departure). length (d ∷ es)) none in
+          omega (arith, long)
+      | false ↦ λ e. rise_once ds (λ i j a c lt first second. rising (suc i) (suc j) a c (omega (arith, lt)) first second) u
+    ] in
+    by (is_unit d.unit u) refl
+
+-- in a choice each unit departs at most once
+pub member_once : (plan : PlanValue) (choice : ChoiceValue) → IsMember plan choice → DepartOnce choice.departures
+member_once plan choice is = rise_once choice.departures ((ranked_is_model plan is.bound is.tears).sound is.number choice is.there).rising
 
 -- a volatile unit is one of the log
 pub volatile_unit : (log : LogValue) (k : ℕ) (u : LogUnit) → IsLog log → IsVolatile log.entries k u → IsUnit log u

@@ -1,7 +1,6 @@
 -- The unit that shows in a sector, and what it leaves there.
-use Rattle.std.proofs.Common.{ℕ, suc, ◌≡◌, ◌+◌, ◌-◌, ◌*◌, ◌<◌, ◌≤◌, ◌==◌, nat_lt, Bool, true, false, not, ◌&&◌, ◌||◌, cond, if◌then◌else◌, List, [], ◌∷◌, ◌++◌, length, filter, take, slice_get, slice_index_or, Some, None, refl, sym, subst, ◌∙◌, ap, inl, inr, arith, append_assoc}
+use Rattle.std.proofs.Common.{ℕ, suc, ◌≡◌, ◌+◌, ◌-◌, ◌<◌, ◌≤◌, ◌==◌, Bool, true, false, ◌&&◌, cond, if◌then◌else◌, List, [], ◌∷◌, ◌++◌, length, filter, take, slice_get, slice_index_or, Some, None, refl, sym, subst, ◌∙◌, ap, inl, inr, arith, append_assoc}
 use Rattle.std.specs.List.{last_or, slice_index}
-use Rattle.std.proofs.lemmas.Bool.{cases_lt, lt-ltb, le-ltb}
 use Rattle.std.proofs.lemmas.Bool.Decides.{eqb_tells}
 use Rattle.std.proofs.lemmas.Grind.{same_number_lists}
 use Rattle.std.proofs.lemmas.List.{append-nil}
@@ -12,11 +11,10 @@ use Rattle.base.proofs.Lists.{slice_get-append_left, slice_get-push, take-suc_pl
 use Rattle.logfmt.specs.declared.entry.Entry.{Entry}
 use Rattle.epochs.specs.declared.unit.Unit.{Unit as LogUnit}
 use Rattle.epochs.specs.Units.{unit_content}
-use Rattle.choices.specs.declared.fate.Fate.{Fate}
-use Rattle.choices.specs.declared.fate.Fate.TheVariants as fate
 use Rattle.choices.specs.declared.choice.Departure.{Departure}
-use Rattle.images.specs.Images.{is_unit, keeps, survives, writes, byte_after, sector_after}
-use Rattle.images.specs.Table.{covering, showing}
+use Rattle.images.specs.Images.{survives, writes, byte_after, sector_after}
+use Rattle.images.specs.Table.{covering, fate_at, reaches, showing}
+use Rattle.images.proofs.Kept.{whole_survives, dropped_lost}
 use Rattle.images.proofs.Writers.{last_or-push, byte_after_written, byte_after_lost}
 use Rattle.images.proofs.Rows.{covering-push}
 
@@ -30,16 +28,16 @@ last_of us u true = last_or-push None us u
 last_of us u false = ap (last_or None) (append-nil us)
 
 -- one unit more
-showing-push : (ds : List Departure) (us : List LogUnit) (u : LogUnit) → showing ds (us ++ u ∷ []) ≡ (if survives ds 0 u then Some u else showing ds us)
+showing-push : (ds : List Departure) (us : List LogUnit) (u : LogUnit) → showing ds (us ++ u ∷ []) ≡ (if reaches ds u then Some u else showing ds us)
 unfolding showing
 showing-push ds us u =
-    ap (last_or None) (filter-append (survives ds 0) us (u ∷ [])) ∙ last_of (filter (survives ds 0) us) u (survives ds 0 u)
+    ap (last_or None) (filter-append (reaches ds) us (u ∷ [])) ∙ last_of (filter (reaches ds) us) u (reaches ds u)
 
--- one unit more: it shows where something of it survives, else what showed before
-pub showing_own : (ds : List Departure) (us : List LogUnit) (u : LogUnit) → survives ds 0 u ≡ true → showing ds (us ++ u ∷ []) ≡ Some u
+-- one unit more: it shows where something of it reaches the device, else what showed before
+pub showing_own : (ds : List Departure) (us : List LogUnit) (u : LogUnit) → reaches ds u ≡ true → showing ds (us ++ u ∷ []) ≡ Some u
 showing_own ds us u kept = showing-push ds us u ∙ ap (λ b. if b then Some u else showing ds us) kept
 
-pub showing_other : (ds : List Departure) (us : List LogUnit) (u : LogUnit) → survives ds 0 u ≡ false → showing ds (us ++ u ∷ []) ≡ showing ds us
+pub showing_other : (ds : List Departure) (us : List LogUnit) (u : LogUnit) → reaches ds u ≡ false → showing ds (us ++ u ∷ []) ≡ showing ds us
 showing_other ds us u lost = showing-push ds us u ∙ ap (λ b. if b then Some u else showing ds us) lost
 
 -- a row from its end
@@ -50,16 +48,16 @@ step_back row left d some le =
     ap (λ n. take n row) back ∙ take-suc_place row (left - 1) (slice_index_or row (left - 1) d) (slice_get-get_or row (left - 1) d (omega (arith, some, le)))
 
 -- the search from the last unit back: it shows, it shows not, or none is left
-pub found : (ds : List Departure) (row : List LogUnit) (left n : ℕ) (d : LogUnit) → 0 < left → left ≤ length row → showing ds (take left row) ≡ showing ds row
-    → survives ds 0 (slice_index_or row (left - 1) d) ≡ nat_lt 0 (64 * n) → 0 < n → Some (slice_index_or row (left - 1) d) ≡ showing ds row
-found ds row left n d some le was kept more =
-    sym (showing_own ds (take (left - 1) row) (slice_index_or row (left - 1) d) (kept ∙ lt-ltb 0 (64 * n) (omega (arith, more))))
+pub found : (ds : List Departure) (row : List LogUnit) (left : ℕ) (d : LogUnit) → 0 < left → left ≤ length row → showing ds (take left row) ≡ showing ds row
+    → reaches ds (slice_index_or row (left - 1) d) ≡ true → Some (slice_index_or row (left - 1) d) ≡ showing ds row
+found ds row left d some le was kept =
+    sym (showing_own ds (take (left - 1) row) (slice_index_or row (left - 1) d) kept)
     ∙ ap (showing ds) (sym (step_back row left d some le)) ∙ was
 
-pub passed : (ds : List Departure) (row : List LogUnit) (left n : ℕ) (d : LogUnit) → 0 < left → left ≤ length row → showing ds (take left row) ≡ showing ds row
-    → survives ds 0 (slice_index_or row (left - 1) d) ≡ nat_lt 0 (64 * n) → n ≤ 0 → showing ds (take (left - 1) row) ≡ showing ds row
-passed ds row left n d some le was kept none =
-    sym (showing_other ds (take (left - 1) row) (slice_index_or row (left - 1) d) (kept ∙ le-ltb 0 (64 * n) (omega (arith, none))))
+pub passed : (ds : List Departure) (row : List LogUnit) (left : ℕ) (d : LogUnit) → 0 < left → left ≤ length row → showing ds (take left row) ≡ showing ds row
+    → reaches ds (slice_index_or row (left - 1) d) ≡ false → showing ds (take (left - 1) row) ≡ showing ds row
+passed ds row left d some le was lost =
+    sym (showing_other ds (take (left - 1) row) (slice_index_or row (left - 1) d) lost)
     ∙ ap (showing ds) (sym (step_back row left d some le)) ∙ was
 
 nobody_shows : (ds : List Departure) → None ≡ showing ds []
@@ -71,43 +69,10 @@ none_left ds row left none was =
     let end : left ≡ 0 = omega (arith, none) in
     nobody_shows ds ∙ sym (ap (λ n. showing ds (take n row)) end) ∙ was
 
--- a byte that reaches the device has those before it with it
-keeps_down : (f : Fate) (i j : ℕ) → j ≤ i → keeps f i ≡ true → keeps f j ≡ true
-keeps_down fate.Drop i j le h = h
-keeps_down (fate.Head t) i j le h = elim (cases_lt j (64 * t)) [
-  | inl lt ↦ lt-ltb j (64 * t) lt
-  | inr past ↦ absurd (let bad : false ≡ true = sym (le-ltb i (64 * t) (omega (arith, past, le))) ∙ h in cc)
-]
-
-either_down : (b k l : Bool) → (k ≡ true → l ≡ true) → (b || k) ≡ true → (b || l) ≡ true
-either_down true k l down h = refl
-either_down false k l down h = down h
-
-both_down : (a b c d : Bool) → (a ≡ true → c ≡ true) → (b ≡ true → d ≡ true) → (a && b) ≡ true → (c && d) ≡ true
-both_down true b c d first rest h = ap (λ e. e && d) (first refl) ∙ rest h
-both_down false b c d first rest h = absurd (let bad : false ≡ true = h in cc)
-
-survives_down : (ds : List Departure) (u : LogUnit) (i j : ℕ) → j ≤ i → survives ds i u ≡ true → survives ds j u ≡ true
-unfolding survives
-survives_down [] u i j le h = refl
-survives_down (d ∷ ds) u i j le h =
-    both_down (not (is_unit d.unit u) || keeps d.fate i) (survives ds i u) (not (is_unit d.unit u) || keeps d.fate j) (survives ds j u)
-    (either_down (not (is_unit d.unit u)) (keeps d.fate i) (keeps d.fate j) (keeps_down d.fate i j le))
-    (survives_down ds u i j le) h
-
-none_survives : (ds : List Departure) (u : LogUnit) (i : ℕ) → survives ds 0 u ≡ false → survives ds i u ≡ false
-none_survives ds u i lost =
-    let by : (b : Bool) → survives ds i u ≡ b → b ≡ false =
-    λ b. elim b as (λ v. survives ds i u ≡ v → v ≡ false) [
-      | true ↦ λ e. absurd (let bad : false ≡ true = sym lost ∙ survives_down ds u i 0 (omega arith) e in cc)
-      | false ↦ λ e. refl
-    ] in
-    by (survives ds i u) refl
-
 -- what the unit that shows leaves, of the units of a list that cover sector s
 pub record Shows (es : List Entry) (ds : List Departure) (s : ℕ) (vs : List LogUnit) : Type 0 where
   pub nobody : showing ds (covering s vs) ≡ None → (i : ℕ) → byte_after es vs ds s i ≡ 0
-  pub whole : (u : LogUnit) → showing ds (covering s vs) ≡ Some u → survives ds 511 u ≡ true → (i : ℕ) → i < 512 → byte_after es vs ds s i ≡ slice_index (unit_content es u) i
+  pub whole : (u : LogUnit) → showing ds (covering s vs) ≡ Some u → fate_at ds u ≡ None → (i : ℕ) → byte_after es vs ds s i ≡ slice_index (unit_content es u) i
   pub there : (u : LogUnit) → showing ds (covering s vs) ≡ Some u → (j : ℕ) × (slice_get vs j ≡ Some u) × (u.sector ≡ s)
 
 lost : (es : List Entry) (ds : List Departure) (s : ℕ) (vs : List LogUnit) (v : LogUnit)
@@ -115,7 +80,7 @@ lost : (es : List Entry) (ds : List Departure) (s : ℕ) (vs : List LogUnit) (v 
     → Shows es ds s vs → Shows es ds s (vs ++ v ∷ [])
 lost es ds s vs v same off was = record {
   nobody = λ none i. byte_after_lost es vs v ds s i (off i) ∙ was.nobody (sym same ∙ none) i;
-  whole = λ u at full i lt. byte_after_lost es vs v ds s i (off i) ∙ was.whole u (sym same ∙ at) full i lt;
+  whole = λ u at full i. byte_after_lost es vs v ds s i (off i) ∙ was.whole u (sym same ∙ at) full i;
   there = λ u at.
       let old = was.there u (sym same ∙ at) in
       (old.0, slice_get-append_left vs (v ∷ []) old.0 (slice_get_within vs old.0 u old.1) ∙ old.1, old.2);
@@ -125,9 +90,9 @@ own : (es : List Entry) (ds : List Departure) (s : ℕ) (vs : List LogUnit) (v :
     → showing ds (covering s (vs ++ v ∷ [])) ≡ Some v → ((i : ℕ) → writes ds s i v ≡ survives ds i v) → Shows es ds s (vs ++ v ∷ [])
 own es ds s vs v here shows on = record {
   nobody = λ none i. absurd (let bad : None ≡ Some v = sym none ∙ shows in cc);
-  whole = λ u at full i lt.
+  whole = λ u at full i.
       let same : v ≡ u = same_Some v u (sym shows ∙ at) in
-      let kept : survives ds i v ≡ true = survives_down ds v 511 i (omega (arith, lt)) (ap (survives ds 511) same ∙ full) in
+      let kept : survives ds i v ≡ true = whole_survives ds v i (ap (fate_at ds) same ∙ full) in
       byte_after_written es vs v ds s i (on i ∙ kept) ∙ ap (λ x. slice_index (unit_content es x) i) same;
   there = λ u at.
       let same : v ≡ u = same_Some v u (sym shows ∙ at) in
@@ -147,14 +112,14 @@ one_more : (es : List Entry) (ds : List Departure) (s : ℕ) (vs : List LogUnit)
 one_more es ds s vs v was = elim (eqb_tells v.sector s) [
   | inl here ↦
       let row : covering s (vs ++ v ∷ []) ≡ covering s vs ++ v ∷ [] = covering-push s vs v ∙ ap (λ b. covering s vs ++ cond b (v ∷ []) []) here.0 in
-      let by : (b : Bool) → survives ds 0 v ≡ b → Shows es ds s (vs ++ v ∷ []) =
-      λ b. elim b as (λ c. survives ds 0 v ≡ c → Shows es ds s (vs ++ v ∷ [])) [
+      let by : (b : Bool) → reaches ds v ≡ b → Shows es ds s (vs ++ v ∷ []) =
+      λ b. elim b as (λ c. reaches ds v ≡ c → Shows es ds s (vs ++ v ∷ [])) [
         | true ↦ λ e. own es ds s vs v here.1 (ap (showing ds) row ∙ showing_own ds (covering s vs) v e) (λ i. writes_own ds s i v here.0)
         | false ↦ λ e.
             lost es ds s vs v (ap (showing ds) row ∙ showing_other ds (covering s vs) v e)
-            (λ i. writes_own ds s i v here.0 ∙ none_survives ds v i e) was
+            (λ i. writes_own ds s i v here.0 ∙ dropped_lost ds v i e) was
       ] in
-      by (survives ds 0 v) refl
+      by (reaches ds v) refl
   | inr other ↦
       let row : covering s (vs ++ v ∷ []) ≡ covering s vs =
       covering-push s vs v ∙ ap (λ b. covering s vs ++ cond b (v ∷ []) []) other.0 ∙ append-nil (covering s vs) in
@@ -165,7 +130,7 @@ no_unit : (es : List Entry) (ds : List Departure) (s : ℕ) → Shows es ds s []
 unfolding showing covering byte_after
 no_unit es ds s = record {
   nobody = λ none i. refl;
-  whole = λ u at full i lt. absurd (let bad : None ≡ Some u = at in cc);
+  whole = λ u at full i. absurd (let bad : None ≡ Some u = at in cc);
   there = λ u at. absurd (let bad : None ≡ Some u = at in cc);
 }
 

@@ -1,9 +1,8 @@
 -- What units that cover one sector leave on it: the last of them over what the others leave.
-use Rattle.std.proofs.Common.{ℕ, zero, suc, ◌≡◌, ◌≢◌, ◌*◌, ◌<◌, ◌≤◌, ◌==◌, nat_lt, Bool, true, false, not, cond, List, [], ◌∷◌, ◌++◌, length, map, filter, take, drop, replicate, slice_get, Some, None, refl, sym, subst, ◌∙◌, ap, arith}
+use Rattle.std.proofs.Common.{ℕ, zero, suc, ◌≡◌, ◌<◌, ◌≤◌, ◌==◌, Bool, true, false, if◌then◌else◌, cond, List, [], ◌∷◌, ◌++◌, length, map, filter, take, replicate, slice_get, Some, None, refl, sym, subst, ◌∙◌, ap, arith}
 use Rattle.std.specs.List.{last_or, slice_index, range_with_len}
-use Rattle.std.specs.Option.{option_map_or}
-use Rattle.std.proofs.lemmas.Bool.{le-ltb}
-use Rattle.std.proofs.lemmas.List.{append-nil, take_all, drop_all, get_or-replicate, length-replicate}
+use Rattle.std.specs.Option.{option_map_or, is_some}
+use Rattle.std.proofs.lemmas.List.{take_all, get_or-replicate, length-replicate}
 use Rattle.std.proofs.lemmas.Option.{get_or_from_slice_get, slice_get_within}
 use Rattle.base.proofs.Lists.{take-suc_place}
 use Rattle.logfmt.specs.declared.entry.Entry.{Entry}
@@ -11,12 +10,14 @@ use Rattle.logfmt.specs.Bounds.{LogValue, IsLog}
 use Rattle.epochs.specs.declared.unit.Unit.{Unit as LogUnit}
 use Rattle.epochs.specs.Units.{units_before, unit_content}
 use Rattle.epochs.specs.Plan.{IsUnit}
+use Rattle.choices.specs.declared.fate.Fate.{Fate}
 use Rattle.choices.specs.declared.choice.Departure.{Departure}
-use Rattle.images.specs.Images.{survives, writes, byte_after, sector_after}
-use Rattle.images.specs.Whole.{length-sector_after}
-use Rattle.images.specs.Table.{covering, versions, showing, is_torn}
+use Rattle.images.specs.Images.{keeps, writes, byte_after, sector_after}
+use Rattle.images.specs.Table.{covering, versions, DepartOnce, fate_at, showing, is_torn}
 use Rattle.images.proofs.Blank.{zero_sector}
-use Rattle.images.proofs.Laying.{sector_here}
+use Rattle.images.proofs.Fates.{fated_survives}
+use Rattle.images.proofs.Kept.{whole_survives}
+use Rattle.images.proofs.Laying.{sector_laid}
 use Rattle.images.proofs.Rows.{units_of_log}
 use Rattle.images.proofs.Showing.{shows, sector_by_bytes}
 
@@ -24,30 +25,26 @@ use Rattle.images.proofs.Showing.{shows, sector_by_bytes}
 in_front : (row : List LogUnit) (last : ℕ) (u : LogUnit) → suc last ≡ length row → slice_get row last ≡ Some u → take last row ++ u ∷ [] ≡ row
 in_front row last u long there = sym (take-suc_place row last u there) ∙ take_all (suc last) row (omega (arith, long))
 
--- the last unit keeps n eighths: its head stands before what the units before it leave
-pub spliced : (es : List Entry) (row : List LogUnit) (ds : List Departure) (s last : ℕ) (u : LogUnit) (new old : List ℕ) (n : ℕ)
-    → suc last ≡ length row → slice_get row last ≡ Some u → u.sector ≡ s → n ≤ 8
-    → new ≡ unit_content es u → length new ≡ 512 → old ≡ sector_after es (take last row) ds s
-    → ((i : ℕ) → i < 512 → survives ds i u ≡ nat_lt i (64 * n))
-    → take (64 * n) new ++ drop (64 * n) old ≡ sector_after es row ds s
-spliced es row ds s last u new old n long there here le content size below kept =
-    sector_here es (take last row) u ds new old n le content size (below ∙ ap (sector_after es (take last row) ds) (sym here)) kept
+-- the last unit has a fate: what it keeps stands over what the units before it leave
+pub spliced : (es : List Entry) (row : List LogUnit) (ds : List Departure) (s last : ℕ) (u : LogUnit) (f : Fate) (new old made : List ℕ)
+    → suc last ≡ length row → slice_get row last ≡ Some u → u.sector ≡ s → DepartOnce ds → fate_at ds u ≡ Some f
+    → new ≡ unit_content es u → old ≡ sector_after es (take last row) ds s → length made ≡ 512
+    → ((i : ℕ) → i < 512 → slice_index made i ≡ (if keeps f i then slice_index new i else slice_index old i))
+    → made ≡ sector_after es row ds s
+spliced es row ds s last u f new old made long there here once at content below size bytes =
+    sector_laid es (take last row) u ds new old made (keeps f) content (below ∙ ap (sector_after es (take last row) ds) (sym here)) size
+    (λ i lt. fated_survives ds u i f once at) bytes
     ∙ ap (sector_after es (take last row ++ u ∷ []) ds) here ∙ ap (λ us. sector_after es us ds s) (in_front row last u long there)
 
 -- the last unit is whole: its content stands
-pub whole_last : (es : List Entry) (row : List LogUnit) (ds : List Departure) (s last : ℕ) (u : LogUnit) (new : List ℕ) (n : ℕ)
-    → suc last ≡ length row → slice_get row last ≡ Some u → u.sector ≡ s → n ≡ 8
+pub whole_last : (es : List Entry) (row : List LogUnit) (ds : List Departure) (s last : ℕ) (u : LogUnit) (new : List ℕ)
+    → suc last ≡ length row → slice_get row last ≡ Some u → u.sector ≡ s → fate_at ds u ≡ None
     → new ≡ unit_content es u → length new ≡ 512
-    → ((i : ℕ) → i < 512 → survives ds i u ≡ nat_lt i (64 * n))
     → new ≡ sector_after es row ds s
-whole_last es row ds s last u new n long there here all content size kept =
-    let old : List ℕ = sector_after es (take last row) ds s in
-    let old_long : length old ≡ 512 = length-sector_after es (take last row) ds s in
-    let full : (i : ℕ) → i < 512 → survives ds i u ≡ nat_lt i 512 = λ i lt. kept i lt ∙ ap (λ m. nat_lt i (64 * m)) all in
-    let front : take 512 new ≡ new = take_all 512 new (omega (arith, size)) in
-    let behind : drop 512 old ≡ [] = drop_all 512 old (omega (arith, old_long)) in
-    sym front ∙ sym (append-nil (take 512 new)) ∙ ap (λ xs. take 512 new ++ xs) (sym behind)
-    ∙ spliced es row ds s last u new old 8 long there here (omega arith) content size refl full
+whole_last es row ds s last u new long there here whole content size =
+    sector_laid es (take last row) u ds new (sector_after es (take last row) ds u.sector) new (λ i. true) content refl size
+    (λ i lt. whole_survives ds u i whole) (λ i lt. refl)
+    ∙ ap (sector_after es (take last row ++ u ∷ []) ds) here ∙ ap (λ us. sector_after es us ds s) (in_front row last u long there)
 
 -- no unit covers the sector: zeros stand
 pub nothing : (es : List Entry) (row : List LogUnit) (ds : List Departure) (s : ℕ) → length row ≡ 0 → replicate {A = ℕ} 512 0 ≡ sector_after es row ds s
@@ -95,36 +92,29 @@ lent_zeros es k s ds none =
     (λ i lt. all.nobody none i ∙ sym (get_or-replicate {A = ℕ} 512 i 0 0 lt))
 
 -- the unit that shows is whole: its content can be lent for the sector
-pub lent_whole : (es : List Entry) (k s : ℕ) (ds : List Departure) (u : LogUnit) (content : List ℕ) (n : ℕ) → showing ds (versions es k s) ≡ Some u
-    → ((i : ℕ) → i < 512 → survives ds i u ≡ nat_lt i (64 * n)) → n ≡ 8 → content ≡ unit_content es u → length content ≡ 512
+pub lent_whole : (es : List Entry) (k s : ℕ) (ds : List Departure) (u : LogUnit) (content : List ℕ) → showing ds (versions es k s) ≡ Some u
+    → fate_at ds u ≡ None → content ≡ unit_content es u → length content ≡ 512
     → content ≡ sector_after es (units_before es k) ds s
-lent_whole es k s ds u content n at kept all is long =
+lent_whole es k s ds u content at whole is long =
     let own = shows es ds s (units_before es k) in
-    let full : survives ds 511 u ≡ true = kept 511 (omega arith) ∙ ap (λ m. nat_lt 511 (64 * m)) all in
     sector_by_bytes es (units_before es k) ds s content long
-    (λ i lt. own.whole u at full i lt ∙ ap (λ bytes. slice_index bytes i) (sym is))
+    (λ i lt. own.whole u at whole i ∙ ap (λ bytes. slice_index bytes i) (sym is))
 
 -- whether a torn unit shows
 pub not_torn_zeros : (ds : List Departure) (row : List LogUnit) → showing ds row ≡ None → false ≡ is_torn ds row
 unfolding is_torn
-not_torn_zeros ds row none = sym (ap (λ o. option_map_or (λ (u : LogUnit). not (survives ds 511 u)) o false) none)
+not_torn_zeros ds row none = sym (ap (λ o. option_map_or (λ (u : LogUnit). is_some (fate_at ds u)) o false) none)
 
-torn_by : (ds : List Departure) (row : List LogUnit) (u : LogUnit) → showing ds row ≡ Some u → is_torn ds row ≡ not (survives ds 511 u)
+torn_by : (ds : List Departure) (row : List LogUnit) (u : LogUnit) → showing ds row ≡ Some u → is_torn ds row ≡ is_some (fate_at ds u)
 unfolding is_torn
-torn_by ds row u at = ap (λ o. option_map_or (λ (v : LogUnit). not (survives ds 511 v)) o false) at
+torn_by ds row u at = ap (λ o. option_map_or (λ (v : LogUnit). is_some (fate_at ds v)) o false) at
 
--- the unit that shows is whole, so the sector is not torn; it is not whole, so the sector is
-pub not_torn_whole : (ds : List Departure) (row : List LogUnit) (u : LogUnit) (n : ℕ) → showing ds row ≡ Some u
-    → ((i : ℕ) → i < 512 → survives ds i u ≡ nat_lt i (64 * n)) → n ≡ 8 → false ≡ is_torn ds row
-not_torn_whole ds row u n at kept all =
-    let full : survives ds 511 u ≡ true = kept 511 (omega arith) ∙ ap (λ m. nat_lt 511 (64 * m)) all in
-    sym (torn_by ds row u at ∙ ap not full)
+-- the unit that shows is whole, so the sector is not torn; it has a fate, so the sector is
+pub not_torn_whole : (ds : List Departure) (row : List LogUnit) (u : LogUnit) → showing ds row ≡ Some u → fate_at ds u ≡ None → false ≡ is_torn ds row
+not_torn_whole ds row u at whole = sym (torn_by ds row u at ∙ ap is_some whole)
 
-pub torn_shows : (ds : List Departure) (row : List LogUnit) (u : LogUnit) (n : ℕ) → showing ds row ≡ Some u
-    → ((i : ℕ) → i < 512 → survives ds i u ≡ nat_lt i (64 * n)) → n ≤ 8 → n ≢ 8 → true ≡ is_torn ds row
-torn_shows ds row u n at kept le other =
-    let part : survives ds 511 u ≡ false = kept 511 (omega arith) ∙ le-ltb 511 (64 * n) (omega (arith, le, other)) in
-    sym (torn_by ds row u at ∙ ap not part)
+pub torn_shows : (ds : List Departure) (row : List LogUnit) (u : LogUnit) (f : Fate) → showing ds row ≡ Some u → fate_at ds u ≡ Some f → true ≡ is_torn ds row
+torn_shows ds row u f at fated = sym (torn_by ds row u at ∙ ap is_some fated)
 
 -- the unit that shows is one of the log
 pub unit_showing : (log : LogValue) (k s : ℕ) (ds : List Departure) (u : LogUnit) → IsLog log → k ≤ length log.entries

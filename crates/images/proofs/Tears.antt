@@ -1,5 +1,5 @@
 -- The sectors in which a torn unit shows: each has a departure of that unit.
-use Rattle.std.proofs.Common.{ℕ, suc, ◌≡◌, ◌+◌, ◌<◌, ◌≤◌, ◌==◌, Bool, true, false, not, ◌&&◌, ◌||◌, List, [], ◌∷◌, ◌++◌, length, slice_get, Option, Some, None, refl, sym, subst, ◌∙◌, ap, inl, inr, arith, length-append}
+use Rattle.std.proofs.Common.{ℕ, suc, ◌≡◌, ◌+◌, ◌<◌, ◌≤◌, ◌==◌, Bool, true, false, if◌then◌else◌, not, List, [], ◌∷◌, ◌++◌, length, slice_get, Option, Some, None, refl, sym, subst, ◌∙◌, ap, inl, inr, arith, length-append}
 use Rattle.std.specs.Option.{option_map_or, is_some, is_none}
 use Rattle.std.specs.Cmp.{first_so, second_so}
 use Rattle.std.proofs.lemmas.Bool.{cases_lt, eqb-true}
@@ -12,8 +12,8 @@ use Rattle.epochs.specs.Units.{units_before}
 use Rattle.epochs.specs.Plan.{IsUnit}
 use Rattle.choices.specs.declared.choice.Departure.{Departure}
 use Rattle.images.specs.declared.torn.TornSector.{TornSector}
-use Rattle.images.specs.Images.{is_unit, keeps, survives, sector_after}
-use Rattle.images.specs.Table.{versions, showing, is_torn, HasSector, AreTorn}
+use Rattle.images.specs.Images.{is_unit, sector_after}
+use Rattle.images.specs.Table.{versions, fate_at, showing, is_torn, HasSector, AreTorn}
 use Rattle.images.proofs.Spliced.{unit_showing}
 
 -- what is torn by the first n departures
@@ -74,17 +74,17 @@ one_torn log cut ds n torn more d t was here is number content =
       ];
     }
 
--- a unit of which a byte is lost has a departure
-pub some_departure : (ds : List Departure) (u : LogUnit) (i : ℕ) → survives ds i u ≡ false
+-- a unit with a fate has a departure
+pub some_departure : (ds : List Departure) (u : LogUnit) → is_some (fate_at ds u) ≡ true
     → (j : ℕ) × (d : Departure) × (slice_get ds j ≡ Some d) × (is_unit d.unit u ≡ true)
-unfolding survives
-some_departure [] u i lost = absurd (let bad : true ≡ false = lost in cc)
-some_departure (d ∷ ds) u i lost =
+unfolding fate_at
+some_departure [] u fated = absurd (let bad : false ≡ true = fated in cc)
+some_departure (d ∷ ds) u fated =
     let by : (b : Bool) → is_unit d.unit u ≡ b → (j : ℕ) × (e : Departure) × (slice_get (d ∷ ds) j ≡ Some e) × (is_unit e.unit u ≡ true) =
     λ b. elim b as (λ c. is_unit d.unit u ≡ c → (j : ℕ) × (e : Departure) × (slice_get (d ∷ ds) j ≡ Some e) × (is_unit e.unit u ≡ true)) [
       | true ↦ λ e. (0, d, refl, e)
       | false ↦ λ e.
-          let rest = some_departure ds u i (sym (ap (λ c. (not c || keeps d.fate i) && survives ds i u) e) ∙ lost) in
+          let rest = some_departure ds u (sym (ap (λ c. is_some (if c then Some d.fate else fate_at ds u)) e) ∙ fated) in
           (suc rest.0, rest.1, rest.2, rest.3)
     ] in
     by (is_unit d.unit u) refl
@@ -100,19 +100,15 @@ one_sector log a b one two same =
     let right = two.sector in
     omega (arith, first, left, right, place)
 
-untold : (b : Bool) → not b ≡ true → b ≡ false
-untold true h = sym h
-untold false h = refl
-
-unit_torn : (ds : List Departure) (row : List LogUnit) → is_torn ds row ≡ true → (u : LogUnit) × (showing ds row ≡ Some u) × (survives ds 511 u ≡ false)
+unit_torn : (ds : List Departure) (row : List LogUnit) → is_torn ds row ≡ true → (u : LogUnit) × (showing ds row ≡ Some u) × (is_some (fate_at ds u) ≡ true)
 unfolding is_torn
 unit_torn ds row torn =
-    let of : (o : Option LogUnit) → showing ds row ≡ o → option_map_or (λ (u : LogUnit). not (survives ds 511 u)) o false ≡ true
-    → (u : LogUnit) × (showing ds row ≡ Some u) × (survives ds 511 u ≡ false) =
-    λ o. elim o as (λ p. showing ds row ≡ p → option_map_or (λ (u : LogUnit). not (survives ds 511 u)) p false ≡ true
-    → (u : LogUnit) × (showing ds row ≡ Some u) × (survives ds 511 u ≡ false)) [
+    let of : (o : Option LogUnit) → showing ds row ≡ o → option_map_or (λ (u : LogUnit). is_some (fate_at ds u)) o false ≡ true
+    → (u : LogUnit) × (showing ds row ≡ Some u) × (is_some (fate_at ds u) ≡ true) =
+    λ o. elim o as (λ p. showing ds row ≡ p → option_map_or (λ (u : LogUnit). is_some (fate_at ds u)) p false ≡ true
+    → (u : LogUnit) × (showing ds row ≡ Some u) × (is_some (fate_at ds u) ≡ true)) [
       | None ↦ λ e h. absurd (let bad : false ≡ true = h in cc)
-      | Some u ↦ λ e h. (u, e, untold (survives ds 511 u) h)
+      | Some u ↦ λ e h. (u, e, h)
     ] in
     of (showing ds row) refl torn
 
@@ -124,7 +120,7 @@ all_torn log cut ds n torn is le units all so = record {
   all = λ s lt torn_there.
       let shown = unit_torn ds (versions log.entries cut s) torn_there in
       let unit = unit_showing log cut s ds shown.0 is le shown.1 in
-      let departs = some_departure ds shown.0 511 shown.2 in
+      let departs = some_departure ds shown.0 shown.2 in
       let d = departs.1 in
       let sector : d.unit.sector ≡ s = one_sector log d.unit shown.0 (units departs.0 d departs.2) unit.0 departs.3 ∙ unit.1 in
       let within = slice_get_within ds departs.0 d departs.2 in
@@ -141,8 +137,8 @@ torn_if (Some x) t false some none = none
 
 -- no torn unit shows where nothing departs
 pub none_departs : (row : List LogUnit) → is_torn [] row ≡ false
-unfolding is_torn survives
+unfolding is_torn fate_at
 none_departs row =
-    let of : (o : Option LogUnit) → option_map_or (λ (u : LogUnit). not (survives [] 511 u)) o false ≡ false =
-    λ o. elim o as (λ p. option_map_or (λ (u : LogUnit). not (survives [] 511 u)) p false ≡ false) [ None ↦ refl | Some u ↦ refl ] in
+    let of : (o : Option LogUnit) → option_map_or (λ (u : LogUnit). is_some (fate_at [] u)) o false ≡ false =
+    λ o. elim o as (λ p. option_map_or (λ (u : LogUnit). is_some (fate_at [] u)) p false ≡ false) [ None ↦ refl | Some u ↦ refl ] in
     of (showing [] row)

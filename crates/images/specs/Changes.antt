@@ -4,6 +4,7 @@ use Rattle.std.specs.Prelude.{ℕ, zero, suc, ◌+◌, ◌≡◌, ◌≤◌, ◌
 use Rattle.std.specs.Option.{option_to_list}
 use Rattle.std.specs.Cmp.Lexicographic.{pointwise}
 use Rattle.logfmt.specs.Bounds.{LogValue}
+use Rattle.epochs.specs.declared.unit.Unit.{Unit as LogUnit}
 use Rattle.epochs.specs.Units.{units_before, epoch_at}
 use Rattle.epochs.specs.Laws.{last_flush}
 use Rattle.images.specs.Images.{sector_after}
@@ -31,9 +32,13 @@ whole_image log cut n = sector_after log.entries (units_before log.entries cut) 
 abbrev pub image_of : ViewValue → ℕ → List ℕ
 image_of view n = sector_after view.log.entries (units_before view.log.entries view.cut) view.departures n
 
+-- the sectors in which what units leave, where nothing departs, differs from the image of a cut
+abbrev pub changes_by : LogValue → ℕ → List LogUnit → List ChangedValue
+changes_by log first us = changes (whole_image log first) (sector_after log.entries us []) 0 log.sectors
+
 -- the sectors in which the image of a cut, where nothing departs, differs from that of an earlier one
 unfoldable pub changes_between : LogValue → ℕ → ℕ → List ChangedValue
-changes_between log first cut = changes (whole_image log first) (whole_image log cut) 0 log.sectors
+changes_between log first cut = changes_by log first (units_before log.entries cut)
 
 -- what is known of a cut: its epoch, its last flush entry, and the sectors in which its image, where nothing departs,
 -- differs from the base

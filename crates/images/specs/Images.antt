@@ -1,6 +1,6 @@
 -- What a crash leaves on the device (docs/CRASH-MODEL.md, Fates and choices, Crash image). Byte i of sector s is byte
 -- i of the last unit of sector s before the cut which reaches the device there.
-use Rattle.std.specs.Prelude.{ℕ, ◌*◌, ◌==◌, nat_lt, Bool, false, not, ◌&&◌, ◌||◌, List, map, filter, slice_index, None}
+use Rattle.std.specs.Prelude.{ℕ, ◌-◌, ◌*◌, ◌==◌, nat_lt, nat_le, Bool, false, not, ◌&&◌, ◌||◌, List, map, filter, slice_index, None}
 use Rattle.std.specs.List.{list_all, last_or, range_with_len}
 use Rattle.std.specs.Option.{option_map_or}
 use Rattle.logfmt.specs.declared.entry.Entry.{Entry}
@@ -14,10 +14,15 @@ use Rattle.choices.specs.declared.choice.Departure.{Departure}
 abbrev pub keeps : Fate → ℕ → Bool
 keeps fate.Drop i = false
 keeps (fate.Head eighths) i = nat_lt i (64 * eighths)
+keeps (fate.Tail eighths) i = nat_le (512 - 64 * eighths) i
 
 -- the same unit of a log
 abbrev pub is_unit : LogUnit → LogUnit → Bool
 is_unit a b = (a.entry == b.entry) && (a.place == b.place)
+
+-- the departures of a unit
+unfoldable pub departures_of : List Departure → LogUnit → List Departure
+departures_of ds u = filter (λ (d : Departure). is_unit d.unit u) ds
 
 -- byte i of a unit reaches the device: each departure of that unit keeps it, and a unit without departure is whole
 unfoldable pub survives : List Departure → ℕ → LogUnit → Bool

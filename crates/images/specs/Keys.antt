@@ -40,6 +40,10 @@ changed_below base image m = map (with_content image) (filter (differs base imag
 abbrev pub changed : List (List ℕ) → List (List ℕ) → List ChangedValue
 changed base image = changed_below base image (length image)
 
+-- the sectors in which a view differs from the base of its cut
+abbrev pub changed_of : ViewValue → List ChangedValue
+changed_of view = changed (base_of view.log view.cut) (sectors_of view)
+
 -- how many sectors a key has at most
 abbrev pub most_changed : ℕ
 most_changed = 64
@@ -57,13 +61,13 @@ identity_of view program = record {
   program = program;
   epoch = epoch_at view.log.entries view.cut;
   marks = marks_at view.log.entries view.cut;
-  changed = changed (base_of view.log view.cut) (sectors_of view);
+  changed = changed_of view;
 }
 
 -- the key of a program and a view; there is none exactly where more sectors differ from the base than a key has
 unfoldable pub key_of : ViewValue → ℕ → Option KeyValue
 key_of view program =
-    if nat_lt most_changed (length (changed (base_of view.log view.cut) (sectors_of view))) then None
+    if nat_lt most_changed (length (changed_of view)) then None
     else Some (identity_of view program)
 
 -- the key of the same image and of another program

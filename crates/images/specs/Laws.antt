@@ -1,6 +1,6 @@
 -- Laws of crash images: what one more unit changes, and what a key tells (docs/CRASH-MODEL.md, Crash image, Keys of
 -- images).
-use Rattle.std.specs.Prelude.{ℕ, ◌*◌, ◌≡◌, ◌≢◌, ◌<◌, ◌↔◌, true, false, IsTrue, List, [], ◌∷◌, ◌++◌, length, filter, take, drop, replicate, slice_get, slice_index, Some}
+use Rattle.std.specs.Prelude.{ℕ, ◌-◌, ◌*◌, ◌≡◌, ◌≢◌, ◌<◌, ◌↔◌, true, false, IsTrue, List, [], ◌∷◌, ◌++◌, length, take, drop, replicate, slice_get, slice_index, Some}
 use Rattle.logfmt.specs.declared.entry.Entry.{Entry}
 use Rattle.logfmt.specs.Bounds.{LogValue, IsLog, AreBytes}
 use Rattle.epochs.specs.declared.unit.Unit.{Unit as LogUnit}
@@ -8,7 +8,7 @@ use Rattle.epochs.specs.Units.{unit_content, epoch_at}
 use Rattle.epochs.specs.Plan.{IsUnit}
 use Rattle.choices.specs.declared.fate.Fate.TheVariants as fate
 use Rattle.choices.specs.declared.choice.Departure.{Departure}
-use Rattle.images.specs.Images.{is_unit, writes, byte_after, sector_after}
+use Rattle.images.specs.Images.{departures_of, writes, byte_after, sector_after}
 use Rattle.images.specs.Views.{ViewValue, sectors_of, context_at, ContextFits}
 use Rattle.images.specs.Keys.{KeyValue, base_of, key_of}
 use Rattle.images.specs.Equal.{same_key}
@@ -21,21 +21,22 @@ pub record LastWriterShows : Type 0 where
   pub lost : (es : List Entry) (us : List LogUnit) (u : LogUnit) (ds : List Departure) (s i : ℕ) → writes ds s i u ≡ false
       → byte_after es (us ++ u ∷ []) ds s i ≡ byte_after es us ds s i
 
--- the departures of a unit
-unfoldable pub departures_of : List Departure → LogUnit → List Departure
-departures_of ds u = filter (λ (d : Departure). is_unit d.unit u) ds
-
 -- a unit behind others, by its fate: whole it is its sector, dropped it changes nothing, and torn its head
--- stands before the rest of what the others leave; other sectors stay
+-- stands before the rest of what the others leave, or its tail behind the beginning of that; other sectors
+-- stay
 pub record FatesShow : Type 0 where
   pub whole : (log : LogValue) (us : List LogUnit) (u : LogUnit) (ds : List Departure) → IsLog log → IsUnit log u → departures_of ds u ≡ []
       → sector_after log.entries (us ++ u ∷ []) ds u.sector ≡ unit_content log.entries u
   pub dropped : (es : List Entry) (us : List LogUnit) (u : LogUnit) (ds : List Departure) (s : ℕ) (d : Departure)
       → departures_of ds u ≡ d ∷ [] → d.fate ≡ fate.Drop
       → sector_after es (us ++ u ∷ []) ds s ≡ sector_after es us ds s
-  pub torn : (log : LogValue) (us : List LogUnit) (u : LogUnit) (ds : List Departure) (d : Departure) (t : ℕ) → IsLog log → IsUnit log u
+  pub head : (log : LogValue) (us : List LogUnit) (u : LogUnit) (ds : List Departure) (d : Departure) (t : ℕ) → IsLog log → IsUnit log u
       → departures_of ds u ≡ d ∷ [] → d.fate ≡ fate.Head t → t < 8
       → sector_after log.entries (us ++ u ∷ []) ds u.sector ≡ take (64 * t) (unit_content log.entries u) ++ drop (64 * t) (sector_after log.entries us ds u.sector)
+  pub tail : (log : LogValue) (us : List LogUnit) (u : LogUnit) (ds : List Departure) (d : Departure) (t : ℕ) → IsLog log → IsUnit log u
+      → departures_of ds u ≡ d ∷ [] → d.fate ≡ fate.Tail t → t < 8
+      → sector_after log.entries (us ++ u ∷ []) ds u.sector
+      ≡ take (64 * (8 - t)) (sector_after log.entries us ds u.sector) ++ drop (64 * (8 - t)) (unit_content log.entries u)
   pub elsewhere : (es : List Entry) (us : List LogUnit) (u : LogUnit) (ds : List Departure) (s : ℕ) → s ≢ u.sector
       → sector_after es (us ++ u ∷ []) ds s ≡ sector_after es us ds s
 

@@ -1,17 +1,19 @@
 -- The version table of a log: for each sector of the device the units that cover it, in order; and what a view keeps
 -- beside its log, cut and departures.
-use Rattle.std.specs.Prelude.{ℕ, ◌==◌, ◌≡◌, ◌<◌, ◌≤◌, Bool, true, false, not, List, length, map, filter, slice_get, Option, Some, None}
+use Rattle.std.specs.Prelude.{ℕ, ◌==◌, ◌≡◌, ◌<◌, ◌≤◌, Bool, true, false, if◌then◌else◌, List, [], ◌∷◌, length, map, filter, slice_get, Option, Some, None}
 use Rattle.std.specs.List.{last_or, range_with_len}
-use Rattle.std.specs.Option.{option_map_or}
+use Rattle.std.specs.Option.{option_map_or, is_some}
 use Rattle.logfmt.specs.declared.entry.Entry.{Entry}
 use Rattle.logfmt.specs.Bounds.{LogValue, IsLog}
 use Rattle.epochs.specs.declared.unit.Unit.{Unit as LogUnit}
 use Rattle.epochs.specs.Units.{units_before}
 use Rattle.epochs.specs.Laws.{IsVolatile}
+use Rattle.choices.specs.declared.fate.Fate.{Fate}
+use Rattle.choices.specs.declared.fate.Fate.TheVariants as fate
 use Rattle.choices.specs.declared.choice.Departure.{Departure}
 use Rattle.helpers.specs.declared.device.Context.{Context}
 use Rattle.images.specs.declared.torn.TornSector.{TornSector}
-use Rattle.images.specs.Images.{survives, sector_after}
+use Rattle.images.specs.Images.{is_unit, departures_of, sector_after}
 use Rattle.images.specs.Views.{ViewValue, context_at, ContextFits}
 
 -- the units of a list that cover sector s
@@ -31,13 +33,32 @@ pub record IsTable (log : LogValue) (rows : List (List LogUnit)) : Type 0 where
 abbrev pub versions : List Entry → ℕ → ℕ → List LogUnit
 versions es k s = covering s (units_before es k)
 
--- the unit that shows, of units that cover one sector: the last of which the first byte reaches the device
-unfoldable pub showing : List Departure → List LogUnit → Option LogUnit
-showing ds us = last_or None (filter (survives ds 0) us)
+-- each unit departs at most once: departures are a map from units to fates
+abbrev pub DepartOnce : List Departure → Type 0
+DepartOnce ds = (u : LogUnit) → length (departures_of ds u) ≤ 1
 
--- a torn unit shows: the last byte of the unit that shows doesn't reach the device
+-- the fate of a unit that departs; none where it is whole
+unfoldable pub fate_at : List Departure → LogUnit → Option Fate
+fate_at [] u = None
+fate_at (d ∷ ds) u = if is_unit d.unit u then Some d.fate else fate_at ds u
+
+-- something of a unit with that fate reaches the device: it isn't dropped
+abbrev pub leaves : Option Fate → Bool
+leaves None = true
+leaves (Some fate.Drop) = false
+leaves (Some (fate.Head eighths)) = true
+leaves (Some (fate.Tail eighths)) = true
+
+unfoldable pub reaches : List Departure → LogUnit → Bool
+reaches ds u = leaves (fate_at ds u)
+
+-- the unit that shows, of units that cover one sector: the last of which something reaches the device
+unfoldable pub showing : List Departure → List LogUnit → Option LogUnit
+showing ds us = last_or None (filter (reaches ds) us)
+
+-- a torn unit shows: the unit that shows isn't whole
 unfoldable pub is_torn : List Departure → List LogUnit → Bool
-is_torn ds us = option_map_or (λ (u : LogUnit). not (survives ds 511 u)) (showing ds us) false
+is_torn ds us = option_map_or (λ (u : LogUnit). is_some (fate_at ds u)) (showing ds us) false
 
 -- one of the sectors has that number
 abbrev pub HasSector : List TornSector → ℕ → Type 0

@@ -6,10 +6,8 @@ ghost use Rattle.epochs.specs.declared.unit.Unit.{Unit as LogUnit};
 ghost use Rattle.epochs.specs.Laws.{last_flush};
 ghost use Rattle.epochs.specs.Plan.{IsUnit};
 ghost use Rattle.epochs.specs.Units.{epoch_at};
-ghost use Rattle.images.specs.Images.{sector_after};
-ghost use Rattle.images.specs.Keys.{base_of, changed, most_changed};
-ghost use Rattle.images.specs.Views.{sectors_of};
-ghost use Rattle.images.specs.Changes.{changes, changes_between, whole_image, IsKnown};
+ghost use Rattle.images.specs.Keys.{changed_of, most_changed};
+ghost use Rattle.images.specs.Changes.{changes_between, changes_by, IsKnown};
 
 use crate::changed::ChangedSector;
 use crate::history::History;
@@ -224,9 +222,9 @@ fn put_unit<'a>(
 ) -> Result<(), AllocError>
     requires unit { IsUnit versions.now unit }
     requires flush { flush ≤ length versions.now.entries }
-    requires known { (us : List LogUnit) × (sectors.old.items ≡ changes (whole_image versions.now flush) (sector_after versions.now.entries us []) 0 versions.now.sectors) }
-    ensures { (us : List LogUnit) → sectors.old.items ≡ changes (whole_image versions.now flush) (sector_after versions.now.entries us []) 0 versions.now.sectors
-        → OnOk result (sectors.new.items ≡ changes (whole_image versions.now flush) (sector_after versions.now.entries (us ++ unit ∷ []) []) 0 versions.now.sectors) }
+    requires known { (us : List LogUnit) × (sectors.old.items ≡ changes_by versions.now flush us) }
+    ensures { (us : List LogUnit) → sectors.old.items ≡ changes_by versions.now flush us
+        → OnOk result (sectors.new.items ≡ changes_by versions.now flush (us ++ unit ∷ [])) }
 {
     let base = versions.durable(unit.sector, flush);
     let change = change_of(unit.sector, base, content_of(versions.log(), unit));
@@ -243,8 +241,8 @@ fn departed<'a>(
 ) -> Result<Option<Vec<ChangedSector<'a>>>, AllocError>
     requires flush { flush ≡ last_flush view.now.log.entries view.now.cut }
     requires whole { whole.now ≡ changes_between view.now.log flush view.now.cut }
-    ensures { IfOk result (λ found. MatchOption found (most_changed < length (changed (base_of view.now.log view.now.cut) (sectors_of view.now)))
-        (λ sectors. (sectors.items ≡ changed (base_of view.now.log view.now.cut) (sectors_of view.now)) × (length sectors.items ≤ most_changed))) }
+    ensures { IfOk result (λ found. MatchOption found (most_changed < length (changed_of view.now))
+        (λ sectors. (sectors.items ≡ changed_of view.now) × (length sectors.items ≤ most_changed))) }
 {
     let departures = view.departures();
     if whole.len() > MOST_CHANGED + departures.len() {

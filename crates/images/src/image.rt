@@ -1,12 +1,12 @@
 //! What units leave on a sector of a crash image.
 
-ghost use Rattle.std.specs.Prelude.{◌≡◌, ◌+◌, ◌*◌, ◌<◌, ◌≤◌, ℕ, length, slice_get, nat_lt, not, ◌||◌, Some};
-ghost use Rattle.std.specs.List.{slice_range};
+ghost use Rattle.std.specs.Prelude.{◌≡◌, ◌+◌, ◌*◌, ◌<◌, ◌≤◌, ℕ, if◌then◌else◌, length, slice_get, Some};
+ghost use Rattle.std.specs.List.{slice_index, slice_range};
 ghost use Rattle.epochs.specs.declared.unit.Unit.{Unit as LogUnit};
 ghost use Rattle.epochs.specs.Plan.{IsUnit};
 ghost use Rattle.epochs.specs.Units.{unit_content};
-ghost use Rattle.images.specs.Images.{is_unit, keeps, survives, sector_after};
-ghost use Rattle.images.specs.Table.{showing};
+ghost use Rattle.images.specs.Images.{is_unit, keeps, sector_after};
+ghost use Rattle.images.specs.Table.{DepartOnce, fate_at, reaches, showing};
 
 use choices::{Departure, Fate};
 use epochs::Unit;
@@ -19,32 +19,41 @@ pub(crate) type Sector = [u8; 512];
 pub(crate) static ZEROS: Sector = [0; 512];
 
 /// How many eighths a sector has.
-pub(crate) const WHOLE: u8 = 8;
+const EIGHTHS: u8 = 8;
 
-/// How many eighths of a unit a departure leaves, from the unit's first byte on: all where it is one
-/// of another unit.
-fn kept_by(departure: &Departure, unit: Unit) -> u8
-    ensures bound { result ≤ 8 }
-    ensures value { (i : ℕ) → i < 512 → (not (is_unit departure.now.unit unit) || keeps departure.now.fate i) ≡ nat_lt i (64 * result) }
+/// Whether two units of a log are the same.
+fn is_unit(own: Unit, unit: Unit) -> bool
+    ensures { result ≡ is_unit own unit }
 {
-    let own = departure.unit;
-    if own.entry != unit.entry || own.place != unit.place {
-        return WHOLE;
-    }
-    match departure.fate {
-        Fate::Drop => 0,
-        Fate::Head(eighths) => eighths.count(),
+    own.entry == unit.entry && own.place == unit.place
+}
+
+/// The fate of a unit that departs; `None` where it is whole.
+pub(crate) fn fate_at(departures: &[Departure], unit: Unit) -> Option<Fate>
+    ensures { result ≡ fate_at departures.now unit }
+{
+    match departures {
+        [] => None,
+        [first, rest @ ..] => {
+            if is_unit(first.unit, unit) {
+                Some(first.fate)
+            } else {
+                fate_at(rest, unit)
+            }
+        }
     }
 }
 
-/// How many eighths of a unit reach the device, from its first byte on.
-pub(crate) fn kept(departures: &[Departure], unit: Unit) -> u8
-    ensures bound { result ≤ 8 }
-    ensures value { (i : ℕ) → i < 512 → survives departures.now i unit ≡ nat_lt i (64 * result) }
+/// Whether something of a unit reaches the device: it is not dropped.
+#[tactic(auto, unfolding(crate::specs::Table::reaches))]
+fn reaches(departures: &[Departure], unit: Unit) -> bool
+    ensures { result ≡ reaches departures.now unit }
 {
-    match departures {
-        [] => WHOLE,
-        [first, rest @ ..] => kept_by(first, unit).min(kept(rest, unit)),
+    match fate_at(departures, unit) {
+        Some(Fate::Drop) => false,
+        Some(Fate::Head(_)) => true,
+        Some(Fate::Tail(_)) => true,
+        None => true,
     }
 }
 
@@ -81,16 +90,30 @@ pub(crate) fn showing(row: &[Unit], departures: &[Departure]) -> Option<Unit>
     while left > 0 {
         left -= 1;
         let unit = row[left];
-        if kept(departures, unit) > 0 {
+        if reaches(departures, unit) {
             return Some(unit);
         }
     }
     None
 }
 
+/// A unit with that fate over what the units before it left: each byte is that of the unit where the
+/// fate keeps it.
+fn laid(content: &Sector, earlier: &Sector, fate: Fate) -> Sector
+    ensures size { length result ≡ 512 }
+    ensures bytes { (i : ℕ) → i < 512 → slice_index result i ≡ (if keeps fate i then slice_index content.now i else slice_index earlier.now i) }
+{
+    match fate {
+        Fate::Drop => *earlier,
+        Fate::Head(eighths) => lanes::splice(content, earlier, eighths.count()),
+        Fate::Tail(eighths) => lanes::splice(earlier, content, EIGHTHS - eighths.count()),
+    }
+}
+
 /// What units that cover one sector leave on it, formed anew. It goes back to the last whole unit.
 pub(crate) fn formed(log: &Log, row: &[Unit], departures: &[Departure]) -> Sector
-    requires { (i : ℕ) (u : LogUnit) → slice_get row.now i ≡ Some u → IsUnit log.now u }
+    requires units { (i : ℕ) (u : LogUnit) → slice_get row.now i ≡ Some u → IsUnit log.now u }
+    requires once { DepartOnce departures.now }
     ensures { (s : ℕ) → ((i : ℕ) (u : LogUnit) → slice_get row.now i ≡ Some u → u.sector ≡ s)
         → result ≡ sector_after log.now.entries row.now departures.now s }
 {
@@ -100,9 +123,8 @@ pub(crate) fn formed(log: &Log, row: &[Unit], departures: &[Departure]) -> Secto
     let last = row.len() - 1;
     let unit = row[last];
     let content = content_of(log, unit);
-    let eighths = kept(departures, unit);
-    if eighths == WHOLE {
-        return *content;
+    match fate_at(departures, unit) {
+        None => *content,
+        Some(fate) => laid(content, &formed(log, &row[..last], departures), fate),
     }
-    lanes::splice(content, &formed(log, &row[..last], departures), eighths)
 }

@@ -9,7 +9,8 @@ pub fn last_writer_shows()
 {}
 
 /// A unit that is laid over others replaces its sector where it is whole, changes nothing where it is
-/// dropped, and where it is torn puts its head before the rest of what the others leave.
+/// dropped, and where it is torn puts its head before the rest of what the others leave, or its tail
+/// behind the beginning of that.
 pub fn fates_show()
     ensures { FatesShow }
 {}

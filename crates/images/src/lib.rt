@@ -9,7 +9,8 @@
 //! |---|---|
 //! | whole | its 512 bytes |
 //! | dropped | what the units before it left |
-//! | torn behind t eighths | its first 64 t bytes, and then what the units before it left |
+//! | torn, the first t eighths arrived | its first 64 t bytes, and then what the units before it left |
+//! | torn, the last t eighths arrived | what the units before it left, and then its last 64 t bytes |
 //!
 //! A discard is a write of zeros, and can be dropped and torn as a write can. So the rest of a torn
 //! sector comes from an earlier write that reached the device, and that may be a torn one too.
@@ -105,8 +106,8 @@
 //!
 //! // `log` writes sector 0 twice, first 0x11 and then 0x22, and `plan` has all of its cuts
 //! let history = History::new(alloc, &plan, &log)?;
-//! let view = history.view(alloc, &nth(&plan, 1, true, 20))?;
-//! // the cut behind both, the second write torn behind its first eighth: bytes 0 to 63 of
+//! let view = history.view(alloc, &nth(&plan, 1, true, 34))?;
+//! // the cut behind both, of the second write only the first eighth arrived: bytes 0 to 63 of
 //! // view.sector(0) are 0x22, and bytes 64 to 511 are 0x11
 //! let mut changes = Changes::new(alloc, &history);
 //! let key = changes.key(alloc, &view)?;

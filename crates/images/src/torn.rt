@@ -5,7 +5,7 @@ ghost use Rattle.choices.specs.declared.choice.Departure.{Departure as LogDepart
 ghost use Rattle.epochs.specs.Plan.{IsUnit};
 ghost use Rattle.logfmt.specs.Bounds.{IsLog};
 ghost use Rattle.images.specs.declared.torn.TornSector.{TornSector as Torn};
-ghost use Rattle.images.specs.Table.{HasSector, AreTorn};
+ghost use Rattle.images.specs.Table.{HasSector, AreTorn, DepartOnce};
 
 use crate::image::Sector;
 use crate::versions::Versions;
@@ -38,6 +38,7 @@ pub(crate) fn torn_sectors(
     requires cut { cut ≤ length versions.now.entries }
     requires few { length departures.now ≤ 3 }
     requires units { (i : ℕ) (d : LogDeparture) → slice_get departures.now i ≡ Some d → IsUnit versions.now d.unit }
+    requires once { DepartOnce departures.now }
     ensures { AreTorn versions.now cut departures.now result.items }
 {
     let mut torn = ArrayVec::new();

@@ -7,7 +7,7 @@ ghost use Rattle.epochs.specs.Plan.{IsUnit};
 ghost use Rattle.epochs.specs.Units.{units_before};
 ghost use Rattle.images.specs.Table.{rows_of, IsTable};
 
-use crate::image::{Sector, WHOLE, ZEROS, content_of, formed, kept, showing};
+use crate::image::{Sector, ZEROS, content_of, fate_at, formed, showing};
 use choices::Departure;
 use epochs::Unit;
 use logfmt::Log;
@@ -40,7 +40,7 @@ impl<'a> Versions<'a> {
     ghost use Rattle.std.specs.Option.{is_none};
     ghost use Rattle.logfmt.specs.Bounds.{IsLog};
     ghost use Rattle.images.specs.Images.{sector_after};
-    ghost use Rattle.images.specs.Table.{versions, is_torn};
+    ghost use Rattle.images.specs.Table.{versions, is_torn, DepartOnce};
 
     /// The units of a log by these rows.
     pub(crate) fn of(log: &'a Log, rows: &'a [Vec<Unit>]) -> Versions<'a>
@@ -89,10 +89,9 @@ impl<'a> Versions<'a> {
         let Some(unit) = showing(self.before(number, cut), departures) else {
             return Some(&ZEROS);
         };
-        if kept(departures, unit) == WHOLE {
-            Some(content_of(self.log, unit))
-        } else {
-            None
+        match fate_at(departures, unit) {
+            None => Some(content_of(self.log, unit)),
+            Some(_) => None,
         }
     }
 
@@ -112,6 +111,7 @@ impl<'a> Versions<'a> {
     pub(crate) fn formed(&self, number: u32, cut: u32, departures: &[Departure]) -> Sector
         requires number { number < self.now.sectors }
         requires cut { cut ≤ length self.now.entries }
+        requires once { DepartOnce departures.now }
         ensures { result ≡ sector_after self.now.entries (units_before self.now.entries cut) departures.now number }
     {
         formed(self.log, self.before(number, cut), departures)

@@ -1,4 +1,4 @@
-use Rattle.std.proofs.Common.{◌≡◌, ◌-◌, ◌<◌, length, rules, ◌∙◌, arith}
+use Rattle.std.proofs.Common.{◌≡◌, ◌-◌, ◌<◌, length, rules, sym, ◌∙◌, arith}
 use Rattle.std.proofs.lemmas.Option.{slice_get-get_or}
 use Rattle.images.proofs.Spliced.{nothing, whole_last, spliced, in_take}
 use Rattle.images.proofs.image.+formed.Goals as goal
@@ -11,27 +11,27 @@ returns-then-is_empty t c =
 pub content_of-content-requires : goal.content_of-content-requires
 content_of-content-requires t c =
     let some : 0 < length c.args.row.now = search rules in
-    c.requires _ _ (slice_get-get_or c.args.row.now (length c.args.row.now - 1) _ (omega (arith, some)))
-
-pub returns-then-eighths-eq-WHOLE : goal.returns-then-eighths-eq-WHOLE
-returns-then-eighths-eq-WHOLE t c =
-    let some : 0 < length c.args.row.now = search rules in
-    let there = slice_get-get_or c.args.row.now (length c.args.row.now - 1) _ (omega (arith, some)) in
-    λ s all. whole_last c.args.log.now.entries c.args.row.now c.args.departures.now s (length c.args.row.now - 1) _ _ c.kept-eighths.result
-    (omega (arith, some)) there (all _ _ there) c.if-eighths-eq-WHOLE.true
-    c.content_of-content.ensures.value c.content_of-content.ensures.size c.kept-eighths.ensures.value
+    c.requires.units _ _ (slice_get-get_or c.args.row.now (length c.args.row.now - 1) _ (omega (arith, some)))
 
 pub formed-requires : goal.formed-requires
 formed-requires t c =
     let some : 0 < length c.args.row.now = search rules in
-    (search rules, λ i u there. c.requires i u (in_take _ c.args.row.now i u there))
+    (search rules, ((λ i u there. c.requires.units i u (in_take _ c.args.row.now i u there)), c.requires.once))
 
-pub returns : goal.returns
-returns t c =
+pub returns-in-None : goal.returns-in-None
+returns-in-None t c =
     let some : 0 < length c.args.row.now = search rules in
     let there = slice_get-get_or c.args.row.now (length c.args.row.now - 1) _ (omega (arith, some)) in
-    λ s all. c.splice.ensures
-    ∙ spliced c.args.log.now.entries c.args.row.now c.args.departures.now s (length c.args.row.now - 1) _ _ _ c.kept-eighths.result
-    (omega (arith, some)) there (all _ _ there) c.kept-eighths.ensures.bound
+    λ s all. whole_last c.args.log.now.entries c.args.row.now c.args.departures.now s (length c.args.row.now - 1) _ _
+    (omega (arith, some)) there (all _ _ there) (sym c.fate_at.ensures ∙ c.in-None.is)
     c.content_of-content.ensures.value c.content_of-content.ensures.size
-    (c.formed.ensures s (λ i u h. all i u (in_take _ c.args.row.now i u h))) c.kept-eighths.ensures.value
+
+pub returns-in-Some : goal.returns-in-Some
+returns-in-Some t c =
+    let some : 0 < length c.args.row.now = search rules in
+    let there = slice_get-get_or c.args.row.now (length c.args.row.now - 1) _ (omega (arith, some)) in
+    λ s all. spliced c.args.log.now.entries c.args.row.now c.args.departures.now s (length c.args.row.now - 1) _ _ _ _ _
+    (omega (arith, some)) there (all _ _ there) c.requires.once (sym c.fate_at.ensures ∙ c.in-Some.is)
+    c.content_of-content.ensures.value
+    (c.formed.ensures s (λ i u h. all i u (in_take _ c.args.row.now i u h)))
+    c.laid.ensures.size c.laid.ensures.bytes

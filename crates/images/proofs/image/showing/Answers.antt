@@ -1,16 +1,16 @@
-use Rattle.std.proofs.Common.{arith}
+use Rattle.std.proofs.Common.{sym, ◌∙◌, arith}
 use Rattle.images.proofs.Showing.{found, passed, none_left}
 use Rattle.images.proofs.image.showing.Goals as goal
 
-pub returns-then-kept-gt0 : goal.returns-then-kept-gt0
-returns-then-kept-gt0 c =
-    found _ _ c.loop-left.left c.kept.result _ c.loop-left-test.true c.loop-left.invariant.0 c.loop-left.invariant.1 (c.kept.ensures.value 0 (omega arith)) c.if-kept-gt0.true
+pub returns-then-reaches : goal.returns-then-reaches
+returns-then-reaches c =
+    found _ _ c.loop-left.left _ c.loop-left-test.true c.loop-left.invariant.0 c.loop-left.invariant.1 (sym c.reaches.ensures ∙ c.if-reaches.true)
 
 pub loop-left-preserved : goal.loop-left-preserved
 loop-left-preserved c =
     let within = c.loop-left.invariant.0 in (
       omega (arith, within),
-      passed _ _ c.loop-left.left c.kept.result _ c.loop-left-test.true within c.loop-left.invariant.1 (c.kept.ensures.value 0 (omega arith)) c.if-kept-gt0.false,
+      passed _ _ c.loop-left.left _ c.loop-left-test.true within c.loop-left.invariant.1 (sym c.reaches.ensures ∙ c.if-reaches.false),
     )
 
 pub returns : goal.returns

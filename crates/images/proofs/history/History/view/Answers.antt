@@ -2,8 +2,8 @@ use Rattle.std.proofs.Common.{ℕ, ◌≡◌, List, length, slice_get, ◌∙◌
 use Rattle.logfmt.specs.Bounds.{LogValue, IsLog}
 use Rattle.epochs.specs.Plan.{PlanValue, IsUnit}
 use Rattle.choices.specs.declared.choice.Departure.{Departure}
-use Rattle.images.specs.Table.{AreVolatile}
-use Rattle.images.proofs.Members.{member_cut, member_departs, volatile_unit, shows_view}
+use Rattle.images.specs.Table.{AreVolatile, DepartOnce}
+use Rattle.images.proofs.Members.{member_cut, member_departs, member_once, volatile_unit, shows_view}
 use Rattle.images.proofs.history.History.view.Goals as goal
 
 pub torn_sectors-torn-requires-clause-bounds : goal.torn_sectors-torn-requires-clause-bounds
@@ -27,6 +27,11 @@ torn_sectors-torn-requires-clause-units c = λ i d there.
     let bounds = subst P (sym (ap (λ (p : PlanValue). p.log) (sym c.self.view_is) ∙ c.self.invariant.0)) c.self.invariant.1.bounds in
     let own = ap (λ ds. slice_get ds i) (sym c.departures.ensures.value) ∙ there in
     subst Q same (volatile_unit c.args.self.now.log c.args.choice.now.cut d.unit bounds (member_departs c.args.self.now c.args.choice.now c.requires i d own))
+
+pub torn_sectors-torn-requires-clause-once : goal.torn_sectors-torn-requires-clause-once
+torn_sectors-torn-requires-clause-once c =
+    let P : List Departure → Type 0 = λ ds. DepartOnce ds in
+    subst P (sym c.departures.ensures.value) (member_once c.args.self.now c.args.choice.now c.requires)
 
 pub epoch-requires : goal.epoch-requires
 epoch-requires c =

@@ -7,13 +7,16 @@ use Rattle.images.proofs.Rows.{row_units}
 use Rattle.images.proofs.Spliced.{sector_of_row}
 use Rattle.images.proofs.versions.Versions.formed.Goals as goal
 
-pub formed-requires : goal.formed-requires
-formed-requires c = λ i u there.
+pub formed-requires-clause-units : goal.formed-requires-clause-units
+formed-requires-clause-units c = λ i u there.
     let log = c.self.inside.log.now in
     let row = c.before-2.ensures ∙ ap (λ (l : LogValue). versions l.entries c.args.cut c.args.number) (sym c.self.view_is) in
     let long = ap (λ (l : LogValue). length l.entries) c.self.view_is in
     let cut = c.requires.cut in
     (row_units log c.args.cut c.args.number c.self.invariant.bounds (omega (arith, long, cut)) i u (ap (λ us. slice_get us i) (sym row) ∙ there)).0
+
+pub formed-requires-clause-once : goal.formed-requires-clause-once
+formed-requires-clause-once c = c.requires.once
 
 pub returns : goal.returns
 returns c =

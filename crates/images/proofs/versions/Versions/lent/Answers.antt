@@ -24,22 +24,22 @@ content_of-requires c =
     let cut = c.requires.cut in
     (unit_showing c.self.inside.log.now c.args.cut c.args.number c.args.departures.now _ c.self.invariant.bounds (omega (arith, long, cut)) inside).0
 
-pub returns-then-kept-eq-WHOLE-clause-lent : goal.returns-then-kept-eq-WHOLE-clause-lent
-returns-then-kept-eq-WHOLE-clause-lent c =
+pub returns-in-None-clause-lent : goal.returns-in-None-clause-lent
+returns-in-None-clause-lent c =
     let at = sym (c.showing.ensures ∙ ap (showing c.args.departures.now) c.before-2.ensures) ∙ c.in-Some.is in
     let inside = ap (λ (l : LogValue). showing c.args.departures.now (versions l.entries c.args.cut c.args.number)) c.self.view_is ∙ at in
-    lent_whole c.self.inside.log.now.entries c.args.cut c.args.number c.args.departures.now _ _ c.kept.result inside c.kept.ensures.value c.if-kept-eq-WHOLE.true
+    lent_whole c.self.inside.log.now.entries c.args.cut c.args.number c.args.departures.now _ _ inside (sym c.fate_at.ensures ∙ c.in-None.is)
     c.content_of.ensures.value c.content_of.ensures.size
     ∙ ap (λ (l : LogValue). sector_after l.entries (units_before l.entries c.args.cut) c.args.departures.now c.args.number) c.self.view_is
 
-pub returns-then-kept-eq-WHOLE-clause-torn : goal.returns-then-kept-eq-WHOLE-clause-torn
-returns-then-kept-eq-WHOLE-clause-torn c =
-    not_torn_whole c.args.departures.now (versions c.args.self.now.entries c.args.cut c.args.number) _ c.kept.result
+pub returns-in-None-clause-torn : goal.returns-in-None-clause-torn
+returns-in-None-clause-torn c =
+    not_torn_whole c.args.departures.now (versions c.args.self.now.entries c.args.cut c.args.number) _
     (sym (c.showing.ensures ∙ ap (showing c.args.departures.now) c.before-2.ensures) ∙ c.in-Some.is)
-    c.kept.ensures.value c.if-kept-eq-WHOLE.true
+    (sym c.fate_at.ensures ∙ c.in-None.is)
 
-pub returns-else-kept-eq-WHOLE-clause-torn : goal.returns-else-kept-eq-WHOLE-clause-torn
-returns-else-kept-eq-WHOLE-clause-torn c =
-    torn_shows c.args.departures.now (versions c.args.self.now.entries c.args.cut c.args.number) _ c.kept.result
+pub returns-in-Some-fate_at-clause-torn : goal.returns-in-Some-fate_at-clause-torn
+returns-in-Some-fate_at-clause-torn c =
+    torn_shows c.args.departures.now (versions c.args.self.now.entries c.args.cut c.args.number) _ _
     (sym (c.showing.ensures ∙ ap (showing c.args.departures.now) c.before-2.ensures) ∙ c.in-Some.is)
-    c.kept.ensures.value c.kept.ensures.bound c.if-kept-eq-WHOLE.false
+    (sym c.fate_at.ensures ∙ c.in-Some-fate_at.is)
