@@ -340,6 +340,34 @@ def no_program(name, digits, error):
     ]
 
 
+# A program with a wide instruction in the middle, cut at each of its bytes: what is left is no whole number of slots, or none,
+# or ends in the first half of the wide one, or is the program of the instructions that are whole.
+CUT = {
+    "mov64 r1, 0": "b701000000000000",
+    "call 1": "8500000001000000",
+    "jne r0, 0, +3": "5500030000000000",
+    "lddw r0, 4294967296": "1800000000000000 0000000001000000",
+    "exit": EXIT,
+    "ldxb r0, [r0+0]": "7100000000000000",
+}
+
+
+def cut_row(length):
+    """The first bytes of that number of the program."""
+    name, content = f"bytes: a program cut at byte {length}", code("".join(CUT.values()))[:length]
+    slots = length // 8
+    listed, begins = "", 0
+    for text, digits in CUT.items():
+        ends = begins + len(code(digits)) // 8
+        if length % 8 == 0 and begins < slots < ends:
+            return refused(name, "list p", {"p": content}, f"refused 25 at {begins}")
+        listed += f"{text}\n" if ends <= slots else ""
+        begins = ends
+    if length % 8 or not length:
+        return refused(name, "list p", {"p": content}, f"refused {20 if length else 21} at {slots}")
+    return Row(name, "list p", {"p": content}, listed)
+
+
 # How long a program may be
 
 
@@ -365,5 +393,6 @@ ROWS = [
     ALL,
     *(opcode_row(opcode, listed_zeros()) for opcode in range(256)),
     *(row for name, (digits, error) in NO_PROGRAMS.items() for row in no_program(name, digits, error)),
+    *(cut_row(length) for length in range(len(code("".join(CUT.values()))) + 1)),
     *LENGTHS,
 ]

@@ -103,7 +103,31 @@ def cut_logs(name, entries, cuts):
     ]
 
 
+
+def cut_refusal(entries, length):
+    """Why the first bytes of that number are no log, of a log of entries that are in order by themselves: the super block
+    isn't whole, or the header or the data of an entry isn't, and then of the first such entry."""
+    if length < SECTOR:
+        return "refused 1 at 0"
+    end = SECTOR
+    for number, entry in enumerate(entries):
+        end += len(entry.encoded())
+        if length < end:
+            return f"refused 5 at {number}"
+    raise ValueError("all of it is there")
+
+
+def cut_at_each_byte(name, entries):
+    """The log cut at each of its bytes."""
+    whole = log(entries)
+    return [
+        refused(f"log: {name}, cut at byte {length}", "images log --sectors 4", files(whole[:length]), cut_refusal(entries, length))
+        for length in range(len(whole))
+    ]
+
+
 CUT = [
+    *cut_at_each_byte("two_epochs", TWO_EPOCHS),
     *cut_logs("two_epochs", TWO_EPOCHS, TWO_EPOCHS_CUT),
     *accepted_log("two_epochs, all 3,072 bytes", log(TWO_EPOCHS)[:3072], TWO_EPOCHS_SURVEY),
     *accepted_log("two_epochs, one byte more", log(TWO_EPOCHS) + b"x", TWO_EPOCHS_SURVEY),
