@@ -21,7 +21,7 @@ same_report : (h : HeadValue) (ls ms : List FailingLine) → (h.first ≡ false 
     → report_bytes h ls ≡ report_bytes h ms
 unfolding report_bytes
 same_report h ls ms whole same =
-    ap (λ (text : List ℕ). codes "crash report 1\n" ++ options_line h ++ program_lines 0 h.programs ++ text)
+    ap (λ (text : List ℕ). codes "crash report 2\n" ++ options_line h ++ program_lines 0 h.programs ++ text)
     (same_findings h.first h.images ls ms whole same)
 
 no_lines : (ls : List FailingLine) → first_lines ls ≡ [] → ls ≡ []

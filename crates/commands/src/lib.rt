@@ -53,7 +53,7 @@
 //! ```
 //! let options = Options::new(&Settings { sectors: 1, cuts: Cuts::All, bound: 0, .. })?;
 //! let report = explore(alloc, log, programs, &options)?;
-//! // crash report 1
+//! // crash report 2
 //! // sectors 1 entries 0 cuts all bound 0 tears no first no
 //! // program 0 slots 2 limit 2
 //! // images 1 failing 0 lines 0

@@ -81,7 +81,7 @@ output that can't be written.";
 const AFTER_EXPLORE: &str =
     "Each line of the report names an image, its cut, a program, what that answered, and the sectors
 that were lost or torn: 'choice 8.0:head7' is sector 0 of entry 8, of which the first seven eighths
-arrived.
+arrived; 'choice 8.0:tail1' is the same sector, of which the last eighth arrived.
 
 Example: crashbpf explore disk.log check.bpf --sectors 64 --cuts flush --bound 2 --tears
 
@@ -90,7 +90,7 @@ Exit status: 0 where no image fails, 1 where one does, 2 for a refusal.";
 /// What stands behind the help of `images`.
 const AFTER_IMAGES: &str =
     "A cut with v sectors on their way has the sum over i up to the bound of C(v, i) * m^i images, where
-m is 8 with --tears and else 1.
+m is 15 with --tears and else 1.
 
 Example: crashbpf images disk.log --sectors 64 --tears
 
@@ -169,7 +169,7 @@ fn log_command<'a>(alloc: Global, name: &'a str) -> Result<Command<'a>, AllocErr
     let tears = Arg::new(alloc, "tears")
         .long("tears")
         .action(ArgAction::SetTrue)
-        .help("Sectors may also be torn: of the new content only the first eighths arrive");
+        .help("Sectors may also be torn: of the new content only the first or last eighths arrive");
     let bound = number_option(
         alloc,
         "bound",

@@ -78,4 +78,4 @@ findings_text true images ls = flat_map line_text (first_lines ls) ++ first_line
 
 unfoldable pub report_bytes : HeadValue → List FailingLine → List ℕ
 report_bytes h ls =
-    codes "crash report 1\n" ++ options_line h ++ program_lines 0 h.programs ++ findings_text h.first h.images ls
+    codes "crash report 2\n" ++ options_line h ++ program_lines 0 h.programs ++ findings_text h.first h.images ls

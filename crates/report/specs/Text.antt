@@ -34,6 +34,7 @@ ending_text OutOfSteps = codes "out of steps"
 abbrev pub fate_text : Fate → List ℕ
 fate_text fate.Drop = codes "drop"
 fate_text (fate.Head eighths) = codes "head" ++ decimal eighths
+fate_text (fate.Tail eighths) = codes "tail" ++ decimal eighths
 
 -- a departure: the unit's entry and its place there, and its fate
 unfoldable pub departure_text : Departure → List ℕ

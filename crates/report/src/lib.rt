@@ -4,7 +4,7 @@
 //! 0 makes a line. The report is a text of ASCII lines (docs/REPORT.md):
 //!
 //! ```text
-//! crash report 1
+//! crash report 2
 //! sectors 4 entries 1 cuts all bound 1 tears yes first no
 //! program 0 slots 11 limit 9
 //! image 3 cut 1 program 0 answer 1 codes - choice 0.0:head1

@@ -113,6 +113,7 @@ fn put_fate(out: &mut String, fate: Fate) -> Result<(), AllocError>
     match fate {
         Fate::Drop => write!(out, "drop"),
         Fate::Head(eighths) => write!(out, "head{}", eighths.count()),
+        Fate::Tail(eighths) => write!(out, "tail{}", eighths.count()),
     }
 }
 
@@ -281,7 +282,7 @@ pub fn write_report(alloc: Global, head: &Head, lines: &Lines) -> Result<Vec<u8>
     ensures { IfOk result (λ bytes. bytes.items ≡ report_bytes head.now lines.now) }
 {
     let mut out = String::new(alloc);
-    write!(out, "crash report 1\n")?;
+    write!(out, "crash report 2\n")?;
     put_device(&mut out, head)?;
     put_choices(&mut out, head)?;
     put_programs(&mut out, head.programs.as_slice())?;
