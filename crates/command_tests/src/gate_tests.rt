@@ -310,7 +310,7 @@ fn pair(alloc: Global) -> Result<Vec<u8>, Fail> {
     Ok(log)
 }
 
-/// The run sixteen_codes of docs/REPORT.md, with 81 images, by two workers.
+/// The run sixteen_codes of docs/REPORT.md, with 256 images, by two workers.
 const SIXTEEN_CODES: Settings = Settings {
     sectors: 4,
     cuts: Cuts::BeforeFlush,
@@ -328,7 +328,7 @@ fn sixteen_codes_ends_while_block_0_is_held(rt: HostRuntime) -> Result<(), Fail>
     let log = pair(alloc)?;
     let bytes = held(&rt, alloc, &log, &REPORT_CODES, &SIXTEEN_CODES)?;
     let report = str::from_utf8(bytes.as_slice()).ok().ok_or("a text")?;
-    assert!(rt; report.ends_with("choice 0.0:head7,0.1:head7\nimages 81 failing 81 lines 81\n"));
+    assert!(rt; report.ends_with("choice 0.0:tail7,0.1:tail7\nimages 256 failing 256 lines 256\n"));
     let many = Settings {
         workers: 64,
         cache: 65_536,

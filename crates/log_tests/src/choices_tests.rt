@@ -10,10 +10,10 @@ use logfmt::read;
 use std::process::Abort;
 use std::test::Fail;
 
-/// The departure of sector `place` of entry 0, with the fate of that number: 0 the drop, else a head
-/// of that many eighths.
+/// The departure of sector `place` of entry 0, with the fate of that number: 0 the drop, 1 to 7 a head
+/// of that many eighths, 8 to 14 a tail of 1 to 7 eighths.
 fn departure(place: u32, number: u8) -> Departure
-    requires { number < 8 }
+    requires { number < 15 }
 {
     Departure {
         unit: Unit {
@@ -23,8 +23,10 @@ fn departure(place: u32, number: u8) -> Departure
         },
         fate: if number == 0 {
             Fate::Drop
-        } else {
+        } else if number < 8 {
             Fate::Head(Eighths::new(number))
+        } else {
+            Fate::Tail(Eighths::new(number - 7))
         },
     }
 }
@@ -38,7 +40,7 @@ fn check_choice(rt: &impl Abort, choice: &Choice, case: Case) {
     assert_eq!(rt; choice.cut(), 1, "at {number}");
     assert_eq!(rt; choice.departures().len(), departures.len(), "at {number}");
     for (index, (place, fate)) in departures.iter().enumerate() {
-        if *fate < 8 {
+        if *fate < 15 {
             let wanted = departure(*place, *fate);
             assert_eq!(rt;
                 choice.departures().get(index),
@@ -55,12 +57,12 @@ fn two_epochs(rt: HostRuntime) -> Result<(), Fail> {
     let log = read(rt.alloc(), &text, 4)?;
     let plan = Plan::new(rt.alloc(), &log, Cuts::All)?;
     assert_eq!(rt; log.entries().len(), 3);
-    assert_eq!(rt; count(&plan, 1, true), Ok(20));
+    assert_eq!(rt; count(&plan, 1, true), Ok(34));
     if log.entries().len() == 3 {
         assert_eq!(rt; count_at(&plan, 1, true, 0), Ok(1));
-        assert_eq!(rt; count_at(&plan, 1, true, 1), Ok(9));
+        assert_eq!(rt; count_at(&plan, 1, true, 1), Ok(16));
         assert_eq!(rt; count_at(&plan, 1, true, 2), Ok(1));
-        assert_eq!(rt; count_at(&plan, 1, true, 3), Ok(9));
+        assert_eq!(rt; count_at(&plan, 1, true, 3), Ok(16));
     }
     Ok(())
 }
@@ -75,15 +77,17 @@ fn pairs_of_drops(rt: HostRuntime) -> Result<(), Fail> {
         Case(1, &[(0, 0)]),
         Case(2, &[(0, 1)]),
         Case(8, &[(0, 7)]),
-        Case(9, &[(1, 0)]),
-        Case(16, &[(1, 7)]),
-        Case(17, &[(0, 0), (1, 0)]),
-        Case(18, &[(0, 0), (1, 1)]),
-        Case(25, &[(0, 1), (1, 0)]),
-        Case(80, &[(0, 7), (1, 7)]),
+        Case(9, &[(0, 8)]),
+        Case(15, &[(0, 14)]),
+        Case(16, &[(1, 0)]),
+        Case(30, &[(1, 14)]),
+        Case(31, &[(0, 0), (1, 0)]),
+        Case(32, &[(0, 0), (1, 1)]),
+        Case(46, &[(0, 1), (1, 0)]),
+        Case(255, &[(0, 14), (1, 14)]),
     ];
     let total = count(&plan, 2, true);
-    assert_eq!(rt; total, Ok(81));
+    assert_eq!(rt; total, Ok(256));
     if let Ok(total) = total {
         for case in cases {
             if case.0 < total {
@@ -132,7 +136,7 @@ fn next_walks_all_choices(rt: HostRuntime) -> Result<(), Fail> {
     let log = read(rt.alloc(), &text, 4)?;
     let plan = Plan::new(rt.alloc(), &log, Cuts::BeforeFlush)?;
     let total = count(&plan, 2, true);
-    assert_eq!(rt; total, Ok(81));
+    assert_eq!(rt; total, Ok(256));
     if let Ok(total) = total {
         if total > 0 {
             walk(&rt, &plan, 2, true, total);
@@ -162,7 +166,7 @@ fn check_start(
 
 #[test]
 fn table_finds_the_cut(rt: HostRuntime) -> Result<(), Fail> {
-    // cuts 0 to 3 have 1, 9, 1 and 9 choices
+    // cuts 0 to 3 have 1, 16, 1 and 16 choices
     let text = text_without_data(rt.alloc(), &[(0, 1, 0), (0, 0, FLUSH), (0, 1, 0)])?;
     let log = read(rt.alloc(), &text, 4)?;
     let plan = Plan::new(rt.alloc(), &log, Cuts::All)?;
@@ -174,10 +178,10 @@ fn table_finds_the_cut(rt: HostRuntime) -> Result<(), Fail> {
         (0, 0, 0),
         (1, 1, 0),
         (2, 1, 1),
-        (9, 1, 1),
-        (10, 2, 0),
-        (11, 3, 0),
-        (19, 3, 1),
+        (16, 1, 1),
+        (17, 2, 0),
+        (18, 3, 0),
+        (33, 3, 1),
     ] {
         check_start(&rt, &starts, total, number, cut, departures);
     }

@@ -74,14 +74,15 @@ fn check_case(
     Ok(())
 }
 
-/// How many bytes of a unit reach the device.
-fn kept_bytes(departures: &[Departure], entry: u32, place: u64) -> u64 {
-    let mut kept = 512;
+/// Which bytes of a unit reach the device: from one to below another.
+fn kept_bytes(departures: &[Departure], entry: u32, place: u64) -> (u64, u64) {
+    let mut kept = (0, 512);
     for departure in departures {
         if departure.unit.entry == entry && u64::from(departure.unit.place) == place {
             kept = match departure.fate {
-                Fate::Drop => 0,
-                Fate::Head(eighths) => 64 * u64::from(eighths.count()),
+                Fate::Drop => (0, 0),
+                Fate::Head(eighths) => (0, 64 * u64::from(eighths.count())),
+                Fate::Tail(eighths) => (512 - 64 * u64::from(eighths.count()), 512),
             };
         }
     }
@@ -101,7 +102,8 @@ fn copy_byte(image: &mut [u8], entry: &Entry, place: u64, number: u64) {
 /// Lays the units of an entry over an image.
 fn copy_entry(image: &mut [u8], entry: &Entry, number: u32, departures: &[Departure]) {
     for place in 0..entry.count {
-        for byte in 0..kept_bytes(departures, number, place) {
+        let (from, to) = kept_bytes(departures, number, place);
+        for byte in from..to {
             copy_byte(image, entry, place, byte);
         }
     }
@@ -182,10 +184,22 @@ fn images_are_those_of_the_model(rt: HostRuntime) -> Result<(), Fail> {
             &[(0, 1, 0, 0xaa), (0, 0, FLUSH, 0), (0, 1, 0, 0xbb)],
             1,
             true,
-            20,
+            34,
             &[
-                Case(10, 2, &[(0, 0, 512, 0xaa)]),
-                Case(19, 3, &[(0, 0, 448, 0xbb), (0, 448, 512, 0xaa)]),
+                Case(17, 2, &[(0, 0, 512, 0xaa)]),
+                Case(26, 3, &[(0, 0, 448, 0xbb), (0, 448, 512, 0xaa)]),
+                Case(33, 3, &[(0, 0, 64, 0xaa), (0, 64, 512, 0xbb)]),
+            ],
+        ),
+        // torn_sector
+        Log(
+            &[(0, 1, 0, 0xaa)],
+            1,
+            true,
+            17,
+            &[
+                Case(9, 1, &[(0, 0, 448, 0xaa), (0, 448, 512, 0)]),
+                Case(16, 1, &[(0, 0, 64, 0), (0, 64, 512, 0xaa)]),
             ],
         ),
         // two torn sectors
@@ -193,33 +207,46 @@ fn images_are_those_of_the_model(rt: HostRuntime) -> Result<(), Fail> {
             &[(0, 2, 0, 0xaa)],
             2,
             true,
-            82,
-            &[Case(
-                81,
-                1,
-                &[
-                    (0, 0, 448, 0xaa),
-                    (0, 448, 512, 0),
-                    (1, 0, 448, 0xab),
-                    (1, 448, 512, 0),
-                ],
-            )],
+            257,
+            &[
+                Case(
+                    144,
+                    1,
+                    &[
+                        (0, 0, 448, 0xaa),
+                        (0, 448, 512, 0),
+                        (1, 0, 448, 0xab),
+                        (1, 448, 512, 0),
+                    ],
+                ),
+                Case(
+                    256,
+                    1,
+                    &[
+                        (0, 0, 64, 0),
+                        (0, 64, 512, 0xaa),
+                        (1, 0, 64, 0),
+                        (1, 64, 512, 0xab),
+                    ],
+                ),
+            ],
         ),
         // overwritten_sector
         Log(
             &[(0, 1, 0, 0x11), (0, 1, 0, 0x22)],
             1,
             true,
-            27,
+            48,
             &[
                 Case(0, 0, &[(0, 0, 512, 0)]),
                 Case(1, 1, &[(0, 0, 512, 0x11)]),
                 Case(2, 1, &[(0, 0, 512, 0)]),
                 Case(9, 1, &[(0, 0, 448, 0x11), (0, 448, 512, 0)]),
-                Case(10, 2, &[(0, 0, 512, 0x22), (1, 0, 512, 0)]),
-                Case(19, 2, &[(0, 0, 512, 0x11)]),
+                Case(17, 2, &[(0, 0, 512, 0x22), (1, 0, 512, 0)]),
+                Case(33, 2, &[(0, 0, 512, 0x11)]),
+                Case(41, 2, &[(0, 0, 448, 0x11), (0, 448, 512, 0x22)]),
                 Case(
-                    20,
+                    34,
                     2,
                     &[
                         (0, 0, 64, 0x22),
@@ -236,14 +263,25 @@ fn images_are_those_of_the_model(rt: HostRuntime) -> Result<(), Fail> {
             &[(0, 1, 0, 0x11), (0, 1, 0, 0x22)],
             2,
             true,
-            91,
+            273,
             &[
-                Case(28, 2, &[(0, 0, 64, 0x22), (0, 64, 512, 0)]),
-                Case(47, 2, &[(0, 0, 256, 0x22), (0, 256, 512, 0)]),
+                Case(49, 2, &[(0, 0, 64, 0x22), (0, 64, 512, 0)]),
+                Case(82, 2, &[(0, 0, 256, 0x22), (0, 256, 512, 0)]),
                 Case(
-                    61,
+                    110,
                     2,
                     &[(0, 0, 128, 0x22), (0, 128, 256, 0x11), (0, 256, 512, 0)],
+                ),
+                // the head of the first and the tail of the second, and then both tails
+                Case(
+                    117,
+                    2,
+                    &[(0, 0, 256, 0x11), (0, 256, 384, 0), (0, 384, 512, 0x22)],
+                ),
+                Case(
+                    222,
+                    2,
+                    &[(0, 0, 256, 0), (0, 256, 384, 0x11), (0, 384, 512, 0x22)],
                 ),
             ],
         ),
@@ -622,7 +660,7 @@ fn kept_changes_make_the_same_keys(rt: HostRuntime) -> Result<(), Fail> {
         (0, 0, MARK, 0),
         (3, 1, FUA, 0x33),
     ];
-    // the cuts have 0, 1, 2, 2, 4, 4 and 4 volatile units: 1 + 9 + 81 + 81 + 3 * 417 images
-    assert_eq!(rt; check_kept_keys(&rt, rt.alloc(), &items)?, 1_423);
+    // the cuts have 0, 1, 2, 2, 4, 4 and 4 volatile units: 1 + 16 + 256 + 256 + 3 * 1,411 images
+    assert_eq!(rt; check_kept_keys(&rt, rt.alloc(), &items)?, 4_762);
     Ok(())
 }
