@@ -8,8 +8,8 @@ ghost use Rattle.machine.specs.Memory.{change_at};
 ghost use Rattle.interp.specs.Cells.{written};
 ghost use Rattle.interp.specs.Frames.{called_frame, caller_value, AreLong};
 
+use crate::called_stack::CalledStack;
 use crate::caller::Caller;
-use crate::stack::Stack;
 use std::marker::Model;
 
 /// The most frames above the first.
@@ -26,10 +26,10 @@ const NO_CALLER: Caller = Caller {
 };
 
 /// Places for the frames above the first, of which the first so many are open. A frame that is entered
-/// again finds the bytes of its stack as they were, and none of them is marked as written.
+/// again finds the bytes of its stack as they were, and none of them is set.
 #[derive(Drop)]
 pub(crate) struct Frames {
-    stacks: [Stack; 3],
+    stacks: [CalledStack; 3],
     callers: [Caller; 3],
     count: usize,
 }
@@ -52,7 +52,7 @@ impl Frames {
         ensures { result ≡ [] }
     {
         Frames {
-            stacks: [Stack::new(), Stack::new(), Stack::new()],
+            stacks: [CalledStack::new(), CalledStack::new(), CalledStack::new()],
             callers: [NO_CALLER; 3],
             count: 0,
         }
@@ -95,7 +95,7 @@ impl Frames {
     }
 
     /// The stack of an open frame.
-    pub(crate) fn stack(&self, number: usize) -> &Stack
+    pub(crate) fn stack(&self, number: usize) -> &CalledStack
         requires number { number < length self.now }
         requires few { number < 3 }
         ensures { option_map (λ f. f.stack) (slice_get self.now number) ≡ Some result.now }

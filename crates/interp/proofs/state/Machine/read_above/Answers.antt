@@ -1,4 +1,4 @@
-use Rattle.std.proofs.Common.{ℕ, ◌≡◌, List, [], ◌∷◌, Option, None, Some, refl, sym, ap, ◌∙◌, arith}
+use Rattle.std.proofs.Common.{ℕ, ◌≡◌, List, [], ◌∷◌, Option, None, Some, sym, ap, ◌∙◌, arith}
 use Rattle.machine.specs.State.{Frame}
 use Rattle.machine.specs.Memory.{byte_count, byte_at}
 use Rattle.interp.specs.Frames.{frames_above}

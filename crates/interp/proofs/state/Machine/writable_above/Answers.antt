@@ -1,4 +1,4 @@
-use Rattle.std.proofs.Common.{◌≡◌, List, [], ◌∷◌, None, Some, refl, sym, ◌∙◌, arith}
+use Rattle.std.proofs.Common.{◌≡◌, List, [], ◌∷◌, None, Some, sym, ◌∙◌, arith}
 use Rattle.machine.specs.State.{Frame}
 use Rattle.machine.specs.Memory.{byte_at}
 use Rattle.interp.specs.Frames.{frames_above}
