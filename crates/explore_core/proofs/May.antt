@@ -1,5 +1,5 @@
 -- An event whose condition fails changes nothing.
-use Rattle.std.proofs.Common.{ℕ, zero, suc, ◌≡◌, ◌-◌, ◌<◌, ◌==◌, inl, inr, Bool, true, false, cond, if◌then◌else◌, List, [], ◌∷◌, length, Option, None, Some, option_map, slice_get, refl, arith}
+use Rattle.std.proofs.Common.{ℕ, zero, suc, ◌≡◌, ◌-◌, ◌<◌, ◌==◌, ◌&&◌, inl, inr, Bool, true, false, cond, if◌then◌else◌, List, [], ◌∷◌, length, Option, None, Some, option_map, slice_get, refl, arith}
 use Rattle.std.specs.List.{find}
 use Rattle.std.proofs.lemmas.Bool.Decides.{nat_tests}
 use Rattle.std.proofs.lemmas.Option.{slice_get_within}
@@ -7,10 +7,12 @@ use Rattle.explore_core.specs.declared.job.Job.{Job}
 use Rattle.explore_core.specs.declared.hand.Hand.{Hand}
 use Rattle.explore_core.specs.declared.hand.Hand.TheVariants.{Idle, Holding, Ended, Lost}
 use Rattle.explore_core.specs.declared.piece.Found.TheVariants.{Lines, Passed}
-use Rattle.explore_core.specs.declared.event.Event.TheVariants.{Draw, Look, Put, Post, Pass, Done, Quit}
+use Rattle.explore_core.specs.declared.event.Event.TheVariants.{Draw, Take, Look, Put, Post, Pass, Done, Quit}
 use Rattle.explore_core.specs.Jobs.{block_at, failing, lies_after}
-use Rattle.explore_core.specs.State.{State, drawn, next_job, looked, last_judged, put, lowered, posted, handed_over, piece_passed, piece_done, quit}
+use Rattle.explore_core.specs.State.{State, may_draw, drawn, given, next_job, looked, last_judged, put, lowered, posted, handed_over, piece_passed, piece_done, quit}
 use Rattle.explore_core.specs.May.{May, UnlessItMay}
+use Rattle.explore_core.specs.Lists.{is_under, listed_under}
+use Rattle.explore_core.proofs.Each.{any_at}
 use Rattle.explore_core.proofs.Sound.{after_all_of}
 
 -- what is found, and where
@@ -24,12 +26,34 @@ found_at (j ∷ js) job e = step j.fails refl e (found_at js job)
     step true k e rest = (zero, j, refl, k)
     step false k e rest = let there = rest e in (suc there.0, there.1, there.2, there.3)
 
-draw_not : (s : State) (w : ℕ) (hand : Option Hand) → slice_get s.hands w ≡ hand → (May s (Draw w) → ⊥) → drawn s w hand ≡ s
-draw_not s w None at h = refl
-draw_not s w (Some Idle) at h = absurd (h at)
-draw_not s w (Some Ended) at h = refl
-draw_not s w (Some (Lost b)) at h = refl
-draw_not s w (Some (Holding b judged)) at h = refl
+draw_not : (s : State) (w : ℕ) (hand : Option Hand) (late : Option Bool) → slice_get s.hands w ≡ hand → slice_get s.late w ≡ late → (May s (Draw w) → ⊥) → drawn s w (may_draw hand late) ≡ s
+draw_not s w None late at is h = refl
+draw_not s w (Some Ended) late at is h = refl
+draw_not s w (Some (Lost b)) late at is h = refl
+draw_not s w (Some Idle) None at is h = refl
+draw_not s w (Some Idle) (Some true) at is h = refl
+draw_not s w (Some Idle) (Some false) at is h = absurd (h (inl at, is))
+draw_not s w (Some (Holding b judged)) None at is h = refl
+draw_not s w (Some (Holding b judged)) (Some true) at is h = refl
+draw_not s w (Some (Holding b judged)) (Some false) at is h = absurd (h (inr (b, judged, at), is))
+
+take_not : (s : State) (w from block : ℕ) (hand : Option Hand) (listed : Bool) → slice_get s.hands w ≡ hand → listed_under from block s.lists ≡ listed
+    → (May s (Take w from block) → ⊥) → given s w from block hand listed ≡ s
+take_not s w from block None listed at there h = refl
+take_not s w from block (Some Ended) listed at there h = refl
+take_not s w from block (Some (Lost b)) listed at there h = refl
+take_not s w from block (Some (Holding b judged)) listed at there h = refl
+take_not s w from block (Some Idle) false at there h = refl
+take_not s w from block (Some Idle) true at there h =
+    let found = any_at (is_under from block) s.lists there in
+    let parts = both (found.1.worker == from) (found.1.block == block) found.3 in
+    let worker : found.1.worker ≡ from = grind (arith, nat_tests, parts.0) in
+    let own : found.1.block ≡ block = grind (arith, nat_tests, parts.1) in
+    absurd (h (at, (found.0, found.1, found.2, worker, own)))
+  where
+    both : (a b : Bool) → (a && b) ≡ true → (a ≡ true) × (b ≡ true)
+    both true b e = (refl, e)
+    both false b e = absurd (let bad : false ≡ true = e in cc)
 
 look_not : (s : State) (w : ℕ) (hand : Option Hand) → slice_get s.hands w ≡ hand → (May s (Look w) → ⊥) → looked s w hand (next_job s.blocks hand) ≡ s
 look_not s w None at h = refl
@@ -99,7 +123,8 @@ quit_not s w (Some (Lost b)) at h = refl
 quit_not s w (Some (Holding b judged)) at h = absurd (h (inr (b, judged, at)))
 
 pub unless_it_may : UnlessItMay
-unless_it_may s (Draw w) h = draw_not s w (slice_get s.hands w) refl h
+unless_it_may s (Draw w) h = draw_not s w (slice_get s.hands w) (slice_get s.late w) refl refl h
+unless_it_may s (Take w from block) h = take_not s w from block (slice_get s.hands w) (listed_under from block s.lists) refl refl h
 unless_it_may s (Look w) h = look_not s w (slice_get s.hands w) refl h
 unless_it_may s (Put w gone) h = put_not s w gone (slice_get s.hands w) refl h
 unless_it_may s (Post w) h = post_not s w (slice_get s.hands w) refl h

@@ -13,12 +13,13 @@ use Rattle.explore_core.specs.declared.hand.Hand.TheVariants.{Idle, Holding, End
 use Rattle.explore_core.specs.declared.piece.Piece.{Piece}
 use Rattle.explore_core.specs.declared.piece.Found.TheVariants.{Lines, Passed}
 use Rattle.explore_core.specs.declared.event.Event.{Event}
-use Rattle.explore_core.specs.declared.event.Event.TheVariants.{Draw, Look, Put, Post, Pass, Done, Quit}
+use Rattle.explore_core.specs.declared.event.Event.TheVariants.{Draw, Take, Look, Put, Post, Pass, Done, Quit}
 use Rattle.explore_core.specs.Jobs.{AreJobs, all_jobs, block_at, failing, first_failing_image, lies_after}
-use Rattle.explore_core.specs.State.{State, start, with_hand, drawn, taken, next_job, looked, last_judged, put, lowered, posted, handed_over, piece_passed, piece_done, quit, after, after_all}
+use Rattle.explore_core.specs.State.{State, start, with_hand, may_draw, listed, too_late, drawn, given, taken, next_job, looked, last_judged, put, lowered, posted, handed_over, piece_passed, piece_done, quit, after, after_all}
+use Rattle.explore_core.specs.Lists.{listed_under}
 use Rattle.explore_core.specs.Sound.{Each, IsJob, IsTrueEntry, IsFailing, IsFailingIfAny, ComesBefore, IsTrueHand, IsTruePiece, ArePlaced, is_passed, IsSound}
 use Rattle.explore_core.proofs.Each.{each_none, each_cons, each_push, each_set, each_replicate, each_filter, found, taken_at}
-use Rattle.explore_core.proofs.Places.{placed_first, placed_same, placed_over, placed_drawn, placed_late}
+use Rattle.explore_core.proofs.Places.{placed_first, placed_same, placed_over, placed_drawn, placed_late, placed_given, listed_within}
 
 -- a job of a block is one of all jobs
 pub of_block : (blocks : List (List Job)) (b i : ℕ) (job : Job) → slice_get (block_at blocks b) i ≡ Some job → IsJob blocks job
@@ -47,15 +48,12 @@ taken_same blocks cache job h listed = step (find (λ (e : Entry). e.key == job.
         let own : entry.outcome ≡ job.outcome = sym (there.0.outcome job listed same) in
         λ i. record { image = job.image; key = job.key; outcome = own i; fails = job.fails }
 
-sound_drawn : (s : State) (w : ℕ) (hand : Option Hand) → slice_get s.hands w ≡ hand → IsSound s → IsSound (drawn s w hand)
-sound_drawn s w None at sound = sound
-sound_drawn s w (Some (Holding b judged)) at sound = sound
-sound_drawn s w (Some Ended) at sound = sound
-sound_drawn s w (Some (Lost b)) at sound = sound
-sound_drawn s w (Some Idle) at sound = step (nat_lt s.next (length s.blocks)) refl
+sound_drawn : (s : State) (w : ℕ) (may : Bool) → IsSound s → IsSound (drawn s w may)
+sound_drawn s w false sound = sound
+sound_drawn s w true sound = step (nat_lt s.next (length s.blocks)) refl
   where
     step : (b : Bool) → nat_lt s.next (length s.blocks) ≡ b
-        → IsSound (record s { next = s.next + 1; hands = slice_set s.hands w (if b then Holding s.next [] else Ended) })
+        → IsSound (if b then listed s w else too_late s w)
     step true e =
         let more : s.next < length s.blocks = grind (arith, nat_tests, e) in
         record {
@@ -64,8 +62,8 @@ sound_drawn s w (Some Idle) at sound = step (nat_lt s.next (length s.blocks)) re
           least = sound.least;
           pieces = sound.pieces;
           passed = sound.passed;
-          hands = each_set (IsTrueHand s.blocks) s.hands w (Holding s.next []) sound.hands (more, refl);
-          places = placed_drawn (length s.blocks) s.next s.hands s.pieces w at more sound.places;
+          hands = sound.hands;
+          places = placed_drawn (length s.blocks) s.next s.lists s.hands s.pieces w more sound.places;
         }
     step false e =
         let late : length s.blocks ≤ s.next = grind (arith, nat_tests, e) in
@@ -75,10 +73,25 @@ sound_drawn s w (Some Idle) at sound = step (nat_lt s.next (length s.blocks)) re
           least = sound.least;
           pieces = sound.pieces;
           passed = sound.passed;
-          hands = each_set (IsTrueHand s.blocks) s.hands w Ended sound.hands tt;
-          places = placed_late (length s.blocks) s.next (slice_set s.hands w Ended) s.pieces late
-              (placed_same (length s.blocks) s.next s.hands s.pieces w Idle Ended at (λ b. refl) sound.places);
+          hands = sound.hands;
+          places = placed_late (length s.blocks) s.next s.lists s.hands s.pieces late sound.places;
         }
+
+sound_given : (s : State) (w from block : ℕ) (hand : Option Hand) (listed : Bool) → slice_get s.hands w ≡ hand → listed_under from block s.lists ≡ listed → IsSound s → IsSound (given s w from block hand listed)
+sound_given s w from block None listed at there sound = sound
+sound_given s w from block (Some (Holding b judged)) listed at there sound = sound
+sound_given s w from block (Some Ended) listed at there sound = sound
+sound_given s w from block (Some (Lost b)) listed at there sound = sound
+sound_given s w from block (Some Idle) false at there sound = sound
+sound_given s w from block (Some Idle) true at there sound = record {
+  jobs = sound.jobs;
+  cache = sound.cache;
+  least = sound.least;
+  pieces = sound.pieces;
+  passed = sound.passed;
+  hands = each_set (IsTrueHand s.blocks) s.hands w (Holding block []) sound.hands (listed_within (length s.blocks) s.next s.lists s.hands s.pieces from block there sound.places, refl);
+  places = placed_given (length s.blocks) s.next s.lists s.hands s.pieces w from block at there sound.places;
+}
 
 sound_looked : (s : State) (w : ℕ) (hand : Option Hand) → slice_get s.hands w ≡ hand → IsSound s → IsSound (looked s w hand (next_job s.blocks hand))
 sound_looked s w None at sound = sound
@@ -105,7 +118,7 @@ sound_looked s w (Some (Holding b judged)) at sound = step (slice_get (block_at 
           pieces = sound.pieces;
           passed = sound.passed;
           hands = each_set (IsTrueHand s.blocks) s.hands w (Holding b (judged ++ job ∷ [])) sound.hands (holding.0, more);
-          places = placed_same (length s.blocks) s.next s.hands s.pieces w (Holding b judged) (Holding b (judged ++ job ∷ [])) at (λ b. refl) sound.places;
+          places = placed_same (length s.blocks) s.next s.lists s.hands s.pieces w (Holding b judged) (Holding b (judged ++ job ∷ [])) at (λ b. refl) sound.places;
         }
         )
 
@@ -183,7 +196,7 @@ sound_over s w judged piece at true_piece full sound = record {
   least = sound.least;
   pieces = each_push (IsTruePiece s.blocks) s.pieces piece sound.pieces true_piece;
   hands = each_set (IsTrueHand s.blocks) s.hands w Idle sound.hands tt;
-  places = placed_over (length s.blocks) s.next s.hands s.pieces w judged piece at sound.places;
+  places = placed_over (length s.blocks) s.next s.lists s.hands s.pieces w judged piece at sound.places;
   passed = λ e.
       let one : ◌≡◌ {A = ℕ} (if is_passed piece then 1 else 0) 0 = ap (λ b. if b then 1 else 0) (full e) in
       omega (arith, count_by-push is_passed s.pieces piece, one, sound.passed e);
@@ -234,7 +247,7 @@ sound_done s w (Some (Holding b judged)) at sound = step (length judged == lengt
         sound_over s w judged (record { block = b; found = Lines (failing judged) }) at (holding.0, ap failing all) (λ off. refl) sound
 
 sound_hand : (s : State) (w : ℕ) (old new : Hand) → slice_get s.hands w ≡ Some old → IsTrueHand s.blocks new
-    → ArePlaced (length s.blocks) s.next (slice_set s.hands w new) s.pieces → IsSound s → IsSound (with_hand s w new)
+    → ArePlaced (length s.blocks) s.next s.lists (slice_set s.hands w new) s.pieces → IsSound s → IsSound (with_hand s w new)
 sound_hand s w old new at true_hand placed sound = record {
   jobs = sound.jobs;
   cache = sound.cache;
@@ -250,13 +263,14 @@ sound_quit s w None at sound = sound
 sound_quit s w (Some Ended) at sound = sound
 sound_quit s w (Some (Lost b)) at sound = sound
 sound_quit s w (Some Idle) at sound =
-    sound_hand s w Idle Ended at tt (placed_same (length s.blocks) s.next s.hands s.pieces w Idle Ended at (λ b. refl) sound.places) sound
+    sound_hand s w Idle Ended at tt (placed_same (length s.blocks) s.next s.lists s.hands s.pieces w Idle Ended at (λ b. refl) sound.places) sound
 sound_quit s w (Some (Holding block judged)) at sound =
     sound_hand s w (Holding block judged) (Lost block) at tt
-    (placed_same (length s.blocks) s.next s.hands s.pieces w (Holding block judged) (Lost block) at (λ b. omega arith) sound.places) sound
+    (placed_same (length s.blocks) s.next s.lists s.hands s.pieces w (Holding block judged) (Lost block) at (λ b. omega arith) sound.places) sound
 
 pub sound_after : (s : State) (e : Event) → IsSound s → IsSound (after s e)
-sound_after s (Draw w) sound = sound_drawn s w (slice_get s.hands w) refl sound
+sound_after s (Draw w) sound = sound_drawn s w (may_draw (slice_get s.hands w) (slice_get s.late w)) sound
+sound_after s (Take w from block) sound = sound_given s w from block (slice_get s.hands w) (listed_under from block s.lists) refl refl sound
 sound_after s (Look w) sound = sound_looked s w (slice_get s.hands w) refl sound
 sound_after s (Put w gone) sound = sound_put s gone (slice_get s.hands w) w refl sound
 sound_after s (Post w) sound = sound_posted s (slice_get s.hands w) w refl sound

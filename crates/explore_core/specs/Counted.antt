@@ -1,13 +1,7 @@
 -- How often a next block was asked for.
-use Rattle.std.specs.Prelude.{ℕ, ◌+◌, ◌<◌, ◌≤◌, Bool, true, false, List, length, count_by}
-use Rattle.explore_core.specs.declared.hand.Hand.{Hand}
-use Rattle.explore_core.specs.declared.hand.Hand.TheVariants.{Ended}
+use Rattle.std.specs.Prelude.{ℕ, ◌+◌, ◌<◌, ◌≤◌, Bool, List, length, count_by}
 
-abbrev pub has_ended : Hand → Bool
-has_ended Ended = true
-has_ended hand = false
-
--- a worker that found no block has ended, so `next` passes the number of blocks by no more than there are such workers
-pub record AreCounted (blocks next : ℕ) (hands : List Hand) : Type 0 where
-  pub late : next ≤ blocks + count_by has_ended hands
-  pub few : length hands < 256
+-- a worker that found no block draws no more, so `next` passes the number of blocks by no more than there are such workers
+pub record AreCounted (blocks next : ℕ) (marks : List Bool) : Type 0 where
+  pub late : next ≤ blocks + count_by (λ (mark : Bool). mark) marks
+  pub few : length marks < 256

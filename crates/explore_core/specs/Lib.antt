@@ -2,6 +2,7 @@
 pub mod Jobs
 pub mod Agreement
 pub mod Cache
+pub mod Lists
 pub mod Counted
 pub mod State
 pub mod Sound

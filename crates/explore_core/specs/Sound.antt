@@ -4,6 +4,7 @@ use Rattle.std.specs.List.{count_by, flat_map, range_with_len}
 use Rattle.explore_core.specs.declared.job.Job.{Job}
 use Rattle.explore_core.specs.declared.cache.Entry.{Entry}
 use Rattle.explore_core.specs.declared.hand.Hand.{Hand}
+use Rattle.explore_core.specs.declared.lists.Drawn.{Drawn}
 use Rattle.explore_core.specs.declared.hand.Hand.TheVariants.{Holding, Lost}
 use Rattle.explore_core.specs.declared.piece.Piece.{Piece}
 use Rattle.explore_core.specs.declared.piece.Found.{Found}
@@ -55,7 +56,7 @@ abbrev pub IsTrueHand : List (List Job) → Hand → Type 0
 IsTrueHand blocks (Holding b judged) = (b < length blocks) × (judged ≡ take (length judged) (block_at blocks b))
 IsTrueHand blocks hand = Unit {0}
 
--- in how many hands a block is, how often it was lost, and how many pieces there are of it
+-- in how many lists and hands a block is, how often it was lost, and how many pieces there are of it
 
 abbrev pub holds : ℕ → Hand → Bool
 holds b (Holding block judged) = block == b
@@ -65,8 +66,9 @@ abbrev pub loses : ℕ → Hand → Bool
 loses b (Lost block) = block == b
 loses b hand = false
 
-abbrev pub held : List Hand → ℕ → ℕ
-held hands b = count_by (holds b) hands
+-- a block in a list counts as held
+abbrev pub held : List Drawn → List Hand → ℕ → ℕ
+held lists hands b = count_by (λ (d : Drawn). d.block == b) lists + count_by (holds b) hands
 
 abbrev pub lost : List Hand → ℕ → ℕ
 lost hands b = count_by (loses b) hands
@@ -74,11 +76,11 @@ lost hands b = count_by (loses b) hands
 abbrev pub handed : List Piece → ℕ → ℕ
 handed pieces b = count_by (λ (p : Piece). p.block == b) pieces
 
--- each block that was drawn is in one hand, in one piece or lost by one worker, and the others are nowhere
-pub record ArePlaced (blocks next : ℕ) (hands : List Hand) (pieces : List Piece) : Type 0 where
-  pub drawn : (b : ℕ) → b < next → b < blocks → held hands b + (lost hands b + handed pieces b) ≡ 1
-  pub waiting : (b : ℕ) → next ≤ b → held hands b + (lost hands b + handed pieces b) ≡ 0
-  pub beyond : (b : ℕ) → blocks ≤ b → held hands b + (lost hands b + handed pieces b) ≡ 0
+-- each block that was drawn is in one list or hand, in one piece or lost by one worker, and the others are nowhere
+pub record ArePlaced (blocks next : ℕ) (lists : List Drawn) (hands : List Hand) (pieces : List Piece) : Type 0 where
+  pub drawn : (b : ℕ) → b < next → b < blocks → held lists hands b + (lost hands b + handed pieces b) ≡ 1
+  pub waiting : (b : ℕ) → next ≤ b → held lists hands b + (lost hands b + handed pieces b) ≡ 0
+  pub beyond : (b : ℕ) → blocks ≤ b → held lists hands b + (lost hands b + handed pieces b) ≡ 0
 
 abbrev pub passes : Found → Bool
 passes (Lines js) = false
@@ -93,14 +95,14 @@ pub record IsSound (s : State) : Type 0 where
   pub least : IsFailingIfAny s.blocks s.least
   pub pieces : Each (IsTruePiece s.blocks) s.pieces
   pub hands : Each (IsTrueHand s.blocks) s.hands
-  pub places : ArePlaced (length s.blocks) s.next s.hands s.pieces
+  pub places : ArePlaced (length s.blocks) s.next s.lists s.hands s.pieces
   -- without `first` nothing is passed over
   pub passed : s.first ≡ false → count_by is_passed s.pieces ≡ 0
 
 -- all blocks are drawn, and none is held or lost
 pub record IsComplete (s : State) : Type 0 where
   pub drawn : length s.blocks ≤ s.next
-  pub held : (b : ℕ) → held s.hands b ≡ 0
+  pub held : (b : ℕ) → held s.lists s.hands b ≡ 0
   pub lost : (b : ℕ) → lost s.hands b ≡ 0
 
 abbrev pub lines_of : Found → List Job

@@ -1,16 +1,18 @@
 -- The state of an exploration, and what each event makes of it
 -- (docs/PROVED.md, The exploration as a list of events).
-use Rattle.std.specs.Prelude.{ℕ, ◌+◌, ◌-◌, ◌==◌, nat_lt, min, Bool, true, if◌then◌else◌, List, [], ◌∷◌, ◌++◌, length, replicate, Option, None, Some, slice_get, slice_set, unwrap_or}
+use Rattle.std.specs.Prelude.{ℕ, ◌+◌, ◌-◌, ◌==◌, nat_lt, min, Bool, true, false, if◌then◌else◌, List, [], ◌∷◌, ◌++◌, length, replicate, Option, None, Some, slice_get, slice_set, unwrap_or}
 use Rattle.explore_core.specs.declared.job.Job.{Job}
 use Rattle.explore_core.specs.declared.hand.Hand.{Hand}
 use Rattle.explore_core.specs.declared.hand.Hand.TheVariants.{Idle, Holding, Ended, Lost}
 use Rattle.explore_core.specs.declared.piece.Piece.{Piece}
 use Rattle.explore_core.specs.declared.piece.Found.TheVariants.{Lines, Passed}
 use Rattle.explore_core.specs.declared.event.Event.{Event}
-use Rattle.explore_core.specs.declared.event.Event.TheVariants.{Draw, Look, Put, Post, Pass, Done, Quit}
+use Rattle.explore_core.specs.declared.event.Event.TheVariants.{Draw, Take, Look, Put, Post, Pass, Done, Quit}
 use Rattle.explore_core.specs.Jobs.{block_at, failing, first_failing_image, lies_after}
 use Rattle.explore_core.specs.declared.cache.Entry.{Entry}
 use Rattle.explore_core.specs.Cache.{cached, without}
+use Rattle.explore_core.specs.declared.lists.Drawn.{Drawn}
+use Rattle.explore_core.specs.Lists.{listed_under, unlisted}
 
 pub record State : Type 0 where
   -- the jobs, in blocks
@@ -19,6 +21,10 @@ pub record State : Type 0 where
   pub first : Bool
   -- how many blocks were asked for
   pub next : ℕ
+  -- of each worker whether it found no block left
+  pub late : List Bool
+  -- the blocks in the workers' lists
+  pub lists : List Drawn
   -- the least image that was posted
   pub least : Option ℕ
   -- outcomes by key
@@ -31,21 +37,37 @@ pub record State : Type 0 where
 -- nothing is drawn, and every worker is idle
 abbrev pub start : List (List Job) → ℕ → Bool → State
 start blocks workers first =
-    record { blocks = blocks; first = first; next = 0; least = None; cache = []; pieces = []; hands = replicate workers Idle }
+    record { blocks = blocks; first = first; next = 0; late = replicate workers false; lists = []; least = None; cache = []; pieces = []; hands = replicate workers Idle }
 
 -- the state with another hand of that worker
 abbrev pub with_hand : State → ℕ → Hand → State
 with_hand s w hand = record s { hands = slice_set s.hands w hand }
 
--- Draw: an idle worker gets the next block, or ends where none is left
+-- Draw: a worker that hasn't ended puts the next block into its list; where none is left, it draws no more
 
--- the hand after a draw that found that number
-abbrev pub hand_drawn : ℕ → ℕ → Hand
-hand_drawn blocks next = if nat_lt next blocks then Holding next [] else Ended
+-- whether a worker may draw, by its hand, and by whether it found no block left
+abbrev pub may_draw : Option Hand → Option Bool → Bool
+may_draw (Some Idle) (Some false) = true
+may_draw (Some (Holding block judged)) (Some false) = true
+may_draw hand late = false
 
-abbrev pub drawn : State → ℕ → Option Hand → State
-drawn s w (Some Idle) = record s { next = s.next + 1; hands = slice_set s.hands w (hand_drawn (length s.blocks) s.next) }
-drawn s w hand = s
+-- the next block is in the list of the worker
+abbrev pub listed : State → ℕ → State
+listed s w = record s { next = s.next + 1; lists = s.lists ++ record { worker = w; block = s.next } ∷ [] }
+
+-- the worker found no block
+abbrev pub too_late : State → ℕ → State
+too_late s w = record s { next = s.next + 1; late = slice_set s.late w true }
+
+abbrev pub drawn : State → ℕ → Bool → State
+drawn s w true = if nat_lt s.next (length s.blocks) then listed s w else too_late s w
+drawn s w false = s
+
+-- Take: an idle worker gets a block out of a worker's list
+
+abbrev pub given : State → ℕ → ℕ → ℕ → Option Hand → Bool → State
+given s w from block (Some Idle) true = record s { lists = unlisted from block s.lists; hands = slice_set s.hands w (Holding block []) }
+given s w from block hand listed = s
 
 -- Look: a worker takes the outcome of the next job of its block
 
@@ -116,7 +138,8 @@ quit s w hand = s
 
 -- the state after an event; where there is no such worker, or the event's condition fails, it is the state before
 abbrev pub after : State → Event → State
-after s (Draw w) = drawn s w (slice_get s.hands w)
+after s (Draw w) = drawn s w (may_draw (slice_get s.hands w) (slice_get s.late w))
+after s (Take w from block) = given s w from block (slice_get s.hands w) (listed_under from block s.lists)
 after s (Look w) = looked s w (slice_get s.hands w) (next_job s.blocks (slice_get s.hands w))
 after s (Put w gone) = put s gone (last_judged (slice_get s.hands w))
 after s (Post w) = posted s (slice_get s.hands w)

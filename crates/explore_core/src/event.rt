@@ -37,8 +37,10 @@ impl Keys {
 /// One atomic step of a worker (docs/PROVED.md, The exploration as a list of events).
 #[derive(Drop)]
 pub enum Event {
-    /// The idle worker draws the next block, or ends where none is left.
+    /// The worker draws the next block into its list, or draws no more where none is left.
     Draw(u8),
+    /// The idle worker takes, out of the list of the second, which may be itself, that block.
+    Take(u8, u8, usize),
     /// The worker judges the next job of its block: by the cache, or else by itself.
     Look(u8),
     /// The worker puts what it judged last into the cache, which then loses the keys.
@@ -49,6 +51,6 @@ pub enum Event {
     Pass(u8),
     /// The worker hands over the failing jobs of its block, all judged.
     Done(u8),
-    /// The worker ends, and its block is lost.
+    /// The worker ends, and the block in its hand is lost. Its list stays.
     Quit(u8),
 }

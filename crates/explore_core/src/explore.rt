@@ -3,13 +3,15 @@
 ghost use Rattle.std.specs.Prelude.{◌≡◌, ◌<◌, IfOk, OnOk, OnErr, slice_get, length, option_copied, OnSome, is_some, Some, None, if◌then◌else◌, true};
 ghost use Rattle.explore_core.specs.Jobs.{lies_after};
 ghost use Rattle.explore_core.specs.Sound.{IsSound};
+ghost use Rattle.explore_core.specs.Lists.{listed_under};
 ghost use Rattle.explore_core.specs.declared.piece.Found.TheVariants.{Passed};
-ghost use Rattle.explore_core.specs.State.{start, after, after_all, hand_drawn, taken, lowered, drawn, next_job, looked, last_judged, put, posted, piece_passed, piece_done, handed_over, quit};
+ghost use Rattle.explore_core.specs.State.{start, after, after_all, taken, lowered, may_draw, listed, drawn, given, next_job, looked, last_judged, put, posted, piece_passed, piece_done, handed_over, quit};
 
 use crate::cache::{Entry, cached, take_out};
 use crate::event::Event;
 use crate::hand::Hand;
 use crate::job::{Job, JobList, Jobs, first_failing_image, lies_after};
+use crate::lists::{Drawn, listed_under, unlist};
 use crate::piece::{Found, Piece};
 use std::alloc::{AllocError, Global};
 use std::marker::Model;
@@ -21,6 +23,8 @@ pub struct Explore<'a> {
     jobs: &'a Jobs,
     first: bool,
     next: u64,
+    late: Vec<bool>,
+    lists: Vec<Drawn>,
     least: Option<u64>,
     cache: Vec<Entry>,
     pieces: Vec<Piece>,
@@ -32,12 +36,12 @@ impl<'a> Model for Explore<'a> {
 
     ghost Value = { State };
 
-    ghost view = { λ e. record { blocks = e.jobs.now; first = e.first; next = e.next; least = e.least; cache = e.cache.items; pieces = e.pieces.items; hands = e.hands.items } };
+    ghost view = { λ e. record { blocks = e.jobs.now; first = e.first; next = e.next; late = e.late.items; lists = e.lists.items; least = e.least; cache = e.cache.items; pieces = e.pieces.items; hands = e.hands.items } };
 
     ghost use Rattle.std.specs.Prelude.{length};
     ghost use Rattle.explore_core.specs.Counted.{AreCounted};
 
-    ghost invariant = { λ e. AreCounted (length e.jobs.now) e.next e.hands.items };
+    ghost invariant = { λ e. AreCounted (length e.jobs.now) e.next e.late.items };
 }
 
 impl<'a> Explore<'a> {
@@ -51,13 +55,17 @@ impl<'a> Explore<'a> {
         ensures { IfOk result (λ e. e ≡ start jobs.now workers first) }
     {
         let mut hands = Vec::new(alloc);
+        let mut late = Vec::new(alloc);
         for _worker in 0..workers {
             hands.push(Hand::Idle)?;
+            late.push(false)?;
         }
         Ok(Explore {
             jobs,
             first,
             next: 0,
+            late,
+            lists: Vec::new(alloc),
             least: None,
             cache: Vec::new(alloc),
             pieces: Vec::new(alloc),
@@ -86,15 +94,71 @@ impl<'a> Explore<'a> {
         self.pieces.as_slice()
     }
 
-    fn draw(&mut self, alloc: Global, worker: usize)
-        ensures { self.new ≡ drawn self.old worker (slice_get self.old.hands worker) }
+    /// Whether a worker hasn't ended, and found a block at each draw.
+    fn may_draw(&self, worker: usize) -> bool
+        ensures value { result ≡ may_draw (slice_get self.now.hands worker) (slice_get self.now.late worker) }
+        ensures within { result ≡ true → worker < length self.now.late }
     {
-        let hand = match self.hands.get(worker) {
-            Some(Hand::Idle) => hand_drawn(alloc, self.jobs.block_count(), self.next),
-            _ => return,
-        };
-        self.hands[worker] = hand;
+        match (self.hands.get(worker), self.late.get(worker)) {
+            (Some(Hand::Idle), Some(late)) => !late,
+            (
+                Some(
+                    Hand::Holding {
+                        block: _,
+                        judged: _,
+                    },
+                ),
+                Some(late),
+            ) => !late,
+            _ => false,
+        }
+    }
+
+    /// Puts the next block into a worker's list.
+    fn list_next(&mut self, worker: usize) -> Result<(), AllocError>
+        requires { self.old.next < length self.old.blocks }
+        ensures listed { OnOk result (self.new ≡ listed self.old worker) }
+        ensures kept { OnErr result (self.new ≡ self.old) }
+    {
+        let _blocks = self.jobs.block_count();
+        let next = self.next;
+        let block = next as usize;
+        self.lists.push(Drawn { worker, block })?;
+        self.next = next + 1;
+        Ok(())
+    }
+
+    fn draw(&mut self, worker: usize) -> Result<(), AllocError>
+        ensures drawn { OnOk result (self.new ≡ drawn self.old worker (may_draw (slice_get self.old.hands worker) (slice_get self.old.late worker))) }
+        ensures kept { OnErr result (self.new ≡ self.old) }
+    {
+        if !self.may_draw(worker) {
+            return Ok(());
+        }
+        if self.next < self.jobs.block_count() as u64 {
+            return self.list_next(worker);
+        }
+        self.late[worker] = true;
         self.next += 1;
+        Ok(())
+    }
+
+    fn take(&mut self, alloc: Global, worker: u8, from: u8, block: usize)
+        ensures { self.new ≡ given self.old worker from block (slice_get self.old.hands worker) (listed_under from block self.old.lists) }
+    {
+        let taker = usize::from(worker);
+        let owner = usize::from(from);
+        if !listed_under(self.lists.as_slice(), owner, block) {
+            return;
+        }
+        match self.hands.get(taker) {
+            Some(Hand::Idle) => unlist(&mut self.lists, owner, block),
+            _ => return,
+        }
+        self.hands[taker] = Hand::Holding {
+            block,
+            judged: JobList::new(alloc),
+        };
     }
 
     /// The job that a worker is to judge next, if there is one.
@@ -233,20 +297,6 @@ impl<'a> Explore<'a> {
     }
 }
 
-/// The hand after a draw that found that number.
-fn hand_drawn(alloc: Global, blocks: usize, next: u64) -> Hand
-    ensures { result ≡ hand_drawn blocks next }
-{
-    if next < blocks as u64 {
-        Hand::Holding {
-            block: next as usize,
-            judged: JobList::new(alloc),
-        }
-    } else {
-        Hand::Ended
-    }
-}
-
 /// One event. Where its condition fails, as where there is no such worker, nothing changes.
 ///
 /// # Errors
@@ -257,7 +307,8 @@ pub fn step(alloc: Global, explore: &mut Explore, event: &Event) -> Result<(), A
     ensures kept { OnErr result (explore.new ≡ explore.old) }
 {
     match event {
-        Event::Draw(worker) => explore.draw(alloc, usize::from(*worker)),
+        Event::Draw(worker) => return explore.draw(usize::from(*worker)),
+        Event::Take(worker, from, block) => explore.take(alloc, *worker, *from, *block),
         Event::Look(worker) => return explore.look(usize::from(*worker)),
         Event::Put(worker, gone) => return explore.put(usize::from(*worker), gone.as_slice()),
         Event::Post(worker) => explore.post(usize::from(*worker)),

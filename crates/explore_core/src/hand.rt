@@ -9,7 +9,7 @@ use std::alloc::AllocError;
 /// What a worker has in hand.
 #[derive(Drop)]
 pub enum Hand {
-    /// Nothing: it may draw.
+    /// Nothing: it may take a block.
     Idle,
     /// A block, and its jobs that are judged so far, each with the outcome that was taken for it.
     Holding { block: usize, judged: JobList },

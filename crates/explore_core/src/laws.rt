@@ -10,7 +10,7 @@ pub fn unless_it_may()
 
 /// After every list of events each entry of the cache is true; lines handed over are the failing jobs of
 /// their block, and what was passed over names a failing image before all of its block; each block that
-/// was drawn is in one hand, in one piece or lost.
+/// was drawn is in one list or hand, in one piece or lost.
 pub fn every_run_is_sound()
     ensures { EveryRunIsSound }
 {}

@@ -1,6 +1,7 @@
 //! The exploration of a run as a list of events, without threads.
 //!
-//! Workers draw blocks of jobs, judge them by a shared cache of outcomes, and hand over what they found.
+//! Workers draw blocks of jobs into their lists, take them out of their own or another's, judge them by a
+//! shared cache of outcomes, and hand over what they found.
 //! Here the whole of it is a plain state, and each atomic step of a worker is an event. A schedule of
 //! threads is then a list of events, and what holds after every list holds under every schedule
 //! (docs/PROVED.md, The exploration as a list of events).
@@ -9,7 +10,7 @@
 //! |---|---|
 //! | `Job` | an image with a checker: the image's number, a key, the outcome, and whether it fails |
 //! | `Jobs::new(blocks)` | jobs in blocks; none exactly where an image falls, or equal keys have unequal outcomes |
-//! | `Event` | `Draw`, `Look`, `Put`, `Post`, `Pass`, `Done`, `Quit`, each of a worker |
+//! | `Event` | `Draw`, `Take`, `Look`, `Put`, `Post`, `Pass`, `Done`, `Quit`, each of a worker |
 //! | `Explore::new(alloc, jobs, workers, first)` | the state at its start: all workers are idle |
 //! | `step(alloc, explore, event)` | one event; unchanged where memory is wanting |
 //! | `run(alloc, jobs, workers, first, events)` | the state after a list of events |
@@ -18,8 +19,8 @@
 //! # Place
 //!
 //! It stands on `base` alone and has no thread, lock or device. The layers with threads answer to it: a
-//! draw of the board of `shares` is one `Draw`, a post one `Post`, the load of the least image that in
-//! `Pass`, and a look or a put on a locked shard of the cache is one `Look` or `Put`. That the images and
+//! draw of the board of `shares` is one `Draw`, what a hand there takes one `Take`, a post one `Post`, the
+//! load of the least image that in `Pass`, and a look or a put on a locked shard of the cache is one `Look` or `Put`. That the images and
 //! checkers of a run are jobs, as they are meant here, is a law of `run_jobs`, which stands on both.
 //!
 //! # What is proved
@@ -32,15 +33,15 @@
 //! - the least image posted is that of a failing job;
 //! - lines handed over are the failing jobs of their block, and a piece that was passed over names a
 //!   failing image before all of its block;
-//! - each block that was drawn is in one hand, in one piece or lost by one worker that quit.
+//! - each block that was drawn is in one list or hand, in one piece or lost by one worker that quit.
 //!
-//! Where all blocks are drawn and none is held or lost, the pieces by block are all failing jobs in order
+//! A block in a list counts as held. Where all blocks are drawn and none is held or lost, the pieces by block are all failing jobs in order
 //! (`whole_is_failing`), or, where some were passed over, begin with the lines of the first failing image
 //! (`whole_begins_with_first`).
 //!
 //! # How it is written
 //!
-//! `explore` has a method for each event. It looks at the worker's hand first, asks for memory before it
+//! `explore` has a method for each event, and `lists` has the lists of all workers in one. It looks at the worker's hand first, asks for memory before it
 //! changes anything, and puts another hand in place. `job` tests jobs without memory, each against all.
 //!
 //! # Example
@@ -48,8 +49,9 @@
 //! ```text
 //! let jobs = Jobs::new(blocks)?;                 // two blocks
 //! let mut explore = Explore::new(alloc, &jobs, 2, false)?;
-//! step(alloc, &mut explore, &Event::Draw(0))?;   // worker 0 has block 0 in hand
-//! step(alloc, &mut explore, &Event::Done(0))?;   // nothing changes: its jobs aren't judged yet
+//! step(alloc, &mut explore, &Event::Draw(0))?;       // block 0 is in the list of worker 0
+//! step(alloc, &mut explore, &Event::Take(1, 0, 0))?; // worker 1 has it in hand
+//! step(alloc, &mut explore, &Event::Done(1))?;       // nothing changes: its jobs aren't judged yet
 //! ```
 #![tactic(auto)]
 
@@ -59,6 +61,7 @@ mod explore;
 mod hand;
 mod job;
 mod laws;
+mod lists;
 mod piece;
 
 pub use event::{Event, Keys};
@@ -66,4 +69,5 @@ pub use explore::{Explore, run, step};
 pub use hand::Hand;
 pub use job::{Job, JobList, Jobs};
 pub use laws::{every_run_is_sound, unless_it_may, whole_begins_with_first, whole_is_failing};
+pub use lists::Drawn;
 pub use piece::{Found, Piece};

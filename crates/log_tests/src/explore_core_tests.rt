@@ -67,18 +67,55 @@ fn outcome(alloc: Global, first: bool, events: &[Event]) -> Result<String, Fail>
 }
 
 #[test]
-fn busy_workers_draw_nothing(rt: HostRuntime) -> Result<(), Fail> {
+fn late_draws_only_count(rt: HostRuntime) -> Result<(), Fail> {
     let alloc = rt.alloc();
     let drawn = outcome(alloc, false, &[Event::Draw(0), Event::Draw(1)])?;
     assert_eq!(rt; drawn.as_str(), "next 2");
-    let again = outcome(
+    let late = outcome(
         alloc,
         false,
-        &[Event::Draw(0), Event::Draw(1), Event::Draw(0)],
+        &[
+            Event::Draw(0),
+            Event::Draw(1),
+            Event::Take(0, 0, 0),
+            Event::Take(1, 1, 1),
+            Event::Draw(0),
+            Event::Draw(0),
+        ],
     )?;
-    assert_eq!(rt; again.as_str(), "next 2", "worker 0 has a block in hand");
+    assert_eq!(rt;
+        late.as_str(),
+        "next 3",
+        "worker 0 found no block left, and draws no more"
+    );
     let nobody = outcome(alloc, false, &[Event::Draw(2), Event::Quit(255)])?;
     assert_eq!(rt; nobody.as_str(), "next 0", "there are two workers");
+    Ok(())
+}
+
+#[test]
+fn blocks_are_taken_out_of_lists_once(rt: HostRuntime) -> Result<(), Fail> {
+    let alloc = rt.alloc();
+    let events = [
+        Event::Draw(0),
+        Event::Draw(0),
+        Event::Take(1, 1, 0),
+        Event::Take(1, 0, 0),
+        Event::Take(0, 0, 0),
+        Event::Take(1, 0, 1),
+        Event::Look(1),
+        Event::Look(1),
+        Event::Done(1),
+        Event::Take(0, 0, 1),
+        Event::Look(0),
+        Event::Done(0),
+    ];
+    let whole = outcome(alloc, false, &events)?;
+    assert_eq!(rt;
+        whole.as_str(),
+        "next 2 | 0: 1 | 1: 2",
+        "a block that isn't listed there is taken by nobody, and a busy worker takes none"
+    );
     Ok(())
 }
 
@@ -88,11 +125,17 @@ fn only_judged_blocks_are_done(rt: HostRuntime) -> Result<(), Fail> {
     let early = outcome(
         alloc,
         false,
-        &[Event::Draw(0), Event::Look(0), Event::Done(0)],
+        &[
+            Event::Draw(0),
+            Event::Take(0, 0, 0),
+            Event::Look(0),
+            Event::Done(0),
+        ],
     )?;
     assert_eq!(rt; early.as_str(), "next 1", "one of two jobs is judged");
     let events = [
         Event::Draw(0),
+        Event::Take(0, 0, 0),
         Event::Look(0),
         Event::Look(0),
         Event::Look(0),
@@ -108,7 +151,9 @@ fn lost_blocks_are_handed_over_by_nobody(rt: HostRuntime) -> Result<(), Fail> {
     let alloc = rt.alloc();
     let events = [
         Event::Draw(0),
+        Event::Take(0, 0, 0),
         Event::Draw(1),
+        Event::Take(1, 1, 1),
         Event::Look(1),
         Event::Quit(1),
         Event::Look(0),
@@ -116,6 +161,7 @@ fn lost_blocks_are_handed_over_by_nobody(rt: HostRuntime) -> Result<(), Fail> {
         Event::Done(0),
         Event::Draw(1),
         Event::Draw(0),
+        Event::Take(0, 1, 1),
         Event::Look(0),
         Event::Done(0),
         Event::Done(1),
@@ -125,7 +171,7 @@ fn lost_blocks_are_handed_over_by_nobody(rt: HostRuntime) -> Result<(), Fail> {
     assert_eq!(rt;
         left.as_str(),
         "next 3 | 0: 1",
-        "block 1 is lost, and worker 0 has ended"
+        "block 1 is lost, and no block is left"
     );
     Ok(())
 }
@@ -136,6 +182,8 @@ fn passes_over_blocks_behind_a_failing_image(rt: HostRuntime) -> Result<(), Fail
     let events = [
         Event::Draw(0),
         Event::Draw(1),
+        Event::Take(0, 0, 0),
+        Event::Take(1, 1, 1),
         Event::Pass(1),
         Event::Look(0),
         Event::Look(0),
@@ -163,6 +211,7 @@ fn outcomes_are_taken_from_the_cache(rt: HostRuntime) -> Result<(), Fail> {
     gone.push(1000)?;
     let mut explore = Explore::new(alloc, &jobs, 1, false)?;
     step(alloc, &mut explore, &Event::Draw(0))?;
+    step(alloc, &mut explore, &Event::Take(0, 0, 0))?;
     step(
         alloc,
         &mut explore,

@@ -134,8 +134,8 @@ fn jobs(alloc: Global) -> Result<Jobs, Fail> {
     Ok(Jobs::new(blocks).ok_or("jobs")?)
 }
 
-/// The events of the run: each block is drawn by its worker before anything is told of it or of a later
-/// one, and at its end all its jobs were looked at and its first failing image posted. Then both workers
+/// The events of the run: each block is drawn by its worker, and taken out of its list, before anything is
+/// told of it or of a later one, and at its end all its jobs were looked at and its first failing image posted. Then both workers
 /// find no block left.
 fn events_of(alloc: Global, told: &Recording, jobs: &Jobs) -> Result<Vec<Event>, AllocError> {
     let mut events = Vec::new(alloc);
@@ -149,6 +149,7 @@ fn events_of(alloc: Global, told: &Recording, jobs: &Jobs) -> Result<Vec<Event>,
                 events.push(Event::Draw(told.taker(next)))?;
                 drawn = next + 1;
             }
+            events.push(Event::Take(worker, worker, block as usize))?;
         } else {
             for _job in jobs.block(block as usize) {
                 events.push(Event::Look(worker))?;
