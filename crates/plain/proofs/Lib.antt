@@ -1,4 +1,9 @@
 pub mod Counts
 pub mod Records
+pub mod Reaching
+pub mod Storing
+pub mod Framing
+pub mod Leaving
+pub mod Loading
 pub mod Agreeing
 pub mod Runs

@@ -1,5 +1,7 @@
 -- The plain machine, how it agrees with the machine, and its runs.
 pub mod Operations
 pub mod Machine
+pub mod Callers
+pub mod Blocks
 pub mod Steps
 pub mod Runs
