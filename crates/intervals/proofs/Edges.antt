@@ -175,7 +175,7 @@ apart_shrinks x y hx hy = both_shrink x y (without x y) (without y x) hx hy (wit
 kept_shrinks : (x y : Span) → IsWordSpan x → IsWordSpan y → Shrinks (Some (x, y)) x y
 kept_shrinks x y hx hy = (hx, hy, record { from = omega arith; upto = omega arith }, record { from = omega arith; upto = omega arith })
 
-narrowed_shrinks : (c : Condition) (taken : Bool) (x y : Span) → IsWordSpan x → IsWordSpan y → Shrinks (narrowed c taken x y) x y
+pub narrowed_shrinks : (c : Condition) (taken : Bool) (x y : Span) → IsWordSpan x → IsWordSpan y → Shrinks (narrowed c taken x y) x y
 unfolding narrowed
 narrowed_shrinks cond.Eq true x y hx hy = equal_shrinks x y hx hy
 narrowed_shrinks cond.Eq false x y hx hy = apart_shrinks x y hx hy
@@ -253,7 +253,7 @@ unfolding apart
 apart_mono x y s t hx hy a b =
     both_within (without x y) (without y x) (without s t) (without t s) (without_mono x y s t hy a b) (without_mono y x t s hx b a)
 
-narrowed_mono : (c : Condition) (taken : Bool) (x y s t : Span) → IsWordSpan x → IsWordSpan y → Within x s → Within y t
+pub narrowed_mono : (c : Condition) (taken : Bool) (x y s t : Span) → IsWordSpan x → IsWordSpan y → Within x s → Within y t
     → WithinBoth (narrowed c taken x y) (narrowed c taken s t)
 unfolding narrowed
 narrowed_mono cond.Eq true x y s t hx hy a b = equal_mono x y s t a b

@@ -36,7 +36,7 @@ pub fn refine(instr: &Instr, taken: bool, first: Range, second: Range) -> Option
 }
 
 /// Whether the second operand is the register.
-fn is_same(dst: &Register, source: &Source) -> bool
+pub(crate) fn is_same(dst: &Register, source: &Source) -> bool
     ensures { result ≡ is_same dst.now source.now }
 {
     match source {
@@ -47,7 +47,12 @@ fn is_same(dst: &Register, source: &Source) -> bool
 
 /// What an edge of a condition in 64 bits tells.
 #[tactic(auto, unfolding(crate::specs::Edges::narrowed))]
-fn narrowed(condition: Condition, taken: bool, x: Range, y: Range) -> Option<(Range, Range)>
+pub(crate) fn narrowed(
+    condition: Condition,
+    taken: bool,
+    x: Range,
+    y: Range,
+) -> Option<(Range, Range)>
     ensures { option_map spans_of result ≡ narrowed condition taken (span_of x) (span_of y) }
 {
     match (condition, taken) {

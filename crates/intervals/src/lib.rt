@@ -14,6 +14,17 @@
 //! | `x.is_constant()`, `x.contains(y)` | whether it is one word, whether it has each word of another |
 //! | `x.join(y)`, `x.round()` | the least range that has both, the least one between powers of two |
 //!
+//! A `Bounds` says more of a number: a range of its word and one of its reading as a signed number, a
+//! `SignedRange`, each cut by the other (docs/VERIFIER.md, Signed bounds and spilled numbers). No crate
+//! uses it yet; the verifier still keeps a `Range`.
+//!
+//! | Call | Answer |
+//! |---|---|
+//! | `reduce(unsigned, signed)` | the bounds that two ranges make, None where one of them is left empty |
+//! | `Bounds::of`, `constant`, `immediate`, `full` | the bounds of a range, of one word, of all words, whatever their readings |
+//! | `result_bounds`, `refine_bounds` | `result` and `refine` for bounds; a result is None where no words are left |
+//! | `b.join(c)`, `b.round()`, `b.contains(c)`, `b.is_constant()` | as those of a range, for both of its ranges |
+//!
 //! No call takes memory, and none refuses. `result` is asked for an arithmetic instruction and `refine`
 //! for a conditional jump, which their contracts require.
 //!
@@ -41,6 +52,20 @@
 //!   smaller results, and an edge that smaller ranges take is taken by larger ones.
 //! - `results_fit`, `refinements_fit`: what comes out are ranges of words, and an edge makes none larger.
 //!
+//! Of the two ranges of a number contracts see a `Limits`, a record of a span and a signed span
+//! (`specs/Reducing.antt`, `specs/SignedSpans.antt`). The calls are exact by the definitions in
+//! `specs/Reducing.antt`, `specs/SignedResults.antt`, `specs/SignedEdges.antt` and
+//! `specs/SignedRounding.antt`. Laws of them (`specs/LimitLaws.antt`):
+//!
+//! - `reducing_keeps`: reducing loses no word that is in both ranges, finds none empty that has one,
+//!   changes nothing a second time, and makes of smaller ranges smaller ones. `reduced_agree`: ranges
+//!   are reduced just where both say the same, or both have numbers of both signs.
+//! - `bounds_of_results_cover`, `refined_bounds_cover`: as for ranges, words of the machine are kept. So
+//!   None says that there are no words.
+//! - `bounds_of_results_are_monotone`, `refined_bounds_are_monotone`, `rounding_of_bounds`: smaller
+//!   bounds have smaller results. `hull_of_bounds_is_least`: a join of reduced bounds is reduced.
+//! - `bounds_of_results_fit`, `refined_bounds_fit`: what comes out is reduced.
+//!
 //! # How it is written
 //!
 //! - `range`, `powers`: the type, and the powers of two next to a word.
@@ -49,10 +74,13 @@
 //! - `results`: `result`, the steps before the table.
 //! - `branches`: `refine`, one function for each relation that an edge tells.
 //! - `laws`: the laws, contracts of functions that do nothing.
+//! - `signed_range`, `signed_powers`, `bounds`, `reducing`, `bounds_results`, `bounds_branches`,
+//!   `bounds_laws`: the same for signed ranges, and for both ranges of a number.
 //!
 //! A range has unsigned ends only, so a signed operation is that of the table where no word is
 //! negative, and else may give any number. Signed jumps, jumps in 32 bits, `jset`, and a jump that
-//! compares a register with itself tell nothing of ranges.
+//! compares a register with itself tell nothing of ranges. Bounds are cut by signed jumps too, and keep
+//! signed ends where a move, a sum or a difference in 64 bits tells them.
 //!
 //! # Example
 //!
@@ -67,14 +95,26 @@
 //! ```
 #![tactic(auto)]
 
+mod bounds;
+mod bounds_branches;
+pub mod bounds_laws;
+mod bounds_results;
 mod branches;
 mod constants;
 pub mod laws;
 mod operators;
 mod powers;
 mod range;
+mod reducing;
 mod results;
+mod signed_powers;
+mod signed_range;
 
+pub use bounds::Bounds;
+pub use bounds_branches::refine_bounds;
+pub use bounds_results::result_bounds;
 pub use branches::refine;
 pub use range::Range;
+pub use reducing::reduce;
 pub use results::result;
+pub use signed_range::SignedRange;
