@@ -289,8 +289,8 @@ pub any_holds : (x : Limits) (u : Span) → IsLimits x → IsWordSpan u → With
 any_holds x u hx hu w =
     let readings : SignedWithin x.signed signed_full = record { from = omega (arith, ints, hx.readings.low_fits); upto = omega (arith, ints, hx.readings.high_fits) } in
     let k : IsSomeAnd (reduced (limits u signed_full)) (λ y. LimitsWithin x y) =
-        reduced_has_within x (limits u signed_full) (record { words = hx.words; readings = hx.readings }) (record { words = hu; readings = full_fits })
-        hx.reduced (record { unsigned = w; signed = readings }) in
+    reduced_has_within x (limits u signed_full) (record { words = hx.words; readings = hx.readings }) (record { words = hu; readings = full_fits })
+    hx.reduced (record { unsigned = w; signed = readings }) in
     subst (λ r. IsSomeAnd r (λ y. LimitsWithin x y)) (any_reduces u hu) k
 
 pub any_has : (u : Span) (a : ℕ) → IsWordSpan u → Has u a → HasWord (any_sign u) a
