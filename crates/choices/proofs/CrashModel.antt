@@ -165,12 +165,12 @@ by_numbers es k bound tears ds le is =
     )
 
 -- where a choice of the list comes from
-record Listed (es : List Entry) (m b : ℕ) (cuts : List ℕ) (c : ChoiceValue) : Type 0 where
-  index : ℕ
-  wanted : slice_get cuts index ≡ Some c.cut
-  number : ℕ
-  there : slice_get (picks_within m b (length (volatile_units es c.cut))) number ≡ Some c.picks
-  departs : c.departures ≡ map (departure_of (volatile_units es c.cut)) c.picks
+pub record Listed (es : List Entry) (m b : ℕ) (cuts : List ℕ) (c : ChoiceValue) : Type 0 where
+  pub index : ℕ
+  pub wanted : slice_get cuts index ≡ Some c.cut
+  pub number : ℕ
+  pub there : slice_get (picks_within m b (length (volatile_units es c.cut))) number ≡ Some c.picks
+  pub departs : c.departures ≡ map (departure_of (volatile_units es c.cut)) c.picks
 
 listed_at : (es : List Entry) (m b : ℕ) (cuts : List ℕ) (place index cut number : ℕ) (picks : List Pick) → slice_get cuts index ≡ Some cut
     → slice_get (picks_within m b (length (volatile_units es cut))) number ≡ Some picks
@@ -178,7 +178,7 @@ listed_at : (es : List Entry) (m b : ℕ) (cuts : List ℕ) (place index cut num
 unfolding choice_of
 listed_at es m b cuts place index cut number picks wanted there = record { index = index; wanted = wanted; number = number; there = there; departs = refl }
 
-listed : (es : List Entry) (m b p : ℕ) (cuts : List ℕ) (n : ℕ) (c : ChoiceValue) → 1 ≤ m → slice_get (choices_over es m b p cuts) n ≡ Some c
+pub listed : (es : List Entry) (m b p : ℕ) (cuts : List ℕ) (n : ℕ) (c : ChoiceValue) → 1 ≤ m → slice_get (choices_over es m b p cuts) n ≡ Some c
     → Listed es m b cuts c
 listed es m b p cuts n c some h =
     let so = goes es m b p cuts n c some h in

@@ -9,3 +9,4 @@ pub mod Sums
 pub mod Sets
 pub mod Order
 pub mod CrashModel
+pub mod Naming

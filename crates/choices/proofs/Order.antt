@@ -17,10 +17,10 @@ use Rattle.choices.specs.CrashModel.{IsFate, FatePrecedes, DeparturePrecedes, Di
 use Rattle.choices.proofs.Plans.{fates_low}
 
 -- the numbers of the heads, and those of the tails
-is_head : (t : ℕ) → t < tears_of_unit → fate_of (suc t) ≡ fate.Head (suc t)
+pub is_head : (t : ℕ) → t < tears_of_unit → fate_of (suc t) ≡ fate.Head (suc t)
 is_head t lt = ap (λ b. if b then fate.Head (suc t) else fate.Tail (suc t - tears_of_unit)) (lt-ltb t tears_of_unit lt)
 
-is_tail : (t : ℕ) → tears_of_unit ≤ t → fate_of (suc t) ≡ fate.Tail (suc t - tears_of_unit)
+pub is_tail : (t : ℕ) → tears_of_unit ≤ t → fate_of (suc t) ≡ fate.Tail (suc t - tears_of_unit)
 is_tail t le = ap (λ b. if b then fate.Head (suc t) else fate.Tail (suc t - tears_of_unit)) (le-ltb t tears_of_unit le)
 
 -- a number below that of the fates is one of the fates

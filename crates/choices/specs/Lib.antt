@@ -7,3 +7,5 @@ pub mod Choices
 pub mod CrashModel
 pub mod Laws
 pub mod Sums
+pub mod Named
+pub mod Seeking

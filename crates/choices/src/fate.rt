@@ -56,7 +56,7 @@ pub enum Fate {
 }
 
 /// In how many places a unit may be torn: behind 1 to 7 of its eighths.
-const TEARS_OF_UNIT: u8 = 7;
+pub(crate) const TEARS_OF_UNIT: u8 = 7;
 
 impl Fate {
     /// The fate of a number: the drop, then the heads, rising, then the tails, rising.

@@ -17,6 +17,7 @@
 //! | `Starts::new(alloc, plan, bound, tears)` | a table by which the choice of a number is found at once |
 //! | `starts.nth(number)` | the choice of a number, by the table |
 //! | `next(plan, bound, tears, choice)` | goes on to the following choice, if there is one |
+//! | `choice_named(plan, bound, tears, cut, names)` | the choice at a cut of which the departures have these names |
 //! | `choice.cut()`, `choice.departures()` | the cut, and the departures with their fates |
 //! | `choice.departures_owned()` | the same departures, for what outlives the choice |
 //!
@@ -37,6 +38,8 @@
 //! - `count_at` is the length of one cut's part.
 //! - `nth` is its element of that number, and so is `Starts::nth`.
 //! - `next` leads from each element to the one behind it, and leaves the last as it is.
+//! - `choice_named` answers an element at that cut of which the departures, each by its entry, its place there and its fate,
+//!   are the names, exactly where there is one (`specs/Named.antt`).
 //!
 //! Above the recursion stands a law, so that nobody has to believe it (`ranked_is_model`): the list has
 //! exactly the pairs of a wanted cut and an admissible choice there, each once, in the order above.
@@ -77,6 +80,8 @@
 mod choice;
 mod fate;
 mod laws;
+mod name;
+mod named;
 mod pick;
 mod rank;
 mod ranked;
@@ -87,5 +92,7 @@ mod ways;
 pub use choice::{Choice, Departure};
 pub use fate::{Eighths, Fate};
 pub use laws::{list_is_set, ranked_is_model};
+pub use name::Name;
+pub use named::choice_named;
 pub use ranked::{TooMany, count, count_at, next, nth};
 pub use starts::Starts;

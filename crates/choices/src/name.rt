@@ -1,0 +1,26 @@
+//! Departures by name.
+
+use crate::fate::Fate;
+
+/// A departure as the report names it: the unit by its entry and its place there, and its fate. The device's sector isn't
+/// part of it, since the log has that.
+#[derive(Clone, Copy, Debug, PartialEq, Eq)]
+pub struct Name {
+    /// The number of the unit's entry in the log.
+    pub entry: u32,
+    /// Which sector of its entry the unit is, from 0.
+    pub place: u32,
+    /// What becomes of it.
+    pub fate: Fate,
+}
+
+impl Default for Name {
+    /// A name that stands for none.
+    fn default() -> Name {
+        Name {
+            entry: 0,
+            place: 0,
+            fate: Fate::Drop,
+        }
+    }
+}
