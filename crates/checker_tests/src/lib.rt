@@ -6,6 +6,8 @@
 #![tactic(auto)]
 
 #[cfg(test)]
+mod bounds_tests;
+#[cfg(test)]
 mod bpf_asm_tests;
 #[cfg(test)]
 mod bpf_isa_tests;
