@@ -1,3 +1,6 @@
 -- The failing lines of a run.
 pub mod Line
 pub mod Lines
+pub mod Images
+pub mod Text
+pub mod Kept

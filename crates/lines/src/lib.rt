@@ -7,7 +7,8 @@
 //! | Type | What it is |
 //! |---|---|
 //! | `Line` | one image with one program on which it fails |
-//! | `Lines` | lines in their order |
+//! | `Part` | lines in a row, as they are printed |
+//! | `Lines` | lines in their order, made of parts |
 //!
 //! # Place
 //!
@@ -16,18 +17,40 @@
 //!
 //! # What is proved
 //!
-//! Contracts see `Lines` as a list of `FailingLine`, what the lines say (`specs/Line.antt`): `push` adds to
-//! its end, and keeps the lines where memory is wanting; `followed_by` puts two lists together.
+//! Contracts see `Part` and `Lines` as a list of `FailingLine`, what the lines say (`specs/Line.antt`):
+//! `Part::push` adds to its end, and keeps the lines where memory is wanting; `followed_by` puts a part
+//! behind all lines so far. `put` appends exactly `line_text` of each line (`specs/Text.antt`), and where
+//! the lines are in the order of their images, `put_first` that of the lines of the first image, and
+//! `image_count` counts their images.
+//!
+//! # How it is written
+//!
+//! A run may have more lines than there is memory for their values: a value has room for sixteen codes
+//! and three departures. So a line is printed at once, and what is kept of it is its text, byte for byte
+//! what the report has of it. What else the report wants is kept beside the text: of how many images the
+//! lines are, and where those of the first image end. What the lines say stands in a list of snapshots,
+//! which only contracts read and which takes no room.
+//!
+//! A line is written into a string of its own first. So want of memory in the midst of it changes no text.
+//! A part gives back by `trim` what its text doesn't take, and parts are put together without a copy.
 //!
 //! # Example
 //!
 //! ```text
-//! let mut lines = Lines::new(alloc);
-//! lines.push(line)?;
-//! lines.as_slice().len()                  // 1
+//! let mut part = Part::new(alloc);
+//! part.push(line)?;
+//! let lines = Lines::new(alloc).followed_by(part)?;
+//! lines.len()                             // 1
+//! lines.put(&mut out)?;                   // image 3 cut 1 program 0 answer 1 codes - choice 0.0:head1
 //! ```
 #![tactic(auto)]
 
+mod all;
+mod images;
 mod line;
+mod part;
+mod text;
 
-pub use line::{Line, Lines};
+pub use all::Lines;
+pub use line::Line;
+pub use part::Part;

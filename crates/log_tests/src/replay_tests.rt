@@ -185,6 +185,19 @@ fn push_images(images: &mut Vec<u64>, found: &Found) -> Result<(), AllocError> {
     Ok(())
 }
 
+/// The lines of these images, each of which is the only one of its cut.
+fn wanted_lines(alloc: Global, images: &[u64]) -> Result<String, AllocError> {
+    let mut wanted = String::new(alloc);
+    for image in images {
+        let answer = *image / 70;
+        write!(
+            wanted,
+            "image {image} cut {image} program 0 answer {answer} codes - choice -\n"
+        )?;
+    }
+    Ok(wanted)
+}
+
 #[test]
 fn a_run_is_a_list_of_events(rt: HostRuntime) -> Result<(), Fail> {
     let alloc = rt.alloc();
@@ -199,9 +212,10 @@ fn a_run_is_a_list_of_events(rt: HostRuntime) -> Result<(), Fail> {
     assert_eq!(rt; explore.pieces().len(), 4);
     let images = images_of(alloc, &explore)?;
     assert_eq!(rt; images.len() as u64, IMAGES - 70);
-    for (place, line) in lines.as_slice().iter().enumerate() {
-        assert_eq!(rt; images.get(place).copied(), Some(line.image));
-    }
-    assert_eq!(rt; lines.as_slice().len(), images.len());
+    let mut printed = Vec::new(alloc);
+    lines.put(&mut printed)?;
+    let wanted = wanted_lines(alloc, images.as_slice())?;
+    assert!(rt; printed.as_slice() == wanted.as_bytes());
+    assert_eq!(rt; lines.len(), images.len());
     Ok(())
 }

@@ -1,2 +1,1 @@
 pub mod ReportLines
-pub mod Counting

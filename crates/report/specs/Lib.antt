@@ -1,4 +1,3 @@
 -- The bytes of the report.
 pub mod Text
 pub mod Report
-pub mod Lines

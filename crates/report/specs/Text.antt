@@ -1,14 +1,7 @@
--- Words and lists as they stand in a line of the report (docs/REPORT.md). Numbers are decimal.
-use Rattle.std.specs.Prelude.{ℕ, Bool, true, false, List, [], ◌∷◌, ◌++◌, codes}
-use Rattle.std.specs.Fmt.{decimal}
-use Rattle.std.specs.List.{flat_map}
-use Rattle.base.specs.Causes.{fault_number}
-use Rattle.machine.specs.Outcome.{Ending, Verdict, Stopped, OutOfSteps}
+-- Words as they stand at the head of the report (docs/REPORT.md).
+use Rattle.std.specs.Prelude.{ℕ, Bool, true, false, List, codes}
 use Rattle.epochs.specs.declared.cuts.Cuts.{Cuts}
 use Rattle.epochs.specs.declared.cuts.Cuts.TheVariants.{All, BeforeFlush, AfterMark}
-use Rattle.choices.specs.declared.choice.Departure.{Departure}
-use Rattle.choices.specs.declared.fate.Fate.{Fate}
-use Rattle.choices.specs.declared.fate.Fate.TheVariants as fate
 
 abbrev pub yes_or_no : Bool → List ℕ
 yes_or_no true = codes "yes"
@@ -18,33 +11,3 @@ abbrev pub cuts_word : Cuts → List ℕ
 cuts_word All = codes "all"
 cuts_word BeforeFlush = codes "flush"
 cuts_word AfterMark = codes "mark"
-
--- the codes of a verdict, joined by commas; a hyphen where there is none
-unfoldable pub codes_text : List ℕ → List ℕ
-codes_text [] = codes "-"
-codes_text (c ∷ cs) = decimal c ++ flat_map (λ (n : ℕ). codes "," ++ decimal n) cs
-
--- what a checker ended in
-abbrev pub ending_text : Ending → List ℕ
-ending_text (Verdict answer numbers) = codes "answer " ++ decimal answer ++ codes " codes " ++ codes_text numbers
-ending_text (Stopped cause slot) = codes "fault " ++ decimal (fault_number cause) ++ codes " slot " ++ decimal slot
-ending_text OutOfSteps = codes "out of steps"
-
--- what became of a unit that is not whole
-abbrev pub fate_text : Fate → List ℕ
-fate_text fate.Drop = codes "drop"
-fate_text (fate.Head eighths) = codes "head" ++ decimal eighths
-fate_text (fate.Tail eighths) = codes "tail" ++ decimal eighths
-
--- a departure: the unit's entry and its place there, and its fate
-unfoldable pub departure_text : Departure → List ℕ
-departure_text d = decimal d.unit.entry ++ codes "." ++ decimal d.unit.place ++ codes ":" ++ fate_text d.fate
-
--- a departure that follows another
-abbrev pub next_departure_text : Departure → List ℕ
-next_departure_text d = codes "," ++ departure_text d
-
--- the departures of a choice, joined by commas; a hyphen where there is none
-unfoldable pub choice_text : List Departure → List ℕ
-choice_text [] = codes "-"
-choice_text (d ∷ ds) = departure_text d ++ flat_map next_departure_text ds

@@ -30,8 +30,9 @@
 //!
 //! # How it is written
 //!
-//! Each part of a line is appended to one string by a function of its own, which says what it appended.
-//! The number of failing images is counted in one pass, since the lines of an image stand together.
+//! Each part of the head is appended to one string by a function of its own, which says what it appended.
+//! Lines are kept as they are printed, and of how many images they are is known with them; so `write_report`
+//! makes room for all bytes once, and appends the texts of the lines one after the other.
 #![tactic(auto)]
 
 mod head;

@@ -4,14 +4,14 @@ ghost use Rattle.std.specs.Prelude.{◌≡◌, ◌++◌, ◌∷◌, [], OnOk, So
 ghost use Rattle.lines.specs.Lines.{line_value};
 ghost use Rattle.workers.specs.Least.{least_image, lower};
 
-use lines::{Line, Lines};
+use lines::{Line, Part};
 use std::alloc::{AllocError, Global};
 use std::marker::Model;
 
 /// Lines, and the least image of one of them. Contracts see the lines.
 #[derive(Drop)]
 pub(crate) struct BlockLines {
-    lines: Lines,
+    lines: Part,
     least: Option<u64>,
 }
 
@@ -44,7 +44,7 @@ impl BlockLines {
         ensures { result ≡ [] }
     {
         BlockLines {
-            lines: Lines::new(alloc),
+            lines: Part::new(alloc),
             least: None,
         }
     }
@@ -66,8 +66,17 @@ impl BlockLines {
         self.least
     }
 
+    /// The same, without the room that no line takes.
+    pub(crate) fn trimmed(self) -> BlockLines
+        ensures { result ≡ self }
+    {
+        let BlockLines { mut lines, least } = self;
+        lines.trim();
+        BlockLines { lines, least }
+    }
+
     /// The lines alone.
-    pub(crate) fn into_lines(self) -> Lines
+    pub(crate) fn into_lines(self) -> Part
         ensures { result ≡ self }
     {
         let BlockLines { lines, least: _ } = self;

@@ -32,13 +32,13 @@ impl Model for Piece {
 }
 
 impl Piece {
-    /// The full piece of a block that has those lines.
+    /// The full piece of a block that has those lines. It takes no more room than they do.
     pub(crate) fn of(block: u32, lines: BlockLines) -> Piece
         ensures { result ≡ record { block = block; found = held.Lines lines } }
     {
         Piece {
             block,
-            found: Found::Lines(lines),
+            found: Found::Lines(lines.trimmed()),
         }
     }
 

@@ -1,7 +1,7 @@
 use Rattle.std.proofs.Common.{◌≡◌, ◌++◌, take, string_bytes}
 use Rattle.std.specs.List.{flat_map}
-use Rattle.report.specs.Text.{next_departure_text}
-use Rattle.report.proofs.writer.put_choice.Given as goal
+use Rattle.lines.specs.Text.{next_departure_text}
+use Rattle.lines.proofs.text.put_choice.Given as goal
 
 abbrev pub invariant-loop-departure : goal.invariant-loop-departure
 invariant-loop-departure l =

@@ -1,0 +1,4 @@
+pub mod Changes
+pub mod Leads
+pub mod Order
+pub mod Keeping

@@ -1,0 +1,170 @@
+//! Lines in parts.
+
+ghost use Rattle.std.specs.Prelude.{◌≡◌, ◌≤◌, ◌↔◌, ◌++◌, [], if◌then◌else◌, length, take, IsTrue, IfOk, OnOk, string_bytes};
+ghost use Rattle.std.specs.List.{flat_map};
+ghost use Rattle.std.specs.List.Sorted.{IsNonDecreasing};
+ghost use Rattle.lines.specs.Line.{first_lines};
+ghost use Rattle.lines.specs.Images.{images_of, failing_images, first_image};
+ghost use Rattle.lines.specs.Text.{line_text};
+
+use crate::images::Images;
+use crate::line::Line;
+use crate::part::Part;
+use std::alloc::{AllocError, Global};
+use std::marker::Model;
+use std::snapshot::Snapshot;
+
+/// Failing lines in their order, as they are printed. Contracts see the list of what the lines say.
+#[derive(Drop)]
+pub struct Lines {
+    /// The texts of the parts.
+    texts: Vec<String>,
+    /// The text of the first line and of those behind it of the same image, once more.
+    leading: Vec<u8>,
+    images: Images,
+    /// What the lines say, for contracts alone: it takes no room.
+    said: Vec<Snapshot<Line>>,
+}
+
+impl Model for Lines {
+    ghost use Rattle.std.specs.Prelude.{List, string_bytes};
+    ghost use Rattle.std.specs.List.{flat_map};
+    ghost use Rattle.lines.specs.Line.{FailingLine};
+
+    ghost Value = { List FailingLine };
+
+    ghost use Rattle.lines.specs.Lines.{said_by};
+    ghost use Rattle.lines.specs.Kept.{AreKept};
+
+    ghost view = { λ l. said_by l.said.items };
+
+    ghost invariant = { λ l. AreKept (said_by l.said.items) (flat_map string_bytes l.texts.items) l.leading.items l.images.first l.images.last l.images.count };
+}
+
+impl Lines {
+    /// No line.
+    pub fn new(alloc: Global) -> Lines
+        ensures { result ≡ [] }
+    {
+        Lines {
+            texts: Vec::new(alloc),
+            leading: Vec::new(alloc),
+            images: Images::none(),
+            said: Vec::new(alloc),
+        }
+    }
+
+    /// These lines, and then those of the part.
+    pub fn followed_by(self, part: Part) -> Result<Lines, AllocError>
+        ensures { IfOk result (λ lines. lines ≡ self ++ part) }
+    {
+        if part.is_empty() {
+            return Ok(self);
+        }
+        let Lines {
+            mut texts,
+            mut leading,
+            images,
+            mut said,
+        } = self;
+        let Part {
+            text,
+            leading_end,
+            images: own,
+            said: mut more,
+            scratch: _,
+        } = part;
+        let leads = images.leads_on(own);
+        add_leading(&mut leading, leads, &text, leading_end)?;
+        texts.push(text)?;
+        said.append(&mut more)?;
+        let _count = said.len();
+        Ok(Lines {
+            texts,
+            leading,
+            images: images.followed_by(own),
+            said,
+        })
+    }
+
+    /// Appends the lines as they are printed.
+    pub fn put(&self, out: &mut Vec<u8>) -> Result<(), AllocError>
+        ensures { OnOk result (out.new.items ≡ out.old.items ++ flat_map line_text self.now) }
+    {
+        put_texts(out, self.texts.as_slice())
+    }
+
+    /// Appends the lines of the first image as they are printed. The lines are in the order of their images.
+    pub fn put_first(&self, out: &mut Vec<u8>) -> Result<(), AllocError>
+        requires { IsNonDecreasing (images_of self.now) }
+        ensures { OnOk result (out.new.items ≡ out.old.items ++ flat_map line_text (first_lines self.now)) }
+    {
+        out.extend_from_slice(self.leading.as_slice())?;
+        Ok(())
+    }
+
+    /// How many bytes the lines take as they are printed, at most 2^64 - 1.
+    pub fn text_len(&self) -> usize {
+        let mut bytes = 0usize;
+        for text in self.texts.as_slice() {
+            bytes = bytes.saturating_add(text.len());
+        }
+        bytes
+    }
+
+    /// How many lines there are.
+    pub fn len(&self) -> usize
+        ensures { result ≡ length self.now }
+    {
+        self.said.len()
+    }
+
+    /// How many images they are of. The lines are in the order of their images.
+    pub fn image_count(&self) -> usize
+        requires { IsNonDecreasing (images_of self.now) }
+        ensures { result ≡ failing_images self.now }
+    {
+        self.images.count
+    }
+
+    /// The image of the first line.
+    pub fn first_image(&self) -> Option<u64>
+        ensures value { result ≡ first_image self.now }
+        ensures alike { result ≡ first_image (first_lines self.now) }
+    {
+        self.images.first
+    }
+
+    /// Whether there is no line.
+    pub fn is_empty(&self) -> bool
+        ensures { IsTrue result ↔ (self.now ≡ []) }
+    {
+        self.said.is_empty()
+    }
+}
+
+/// Appends the text up to that end, if its lines lead on.
+fn add_leading(
+    leading: &mut Vec<u8>,
+    leads: bool,
+    text: &String,
+    end: usize,
+) -> Result<(), AllocError>
+    requires { end ≤ length (string_bytes text.now) }
+    ensures { OnOk result (leading.new.items ≡ leading.old.items ++ (if leads then take end (string_bytes text.now) else [])) }
+{
+    if leads {
+        leading.extend_from_slice(&text.as_bytes()[..end])?;
+    }
+    Ok(())
+}
+
+/// Appends the texts one after the other.
+fn put_texts(out: &mut Vec<u8>, texts: &[String]) -> Result<(), AllocError>
+    ensures { OnOk result (out.new.items ≡ out.old.items ++ flat_map string_bytes texts.now) }
+{
+    for text in texts {
+        out.extend_from_slice(text.as_bytes())?;
+    }
+    Ok(())
+}

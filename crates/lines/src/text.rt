@@ -1,0 +1,103 @@
+//! A failing line as it is printed (docs/REPORT.md, The report).
+
+ghost use Rattle.std.specs.Prelude.{◌≡◌, ◌++◌, OnOk, string_bytes};
+ghost use Rattle.interp.specs.Ending.{ending_of};
+ghost use Rattle.lines.specs.Lines.{line_value};
+ghost use Rattle.lines.specs.Text.{codes_text, ending_text, fate_text, departure_text, next_departure_text, choice_text, line_text};
+
+use crate::line::Line;
+use choices::{Departure, Fate};
+use interp::Outcome;
+use std::alloc::AllocError;
+
+/// Appends the codes of a verdict.
+#[tactic(auto, unfolding(crate::specs::Text::codes_text))]
+fn put_codes(out: &mut String, codes: &[u64]) -> Result<(), AllocError>
+    ensures { OnOk result (string_bytes out.new ≡ string_bytes out.old ++ codes_text codes.now) }
+{
+    match codes {
+        [] => write!(out, "-"),
+        [first, rest @ ..] => {
+            write!(out, "{first}")?;
+            for code in rest {
+                write!(out, ",{code}")?;
+            }
+            Ok(())
+        }
+    }
+}
+
+/// Appends what a program ended in.
+fn put_outcome(out: &mut String, outcome: &Outcome) -> Result<(), AllocError>
+    ensures { OnOk result (string_bytes out.new ≡ string_bytes out.old ++ ending_text (ending_of outcome.now)) }
+{
+    match outcome {
+        Outcome::Verdict(verdict) => {
+            write!(out, "answer {} codes ", verdict.answer)?;
+            put_codes(out, verdict.codes.as_slice())
+        }
+        Outcome::Fault { code, slot } => write!(out, "fault {} slot {slot}", code.number()),
+        Outcome::OutOfSteps => write!(out, "out of steps"),
+    }
+}
+
+/// Appends what became of a unit that is not whole.
+fn put_fate(out: &mut String, fate: Fate) -> Result<(), AllocError>
+    ensures { OnOk result (string_bytes out.new ≡ string_bytes out.old ++ fate_text fate) }
+{
+    match fate {
+        Fate::Drop => write!(out, "drop"),
+        Fate::Head(eighths) => write!(out, "head{}", eighths.count()),
+        Fate::Tail(eighths) => write!(out, "tail{}", eighths.count()),
+    }
+}
+
+/// Appends a departure.
+#[tactic(auto, unfolding(crate::specs::Text::departure_text))]
+fn put_departure(out: &mut String, departure: Departure) -> Result<(), AllocError>
+    ensures { OnOk result (string_bytes out.new ≡ string_bytes out.old ++ departure_text departure) }
+{
+    write!(out, "{}.{}:", departure.unit.entry, departure.unit.place)?;
+    put_fate(out, departure.fate)
+}
+
+/// Appends a departure that follows another.
+fn put_next_departure(out: &mut String, departure: Departure) -> Result<(), AllocError>
+    ensures { OnOk result (string_bytes out.new ≡ string_bytes out.old ++ next_departure_text departure) }
+{
+    write!(out, ",")?;
+    put_departure(out, departure)
+}
+
+/// Appends the departures of a choice.
+#[tactic(auto, unfolding(crate::specs::Text::choice_text))]
+fn put_choice(out: &mut String, departures: &[Departure]) -> Result<(), AllocError>
+    ensures { OnOk result (string_bytes out.new ≡ string_bytes out.old ++ choice_text departures.now) }
+{
+    match departures {
+        [] => write!(out, "-"),
+        [first, rest @ ..] => {
+            put_departure(out, *first)?;
+            for departure in rest {
+                put_next_departure(out, *departure)?;
+            }
+            Ok(())
+        }
+    }
+}
+
+/// Appends a failing line.
+#[tactic(auto, unfolding(crate::specs::Text::line_text))]
+pub(crate) fn put_line(out: &mut String, line: &Line) -> Result<(), AllocError>
+    ensures { OnOk result (string_bytes out.new ≡ string_bytes out.old ++ line_text (line_value line.now)) }
+{
+    write!(
+        out,
+        "image {} cut {} program {} ",
+        line.image, line.cut, line.program
+    )?;
+    put_outcome(out, &line.outcome)?;
+    write!(out, " choice ")?;
+    put_choice(out, line.departures.as_slice())?;
+    write!(out, "\n")
+}
