@@ -1,5 +1,5 @@
 #!/usr/bin/env python3
-"""Refuses each allocation of the built program in turn, and looks at what it makes of that.
+"""Refuses each allocation of the built program in turn, and looks at what it makes of that; and how much many lines take.
 
     python3 tests/memory.py [PROGRAM]
 
@@ -10,9 +10,14 @@ output, status 2, and on standard error one line, a refusal with a cause for mem
 below a refusal are left out where there is no memory for them.
 
 Rows are those of run.py, by name, with the number of allocations that a run makes, so that a new allocation is noticed;
-None where workers side by side make it vary. What is printed is as in run.py: a line for each row that failed, and last
+None where workers side by side make it vary.
+
+Then each run of LARGE, in which every image fails, is given no more room than twice its report, twice its log, and 64 MiB,
+as the system counts a process's addresses (`ulimit -v`): it has to print the same report as without that limit, whose last
+line is known. What is printed is as in run.py: a line for each row that failed, and last
 `N passed, M failed`.
 """
+import filecmp
 import os
 import re
 import shutil
@@ -20,11 +25,12 @@ import subprocess
 import sys
 import tempfile
 from concurrent.futures import ThreadPoolExecutor
+from math import comb
 from pathlib import Path
 
 sys.dont_write_bytecode = True
 
-from notation import SECONDS, TESTS, TOP
+from notation import SECONDS, TESTS, TOP, F, W, log, named, program
 from run import Assembler, all_rows, made, put, shortened, split_notes, split_progress
 
 WANT_OF_MEMORY = re.compile(rb"refused (11|26|35|60|72) at 0( of program [0-7])?\n|error: out of memory\n")
@@ -71,6 +77,74 @@ ROWS = {
     "verify checkers/type_counts": 5128,
     "verify checkers/journal_scan": 740,
 }
+
+
+# Runs with some 600,000 lines and more. Of n writes in one epoch, of which up to three are lost, there are as many images as
+# ways to pick them, over all cuts.
+
+ROOM = 64 << 20
+
+
+def writes(count):
+    return [W(place % 64, 1, place % 251) for place in range(count)]
+
+
+def images(count):
+    """How many images there are of so many writes in one epoch with the bound 3."""
+    return sum(comb(cut, lost) for cut in range(count + 1) for lost in range(4))
+
+
+ONE = program("mov64 r0, 1; exit")
+
+# name: entries, programs, options, number of images
+LARGE = {
+    "an answer": (writes(64), [ONE], "--bound 3", images(64)),
+    "sixteen codes": (writes(64), [named("report_codes")], "--bound 3", images(64)),
+    "a fault": (writes(64), [program("exit")], "--bound 3 --checked 9", images(64)),
+    "out of steps": (writes(64), [ONE], "--bound 3 --checked 1", images(64)),
+    "eight programs": (writes(36), [ONE] * 8, "--bound 3", images(36)),
+    "no departures": ([F] * 30000, [ONE] * 8, "--bound 0", 30001),
+}
+
+
+def run_within(program, words, folder, out, room):
+    """The status of a run that may have so many bytes of addresses, or as many as it likes where that is None."""
+    limit = "unlimited" if room is None else str(room >> 10)
+    with open(Path(folder, out), "wb") as printed:
+        return subprocess.run(
+            ["sh", "-c", 'ulimit -v "$0"; exec "$@"', limit, program, *words],
+            cwd=folder,
+            stdin=subprocess.DEVNULL,
+            stdout=printed,
+            stderr=subprocess.DEVNULL,
+            timeout=10 * SECONDS,
+        ).returncode
+
+
+def last_line(path):
+    with open(path, "rb") as text:
+        text.seek(max(0, path.stat().st_size - 100))
+        return text.read().split(b"\n")[-2].decode()
+
+
+def overfull(program, name, assembler):
+    """What went wrong with a run in which every image fails."""
+    entries, programs, options, count = LARGE[name]
+    with tempfile.TemporaryDirectory() as folder:
+        put(folder, "log", log(entries), assembler)
+        for number, text in enumerate(programs):
+            put(folder, f"p{number}", text, assembler)
+        words = ["explore", "log", *(f"p{number}" for number in range(len(programs))), "--sectors", "64", *options.split()]
+        status = run_within(program, words, folder, "wide", None)
+        wide, narrow = Path(folder, "wide"), Path(folder, "narrow")
+        wanted = f"images {count} failing {count} lines {count * len(programs)}"
+        if status != 1 or last_line(wide) != wanted:
+            return [f"status {status}, and the report isn't the one of {count} images"]
+        room = 2 * wide.stat().st_size + 2 * Path(folder, "log").stat().st_size + ROOM
+        status = run_within(program, words, folder, "narrow", room)
+        if status != 1 or not filecmp.cmp(wide, narrow, shallow=False):
+            return [f"status {status} within {room >> 20} MiB"]
+    return []
 
 
 def built(folder):
@@ -150,12 +224,17 @@ def main(words):
     with tempfile.TemporaryDirectory() as folder, ThreadPoolExecutor(os.cpu_count()) as pool:
         library = built(folder)
         results = list(pool.map(lambda name: swept(program, library, rows[name], ROWS[name], assembler), ROWS))
+        large = list(pool.map(lambda name: overfull(program, name, assembler), LARGE))
     failed = 0
     for name, found in zip(ROWS, results):
         if found:
             failed += 1
             print(f"FAILED {name} with memory refused: {'; '.join(found)}")
-    print(f"{len(ROWS) - failed} passed, {failed} failed")
+    for name, found in zip(LARGE, large):
+        if found:
+            failed += 1
+            print(f"FAILED many lines, {name}: {'; '.join(found)}")
+    print(f"{len(ROWS) + len(LARGE) - failed} passed, {failed} failed")
     return 1 if failed else 0
 
 
