@@ -2,3 +2,4 @@ pub mod Changes
 pub mod Leads
 pub mod Order
 pub mod Keeping
+pub mod Crossing

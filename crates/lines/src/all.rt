@@ -1,6 +1,6 @@
 //! Lines in parts.
 
-ghost use Rattle.std.specs.Prelude.{◌≡◌, ◌≤◌, ◌↔◌, ◌++◌, [], if◌then◌else◌, length, take, IsTrue, IfOk, OnOk, string_bytes};
+ghost use Rattle.std.specs.Prelude.{◌≡◌, ◌≤◌, ◌↔◌, ◌++◌, [], if◌then◌else◌, length, take, IsTrue, IfOk, OnOk};
 ghost use Rattle.std.specs.List.{flat_map};
 ghost use Rattle.std.specs.List.Sorted.{IsNonDecreasing};
 ghost use Rattle.lines.specs.Line.{first_lines};
@@ -18,7 +18,7 @@ use std::snapshot::Snapshot;
 #[derive(Drop)]
 pub struct Lines {
     /// The texts of the parts.
-    texts: Vec<String>,
+    texts: Vec<Vec<u8>>,
     /// The text of the first line and of those behind it of the same image, once more.
     leading: Vec<u8>,
     images: Images,
@@ -27,7 +27,7 @@ pub struct Lines {
 }
 
 impl Model for Lines {
-    ghost use Rattle.std.specs.Prelude.{List, string_bytes};
+    ghost use Rattle.std.specs.Prelude.{List};
     ghost use Rattle.std.specs.List.{flat_map};
     ghost use Rattle.lines.specs.Line.{FailingLine};
 
@@ -38,7 +38,7 @@ impl Model for Lines {
 
     ghost view = { λ l. said_by l.said.items };
 
-    ghost invariant = { λ l. AreKept (said_by l.said.items) (flat_map string_bytes l.texts.items) l.leading.items l.images.first l.images.last l.images.count };
+    ghost invariant = { λ l. AreKept (said_by l.said.items) (flat_map (λ t. t.items) l.texts.items) l.leading.items l.images.first l.images.last l.images.count };
 }
 
 impl Lines {
@@ -72,10 +72,9 @@ impl Lines {
             leading_end,
             images: own,
             said: mut more,
-            scratch: _,
         } = part;
         let leads = images.leads_on(own);
-        add_leading(&mut leading, leads, &text, leading_end)?;
+        add_leading(&mut leading, leads, text.as_slice(), leading_end)?;
         texts.push(text)?;
         said.append(&mut more)?;
         let _count = said.len();
@@ -147,24 +146,24 @@ impl Lines {
 fn add_leading(
     leading: &mut Vec<u8>,
     leads: bool,
-    text: &String,
+    text: &[u8],
     end: usize,
 ) -> Result<(), AllocError>
-    requires { end ≤ length (string_bytes text.now) }
-    ensures { OnOk result (leading.new.items ≡ leading.old.items ++ (if leads then take end (string_bytes text.now) else [])) }
+    requires { end ≤ length text.now }
+    ensures { OnOk result (leading.new.items ≡ leading.old.items ++ (if leads then take end text.now else [])) }
 {
     if leads {
-        leading.extend_from_slice(&text.as_bytes()[..end])?;
+        leading.extend_from_slice(&text[..end])?;
     }
     Ok(())
 }
 
 /// Appends the texts one after the other.
-fn put_texts(out: &mut Vec<u8>, texts: &[String]) -> Result<(), AllocError>
-    ensures { OnOk result (out.new.items ≡ out.old.items ++ flat_map string_bytes texts.now) }
+fn put_texts(out: &mut Vec<u8>, texts: &[Vec<u8>]) -> Result<(), AllocError>
+    ensures { OnOk result (out.new.items ≡ out.old.items ++ flat_map (λ t. t.items) texts.now) }
 {
     for text in texts {
-        out.extend_from_slice(text.as_bytes())?;
+        out.extend_from_slice(text.as_slice())?;
     }
     Ok(())
 }

@@ -1,6 +1,6 @@
 //! Lines in a row, as they are printed.
 
-ghost use Rattle.std.specs.Prelude.{◌≡◌, ◌↔◌, ◌++◌, ◌∷◌, [], if◌then◌else◌, IsTrue, OnOk, OnErr, string_bytes};
+ghost use Rattle.std.specs.Prelude.{◌≡◌, ◌↔◌, ◌++◌, ◌∷◌, [], if◌then◌else◌, IsTrue, OnOk, OnErr};
 ghost use Rattle.lines.specs.Lines.{line_value, said_by};
 
 use crate::images::Images;
@@ -15,18 +15,16 @@ use std::snapshot::Snapshot;
 #[derive(Drop)]
 pub struct Part {
     /// The lines as they are printed.
-    pub(crate) text: String,
+    pub(crate) text: Vec<u8>,
     /// How many bytes of the text are of the first line and those behind it of the same image.
     pub(crate) leading_end: usize,
     pub(crate) images: Images,
     /// What the lines say, for contracts alone: it takes no room.
     pub(crate) said: Vec<Snapshot<Line>>,
-    /// Room in which a line is written before it is added.
-    pub(crate) scratch: String,
 }
 
 impl Model for Part {
-    ghost use Rattle.std.specs.Prelude.{List, string_bytes};
+    ghost use Rattle.std.specs.Prelude.{List};
     ghost use Rattle.lines.specs.Line.{FailingLine};
 
     ghost Value = { List FailingLine };
@@ -36,23 +34,23 @@ impl Model for Part {
 
     ghost view = { λ p. said_by p.said.items };
 
-    ghost invariant = { λ p. IsPart (said_by p.said.items) (string_bytes p.text) p.leading_end p.images.first p.images.last p.images.count };
+    ghost invariant = { λ p. IsPart (said_by p.said.items) p.text.items p.leading_end p.images.first p.images.last p.images.count };
 }
 
 /// Adds a line to what is said and to the text. Where memory is wanting, both stay as they were.
 fn add(
-    text: &mut String,
+    text: &mut Vec<u8>,
     said: &mut Vec<Snapshot<Line>>,
     line: &Line,
-    printed: &str,
+    printed: &[u8],
 ) -> Result<(), AllocError>
-    ensures text { OnOk result (string_bytes text.new ≡ string_bytes text.old ++ printed.now) }
+    ensures text { OnOk result (text.new.items ≡ text.old.items ++ printed.now) }
     ensures said { OnOk result (said_by said.new.items ≡ said_by said.old.items ++ line_value line.now ∷ []) }
-    ensures text_kept { OnErr result (string_bytes text.new ≡ string_bytes text.old) }
+    ensures text_kept { OnErr result (text.new.items ≡ text.old.items) }
     ensures said_kept { OnErr result (said.new.items ≡ said.old.items) }
 {
     said.reserve(1)?;
-    text.push_str(printed)?;
+    text.extend_from_slice(printed)?;
     said.push(Snapshot::of(line))?;
     Ok(())
 }
@@ -70,11 +68,10 @@ impl Part {
         ensures { result ≡ [] }
     {
         Part {
-            text: String::new(alloc),
+            text: Vec::new(alloc),
             leading_end: 0,
             images: Images::none(),
             said: Vec::new(alloc),
-            scratch: String::new(alloc),
         }
     }
 
@@ -83,9 +80,9 @@ impl Part {
         ensures added { OnOk result (self.new ≡ self.old ++ line_value line ∷ []) }
         ensures kept { OnErr result (self.new ≡ self.old) }
     {
-        self.scratch.clear();
-        put_line(&mut self.scratch, &line)?;
-        add(&mut self.text, &mut self.said, &line, self.scratch.as_str())?;
+        let mut printed = String::new(*self.text.allocator());
+        put_line(&mut printed, &line)?;
+        add(&mut self.text, &mut self.said, &line, printed.as_bytes())?;
         let images = Images::of(line.image);
         let leads = self.images.leads_on(images);
         let _count = self.said.len();
@@ -99,8 +96,6 @@ impl Part {
         ensures { self.new ≡ self.old }
     {
         self.text.shrink_to_fit();
-        self.scratch.clear();
-        self.scratch.shrink_to_fit();
     }
 
     /// Whether there is no line.

@@ -5,3 +5,4 @@ pub mod Ends
 pub mod Seats
 pub mod Deques
 pub mod Takes
+pub mod Crossing

@@ -8,3 +8,4 @@ pub mod Collected
 pub mod HandingOver
 pub mod Back
 pub mod Safe
+pub mod Crossing

@@ -1,4 +1,4 @@
-use Rattle.std.proofs.Common.{◌≡◌, ◌∙◌, ◌<◌, ◌^◌, ◌++◌, [], List, length, rules, string_bytes, ap, sym}
+use Rattle.std.proofs.Common.{◌≡◌, ◌∙◌, ◌<◌, ◌^◌, ◌++◌, [], List, length, rules, ap, sym}
 use Rattle.std.specs.List.{flat_map}
 use Rattle.std.proofs.lemmas.List.{flat_map_more}
 use Rattle.lines.specs.Line.{FailingLine}
@@ -20,7 +20,7 @@ pub invariant_of-result : goal.invariant_of-result
 invariant_of-result c =
     let all : said_by c.append.new.self.items ≡ said_by c.self.inside.said.items ++ said_by c.part.inside.said.items =
     ap said_by c.in_ok-append.ensures.items ∙ said-append c.self.inside.said.items c.part.inside.said.items in
-    let texts : flat_map string_bytes c.push.new.self.items ≡ flat_map string_bytes c.self.inside.texts.items ++ string_bytes c.part.inside.text =
-    ap (flat_map string_bytes) c.in_ok-push.ensures.items ∙ sym (flat_map_more string_bytes [] c.self.inside.texts.items c.part.inside.text) in
-    rw (all, texts, c.in_ok-add_leading.ensures, c.leads_on-leads.ensures)
+    let texts : flat_map (λ t. t.items) c.push.new.self.items ≡ flat_map (λ t. t.items) c.self.inside.texts.items ++ c.part.inside.text.items =
+    ap (flat_map (λ t. t.items)) c.in_ok-push.ensures.items ∙ sym (flat_map_more (λ t. t.items) [] c.self.inside.texts.items c.part.inside.text) in
+    rw (all, texts, c.in_ok-add_leading.ensures, c.as_slice.ensures.value, c.leads_on-leads.ensures)
     (kept_both _ _ _ _ _ _ _ _ _ _ _ _ c.self.invariant c.part.invariant _ _ _ (c.followed_by.ensures _ _ c.self.invariant.images c.part.invariant.images))
