@@ -71,6 +71,7 @@ impl Lines {
             text,
             leading_end,
             images: own,
+            printed: _,
             said: mut more,
         } = part;
         let leads = images.leads_on(own);

@@ -19,6 +19,8 @@ pub struct Part {
     /// How many bytes of the text are of the first line and those behind it of the same image.
     pub(crate) leading_end: usize,
     pub(crate) images: Images,
+    /// Where a line is printed before it is added, so that want of memory in the midst of it changes no text.
+    pub(crate) printed: String,
     /// What the lines say, for contracts alone: it takes no room.
     pub(crate) said: Vec<Snapshot<Line>>,
 }
@@ -71,6 +73,7 @@ impl Part {
             text: Vec::new(alloc),
             leading_end: 0,
             images: Images::none(),
+            printed: String::new(alloc),
             said: Vec::new(alloc),
         }
     }
@@ -80,9 +83,14 @@ impl Part {
         ensures added { OnOk result (self.new ≡ self.old ++ line_value line ∷ []) }
         ensures kept { OnErr result (self.new ≡ self.old) }
     {
-        let mut printed = String::new(*self.text.allocator());
-        put_line(&mut printed, &line)?;
-        add(&mut self.text, &mut self.said, &line, printed.as_bytes())?;
+        self.printed.clear();
+        put_line(&mut self.printed, &line)?;
+        add(
+            &mut self.text,
+            &mut self.said,
+            &line,
+            self.printed.as_bytes(),
+        )?;
         let images = Images::of(line.image);
         let leads = self.images.leads_on(images);
         let _count = self.said.len();
@@ -96,6 +104,8 @@ impl Part {
         ensures { self.new ≡ self.old }
     {
         self.text.shrink_to_fit();
+        self.printed.clear();
+        self.printed.shrink_to_fit();
     }
 
     /// Whether there is no line.

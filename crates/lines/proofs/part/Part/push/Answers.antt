@@ -17,7 +17,7 @@ pub invariant_of-self-2 : goal.invariant_of-self-2
 invariant_of-self-2 c =
     let one = c.of-images.ensures (line_value c.args.line) refl in
     let printed : c.as_bytes.result.now ≡ line_text (line_value c.args.line) =
-    c.as_bytes.ensures.value ∙ c.in_ok-put_line.ensures ∙ ap (λ (text : List ℕ). text ++ line_text (line_value c.args.line)) c.new-printed.ensures.bytes in
+    c.as_bytes.ensures.value ∙ c.in_ok-put_line.ensures ∙ ap (λ (text : List ℕ). text ++ line_text (line_value c.args.line)) c.clear.ensures.bytes in
     let place : c.len.result ≡ length c.add.new.text.items = search rules in
     rw (c.end_of-self-inside.ensures, c.leads_on-leads.ensures, place, c.in_ok-add.ensures.said, c.in_ok-add.ensures.text)
     (part_more _ _ _ _ _ _ _ _ _ _ _ c.self.invariant printed one _ _ _ (c.followed_by-self-inside.ensures _ _ c.self.invariant.images one))
