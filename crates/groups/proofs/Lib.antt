@@ -1,0 +1,4 @@
+-- Lemmas of the crate.
+pub mod Parts
+pub mod Keyed
+pub mod Progress

@@ -1,0 +1,12 @@
+-- The law of groups.
+use Rattle.std.specs.Prelude.{ℕ, ◌≤◌, List}
+use Rattle.groups.specs.Groups.{AreChoices, IsPart, IsSmallest, IsGroup}
+
+-- the first of the smallest choices that are a part of choice i
+pub record IsFirstSmallest (cs : List (List ℕ)) (i g : ℕ) : Type 0 where
+  pub is_part : IsPart cs g i
+  pub smallest : IsSmallest cs g
+  pub first : (h : ℕ) → IsPart cs h i → IsSmallest cs h → g ≤ h
+
+abbrev pub GroupIsSmallest : Type 0
+GroupIsSmallest = (cs : List (List ℕ)) (i g : ℕ) → AreChoices cs → IsGroup cs i g → IsFirstSmallest cs i g

@@ -1,0 +1,4 @@
+-- Groups of failing choices.
+pub mod Groups
+pub mod Keys
+pub mod Laws
