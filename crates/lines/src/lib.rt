@@ -31,8 +31,9 @@
 //! lines are, and where those of the first image end. What the lines say stands in a list of snapshots,
 //! which only contracts read and which takes no room.
 //!
-//! A line is written into a string of its own first. So want of memory in the midst of it changes no text.
-//! A part gives back by `trim` what its text doesn't take, and parts are put together without a copy.
+//! A line is written apart first, in room that the part uses again for each. So want of memory in the midst
+//! of it changes no text. A part gives back by `trim` what its text doesn't take, and parts are put together
+//! without a copy.
 //!
 //! # Example
 //!
