@@ -8,3 +8,4 @@ pub mod RefusalLemmas
 pub mod Runs
 pub mod Texts
 pub mod Faultless
+pub mod Fitting

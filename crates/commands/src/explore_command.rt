@@ -5,6 +5,7 @@ ghost use Rattle.base.specs.declared.causes.CodeCause.TheVariants as code;
 ghost use Rattle.bpf_isa.specs.Program.{IsSpelledBy, HasNoFault};
 ghost use Rattle.std.specs.List.Sorted.{IsNonDecreasing};
 ghost use Rattle.choices.specs.Choices.{limit};
+ghost use Rattle.interp.specs.Checker.{AreFor};
 ghost use Rattle.report.specs.Report.{report_bytes};
 ghost use Rattle.workers.specs.Failing.{failing_lines};
 ghost use Rattle.base.specs.Refusals.{memory_refusal};
@@ -239,6 +240,7 @@ fn judged<'x, G: Gate + Sync, R: Threads + Wait + Sync>(
     requires plan { plan.now ≡ plan_of options.now log.now }
     requires device { log.now.sectors ≡ options.now.sectors }
     requires checkers { length checkers.now ≤ 8 }
+    requires verified { AreFor options.now.sectors checkers.now }
     requires images { images ≡ length (images_of options.now log.now) }
     requires few { images ≤ limit }
     ensures bytes { IfOk result (λ e. e.bytes.items ≡ report_of options.now log.now checkers.now) }

@@ -54,6 +54,7 @@ impl<'a> View<'a> {
         ensures device { result.sectors ≤ 16384 }
         ensures epoch { result.epoch ≤ 65536 }
         ensures marks { result.marks ≤ 65536 }
+        ensures bounds { IsLog self.now.log }
     {
         self.context
     }

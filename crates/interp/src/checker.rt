@@ -2,14 +2,27 @@
 
 ghost use Rattle.std.specs.Prelude.{◌≡◌, length, None, Some, is_some};
 ghost use Rattle.interp.specs.Ending.{ending_of};
-ghost use Rattle.interp.specs.Checker.{judged};
+ghost use Rattle.machine.specs.Outcome.{outcome};
+ghost use Rattle.plain.specs.Runs.{IsVerdict};
+ghost use Rattle.interp.specs.Checker.{Suits, judged};
 
-use crate::outcome::Outcome;
+use crate::outcome::{Outcome, Verdict};
 use crate::run::run_checked;
 use bpf_isa::program::Program;
 use helpers::{Context, Device};
+use plain::{Ended, run};
+use soundness::accepted_runs_safely;
 use std::marker::Model;
 use verifier::Verified;
+
+/// Runs a program without checks, which is known to end in a verdict within so many steps.
+fn run_plain<D: Device>(program: &Program, context: &Context, device: &D, budget: u64) -> Outcome
+    requires ends { IsVerdict (outcome program.now (D.content device.now) context.now budget) }
+    ensures { ending_of result ≡ outcome program.now (D.content device.now) context.now budget }
+{
+    let Ended { answer, codes } = run(program, context, device, budget);
+    Outcome::Verdict(Verdict { answer, codes })
+}
 
 /// A program that judges crash images: one that the verifier accepted, with its budget, or one that no
 /// verifier was asked about, with a limit of steps.
@@ -78,11 +91,20 @@ impl<'p> Checker<'p> {
         self.limit
     }
 
-    /// Runs the program on an image, and answers what it ends in (docs/MACHINE.md, Outcome).
+    /// Runs the program on an image, and answers what it ends in (docs/MACHINE.md, Outcome). A verified one is
+    /// run without checks, on an image of a device of the size for which it was verified.
     #[tactic(auto, unfolding(crate::specs::Checker::judged))]
     pub fn judge<D: Device>(&self, context: &Context, device: &D) -> Outcome
+        requires image { Suits self.now.verified (D.content device.now) context.now }
         ensures { ending_of result ≡ judged self.now (D.content device.now) context.now }
     {
-        run_checked(self.program, context, device, self.limit)
+        match self.verified {
+            Some(_sectors) => {
+                // A law of the machine, which does nothing: an accepted program ends in a verdict.
+                accepted_runs_safely();
+                run_plain(self.program, context, device, self.limit)
+            }
+            None => run_checked(self.program, context, device, self.limit),
+        }
     }
 }

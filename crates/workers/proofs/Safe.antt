@@ -1,11 +1,13 @@
 -- Accepted checkers run safely on crash images, since these are devices of their log's size.
-use Rattle.std.proofs.Common.{◌≡◌, slice_get, Some, sym, refl, subst, ◌∙◌}
+use Rattle.std.proofs.Common.{ℕ, ◌≡◌, slice_get, Some, sym, refl, subst, ◌∙◌}
 use Rattle.std.proofs.lemmas.Option.{same_Some}
 use Rattle.logfmt.specs.Bounds.{IsLog}
 use Rattle.choices.specs.Choices.{ChoiceValue}
 use Rattle.images.specs.Views.{ViewValue, view_of, sectors_of, context_at}
 use Rattle.images.proofs.Devices.{images_are_devices}
-use Rattle.interp.specs.Checker.{CheckerValue, judged}
+use Rattle.helpers.specs.declared.device.Context.{Context}
+use Rattle.interp.specs.Checker.{CheckerValue, Suits, IsFor, AreFor, judged}
+use Rattle.interp.proofs.Suiting.{suits_image, for_each}
 use Rattle.lines.specs.Line.{FailingLine}
 use Rattle.soundness.specs.Accepted.{IsImage, IsSafeRun, AcceptedRunsSafely}
 use Rattle.workers.specs.Failing.{Subject, ending_at}
@@ -24,6 +26,18 @@ is_image view is =
       epoch = shows.fits.epoch;
       marks = shows.fits.marks;
     }
+
+-- a checker that is for the device of the log may judge it
+pub may_judge : (view : ViewValue) (context : Context) (checker : CheckerValue) → IsLog view.log → context ≡ context_at view.log view.cut
+    → IsFor view.log.sectors checker.verified → Suits checker.verified (sectors_of view) context
+may_judge view context checker is told fits =
+    suits_image checker.verified view.log.sectors (sectors_of view) context fits (subst (IsImage view.log.sectors (sectors_of view)) (sym told) (is_image view is))
+
+-- as each checker of a run is
+pub each_fits : (s : Subject) (view : ViewValue) (choice : ChoiceValue) (n : ℕ) (checker : CheckerValue) → AreFor s.plan.log.sectors s.checkers
+    → view ≡ view_of s.plan choice → slice_get s.checkers n ≡ Some checker → IsFor view.log.sectors checker.verified
+each_fits s view choice n checker fit e there =
+    subst (λ (v : ViewValue). IsFor v.log.sectors checker.verified) (sym e) (for_each s.plan.log.sectors s.checkers n checker fit there)
 
 safe_at : AcceptedRunsSafely → (s : Subject) (checker : CheckerValue) (choice : ChoiceValue) → IsLog s.plan.log → IsAcceptedFor s checker
     → IsSafeRun checker.program (sectors_of (view_of s.plan choice)) (context_at s.plan.log choice.cut) checker.limit

@@ -2,6 +2,7 @@
 
 ghost use Rattle.std.specs.Prelude.{◌≡◌, ◌≤◌, ◌<◌, length, slice_get, Some};
 ghost use Rattle.choices.specs.Choices.{limit, ranked};
+ghost use Rattle.interp.specs.Checker.{AreFor};
 ghost use Rattle.workers.specs.Failing.{choices_of, image_count};
 ghost use Rattle.workers.specs.Pieces.{block_count};
 ghost use Rattle.workers.specs.Exploring.{passes_over};
@@ -43,8 +44,9 @@ impl<'a> Model for Input<'a> {
 
 impl<'a> Input<'a> {
     /// What is judged by a run. The history and the table of choices are those of the plan, and the images are counted, as
-    /// `choices::count` does. With `first` the run looks for the first failing image alone. It is
-    /// judged by 1 to 64 workers, who keep at most `cache` outcomes, 0 to 65,536.
+    /// `choices::count` does. A checker that was verified is one that was for devices of the log's size. With
+    /// `first` the run looks for the first failing image alone. It is judged by 1 to 64 workers, who keep at
+    /// most `cache` outcomes, 0 to 65,536.
     pub fn new(
         plan: &'a Plan<'a>,
         starts: &'a Starts<'a>,
@@ -60,6 +62,7 @@ impl<'a> Input<'a> {
         requires starts { starts.now ≡ record { plan = plan.now; bound = bound; tears = tears } }
         requires history { history.now ≡ plan.now }
         requires checkers { length checkers.now ≤ 8 }
+        requires device { AreFor plan.now.log.sectors checkers.now }
         requires bound { bound ≤ 3 }
         requires workers { (1 ≤ workers) × (workers ≤ 64) }
         requires cache { cache ≤ 65536 }

@@ -1,8 +1,9 @@
 //! The judging of one block.
 
 ghost use Rattle.std.specs.Prelude.{◌≡◌, ◌<◌, ◌≤◌, ◌-◌, ◌++◌, length, IfOk, OnOk, Some, slice_get};
+ghost use Rattle.interp.specs.Checker.{IsFor, judged};
 ghost use Rattle.interp.specs.Ending.{ending_of};
-ghost use Rattle.images.specs.Views.{view_of};
+ghost use Rattle.images.specs.Views.{context_at, sectors_of, view_of};
 ghost use Rattle.images.specs.Keys.{key_of};
 ghost use Rattle.lines.specs.Line.{fails};
 ghost use Rattle.verdict_cache.specs.Endings.{ending_on};
@@ -54,6 +55,14 @@ fn push_failing(
     Ok(())
 }
 
+/// What a checker ends in on an image, where it is run. One that was verified is for the device of the log.
+fn outcome_on(view: &View<'_>, checker: &Checker<'_>) -> Outcome
+    requires device { IsFor view.now.log.sectors checker.now.verified }
+    ensures { ending_of result ≡ judged checker.now (sectors_of view.now) (context_at view.now.log view.now.cut) }
+{
+    checker.judge(&view.context(), view)
+}
+
 /// Appends the line of an image and a checker, which is run, if it fails there.
 #[tactic(auto, unfolding(crate::specs::Failing::ending_at))]
 fn judge_checker(
@@ -64,16 +73,11 @@ fn judge_checker(
     number: u8,
     checker: &Checker<'_>,
 ) -> Result<(), AllocError>
+    requires device { IsFor view.now.log.sectors checker.now.verified }
     ensures { (s : Subject) → view.now ≡ view_of s.plan choice.now
         → OnOk result (lines.new ≡ lines.old ++ line_list (line_if image choice.now number (ending_at s choice.now checker.now))) }
 {
-    push_failing(
-        lines,
-        image,
-        choice,
-        number,
-        checker.judge(&view.context(), view),
-    )
+    push_failing(lines, image, choice, number, outcome_on(view, checker))
 }
 
 /// What the checker of a key ends in on the key's image: what the cache has for it, or else what it ends
@@ -91,6 +95,7 @@ fn outcome_of<'a, J: Run, R: Wait>(
     requires image { view.now ≡ view_of J.plan choice.now }
     requires key { key_of view.now key.now.program ≡ Some key.now }
     requires checker { slice_get J.checkers key.now.program ≡ Some checker.now }
+    requires device { IsFor view.now.log.sectors checker.now.verified }
     ensures { ending_of result ≡ ending_on J.plan choice.now checker.now }
 {
     let shard = &shards[usize::from(key.shard())];
@@ -98,7 +103,7 @@ fn outcome_of<'a, J: Run, R: Wait>(
     if let Some(outcome) = known {
         return outcome;
     }
-    let outcome = checker.judge(&view.context(), view);
+    let outcome = outcome_on(view, checker);
     one_image_tells();
     if let Ok(own) = key.copy(alloc) {
         let _kept = shard.lock(rt).put(own, copy_of(&outcome));

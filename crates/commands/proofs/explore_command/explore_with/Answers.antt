@@ -4,6 +4,7 @@ use Rattle.std.proofs.lemmas.Result.{err_from_is_err_and}
 use Rattle.commands.specs.Source.{for_plan}
 use Rattle.commands.specs.Explore.{for_count, for_source, for_program, no_list_memory}
 use Rattle.commands.proofs.RefusalLemmas.{counted, uncounted, few_decoded, unaccepted_of, undecoded_of, checkers_decoded}
+use Rattle.commands.proofs.Fitting.{made_fit}
 use Rattle.commands.proofs.Runs.{is_log, has_images, of_log, reported, both_ok, one_err}
 use Rattle.commands.proofs.explore_command.explore_with.Goals as goal
 
@@ -51,6 +52,10 @@ returns-in-Some-clause-refused g c =
     (has_images _ _ _ c.sectors.result _ c.in_ok-log.ensures.sectors c.sectors.ensures.value c.in_ok-log.ensures.text c.in_ok-plan.ensures.count c.in_ok-plan.ensures.few)
     (undecoded_of _ _ _ c.as_slice.result.now _ _ _ c.as_slice.ensures.value c.in_ok-decoded.ensures.decoded c.in-Some.is
     c.in_ok-checkers.ensures.made c.in_ok-checkers.ensures.all)
+
+pub judged-requires-clause-verified : goal.judged-requires-clause-verified
+judged-requires-clause-verified g c =
+    rw c.as_slice-2.ensures.value (made_fit _ _ c.in_ok-checkers.checkers.items c.in_ok-checkers.ensures.made)
 
 pub returns-clause-report : goal.returns-clause-report
 returns-clause-report g c =

@@ -2,6 +2,7 @@ use Rattle.std.proofs.Common.{◌∙◌}
 use Rattle.std.proofs.lemmas.Result.{err_from_is_err_and}
 use Rattle.commands.specs.Source.{no_plan_memory}
 use Rattle.commands.proofs.Findings.{same_subject, report_of_work, fails_of_work}
+use Rattle.commands.proofs.Fitting.{fit_plan}
 use Rattle.commands.proofs.Plans.{counted_of}
 use Rattle.commands.proofs.explore_command.judged.Goals as goal
 
@@ -13,6 +14,10 @@ returns-in-Err-new-clause-refused g c = rw c.of_memory-in-Err-new.ensures no_pla
 
 pub new-input-requires-clause-images : goal.new-input-requires-clause-images
 new-input-requires-clause-images g c = counted_of _ _ _ _ _ _ c.args.images c.requires.plan c.bound-bound.ensures.value c.tears-tears.ensures c.requires.images
+
+pub new-input-requires-clause-device : goal.new-input-requires-clause-device
+new-input-requires-clause-device g c =
+    fit_plan c.args.options.now c.args.log.now c.args.plan.now c.args.checkers.now c.requires.plan c.requires.device c.requires.verified
 
 pub returns-in_err-work-clause-refused : goal.returns-in_err-work-clause-refused
 returns-in_err-work-clause-refused g c =

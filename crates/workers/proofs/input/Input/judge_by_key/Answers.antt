@@ -2,12 +2,20 @@ use Rattle.std.proofs.Common.{◌≡◌, ◌∙◌, ◌++◌, refl, sym, ap, ari
 use Rattle.std.proofs.lemmas.Option.{slice_get_read}
 use Rattle.lines.specs.Line.{FailingLine}
 use Rattle.workers.proofs.JudgedLines.{same_ending, checker_found, lines_of_image}
+use Rattle.workers.proofs.Safe.{each_fits}
 use Rattle.workers.proofs.input.Input.judge_by_key.Goals as goal
 
 pub returns : goal.returns
 returns g c =
     let last : c.loop-number.number ≡ length c.args.self.now.checkers = rw (← c.self.view_is) (omega (arith, c.loop-number-test.false, c.loop-number.auto.number-end)) in
     c.loop-number.invariant.0 ∙ ap (λ (ls : List FailingLine). c.args.lines.now ++ ls) (lines_of_image c.args.self.now c.args.image c.loop-number.number last)
+
+pub outcome_of-outcome-requires-clause-device : goal.outcome_of-outcome-requires-clause-device
+outcome_of-outcome-requires-clause-device g c =
+    let checkers = c.self.inside.checkers.now in
+    let there : slice_get checkers c.loop-number.number ≡ Some c.checker-item.result =
+    slice_get_read checkers (length checkers) c.loop-number.number c.checker-item.result refl c.loop-number-test.true c.checker-item.is in
+    each_fits c.args.self.now c.args.view.now c.args.choice.now c.loop-number.number c.checker-item.result (rw (← c.self.view_is) c.self.invariant.device) c.requires.view (rw (← c.self.view_is) there)
 
 pub loop-number-preserved : goal.loop-number-preserved
 loop-number-preserved g c =
