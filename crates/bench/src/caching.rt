@@ -1,7 +1,7 @@
 //! Keys of images and the verdict cache: what a key costs beside the view of its image, when a cache
 //! pays, and how slow a shard grows where all keys have one mix.
 
-ghost use Rattle.std.specs.Prelude.{◌≡◌, ◌<◌, ◌≤◌, true, length, slice_get, Some, IfOk};
+ghost use Rattle.std.specs.Prelude.{◌≡◌, ◌<◌, ◌≤◌, true, false, is_some, length, slice_get, Some, IfOk};
 ghost use Rattle.choices.specs.Choices.{ranked};
 ghost use Rattle.images.specs.Keys.{key_of};
 ghost use Rattle.images.specs.Views.{view_of};
@@ -180,11 +180,13 @@ fn shards_of<'a, J: Run>(alloc: Global, size: u32) -> Result<Vec<Shard<'a, J>>, 
     Ok(shards)
 }
 
-/// What a checker ends in on the image of a choice, which is what its key ends in.
+/// What a checker with a limit ends in on the image of a choice, which is what its key ends in.
+#[tactic(auto, using(interp::proofs::Suiting::suits_all))]
 fn judged<J: Run>(key: &Key<'_>, view: &View<'_>, choice: &Choice, checker: &Checker<'_>) -> Outcome
     requires key { key_of view.now 0 ≡ Some key.now }
     requires view { view.now ≡ view_of J.plan choice.now }
     requires checker { slice_get J.checkers 0 ≡ Some checker.now }
+    requires limited { is_some checker.now.verified ≡ false }
     ensures { IsEndingOf J.plan J.checkers key.now (ending_of result) }
 {
     one_image_tells();
@@ -192,7 +194,7 @@ fn judged<J: Run>(key: &Key<'_>, view: &View<'_>, choice: &Choice, checker: &Che
     checker.judge(&view.context(), view)
 }
 
-/// What a checker ends in on the image of a choice, by the cache.
+/// What a checker with a limit ends in on the image of a choice, by the cache.
 fn looked_up<'a, J: Run>(
     shards: &mut Vec<Shard<'a, J>>,
     key: Key<'a>,
@@ -204,6 +206,7 @@ fn looked_up<'a, J: Run>(
     requires key { key_of view.now 0 ≡ Some key }
     requires view { view.now ≡ view_of J.plan choice.now }
     requires checker { slice_get J.checkers 0 ≡ Some checker.now }
+    requires limited { is_some checker.now.verified ≡ false }
     ensures { length shards.new.items ≡ 16 }
 {
     let place = usize::from(key.shard());
@@ -224,8 +227,9 @@ fn told(outcome: &Outcome) -> u64 {
     }
 }
 
-/// The sum over all images of what the first checker ends in, with a cache of that size.
+/// The sum over all images of what the first checker ends in, which has a limit, with a cache of that size.
 #[inline(never)]
+#[tactic(auto, using(interp::proofs::Suiting::suits_all))]
 fn judge_all<J: Run>(
     alloc: Global,
     plan: &Plan<'_>,
@@ -245,6 +249,9 @@ fn judge_all<J: Run>(
     requires size { size ≡ J.size }
 {
     let checker = &checkers[0];
+    if checker.is_verified() {
+        return Ok(0);
+    }
     let mut shards = shards_of::<J>(alloc, size)?;
     let mut changes = Changes::new(alloc, history);
     let mut choice = nth(plan, bound, true, 0);

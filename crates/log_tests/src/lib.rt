@@ -27,4 +27,6 @@ mod shares_tests;
 #[cfg(test)]
 mod verdict_cache_tests;
 #[cfg(test)]
+mod verified_tests;
+#[cfg(test)]
 mod workers_tests;

@@ -39,7 +39,8 @@ fn one_write(alloc: Global) -> Result<Log, Fail> {
     Ok(read(alloc, text.as_slice(), 1).ok().ok_or("a log")?)
 }
 
-/// The key of a work, and what its checker ends in.
+/// The key of a work, and what its checker ends in, which has a limit.
+#[tactic(auto, using(interp::proofs::Suiting::suits_all))]
 fn judged<'a>(
     alloc: Global,
     plan: &Plan<'_>,
@@ -58,6 +59,9 @@ fn judged<'a>(
     let Some(checker) = checkers.get(usize::from(program)) else {
         return Err("a checker".into());
     };
+    if checker.is_verified() {
+        return Err("a checker with a limit".into());
+    }
     let view = history.view(alloc, &nth(plan, 1, false, image))?;
     let Some(key) = view.key(alloc, program)? else {
         return Err("a key".into());
