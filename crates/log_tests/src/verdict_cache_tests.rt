@@ -1,6 +1,8 @@
 //! Shards of a small run: what becomes of entries, and how many each shard takes.
 
-ghost use Rattle.std.specs.Prelude.{◌≡◌, ◌≤◌, IfOk};
+ghost use Rattle.std.specs.Prelude.{◌≡◌, ◌≤◌, false, is_some, IfOk};
+ghost use Rattle.images.specs.Views.{context_at, sectors_of};
+ghost use Rattle.interp.specs.Checker.{judged};
 ghost use Rattle.interp.specs.Ending.{ending_of};
 ghost use Rattle.verdict_cache.specs.Endings.{IsEndingOf};
 
@@ -8,7 +10,7 @@ use crate::log_text::text_of;
 use bpf_isa::codec::decode;
 use choices::{count, nth};
 use epochs::{Cuts, Plan};
-use images::{History, Key};
+use images::{History, Key, View};
 use interp::{Checker, Outcome};
 use logfmt::{Log, read};
 use std::alloc::Global;
@@ -39,8 +41,15 @@ fn one_write(alloc: Global) -> Result<Log, Fail> {
     Ok(read(alloc, text.as_slice(), 1).ok().ok_or("a log")?)
 }
 
+/// What a checker with a limit ends in on an image.
+fn ended_on(view: &View<'_>, checker: &Checker<'_>) -> Outcome
+    requires limited { is_some checker.now.verified ≡ false }
+    ensures { ending_of result ≡ judged checker.now (sectors_of view.now) (context_at view.now.log view.now.cut) }
+{
+    checker.judge(&view.context(), view)
+}
+
 /// The key of a work, and what its checker ends in, which has a limit.
-#[tactic(auto, using(interp::proofs::Suiting::suits_all))]
 fn judged<'a>(
     alloc: Global,
     plan: &Plan<'_>,
@@ -66,8 +75,7 @@ fn judged<'a>(
     let Some(key) = view.key(alloc, program)? else {
         return Err("a key".into());
     };
-    let outcome = checker.judge(&view.context(), &view);
-    Ok((key, outcome))
+    Ok((key, ended_on(&view, checker)))
 }
 
 /// The answer of a verdict; 100 where the steps were too few.

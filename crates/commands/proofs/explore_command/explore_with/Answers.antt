@@ -55,7 +55,7 @@ returns-in-Some-clause-refused g c =
 
 pub judged-requires-clause-verified : goal.judged-requires-clause-verified
 judged-requires-clause-verified g c =
-    rw c.as_slice-2.ensures.value (made_fit _ _ c.in_ok-checkers.checkers.items c.in_ok-checkers.ensures.made)
+    λ κs lives. rw c.as_slice-2.ensures.value (made_fit c.args.options.now c.as_slice.result.now c.in_ok-checkers.checkers.items c.in_ok-checkers.ensures.made)
 
 pub returns-clause-report : goal.returns-clause-report
 returns-clause-report g c =
