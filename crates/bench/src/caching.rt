@@ -4,7 +4,8 @@
 ghost use Rattle.std.specs.Prelude.{◌≡◌, ◌<◌, ◌≤◌, true, false, is_some, length, slice_get, Some, IfOk};
 ghost use Rattle.choices.specs.Choices.{ranked};
 ghost use Rattle.images.specs.Keys.{key_of};
-ghost use Rattle.images.specs.Views.{view_of};
+ghost use Rattle.images.specs.Views.{context_at, sectors_of, view_of};
+ghost use Rattle.interp.specs.Checker.{judged};
 ghost use Rattle.interp.specs.Ending.{ending_of};
 ghost use Rattle.verdict_cache.specs.Endings.{IsEndingOf};
 
@@ -180,8 +181,15 @@ fn shards_of<'a, J: Run>(alloc: Global, size: u32) -> Result<Vec<Shard<'a, J>>, 
     Ok(shards)
 }
 
+/// What a checker with a limit ends in on an image.
+fn ended_on(view: &View<'_>, checker: &Checker<'_>) -> Outcome
+    requires limited { is_some checker.now.verified ≡ false }
+    ensures { ending_of result ≡ judged checker.now (sectors_of view.now) (context_at view.now.log view.now.cut) }
+{
+    checker.judge(&view.context(), view)
+}
+
 /// What a checker with a limit ends in on the image of a choice, which is what its key ends in.
-#[tactic(auto, using(interp::proofs::Suiting::suits_all))]
 fn judged<J: Run>(key: &Key<'_>, view: &View<'_>, choice: &Choice, checker: &Checker<'_>) -> Outcome
     requires key { key_of view.now 0 ≡ Some key.now }
     requires view { view.now ≡ view_of J.plan choice.now }
@@ -191,7 +199,7 @@ fn judged<J: Run>(key: &Key<'_>, view: &View<'_>, choice: &Choice, checker: &Che
 {
     one_image_tells();
     let (_key, _choice) = (key, choice);
-    checker.judge(&view.context(), view)
+    ended_on(view, checker)
 }
 
 /// What a checker with a limit ends in on the image of a choice, by the cache.
@@ -229,7 +237,6 @@ fn told(outcome: &Outcome) -> u64 {
 
 /// The sum over all images of what the first checker ends in, which has a limit, with a cache of that size.
 #[inline(never)]
-#[tactic(auto, using(interp::proofs::Suiting::suits_all))]
 fn judge_all<J: Run>(
     alloc: Global,
     plan: &Plan<'_>,
@@ -265,7 +272,7 @@ fn judge_all<J: Run>(
         };
         let outcome = match key {
             Some(key) => looked_up::<J>(&mut shards, key, &view, &choice, checker),
-            None => checker.judge(&view.context(), &view),
+            None => ended_on(&view, checker),
         };
         sum = sum.wrapping_add(number ^ told(&outcome));
         let _moved = next(plan, bound, true, &mut choice);

@@ -12,11 +12,11 @@ use choices::{count, nth};
 use epochs::{Cuts, Plan};
 use images::{History, View};
 use interp::{Checker, Outcome, run_checked};
-use logfmt::read;
+use logfmt::{Log, read};
 use std::alloc::Global;
 use std::process::Abort;
 use std::test::Fail;
-use verifier::verify;
+use verifier::{Verified, verify};
 
 /// Whether both are verdicts, with the same answer and the same codes.
 fn is_same_verdict(one: &Outcome, other: &Outcome) -> bool {
@@ -29,7 +29,6 @@ fn is_same_verdict(one: &Outcome, other: &Outcome) -> bool {
 }
 
 /// Runs a verified program on an image in both ways.
-#[tactic(auto, using(workers::proofs::Safe::may_judge))]
 fn check_image(
     rt: &impl Abort,
     view: &View<'_>,
@@ -49,6 +48,7 @@ fn check_image(
 }
 
 /// The same on each image of a plan.
+#[tactic(auto, using(crate::proofs::Verified::on_view))]
 fn check_images(
     rt: &impl Abort,
     alloc: Global,
@@ -70,21 +70,57 @@ fn check_images(
     Ok(())
 }
 
-/// The same on each image of overwritten_sector: two writes of sector 0, torn or not.
+/// The same on each image of a log, with at most one departure.
+#[tactic(auto, using(crate::proofs::Verified::on_plan))]
+fn check_log(
+    rt: &impl Abort,
+    alloc: Global,
+    log: &Log,
+    program: &Program,
+    checker: &Checker<'_>,
+    name: &str,
+) -> Result<(), Fail>
+    requires device { IsFor log.now.sectors checker.now.verified }
+{
+    let plan = Plan::new(alloc, log, Cuts::All)?;
+    let history = History::new(alloc, &plan, log)?;
+    let Ok(total) = count(&plan, 1, true) else {
+        return Err("few images".into());
+    };
+    assert_eq!(rt; total, 48);
+    check_images(rt, alloc, &plan, &history, program, checker, name, total)
+}
+
+/// The same with a program that was verified for the size of the log.
+#[tactic(auto, using(crate::proofs::Verified::of_verified))]
+fn check_verified(
+    rt: &impl Abort,
+    alloc: Global,
+    log: &Log,
+    program: &Program,
+    verified: &Verified<'_>,
+    name: &str,
+) -> Result<(), Fail>
+    requires device { verified.now.sectors ≡ log.now.sectors }
+{
+    let checker = Checker::verified(verified);
+    assert!(rt; checker.is_verified());
+    check_log(rt, alloc, log, program, &checker, name)
+}
+
+/// The same on each image of overwritten_sector: two writes of sector 0.
 fn check_program(rt: &impl Abort, alloc: Global, name: &str, text: &str) -> Result<(), Fail> {
     let bytes = text_of(alloc, &[(0, 1, 0, 0x11), (0, 1, 0, 0x22)])?;
-    let log = read(alloc, bytes.as_slice(), 4).ok().ok_or("a log")?;
-    let plan = Plan::new(alloc, &log, Cuts::All)?;
-    let history = History::new(alloc, &plan, &log)?;
-    let program = assemble(alloc, text).ok().ok_or("a program")?;
-    let verified = verify(alloc, &program, 4)
-        .ok()
-        .ok_or("an accepted program")?;
-    let checker = Checker::verified(&verified);
-    assert!(rt; checker.is_verified());
-    let images = count(&plan, 1, true).ok().ok_or("few images")?;
-    assert_eq!(rt; images, 48);
-    check_images(rt, alloc, &plan, &history, &program, &checker, name, images)
+    let Ok(log) = read(alloc, bytes.as_slice(), 4) else {
+        return Err("a log".into());
+    };
+    let Ok(program) = assemble(alloc, text) else {
+        return Err("a program".into());
+    };
+    let Ok(verified) = verify(alloc, &program, 4) else {
+        return Err("an accepted program".into());
+    };
+    check_verified(rt, alloc, &log, &program, &verified, name)
 }
 
 /// The accepted programs of docs/VERIFIER.md, and those of tests/programs/.
