@@ -2,7 +2,7 @@
 //!
 //! The sectors are zeros and lie in the processor's first cache, so that no form ends before the
 //! last byte and none waits for memory. The three forms of a kernel run in turn.
-mod plain;
+mod loops;
 
 use crate::timing::{Best, ROUNDS};
 use std::io;
@@ -32,32 +32,32 @@ pub fn run<R: Clock + Print>(rt: &R) -> io::Result<()> {
         "same",
         &mut pairs,
         |other, sector, _| u64::from(lanes::same(other, sector)),
-        |other, sector, _| u64::from(plain::same_by_bytes(other, sector)),
-        |other, sector, _| u64::from(plain::same_by_words(other, sector)),
+        |other, sector, _| u64::from(loops::same_by_bytes(other, sector)),
+        |other, sector, _| u64::from(loops::same_by_words(other, sector)),
     )?;
     compare(
         rt,
         "is_zero",
         &mut pairs,
         |_, sector, _| u64::from(lanes::is_zero(sector)),
-        |_, sector, _| u64::from(plain::is_zero_by_bytes(sector)),
-        |_, sector, _| u64::from(plain::is_zero_by_words(sector)),
+        |_, sector, _| u64::from(loops::is_zero_by_bytes(sector)),
+        |_, sector, _| u64::from(loops::is_zero_by_words(sector)),
     )?;
     compare(
         rt,
         "mix",
         &mut pairs,
         |_, sector, _| lanes::mix(sector),
-        |_, sector, _| plain::mix_by_bytes(sector),
-        |_, sector, _| plain::mix_by_words(sector),
+        |_, sector, _| loops::mix_by_bytes(sector),
+        |_, sector, _| loops::mix_by_words(sector),
     )?;
     compare(
         rt,
         "splice",
         &mut pairs,
         |other, sector, pieces| u64::from(splice_by_lanes(sector, other, pieces)[200]),
-        |other, sector, pieces| u64::from(plain::splice_by_bytes(sector, other, pieces)[200]),
-        |other, sector, pieces| u64::from(plain::splice_by_words(sector, other, pieces)[200]),
+        |other, sector, pieces| u64::from(loops::splice_by_bytes(sector, other, pieces)[200]),
+        |other, sector, pieces| u64::from(loops::splice_by_words(sector, other, pieces)[200]),
     )
 }
 
