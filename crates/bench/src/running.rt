@@ -1,13 +1,16 @@
-//! Runs of checkers by the interpreter, with every check of the machine.
+//! Runs of checkers, with every check of the machine and without checks.
 //!
 //! The programs are those that `bench/running.c` runs on DPDK's interpreter: a loop of five
 //! instructions, a loop of loads and stores, and instructions in a row; and a loop of calls of a local
 //! function, which that one doesn't have. The last one is short, so that its time is that of a run itself.
 
+ghost use Rattle.machine.specs.Outcome.{outcome};
+ghost use Rattle.plain.specs.Runs.{IsVerdict};
+
 use crate::timing::{Best, ROUNDS};
 use bpf_isa::codec::decode;
 use bpf_isa::program::{CodeFault, Program};
-use helpers::{Context, Filled};
+use helpers::{Context, Device, Filled};
 use interp::{Outcome, run_checked};
 use std::alloc::{AllocError, Global};
 use std::io;
@@ -93,25 +96,91 @@ pub(crate) fn program(alloc: Global, slots: &[u64]) -> Result<Program, CodeFault
     decode(alloc, bytes.as_slice())
 }
 
-/// The sum of the answers of so many runs.
-#[inline(never)]
-fn answers(program: &Program, device: &Filled, runs: u32) -> u64 {
-    let context = Context {
+/// What the programs are told.
+fn context() -> Context {
+    Context {
         sectors: 4,
         epoch: 6,
         marks: 7,
-    };
+    }
+}
+
+/// The sum of the answers of so many runs with every check.
+#[inline(never)]
+fn answers<D: Device>(program: &Program, context: &Context, device: &D, runs: u32) -> u64 {
     let mut sum: u64 = 0;
     for _run in 0..runs {
-        if let Outcome::Verdict(verdict) = run_checked(program, &context, device, LIMIT) {
+        if let Outcome::Verdict(verdict) = run_checked(program, context, device, LIMIT) {
             sum = sum.wrapping_add(verdict.answer);
         }
     }
     sum
 }
 
-/// Prints a row for a program that makes so many steps a run: steps a second in millions, and
-/// nanoseconds a run, best of five.
+/// The sum of the answers of so many runs without checks.
+#[inline(never)]
+fn plain_answers<D: Device>(program: &Program, context: &Context, device: &D, runs: u32) -> u64
+    requires ends { IsVerdict (outcome program.now (D.content device.now) context.now 1000000000) }
+{
+    let mut sum: u64 = 0;
+    for _run in 0..runs {
+        let ended = plain::run(program, context, device, LIMIT);
+        sum = sum.wrapping_add(ended.answer);
+    }
+    sum
+}
+
+/// Prints a row: steps a second in millions, and nanoseconds a run, of the best of five rounds.
+fn print_row<R: Print>(rt: &R, name: &str, best: &Best, steps: f64, runs: u32) -> io::Result<()> {
+    let run = best.nanoseconds(f64::from(runs));
+    let answer = best.answer();
+    println!(rt;
+        "{name:14} {:10.1} {run:14.1} {answer:>22}",
+        1000.0 * steps / run
+    )
+}
+
+/// Prints a row of runs with every check.
+fn time_checked<R: Clock + Print, D: Device>(
+    rt: &R,
+    name: &str,
+    program: &Program,
+    device: &D,
+    steps: f64,
+    runs: u32,
+) -> io::Result<()> {
+    let context = context();
+    let mut best = Best::new();
+    for _round in 0..ROUNDS {
+        let start = Instant::now(rt)?;
+        let answer = answers(program, &context, device, runs);
+        best.keep(start.elapsed(rt)?, answer);
+    }
+    print_row(rt, name, &best, steps, runs)
+}
+
+/// Prints a row of runs without checks, of which is known that they end in a verdict.
+fn time_plain<R: Clock + Print, D: Device>(
+    rt: &R,
+    program: &Program,
+    context: &Context,
+    device: &D,
+    steps: f64,
+    runs: u32,
+) -> io::Result<()>
+    requires ends { IsVerdict (outcome program.now (D.content device.now) context.now 1000000000) }
+{
+    let mut best = Best::new();
+    for _round in 0..ROUNDS {
+        let start = Instant::now(rt)?;
+        let answer = plain_answers(program, context, device, runs);
+        best.keep(start.elapsed(rt)?, answer);
+    }
+    print_row(rt, "  unchecked", &best, steps, runs)
+}
+
+/// Prints two rows for a program that makes so many steps a run: with every check, and without checks, which
+/// is done where one run with every check ends in a verdict.
 fn time<R: Clock + Print + AllocGlobal>(
     rt: &R,
     name: &str,
@@ -123,24 +192,18 @@ fn time<R: Clock + Print + AllocGlobal>(
         return println!(rt; "{name} is no program");
     };
     let device = Filled::new(4, 0xee);
-    let mut best = Best::new();
-    for _round in 0..ROUNDS {
-        let start = Instant::now(rt)?;
-        let answer = answers(&program, &device, runs);
-        best.keep(start.elapsed(rt)?, answer);
+    let context = context();
+    time_checked(rt, name, &program, &device, steps, runs)?;
+    match run_checked(&program, &context, &device, LIMIT) {
+        Outcome::Verdict(_) => time_plain(rt, &program, &context, &device, steps, runs),
+        _ => println!(rt; "{name} has no verdict"),
     }
-    let run = best.nanoseconds(f64::from(runs));
-    let answer = best.answer();
-    println!(rt;
-        "{name:8} {:10.1} {run:14.1} {answer:>22}",
-        1000.0 * steps / run
-    )
 }
 
-/// Prints a row for each program.
+/// Prints the rows of each program.
 pub fn run<R: Clock + Print + AllocGlobal>(rt: &R) -> io::Result<()> {
     println!(rt;
-        "{:8} {:>10} {:>14} {:>22}",
+        "{:14} {:>10} {:>14} {:>22}",
         "program", "M steps/s", "ns a run", "answers"
     )?;
     time(rt, "count", &COUNT, 100_000_004.0, 1)?;
