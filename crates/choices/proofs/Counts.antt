@@ -57,7 +57,7 @@ triples_closed (suc (suc k)) h =
     rw (less, lesser) (omega (arith, six_triples k)) in
     ap (λ n. n / 6) six ∙ div-mul-add (triples (suc (suc k))) 6 0 (omega arith)
 
--- of too few units there are none
+-- of too few parts there are none
 pub pairs_none : (k : ℕ) → k ≡ 0 → 0 ≡ pairs k
 unfolding pairs
 pairs_none zero h = refl

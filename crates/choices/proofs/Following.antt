@@ -69,7 +69,7 @@ no_rows : (a t j : ℕ) → beginning a t j [] ≡ []
 no_rows a t zero = refl
 no_rows a t (suc j) = no_rows a (t + 1) j
 
--- the first of the choices of i departures among k units: none, or the first i units dropped
+-- the first of the choices of i departures among k parts: none, or the first i parts dropped
 pub head_none : (m i a k : ℕ) → k < i → chosen m i a k ≡ []
 unfolding chosen
 head_none m zero a k h = absurd (omega (arith, h))
@@ -101,18 +101,18 @@ lt_false : (a b : ℕ) → b ≤ a → nat_lt a b ≡ false
 lt_false a b h = le-ltb a b h
 
 stepped_fate : (m e : ℕ) (d : Pick) (b : ℕ) → d.fate + 1 < m
-    → stepped m e d b ≡ Some (record { unit = d.unit; fate = d.fate + 1 } ∷ first_picks b (d.unit + 1))
+    → stepped m e d b ≡ Some (record { part = d.part; fate = d.fate + 1 } ∷ first_picks b (d.part + 1))
 unfolding stepped
 stepped_fate m e d b h = rw (lt_true (d.fate + 1) m h) refl
 
-stepped_unit : (m e : ℕ) (d : Pick) (b : ℕ) → m ≤ d.fate + 1 → d.unit + 1 + b < e
-    → stepped m e d b ≡ Some (record { unit = d.unit + 1; fate = 0 } ∷ first_picks b (d.unit + 1 + 1))
+stepped_part : (m e : ℕ) (d : Pick) (b : ℕ) → m ≤ d.fate + 1 → d.part + 1 + b < e
+    → stepped m e d b ≡ Some (record { part = d.part + 1; fate = 0 } ∷ first_picks b (d.part + 1 + 1))
 unfolding stepped
-stepped_unit m e d b h k = rw (lt_false (d.fate + 1) m h, lt_true (d.unit + 1 + b) e k) refl
+stepped_part m e d b h k = rw (lt_false (d.fate + 1) m h, lt_true (d.part + 1 + b) e k) refl
 
-stepped_none : (m e : ℕ) (d : Pick) (b : ℕ) → m ≤ d.fate + 1 → e ≤ d.unit + 1 + b → stepped m e d b ≡ None
+stepped_none : (m e : ℕ) (d : Pick) (b : ℕ) → m ≤ d.fate + 1 → e ≤ d.part + 1 + b → stepped m e d b ≡ None
 unfolding stepped
-stepped_none m e d b h k = rw (lt_false (d.fate + 1) m h, lt_false (d.unit + 1 + b) e k) refl
+stepped_none m e d b h k = rw (lt_false (d.fate + 1) m h, lt_false (d.part + 1 + b) e k) refl
 
 -- at the end of a list
 pub at_end : {X : Type 0} (xs : List X) (n : ℕ) → n < length xs → slice_get xs (suc n) ≡ None → length xs ≡ suc n
@@ -131,7 +131,7 @@ behind_end xs ys n h =
 pub in_front : {X : Type 0} (xs ys : List X) (n : ℕ) (x : X) → slice_get xs n ≡ Some x → slice_get (xs ++ ys) n ≡ Some x
 in_front xs ys n x h = slice_get-append_left xs ys n (slice_get_within xs n x h) ∙ h
 
--- a choice of departures among no fewer units than departures
+-- a choice of departures among no fewer parts than departures
 room : (m i a k n : ℕ) (ds : List Pick) → slice_get (chosen m i a k) n ≡ Some ds → i ≤ k
 room m i a k n ds h = elim (cases_lt k i) [
   | inl few ↦ absurd (let bad : None ≡ Some ds = sym (ap (λ xs. slice_get xs n) (head_none m i a k few)) ∙ h in cc)
@@ -152,21 +152,21 @@ member_length m (suc i) a (suc k) n ds h = elim (slice_get_of_append (beginning 
   | inr more ↦ member_length m (suc i) (a + 1) k (n - length (beginning a 0 m (chosen m i (a + 1) k))) ds more.1
 ]
 
--- behind the last choice that begins with a unit: the first of those that begin behind it
-next_unit : (m i a k x : ℕ) → 1 ≤ m → i ≤ k → m ≤ x + 1 → slice_get (chosen m (suc i) (a + 1) k) 0 ≡ stepped m (a + suc k) (record { unit = a; fate = x }) i
+-- behind the last choice that begins with a part: the first of those that begin behind it
+next_part : (m i a k x : ℕ) → 1 ≤ m → i ≤ k → m ≤ x + 1 → slice_get (chosen m (suc i) (a + 1) k) 0 ≡ stepped m (a + suc k) (record { part = a; fate = x }) i
 unfolding first_picks
-next_unit m i a k x some le last = elim (cases_lt i k) [
-  | inl less ↦ head_some m (suc i) (a + 1) k some (omega (arith, less)) ∙ sym (stepped_unit m (a + suc k) (record { unit = a; fate = x }) i last (omega (arith, less)))
+next_part m i a k x some le last = elim (cases_lt i k) [
+  | inl less ↦ head_some m (suc i) (a + 1) k some (omega (arith, less)) ∙ sym (stepped_part m (a + suc k) (record { part = a; fate = x }) i last (omega (arith, less)))
   | inr more ↦
       ap (λ xs. slice_get xs 0) (head_none m (suc i) (a + 1) k (omega (arith, more)))
-      ∙ sym (stepped_none m (a + suc k) (record { unit = a; fate = x }) i last (omega (arith, more)))
+      ∙ sym (stepped_none m (a + suc k) (record { part = a; fate = x }) i last (omega (arith, more)))
 ]
 
--- behind a choice that begins with unit a and fate x
+-- behind a choice that begins with part a and fate x
 behind_row : (m i a k x y n : ℕ) → 1 ≤ m → x < m → n ≡ x * length (chosen m i (a + 1) k) + y → y < length (chosen m i (a + 1) k) → i ≤ k
     → (o : Option (List Pick)) → slice_get (chosen m i (a + 1) k) (suc y) ≡ o
     → slice_get (beginning a 0 m (chosen m i (a + 1) k) ++ chosen m (suc i) (a + 1) k) (suc n)
-    ≡ after_rest (record { unit = a; fate = x }) o (stepped m (a + suc k) (record { unit = a; fate = x }) i)
+    ≡ after_rest (record { part = a; fate = x }) o (stepped m (a + suc k) (record { part = a; fate = x }) i)
 behind_row m i a k x y n some fate at lt le (Some r) h =
     let rests : List (List Pick) = chosen m i (a + 1) k in
     let here : suc n ≡ x * length rests + suc y = omega (arith, at) in
@@ -187,11 +187,11 @@ behind_row m i a k x y n some fate at lt le None h =
           ap (slice_get (beginning a 0 m rests)) here ∙ at_beginning a 0 m rests (suc x) 0 (omega (arith, less)) (omega (arith, lt))
           ∙ ap (option_map (behind a (0 + suc x))) (head_some m i (a + 1) k some le) ∙ ap (λ s. Some (behind a s (first_picks i (a + 1)))) zero_x in
           in_front (beginning a 0 m rests) (chosen m (suc i) (a + 1) k) (suc n) (behind a (x + 1) (first_picks i (a + 1))) found
-          ∙ sym (stepped_fate m (a + suc k) (record { unit = a; fate = x }) i less)
+          ∙ sym (stepped_fate m (a + suc k) (record { part = a; fate = x }) i less)
       | inr more ↦
           let whole : x + 1 ≡ m = omega (arith, more, fate) in
           let long : length (beginning a 0 m rests) ≡ suc n = length-beginning a 0 m rests ∙ ap (λ j. j * length rests) (sym whole) ∙ omega (arith, at, width) in
-          behind_end (beginning a 0 m rests) (chosen m (suc i) (a + 1) k) (suc n) long ∙ next_unit m i a k x some le more
+          behind_end (beginning a 0 m rests) (chosen m (suc i) (a + 1) k) (suc n) long ∙ next_part m i a k x some le more
     ]
 
 -- the choice behind another, among those of one number of departures
@@ -216,7 +216,7 @@ follows m (suc i) a (suc k) some n ds h =
           let size : length in_row.rest ≡ i = member_length m i (a + 1) k in_row.y in_row.rest in_row.there in
           behind_row m i a k in_row.x in_row.y n some in_row.fate in_row.place
           (slice_get_within rests in_row.y in_row.rest in_row.there) (room m i (a + 1) k in_row.y in_row.rest in_row.there) o inner
-          ∙ ap (λ s. after_rest (record { unit = a; fate = in_row.x }) o (stepped m (a + suc k) (record { unit = a; fate = in_row.x }) s)) (sym size)
+          ∙ ap (λ s. after_rest (record { part = a; fate = in_row.x }) o (stepped m (a + suc k) (record { part = a; fate = in_row.x }) s)) (sym size)
           ∙ ap (following m (a + suc k)) (sym is)
       | inr it ↦
           let at : suc n ≡ length first + suc (n - length first) = omega (arith, it.0) in
@@ -324,14 +324,14 @@ follows_below m (suc s) v some n ds h = elim (slice_get_of_append (fewer m s v) 
       ∙ ap (or_else (following m v ds)) (sym top)
 ]
 
--- every departure is of one of the units
+-- every departure is of one of the parts
 All_cons : (P : Pick → Type 0) (x : Pick) (xs : List Pick) → P x → All P xs → All P (x ∷ xs)
 All_cons P x xs p ps = λ k. elim k as (λ j. (d : Pick) → j < length (x ∷ xs) → P (slice_index_or (x ∷ xs) j d)) [
   | zero ↦ λ d lt. p
   | suc j ↦ λ d lt. ps j d (omega (arith, lt))
 ]
 
--- the units and fates of a choice are among those that it is made of
+-- the parts and fates of a choice are among those that it is made of
 pub are_picks : (m i a k n : ℕ) (ds : List Pick) → slice_get (chosen m i a k) n ≡ Some ds → ArePicks m (a + k) ds
 unfolding chosen
 are_picks m zero a k zero ds h =
@@ -348,7 +348,7 @@ are_picks m (suc i) a (suc k) n ds h =
           let fate : it.x < m = it.fate in
           let rest : ArePicks m (a + suc k) it.rest = subst (λ e. P e it.rest) end (are_picks m i (a + 1) k it.y it.rest it.there) in
           let own : (a < a + suc k) × (0 + it.x < m) = (omega arith, omega (arith, fate)) in
-          let whole = All_cons (λ (p : Pick). (p.unit < a + suc k) × (p.fate < m)) (record { unit = a; fate = 0 + it.x }) it.rest own rest in
+          let whole = All_cons (λ (p : Pick). (p.part < a + suc k) × (p.fate < m)) (record { part = a; fate = 0 + it.x }) it.rest own rest in
           subst (P (a + suc k)) (sym it.is) whole
       | inr more ↦ subst (λ e. P e ds) end (are_picks m (suc i) (a + 1) k (n - length (beginning a 0 m (chosen m i (a + 1) k))) ds more.1)
     ]

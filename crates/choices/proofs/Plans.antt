@@ -6,7 +6,8 @@ use Rattle.std.proofs.lemmas.List.{length-map, take_all}
 use Rattle.std.proofs.lemmas.Option.{slice_get-map, slice_get_within, slice_get_cases, same_Some, get_or_from_slice_get, slice_get-get_or}
 use Rattle.base.proofs.Lists.{slice_get-append_left, slice_get-append_right, slice_get_of_append}
 use Rattle.logfmt.specs.declared.entry.Entry.{Entry}
-use Rattle.epochs.specs.Units.{volatile_units}
+use Rattle.epochs.specs.declared.part.By.{By}
+use Rattle.epochs.specs.Parts.{volatile_parts}
 use Rattle.epochs.specs.Cuts.{cuts_of}
 use Rattle.epochs.specs.Plan.{PlanValue}
 use Rattle.epochs.proofs.Wanted.{cuts_within}
@@ -26,31 +27,31 @@ pub fates_high : (tears : Bool) → fates_of tears ≤ most_fates
 fates_high tears = elim tears as (λ b. fates_of b ≤ most_fates) [ true ↦ omega arith | false ↦ omega arith ]
 
 -- how many choices a cut has
-at_ways : (es : List Entry) (m b p cut : ℕ) → length (choices_at es m b p cut) ≡ ways_within m b (length (volatile_units es cut))
+at_ways : (way : By) (es : List Entry) (m b p cut : ℕ) → length (choices_at way es m b p cut) ≡ ways_within m b (length (volatile_parts way es cut))
 unfolding choices_at
-at_ways es m b p cut =
-    length-map (picks_within m b (length (volatile_units es cut))) (choice_of es p cut) ∙ length-fewer m (suc b) (length (volatile_units es cut))
+at_ways way es m b p cut =
+    length-map (picks_within m b (length (volatile_parts way es cut))) (choice_of way es p cut) ∙ length-fewer m (suc b) (length (volatile_parts way es cut))
 
 -- the same of a plan
 pub ranked_at-ways : (plan : PlanValue) (b : ℕ) (tears : Bool) (cut : ℕ)
-    → length (ranked_at plan b tears cut) ≡ ways_within (fates_of tears) b (length (volatile_units plan.log.entries cut))
+    → length (ranked_at plan b tears cut) ≡ ways_within (fates_of tears) b (length (volatile_parts plan.by plan.log.entries cut))
 unfolding ranked_at
-ranked_at-ways plan b tears cut = at_ways plan.log.entries (fates_of tears) b 0 cut
+ranked_at-ways plan b tears cut = at_ways plan.by plan.log.entries (fates_of tears) b 0 cut
 
 -- one cut more
-over_more : (es : List Entry) (m b p i : ℕ) (cuts : List ℕ) (cut : ℕ) → slice_get cuts i ≡ Some cut
-    → length (choices_over es m b p (take (suc i) cuts)) ≡ length (choices_over es m b p (take i cuts)) + length (choices_at es m b 0 cut)
+over_more : (way : By) (es : List Entry) (m b p i : ℕ) (cuts : List ℕ) (cut : ℕ) → slice_get cuts i ≡ Some cut
+    → length (choices_over way es m b p (take (suc i) cuts)) ≡ length (choices_over way es m b p (take i cuts)) + length (choices_at way es m b 0 cut)
 unfolding choices_over
-over_more es m b p i [] cut h = absurd (let bad : None ≡ Some cut = h in cc)
-over_more es m b p zero (c ∷ cuts) cut h =
+over_more way es m b p i [] cut h = absurd (let bad : None ≡ Some cut = h in cc)
+over_more way es m b p zero (c ∷ cuts) cut h =
     let same : c ≡ cut = same_Some c cut h in
-    omega (arith, length-append (choices_at es m b p c) [], at_ways es m b p c, at_ways es m b 0 cut, ap (λ k. ways_within m b (length (volatile_units es k))) same)
-over_more es m b p (suc i) (c ∷ cuts) cut h =
-    let rest = over_more es m b (p + 1) i cuts cut h in
+    omega (arith, length-append (choices_at way es m b p c) [], at_ways way es m b p c, at_ways way es m b 0 cut, ap (λ k. ways_within m b (length (volatile_parts way es k))) same)
+over_more way es m b p (suc i) (c ∷ cuts) cut h =
+    let rest = over_more way es m b (p + 1) i cuts cut h in
     omega (
       arith,
-      length-append (choices_at es m b p c) (choices_over es m b (p + 1) (take (suc i) cuts)),
-      length-append (choices_at es m b p c) (choices_over es m b (p + 1) (take i cuts)),
+      length-append (choices_at way es m b p c) (choices_over way es m b (p + 1) (take (suc i) cuts)),
+      length-append (choices_at way es m b p c) (choices_over way es m b (p + 1) (take i cuts)),
       rest,
     )
 
@@ -59,7 +60,7 @@ pub before_more : (plan : PlanValue) (b : ℕ) (tears : Bool) (i cut : ℕ) → 
     → length (ranked_before plan b tears (i + 1)) ≡ length (ranked_before plan b tears i) + length (ranked_at plan b tears cut)
 unfolding ranked_before ranked_at
 before_more plan b tears i cut h =
-    rw (add-one i) (over_more plan.log.entries (fates_of tears) b 0 i (cuts_of plan.kind plan.log.entries) cut h)
+    rw (add-one i) (over_more plan.by plan.log.entries (fates_of tears) b 0 i (cuts_of plan.kind plan.log.entries) cut h)
 
 pub before_none : (plan : PlanValue) (b : ℕ) (tears : Bool) → length (ranked_before plan b tears 0) ≡ 0
 unfolding ranked_before choices_over
@@ -69,50 +70,51 @@ pub before_all : (plan : PlanValue) (b : ℕ) (tears : Bool) (i : ℕ) → lengt
     → ranked_before plan b tears i ≡ ranked plan b tears
 unfolding ranked_before ranked
 before_all plan b tears i h =
-    ap (choices_over plan.log.entries (fates_of tears) b 0) (take_all i (cuts_of plan.kind plan.log.entries) h)
+    ap (choices_over plan.by plan.log.entries (fates_of tears) b 0) (take_all i (cuts_of plan.kind plan.log.entries) h)
 
 -- where the cut is found
-over_at : (es : List Entry) (m b p i r : ℕ) (cuts : List ℕ) (cut : ℕ) → slice_get cuts i ≡ Some cut → r < length (choices_at es m b 0 cut)
-    → slice_get (choices_over es m b p cuts) (length (choices_over es m b p (take i cuts)) + r) ≡ slice_get (choices_at es m b (p + i) cut) r
+over_at : (way : By) (es : List Entry) (m b p i r : ℕ) (cuts : List ℕ) (cut : ℕ) → slice_get cuts i ≡ Some cut → r < length (choices_at way es m b 0 cut)
+    → slice_get (choices_over way es m b p cuts) (length (choices_over way es m b p (take i cuts)) + r) ≡ slice_get (choices_at way es m b (p + i) cut) r
 unfolding choices_over
-over_at es m b p i r [] cut h lt = absurd (let bad : None ≡ Some cut = h in cc)
-over_at es m b p zero r (c ∷ cuts) cut h lt =
+over_at way es m b p i r [] cut h lt = absurd (let bad : None ≡ Some cut = h in cc)
+over_at way es m b p zero r (c ∷ cuts) cut h lt =
     let same : c ≡ cut = same_Some c cut h in
     let here : 0 + r ≡ r = omega arith in
     let place : p ≡ p + 0 = omega arith in
-    let within : r < length (choices_at es m b p c) =
-    omega (arith, lt, at_ways es m b p c, at_ways es m b 0 cut, ap (λ k. ways_within m b (length (volatile_units es k))) same) in
-    ap (slice_get (choices_at es m b p c ++ choices_over es m b (p + 1) cuts)) here
-    ∙ slice_get-append_left (choices_at es m b p c) (choices_over es m b (p + 1) cuts) r within
-    ∙ ap (λ k. slice_get (choices_at es m b p k) r) same
-    ∙ ap (λ q. slice_get (choices_at es m b q cut) r) place
-over_at es m b p (suc i) r (c ∷ cuts) cut h lt =
-    let front : ℕ = length (choices_over es m b (p + 1) (take i cuts)) in
-    let here : length (choices_at es m b p c ++ choices_over es m b (p + 1) (take i cuts)) + r ≡ length (choices_at es m b p c) + (front + r) =
-    omega (arith, length-append (choices_at es m b p c) (choices_over es m b (p + 1) (take i cuts))) in
+    let within : r < length (choices_at way es m b p c) =
+    omega (arith, lt, at_ways way es m b p c, at_ways way es m b 0 cut, ap (λ k. ways_within m b (length (volatile_parts way es k))) same) in
+    ap (slice_get (choices_at way es m b p c ++ choices_over way es m b (p + 1) cuts)) here
+    ∙ slice_get-append_left (choices_at way es m b p c) (choices_over way es m b (p + 1) cuts) r within
+    ∙ ap (λ k. slice_get (choices_at way es m b p k) r) same
+    ∙ ap (λ q. slice_get (choices_at way es m b q cut) r) place
+over_at way es m b p (suc i) r (c ∷ cuts) cut h lt =
+    let front : ℕ = length (choices_over way es m b (p + 1) (take i cuts)) in
+    let here : length (choices_at way es m b p c ++ choices_over way es m b (p + 1) (take i cuts)) + r ≡ length (choices_at way es m b p c) + (front + r) =
+    omega (arith, length-append (choices_at way es m b p c) (choices_over way es m b (p + 1) (take i cuts))) in
     let place : p + 1 + i ≡ p + suc i = omega arith in
-    ap (slice_get (choices_at es m b p c ++ choices_over es m b (p + 1) cuts)) here
-    ∙ slice_get-append_right (choices_at es m b p c) (choices_over es m b (p + 1) cuts) (front + r)
-    ∙ over_at es m b (p + 1) i r cuts cut h lt
-    ∙ ap (λ q. slice_get (choices_at es m b q cut) r) place
+    ap (slice_get (choices_at way es m b p c ++ choices_over way es m b (p + 1) cuts)) here
+    ∙ slice_get-append_right (choices_at way es m b p c) (choices_over way es m b (p + 1) cuts) (front + r)
+    ∙ over_at way es m b (p + 1) i r cuts cut h lt
+    ∙ ap (λ q. slice_get (choices_at way es m b q cut) r) place
 
 -- the choice of a cut by its number there
 pub found_choice : (plan : PlanValue) (b : ℕ) (tears : Bool) (number place rest : ℕ) → (at : InCut plan b tears number place rest)
     → (cut : ℕ) → slice_get (cuts_of plan.kind plan.log.entries) place ≡ Some cut
-    → (picks : List Pick) → slice_get (picks_within (fates_of tears) b (length (volatile_units plan.log.entries cut))) rest ≡ Some picks
-    → slice_get (ranked plan b tears) number ≡ Some (choice_of plan.log.entries place cut picks)
+    → (picks : List Pick) → slice_get (picks_within (fates_of tears) b (length (volatile_parts plan.by plan.log.entries cut))) rest ≡ Some picks
+    → slice_get (ranked plan b tears) number ≡ Some (choice_of plan.by plan.log.entries place cut picks)
 unfolding ranked ranked_before ranked_at choices_at
 found_choice plan b tears number place rest at cut wanted picks there =
+    let way = plan.by in
     let es = plan.log.entries in
     let m = fates_of tears in
     let one : cut ≡ at.cut = same_Some cut at.cut (sym wanted ∙ at.wanted) in
     let place_is : 0 + place ≡ place = omega arith in
-    ap (slice_get (choices_over es m b 0 (cuts_of plan.kind es))) at.sum
-    ∙ over_at es m b 0 place rest (cuts_of plan.kind es) at.cut at.wanted at.within
-    ∙ ap (λ q. slice_get (choices_at es m b q at.cut) rest) place_is
-    ∙ ap (λ k. slice_get (choices_at es m b place k) rest) (sym one)
-    ∙ slice_get-map (choice_of es place cut) (picks_within m b (length (volatile_units es cut))) rest
-    ∙ ap (option_map (choice_of es place cut)) there
+    ap (slice_get (choices_over way es m b 0 (cuts_of plan.kind es))) at.sum
+    ∙ over_at way es m b 0 place rest (cuts_of plan.kind es) at.cut at.wanted at.within
+    ∙ ap (λ q. slice_get (choices_at way es m b q at.cut) rest) place_is
+    ∙ ap (λ k. slice_get (choices_at way es m b place k) rest) (sym one)
+    ∙ slice_get-map (choice_of way es place cut) (picks_within m b (length (volatile_parts way es cut))) rest
+    ∙ ap (option_map (choice_of way es place cut)) there
 
 -- a cut of the plan
 pub wanted_within : (plan : PlanValue) (place cut : ℕ) → slice_get (cuts_of plan.kind plan.log.entries) place ≡ Some cut → cut ≤ length plan.log.entries
@@ -135,66 +137,66 @@ unfolding fewer chosen
 fewer_head m zero v = refl
 fewer_head m (suc b) v = in_front (fewer m (suc b) v) (chosen m (suc b) 0 v) 0 [] (fewer_head m b v)
 
-at_head : (es : List Entry) (m b p cut : ℕ) → slice_get (choices_at es m b p cut) 0 ≡ Some (choice_of es p cut [])
+at_head : (way : By) (es : List Entry) (m b p cut : ℕ) → slice_get (choices_at way es m b p cut) 0 ≡ Some (choice_of way es p cut [])
 unfolding choices_at
-at_head es m b p cut =
-    slice_get-map (choice_of es p cut) (picks_within m b (length (volatile_units es cut))) 0
-    ∙ ap (option_map (choice_of es p cut)) (fewer_head m b (length (volatile_units es cut)))
+at_head way es m b p cut =
+    slice_get-map (choice_of way es p cut) (picks_within m b (length (volatile_parts way es cut))) 0
+    ∙ ap (option_map (choice_of way es p cut)) (fewer_head m b (length (volatile_parts way es cut)))
 
 -- the first choice of a cut has no departures
-abbrev pub first_at : List Entry → ℕ → ℕ → ChoiceValue
-first_at es p cut = choice_of es p cut []
+abbrev pub first_at : By → List Entry → ℕ → ℕ → ChoiceValue
+first_at way es p cut = choice_of way es p cut []
 
-over_head : (es : List Entry) (m b p : ℕ) (cuts : List ℕ) → slice_get (choices_over es m b p cuts) 0 ≡ option_map (first_at es p) (slice_get cuts 0)
+over_head : (way : By) (es : List Entry) (m b p : ℕ) (cuts : List ℕ) → slice_get (choices_over way es m b p cuts) 0 ≡ option_map (first_at way es p) (slice_get cuts 0)
 unfolding choices_over
-over_head es m b p [] = refl
-over_head es m b p (c ∷ cuts) = in_front (choices_at es m b p c) (choices_over es m b (p + 1) cuts) 0 (choice_of es p c []) (at_head es m b p c)
+over_head way es m b p [] = refl
+over_head way es m b p (c ∷ cuts) = in_front (choices_at way es m b p c) (choices_over way es m b (p + 1) cuts) 0 (choice_of way es p c []) (at_head way es m b p c)
 
 -- the choice behind another: the following one of its cut, or the first of the next cut
-abbrev pub next_choice : List Entry → ℕ → ℕ → Option (List Pick) → Option ℕ → Option ChoiceValue
-next_choice es place cut (Some picks) other = Some (choice_of es place cut picks)
-next_choice es place cut None other = option_map (first_at es (place + 1)) other
+abbrev pub next_choice : By → List Entry → ℕ → ℕ → Option (List Pick) → Option ℕ → Option ChoiceValue
+next_choice way es place cut (Some picks) other = Some (choice_of way es place cut picks)
+next_choice way es place cut None other = option_map (first_at way es (place + 1)) other
 
 -- where choice n of a list of cuts comes from, and which choice is behind it
-pub record Goes (es : List Entry) (m b p : ℕ) (cuts : List ℕ) (n : ℕ) (c : ChoiceValue) : Type 0 where
+pub record Goes (way : By) (es : List Entry) (m b p : ℕ) (cuts : List ℕ) (n : ℕ) (c : ChoiceValue) : Type 0 where
   pub index : ℕ
   pub cut : ℕ
   pub number : ℕ
   pub picks : List Pick
   pub wanted : slice_get cuts index ≡ Some cut
-  pub there : slice_get (picks_within m b (length (volatile_units es cut))) number ≡ Some picks
-  pub is : c ≡ choice_of es (p + index) cut picks
-  pub next : slice_get (choices_over es m b p cuts) (suc n)
-      ≡ next_choice es (p + index) cut (following_below m (suc b) (length (volatile_units es cut)) picks) (slice_get cuts (suc index))
+  pub there : slice_get (picks_within m b (length (volatile_parts way es cut))) number ≡ Some picks
+  pub is : c ≡ choice_of way es (p + index) cut picks
+  pub next : slice_get (choices_over way es m b p cuts) (suc n)
+      ≡ next_choice way es (p + index) cut (following_below m (suc b) (length (volatile_parts way es cut)) picks) (slice_get cuts (suc index))
 
 -- behind a choice of the first cut
-leaves : (es : List Entry) (m b p c : ℕ) (cuts : List ℕ) (n : ℕ) → n < length (picks_within m b (length (volatile_units es c))) → (o : Option (List Pick))
-    → slice_get (picks_within m b (length (volatile_units es c))) (suc n) ≡ o
-    → slice_get (choices_at es m b p c ++ choices_over es m b (p + 1) cuts) (suc n) ≡ next_choice es p c o (slice_get cuts 0)
+leaves : (way : By) (es : List Entry) (m b p c : ℕ) (cuts : List ℕ) (n : ℕ) → n < length (picks_within m b (length (volatile_parts way es c))) → (o : Option (List Pick))
+    → slice_get (picks_within m b (length (volatile_parts way es c))) (suc n) ≡ o
+    → slice_get (choices_at way es m b p c ++ choices_over way es m b (p + 1) cuts) (suc n) ≡ next_choice way es p c o (slice_get cuts 0)
 unfolding choices_at
-leaves es m b p c cuts n lt (Some picks) h =
-    in_front (choices_at es m b p c) (choices_over es m b (p + 1) cuts) (suc n) (choice_of es p c picks)
-    (slice_get-map (choice_of es p c) (picks_within m b (length (volatile_units es c))) (suc n) ∙ ap (option_map (choice_of es p c)) h)
-leaves es m b p c cuts n lt None h =
-    let whole : length (picks_within m b (length (volatile_units es c))) ≡ suc n = at_end (picks_within m b (length (volatile_units es c))) n lt h in
-    behind_end (choices_at es m b p c) (choices_over es m b (p + 1) cuts) (suc n)
-    (length-map (picks_within m b (length (volatile_units es c))) (choice_of es p c) ∙ whole)
-    ∙ over_head es m b (p + 1) cuts
+leaves way es m b p c cuts n lt (Some picks) h =
+    in_front (choices_at way es m b p c) (choices_over way es m b (p + 1) cuts) (suc n) (choice_of way es p c picks)
+    (slice_get-map (choice_of way es p c) (picks_within m b (length (volatile_parts way es c))) (suc n) ∙ ap (option_map (choice_of way es p c)) h)
+leaves way es m b p c cuts n lt None h =
+    let whole : length (picks_within m b (length (volatile_parts way es c))) ≡ suc n = at_end (picks_within m b (length (volatile_parts way es c))) n lt h in
+    behind_end (choices_at way es m b p c) (choices_over way es m b (p + 1) cuts) (suc n)
+    (length-map (picks_within m b (length (volatile_parts way es c))) (choice_of way es p c) ∙ whole)
+    ∙ over_head way es m b (p + 1) cuts
 
-in_first : (es : List Entry) (m b p c : ℕ) (cuts : List ℕ) (n : ℕ) (x : ChoiceValue) → 1 ≤ m → slice_get (choices_at es m b p c) n ≡ Some x
-    → Goes es m b p (c ∷ cuts) n x
+in_first : (way : By) (es : List Entry) (m b p c : ℕ) (cuts : List ℕ) (n : ℕ) (x : ChoiceValue) → 1 ≤ m → slice_get (choices_at way es m b p c) n ≡ Some x
+    → Goes way es m b p (c ∷ cuts) n x
 unfolding choices_at choices_over
-in_first es m b p c cuts n x some h =
-    let xs : List (List Pick) = picks_within m b (length (volatile_units es c)) in
-    let as_map = slice_get-map (choice_of es p c) xs n in
+in_first way es m b p c cuts n x some h =
+    let xs : List (List Pick) = picks_within m b (length (volatile_parts way es c)) in
+    let as_map = slice_get-map (choice_of way es p c) xs n in
     elim (slice_get_cases xs n).1 [
       | inl it ↦
           let picks : List Pick = it.0 in
           let here : slice_get xs n ≡ Some picks = it.2 in
-          let one : x ≡ choice_of es p c picks = same_Some x (choice_of es p c picks) (sym h ∙ as_map ∙ ap (option_map (choice_of es p c)) here) in
+          let one : x ≡ choice_of way es p c picks = same_Some x (choice_of way es p c picks) (sym h ∙ as_map ∙ ap (option_map (choice_of way es p c)) here) in
           let place : p ≡ p + 0 = omega arith in
-          let after = leaves es m b p c cuts n it.1 (following_below m (suc b) (length (volatile_units es c)) picks)
-          (follows_below m (suc b) (length (volatile_units es c)) some n picks here) in
+          let after = leaves way es m b p c cuts n it.1 (following_below m (suc b) (length (volatile_parts way es c)) picks)
+          (follows_below m (suc b) (length (volatile_parts way es c)) some n picks here) in
           record {
             index = 0;
             cut = c;
@@ -202,25 +204,25 @@ in_first es m b p c cuts n x some h =
             picks = picks;
             wanted = refl;
             there = here;
-            is = one ∙ ap (λ q. choice_of es q c picks) place;
-            next = after ∙ ap (λ q. next_choice es q c (following_below m (suc b) (length (volatile_units es c)) picks) (slice_get cuts 0)) place;
+            is = one ∙ ap (λ q. choice_of way es q c picks) place;
+            next = after ∙ ap (λ q. next_choice way es q c (following_below m (suc b) (length (volatile_parts way es c)) picks) (slice_get cuts 0)) place;
           }
-      | inr past ↦ absurd (let bad : None ≡ Some x = ap (option_map (choice_of es p c)) (sym past.1) ∙ sym as_map ∙ h in cc)
+      | inr past ↦ absurd (let bad : None ≡ Some x = ap (option_map (choice_of way es p c)) (sym past.1) ∙ sym as_map ∙ h in cc)
     ]
 
 -- each choice of the list has such a place
-pub goes : (es : List Entry) (m b p : ℕ) (cuts : List ℕ) (n : ℕ) (x : ChoiceValue) → 1 ≤ m → slice_get (choices_over es m b p cuts) n ≡ Some x
-    → Goes es m b p cuts n x
+pub goes : (way : By) (es : List Entry) (m b p : ℕ) (cuts : List ℕ) (n : ℕ) (x : ChoiceValue) → 1 ≤ m → slice_get (choices_over way es m b p cuts) n ≡ Some x
+    → Goes way es m b p cuts n x
 unfolding choices_over
-goes es m b p [] n x some h = absurd (let bad : None ≡ Some x = h in cc)
-goes es m b p (c ∷ cuts) n x some h =
-    elim (slice_get_of_append (choices_at es m b p c) (choices_over es m b (p + 1) cuts) n x h) [
-      | inl first ↦ in_first es m b p c cuts n x some first.1
+goes way es m b p [] n x some h = absurd (let bad : None ≡ Some x = h in cc)
+goes way es m b p (c ∷ cuts) n x some h =
+    elim (slice_get_of_append (choices_at way es m b p c) (choices_over way es m b (p + 1) cuts) n x h) [
+      | inl first ↦ in_first way es m b p c cuts n x some first.1
       | inr more ↦
-          let so = goes es m b (p + 1) cuts (n - length (choices_at es m b p c)) x some more.1 in
+          let so = goes way es m b (p + 1) cuts (n - length (choices_at way es m b p c)) x some more.1 in
           let index : ℕ = so.index in
           let place : p + 1 + index ≡ p + suc index = omega arith in
-          let at : suc n ≡ length (choices_at es m b p c) + suc (n - length (choices_at es m b p c)) = omega (arith, more.0) in
+          let at : suc n ≡ length (choices_at way es m b p c) + suc (n - length (choices_at way es m b p c)) = omega (arith, more.0) in
           record {
             index = suc index;
             cut = so.cut;
@@ -228,12 +230,12 @@ goes es m b p (c ∷ cuts) n x some h =
             picks = so.picks;
             wanted = so.wanted;
             there = so.there;
-            is = so.is ∙ ap (λ q. choice_of es q so.cut so.picks) place;
+            is = so.is ∙ ap (λ q. choice_of way es q so.cut so.picks) place;
             next =
-                ap (slice_get (choices_at es m b p c ++ choices_over es m b (p + 1) cuts)) at
-                ∙ slice_get-append_right (choices_at es m b p c) (choices_over es m b (p + 1) cuts) (suc (n - length (choices_at es m b p c)))
+                ap (slice_get (choices_at way es m b p c ++ choices_over way es m b (p + 1) cuts)) at
+                ∙ slice_get-append_right (choices_at way es m b p c) (choices_over way es m b (p + 1) cuts) (suc (n - length (choices_at way es m b p c)))
                 ∙ so.next
-                ∙ ap (λ q. next_choice es q so.cut (following_below m (suc b) (length (volatile_units es so.cut)) so.picks) (slice_get cuts (suc index))) place;
+                ∙ ap (λ q. next_choice way es q so.cut (following_below m (suc b) (length (volatile_parts way es so.cut)) so.picks) (slice_get cuts (suc index))) place;
           }
     ]
 
@@ -321,18 +323,18 @@ picks_weaker m v picks le are = λ k d lt. let here = are k d lt in (here.0, ome
 pub record Standing (plan : PlanValue) (b : ℕ) (tears : Bool) (n : ℕ) (old : ChoiceValue) : Type 0 where
   pub wanted : slice_get (cuts_of plan.kind plan.log.entries) old.place ≡ Some old.cut
   pub within : old.cut ≤ length plan.log.entries
-  pub picks : ArePicks (fates_of tears) (length (volatile_units plan.log.entries old.cut)) old.picks
+  pub picks : ArePicks (fates_of tears) (length (volatile_parts plan.by plan.log.entries old.cut)) old.picks
   pub next : slice_get (ranked plan b tears) (n + 1)
-      ≡ next_choice plan.log.entries old.place old.cut (following_below (fates_of tears) (b + 1) (length (volatile_units plan.log.entries old.cut)) old.picks)
+      ≡ next_choice plan.by plan.log.entries old.place old.cut (following_below (fates_of tears) (b + 1) (length (volatile_parts plan.by plan.log.entries old.cut)) old.picks)
       (slice_get (cuts_of plan.kind plan.log.entries) (old.place + 1))
 
 stands_at : (plan : PlanValue) (b : ℕ) (tears : Bool) (n index cut number : ℕ) (picks : List Pick)
     → slice_get (cuts_of plan.kind plan.log.entries) index ≡ Some cut
-    → slice_get (picks_within (fates_of tears) b (length (volatile_units plan.log.entries cut))) number ≡ Some picks
+    → slice_get (picks_within (fates_of tears) b (length (volatile_parts plan.by plan.log.entries cut))) number ≡ Some picks
     → slice_get (ranked plan b tears) (suc n)
-    ≡ next_choice plan.log.entries (0 + index) cut (following_below (fates_of tears) (suc b) (length (volatile_units plan.log.entries cut)) picks)
+    ≡ next_choice plan.by plan.log.entries (0 + index) cut (following_below (fates_of tears) (suc b) (length (volatile_parts plan.by plan.log.entries cut)) picks)
     (slice_get (cuts_of plan.kind plan.log.entries) (suc index))
-    → Standing plan b tears n (choice_of plan.log.entries (0 + index) cut picks)
+    → Standing plan b tears n (choice_of plan.by plan.log.entries (0 + index) cut picks)
 unfolding choice_of
 stands_at plan b tears n index cut number picks wanted there next =
     let zero_index : 0 + index ≡ index = omega arith in
@@ -342,7 +344,7 @@ stands_at plan b tears n index cut number picks wanted there next =
     record {
       wanted = ap (slice_get (cuts_of plan.kind plan.log.entries)) zero_index ∙ wanted;
       within = wanted_within plan index cut wanted;
-      picks = fewer_picks (fates_of tears) (suc b) (length (volatile_units plan.log.entries cut)) number picks there;
+      picks = fewer_picks (fates_of tears) (suc b) (length (volatile_parts plan.by plan.log.entries cut)) number picks there;
       next = rw (one_number, step_index, one_bound) next;
     }
 
@@ -350,49 +352,49 @@ stands_at plan b tears n index cut number picks wanted there next =
 pub stands : (plan : PlanValue) (b : ℕ) (tears : Bool) (n : ℕ) (old : ChoiceValue) → slice_get (ranked plan b tears) n ≡ Some old → Standing plan b tears n old
 unfolding ranked
 stands plan b tears n old h =
-    let so = goes plan.log.entries (fates_of tears) b 0 (cuts_of plan.kind plan.log.entries) n old (fates_low tears) h in
+    let so = goes plan.by plan.log.entries (fates_of tears) b 0 (cuts_of plan.kind plan.log.entries) n old (fates_low tears) h in
     let P : ChoiceValue → Type 0 = λ c. Standing plan b tears n c in
     subst P (sym so.is) (stands_at plan b tears n so.index so.cut so.number so.picks so.wanted so.there so.next)
 
--- a step is the same for equal numbers of fates and of units
+-- a step is the same for equal numbers of fates and of parts
 pub same_step : (m m' s v v' : ℕ) (ds : List Pick) (o : Option (List Pick)) → m ≡ m' → v ≡ v' → following_below m s v ds ≡ o → following_below m' s v' ds ≡ o
-same_step m m' s v v' ds o same units h = ap (λ f. following_below f s v' ds) (sym same) ∙ ap (λ k. following_below m s k ds) (sym units) ∙ h
+same_step m m' s v v' ds o same parts h = ap (λ f. following_below f s v' ds) (sym same) ∙ ap (λ k. following_below m s k ds) (sym parts) ∙ h
 
 -- the next choice: one of the same cut, the first of the next, or none
 pub stepped_on : (plan : PlanValue) (b : ℕ) (tears : Bool) (n : ℕ) (old : ChoiceValue) (picks : List Pick) → Standing plan b tears n old
-    → following_below (fates_of tears) (b + 1) (length (volatile_units plan.log.entries old.cut)) old.picks ≡ Some picks
-    → slice_get (ranked plan b tears) (n + 1) ≡ Some (choice_of plan.log.entries old.place old.cut picks)
+    → following_below (fates_of tears) (b + 1) (length (volatile_parts plan.by plan.log.entries old.cut)) old.picks ≡ Some picks
+    → slice_get (ranked plan b tears) (n + 1) ≡ Some (choice_of plan.by plan.log.entries old.place old.cut picks)
 stepped_on plan b tears n old picks so h =
-    so.next ∙ ap (λ o. next_choice plan.log.entries old.place old.cut o (slice_get (cuts_of plan.kind plan.log.entries) (old.place + 1))) h
+    so.next ∙ ap (λ o. next_choice plan.by plan.log.entries old.place old.cut o (slice_get (cuts_of plan.kind plan.log.entries) (old.place + 1))) h
 
 pub new_picks : (plan : PlanValue) (b : ℕ) (tears : Bool) (n : ℕ) (old : ChoiceValue) (picks : List Pick) → Standing plan b tears n old
-    → following_below (fates_of tears) (b + 1) (length (volatile_units plan.log.entries old.cut)) old.picks ≡ Some picks
-    → ArePicks most_fates (length (volatile_units plan.log.entries old.cut)) picks
+    → following_below (fates_of tears) (b + 1) (length (volatile_parts plan.by plan.log.entries old.cut)) old.picks ≡ Some picks
+    → ArePicks most_fates (length (volatile_parts plan.by plan.log.entries old.cut)) picks
 unfolding choice_of
 new_picks plan b tears n old picks so h =
-    let there = stands plan b tears (n + 1) (choice_of plan.log.entries old.place old.cut picks) (stepped_on plan b tears n old picks so h) in
-    picks_weaker (fates_of tears) (length (volatile_units plan.log.entries old.cut)) picks (fates_high tears) there.picks
+    let there = stands plan b tears (n + 1) (choice_of plan.by plan.log.entries old.place old.cut picks) (stepped_on plan b tears n old picks so h) in
+    picks_weaker (fates_of tears) (length (volatile_parts plan.by plan.log.entries old.cut)) picks (fates_high tears) there.picks
 
 -- behind the last choice of a cut comes the first of the next cut
 pub moved_on : (plan : PlanValue) (b : ℕ) (tears : Bool) (n : ℕ) (old : ChoiceValue) (cut : ℕ) → Standing plan b tears n old
-    → following_below (fates_of tears) (b + 1) (length (volatile_units plan.log.entries old.cut)) old.picks ≡ None
+    → following_below (fates_of tears) (b + 1) (length (volatile_parts plan.by plan.log.entries old.cut)) old.picks ≡ None
     → slice_get (cuts_of plan.kind plan.log.entries) (old.place + 1) ≡ Some cut
-    → slice_get (ranked plan b tears) (n + 1) ≡ Some (choice_of plan.log.entries (old.place + 1) cut [])
+    → slice_get (ranked plan b tears) (n + 1) ≡ Some (choice_of plan.by plan.log.entries (old.place + 1) cut [])
 moved_on plan b tears n old cut so none more =
-    so.next ∙ ap (λ o. next_choice plan.log.entries old.place old.cut o (slice_get (cuts_of plan.kind plan.log.entries) (old.place + 1))) none
-    ∙ ap (option_map (first_at plan.log.entries (old.place + 1))) more
+    so.next ∙ ap (λ o. next_choice plan.by plan.log.entries old.place old.cut o (slice_get (cuts_of plan.kind plan.log.entries) (old.place + 1))) none
+    ∙ ap (option_map (first_at plan.by plan.log.entries (old.place + 1))) more
 
 -- the last choice of the last cut is the last of all
 pub at_last : (plan : PlanValue) (b : ℕ) (tears : Bool) (n : ℕ) (old : ChoiceValue) → Standing plan b tears n old
     → slice_get (ranked plan b tears) n ≡ Some old
-    → following_below (fates_of tears) (b + 1) (length (volatile_units plan.log.entries old.cut)) old.picks ≡ None
+    → following_below (fates_of tears) (b + 1) (length (volatile_parts plan.by plan.log.entries old.cut)) old.picks ≡ None
     → slice_get (cuts_of plan.kind plan.log.entries) (old.place + 1) ≡ None
     → n + 1 ≡ length (ranked plan b tears)
 at_last plan b tears n old so here none last =
     let past : slice_get (ranked plan b tears) (suc n) ≡ None =
     ap (slice_get (ranked plan b tears)) (sym (add-one n)) ∙ so.next
-    ∙ ap (λ o. next_choice plan.log.entries old.place old.cut o (slice_get (cuts_of plan.kind plan.log.entries) (old.place + 1))) none
-    ∙ ap (option_map (first_at plan.log.entries (old.place + 1))) last in
+    ∙ ap (λ o. next_choice plan.by plan.log.entries old.place old.cut o (slice_get (cuts_of plan.kind plan.log.entries) (old.place + 1))) none
+    ∙ ap (option_map (first_at plan.by plan.log.entries (old.place + 1))) last in
     let long = at_end (ranked plan b tears) n (slice_get_within (ranked plan b tears) n old here) past in
     omega (arith, long)
 
@@ -401,10 +403,10 @@ pub nth_picks : (m b v n : ℕ) (picks : List Pick) → m ≤ most_fates → sli
 nth_picks m b v n picks le h = picks_weaker m v picks le (fewer_picks m (suc b) v n picks h)
 
 -- a choice that is put together from its parts
-pub choice_is : (es : List Entry) (c : ChoiceValue) (place cut : ℕ) (picks : List Pick) → c.place ≡ place → c.cut ≡ cut → c.picks ≡ picks
-    → c.departures ≡ map (departure_of (volatile_units es cut)) picks → c ≡ choice_of es place cut picks
+pub choice_is : (way : By) (es : List Entry) (c : ChoiceValue) (place cut : ℕ) (picks : List Pick) → c.place ≡ place → c.cut ≡ cut → c.picks ≡ picks
+    → c.departures ≡ map (departure_of (volatile_parts way es cut)) picks → c ≡ choice_of way es place cut picks
 unfolding choice_of
-choice_is es c place cut picks p k ps ds = λ i. record { place = p i; cut = k i; picks = ps i; departures = ds i }
+choice_is way es c place cut picks p k ps ds = λ i. record { place = p i; cut = k i; picks = ps i; departures = ds i }
 
 -- the wanted cut that the walk found, how many choices it has, and the picks of one of them
 pub cut_there : (plan : PlanValue) (b : ℕ) (tears : Bool) (number place rest : ℕ) → InCut plan b tears number place rest
@@ -416,7 +418,7 @@ cut_there plan b tears number place rest at cuts is d =
 
 pub same_ways : (plan : PlanValue) (b : ℕ) (tears : Bool) (number place rest : ℕ) → InCut plan b tears number place rest
     → (cuts : List ℕ) → cuts ≡ cuts_of plan.kind plan.log.entries → (d : ℕ)
-    → rest < ways_within (fates_of tears) b (length (volatile_units plan.log.entries (slice_index_or cuts place d)))
+    → rest < ways_within (fates_of tears) b (length (volatile_parts plan.by plan.log.entries (slice_index_or cuts place d)))
 same_ways plan b tears number place rest at cuts is d =
     let here : slice_get cuts place ≡ Some at.cut = ap (λ ks. slice_get ks place) is ∙ at.wanted in
     let cut : slice_index_or cuts place d ≡ at.cut = get_or_from_slice_get cuts place at.cut d here in
@@ -424,5 +426,5 @@ same_ways plan b tears number place rest at cuts is d =
     rw cut (omega (arith, within, ranked_at-ways plan b tears at.cut))
 
 pub same_picks : (m m' b v v' n : ℕ) (o : Option (List Pick)) → m ≡ m' → v ≡ v' → slice_get (picks_within m b v) n ≡ o → slice_get (picks_within m' b v') n ≡ o
-same_picks m m' b v v' n o same units h =
-    ap (λ f. slice_get (picks_within f b v') n) (sym same) ∙ ap (λ k. slice_get (picks_within m b k) n) (sym units) ∙ h
+same_picks m m' b v v' n o same parts h =
+    ap (λ f. slice_get (picks_within f b v') n) (sym same) ∙ ap (λ k. slice_get (picks_within m b k) n) (sym parts) ∙ h

@@ -13,7 +13,7 @@ use Rattle.choices.specs.Seeks.{Begins, Reaches}
 
 -- a rest behind its first departure
 abbrev pub behind : ℕ → ℕ → List Pick → List Pick
-behind a t rest = record { unit = a; fate = t } ∷ rest
+behind a t rest = record { part = a; fate = t } ∷ rest
 
 -- how many elements the rows have
 pub length-beginning : (a t j : ℕ) (rests : List (List Pick)) → length (beginning a t j rests) ≡ j * length rests
@@ -60,7 +60,7 @@ unfolding fewer ways_below
 length-fewer m zero v = refl
 length-fewer m (suc s) v = omega (arith, length-append (fewer m s v) (chosen m s 0 v), length-fewer m s v, length-chosen m s 0 v)
 
--- more units have no fewer choices
+-- more parts have no fewer choices
 ways_rise : (m i r u : ℕ) → ways m (suc i) r ≤ ways m (suc i) (u + r)
 unfolding ways
 ways_rise m i r zero = let e : zero + r ≡ r = omega arith in rw e (omega arith)
@@ -68,7 +68,7 @@ ways_rise m i r (suc u) =
     let e : suc u + r ≡ suc (u + r) = omega arith in
     rw e (omega (arith, ways_rise m i r u))
 
--- the last choices begin behind the first u units
+-- the last choices begin behind the first u parts
 later : (m i a r u left : ℕ) → left ≤ ways m (suc i) r
     → slice_get (chosen m (suc i) a (u + r)) (ways m (suc i) (u + r) - left) ≡ slice_get (chosen m (suc i) (a + u) r) (ways m (suc i) r - left)
 unfolding chosen ways
@@ -89,7 +89,7 @@ later m i a r (suc u) left h =
     ∙ later m i (a + 1) r u left h
     ∙ ap (λ c. slice_get (chosen m (suc i) c r) (ways m (suc i) r - left)) b
 
--- a choice among those that begin with the first unit: a row for each fate
+-- a choice among those that begin with the first part: a row for each fate
 row : (m i a r q : ℕ) → q < m * ways m i r
     → (slice_get (chosen m (suc i) a (suc r)) q ≡ option_map (behind a (q / ways m i r)) (slice_get (chosen m i (a + 1) r) (q % ways m i r)))
     × (q / ways m i r < m) × (q % ways m i r < ways m i r)
@@ -128,12 +128,12 @@ ways_none : (m i : ℕ) → ways m (suc i) 0 ≡ 0
 unfolding ways
 ways_none m i = refl
 
--- where the search starts: among no units there is nothing
+-- where the search starts: among no parts there is nothing
 pub reach_low : (m i left : ℕ) → 1 ≤ i → 1 ≤ left → ways m i 0 < left
 reach_low m zero left h k = absurd (omega (arith, h))
 reach_low m (suc i) left h k = omega (arith, ways_none m i, k)
 
--- the parts of the answer: what is inside the unit's own choices, and how many rests they have
+-- the parts of the answer: what is inside the part's own choices, and how many rests they have
 pub begins_inside : (m i r left : ℕ) → Reaches m (suc i) left (suc r) → ways m (suc i) (suc r) - left < m * ways m i r
 begins_inside m i r left so =
     let before : suc r - 1 ≡ r = omega arith in
@@ -161,30 +161,30 @@ begins_at m i begin u r number lt so left is =
 pub found_pick : (m size begin end number reach : ℕ) → 1 ≤ size → begin ≤ end → number < ways m size (end - begin) → reach ≤ end - begin
     → Reaches m size (ways m size (end - begin) - number) reach
     → (left : ℕ) → left ≡ ways m size (end - begin) - number
-    → (pick : Pick) → pick.unit ≡ end - reach → pick.fate ≡ (ways m size reach - left) / ways m (size - 1) (reach - 1)
+    → (pick : Pick) → pick.part ≡ end - reach → pick.fate ≡ (ways m size reach - left) / ways m (size - 1) (reach - 1)
     → (rest : ℕ) → rest ≡ (ways m size reach - left) % ways m (size - 1) (reach - 1)
     → Begins m size begin end number pick rest
-found_pick m zero begin end number reach some le lt within so left left_is pick unit_is fate_is rest rest_is = absurd (omega (arith, some))
-found_pick m (suc i) begin end number zero some le lt within so left left_is pick unit_is fate_is rest rest_is = absurd (omega (arith, so.some))
-found_pick m (suc i) begin end number (suc r) some le lt within so left left_is pick unit_is fate_is rest rest_is =
+found_pick m zero begin end number reach some le lt within so left left_is pick part_is fate_is rest rest_is = absurd (omega (arith, some))
+found_pick m (suc i) begin end number zero some le lt within so left left_is pick part_is fate_is rest rest_is = absurd (omega (arith, so.some))
+found_pick m (suc i) begin end number (suc r) some le lt within so left left_is pick part_is fate_is rest rest_is =
     let u : ℕ = end - begin - suc r in
     let size : suc i - 1 ≡ i = omega arith in
-    let fewer_units : suc r - 1 ≡ r = omega arith in
-    let units : end - begin ≡ u + suc r = omega (arith, within) in
-    let first : begin + u ≡ pick.unit = omega (arith, unit_is, within, le) in
-    let rests : r ≡ end - (pick.unit + 1) = omega (arith, unit_is, within, le) in
-    let lt_here : number < ways m (suc i) (u + suc r) = rw (← units) lt in
-    let so_here : Reaches m (suc i) (ways m (suc i) (u + suc r) - number) (suc r) = rw (← units) so in
-    let left_here : left ≡ ways m (suc i) (u + suc r) - number = rw (← units) left_is in
+    let fewer_parts : suc r - 1 ≡ r = omega arith in
+    let parts : end - begin ≡ u + suc r = omega (arith, within) in
+    let first : begin + u ≡ pick.part = omega (arith, part_is, within, le) in
+    let rests : r ≡ end - (pick.part + 1) = omega (arith, part_is, within, le) in
+    let lt_here : number < ways m (suc i) (u + suc r) = rw (← parts) lt in
+    let so_here : Reaches m (suc i) (ways m (suc i) (u + suc r) - number) (suc r) = rw (← parts) so in
+    let left_here : left ≡ ways m (suc i) (u + suc r) - number = rw (← parts) left_is in
     let here = begins_at m i begin u r number lt_here so_here left left_here in
-    let fate_here : pick.fate ≡ (ways m (suc i) (suc r) - left) / ways m i r = fate_is ∙ (rw (size, fewer_units) refl) in
-    let rest_here : rest ≡ (ways m (suc i) (suc r) - left) % ways m i r = rest_is ∙ (rw (size, fewer_units) refl) in
+    let fate_here : pick.fate ≡ (ways m (suc i) (suc r) - left) / ways m i r = fate_is ∙ (rw (size, fewer_parts) refl) in
+    let rest_here : rest ≡ (ways m (suc i) (suc r) - left) % ways m i r = rest_is ∙ (rw (size, fewer_parts) refl) in
     record {
       low = omega (arith, first);
-      high = omega (arith, unit_is, within);
+      high = omega (arith, part_is, within);
       fate = rw fate_here here.1;
       within = rw (size, ← rests, rest_here) here.2;
-      value = rw (size, ← rests, units, rest_here) (here.0 ∙ (rw (first, ← fate_here) refl));
+      value = rw (size, ← rests, parts, rest_here) (here.0 ∙ (rw (first, ← fate_here) refl));
     }
 
 -- between the departures that are known and those to come
@@ -211,12 +211,12 @@ regroup front pick (Some ds) = ap (λ xs. Some xs) (append_assoc front (pick ∷
 -- one departure more is found
 pub takes : (m left begin end number : ℕ) (front : List Pick) (target : Option (List Pick)) → Seeks m left begin end number front target
     → (pick : Pick) (rest : ℕ) → Begins m left begin end number pick rest
-    → Seeks m (left - 1) (pick.unit + 1) end rest (front ++ pick ∷ []) target
+    → Seeks m (left - 1) (pick.part + 1) end rest (front ++ pick ∷ []) target
 takes m left begin end number front target so pick rest here = record {
   low = omega (arith, here.high);
   within = here.within;
   value =
-      regroup front pick (slice_get (chosen m (left - 1) (pick.unit + 1) (end - (pick.unit + 1))) rest)
+      regroup front pick (slice_get (chosen m (left - 1) (pick.part + 1) (end - (pick.part + 1))) rest)
       ∙ ap (λ o. option_map (λ (ds : List Pick). front ++ ds) o) (sym here.value)
       ∙ so.value;
 }
@@ -271,11 +271,11 @@ inside m zero reach left some so = absurd (omega (arith, some))
 inside m (suc i) zero left some so = absurd (omega (arith, so.some))
 inside m (suc i) (suc r) left some so =
     let size : suc i - 1 ≡ i = omega arith in
-    let units : suc r - 1 ≡ r = omega arith in
+    let parts : suc r - 1 ≡ r = omega arith in
     let here = row m i 0 r (ways m (suc i) (suc r) - left) (begins_inside m i r left so) in
-    record { some = rw (size, units) (omega (arith, here.2)); fate = rw (size, units) here.1 }
+    record { some = rw (size, parts) (omega (arith, here.2)); fate = rw (size, parts) here.1 }
 
--- the search by halves begins between no unit and all
-pub search_begins : (m i units left : ℕ) → 1 ≤ i → 1 ≤ left → left ≤ ways m i units → (0 < units) × (ways m i 0 < left)
+-- the search by halves begins between no part and all
+pub search_begins : (m i parts left : ℕ) → 1 ≤ i → 1 ≤ left → left ≤ ways m i parts → (0 < parts) × (ways m i 0 < left)
 search_begins m i zero left h some high = absurd (omega (arith, reach_low m i left h some, high))
 search_begins m i (suc k) left h some high = (omega arith, reach_low m i left h some)

@@ -1,4 +1,4 @@
--- Rows of units, and the following choice found from the end.
+-- Rows of parts, and the following choice found from the end.
 use Rattle.std.proofs.Common.{ℕ, zero, suc, ◌≡◌, ◌+◌, ◌-◌, ◌<◌, ◌≤◌, List, [], ◌∷◌, ◌++◌, length, take, drop, Some, None, refl, sym, ◌∙◌, ap, arith, append_assoc, add-one}
 use Rattle.std.proofs.Math.Seq.{drop-cons}
 use Rattle.std.specs.List.{slice_index_or}
@@ -7,25 +7,25 @@ use Rattle.std.specs.Option.{option_map}
 use Rattle.choices.specs.declared.pick.Pick.{Pick}
 use Rattle.choices.specs.Steps.{first_picks, stepped, after_rest, following, or_else, one_more, following_below}
 
--- a row of no units adds nothing
+-- a row of no parts adds nothing
 pub no_row : (xs : List Pick) (a : ℕ) → xs ≡ xs ++ first_picks 0 a
 unfolding first_picks
 no_row xs a = sym (append-nil xs)
 
-row_end : (i a : ℕ) → first_picks (suc i) a ≡ first_picks i a ++ record { unit = a + i; fate = 0 } ∷ []
+row_end : (i a : ℕ) → first_picks (suc i) a ≡ first_picks i a ++ record { part = a + i; fate = 0 } ∷ []
 unfolding first_picks
-row_end zero a = let e : a ≡ a + 0 = omega arith in ap (λ (u : ℕ). record { unit = u; fate = 0 } ∷ []) e
+row_end zero a = let e : a ≡ a + 0 = omega arith in ap (λ (u : ℕ). record { part = u; fate = 0 } ∷ []) e
 row_end (suc i) a =
     let e : a + 1 + i ≡ a + suc i = omega arith in
     let rest = row_end i (a + 1) in
-    ap (λ (ps : List Pick). record { unit = a; fate = 0 } ∷ ps) rest
-    ∙ ap (λ (u : ℕ). record { unit = a; fate = 0 } ∷ (first_picks i (a + 1) ++ record { unit = u; fate = 0 } ∷ [])) e
+    ap (λ (ps : List Pick). record { part = a; fate = 0 } ∷ ps) rest
+    ∙ ap (λ (u : ℕ). record { part = a; fate = 0 } ∷ (first_picks i (a + 1) ++ record { part = u; fate = 0 } ∷ [])) e
 
 -- a row grows at its end
 pub row_more : (xs ys : List Pick) (i a u : ℕ) → ys ≡ xs ++ first_picks i a → u ≡ a + i
-    → ys ++ record { unit = u; fate = 0 } ∷ [] ≡ xs ++ first_picks (i + 1) a
+    → ys ++ record { part = u; fate = 0 } ∷ [] ≡ xs ++ first_picks (i + 1) a
 row_more xs ys i a u so at =
-    rw (so, at, add-one i, row_end i a) (append_assoc xs (first_picks i a) (record { unit = a + i; fate = 0 } ∷ []))
+    rw (so, at, add-one i, row_end i a) (append_assoc xs (first_picks i a) (record { part = a + i; fate = 0 } ∷ []))
 
 -- what stands before a departure stays
 following_front : (m e : ℕ) (front rest ds : List Pick) → following m e rest ≡ Some ds → following m e (front ++ rest) ≡ Some (front ++ ds)
@@ -65,13 +65,13 @@ step_at m e ds place behind d at lt none =
 -- the search from the end: the last departure that has a next one, and one that has none
 pub step_found : (m e : ℕ) (ds : List Pick) (place behind : ℕ) (d next : Pick) → place ≡ length ds - 1 - behind → behind < length ds
     → following m e (drop (length ds - behind) ds) ≡ None
-    → option_map (λ (p : Pick). p ∷ first_picks behind (p.unit + 1)) (Some next) ≡ stepped m e (slice_index_or ds place d) behind
-    → following m e ds ≡ Some (take place ds ++ next ∷ first_picks (length ds - place - 1) (next.unit + 1))
+    → option_map (λ (p : Pick). p ∷ first_picks behind (p.part + 1)) (Some next) ≡ stepped m e (slice_index_or ds place d) behind
+    → following m e ds ≡ Some (take place ds ++ next ∷ first_picks (length ds - place - 1) (next.part + 1))
 step_found m e ds place behind d next at lt none found =
     let others : length ds - place - 1 ≡ behind = omega (arith, at, lt) in
     ap (following m e) (sym (take-append-drop place ds))
-    ∙ following_front m e (take place ds) (drop place ds) (next ∷ first_picks behind (next.unit + 1)) (step_at m e ds place behind d at lt none ∙ sym found)
-    ∙ ap (λ b. Some (take place ds ++ next ∷ first_picks b (next.unit + 1))) (sym others)
+    ∙ following_front m e (take place ds) (drop place ds) (next ∷ first_picks behind (next.part + 1)) (step_at m e ds place behind d at lt none ∙ sym found)
+    ∙ ap (λ b. Some (take place ds ++ next ∷ first_picks b (next.part + 1))) (sym others)
 
 -- where one place can't step, the search goes on one place before it
 pub step_missed : (m e : ℕ) (ds : List Pick) (place behind : ℕ) (d : Pick) → place ≡ length ds - 1 - behind → behind < length ds

@@ -47,31 +47,31 @@ member_of m (suc i) a zero (d ∷ ds) long h = absurd (omega (arith, h.0, h.1))
 member_of m (suc i) a (suc k) (d ∷ ds) long h =
     let rests : List (List Pick) = chosen m i (a + 1) k in
     let end : a + suc k ≡ a + 1 + k = omega arith in
-    elim (cases_lt a d.unit) [
+    elim (cases_lt a d.part) [
       | inr here ↦
-          let unit : d.unit ≡ a = omega (arith, here, h.0) in
-          let next : d.unit + 1 ≡ a + 1 = omega (arith, unit) in
+          let part : d.part ≡ a = omega (arith, here, h.0) in
+          let next : d.part + 1 ≡ a + 1 = omega (arith, part) in
           let P : ℕ → Type 0 = λ b. AreRising m b (a + suc k) ds in
           let Q : ℕ → Type 0 = λ e. AreRising m (a + 1) e ds in
           let inner = member_of m i (a + 1) k ds (omega (arith, long)) (subst Q end (subst P next h.3)) in
           let lt : inner.0 < length rests = slice_get_within rests inner.0 ds inner.1 in
           let zero_fate : 0 + d.fate ≡ d.fate = omega arith in
-          let same : behind a d.fate ds ≡ d ∷ ds = λ i. record { unit = sym unit i; fate = d.fate } ∷ ds in
+          let same : behind a d.fate ds ≡ d ∷ ds = λ i. record { part = sym part i; fate = d.fate } ∷ ds in
           let found : slice_get (beginning a 0 m rests) (d.fate * length rests + inner.0) ≡ Some (d ∷ ds) =
           at_beginning a 0 m rests d.fate inner.0 h.2 lt ∙ ap (option_map (behind a (0 + d.fate))) inner.1
           ∙ ap (λ f. Some (behind a f ds)) zero_fate ∙ ap (λ xs. Some xs) same in
           (d.fate * length rests + inner.0, in_front (beginning a 0 m rests) (chosen m (suc i) (a + 1) k) (d.fate * length rests + inner.0) (d ∷ ds) found)
       | inl more ↦
-          let up : a + 1 ≤ d.unit = omega (arith, more) in
-          let below : d.unit < a + 1 + k = omega (arith, h.1) in
-          let P : ℕ → Type 0 = λ e. AreRising m (d.unit + 1) e ds in
+          let up : a + 1 ≤ d.part = omega (arith, more) in
+          let below : d.part < a + 1 + k = omega (arith, h.1) in
+          let P : ℕ → Type 0 = λ e. AreRising m (d.part + 1) e ds in
           let inner = member_of m (suc i) (a + 1) k (d ∷ ds) long (up, below, h.2, subst P end h.3) in
           (length (beginning a 0 m rests) + inner.0, slice_get-append_right (beginning a 0 m rests) (chosen m (suc i) (a + 1) k) inner.0 ∙ inner.1)
     ]
 
--- two of those that begin with one unit
+-- two of those that begin with one part
 rows_before : (m i a k p q : ℕ) (cs ds : List Pick)
-    → ((p' q' : ℕ) (es fs : List Pick) → p' < q' → slice_get (chosen m i (a + 1) k) p' ≡ Some es → slice_get (chosen m i (a + 1) k) q' ≡ Some fs → Before es fs)
+    → ((p' q' : ℕ) (es fs : List Pick) → p' < q' → slice_get (chosen m i (a + 1) k) p' ≡ Some way es → slice_get (chosen m i (a + 1) k) q' ≡ Some fs → Before way es fs)
     → p < q → OfRow a 0 m (chosen m i (a + 1) k) p cs → OfRow a 0 m (chosen m i (a + 1) k) q ds → Before cs ds
 rows_before m i a k p q cs ds rests lt c d =
     let width : ℕ = length (chosen m i (a + 1) k) in
@@ -94,10 +94,10 @@ rows_before m i a k p q cs ds rests lt c d =
     ] in
     subst (λ xs. P xs ds) (sym c.is) (subst (λ ys. P (behind a (0 + c.x) c.rest) ys) (sym d.is) before)
 
--- a choice that begins with unit a is before one that begins behind it
-unit_before : (m a e x : ℕ) (rest ds : List Pick) (i : ℕ) → length ds ≡ suc i → AreRising m (a + 1) e ds → Before (behind a x rest) ds
-unit_before m a e x rest [] i long h = absurd (omega (arith, long))
-unit_before m a e x rest (d ∷ ds) i long h = inl (omega (arith, h.0))
+-- a choice that begins with part a is before one that begins behind it
+part_before : (m a e x : ℕ) (rest ds : List Pick) (i : ℕ) → length ds ≡ suc i → AreRising m (a + 1) e ds → Before (behind a x rest) ds
+part_before m a e x rest [] i long h = absurd (omega (arith, long))
+part_before m a e x rest (d ∷ ds) i long h = inl (omega (arith, h.0))
 
 in_order : (m i a k p q : ℕ) (cs ds : List Pick) → p < q → slice_get (chosen m i a k) p ≡ Some cs → slice_get (chosen m i a k) q ≡ Some ds → Before cs ds
 unfolding chosen
@@ -115,7 +115,7 @@ in_order m (suc i) a (suc k) p q cs ds lt c d =
         | inr d_more ↦
             let it = of_beginning a 0 m (chosen m i (a + 1) k) p cs c_first.1 in
             let P : List Pick → Type 0 = λ xs. Before xs ds in
-            subst P (sym it.is) (unit_before m a (a + 1 + k) (0 + it.x) it.rest ds i (member_length m (suc i) (a + 1) k (q - length first) ds d_more.1)
+            subst P (sym it.is) (part_before m a (a + 1 + k) (0 + it.x) it.rest ds i (member_length m (suc i) (a + 1) k (q - length first) ds d_more.1)
             (rising_member m (suc i) (a + 1) k (q - length first) ds d_more.1))
       ]
       | inr c_more ↦ elim (slice_get_of_append first more q ds d) [

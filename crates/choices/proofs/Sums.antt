@@ -4,6 +4,7 @@ use Rattle.std.proofs.lemmas.Bool.{cases_lt}
 use Rattle.std.proofs.lemmas.List.{get_or_append_left, get_or-append_right}
 use Rattle.std.proofs.lemmas.Option.{slice_get-get_or}
 use Rattle.logfmt.specs.declared.entry.Entry.{Entry}
+use Rattle.epochs.specs.declared.part.By.{By}
 use Rattle.epochs.specs.Cuts.{cuts_of}
 use Rattle.epochs.specs.Plan.{PlanValue}
 use Rattle.choices.specs.Picks.{fates_of}
@@ -12,22 +13,22 @@ use Rattle.choices.specs.Sums.{AreSumsUpTo, AreSums, FallsAt}
 use Rattle.choices.proofs.Plans.{before_none, before_more, before_all}
 
 -- the first cuts have no more choices than all
-over_within : (es : List Entry) (m b p i : ℕ) (cuts : List ℕ) → length (choices_over es m b p (take i cuts)) ≤ length (choices_over es m b p cuts)
+over_within : (way : By) (es : List Entry) (m b p i : ℕ) (cuts : List ℕ) → length (choices_over way es m b p (take i cuts)) ≤ length (choices_over way es m b p cuts)
 unfolding choices_over
-over_within es m b p zero cuts = omega arith
-over_within es m b p (suc i) [] = omega arith
-over_within es m b p (suc i) (c ∷ cuts) =
-    let rest = over_within es m b (p + 1) i cuts in
+over_within way es m b p zero cuts = omega arith
+over_within way es m b p (suc i) [] = omega arith
+over_within way es m b p (suc i) (c ∷ cuts) =
+    let rest = over_within way es m b (p + 1) i cuts in
     omega (
       arith,
       rest,
-      length-append (choices_at es m b p c) (choices_over es m b (p + 1) (take i cuts)),
-      length-append (choices_at es m b p c) (choices_over es m b (p + 1) cuts),
+      length-append (choices_at way es m b p c) (choices_over way es m b (p + 1) (take i cuts)),
+      length-append (choices_at way es m b p c) (choices_over way es m b (p + 1) cuts),
     )
 
 pub before_within : (plan : PlanValue) (b : ℕ) (tears : Bool) (i : ℕ) → length (ranked_before plan b tears i) ≤ length (ranked plan b tears)
 unfolding ranked_before ranked
-before_within plan b tears i = over_within plan.log.entries (fates_of tears) b 0 i (cuts_of plan.kind plan.log.entries)
+before_within plan b tears i = over_within plan.by plan.log.entries (fates_of tears) b 0 i (cuts_of plan.kind plan.log.entries)
 
 -- the sums before the first cut, and with one cut more
 pub first_sum : (plan : PlanValue) (b : ℕ) (tears : Bool) (sums : List ℕ) → sums ≡ 0 ∷ [] → AreSumsUpTo plan b tears 0 sums

@@ -3,13 +3,14 @@
 -- numbers of the images).
 use Rattle.std.specs.Prelude.{ℕ, ◌≡◌, ◌<◌, ◌≤◌, ◌⊎◌, Bool, true, List, length, take, slice_get, Some}
 use Rattle.logfmt.specs.declared.entry.Entry.{Entry}
-use Rattle.epochs.specs.Laws.{IsVolatile, Precedes as UnitPrecedes}
+use Rattle.epochs.specs.declared.part.By.{By}
+use Rattle.epochs.specs.Laws.{IsVolatile, Precedes as PartPrecedes}
 use Rattle.choices.specs.declared.fate.Fate.{Fate}
 use Rattle.choices.specs.declared.fate.Fate.TheVariants as fate
 use Rattle.choices.specs.declared.choice.Departure.{Departure}
 use Rattle.choices.specs.Choices.{ChoiceValue}
 
--- a unit that departs is dropped, or, where writes may be torn, of it arrive the first or the last 1 to 7
+-- a part that departs is dropped, or, where writes may be torn, of it arrive the first or the last 1 to 7
 -- eighths
 abbrev pub IsFate : Bool → Fate → Type 0
 IsFate tears fate.Drop = Unit {0}
@@ -29,17 +30,17 @@ FatePrecedes (fate.Tail s) fate.Drop = ⊥
 FatePrecedes (fate.Tail s) (fate.Head t) = ⊥
 FatePrecedes (fate.Tail s) (fate.Tail t) = s < t
 
--- first by unit (by entry, then by sector of the entry), and then by fate
+-- first by part (by entry, then by sector of the entry), and then by fate
 abbrev pub DeparturePrecedes : Departure → Departure → Type 0
-DeparturePrecedes c d = UnitPrecedes c.unit d.unit ⊎ ((c.unit ≡ d.unit) × FatePrecedes c.fate d.fate)
+DeparturePrecedes c d = PartPrecedes c.part d.part ⊎ ((c.part ≡ d.part) × FatePrecedes c.fate d.fate)
 
--- the departures of an admissible choice at cut k: at most `bound` of the units that are volatile there,
--- rising, and so each unit once, each with one of the fates
-pub record IsAdmissible (es : List Entry) (k bound : ℕ) (tears : Bool) (ds : List Departure) : Type 0 where
+-- the departures of an admissible choice at cut k: at most `bound` of the parts that are volatile there,
+-- rising, and so each part once, each with one of the fates
+pub record IsAdmissible (way : By) (es : List Entry) (k bound : ℕ) (tears : Bool) (ds : List Departure) : Type 0 where
   pub few : length ds ≤ bound
-  pub volatile : (i : ℕ) (d : Departure) → slice_get ds i ≡ Some d → IsVolatile es k d.unit
+  pub volatile : (i : ℕ) (d : Departure) → slice_get ds i ≡ Some d → IsVolatile way es k d.part
   pub fates : (i : ℕ) (d : Departure) → slice_get ds i ≡ Some d → IsFate tears d.fate
-  pub rising : (i j : ℕ) (c d : Departure) → i < j → slice_get ds i ≡ Some c → slice_get ds j ≡ Some d → UnitPrecedes c.unit d.unit
+  pub rising : (i j : ℕ) (c d : Departure) → i < j → slice_get ds i ≡ Some c → slice_get ds j ≡ Some d → PartPrecedes c.part d.part
 
 -- at the first place where two sequences of departures differ, that of the first comes before
 pub record DiffersFirst (cs ds : List Departure) : Type 0 where

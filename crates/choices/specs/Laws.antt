@@ -13,8 +13,8 @@ use Rattle.choices.specs.CrashModel.{IsAdmissible, ChoicePrecedes}
 -- their order
 pub record ListsModel (plan : PlanValue) (bound : ℕ) (tears : Bool) (list : List ChoiceValue) : Type 0 where
   pub wanted : (n : ℕ) (c : ChoiceValue) → slice_get list n ≡ Some c → IsWanted plan.kind plan.log.entries c.cut
-  pub sound : (n : ℕ) (c : ChoiceValue) → slice_get list n ≡ Some c → IsAdmissible plan.log.entries c.cut bound tears c.departures
-  pub complete : (k : ℕ) (ds : List Departure) → IsWanted plan.kind plan.log.entries k → IsAdmissible plan.log.entries k bound tears ds
+  pub sound : (n : ℕ) (c : ChoiceValue) → slice_get list n ≡ Some c → IsAdmissible plan.by plan.log.entries c.cut bound tears c.departures
+  pub complete : (k : ℕ) (ds : List Departure) → IsWanted plan.kind plan.log.entries k → IsAdmissible plan.by plan.log.entries k bound tears ds
       → (n : ℕ) × (c : ChoiceValue) × (slice_get list n ≡ Some c) × (c.cut ≡ k) × (c.departures ≡ ds)
   pub ordered : (i j : ℕ) (a b : ChoiceValue) → i < j → slice_get list i ≡ Some a → slice_get list j ≡ Some b → ChoicePrecedes a b
   pub once : (i j : ℕ) (a b : ChoiceValue) → slice_get list i ≡ Some a → slice_get list j ≡ Some b → a.cut ≡ b.cut → a.departures ≡ b.departures → i ≡ j
@@ -22,21 +22,21 @@ pub record ListsModel (plan : PlanValue) (bound : ℕ) (tears : Bool) (list : Li
 abbrev pub RankedIsModel : Type 0
 RankedIsModel = (plan : PlanValue) (bound : ℕ) (tears : Bool) → ListsModel plan bound tears (ranked plan bound tears)
 
--- departures rising by unit, of units from a on and below e, by fates below m
+-- departures rising by part, of parts from a on and below e, by fates below m
 abbrev pub AreRising : ℕ → ℕ → ℕ → List Pick → Type 0
 AreRising m a e [] = Unit {0}
-AreRising m a e (d ∷ ds) = (a ≤ d.unit) × (d.unit < e) × (d.fate < m) × AreRising m (d.unit + 1) e ds
+AreRising m a e (d ∷ ds) = (a ≤ d.part) × (d.part < e) × (d.fate < m) × AreRising m (d.part + 1) e ds
 
--- at most `bound` of v volatile units depart, each by one of m fates
+-- at most `bound` of v volatile parts depart, each by one of m fates
 pub record IsChoice (m bound v : ℕ) (ds : List Pick) : Type 0 where
   pub few : length ds ≤ bound
   pub rising : AreRising m 0 v ds
 
--- of two choices of as many departures: first by unit and then by fate, departure after departure
+-- of two choices of as many departures: first by part and then by fate, departure after departure
 abbrev pub Before : List Pick → List Pick → Type 0
 Before [] ds = ⊥
 Before (c ∷ cs) [] = ⊥
-Before (c ∷ cs) (d ∷ ds) = (c.unit < d.unit) ⊎ ((c.unit ≡ d.unit) × ((c.fate < d.fate) ⊎ ((c.fate ≡ d.fate) × Before cs ds)))
+Before (c ∷ cs) (d ∷ ds) = (c.part < d.part) ⊎ ((c.part ≡ d.part) × ((c.fate < d.fate) ⊎ ((c.fate ≡ d.fate) × Before cs ds)))
 
 -- by the number of departures, then by these
 abbrev pub Precedes : List Pick → List Pick → Type 0

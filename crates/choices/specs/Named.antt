@@ -8,7 +8,7 @@ use Rattle.choices.specs.Choices.{ChoiceValue, ranked}
 
 -- the name of a departure
 abbrev pub name_of : Departure → Name
-name_of d = record { entry = d.unit.entry; place = d.unit.place; fate = d.fate }
+name_of d = record { entry = d.part.entry; place = d.part.place; fate = d.fate }
 
 -- one of the plan's choices at that cut, whose departures have these names
 pub record IsNamed (plan : PlanValue) (bound : ℕ) (tears : Bool) (cut : ℕ) (names : List Name) (choice : ChoiceValue) : Type 0 where

@@ -1,36 +1,36 @@
 -- The choices of departures at one cut, as one list in its order (docs/CRASH-MODEL.md, Fates and choices,
--- Order and numbers of the images). A departure is given by numbers: its unit by the place among the
--- volatile units of the cut, its fate by the place in the order of the fates.
+-- Order and numbers of the images). A departure is given by numbers: its part by the place among the
+-- volatile parts of the cut, its fate by the place in the order of the fates.
 use Rattle.std.specs.Prelude.{ℕ, zero, suc, ◌+◌, ◌*◌, ◌<◌, Bool, true, false, List, [], ◌∷◌, ◌++◌, map}
 use Rattle.std.specs.List.{All}
 use Rattle.choices.specs.declared.pick.Pick.{Pick}
 
--- in how many places a unit may be torn: behind 1 to 7 of its eighths
-abbrev pub tears_of_unit : ℕ
-tears_of_unit = 7
+-- in how many places a part may be torn: behind 1 to 7 of its eighths
+abbrev pub tears_of_part : ℕ
+tears_of_part = 7
 
--- how many fates a unit may have beside whole: it is dropped, or one side of a tear is lost
+-- how many fates a part may have beside whole: it is dropped, or one side of a tear is lost
 abbrev pub most_fates : ℕ
-most_fates = 1 + 2 * tears_of_unit
+most_fates = 1 + 2 * tears_of_part
 
 -- with torn writes, or without
 abbrev pub fates_of : Bool → ℕ
 fates_of true = most_fates
 fates_of false = 1
 
--- unit a with each of j fates from t on, before each of the given rests
+-- part a with each of j fates from t on, before each of the given rests
 abbrev pub beginning : ℕ → ℕ → ℕ → List (List Pick) → List (List Pick)
 beginning a t zero rests = []
-beginning a t (suc j) rests = map (λ (rest : List Pick). record { unit = a; fate = t } ∷ rest) rests ++ beginning a (t + 1) j rests
+beginning a t (suc j) rests = map (λ (rest : List Pick). record { part = a; fate = t } ∷ rest) rests ++ beginning a (t + 1) j rests
 
--- all choices of i departures among k units from unit a on, with m fates, in order: those that begin
--- with unit a come before those that begin behind it
+-- all choices of i departures among k parts from part a on, with m fates, in order: those that begin
+-- with part a come before those that begin behind it
 unfoldable pub chosen : ℕ → ℕ → ℕ → ℕ → List (List Pick)
 chosen m zero a k = [] ∷ []
 chosen m (suc i) a zero = []
 chosen m (suc i) a (suc k) = beginning a 0 m (chosen m i (a + 1) k) ++ chosen m (suc i) (a + 1) k
 
--- all choices of fewer than s departures among v units, by the number of departures
+-- all choices of fewer than s departures among v parts, by the number of departures
 unfoldable pub fewer : ℕ → ℕ → ℕ → List (List Pick)
 fewer m zero v = []
 fewer m (suc s) v = fewer m s v ++ chosen m s 0 v
@@ -39,6 +39,6 @@ fewer m (suc s) v = fewer m s v ++ chosen m s 0 v
 abbrev pub picks_within : ℕ → ℕ → ℕ → List (List Pick)
 picks_within m bound v = fewer m (suc bound) v
 
--- departures of units below v, by fates below m
+-- departures of parts below v, by fates below m
 abbrev pub ArePicks : ℕ → ℕ → List Pick → Type 0
-ArePicks m v picks = All (λ (pick : Pick). (pick.unit < v) × (pick.fate < m)) picks
+ArePicks m v picks = All (λ (pick : Pick). (pick.part < v) × (pick.fate < m)) picks

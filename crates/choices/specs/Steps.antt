@@ -2,17 +2,17 @@
 use Rattle.std.specs.Prelude.{ℕ, zero, suc, ◌+◌, nat_lt, if◌then◌else◌, List, [], ◌∷◌, length, Option, Some, None}
 use Rattle.choices.specs.declared.pick.Pick.{Pick}
 
--- the first choice of i departures from unit a on: units in a row, each dropped
+-- the first choice of i departures from part a on: parts in a row, each dropped
 unfoldable pub first_picks : ℕ → ℕ → List Pick
 first_picks zero a = []
-first_picks (suc i) a = record { unit = a; fate = 0 } ∷ first_picks i (a + 1)
+first_picks (suc i) a = record { part = a; fate = 0 } ∷ first_picks i (a + 1)
 
--- the next choice whose first departure is behind d: the next fate, or else the next unit, if there is
--- one with `behind` units after it below e
+-- the next choice whose first departure is behind d: the next fate, or else the next part, if there is
+-- one with `behind` parts after it below e
 unfoldable pub stepped : ℕ → ℕ → Pick → ℕ → Option (List Pick)
 stepped m e d behind =
-    if nat_lt (d.fate + 1) m then Some (record { unit = d.unit; fate = d.fate + 1 } ∷ first_picks behind (d.unit + 1))
-    else if nat_lt (d.unit + 1 + behind) e then Some (record { unit = d.unit + 1; fate = 0 } ∷ first_picks behind (d.unit + 1 + 1))
+    if nat_lt (d.fate + 1) m then Some (record { part = d.part; fate = d.fate + 1 } ∷ first_picks behind (d.part + 1))
+    else if nat_lt (d.part + 1 + behind) e then Some (record { part = d.part + 1; fate = 0 } ∷ first_picks behind (d.part + 1 + 1))
     else None
 
 -- the rest goes on, or else what the first departure does
@@ -20,12 +20,12 @@ abbrev pub after_rest : Pick → Option (List Pick) → Option (List Pick) → O
 after_rest d (Some rest) other = Some (d ∷ rest)
 after_rest d None other = other
 
--- the choice after another with as many departures, among the units below e
+-- the choice after another with as many departures, among the parts below e
 unfoldable pub following : ℕ → ℕ → List Pick → Option (List Pick)
 following m e [] = None
 following m e (d ∷ ds) = after_rest d (following m e ds) (stepped m e d (length ds))
 
--- the first choice of one departure more, where fewer than s are wanted and e units are there
+-- the first choice of one departure more, where fewer than s are wanted and e parts are there
 unfoldable pub one_more : ℕ → ℕ → ℕ → Option (List Pick)
 one_more s e size = if nat_lt (size + 1) s then (if nat_lt size e then Some (first_picks (size + 1) 0) else None) else None
 

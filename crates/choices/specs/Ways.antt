@@ -1,7 +1,7 @@
 -- How many choices there are, in the terms that the code computes with.
 use Rattle.std.specs.Prelude.{ℕ, zero, suc, ◌+◌, ◌*◌}
 
--- how many choices of i departures among k units there are, with m fates
+-- how many choices of i departures among k parts there are, with m fates
 unfoldable pub ways : ℕ → ℕ → ℕ → ℕ
 ways m zero k = 1
 ways m (suc i) zero = 0
@@ -16,7 +16,7 @@ ways_below m (suc s) v = ways_below m s v + ways m s v
 abbrev pub ways_within : ℕ → ℕ → ℕ → ℕ
 ways_within m bound v = ways_below m (suc bound) v
 
--- how many pairs and how many triples k units have
+-- how many pairs and how many triples k parts have
 unfoldable pub pairs : ℕ → ℕ
 pairs zero = 0
 pairs (suc k) = k + pairs k

@@ -1,21 +1,21 @@
 //! A choice.
 
 ghost use Rattle.std.specs.Prelude.{◌≡◌, ◌<◌, ◌≤◌, length, map};
-ghost use Rattle.epochs.specs.Units.{volatile_units};
+ghost use Rattle.epochs.specs.Parts.{volatile_parts};
 ghost use Rattle.choices.specs.Picks.{ArePicks, most_fates};
 ghost use Rattle.choices.specs.Choices.{choice_of, departure_of};
 
 use crate::fate::Fate;
 use crate::pick::Pick;
 use arrayvec::ArrayVec;
-use epochs::{Plan, Unit};
+use epochs::{Part, Plan};
 use std::marker::Model;
 
-/// A unit that is not whole, and what becomes of it.
+/// A part that is not whole, and what becomes of it.
 #[derive(Clone, Copy, Debug, PartialEq, Eq)]
 pub struct Departure {
-    /// The unit.
-    pub unit: Unit,
+    /// The part.
+    pub part: Part,
     /// What becomes of it.
     pub fate: Fate,
 }
@@ -24,9 +24,10 @@ impl Default for Departure {
     /// A departure that stands for none.
     fn default() -> Departure {
         Departure {
-            unit: Unit {
+            part: Part {
                 entry: 0,
                 place: 0,
+                count: 0,
                 sector: 0,
             },
             fate: Fate::Drop,
@@ -34,7 +35,7 @@ impl Default for Departure {
     }
 }
 
-/// A choice at a cut: at most three of the volatile units, each with a fate other than whole
+/// A choice at a cut: at most three of the volatile parts, each with a fate other than whole
 /// (docs/CRASH-MODEL.md, Fates and choices).
 ///
 /// Contracts see the cut, its place among the wanted cuts, and the departures, also by their numbers.
@@ -62,7 +63,7 @@ impl Choice {
         self.cut
     }
 
-    /// The departures, rising by unit. Every other unit is whole.
+    /// The departures, rising by part. Every other part is whole.
     pub fn departures(&self) -> &[Departure]
         ensures value { result.now ≡ self.now.departures }
         ensures few { length result.now ≤ 3 }
@@ -86,8 +87,8 @@ impl Choice {
     #[tactic(auto, unfolding(crate::specs::Choices::choice_of))]
     pub(crate) fn of(plan: &Plan, place: usize, cut: u32, picks: ArrayVec<Pick, 3>) -> Choice
         requires cut { cut ≤ length plan.now.log.entries }
-        requires picks { ArePicks most_fates (length (volatile_units plan.now.log.entries cut)) picks.items }
-        ensures { result ≡ choice_of plan.now.log.entries place cut picks.items }
+        requires picks { ArePicks most_fates (length (volatile_parts plan.now.by plan.now.log.entries cut)) picks.items }
+        ensures { result ≡ choice_of plan.now.by plan.now.log.entries place cut picks.items }
     {
         let departures = departures_of(plan, cut, picks.as_slice());
         Choice {
@@ -103,13 +104,13 @@ impl Choice {
 pub(crate) fn departures_of(plan: &Plan, cut: u32, picks: &[Pick]) -> ArrayVec<Departure, 3>
     requires cut { cut ≤ length plan.now.log.entries }
     requires few { length picks.now ≤ 3 }
-    requires picks { ArePicks most_fates (length (volatile_units plan.now.log.entries cut)) picks.now }
-    ensures { result.items ≡ map (departure_of (volatile_units plan.now.log.entries cut)) picks.now }
+    requires picks { ArePicks most_fates (length (volatile_parts plan.now.by plan.now.log.entries cut)) picks.now }
+    ensures { result.items ≡ map (departure_of (volatile_parts plan.now.by plan.now.log.entries cut)) picks.now }
 {
     let mut departures = ArrayVec::new();
     for pick in picks {
         departures.push(Departure {
-            unit: plan.unit(cut, pick.unit),
+            part: plan.part(cut, pick.part),
             fate: Fate::of(pick.fate),
         });
     }

@@ -1,4 +1,4 @@
-//! What becomes of a unit that is not whole.
+//! What becomes of a part that is not whole.
 
 ghost use Rattle.std.specs.Prelude.{◌≡◌, ◌<◌, ◌≤◌};
 ghost use Rattle.choices.specs.Picks.{fates_of, most_fates};
@@ -44,7 +44,7 @@ impl Eighths {
     }
 }
 
-/// What becomes of a unit that is not whole (docs/CRASH-MODEL.md, Fates and choices).
+/// What becomes of a part that is not whole (docs/CRASH-MODEL.md, Fates and choices).
 #[derive(Clone, Copy, Debug, PartialEq, Eq)]
 pub enum Fate {
     /// Nothing of it reaches the device.
@@ -55,8 +55,8 @@ pub enum Fate {
     Tail(Eighths),
 }
 
-/// In how many places a unit may be torn: behind 1 to 7 of its eighths.
-pub(crate) const TEARS_OF_UNIT: u8 = 7;
+/// In how many places a part may be torn: behind 1 to 7 of its eighths.
+pub(crate) const TEARS_OF_PART: u8 = 7;
 
 impl Fate {
     /// The fate of a number: the drop, then the heads, rising, then the tails, rising.
@@ -66,21 +66,21 @@ impl Fate {
     {
         if number == 0 {
             Fate::Drop
-        } else if number <= TEARS_OF_UNIT {
+        } else if number <= TEARS_OF_PART {
             Fate::Head(Eighths::new(number))
         } else {
-            Fate::Tail(Eighths::new(number - TEARS_OF_UNIT))
+            Fate::Tail(Eighths::new(number - TEARS_OF_PART))
         }
     }
 }
 
 /// The drop, and a head and a tail for each place of a tear.
-const WITH_TEARS: u8 = 1 + 2 * TEARS_OF_UNIT;
+const WITH_TEARS: u8 = 1 + 2 * TEARS_OF_PART;
 
 /// The drop.
 const WITHOUT_TEARS: u8 = 1;
 
-/// How many fates a unit may have beside whole, with torn writes or without.
+/// How many fates a part may have beside whole, with torn writes or without.
 pub(crate) fn fates_of(tears: bool) -> u8
     ensures value { result ≡ fates_of tears }
     ensures low { 1 ≤ result }

@@ -4,7 +4,7 @@ ghost use Rattle.choices.specs.Laws.{ListIsSet, RankedIsModel};
 
 /// The ranked choices of a plan are exactly the pairs of a wanted cut and an admissible choice there, as
 /// docs/CRASH-MODEL.md says them: each once, by cut, then by the number of departures, then departure
-/// after departure by unit and by fate: the drop, then the heads, rising, then the tails, rising.
+/// after departure by part and by fate: the drop, then the heads, rising, then the tails, rising.
 pub fn ranked_is_model()
     ensures { RankedIsModel }
 {}

@@ -1,13 +1,13 @@
 //! What a crash may leave out: the choices at the cuts of a log, numbered from 0.
 //!
-//! At a cut of a log a crash may lose each of the volatile units, in whole or in part. A choice names
-//! at most three of them, the departures, each with its fate: the unit is dropped, or, where writes
-//! may be torn, only its first or only its last eighths reach the device. Every other unit is whole. All choices at all
+//! At a cut of a log a crash may lose each of the volatile parts, in whole or in part. A choice names
+//! at most three of them, the departures, each with its fate: the part is dropped, or, where writes
+//! may be torn, only its first or only its last eighths reach the device. Every other part is whole. All choices at all
 //! wanted cuts of a plan stand in one order, and so each has a number:
 //!
 //! 1. by cut, rising;
 //! 2. by the number of departures, rising;
-//! 3. by the departures, rising by unit, compared one after the other, first by unit and then by fate.
+//! 3. by the departures, rising by part, compared one after the other, first by part and then by fate.
 //!
 //! | Call | Answer |
 //! |---|---|
@@ -23,14 +23,14 @@
 //!
 //! # Place
 //!
-//! The fourth layer, on `epochs`, whose `Plan` says which cuts are wanted and which units are volatile
+//! The fourth layer, on `epochs`, whose `Plan` says which cuts are wanted and which parts are volatile
 //! there. `images` forms the crash image of a choice. Here no byte of a log is looked at, and no call
 //! takes memory but `Starts::new`. The rules are those of docs/CRASH-MODEL.md.
 //!
 //! # What is proved
 //!
 //! `ranked plan bound tears` (`specs/Choices.antt`) is the list of all choices, written down in its
-//! order by a recursion over the units (`specs/Picks.antt`), with no count in it. Each call is a
+//! order by a recursion over the parts (`specs/Picks.antt`), with no count in it. Each call is a
 //! function of this list:
 //!
 //! - `count` is its length. It is refused exactly where that passes 16,777,216, at the first cut with
@@ -50,11 +50,11 @@
 //! # How it is written
 //!
 //! `ways` has closed forms of the numbers of choices of one cut; their sums stay below 2^64, so
-//! nothing wraps, at 262,144 units and three departures too. `rank` finds a choice by its number: the
+//! nothing wraps, at 262,144 parts and three departures too. `rank` finds a choice by its number: the
 //! number of departures by taking off the smaller ones, then each departure by a search by halves for
-//! its unit and a division for its fate. `step` changes the last departure that has a next fate or a
-//! next unit. A choice keeps its departures as numbers too, so `next` needs no search but those of
-//! `Plan::unit`. `nth` walks the wanted cuts up to its own, a few products at each. A `Starts` keeps the
+//! its part and a division for its fate. `step` changes the last departure that has a next fate or a
+//! next part. A choice keeps its departures as numbers too, so `next` needs no search but those of
+//! `Plan::part`. `nth` walks the wanted cuts up to its own, a few products at each. A `Starts` keeps the
 //! sums of these products, 4 bytes for each wanted cut, and finds the cut by a search by halves
 //! (`starts`). A caller that wants many choices in a row takes `nth` once, and then `next`; one that
 //! begins at many places makes a `Starts`.
@@ -67,13 +67,13 @@
 //! ```
 //! use choices::{count, next, nth};
 //!
-//! // `plan` has one wanted cut, and two volatile units there
+//! // `plan` has one wanted cut, and two volatile parts there
 //! let total = count(&plan, 2, true)?;
 //! // 1 + 2 * 15 + 1 * 225 choices are 256
 //! let mut choice = nth(&plan, 2, true, 31);
-//! // both units are dropped
+//! // both parts are dropped
 //! let moved = next(&plan, 2, true, &mut choice);
-//! // of the second unit now only the first eighth arrives; `moved` is true
+//! // of the second part now only the first eighth arrives; `moved` is true
 //! ```
 #![tactic(auto)]
 

@@ -3,8 +3,8 @@
 /// A departure by its numbers.
 #[derive(Clone, Copy, Debug, Default, PartialEq, Eq)]
 pub(crate) struct Pick {
-    /// Which of the volatile units of its cut, from 0 in their order.
-    pub unit: u32,
+    /// Which of the volatile parts of its cut, from 0 in their order.
+    pub part: u32,
     /// Which fate, from 0 in their order: the drop, then the heads, then the tails.
     pub fate: u8,
 }

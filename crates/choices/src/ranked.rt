@@ -101,7 +101,7 @@ pub(crate) fn choice_at(plan: &Plan, bound: u8, tears: bool, place: usize, rest:
 /// The choice of that number.
 ///
 /// It walks the wanted cuts up to the choice's own, with a few products at each, and then takes a
-/// search by halves among the volatile units for each departure. It takes no memory. Who asks for many
+/// search by halves among the volatile parts for each departure. It takes no memory. Who asks for many
 /// numbers makes a `Starts`.
 pub fn nth(plan: &Plan, bound: u8, tears: bool, number: u64) -> Choice
     requires bound { bound ≤ 3 }
@@ -115,7 +115,7 @@ pub fn nth(plan: &Plan, bound: u8, tears: bool, number: u64) -> Choice
 /// Goes on to the following choice. At the last choice the answer is `false`, and the choice stays as
 /// it is.
 ///
-/// It takes a constant number of steps, and for each departure the search of its unit in the plan. It
+/// It takes a constant number of steps, and for each departure the search of its part in the plan. It
 /// takes no memory.
 pub fn next(plan: &Plan, bound: u8, tears: bool, choice: &mut Choice) -> bool
     requires bound { bound ≤ 3 }

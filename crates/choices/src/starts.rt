@@ -66,7 +66,7 @@ impl<'a> Starts<'a> {
 
     /// The choice of that number, as `nth` answers it.
     ///
-    /// It takes a search by halves among the wanted cuts, and one among the volatile units for each
+    /// It takes a search by halves among the wanted cuts, and one among the volatile parts for each
     /// departure. It takes no memory.
     pub fn nth(&self, number: u64) -> Choice
         requires { number < length (ranked self.now.plan self.now.bound self.now.tears) }

@@ -9,7 +9,7 @@ ghost use Rattle.choices.specs.Steps.{first_picks, stepped, following, one_more,
 use crate::pick::Pick;
 use arrayvec::ArrayVec;
 
-/// Appends that many units in a row, from `first` on, each dropped.
+/// Appends that many parts in a row, from `first` on, each dropped.
 fn put_row(picks: &mut ArrayVec<Pick, 3>, count: usize, first: u32)
     requires room { array_vec_len picks.old + count ≤ 3 }
     requires small { first ≤ 262144 }
@@ -17,31 +17,31 @@ fn put_row(picks: &mut ArrayVec<Pick, 3>, count: usize, first: u32)
 {
     for index in 0..count {
         picks.push(Pick {
-            unit: first + index as u32,
+            part: first + index as u32,
             fate: 0,
         });
     }
 }
 
 /// The next departure in place of one that `behind` others follow: its next fate, or else the next
-/// unit, if the others find room behind it.
+/// part, if the others find room behind it.
 #[tactic(auto, unfolding(crate::specs::Steps::stepped))]
-fn stepped(fates: u8, units: u32, pick: Pick, behind: usize) -> Option<Pick>
+fn stepped(fates: u8, parts: u32, pick: Pick, behind: usize) -> Option<Pick>
     requires some { 1 ≤ fates }
-    requires units { units ≤ 262144 }
-    requires below { pick.unit < units }
+    requires parts { parts ≤ 262144 }
+    requires below { pick.part < parts }
     requires behind { behind ≤ 3 }
-    ensures value { option_map (λ next. next ∷ first_picks behind (next.unit + 1)) result ≡ stepped fates units pick behind }
-    ensures below { IfSome result (λ next. next.unit < units) }
+    ensures value { option_map (λ next. next ∷ first_picks behind (next.part + 1)) result ≡ stepped fates parts pick behind }
+    ensures below { IfSome result (λ next. next.part < parts) }
 {
     if pick.fate < fates - 1 {
         Some(Pick {
-            unit: pick.unit,
+            part: pick.part,
             fate: pick.fate + 1,
         })
-    } else if pick.unit + 1 + (behind as u32) < units {
+    } else if pick.part + 1 + (behind as u32) < parts {
         Some(Pick {
-            unit: pick.unit + 1,
+            part: pick.part + 1,
             fate: 0,
         })
     } else {
@@ -50,20 +50,20 @@ fn stepped(fates: u8, units: u32, pick: Pick, behind: usize) -> Option<Pick>
 }
 
 /// The last departure that has a next one, as its place and the next one.
-fn last_step(fates: u8, units: u32, picks: &[Pick]) -> Option<(usize, Pick)>
+fn last_step(fates: u8, parts: u32, picks: &[Pick]) -> Option<(usize, Pick)>
     requires some { 1 ≤ fates }
-    requires units { units ≤ 262144 }
+    requires parts { parts ≤ 262144 }
     requires size { length picks.now ≤ 3 }
-    requires below { ArePicks fates units picks.now }
+    requires below { ArePicks fates parts picks.now }
     ensures place { IfSome result (λ found. found.0 < length picks.now) }
-    ensures unit { IfSome result (λ found. found.1.unit < units) }
-    ensures value { IfSome result (λ found. following fates units picks.now
-        ≡ Some (take found.0 picks.now ++ found.1 ∷ first_picks (length picks.now - found.0 - 1) (found.1.unit + 1))) }
-    ensures none { IfNone result (following fates units picks.now ≡ None) }
+    ensures part { IfSome result (λ found. found.1.part < parts) }
+    ensures value { IfSome result (λ found. following fates parts picks.now
+        ≡ Some (take found.0 picks.now ++ found.1 ∷ first_picks (length picks.now - found.0 - 1) (found.1.part + 1))) }
+    ensures none { IfNone result (following fates parts picks.now ≡ None) }
 {
     for behind in 0..picks.len() {
         let place = picks.len() - 1 - behind;
-        if let Some(next) = stepped(fates, units, picks[place], behind) {
+        if let Some(next) = stepped(fates, parts, picks[place], behind) {
             return Some((place, next));
         }
     }
@@ -71,42 +71,42 @@ fn last_step(fates: u8, units: u32, picks: &[Pick]) -> Option<(usize, Pick)>
 }
 
 /// Goes on to the following choice with as many departures, if there is one.
-fn step_within_size(fates: u8, units: u32, picks: &mut ArrayVec<Pick, 3>) -> bool
+fn step_within_size(fates: u8, parts: u32, picks: &mut ArrayVec<Pick, 3>) -> bool
     requires some { 1 ≤ fates }
-    requires units { units ≤ 262144 }
-    requires below { ArePicks fates units picks.old.items }
-    ensures moved { IsTrue result → following fates units picks.old.items ≡ Some picks.new.items }
-    ensures last { IsFalse result → following fates units picks.old.items ≡ None }
+    requires parts { parts ≤ 262144 }
+    requires below { ArePicks fates parts picks.old.items }
+    ensures moved { IsTrue result → following fates parts picks.old.items ≡ Some picks.new.items }
+    ensures last { IsFalse result → following fates parts picks.old.items ≡ None }
     ensures same { IsFalse result → picks.new.items ≡ picks.old.items }
 {
     let count = picks.len();
-    match last_step(fates, units, picks.as_slice()) {
+    match last_step(fates, parts, picks.as_slice()) {
         Some((place, next)) => {
             picks.truncate(place);
             picks.push(next);
-            put_row(picks, count - place - 1, next.unit + 1);
+            put_row(picks, count - place - 1, next.part + 1);
             true
         }
         None => false,
     }
 }
 
-/// Goes on to the following choice of at most `bound` departures among that many units, if there is
+/// Goes on to the following choice of at most `bound` departures among that many parts, if there is
 /// one.
-pub(crate) fn step(fates: u8, bound: u8, units: u32, picks: &mut ArrayVec<Pick, 3>) -> bool
+pub(crate) fn step(fates: u8, bound: u8, parts: u32, picks: &mut ArrayVec<Pick, 3>) -> bool
     requires some { 1 ≤ fates }
     requires bound { bound ≤ 3 }
-    requires units { units ≤ 262144 }
-    requires below { ArePicks fates units picks.old.items }
-    ensures moved { IsTrue result → following_below fates (bound + 1) units picks.old.items ≡ Some picks.new.items }
-    ensures last { IsFalse result → following_below fates (bound + 1) units picks.old.items ≡ None }
+    requires parts { parts ≤ 262144 }
+    requires below { ArePicks fates parts picks.old.items }
+    ensures moved { IsTrue result → following_below fates (bound + 1) parts picks.old.items ≡ Some picks.new.items }
+    ensures last { IsFalse result → following_below fates (bound + 1) parts picks.old.items ≡ None }
     ensures same { IsFalse result → picks.new.items ≡ picks.old.items }
 {
-    if step_within_size(fates, units, picks) {
+    if step_within_size(fates, parts, picks) {
         return true;
     }
     let size = picks.len();
-    if size < bound as usize && (size as u32) < units {
+    if size < bound as usize && (size as u32) < parts {
         picks.clear();
         put_row(picks, size + 1, 0);
         true

@@ -1,4 +1,5 @@
--- Lemmas of the crate: how units grow from cut to cut, the rows of the table, the search in it.
+-- Lemmas of the crate: how parts grow from cut to cut, the rows of the table, the search in it.
+pub mod Parts
 pub mod Growth
 pub mod Rows
 pub mod Search

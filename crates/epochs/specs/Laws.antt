@@ -1,49 +1,56 @@
--- Laws of units and cuts: which units are volatile and which cuts are wanted, in which order they stand,
+-- Laws of parts and cuts: which parts are volatile and which cuts are wanted, in which order they stand,
 -- and how many bytes a unit has.
 use Rattle.std.specs.Prelude.{ℕ, zero, suc, ◌+◌, ◌≡◌, ◌<◌, ◌≤◌, ◌⊎◌, true, false, if◌then◌else◌, List, length, drop, slice_get, Some}
 use Rattle.logfmt.specs.declared.entry.Entry.{Entry}
 use Rattle.logfmt.specs.Bounds.{LogValue, IsLog}
 use Rattle.epochs.specs.declared.unit.Unit.{Unit as LogUnit}
-use Rattle.epochs.specs.Units.{volatile_units, unit_content}
+use Rattle.epochs.specs.declared.part.Part.{Part}
+use Rattle.epochs.specs.declared.part.By.{By}
+use Rattle.epochs.specs.Units.{unit_content}
+use Rattle.epochs.specs.Parts.{part_size, volatile_parts}
 use Rattle.epochs.specs.declared.cuts.Cuts.{Cuts}
 use Rattle.epochs.specs.declared.cuts.Cuts.TheVariants as kind
 use Rattle.epochs.specs.Cuts.{is_flush_at, cuts_of}
 use Rattle.epochs.specs.Plan.{IsUnit}
-use Rattle.epochs.specs.Table.{unforced_units}
+use Rattle.epochs.specs.Table.{unforced_parts}
 
--- a unit before cut k is volatile: its entry isn't forced, and no flush entry stands between it and the cut
-pub record IsVolatile (es : List Entry) (k : ℕ) (u : LogUnit) : Type 0 where
+-- a part before cut k is volatile: it has as many sectors of its entry as parts have, in a row, the entry isn't forced, and
+-- no flush entry stands between it and the cut
+pub record IsVolatile (way : By) (es : List Entry) (k : ℕ) (p : Part) : Type 0 where
   pub entry : Entry
-  pub there : slice_get es u.entry ≡ Some entry
-  pub place : u.place < entry.count
-  pub sector : u.sector ≡ entry.sector + u.place
-  pub before : u.entry < k
+  pub there : slice_get es p.entry ≡ Some entry
+  pub count : p.count ≡ part_size way entry
+  pub some : 1 ≤ p.count
+  pub inside : p.place + p.count ≤ entry.count
+  pub sector : p.sector ≡ entry.sector + p.place
+  pub before : p.entry < k
   pub forced : entry.flags.fua ≡ false
-  pub flushed : (f : ℕ) (flush : Entry) → u.entry < f → f < k → slice_get es f ≡ Some flush → flush.flags.flush ≡ false
+  pub flushed : (f : ℕ) (flush : Entry) → p.entry < f → f < k → slice_get es f ≡ Some flush → flush.flags.flush ≡ false
 
 -- by entry, then by sector of the entry
-abbrev pub Precedes : LogUnit → LogUnit → Type 0
+abbrev pub Precedes : Part → Part → Type 0
 Precedes a b = (a.entry < b.entry) ⊎ ((a.entry ≡ b.entry) × (a.place < b.place))
 
--- the list has the volatile units of cut k and no other, in order
-pub record ListsVolatile (es : List Entry) (k : ℕ) (us : List LogUnit) : Type 0 where
-  pub sound : (i : ℕ) (u : LogUnit) → slice_get us i ≡ Some u → IsVolatile es k u
-  pub complete : (u : LogUnit) → IsVolatile es k u → (i : ℕ) × (slice_get us i ≡ Some u)
-  pub rising : (i j : ℕ) (a b : LogUnit) → i < j → slice_get us i ≡ Some a → slice_get us j ≡ Some b → Precedes a b
+-- the list has the volatile parts of cut k and no other, in order
+pub record ListsVolatile (way : By) (es : List Entry) (k : ℕ) (ps : List Part) : Type 0 where
+  pub sound : (i : ℕ) (p : Part) → slice_get ps i ≡ Some p → IsVolatile way es k p
+  pub complete : (p : Part) → IsVolatile way es k p → (i : ℕ) × (slice_get ps i ≡ Some p)
+  pub rising : (i j : ℕ) (a b : Part) → i < j → slice_get ps i ≡ Some a → slice_get ps j ≡ Some b → Precedes a b
 
 abbrev pub VolatileIsSet : Type 0
-VolatileIsSet = (es : List Entry) (k : ℕ) → k ≤ length es → ListsVolatile es k (volatile_units es k)
+VolatileIsSet = (way : By) (es : List Entry) (k : ℕ) → k ≤ length es → ListsVolatile way es k (volatile_parts way es k)
 
 -- the last flush entry before cut k, or 0 where there is none
 abbrev pub last_flush : List Entry → ℕ → ℕ
 last_flush es zero = 0
 last_flush es (suc k) = if is_flush_at es k then k else last_flush es k
 
--- the volatile units of a cut are one run: of the units that are not forced, those from the last flush
+-- the volatile parts of a cut are one run: of the parts that are not forced, those from the last flush
 -- entry on
 abbrev pub VolatileIsRun : Type 0
 VolatileIsRun =
-    (es : List Entry) (k : ℕ) → k ≤ length es → volatile_units es k ≡ drop (length (unforced_units es (last_flush es k))) (unforced_units es k)
+    (way : By) (es : List Entry) (k : ℕ) → k ≤ length es
+    → volatile_parts way es k ≡ drop (length (unforced_parts way es (last_flush es k))) (unforced_parts way es k)
 
 -- a unit has the 512 bytes of a sector
 abbrev pub UnitIsSector : Type 0

@@ -1,5 +1,6 @@
--- What a cut of a log leaves open: its units, its volatile units, its epoch, the wanted cuts.
+-- What a cut of a log leaves open: its units, its volatile parts, its epoch, the wanted cuts.
 pub mod Units
+pub mod Parts
 pub mod Cuts
 pub mod Table
 pub mod Plan

@@ -1,6 +1,6 @@
--- Units and the volatile units of a cut (docs/CRASH-MODEL.md, Terms). Entries are numbered from 0.
+-- Units, and what makes them durable (docs/CRASH-MODEL.md, Terms). Entries are numbered from 0.
 -- The name Unit is antt's own, so the code's type `Unit` is LogUnit here.
-use Rattle.std.specs.Prelude.{ℕ, suc, ◌+◌, ◌*◌, Bool, false, not, ◌&&◌, if◌then◌else◌, List, [], ◌∷◌, ◌++◌, map, filter, take, slice_get, count_by}
+use Rattle.std.specs.Prelude.{ℕ, suc, ◌+◌, ◌*◌, Bool, false, if◌then◌else◌, List, [], ◌∷◌, ◌++◌, map, take, slice_get, count_by}
 use Rattle.std.specs.List.{range_with_len, slice_range, list_any}
 use Rattle.std.specs.Option.{option_map_or}
 use Rattle.base.specs.Numbers.{zeros}
@@ -15,14 +15,14 @@ unit_of e entry j = record { entry = e; place = j; sector = entry.sector + j }
 abbrev pub units_of_entry : ℕ → Entry → List LogUnit
 units_of_entry e entry = map (unit_of e entry) (range_with_len 0 entry.count)
 
--- the units of entries, of which the first has number e, by entry and then by sector
-abbrev pub units_from : ℕ → List Entry → List LogUnit
-units_from e [] = []
-units_from e (entry ∷ rest) = units_of_entry e entry ++ units_from (suc e) rest
+-- what each of some entries has, entry after entry, of which the first has number e
+abbrev pub of_entries : {A : Type 0} → (ℕ → Entry → List A) → ℕ → List Entry → List A
+of_entries own e [] = []
+of_entries own e (entry ∷ rest) = own e entry ++ of_entries own (suc e) rest
 
--- the units before cut k, in order
+-- the units before cut k, by entry and then by sector
 abbrev pub units_before : List Entry → ℕ → List LogUnit
-units_before es k = units_from 0 (take k es)
+units_before es k = of_entries units_of_entry 0 (take k es)
 
 -- the 512 bytes of a unit: its sector of the entry's data, zeros for a discard
 unfoldable pub unit_content : List Entry → LogUnit → List ℕ
@@ -36,14 +36,6 @@ is_forced es e = option_map_or (λ (entry : Entry). entry.flags.fua) (slice_get 
 -- a flush entry stands behind entry e and before cut k
 abbrev pub is_flush_between : List Entry → ℕ → ℕ → Bool
 is_flush_between es e k = list_any (λ (entry : Entry). entry.flags.flush) (slice_range es (e + 1) k)
-
--- a unit before cut k that is volatile there
-abbrev pub is_volatile : List Entry → ℕ → LogUnit → Bool
-is_volatile es k u = not (is_forced es u.entry) && not (is_flush_between es u.entry k)
-
--- the volatile units of cut k, in order
-unfoldable pub volatile_units : List Entry → ℕ → List LogUnit
-volatile_units es k = filter (is_volatile es k) (units_before es k)
 
 -- the epoch of cut k: how many flush entries stand before it
 abbrev pub epoch_at : List Entry → ℕ → ℕ

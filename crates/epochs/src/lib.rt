@@ -62,11 +62,13 @@
 
 mod cuts;
 mod laws;
+mod part;
 mod plan;
 mod table;
 mod unit;
 
 pub use cuts::Cuts;
 pub use laws::{cuts_are_set, unit_is_sector, volatile_is_run, volatile_is_set};
+pub use part::{By, Part};
 pub use plan::Plan;
 pub use unit::Unit;

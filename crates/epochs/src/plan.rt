@@ -1,13 +1,14 @@
 //! What each cut of a log leaves open.
 
 ghost use Rattle.std.specs.Prelude.{◌≡◌, ◌<◌, ◌≤◌, length, slice_get, IfOk, All, Some};
-ghost use Rattle.epochs.specs.Units.{volatile_units, epoch_at, marks_at};
+ghost use Rattle.epochs.specs.Units.{epoch_at, marks_at};
+ghost use Rattle.epochs.specs.Parts.{volatile_parts};
 ghost use Rattle.epochs.specs.Cuts.{cuts_of};
-ghost use Rattle.epochs.specs.Table.{unforced_units, IsRow, RowFits, Found};
+ghost use Rattle.epochs.specs.Table.{unforced_parts, IsRow, RowFits, Found};
 
 use crate::cuts::Cuts;
+use crate::part::{By, Part};
 use crate::table::{Row, rows_of, rows_up_to};
-use crate::unit::Unit;
 use logfmt::Log;
 use std::alloc::{AllocError, Global};
 use std::marker::Model;
@@ -15,12 +16,13 @@ use std::marker::Model;
 /// A log with the cuts that are wanted of it, and what each of its cuts leaves open
 /// (docs/CRASH-MODEL.md).
 ///
-/// Contracts see a plan as a log and a kind of cuts. A log of n entries has the cuts 0 to n, and a
-/// plan answers for each of them, wanted or not.
+/// Contracts see a plan as a log, a kind of cuts, and what departs as one. A log of n entries has the
+/// cuts 0 to n, and a plan answers for each of them, wanted or not.
 #[derive(Drop)]
 pub struct Plan<'a> {
     log: &'a Log,
     kind: Cuts,
+    by: By,
     rows: Vec<Row>,
     cuts: Vec<u32>,
 }
@@ -30,25 +32,27 @@ impl<'a> Model for Plan<'a> {
 
     ghost Value = { PlanValue };
 
-    ghost view = { λ p. record { log = p.log.now; kind = p.kind } };
+    ghost view = { λ p. record { log = p.log.now; kind = p.kind; by = p.by } };
 
-    ghost invariant = { λ p. IsPlan (record { log = p.log.now; kind = p.kind }) p.rows.items p.cuts.items };
+    ghost invariant = { λ p. IsPlan (record { log = p.log.now; kind = p.kind; by = p.by }) p.rows.items p.cuts.items };
 }
 
 impl<'a> Plan<'a> {
-    ghost use Rattle.epochs.specs.Plan.{IsUnit};
+    ghost use Rattle.epochs.specs.Plan.{IsPart};
 
     /// The plan of a log. The calls below take no memory.
-    pub fn new(alloc: Global, log: &'a Log, cuts: Cuts) -> Result<Plan<'a>, AllocError>
+    pub fn new(alloc: Global, log: &'a Log, cuts: Cuts, by: By) -> Result<Plan<'a>, AllocError>
         ensures log { IfOk result (λ plan. plan.log ≡ log.now) }
         ensures kind { IfOk result (λ plan. plan.kind ≡ cuts) }
+        ensures by { IfOk result (λ plan. plan.by ≡ by) }
     {
         let entries = log.entries();
-        let rows = rows_of(alloc, entries)?;
+        let rows = rows_of(alloc, by, entries)?;
         let wanted = cuts.of(alloc, entries)?;
         Ok(Plan {
             log,
             kind: cuts,
+            by,
             rows,
             cuts: wanted,
         })
@@ -65,7 +69,7 @@ impl<'a> Plan<'a> {
     /// The row of a cut.
     fn row(&self, cut: u32) -> Row
         requires { cut ≤ length self.now.log.entries }
-        ensures row { IsRow self.now.log.entries cut result }
+        ensures row { IsRow self.now.by self.now.log.entries cut result }
         ensures fits { RowFits result }
     {
         self.rows[cut as usize]
@@ -89,49 +93,52 @@ impl<'a> Plan<'a> {
         self.row(cut).marks
     }
 
-    /// How many volatile units a cut has.
+    /// How many volatile parts a cut has.
     pub fn volatile(&self, cut: u32) -> u32
         requires { cut ≤ length self.now.log.entries }
-        ensures value { result ≡ length (volatile_units self.now.log.entries cut) }
+        ensures value { result ≡ length (volatile_parts self.now.by self.now.log.entries cut) }
         ensures bound { result ≤ 262144 }
     {
         let row = self.row(cut);
         row.start - row.durable
     }
 
-    /// A volatile unit of a cut, by its number in their order, by entry and then by sector of the
+    /// A volatile part of a cut, by its number in their order, by entry and then by sector of the
     /// entry. It takes a search by halves in the table of cuts.
-    pub fn unit(&self, cut: u32, number: u32) -> Unit
+    pub fn part(&self, cut: u32, number: u32) -> Part
         requires cut { cut ≤ length self.now.log.entries }
-        requires number { number < length (volatile_units self.now.log.entries cut) }
-        ensures value { slice_get (volatile_units self.now.log.entries cut) number ≡ Some result }
-        ensures unit { IsUnit self.now.log result }
+        requires number { number < length (volatile_parts self.now.by self.now.log.entries cut) }
+        ensures value { slice_get (volatile_parts self.now.by self.now.log.entries cut) number ≡ Some result }
+        ensures part { IsPart self.now.log result }
         ensures before { result.entry < cut }
     {
         self.find(self.row(cut).durable + number)
     }
 
-    /// A unit by its number among those that are not forced.
-    fn find(&self, number: u32) -> Unit
-        requires { number < length (unforced_units self.now.log.entries (length self.now.log.entries)) }
-        ensures value { slice_get (unforced_units self.now.log.entries (length self.now.log.entries)) number ≡ Some result }
-        ensures unit { IsUnit self.now.log result }
-        ensures entry { length (unforced_units self.now.log.entries result.entry) ≤ number }
+    /// A part by its number among those that are not forced.
+    fn find(&self, number: u32) -> Part
+        requires { number < length (unforced_parts self.now.by self.now.log.entries (length self.now.log.entries)) }
+        ensures value { slice_get (unforced_parts self.now.by self.now.log.entries (length self.now.log.entries)) number ≡ Some result }
+        ensures part { IsPart self.now.log result }
+        ensures entry { length (unforced_parts self.now.by self.now.log.entries result.entry) ≤ number }
     {
         let entry = self.entry_of(number);
-        let place = number - self.row(entry).start;
-        let first = self.log.entries()[entry as usize].sector as u32;
-        Unit {
+        let own = &self.log.entries()[entry as usize];
+        let count = self.by.size(own) as u32;
+        let place = (number - self.row(entry).start) * count;
+        let first = own.sector as u32;
+        Part {
             entry,
             place,
+            count,
             sector: first + place,
         }
     }
 
-    /// The entry of a unit, by the unit's number among those that are not forced.
+    /// The entry of a part, by the part's number among those that are not forced.
     fn entry_of(&self, number: u32) -> u32
-        requires { number < length (unforced_units self.now.log.entries (length self.now.log.entries)) }
-        ensures { Found self.now.log.entries number result }
+        requires { number < length (unforced_parts self.now.by self.now.log.entries (length self.now.log.entries)) }
+        ensures { Found self.now.by self.now.log.entries number result }
     {
         (rows_up_to(self.rows.as_slice(), number) - 1) as u32
     }

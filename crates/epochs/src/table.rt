@@ -5,13 +5,14 @@ ghost use Rattle.std.specs.List.Sorted.{IsNonDecreasingBy};
 ghost use Rattle.logfmt.specs.Bounds.{units_of};
 ghost use Rattle.epochs.specs.Table.{AreRows, next_row};
 
+use crate::part::By;
 use logfmt::Entry;
 use std::alloc::{AllocError, Global};
 
 /// What a plan keeps for a cut.
 #[derive(Clone, Copy)]
 pub(crate) struct Row {
-    /// How many units before the cut are not forced (FUA).
+    /// How many parts before the cut are not forced (FUA).
     pub start: u32,
     /// How many of these a flush has made durable; the others are volatile.
     pub durable: u32,
@@ -23,16 +24,16 @@ pub(crate) struct Row {
 
 impl Row {
     /// The row of the next cut, behind that entry.
-    fn after(self, entry: &Entry) -> Row
+    fn after(self, by: By, entry: &Entry) -> Row
         requires units { self.start + entry.now.count ≤ 262144 }
         requires epoch { self.epoch ≤ 65536 }
         requires marks { self.marks ≤ 65536 }
-        ensures { result ≡ next_row self entry.now }
+        ensures { result ≡ next_row by self entry.now }
     {
         let own = if entry.flags.fua {
             0
         } else {
-            entry.count as u32
+            by.parts(entry) as u32
         };
         Row {
             start: self.start + own,
@@ -48,10 +49,10 @@ impl Row {
 }
 
 /// The rows of all cuts.
-pub(crate) fn rows_of(alloc: Global, entries: &[Entry]) -> Result<Vec<Row>, AllocError>
+pub(crate) fn rows_of(alloc: Global, by: By, entries: &[Entry]) -> Result<Vec<Row>, AllocError>
     requires count { length entries.now ≤ 65536 }
     requires units { units_of entries.now ≤ 262144 }
-    ensures { IfOk result (λ rows. AreRows entries.now rows.items) }
+    ensures { IfOk result (λ rows. AreRows by entries.now rows.items) }
 {
     let mut rows = Vec::with_capacity(alloc, entries.len() + 1)?;
     let mut row = Row {
@@ -62,18 +63,18 @@ pub(crate) fn rows_of(alloc: Global, entries: &[Entry]) -> Result<Vec<Row>, Allo
     };
     rows.push(row)?;
     for entry in entries {
-        row = row.after(entry);
+        row = row.after(by, entry);
         rows.push(row)?;
     }
     Ok(rows)
 }
 
-/// How many rows have a start of at most `unit`.
-pub(crate) fn rows_up_to(rows: &[Row], unit: u32) -> usize
+/// How many rows have a start of at most `part`.
+pub(crate) fn rows_up_to(rows: &[Row], part: u32) -> usize
     requires { IsNonDecreasingBy (λ (row : Row). row.start) rows.now }
     ensures bound { result ≤ length rows.now }
-    ensures before { (k : ℕ) (d : Row) → k < result → (slice_index_or rows.now k d).start ≤ unit }
-    ensures behind { (k : ℕ) (d : Row) → result ≤ k → k < length rows.now → unit < (slice_index_or rows.now k d).start }
+    ensures before { (k : ℕ) (d : Row) → k < result → (slice_index_or rows.now k d).start ≤ part }
+    ensures behind { (k : ℕ) (d : Row) → result ≤ k → k < length rows.now → part < (slice_index_or rows.now k d).start }
 {
-    rows.partition_point(|row| row.start <= unit)
+    rows.partition_point(|row| row.start <= part)
 }

@@ -6,4 +6,4 @@ use Rattle.choices.proofs.rank.nth_of_size.Given as goal
 abbrev pub invariant-loop-taken : goal.invariant-loop-taken
 invariant-loop-taken l =
     (length l.picks.items ≡ l.taken)
-    × Seeks l.fates (l.size - l.taken) l.begin l.units l.rest l.picks.items (slice_get (chosen l.fates l.size 0 l.units) l.number)
+    × Seeks l.fates (l.size - l.taken) l.begin l.parts l.rest l.picks.items (slice_get (chosen l.fates l.size 0 l.parts) l.number)

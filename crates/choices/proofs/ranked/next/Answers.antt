@@ -1,6 +1,6 @@
 use Rattle.std.proofs.Common.{ℕ, List, refl, sym, ◌∙◌, ap, arith, subst, map, length, slice_get, Some, None, ◌≡◌, ◌<◌, ◌+◌}
 use Rattle.std.proofs.lemmas.Option.{slice_get_within, slice_get_past, slice_get_read}
-use Rattle.epochs.specs.Units.{volatile_units}
+use Rattle.epochs.specs.Parts.{volatile_parts}
 use Rattle.epochs.specs.Cuts.{cuts_of}
 use Rattle.choices.specs.declared.pick.Pick.{Pick}
 use Rattle.choices.specs.Picks.{ArePicks, most_fates}
@@ -31,14 +31,14 @@ departures_of-choice-inside-requires-clause-picks c =
     let at = c.requires.member in
     let so = stands _ _ _ at.0 _ (at.1 ∙ ap (λ (v : ChoiceValue). Some v) (sym c.choice.view_is)) in
     let step = same_step _ _ _ _ _ _ _ c.fates_of.ensures.value c.volatile.ensures.value (c.if-step.ensures.moved refl) in
-    let P : List Pick → Type 0 = λ ps. ArePicks most_fates (length (volatile_units c.args.plan.now.log.entries c.choice.inside.cut)) ps in
+    let P : List Pick → Type 0 = λ ps. ArePicks most_fates (length (volatile_parts c.args.plan.now.by c.args.plan.now.log.entries c.choice.inside.cut)) ps in
     subst P (sym c.as_slice.ensures.value) (new_picks _ _ _ _ _ _ so step)
 
 pub returns-then-step-clause-moved : goal.returns-then-step-clause-moved
 returns-then-step-clause-moved c = λ _ n h.
     let so = stands _ _ _ n _ (h ∙ ap (λ (v : ChoiceValue). Some v) (sym c.choice.view_is)) in
     let step = same_step _ _ _ _ _ _ _ c.fates_of.ensures.value c.volatile.ensures.value (c.if-step.ensures.moved refl) in
-    let departures = c.departures_of-choice-inside.ensures ∙ ap (map (departure_of (volatile_units c.args.plan.now.log.entries c.choice.inside.cut))) c.as_slice.ensures.value in
+    let departures = c.departures_of-choice-inside.ensures ∙ ap (map (departure_of (volatile_parts c.args.plan.now.by c.args.plan.now.log.entries c.choice.inside.cut))) c.as_slice.ensures.value in
     stepped_on _ _ _ _ _ _ so step
     ∙ sym (ap (λ (v : ChoiceValue). Some v) (choice_is _ _ _ _ _ refl refl refl departures))
 
@@ -58,7 +58,7 @@ returns-in-Some-clause-moved c = λ _ n h.
     ap (λ (ks : List ℕ). slice_get ks (c.choice.inside.place + 1)) (sym c.cuts.ensures.value)
     ∙ slice_get_read c.cuts.result.now (length c.cuts.result.now) (c.choice.inside.place + 1) c.in-Some.cut.now refl told.3.0 told.1 in
     moved_on _ _ _ _ _ _ so none more
-    ∙ sym (ap (λ (v : ChoiceValue). Some v) (c.choice-in-Some.view_is ∙ c.of.ensures ∙ ap (choice_of c.args.plan.now.log.entries (c.choice.inside.place + 1) c.in-Some.cut.now) c.new.ensures))
+    ∙ sym (ap (λ (v : ChoiceValue). Some v) (c.choice-in-Some.view_is ∙ c.of.ensures ∙ ap (choice_of c.args.plan.now.by c.args.plan.now.log.entries (c.choice.inside.place + 1) c.in-Some.cut.now) c.new.ensures))
 
 pub returns-in-None-clause-last : goal.returns-in-None-clause-last
 returns-in-None-clause-last c = λ _ n h.

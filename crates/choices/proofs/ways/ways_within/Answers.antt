@@ -10,7 +10,7 @@ loop-size-preserved c =
     let so = c.loop-size.invariant in
     let low : c.loop-size.size ≤ 3 = omega (arith, c.loop-size-test.true, c.requires.bound) in
     let before = so.1 low in (
-      rw (ways_below_more c.args.fates c.loop-size.size c.args.units, c.ways-sum.ensures.value, so.0) refl,
+      rw (ways_below_more c.args.fates c.loop-size.size c.args.parts, c.ways-sum.ensures.value, so.0) refl,
       λ more. let few = c.ways-sum.ensures.few (omega (arith, more)) in omega (arith, before, few),
       omega (arith, low, before, c.ways-sum.ensures.bound),
     )

@@ -9,7 +9,7 @@ pub rows_up_to-requires : goal.rows_up_to-requires
 rows_up_to-requires c =
     let plan = whole _ _ _ _ c.self.view_is c.self.invariant in
     let P : List Row → Type 0 = λ rows. IsNonDecreasingBy (λ (row : Row). row.start) rows in
-    subst P (sym c.as_slice.ensures.value) (rows_rise _ _ plan.table)
+    subst P (sym c.as_slice.ensures.value) (rows_rise _ _ _ plan.table)
 
 pub overflow_sub-result : goal.overflow_sub-result
 overflow_sub-result c =
@@ -17,7 +17,7 @@ overflow_sub-result c =
     let P : List Row → Type 0 = λ rows. Splits rows c.args.number c.rows_up_to.result in
     let told : Splits c.as_slice.result.now c.args.number c.rows_up_to.result =
     record { bound = c.rows_up_to.ensures.bound; before = c.rows_up_to.ensures.before; behind = c.rows_up_to.ensures.behind } in
-    (some_row _ _ _ _ plan.table c.requires (subst P c.as_slice.ensures.value told)).0
+    (some_row _ _ _ _ _ plan.table c.requires (subst P c.as_slice.ensures.value told)).0
 
 pub returns : goal.returns
 returns c =
@@ -25,4 +25,4 @@ returns c =
     let P : List Row → Type 0 = λ rows. Splits rows c.args.number c.rows_up_to.result in
     let told : Splits c.as_slice.result.now c.args.number c.rows_up_to.result =
     record { bound = c.rows_up_to.ensures.bound; before = c.rows_up_to.ensures.before; behind = c.rows_up_to.ensures.behind } in
-    found _ _ _ _ _ plan.table c.requires (subst P c.as_slice.ensures.value told) refl
+    found _ _ _ _ _ _ plan.table c.requires (subst P c.as_slice.ensures.value told) refl

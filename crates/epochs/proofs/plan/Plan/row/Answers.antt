@@ -14,5 +14,5 @@ returns-clause-row c =
 pub returns-clause-fits : goal.returns-clause-fits
 returns-clause-fits c =
     let plan = whole _ _ _ _ c.self.view_is c.self.invariant in
-    let row : IsRow c.args.self.now.log.entries c.args.cut c.index.result.now = returns-clause-row c in
-    row_fits _ _ _ row plan.bounds.count plan.bounds.units c.requires
+    let row : IsRow c.args.self.now.by c.args.self.now.log.entries c.args.cut c.index.result.now = returns-clause-row c in
+    row_fits _ _ _ _ row plan.bounds.count plan.bounds.units c.requires
