@@ -10,3 +10,4 @@ pub mod Sets
 pub mod Order
 pub mod CrashModel
 pub mod Naming
+pub mod Agreeing

@@ -71,7 +71,7 @@ member_of m (suc i) a (suc k) (d ∷ ds) long h =
 
 -- two of those that begin with one part
 rows_before : (m i a k p q : ℕ) (cs ds : List Pick)
-    → ((p' q' : ℕ) (es fs : List Pick) → p' < q' → slice_get (chosen m i (a + 1) k) p' ≡ Some way es → slice_get (chosen m i (a + 1) k) q' ≡ Some fs → Before way es fs)
+    → ((p' q' : ℕ) (es fs : List Pick) → p' < q' → slice_get (chosen m i (a + 1) k) p' ≡ Some es → slice_get (chosen m i (a + 1) k) q' ≡ Some fs → Before es fs)
     → p < q → OfRow a 0 m (chosen m i (a + 1) k) p cs → OfRow a 0 m (chosen m i (a + 1) k) q ds → Before cs ds
 rows_before m i a k p q cs ds rests lt c d =
     let width : ℕ = length (chosen m i (a + 1) k) in

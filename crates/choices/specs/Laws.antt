@@ -1,6 +1,10 @@
--- The ranked choices of a plan are the set of its choices, in their order. Below it the same of the list
--- of one cut, by numbers.
+-- The ranked choices of a plan are the set of its choices, in their order; where entries have one sector, both ways are the
+-- same. Below it the law of the list of one cut, by numbers.
 use Rattle.std.specs.Prelude.{ℕ, ◌+◌, ◌≡◌, ◌<◌, ◌≤◌, ◌⊎◌, Bool, List, [], ◌∷◌, length, slice_get, Some}
+use Rattle.logfmt.specs.declared.entry.Entry.{Entry}
+use Rattle.logfmt.specs.Bounds.{LogValue}
+use Rattle.epochs.specs.declared.cuts.Cuts.{Cuts}
+use Rattle.epochs.specs.declared.part.By.TheVariants as by
 use Rattle.epochs.specs.Plan.{PlanValue}
 use Rattle.epochs.specs.Laws.{IsWanted}
 use Rattle.choices.specs.declared.pick.Pick.{Pick}
@@ -21,6 +25,12 @@ pub record ListsModel (plan : PlanValue) (bound : ℕ) (tears : Bool) (list : Li
 
 abbrev pub RankedIsModel : Type 0
 RankedIsModel = (plan : PlanValue) (bound : ℕ) (tears : Bool) → ListsModel plan bound tears (ranked plan bound tears)
+
+-- where no entry has more than one sector, a write is a sector: by either the same choices are in the list, in the same order
+abbrev pub WaysAgree : Type 0
+WaysAgree =
+    (log : LogValue) (kind : Cuts) (bound : ℕ) (tears : Bool) → ((e : ℕ) (entry : Entry) → slice_get log.entries e ≡ Some entry → entry.count ≤ 1)
+    → ranked (record { log = log; kind = kind; by = by.Write }) bound tears ≡ ranked (record { log = log; kind = kind; by = by.Sector }) bound tears
 
 -- departures rising by part, of parts from a on and below e, by fates below m
 abbrev pub AreRising : ℕ → ℕ → ℕ → List Pick → Type 0

@@ -45,7 +45,8 @@
 //! exactly the pairs of a wanted cut and an admissible choice there, each once, in the order above.
 //! `specs/CrashModel.antt` says in the words of the crash model what an admissible choice is, and which
 //! comes first. The list of one cut by numbers has a law of its own, for any number of fates
-//! (`list_is_set`); both stand in `specs/Laws.antt`.
+//! (`list_is_set`). For a log whose entries have at most one sector both ways have the same list
+//! (`ways_agree`). All three stand in `specs/Laws.antt`.
 //!
 //! # How it is written
 //!
@@ -91,7 +92,7 @@ mod ways;
 
 pub use choice::{Choice, Departure};
 pub use fate::{Eighths, Fate};
-pub use laws::{list_is_set, ranked_is_model};
+pub use laws::{list_is_set, ranked_is_model, ways_agree};
 pub use name::Name;
 pub use named::choice_named;
 pub use ranked::{TooMany, count, count_at, next, nth};

@@ -63,11 +63,10 @@ sector_laid es us u ds new old made kept content below size survived bytes =
     ∙ sym (byte_after-push es us u ds u.sector i)
     ∙ sym (get_or-map-range_with_len byte 0 512 i i 0 within here))
 
--- two sectors spliced behind n eighths
-pub spliced_size : (front behind : List ℕ) (n : ℕ) → n ≤ 8 → length front ≡ 512 → length behind ≡ 512
-    → length (take (64 * n) front ++ drop (64 * n) behind) ≡ 512
-spliced_size front behind n le first second =
-    omega (arith, length-append (take (64 * n) front) (drop (64 * n) behind), length-take-le (64 * n) front (omega (arith, first, le)), length-drop (64 * n) behind, second, le)
+-- two sectors spliced behind m bytes
+pub spliced_size : (front behind : List ℕ) (m : ℕ) → m ≤ 512 → length front ≡ 512 → length behind ≡ 512 → length (take m front ++ drop m behind) ≡ 512
+spliced_size front behind m le first second =
+    omega (arith, length-append (take m front) (drop m behind), length-take-le m front (omega (arith, first, le)), length-drop m behind, second, le)
 
 -- the tests for a byte of the head and of the tail
 other_part : (m i : ℕ) (x y : ℕ) → (if nat_lt i m then y else x) ≡ (if nat_le m i then x else y)
@@ -79,23 +78,23 @@ other_part m i x y = elim (cases_lt i m) [
 pub tail_byte : (new old : List ℕ) (m i : ℕ) → m ≤ length old → slice_index (take m old ++ drop m new) i ≡ (if nat_le m i then slice_index new i else slice_index old i)
 tail_byte new old m i le = spliced_byte old new m i le ∙ other_part m i (slice_index new i) (slice_index old i)
 
--- its head of n eighths survives
-pub sector_here : (es : List Entry) (us : List LogUnit) (u : LogUnit) (ds : List Departure) (new old : List ℕ) (n : ℕ) → n ≤ 8
+-- its first m bytes survive
+pub sector_head : (es : List Entry) (us : List LogUnit) (u : LogUnit) (ds : List Departure) (new old : List ℕ) (m : ℕ) → m ≤ 512
     → new ≡ unit_content es u → length new ≡ 512 → old ≡ sector_after es us ds u.sector → length old ≡ 512
-    → ((i : ℕ) → i < 512 → survives ds i u ≡ nat_lt i (64 * n))
-    → take (64 * n) new ++ drop (64 * n) old ≡ sector_after es (us ++ u ∷ []) ds u.sector
-sector_here es us u ds new old n le content long below old_long kept =
-    sector_laid es us u ds new old (take (64 * n) new ++ drop (64 * n) old) (λ i. nat_lt i (64 * n)) content below (spliced_size new old n le long old_long) kept
-    (λ i lt. spliced_byte new old (64 * n) i (omega (arith, long, le)))
+    → ((i : ℕ) → i < 512 → survives ds i u ≡ nat_lt i m)
+    → take m new ++ drop m old ≡ sector_after es (us ++ u ∷ []) ds u.sector
+sector_head es us u ds new old m le content long below old_long kept =
+    sector_laid es us u ds new old (take m new ++ drop m old) (λ i. nat_lt i m) content below (spliced_size new old m le long old_long) kept
+    (λ i lt. spliced_byte new old m i (omega (arith, long, le)))
 
--- its tail behind n eighths survives
-pub tail_here : (es : List Entry) (us : List LogUnit) (u : LogUnit) (ds : List Departure) (new old : List ℕ) (n : ℕ) → n ≤ 8
+-- its bytes from m on survive
+pub sector_tail : (es : List Entry) (us : List LogUnit) (u : LogUnit) (ds : List Departure) (new old : List ℕ) (m : ℕ) → m ≤ 512
     → new ≡ unit_content es u → length new ≡ 512 → old ≡ sector_after es us ds u.sector → length old ≡ 512
-    → ((i : ℕ) → i < 512 → survives ds i u ≡ nat_le (64 * n) i)
-    → take (64 * n) old ++ drop (64 * n) new ≡ sector_after es (us ++ u ∷ []) ds u.sector
-tail_here es us u ds new old n le content long below old_long kept =
-    sector_laid es us u ds new old (take (64 * n) old ++ drop (64 * n) new) (λ i. nat_le (64 * n) i) content below (spliced_size old new n le old_long long) kept
-    (λ i lt. tail_byte new old (64 * n) i (omega (arith, old_long, le)))
+    → ((i : ℕ) → i < 512 → survives ds i u ≡ nat_le m i)
+    → take m old ++ drop m new ≡ sector_after es (us ++ u ∷ []) ds u.sector
+sector_tail es us u ds new old m le content long below old_long kept =
+    sector_laid es us u ds new old (take m old ++ drop m new) (λ i. nat_le m i) content below (spliced_size old new m le old_long long) kept
+    (λ i lt. tail_byte new old m i (omega (arith, old_long, le)))
 
 -- laying units keeps the number of sectors
 pub length-device_after : (sectors : ℕ) (es : List Entry) (us : List LogUnit) (ds : List Departure) → length (device_after sectors es us ds) ≡ sectors

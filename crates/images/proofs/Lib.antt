@@ -1,4 +1,5 @@
 -- Lemmas of the crate.
+pub mod Shares
 pub mod Kept
 pub mod Writers
 pub mod Laying

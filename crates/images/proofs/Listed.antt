@@ -304,6 +304,55 @@ one_sector_less base image count n content lt =
     let four = length-append (option_to_list is) (changes base new (n + 1) q) in
     omega (arith, one, two, three, four, front, back, option_short was)
 
+-- the sectors of another image from one on, and one more of them
+pub others_there : (image other : ℕ → List ℕ) (a k n : ℕ) → a ≤ n → n < a + k → with_sectors image a k other n ≡ other n
+others_there image other a k n low high = ap (λ b. if b then other n else image n) (rw (le-leb a n low, lt-ltb n (a + k) high) refl)
+
+pub others_before : (image other : ℕ → List ℕ) (a k n : ℕ) → n < a → with_sectors image a k other n ≡ image n
+others_before image other a k n lt = ap (λ b. if b && nat_lt n (a + k) then other n else image n) (lt-leb a n lt)
+
+pub others_behind : (image other : ℕ → List ℕ) (a k n : ℕ) → a + k ≤ n → with_sectors image a k other n ≡ image n
+others_behind image other a k n le =
+    ap (λ b. if nat_le a n && b then other n else image n) (le-ltb n (a + k) le)
+    ∙ ap (λ b. if b && false then other n else image n) (le-leb a n (omega (arith, le)))
+
+pub other_more : (image other : ℕ → List ℕ) (a k s n : ℕ) → s ≡ a + k
+    → with_sector (with_sectors image a k other) s (other s) n ≡ with_sectors image a (k + 1) other n
+other_more image other a k s n is = elim (eqb_tells n s) [
+  | inl same ↦
+      ap (λ b. if b then other s else with_sectors image a k other n) same.0 ∙ ap other (sym same.1)
+      ∙ sym (let here = same.1 in others_there image other a (k + 1) n (omega (arith, is, here)) (omega (arith, is, here)))
+  | inr differ ↦
+      ap (λ b. if b then other s else with_sectors image a k other n) differ.0
+      ∙ elim (cases_lt n a) [
+        | inl before ↦ others_before image other a k n before ∙ sym (others_before image other a (k + 1) n before)
+        | inr from ↦ elim (cases_lt n (a + k)) [
+          | inl within ↦ others_there image other a k n from within ∙ sym (others_there image other a (k + 1) n from (omega (arith, within)))
+          | inr past ↦ elim (cases_lt (a + k) n) [
+            | inl behind ↦ others_behind image other a k n past ∙ sym (others_behind image other a (k + 1) n (omega (arith, behind)))
+            | inr end ↦ absurd (differ.1 (let here : n ≡ s = omega (arith, past, end, is) in here))
+          ]
+        ]
+      ]
+]
+
+-- each sector that is replaced takes away one listed sector at most
+pub sectors_less : (base image other : ℕ → List ℕ) (count a k : ℕ) → a + k ≤ count
+    → length (changes base image 0 count) ≤ length (changes base (with_sectors image a k other) 0 count) + k
+sectors_less base image other count a zero le =
+    let same = ap length (changes_alike base base image (with_sectors image a 0 other) 0 count (λ n low high. refl) (λ n low high. elim (cases_lt n a) [
+      | inl before ↦ sym (others_before image other a 0 n before)
+      | inr from ↦ sym (others_behind image other a 0 n (omega (arith, from)))
+    ])) in
+    omega (arith, same)
+sectors_less base image other count a (suc k) le =
+    let s : ℕ = a + k in
+    let was = sectors_less base image other count a k (omega (arith, le)) in
+    let one = one_sector_less base (with_sectors image a k other) count s (other s) (omega (arith, le)) in
+    let same = ap length (changes_alike base base (with_sector (with_sectors image a k other) s (other s)) (with_sectors image a (suc k) other) 0 count
+    (λ n low high. refl) (λ n low high. other_more image other a k s n refl ∙ ap (λ m. with_sectors image a m other n) (add-one k))) in
+    omega (arith, was, one, same)
+
 -- a sector that is compared with that of the base
 pub change_by_test : (base image : ℕ → List ℕ) (n : ℕ) (durable content : List ℕ) (same : Bool) → same ≡ pointwise nat_eq durable content → base n ≡ durable → image n ≡ content
     → (if same then None else Some (record { number = n; content = content })) ≡ change_at base image n

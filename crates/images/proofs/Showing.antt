@@ -1,5 +1,5 @@
 -- The unit that shows in a sector, and what it leaves there.
-use Rattle.std.proofs.Common.{ℕ, suc, ◌≡◌, ◌+◌, ◌-◌, ◌<◌, ◌≤◌, ◌==◌, Bool, true, false, ◌&&◌, cond, if◌then◌else◌, List, [], ◌∷◌, ◌++◌, length, filter, take, slice_get, slice_index_or, Some, None, refl, sym, subst, ◌∙◌, ap, inl, inr, arith, append_assoc}
+use Rattle.std.proofs.Common.{ℕ, suc, ◌≡◌, ◌+◌, ◌-◌, ◌<◌, ◌≤◌, ◌==◌, Bool, true, false, ◌&&◌, cond, if◌then◌else◌, List, [], ◌∷◌, ◌++◌, length, filter, take, slice_get, slice_index_or, Option, Some, None, refl, sym, subst, ◌∙◌, ap, inl, inr, arith, append_assoc}
 use Rattle.std.specs.List.{last_or, slice_index}
 use Rattle.std.proofs.lemmas.Bool.Decides.{eqb_tells}
 use Rattle.std.proofs.lemmas.Grind.{same_number_lists}
@@ -13,7 +13,7 @@ use Rattle.epochs.specs.declared.unit.Unit.{Unit as LogUnit}
 use Rattle.epochs.specs.Units.{unit_content}
 use Rattle.choices.specs.declared.choice.Departure.{Departure}
 use Rattle.images.specs.Images.{survives, writes, byte_after, sector_after}
-use Rattle.images.specs.Table.{covering, fate_at, reaches, showing}
+use Rattle.images.specs.Table.{covering, fate_at, leaves, reaches, showing}
 use Rattle.images.proofs.Kept.{whole_survives, dropped_lost}
 use Rattle.images.proofs.Writers.{last_or-push, byte_after_written, byte_after_lost}
 use Rattle.images.proofs.Rows.{covering-push}
@@ -39,6 +39,22 @@ showing_own ds us u kept = showing-push ds us u ∙ ap (λ b. if b then Some u e
 
 pub showing_other : (ds : List Departure) (us : List LogUnit) (u : LogUnit) → reaches ds u ≡ false → showing ds (us ++ u ∷ []) ≡ showing ds us
 showing_other ds us u lost = showing-push ds us u ∙ ap (λ b. if b then Some u else showing ds us) lost
+
+-- something of the unit that shows reaches the device
+last_holds : (p : LogUnit → Bool) (us : List LogUnit) (o : Option LogUnit) (u : LogUnit) → ((v : LogUnit) → o ≡ Some v → p v ≡ true)
+    → last_or o (filter p us) ≡ Some u → p u ≡ true
+last_holds p [] o u first at = first u at
+last_holds p (v ∷ us) o u first at =
+    let by : (b : Bool) → p v ≡ b → last_or o (cond b (v ∷ filter p us) (filter p us)) ≡ Some u → p u ≡ true =
+    λ b. elim b as (λ c. p v ≡ c → last_or o (cond c (v ∷ filter p us) (filter p us)) ≡ Some u → p u ≡ true) [
+      | true ↦ λ e h. last_holds p us (Some v) u (λ w same. ap p (sym (same_Some v w same)) ∙ e) h
+      | false ↦ λ e h. last_holds p us o u first h
+    ] in
+    by (p v) refl at
+
+pub showing_reaches : (ds : List Departure) (us : List LogUnit) (u : LogUnit) → showing ds us ≡ Some u → leaves (fate_at ds u) ≡ true
+unfolding showing reaches
+showing_reaches ds us u at = last_holds (reaches ds) us None u (λ v none. absurd (let bad : None ≡ Some v = none in cc)) at
 
 -- a row from its end
 pub step_back : (row : List LogUnit) (left : ℕ) (d : LogUnit) → 0 < left → left ≤ length row
@@ -71,16 +87,16 @@ none_left ds row left none was =
 
 -- what the unit that shows leaves, of the units of a list that cover sector s
 pub record Shows (es : List Entry) (ds : List Departure) (s : ℕ) (vs : List LogUnit) : Type 0 where
-  pub nobody : showing ds (covering s vs) ≡ None → (i : ℕ) → byte_after es vs ds s i ≡ 0
-  pub whole : (u : LogUnit) → showing ds (covering s vs) ≡ Some u → fate_at ds u ≡ None → (i : ℕ) → byte_after es vs ds s i ≡ slice_index (unit_content es u) i
+  pub nobody : showing ds (covering s vs) ≡ None → (i : ℕ) → i < 512 → byte_after es vs ds s i ≡ 0
+  pub whole : (u : LogUnit) → showing ds (covering s vs) ≡ Some u → fate_at ds u ≡ None → (i : ℕ) → i < 512 → byte_after es vs ds s i ≡ slice_index (unit_content es u) i
   pub there : (u : LogUnit) → showing ds (covering s vs) ≡ Some u → (j : ℕ) × (slice_get vs j ≡ Some u) × (u.sector ≡ s)
 
 lost : (es : List Entry) (ds : List Departure) (s : ℕ) (vs : List LogUnit) (v : LogUnit)
-    → showing ds (covering s (vs ++ v ∷ [])) ≡ showing ds (covering s vs) → ((i : ℕ) → writes ds s i v ≡ false)
+    → showing ds (covering s (vs ++ v ∷ [])) ≡ showing ds (covering s vs) → ((i : ℕ) → i < 512 → writes ds s i v ≡ false)
     → Shows es ds s vs → Shows es ds s (vs ++ v ∷ [])
 lost es ds s vs v same off was = record {
-  nobody = λ none i. byte_after_lost es vs v ds s i (off i) ∙ was.nobody (sym same ∙ none) i;
-  whole = λ u at full i. byte_after_lost es vs v ds s i (off i) ∙ was.whole u (sym same ∙ at) full i;
+  nobody = λ none i lt. byte_after_lost es vs v ds s i (off i lt) ∙ was.nobody (sym same ∙ none) i lt;
+  whole = λ u at full i lt. byte_after_lost es vs v ds s i (off i lt) ∙ was.whole u (sym same ∙ at) full i lt;
   there = λ u at.
       let old = was.there u (sym same ∙ at) in
       (old.0, slice_get-append_left vs (v ∷ []) old.0 (slice_get_within vs old.0 u old.1) ∙ old.1, old.2);
@@ -89,10 +105,10 @@ lost es ds s vs v same off was = record {
 own : (es : List Entry) (ds : List Departure) (s : ℕ) (vs : List LogUnit) (v : LogUnit) → v.sector ≡ s
     → showing ds (covering s (vs ++ v ∷ [])) ≡ Some v → ((i : ℕ) → writes ds s i v ≡ survives ds i v) → Shows es ds s (vs ++ v ∷ [])
 own es ds s vs v here shows on = record {
-  nobody = λ none i. absurd (let bad : None ≡ Some v = sym none ∙ shows in cc);
-  whole = λ u at full i.
+  nobody = λ none i lt. absurd (let bad : None ≡ Some v = sym none ∙ shows in cc);
+  whole = λ u at full i lt.
       let same : v ≡ u = same_Some v u (sym shows ∙ at) in
-      let kept : survives ds i v ≡ true = whole_survives ds v i (ap (fate_at ds) same ∙ full) in
+      let kept : survives ds i v ≡ true = whole_survives ds v i lt (ap (fate_at ds) same ∙ full) in
       byte_after_written es vs v ds s i (on i ∙ kept) ∙ ap (λ x. slice_index (unit_content es x) i) same;
   there = λ u at.
       let same : v ≡ u = same_Some v u (sym shows ∙ at) in
@@ -117,20 +133,20 @@ one_more es ds s vs v was = elim (eqb_tells v.sector s) [
         | true ↦ λ e. own es ds s vs v here.1 (ap (showing ds) row ∙ showing_own ds (covering s vs) v e) (λ i. writes_own ds s i v here.0)
         | false ↦ λ e.
             lost es ds s vs v (ap (showing ds) row ∙ showing_other ds (covering s vs) v e)
-            (λ i. writes_own ds s i v here.0 ∙ dropped_lost ds v i e) was
+            (λ i lt. writes_own ds s i v here.0 ∙ dropped_lost ds v i lt e) was
       ] in
       by (reaches ds v) refl
   | inr other ↦
       let row : covering s (vs ++ v ∷ []) ≡ covering s vs =
       covering-push s vs v ∙ ap (λ b. covering s vs ++ cond b (v ∷ []) []) other.0 ∙ append-nil (covering s vs) in
-      lost es ds s vs v (ap (showing ds) row) (λ i. writes_other ds s i v other.0) was
+      lost es ds s vs v (ap (showing ds) row) (λ i lt. writes_other ds s i v other.0) was
 ]
 
 no_unit : (es : List Entry) (ds : List Departure) (s : ℕ) → Shows es ds s []
 unfolding showing covering byte_after
 no_unit es ds s = record {
-  nobody = λ none i. refl;
-  whole = λ u at full i. absurd (let bad : None ≡ Some u = at in cc);
+  nobody = λ none i lt. refl;
+  whole = λ u at full i lt. absurd (let bad : None ≡ Some u = at in cc);
   there = λ u at. absurd (let bad : None ≡ Some u = at in cc);
 }
 

@@ -29,11 +29,11 @@ in_front row last u long there = sym (take-suc_place row last u there) ∙ take_
 pub spliced : (es : List Entry) (row : List LogUnit) (ds : List Departure) (s last : ℕ) (u : LogUnit) (f : Fate) (new old made : List ℕ)
     → suc last ≡ length row → slice_get row last ≡ Some u → u.sector ≡ s → DepartOnce ds → fate_at ds u ≡ Some f
     → new ≡ unit_content es u → old ≡ sector_after es (take last row) ds s → length made ≡ 512
-    → ((i : ℕ) → i < 512 → slice_index made i ≡ (if keeps f i then slice_index new i else slice_index old i))
+    → ((i : ℕ) → i < 512 → slice_index made i ≡ (if keeps f 1 i then slice_index new i else slice_index old i))
     → made ≡ sector_after es row ds s
 spliced es row ds s last u f new old made long there here once at content below size bytes =
-    sector_laid es (take last row) u ds new old made (keeps f) content (below ∙ ap (sector_after es (take last row) ds) (sym here)) size
-    (λ i lt. fated_survives ds u i f once at) bytes
+    sector_laid es (take last row) u ds new old made (keeps f 1) content (below ∙ ap (sector_after es (take last row) ds) (sym here)) size
+    (λ i lt. fated_survives ds u i f lt once at) bytes
     ∙ ap (sector_after es (take last row ++ u ∷ []) ds) here ∙ ap (λ us. sector_after es us ds s) (in_front row last u long there)
 
 -- the last unit is whole: its content stands
@@ -43,7 +43,7 @@ pub whole_last : (es : List Entry) (row : List LogUnit) (ds : List Departure) (s
     → new ≡ sector_after es row ds s
 whole_last es row ds s last u new long there here whole content size =
     sector_laid es (take last row) u ds new (sector_after es (take last row) ds u.sector) new (λ i. true) content refl size
-    (λ i lt. whole_survives ds u i whole) (λ i lt. refl)
+    (λ i lt. whole_survives ds u i lt whole) (λ i lt. refl)
     ∙ ap (sector_after es (take last row ++ u ∷ []) ds) here ∙ ap (λ us. sector_after es us ds s) (in_front row last u long there)
 
 -- no unit covers the sector: zeros stand
@@ -89,7 +89,7 @@ lent_zeros es k s ds none =
     let zeros : List ℕ = replicate {A = ℕ} 512 0 in
     let all = shows es ds s (units_before es k) in
     sector_by_bytes es (units_before es k) ds s zeros (length-replicate {A = ℕ} 512 0)
-    (λ i lt. all.nobody none i ∙ sym (get_or-replicate {A = ℕ} 512 i 0 0 lt))
+    (λ i lt. all.nobody none i lt ∙ sym (get_or-replicate {A = ℕ} 512 i 0 0 lt))
 
 -- the unit that shows is whole: its content can be lent for the sector
 pub lent_whole : (es : List Entry) (k s : ℕ) (ds : List Departure) (u : LogUnit) (content : List ℕ) → showing ds (versions es k s) ≡ Some u
@@ -98,7 +98,7 @@ pub lent_whole : (es : List Entry) (k s : ℕ) (ds : List Departure) (u : LogUni
 lent_whole es k s ds u content at whole is long =
     let own = shows es ds s (units_before es k) in
     sector_by_bytes es (units_before es k) ds s content long
-    (λ i lt. own.whole u at whole i ∙ ap (λ bytes. slice_index bytes i) (sym is))
+    (λ i lt. own.whole u at whole i lt ∙ ap (λ bytes. slice_index bytes i) (sym is))
 
 -- whether a torn unit shows
 pub not_torn_zeros : (ds : List Departure) (row : List LogUnit) → showing ds row ≡ None → false ≡ is_torn ds row

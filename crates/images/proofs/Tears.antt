@@ -1,28 +1,36 @@
 -- The sectors in which a torn unit shows: each has a departure of that unit.
-use Rattle.std.proofs.Common.{ℕ, suc, ◌≡◌, ◌+◌, ◌<◌, ◌≤◌, ◌==◌, Bool, true, false, if◌then◌else◌, not, List, [], ◌∷◌, ◌++◌, length, slice_get, Option, Some, None, refl, sym, subst, ◌∙◌, ap, inl, inr, arith, length-append}
+use Rattle.std.proofs.Common.{ℕ, suc, ◌≡◌, ◌+◌, ◌-◌, ◌<◌, ◌≤◌, ◌==◌, Bool, true, false, if◌then◌else◌, not, List, [], ◌∷◌, ◌++◌, length, slice_get, Option, Some, None, refl, sym, subst, ◌∙◌, ap, inl, inr, arith, length-append}
 use Rattle.std.specs.Option.{option_map_or, is_some, is_none}
-use Rattle.std.specs.Cmp.{first_so, second_so}
-use Rattle.std.proofs.lemmas.Bool.{cases_lt, eqb-true}
+use Rattle.std.proofs.lemmas.Bool.{cases_lt}
 use Rattle.std.proofs.lemmas.Option.{slice_get_within, same_Some}
 use Rattle.base.proofs.Lists.{slice_get-append_left, slice_get-push, slice_get_of_push}
 use Rattle.logfmt.specs.declared.entry.Entry.{Entry}
 use Rattle.logfmt.specs.Bounds.{LogValue, IsLog}
+use Rattle.epochs.specs.declared.part.Part.{Part}
 use Rattle.epochs.specs.declared.unit.Unit.{Unit as LogUnit}
 use Rattle.epochs.specs.Units.{units_before}
-use Rattle.epochs.specs.Plan.{IsUnit}
+use Rattle.epochs.specs.Plan.{IsUnit, IsPart}
+use Rattle.choices.specs.declared.fate.Fate.{Fate}
 use Rattle.choices.specs.declared.choice.Departure.{Departure}
 use Rattle.images.specs.declared.torn.TornSector.{TornSector}
-use Rattle.images.specs.Images.{is_unit, sector_after}
-use Rattle.images.specs.Table.{versions, fate_at, showing, is_torn, HasSector, AreTorn}
+use Rattle.images.specs.Images.{is_in, sector_after}
+use Rattle.images.specs.Table.{versions, share, leaves, tear_of, fate_at, showing, is_torn, HasSector, AreTorn}
+use Rattle.images.proofs.Kept.{some_departure}
+use Rattle.images.proofs.Shares.{lies_in, taken, torn_there}
+use Rattle.images.proofs.Showing.{showing_reaches}
 use Rattle.images.proofs.Spliced.{unit_showing}
+
+-- the sector of the device in which a departure tears its part
+abbrev pub tear_sector : Departure → ℕ
+tear_sector d = d.part.sector + tear_of d.fate d.part.count
 
 -- what is torn by the first n departures
 pub record TornSoFar (log : LogValue) (cut : ℕ) (ds : List Departure) (n : ℕ) (torn : List TornSector) : Type 0 where
   pub few : length torn ≤ n
   pub bytes : (j : ℕ) (t : TornSector) → slice_get torn j ≡ Some t
       → t.content ≡ sector_after log.entries (units_before log.entries cut) ds t.number
-  pub each : (i : ℕ) (d : Departure) → i < n → slice_get ds i ≡ Some d → is_torn ds (versions log.entries cut d.unit.sector) ≡ true
-      → HasSector torn d.unit.sector
+  pub each : (i : ℕ) (d : Departure) → i < n → slice_get ds i ≡ Some d → is_torn ds (versions log.entries cut (tear_sector d)) ≡ true
+      → HasSector torn (tear_sector d)
 
 -- the loop over the departures: the torn sectors before it, with one more, and at its end
 pub none_torn : (log : LogValue) (cut : ℕ) (ds : List Departure) (torn : List TornSector) → torn ≡ [] → TornSoFar log cut ds 0 torn
@@ -37,7 +45,7 @@ none_torn log cut ds torn none =
 
 -- a departure of a unit that isn't torn or doesn't show
 pub not_torn : (log : LogValue) (cut : ℕ) (ds : List Departure) (n : ℕ) (torn : List TornSector) (d : Departure) → TornSoFar log cut ds n torn
-    → slice_get ds n ≡ Some d → false ≡ is_torn ds (versions log.entries cut d.unit.sector) → TornSoFar log cut ds (n + 1) torn
+    → slice_get ds n ≡ Some d → false ≡ is_torn ds (versions log.entries cut (tear_sector d)) → TornSoFar log cut ds (n + 1) torn
 not_torn log cut ds n torn d was here whole = record {
   few = let few = was.few in omega (arith, few);
   bytes = was.bytes;
@@ -46,14 +54,14 @@ not_torn log cut ds n torn d was here whole = record {
     | inr past ↦
         let same : i ≡ n = omega (arith, lt, past) in
         let one : e ≡ d = same_Some e d (sym there ∙ ap (slice_get ds) same ∙ here) in
-        let bad : false ≡ true = whole ∙ ap (λ (f : Departure). is_torn ds (versions log.entries cut f.unit.sector)) (sym one) ∙ shows in
+        let bad : false ≡ true = whole ∙ ap (λ (f : Departure). is_torn ds (versions log.entries cut (tear_sector f))) (sym one) ∙ shows in
         absurd (let b : false ≡ true = bad in cc)
   ];
 }
 
 pub one_torn : (log : LogValue) (cut : ℕ) (ds : List Departure) (n : ℕ) (torn more : List TornSector) (d : Departure) (t : TornSector)
-    → TornSoFar log cut ds n torn → slice_get ds n ≡ Some d → more ≡ torn ++ t ∷ [] → t.number ≡ d.unit.sector
-    → t.content ≡ sector_after log.entries (units_before log.entries cut) ds d.unit.sector → TornSoFar log cut ds (n + 1) more
+    → TornSoFar log cut ds n torn → slice_get ds n ≡ Some d → more ≡ torn ++ t ∷ [] → t.number ≡ tear_sector d
+    → t.content ≡ sector_after log.entries (units_before log.entries cut) ds (tear_sector d) → TornSoFar log cut ds (n + 1) more
 one_torn log cut ds n torn more d t was here is number content =
     let long = ap length is ∙ length-append torn (t ∷ []) in
     record {
@@ -70,59 +78,64 @@ one_torn log cut ds n torn more d t was here is number content =
         | inr past ↦
             let same : i ≡ n = omega (arith, lt, past) in
             let one : e ≡ d = same_Some e d (sym there ∙ ap (slice_get ds) same ∙ here) in
-            (length torn, t, ap (λ ts. slice_get ts (length torn)) is ∙ slice_get-push torn t, number ∙ ap (λ (f : Departure). f.unit.sector) (sym one))
+            (length torn, t, ap (λ ts. slice_get ts (length torn)) is ∙ slice_get-push torn t, number ∙ ap (λ (f : Departure). tear_sector f) (sym one))
       ];
     }
 
--- a unit with a fate has a departure
-pub some_departure : (ds : List Departure) (u : LogUnit) → is_some (fate_at ds u) ≡ true
-    → (j : ℕ) × (d : Departure) × (slice_get ds j ≡ Some d) × (is_unit d.unit u ≡ true)
-unfolding fate_at
-some_departure [] u fated = absurd (let bad : false ≡ true = fated in cc)
-some_departure (d ∷ ds) u fated =
-    let by : (b : Bool) → is_unit d.unit u ≡ b → (j : ℕ) × (e : Departure) × (slice_get (d ∷ ds) j ≡ Some e) × (is_unit e.unit u ≡ true) =
-    λ b. elim b as (λ c. is_unit d.unit u ≡ c → (j : ℕ) × (e : Departure) × (slice_get (d ∷ ds) j ≡ Some e) × (is_unit e.unit u ≡ true)) [
-      | true ↦ λ e. (0, d, refl, e)
-      | false ↦ λ e.
-          let rest = some_departure ds u (sym (ap (λ c. is_some (if c then Some d.fate else fate_at ds u)) e) ∙ fated) in
-          (suc rest.0, rest.1, rest.2, rest.3)
-    ] in
-    by (is_unit d.unit u) refl
-
--- units of one entry and place are of one sector
-pub one_sector : (log : LogValue) (a b : LogUnit) → IsUnit log a → IsUnit log b → is_unit a b ≡ true → a.sector ≡ b.sector
-one_sector log a b one two same =
-    let entry : a.entry ≡ b.entry = eqb-true a.entry b.entry (first_so (a.entry == b.entry) (a.place == b.place) same) in
-    let place : a.place ≡ b.place = eqb-true a.place b.place (second_so (a.entry == b.entry) (a.place == b.place) same) in
-    let own : one.entry ≡ two.entry = same_Some one.entry two.entry (sym one.there ∙ ap (slice_get log.entries) entry ∙ two.there) in
+-- a unit of a part lies in one of the part's sectors
+pub one_sector : (log : LogValue) (p : Part) (u : LogUnit) → IsPart log p → IsUnit log u → is_in p u ≡ true → u.sector ≡ p.sector + (u.place - p.place)
+one_sector log p u one two same =
+    let at = lies_in p u same in
+    let own : one.entry ≡ two.entry = same_Some one.entry two.entry (sym one.there ∙ ap (slice_get log.entries) at.entry ∙ two.there) in
     let first = ap (λ (e : Entry). e.sector) own in
     let left = one.sector in
     let right = two.sector in
-    omega (arith, first, left, right, place)
+    let low = at.low in
+    omega (arith, first, left, right, low)
 
-unit_torn : (ds : List Departure) (row : List LogUnit) → is_torn ds row ≡ true → (u : LogUnit) × (showing ds row ≡ Some u) × (is_some (fate_at ds u) ≡ true)
+-- the unit that shows is torn where its part is
+torn_here : (log : LogValue) (d : Departure) (u : LogUnit) (f : Fate) → IsPart log d.part → IsUnit log u → share d u ≡ Some f → leaves (Some f) ≡ true
+    → tear_sector d ≡ u.sector
+torn_here log d u f part unit of left =
+    let own = taken d u f of in
+    let at = lies_in d.part u own.0 in
+    let low = at.low in
+    let high = at.high in
+    let place = torn_there d.fate d.part.count (u.place - d.part.place) f (omega (arith, low, high)) own.1 left in
+    sym (one_sector log d.part u part unit own.0 ∙ ap (λ n. d.part.sector + n) place)
+
+unit_torn : (ds : List Departure) (row : List LogUnit) → is_torn ds row ≡ true
+    → (u : LogUnit) × (f : Fate) × (showing ds row ≡ Some u) × (fate_at ds u ≡ Some f) × (leaves (Some f) ≡ true)
 unfolding is_torn
 unit_torn ds row torn =
+    let fated : (u : LogUnit) → showing ds row ≡ Some u → is_some (fate_at ds u) ≡ true → (f : Fate) × (fate_at ds u ≡ Some f) × (leaves (Some f) ≡ true) =
+    λ u at h.
+    let of : (o : Option Fate) → fate_at ds u ≡ o → is_some o ≡ true → (f : Fate) × (fate_at ds u ≡ Some f) × (leaves (Some f) ≡ true) =
+    λ o. elim o as (λ p. fate_at ds u ≡ p → is_some p ≡ true → (f : Fate) × (fate_at ds u ≡ Some f) × (leaves (Some f) ≡ true)) [
+      | None ↦ λ e k. absurd (let bad : false ≡ true = k in cc)
+      | Some f ↦ λ e k. (f, e, sym (ap leaves e) ∙ showing_reaches ds row u at)
+    ] in
+    of (fate_at ds u) refl h in
     let of : (o : Option LogUnit) → showing ds row ≡ o → option_map_or (λ (u : LogUnit). is_some (fate_at ds u)) o false ≡ true
-    → (u : LogUnit) × (showing ds row ≡ Some u) × (is_some (fate_at ds u) ≡ true) =
+    → (u : LogUnit) × (f : Fate) × (showing ds row ≡ Some u) × (fate_at ds u ≡ Some f) × (leaves (Some f) ≡ true) =
     λ o. elim o as (λ p. showing ds row ≡ p → option_map_or (λ (u : LogUnit). is_some (fate_at ds u)) p false ≡ true
-    → (u : LogUnit) × (showing ds row ≡ Some u) × (is_some (fate_at ds u) ≡ true)) [
+    → (u : LogUnit) × (f : Fate) × (showing ds row ≡ Some u) × (fate_at ds u ≡ Some f) × (leaves (Some f) ≡ true)) [
       | None ↦ λ e h. absurd (let bad : false ≡ true = h in cc)
-      | Some u ↦ λ e h. (u, e, h)
+      | Some u ↦ λ e h. let it = fated u e h in (u, it.0, e, it.1, it.2)
     ] in
     of (showing ds row) refl torn
 
 pub all_torn : (log : LogValue) (cut : ℕ) (ds : List Departure) (n : ℕ) (torn : List TornSector) → IsLog log → cut ≤ length log.entries
-    → ((i : ℕ) (d : Departure) → slice_get ds i ≡ Some d → IsUnit log d.unit) → length ds ≤ n
+    → ((i : ℕ) (d : Departure) → slice_get ds i ≡ Some d → IsPart log d.part) → length ds ≤ n
     → TornSoFar log cut ds n torn → AreTorn log cut ds torn
-all_torn log cut ds n torn is le units all so = record {
+all_torn log cut ds n torn is le parts all so = record {
   bytes = so.bytes;
   all = λ s lt torn_there.
       let shown = unit_torn ds (versions log.entries cut s) torn_there in
-      let unit = unit_showing log cut s ds shown.0 is le shown.1 in
-      let departs = some_departure ds shown.0 shown.2 in
+      let unit = unit_showing log cut s ds shown.0 is le shown.2 in
+      let departs = some_departure ds shown.0 shown.1 shown.3 in
       let d = departs.1 in
-      let sector : d.unit.sector ≡ s = one_sector log d.unit shown.0 (units departs.0 d departs.2) unit.0 departs.3 ∙ unit.1 in
+      let sector : tear_sector d ≡ s = torn_here log d shown.0 shown.1 (parts departs.0 d departs.2) unit.0 departs.3 shown.4 ∙ unit.1 in
       let within = slice_get_within ds departs.0 d departs.2 in
       let has = so.each departs.0 d (omega (arith, within, all)) departs.2 (ap (λ m. is_torn ds (versions log.entries cut m)) sector ∙ torn_there) in
       (has.0, has.1, has.2, has.3 ∙ sector);

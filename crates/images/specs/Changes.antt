@@ -1,6 +1,6 @@
 -- The sectors in which an image differs from a base, over images as functions from sectors to contents, and what is known
 -- of a cut.
-use Rattle.std.specs.Prelude.{ℕ, zero, suc, ◌+◌, ◌≡◌, ◌≤◌, ◌==◌, nat_eq, if◌then◌else◌, List, [], ◌++◌, length, Option, Some, None}
+use Rattle.std.specs.Prelude.{ℕ, zero, suc, ◌+◌, ◌≡◌, ◌≤◌, ◌==◌, nat_eq, nat_le, nat_lt, ◌&&◌, if◌then◌else◌, List, [], ◌++◌, length, Option, Some, None}
 use Rattle.std.specs.Option.{option_to_list}
 use Rattle.std.specs.Cmp.Lexicographic.{pointwise}
 use Rattle.logfmt.specs.Bounds.{LogValue}
@@ -23,6 +23,10 @@ changes base image a (suc k) = option_to_list (change_at base image a) ++ change
 -- an image with another content of sector s
 abbrev pub with_sector : (ℕ → List ℕ) → ℕ → List ℕ → ℕ → List ℕ
 with_sector image s content n = if n == s then content else image n
+
+-- an image with the content of another in so many sectors from one on
+abbrev pub with_sectors : (ℕ → List ℕ) → ℕ → ℕ → (ℕ → List ℕ) → ℕ → List ℕ
+with_sectors image first count other n = if nat_le first n && nat_lt n (first + count) then other n else image n
 
 -- the image of a cut where nothing departs
 abbrev pub whole_image : LogValue → ℕ → ℕ → List ℕ

@@ -1,32 +1,39 @@
 -- What a crash leaves on the device (docs/CRASH-MODEL.md, Fates and choices, Crash image). Byte i of sector s is byte
 -- i of the last unit of sector s before the cut which reaches the device there.
-use Rattle.std.specs.Prelude.{ℕ, ◌-◌, ◌*◌, ◌==◌, nat_lt, nat_le, Bool, false, not, ◌&&◌, ◌||◌, List, map, filter, slice_index, None}
+use Rattle.std.specs.Prelude.{ℕ, ◌+◌, ◌-◌, ◌*◌, ◌==◌, nat_lt, nat_le, Bool, false, not, ◌&&◌, ◌||◌, List, map, filter, slice_index, None}
 use Rattle.std.specs.List.{list_all, last_or, range_with_len}
 use Rattle.std.specs.Option.{option_map_or}
 use Rattle.logfmt.specs.declared.entry.Entry.{Entry}
+use Rattle.epochs.specs.declared.part.Part.{Part}
 use Rattle.epochs.specs.declared.unit.Unit.{Unit as LogUnit}
 use Rattle.epochs.specs.Units.{units_before, unit_content}
 use Rattle.choices.specs.declared.fate.Fate.{Fate}
 use Rattle.choices.specs.declared.fate.Fate.TheVariants as fate
 use Rattle.choices.specs.declared.choice.Departure.{Departure}
 
--- a unit with that fate: whether its byte i reaches the device
-abbrev pub keeps : Fate → ℕ → Bool
-keeps fate.Drop i = false
-keeps (fate.Head eighths) i = nat_lt i (64 * eighths)
-keeps (fate.Tail eighths) i = nat_le (512 - 64 * eighths) i
+-- a part of that many sectors with that fate: whether its byte i reaches the device. An eighth of the part has 64 bytes for
+-- each of its sectors
+abbrev pub keeps : Fate → ℕ → ℕ → Bool
+keeps fate.Drop count i = false
+keeps (fate.Head eighths) count i = nat_lt i (64 * (eighths * count))
+keeps (fate.Tail eighths) count i = nat_le (512 * count - 64 * (eighths * count)) i
 
--- the same unit of a log
-abbrev pub is_unit : LogUnit → LogUnit → Bool
-is_unit a b = (a.entry == b.entry) && (a.place == b.place)
+-- a unit is one of a part
+abbrev pub is_in : Part → LogUnit → Bool
+is_in p u = (p.entry == u.entry) && (nat_le p.place u.place && nat_lt u.place (p.place + p.count))
 
--- the departures of a unit
+-- the departures of the parts that a unit is in
 unfoldable pub departures_of : List Departure → LogUnit → List Departure
-departures_of ds u = filter (λ (d : Departure). is_unit d.unit u) ds
+departures_of ds u = filter (λ (d : Departure). is_in d.part u) ds
 
--- byte i of a unit reaches the device: each departure of that unit keeps it, and a unit without departure is whole
+-- a unit's byte i among the bytes of a part
+abbrev pub byte_in : Part → LogUnit → ℕ → ℕ
+byte_in p u i = 512 * (u.place - p.place) + i
+
+-- byte i of a unit reaches the device: each departure of a part with that unit keeps it, and a part without departure is
+-- whole
 unfoldable pub survives : List Departure → ℕ → LogUnit → Bool
-survives ds i u = list_all (λ (d : Departure). not (is_unit d.unit u) || keeps d.fate i) ds
+survives ds i u = list_all (λ (d : Departure). not (is_in d.part u) || keeps d.fate d.part.count (byte_in d.part u i)) ds
 
 -- a unit covers sector s, and its byte i reaches the device
 unfoldable pub writes : List Departure → ℕ → ℕ → LogUnit → Bool

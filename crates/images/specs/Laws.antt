@@ -1,6 +1,6 @@
 -- Laws of crash images: what one more unit changes, and what a key tells (docs/CRASH-MODEL.md, Crash image, Keys of
 -- images).
-use Rattle.std.specs.Prelude.{ℕ, ◌-◌, ◌*◌, ◌≡◌, ◌≢◌, ◌<◌, ◌↔◌, true, false, IsTrue, List, [], ◌∷◌, ◌++◌, length, take, drop, replicate, slice_get, slice_index, Some}
+use Rattle.std.specs.Prelude.{ℕ, ◌-◌, ◌*◌, ◌≡◌, ◌≢◌, ◌≤◌, ◌↔◌, true, false, IsTrue, List, [], ◌∷◌, ◌++◌, length, take, drop, replicate, slice_get, slice_index, Some}
 use Rattle.logfmt.specs.declared.entry.Entry.{Entry}
 use Rattle.logfmt.specs.Bounds.{LogValue, IsLog, AreBytes}
 use Rattle.epochs.specs.declared.unit.Unit.{Unit as LogUnit}
@@ -21,22 +21,21 @@ pub record LastWriterShows : Type 0 where
   pub lost : (es : List Entry) (us : List LogUnit) (u : LogUnit) (ds : List Departure) (s i : ℕ) → writes ds s i u ≡ false
       → byte_after es (us ++ u ∷ []) ds s i ≡ byte_after es us ds s i
 
--- a unit behind others, by its fate: whole it is its sector, dropped it changes nothing, and torn its head
--- stands before the rest of what the others leave, or its tail behind the beginning of that; other sectors
--- stay
+-- a unit behind others, by the fate of its part: whole it is its sector, dropped it changes nothing, and torn what it has of
+-- the part's head stands before the rest of what the others leave, or what it has of the tail behind the beginning of that;
+-- other sectors stay
 pub record FatesShow : Type 0 where
   pub whole : (log : LogValue) (us : List LogUnit) (u : LogUnit) (ds : List Departure) → IsLog log → IsUnit log u → departures_of ds u ≡ []
       → sector_after log.entries (us ++ u ∷ []) ds u.sector ≡ unit_content log.entries u
   pub dropped : (es : List Entry) (us : List LogUnit) (u : LogUnit) (ds : List Departure) (s : ℕ) (d : Departure)
       → departures_of ds u ≡ d ∷ [] → d.fate ≡ fate.Drop
       → sector_after es (us ++ u ∷ []) ds s ≡ sector_after es us ds s
-  pub head : (log : LogValue) (us : List LogUnit) (u : LogUnit) (ds : List Departure) (d : Departure) (t : ℕ) → IsLog log → IsUnit log u
-      → departures_of ds u ≡ d ∷ [] → d.fate ≡ fate.Head t → t < 8
-      → sector_after log.entries (us ++ u ∷ []) ds u.sector ≡ take (64 * t) (unit_content log.entries u) ++ drop (64 * t) (sector_after log.entries us ds u.sector)
-  pub tail : (log : LogValue) (us : List LogUnit) (u : LogUnit) (ds : List Departure) (d : Departure) (t : ℕ) → IsLog log → IsUnit log u
-      → departures_of ds u ≡ d ∷ [] → d.fate ≡ fate.Tail t → t < 8
-      → sector_after log.entries (us ++ u ∷ []) ds u.sector
-      ≡ take (64 * (8 - t)) (sector_after log.entries us ds u.sector) ++ drop (64 * (8 - t)) (unit_content log.entries u)
+  pub head : (log : LogValue) (us : List LogUnit) (u : LogUnit) (ds : List Departure) (d : Departure) (t m : ℕ) → IsLog log → IsUnit log u
+      → departures_of ds u ≡ d ∷ [] → d.fate ≡ fate.Head t → m ≡ 64 * (t * d.part.count) - 512 * (u.place - d.part.place) → m ≤ 512
+      → sector_after log.entries (us ++ u ∷ []) ds u.sector ≡ take m (unit_content log.entries u) ++ drop m (sector_after log.entries us ds u.sector)
+  pub tail : (log : LogValue) (us : List LogUnit) (u : LogUnit) (ds : List Departure) (d : Departure) (t m : ℕ) → IsLog log → IsUnit log u
+      → departures_of ds u ≡ d ∷ [] → d.fate ≡ fate.Tail t → m ≡ 512 * d.part.count - 64 * (t * d.part.count) - 512 * (u.place - d.part.place) → m ≤ 512
+      → sector_after log.entries (us ++ u ∷ []) ds u.sector ≡ take m (sector_after log.entries us ds u.sector) ++ drop m (unit_content log.entries u)
   pub elsewhere : (es : List Entry) (us : List LogUnit) (u : LogUnit) (ds : List Departure) (s : ℕ) → s ≢ u.sector
       → sector_after es (us ++ u ∷ []) ds s ≡ sector_after es us ds s
 

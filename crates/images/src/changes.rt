@@ -1,13 +1,14 @@
 //! The sectors of an image that differ from the base of its cut.
 
-ghost use Rattle.std.specs.Prelude.{◌≡◌, ◌+◌, ◌<◌, ◌≤◌, ◌++◌, ◌∷◌, [], ℕ, List, length, IfOk, OnOk, MatchOption};
+ghost use Rattle.std.specs.Prelude.{◌≡◌, ◌+◌, ◌<◌, ◌≤◌, ◌++◌, ◌∷◌, [], ℕ, List, length, slice_get, sum_by, Some, IfOk, OnOk, MatchOption};
+ghost use Rattle.choices.specs.declared.choice.Departure.{Departure as LogDeparture};
 ghost use Rattle.logfmt.specs.Bounds.{LogValue};
 ghost use Rattle.epochs.specs.declared.unit.Unit.{Unit as LogUnit};
 ghost use Rattle.epochs.specs.Laws.{last_flush};
 ghost use Rattle.epochs.specs.Plan.{IsUnit};
 ghost use Rattle.epochs.specs.Units.{epoch_at};
 ghost use Rattle.images.specs.Keys.{changed_of, most_changed};
-ghost use Rattle.images.specs.Changes.{changes_between, changes_by, IsKnown};
+ghost use Rattle.images.specs.Changes.{changes, changes_between, changes_by, whole_image, image_of, with_sectors, IsKnown};
 
 use crate::changed::ChangedSector;
 use crate::history::History;
@@ -16,7 +17,8 @@ use crate::key::Key;
 use crate::listing::{change_of, copied, put};
 use crate::versions::Versions;
 use crate::view::View;
-use epochs::Unit;
+use choices::Departure;
+use epochs::{Part, Unit};
 use logfmt::Entry;
 use std::alloc::{AllocError, Global};
 use std::marker::Model;
@@ -231,6 +233,42 @@ fn put_unit<'a>(
     put(sectors, unit.sector, change)
 }
 
+/// How many sectors the parts of departures have.
+fn sectors_of(departures: &[Departure]) -> usize
+    requires few { length departures.now ≤ 3 }
+    requires device { (i : ℕ) (d : LogDeparture) → slice_get departures.now i ≡ Some d → d.part.count ≤ 16384 }
+    ensures { result ≡ sum_by (λ (d : LogDeparture). d.part.count) departures.now }
+{
+    let mut sum = 0;
+    for departure in departures {
+        sum += departure.part.count as usize;
+    }
+    sum
+}
+
+/// Lists the sectors of a part anew, as an image has them.
+fn put_part<'a>(
+    alloc: Global,
+    sectors: &mut Vec<ChangedSector<'a>>,
+    view: &View<'a>,
+    flush: u32,
+    part: Part,
+) -> Result<(), AllocError>
+    requires flush { flush ≤ length view.now.log.entries }
+    requires device { part.sector + part.count ≤ view.now.log.sectors }
+    requires small { view.now.log.sectors ≤ 16384 }
+    requires known { (image : ℕ → List ℕ) × (sectors.old.items ≡ changes (whole_image view.now.log flush) image 0 view.now.log.sectors) }
+    ensures { (image : ℕ → List ℕ) → sectors.old.items ≡ changes (whole_image view.now.log flush) image 0 view.now.log.sectors
+        → OnOk result (sectors.new.items ≡ changes (whole_image view.now.log flush) (with_sectors image part.sector part.count (image_of view.now)) 0 view.now.log.sectors) }
+{
+    for place in 0..part.count {
+        let number = part.sector + place;
+        let change = view.change(alloc, number, flush)?;
+        put(sectors, number, change)?;
+    }
+    Ok(())
+}
+
 /// The sectors in which an image differs from the base, rising, or `None` where there are more than a
 /// key has: those of the image where nothing departs, but for the sectors of the departures.
 fn departed<'a>(
@@ -245,14 +283,12 @@ fn departed<'a>(
         (λ sectors. (sectors.items ≡ changed_of view.now) × (length sectors.items ≤ most_changed))) }
 {
     let departures = view.departures();
-    if whole.len() > MOST_CHANGED + departures.len() {
+    if whole.len() > MOST_CHANGED + sectors_of(departures) {
         return Ok(None);
     }
     let mut sectors = copied(alloc, whole, departures.len())?;
     for departure in departures {
-        let number = departure.unit.sector;
-        let change = view.change(alloc, number, flush)?;
-        put(&mut sectors, number, change)?;
+        put_part(alloc, &mut sectors, view, flush, departure.part)?;
     }
     if sectors.len() > MOST_CHANGED {
         return Ok(None);

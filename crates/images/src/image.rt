@@ -1,15 +1,15 @@
 //! What units leave on a sector of a crash image.
 
-ghost use Rattle.std.specs.Prelude.{◌≡◌, ◌+◌, ◌*◌, ◌<◌, ◌≤◌, ℕ, if◌then◌else◌, length, slice_get, Some};
+ghost use Rattle.std.specs.Prelude.{◌≡◌, ◌+◌, ◌-◌, ◌*◌, ◌<◌, ◌≤◌, ℕ, if◌then◌else◌, length, slice_get, Some};
 ghost use Rattle.std.specs.List.{slice_index, slice_range};
 ghost use Rattle.epochs.specs.declared.unit.Unit.{Unit as LogUnit};
 ghost use Rattle.epochs.specs.Plan.{IsUnit};
 ghost use Rattle.epochs.specs.Units.{unit_content};
-ghost use Rattle.images.specs.Images.{is_unit, keeps, sector_after};
-ghost use Rattle.images.specs.Table.{DepartOnce, fate_at, reaches, showing};
+ghost use Rattle.images.specs.Images.{is_in, keeps, sector_after};
+ghost use Rattle.images.specs.Table.{DepartOnce, head_of, tail_of, share, fate_at, reaches, showing};
 
-use choices::{Departure, Fate};
-use epochs::Unit;
+use choices::{Departure, Eighths, Fate};
+use epochs::{Part, Unit};
 use logfmt::Log;
 
 /// The bytes of a sector.
@@ -21,26 +21,72 @@ pub(crate) static ZEROS: Sector = [0; 512];
 /// How many eighths a sector has.
 const EIGHTHS: u8 = 8;
 
-/// Whether two units of a log are the same.
-fn is_unit(own: Unit, unit: Unit) -> bool
-    ensures { result ≡ is_unit own unit }
+/// Whether a unit is one of a part.
+fn is_in(part: Part, unit: Unit) -> bool
+    ensures { result ≡ is_in part unit }
 {
-    own.entry == unit.entry && own.place == unit.place
+    part.entry == unit.entry
+        && (part.place <= unit.place
+            && u64::from(unit.place) < u64::from(part.place) + u64::from(part.count))
 }
 
-/// The fate of a unit that departs; `None` where it is whole.
+/// A unit of which the first so many eighths are of what a torn part keeps; `None` where it is whole.
+fn head_of(kept: u64) -> Option<Fate>
+    ensures { result ≡ head_of kept }
+{
+    if kept == 0 {
+        Some(Fate::Drop)
+    } else if kept < 8 {
+        Some(Fate::Head(Eighths::new(kept as u8)))
+    } else {
+        None
+    }
+}
+
+/// A unit of which the last so many eighths are of what a torn part keeps; `None` where it is whole.
+fn tail_of(kept: u64) -> Option<Fate>
+    ensures { result ≡ tail_of kept }
+{
+    if kept == 0 {
+        Some(Fate::Drop)
+    } else if kept < 8 {
+        Some(Fate::Tail(Eighths::new(kept as u8)))
+    } else {
+        None
+    }
+}
+
+/// What a departure makes of a unit; `None` where it takes nothing of it.
+#[tactic(auto, unfolding(crate::specs::Table::share))]
+fn share(departure: Departure, unit: Unit) -> Option<Fate>
+    ensures { result ≡ share departure unit }
+{
+    let part = departure.part;
+    if !is_in(part, unit) {
+        return None;
+    }
+    let count = u64::from(part.count);
+    let before = u64::from(unit.place - part.place);
+    match departure.fate {
+        Fate::Drop => Some(Fate::Drop),
+        Fate::Head(eighths) => head_of((u64::from(eighths.count()) * count).saturating_sub(8 * before)),
+        Fate::Tail(eighths) => {
+            let behind = count - 1 - before;
+            tail_of((u64::from(eighths.count()) * count).saturating_sub(8 * behind))
+        }
+    }
+}
+
+/// The fate of a unit of which something departs; `None` where it is whole.
 pub(crate) fn fate_at(departures: &[Departure], unit: Unit) -> Option<Fate>
     ensures { result ≡ fate_at departures.now unit }
 {
     match departures {
         [] => None,
-        [first, rest @ ..] => {
-            if is_unit(first.unit, unit) {
-                Some(first.fate)
-            } else {
-                fate_at(rest, unit)
-            }
-        }
+        [first, rest @ ..] => match share(*first, unit) {
+            Some(fate) => Some(fate),
+            None => fate_at(rest, unit),
+        },
     }
 }
 
@@ -101,7 +147,7 @@ pub(crate) fn showing(row: &[Unit], departures: &[Departure]) -> Option<Unit>
 /// fate keeps it.
 fn laid(content: &Sector, earlier: &Sector, fate: Fate) -> Sector
     ensures size { length result ≡ 512 }
-    ensures bytes { (i : ℕ) → i < 512 → slice_index result i ≡ (if keeps fate i then slice_index content.now i else slice_index earlier.now i) }
+    ensures bytes { (i : ℕ) → i < 512 → slice_index result i ≡ (if keeps fate 1 i then slice_index content.now i else slice_index earlier.now i) }
 {
     match fate {
         Fate::Drop => *earlier,

@@ -1,16 +1,16 @@
 //! The sectors of a crash image in which a torn unit shows.
 
-ghost use Rattle.std.specs.Prelude.{◌≡◌, ◌<◌, ◌≤◌, ℕ, length, slice_get, Some};
+ghost use Rattle.std.specs.Prelude.{◌≡◌, ◌+◌, ◌<◌, ◌≤◌, ℕ, length, slice_get, Some};
 ghost use Rattle.choices.specs.declared.choice.Departure.{Departure as LogDeparture};
-ghost use Rattle.epochs.specs.Plan.{IsUnit};
+ghost use Rattle.epochs.specs.Plan.{IsPart};
 ghost use Rattle.logfmt.specs.Bounds.{IsLog};
 ghost use Rattle.images.specs.declared.torn.TornSector.{TornSector as Torn};
-ghost use Rattle.images.specs.Table.{HasSector, AreTorn, DepartOnce};
+ghost use Rattle.images.specs.Table.{HasSector, AreTorn, DepartOnce, tear_of};
 
 use crate::image::Sector;
 use crate::versions::Versions;
 use arrayvec::ArrayVec;
-use choices::Departure;
+use choices::{Departure, Fate};
 
 /// A sector in which a torn unit shows, with its bytes in the image.
 #[derive(Clone, Copy)]
@@ -28,7 +28,23 @@ impl Default for TornSector {
     }
 }
 
-/// The sectors in which a torn unit shows, each by the departure of that unit.
+/// The sector in which a departure tears its part; the part's first where it is dropped.
+fn tear(departure: Departure) -> u32
+    requires some { 1 ≤ departure.part.count }
+    requires device { departure.part.sector + departure.part.count ≤ 16384 }
+    ensures value { result ≡ departure.part.sector + tear_of departure.fate departure.part.count }
+    ensures inside { result < departure.part.sector + departure.part.count }
+{
+    let part = departure.part;
+    let before = match departure.fate {
+        Fate::Drop => 0,
+        Fate::Head(eighths) => u32::from(eighths.count()) * part.count,
+        Fate::Tail(eighths) => 8 * part.count - u32::from(eighths.count()) * part.count,
+    };
+    part.sector + before / 8
+}
+
+/// The sectors in which a torn unit shows, each by the departure that tears it.
 pub(crate) fn torn_sectors(
     versions: &Versions<'_>,
     cut: u32,
@@ -37,13 +53,13 @@ pub(crate) fn torn_sectors(
     requires bounds { IsLog versions.now }
     requires cut { cut ≤ length versions.now.entries }
     requires few { length departures.now ≤ 3 }
-    requires units { (i : ℕ) (d : LogDeparture) → slice_get departures.now i ≡ Some d → IsUnit versions.now d.unit }
+    requires parts { (i : ℕ) (d : LogDeparture) → slice_get departures.now i ≡ Some d → IsPart versions.now d.part }
     requires once { DepartOnce departures.now }
     ensures { AreTorn versions.now cut departures.now result.items }
 {
     let mut torn = ArrayVec::new();
     for departure in departures {
-        let number = departure.unit.sector;
+        let number = tear(*departure);
         if versions.lent(number, cut, departures).is_none() {
             torn.push(TornSector {
                 number,

@@ -44,7 +44,7 @@ impl<'a> View<'a> {
     ghost use Rattle.logfmt.specs.Bounds.{IsLog};
     ghost use Rattle.images.specs.Views.{context_at, sectors_of};
     ghost use Rattle.images.specs.Keys.{key_of};
-    ghost use Rattle.images.specs.Table.{AreVolatile};
+    ghost use Rattle.images.specs.Table.{AreParts};
     ghost use Rattle.images.specs.Changes.{change_at, whole_image, image_of};
 
     /// The context of the image: how many sectors the device has, the epoch of the cut, and how many
@@ -88,11 +88,11 @@ impl<'a> View<'a> {
         }
     }
 
-    /// The departures, rising by unit.
+    /// The departures, rising by part.
     pub(crate) fn departures(&self) -> &[Departure]
         ensures value { result.now ≡ self.now.departures }
         ensures few { length result.now ≤ 3 }
-        ensures units { AreVolatile self.now.log self.now.cut self.now.departures }
+        ensures parts { AreParts self.now.log self.now.departures }
         ensures bounds { IsLog self.now.log }
         ensures within { self.now.cut ≤ length self.now.log.entries }
     {

@@ -40,7 +40,7 @@ returns-then-step-clause-moved c = λ _ n h.
     let step = same_step _ _ _ _ _ _ _ c.fates_of.ensures.value c.volatile.ensures.value (c.if-step.ensures.moved refl) in
     let departures = c.departures_of-choice-inside.ensures ∙ ap (map (departure_of (volatile_parts c.args.plan.now.by c.args.plan.now.log.entries c.choice.inside.cut))) c.as_slice.ensures.value in
     stepped_on _ _ _ _ _ _ so step
-    ∙ sym (ap (λ (v : ChoiceValue). Some v) (choice_is _ _ _ _ _ refl refl refl departures))
+    ∙ sym (ap (λ (v : ChoiceValue). Some v) (choice_is _ _ _ _ _ _ refl refl refl departures))
 
 pub overflow_add-choice-inside : goal.overflow_add-choice-inside
 overflow_add-choice-inside c =

@@ -5,9 +5,9 @@ use Rattle.images.proofs.image.+fate_at.Goals as goal
 pub returns-in-empty : goal.returns-in-empty
 returns-in-empty t c = no_fate _ _ c.in-empty.len_below
 
-pub returns-then-is_unit : goal.returns-then-is_unit
-returns-then-is_unit t c = own_fate _ _ _ c.in-len1-up.len_at_least c.first-item.is (sym c.is_unit.ensures ∙ c.if-is_unit.true)
+pub returns-in-Some : goal.returns-in-Some
+returns-in-Some t c = own_fate _ _ _ _ c.in-len1-up.len_at_least c.first-item.is (sym c.share.ensures ∙ c.in-Some.is)
 
-pub returns-else-is_unit : goal.returns-else-is_unit
-returns-else-is_unit t c =
-    c.fate_at.ensures ∙ other_fate _ _ _ c.in-len1-up.len_at_least c.first-item.is (sym c.is_unit.ensures ∙ c.if-is_unit.false)
+pub returns-in-None : goal.returns-in-None
+returns-in-None t c =
+    c.fate_at.ensures ∙ other_fate _ _ _ c.in-len1-up.len_at_least c.first-item.is (sym c.share.ensures ∙ c.in-None.is)

@@ -4,15 +4,31 @@ use Rattle.images.proofs.Tears.{not_torn, one_torn, all_torn, torn_if}
 use Rattle.images.proofs.torn.torn_sectors.Goals as goal
 use Rattle.images.proofs.torn.torn_sectors.Goals.{then-is_none, else-is_none}
 
+pub tear-number-requires-clause-some : goal.tear-number-requires-clause-some
+tear-number-requires-clause-some c =
+    let there = slice_get_read c.args.departures.now _ c.loop-departure.departure-index _ refl c.loop-departure-test.true c.departure-item.is in
+    (c.requires.parts c.loop-departure.departure-index _ there).some
+
+pub tear-number-requires-clause-device : goal.tear-number-requires-clause-device
+tear-number-requires-clause-device c =
+    let there = slice_get_read c.args.departures.now _ c.loop-departure.departure-index _ refl c.loop-departure-test.true c.departure-item.is in
+    let on = (c.requires.parts c.loop-departure.departure-index _ there).device in
+    let small = c.requires.bounds.device in
+    omega (arith, on, small)
+
 pub lent-requires-clause-number : goal.lent-requires-clause-number
 lent-requires-clause-number c =
     let there = slice_get_read c.args.departures.now _ c.loop-departure.departure-index _ refl c.loop-departure-test.true c.departure-item.is in
-    (c.requires.units c.loop-departure.departure-index _ there).device
+    let on = (c.requires.parts c.loop-departure.departure-index _ there).device in
+    let inside = c.tear-number.ensures.inside in
+    omega (arith, on, inside)
 
 pub formed-requires-clause-number : goal.formed-requires-clause-number
 formed-requires-clause-number c =
     let there = slice_get_read c.args.departures.now _ c.loop-departure.departure-index _ refl c.loop-departure-test.true c.departure-item.is in
-    (c.requires.units c.loop-departure.departure-index _ there).device
+    let on = (c.requires.parts c.loop-departure.departure-index _ there).device in
+    let inside = c.tear-number.ensures.inside in
+    omega (arith, on, inside)
 
 pub loop-departure-preserved : goal.loop-departure-preserved
 loop-departure-preserved c =
@@ -30,4 +46,4 @@ loop-departure-preserved c =
 pub returns : goal.returns
 returns c =
     all_torn c.args.versions.now c.args.cut c.args.departures.now c.loop-departure.departure-index c.loop-departure.torn.items
-    c.requires.bounds c.requires.cut c.requires.units c.loop-departure-test.false c.loop-departure.invariant
+    c.requires.bounds c.requires.cut c.requires.parts c.loop-departure-test.false c.loop-departure.invariant

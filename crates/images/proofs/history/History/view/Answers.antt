@@ -1,9 +1,9 @@
 use Rattle.std.proofs.Common.{ℕ, ◌≡◌, List, length, slice_get, ◌∙◌, ap, sym, subst, arith}
 use Rattle.logfmt.specs.Bounds.{LogValue, IsLog}
-use Rattle.epochs.specs.Plan.{PlanValue, IsUnit}
+use Rattle.epochs.specs.Plan.{PlanValue, IsPart}
 use Rattle.choices.specs.declared.choice.Departure.{Departure}
-use Rattle.images.specs.Table.{AreVolatile, DepartOnce}
-use Rattle.images.proofs.Members.{member_cut, member_departs, member_once, volatile_unit, shows_view}
+use Rattle.images.specs.Table.{AreParts, DepartOnce}
+use Rattle.images.proofs.Members.{member_cut, member_parts, member_once, shows_view}
 use Rattle.images.proofs.history.History.view.Goals as goal
 
 pub torn_sectors-torn-requires-clause-bounds : goal.torn_sectors-torn-requires-clause-bounds
@@ -19,14 +19,14 @@ torn_sectors-torn-requires-clause-cut c =
     let three = ap (λ (l : LogValue). length l.entries) c.of-versions.ensures in
     omega (arith, cut, c.cut-cut.ensures, one, two, three)
 
-pub torn_sectors-torn-requires-clause-units : goal.torn_sectors-torn-requires-clause-units
-torn_sectors-torn-requires-clause-units c = λ i d there.
+pub torn_sectors-torn-requires-clause-parts : goal.torn_sectors-torn-requires-clause-parts
+torn_sectors-torn-requires-clause-parts c = λ i d there.
     let same : c.args.self.now.log ≡ c.of-versions.result = ap (λ (p : PlanValue). p.log) (sym c.self.view_is) ∙ c.self.invariant.0 ∙ sym c.of-versions.ensures in
     let P : LogValue → Type 0 = λ l. IsLog l in
-    let Q : LogValue → Type 0 = λ l. IsUnit l d.unit in
+    let Q : LogValue → Type 0 = λ l. IsPart l d.part in
     let bounds = subst P (sym (ap (λ (p : PlanValue). p.log) (sym c.self.view_is) ∙ c.self.invariant.0)) c.self.invariant.1.bounds in
     let own = ap (λ ds. slice_get ds i) (sym c.departures.ensures.value) ∙ there in
-    subst Q same (volatile_unit c.args.self.now.log c.args.choice.now.cut d.unit bounds (member_departs c.args.self.now c.args.choice.now c.requires i d own))
+    subst Q same (member_parts c.args.self.now c.args.choice.now bounds c.requires i d own)
 
 pub torn_sectors-torn-requires-clause-once : goal.torn_sectors-torn-requires-clause-once
 torn_sectors-torn-requires-clause-once c =
@@ -49,16 +49,16 @@ invariant_of-result c =
     let log = c.of-versions.result in
     let planned : c.self.inside.plan.now.log ≡ log = c.self.invariant.0 ∙ sym c.of-versions.ensures in
     let same : c.args.self.now.log ≡ log = ap (λ (p : PlanValue). p.log) (sym c.self.view_is) ∙ planned in
-    let P : LogValue → Type 0 = λ l. AreVolatile l choice.cut choice.departures in
-    let Q : ℕ → Type 0 = λ k. AreVolatile log k choice.departures in
-    let R : List Departure → Type 0 = λ ds. AreVolatile log c.cut-cut.result ds in
+    let P : LogValue → Type 0 = λ l. AreParts l choice.departures in
+    let R : List Departure → Type 0 = λ ds. AreParts log ds in
     let S : LogValue → Type 0 = λ l. IsLog l in
-    let volatile = subst R (sym c.departures.ensures.value) (subst Q (sym c.cut-cut.ensures) (subst P same (member_departs c.args.self.now choice c.requires))) in
+    let bounds = subst S (sym (ap (λ (p : PlanValue). p.log) (sym c.self.view_is) ∙ c.self.invariant.0)) c.self.invariant.1.bounds in
+    let parts = subst R (sym c.departures.ensures.value) (subst P same (member_parts c.args.self.now choice bounds c.requires)) in
     let cut = member_cut _ _ c.requires in
     let long = ap (λ (l : LogValue). length l.entries) same in
     shows_view log c.self.inside.plan.now.log c.cut-cut.result c.departures_owned-departures.result.items c.departures.result.now c.torn_sectors-torn.result.items
     c.sectors.result c.epoch.result c.marks.result
-    (subst S (sym c.of-versions.ensures) c.self.invariant.1.bounds) planned (omega (arith, cut, c.cut-cut.ensures, long)) volatile c.torn_sectors-torn.ensures
+    (subst S (sym c.of-versions.ensures) c.self.invariant.1.bounds) planned (omega (arith, cut, c.cut-cut.ensures, long)) parts c.torn_sectors-torn.ensures
     (c.departures_owned-departures.ensures ∙ sym c.departures.ensures.value)
     (c.sectors.ensures.value ∙ ap (λ (l : LogValue). l.sectors) (sym c.of-versions.ensures))
     c.epoch.ensures.value c.marks.ensures.value c.epoch.ensures.bound c.marks.ensures.bound
