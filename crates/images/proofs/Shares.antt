@@ -2,7 +2,7 @@
 use Rattle.std.proofs.Common.{ℕ, zero, suc, ◌≡◌, ◌+◌, ◌-◌, ◌*◌, ◌/◌, ◌<◌, ◌≤◌, ◌==◌, Bool, true, false, if◌then◌else◌, not, ◌&&◌, ◌||◌, nat_lt, nat_le, Option, Some, None, refl, sym, subst, ◌∙◌, ap, arith, inl, inr}
 use Rattle.std.specs.Cmp.{first_so, second_so}
 use Rattle.std.specs.Option.{option_map_or}
-use Rattle.std.proofs.lemmas.Bool.{cases_lt, lt-ltb, le-ltb, lt-leb, le-leb, eqb-true, leb-true, ltb-true}
+use Rattle.std.proofs.lemmas.Bool.{cases_lt, lt-ltb, le-ltb, lt-leb, le-leb, ne_eqb, eqb-true, leb-true, ltb-true}
 use Rattle.std.proofs.lemmas.Bool.Decides.{eqb_tells}
 use Rattle.std.proofs.lemmas.Option.{same_Some}
 use Rattle.epochs.specs.declared.part.Part.{Part}
@@ -46,23 +46,27 @@ head_none : (kept : ℕ) → kept ≡ 0 → head_of kept ≡ Some fate.Drop
 head_none kept is = ap head_of is
 
 head_some : (kept : ℕ) → 1 ≤ kept → kept < 8 → head_of kept ≡ Some (fate.Head kept)
-head_some zero low lt = absurd (omega (arith, low))
-head_some (suc k) low lt = ap (λ b. if b then Some (fate.Head (suc k)) else None) (lt-ltb (suc k) 8 lt)
+head_some kept low lt =
+    ap (λ b. if b then Some fate.Drop else if nat_lt kept 8 then Some (fate.Head kept) else None) (ne_eqb kept 0 (λ e. omega (arith, low, e)))
+    ∙ ap (λ b. if b then Some (fate.Head kept) else None) (lt-ltb kept 8 lt)
 
 head_all : (kept : ℕ) → 8 ≤ kept → head_of kept ≡ None
-head_all zero le = absurd (omega (arith, le))
-head_all (suc k) le = ap (λ b. if b then Some (fate.Head (suc k)) else None) (le-ltb (suc k) 8 le)
+head_all kept le =
+    ap (λ b. if b then Some fate.Drop else if nat_lt kept 8 then Some (fate.Head kept) else None) (ne_eqb kept 0 (λ e. omega (arith, le, e)))
+    ∙ ap (λ b. if b then Some (fate.Head kept) else None) (le-ltb kept 8 le)
 
 tail_none : (kept : ℕ) → kept ≡ 0 → tail_of kept ≡ Some fate.Drop
 tail_none kept is = ap tail_of is
 
 tail_some : (kept : ℕ) → 1 ≤ kept → kept < 8 → tail_of kept ≡ Some (fate.Tail kept)
-tail_some zero low lt = absurd (omega (arith, low))
-tail_some (suc k) low lt = ap (λ b. if b then Some (fate.Tail (suc k)) else None) (lt-ltb (suc k) 8 lt)
+tail_some kept low lt =
+    ap (λ b. if b then Some fate.Drop else if nat_lt kept 8 then Some (fate.Tail kept) else None) (ne_eqb kept 0 (λ e. omega (arith, low, e)))
+    ∙ ap (λ b. if b then Some (fate.Tail kept) else None) (lt-ltb kept 8 lt)
 
 tail_all : (kept : ℕ) → 8 ≤ kept → tail_of kept ≡ None
-tail_all zero le = absurd (omega (arith, le))
-tail_all (suc k) le = ap (λ b. if b then Some (fate.Tail (suc k)) else None) (le-ltb (suc k) 8 le)
+tail_all kept le =
+    ap (λ b. if b then Some fate.Drop else if nat_lt kept 8 then Some (fate.Tail kept) else None) (ne_eqb kept 0 (λ e. omega (arith, le, e)))
+    ∙ ap (λ b. if b then Some (fate.Tail kept) else None) (le-ltb kept 8 le)
 
 -- the same test of two pairs of numbers
 pub lt_alike : (a b c d : ℕ) → (a < b → c < d) → (c < d → a < b) → nat_lt a b ≡ nat_lt c d
@@ -168,3 +172,15 @@ torn_there fate.Drop n j g within h left =
     absurd (let bad : true ≡ false = sym left ∙ ap (λ f. leaves (Some f)) drop in cc)
 torn_there (fate.Head t) n j g within h left = head_tear (t * n) j g h left
 torn_there (fate.Tail t) n j g within h left = tail_tear n (t * n) j g within h left
+
+-- the eighths of a part: at least one for each of its sectors, and fewer than all
+pub mul_bounds : (t n : ℕ) → 1 ≤ t → t < 8 → (n ≤ t * n) × (t * n ≤ 7 * n)
+mul_bounds zero n low high = absurd (omega (arith, low))
+mul_bounds (suc zero) n low high = (omega arith, omega arith)
+mul_bounds (suc (suc zero)) n low high = (omega arith, omega arith)
+mul_bounds (suc (suc (suc zero))) n low high = (omega arith, omega arith)
+mul_bounds (suc (suc (suc (suc zero)))) n low high = (omega arith, omega arith)
+mul_bounds (suc (suc (suc (suc (suc zero))))) n low high = (omega arith, omega arith)
+mul_bounds (suc (suc (suc (suc (suc (suc zero)))))) n low high = (omega arith, omega arith)
+mul_bounds (suc (suc (suc (suc (suc (suc (suc zero))))))) n low high = (omega arith, omega arith)
+mul_bounds (suc (suc (suc (suc (suc (suc (suc (suc t)))))))) n low high = absurd (omega (arith, high))

@@ -1,12 +1,12 @@
 //! What units leave on a sector of a crash image.
 
-ghost use Rattle.std.specs.Prelude.{◌≡◌, ◌+◌, ◌-◌, ◌*◌, ◌<◌, ◌≤◌, ℕ, if◌then◌else◌, length, slice_get, Some};
+ghost use Rattle.std.specs.Prelude.{◌≡◌, ◌+◌, ◌-◌, ◌*◌, ◌<◌, ◌≤◌, ◌^◌, ℕ, if◌then◌else◌, length, slice_get, Some};
 ghost use Rattle.std.specs.List.{slice_index, slice_range};
 ghost use Rattle.epochs.specs.declared.unit.Unit.{Unit as LogUnit};
 ghost use Rattle.epochs.specs.Plan.{IsUnit};
 ghost use Rattle.epochs.specs.Units.{unit_content};
 ghost use Rattle.images.specs.Images.{is_in, keeps, sector_after};
-ghost use Rattle.images.specs.Table.{DepartOnce, head_of, tail_of, share, fate_at, reaches, showing};
+ghost use Rattle.images.specs.Table.{DepartOnce, head_of, tail_of, share_of, share, fate_at, reaches, showing};
 
 use choices::{Departure, Eighths, Fate};
 use epochs::{Part, Unit};
@@ -56,8 +56,26 @@ fn tail_of(kept: u64) -> Option<Fate>
     }
 }
 
+/// What becomes of a sector of a part of so many sectors, before which so many others stand, by the fate of the part.
+fn share_of(fate: Fate, count: u64, before: u64) -> Option<Fate>
+    requires count { count < 2 ^ 32 }
+    requires before { before < count }
+    ensures { result ≡ share_of fate count before }
+{
+    match fate {
+        Fate::Drop => Some(Fate::Drop),
+        Fate::Head(eighths) => {
+            head_of((u64::from(eighths.count()) * count).saturating_sub(8 * before))
+        }
+        Fate::Tail(eighths) => {
+            let behind = count - 1 - before;
+            tail_of((u64::from(eighths.count()) * count).saturating_sub(8 * behind))
+        }
+    }
+}
+
 /// What a departure makes of a unit; `None` where it takes nothing of it.
-#[tactic(auto, unfolding(crate::specs::Table::share))]
+#[tactic(auto, unfolding(crate::specs::Table::share), using(crate::proofs::Shares::lies_in))]
 fn share(departure: Departure, unit: Unit) -> Option<Fate>
     ensures { result ≡ share departure unit }
 {
@@ -65,16 +83,8 @@ fn share(departure: Departure, unit: Unit) -> Option<Fate>
     if !is_in(part, unit) {
         return None;
     }
-    let count = u64::from(part.count);
     let before = u64::from(unit.place - part.place);
-    match departure.fate {
-        Fate::Drop => Some(Fate::Drop),
-        Fate::Head(eighths) => head_of((u64::from(eighths.count()) * count).saturating_sub(8 * before)),
-        Fate::Tail(eighths) => {
-            let behind = count - 1 - before;
-            tail_of((u64::from(eighths.count()) * count).saturating_sub(8 * behind))
-        }
-    }
+    share_of(departure.fate, u64::from(part.count), before)
 }
 
 /// The fate of a unit of which something departs; `None` where it is whole.

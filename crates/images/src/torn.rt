@@ -28,6 +28,20 @@ impl Default for TornSector {
     }
 }
 
+/// In which of its sectors a part of so many is torn; the first where it is dropped.
+fn tear_of(fate: Fate, count: u32) -> u32
+    requires some { 1 ≤ count }
+    requires few { count ≤ 16384 }
+    ensures value { result ≡ tear_of fate count }
+    ensures inside { result < count }
+{
+    match fate {
+        Fate::Drop => 0,
+        Fate::Head(eighths) => u32::from(eighths.count()) * count / 8,
+        Fate::Tail(eighths) => (8 * count - u32::from(eighths.count()) * count) / 8,
+    }
+}
+
 /// The sector in which a departure tears its part; the part's first where it is dropped.
 fn tear(departure: Departure) -> u32
     requires some { 1 ≤ departure.part.count }
@@ -36,12 +50,7 @@ fn tear(departure: Departure) -> u32
     ensures inside { result < departure.part.sector + departure.part.count }
 {
     let part = departure.part;
-    let before = match departure.fate {
-        Fate::Drop => 0,
-        Fate::Head(eighths) => u32::from(eighths.count()) * part.count,
-        Fate::Tail(eighths) => 8 * part.count - u32::from(eighths.count()) * part.count,
-    };
-    part.sector + before / 8
+    part.sector + tear_of(departure.fate, part.count)
 }
 
 /// The sectors in which a torn unit shows, each by the departure that tears it.
