@@ -13,7 +13,7 @@ use crate::running::program;
 use crate::texts::{put_header, put_write, start};
 use crate::timing::{Best, ROUNDS};
 use choices::{Choice, count, next, nth};
-use epochs::{Cuts, Plan};
+use epochs::{By, Cuts, Plan};
 use images::{Changes, History, Key, View};
 use interp::{Checker, Outcome};
 use std::alloc::{AllocError, Global};
@@ -143,7 +143,7 @@ fn time_keys<R: Clock + Print + AllocGlobal>(rt: &R) -> io::Result<()> {
     let Ok(log) = logfmt::read(rt.alloc(), text.as_slice(), SECTORS) else {
         return println!(rt; "this is no log");
     };
-    let plan = Plan::new(rt.alloc(), &log, Cuts::All)?;
+    let plan = Plan::new(rt.alloc(), &log, Cuts::All, By::Sector)?;
     let history = History::new(rt.alloc(), &plan, &log)?;
     let Ok(total) = count(&plan, 2, true) else {
         return println!(rt; "too many images");
@@ -297,7 +297,7 @@ fn compare<R: Clock + Print + AllocGlobal>(
     let Ok(log) = logfmt::read(rt.alloc(), text, SECTORS) else {
         return println!(rt; "{name} is no log");
     };
-    let plan = Plan::new(rt.alloc(), &log, Cuts::All)?;
+    let plan = Plan::new(rt.alloc(), &log, Cuts::All, By::Sector)?;
     let history = History::new(rt.alloc(), &plan, &log)?;
     let Ok(total) = count(&plan, bound, true) else {
         return println!(rt; "{name} has too many images");

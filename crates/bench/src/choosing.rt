@@ -7,7 +7,7 @@ ghost use Rattle.choices.specs.Choices.{ranked, limit};
 use crate::texts::{DISCARD, FLUSH, put_header, start};
 use crate::timing::{Best, ROUNDS};
 use choices::{Choice, Starts, count, next, nth};
-use epochs::{Cuts, Plan};
+use epochs::{By, Cuts, Plan};
 use helpers::Device;
 use images::{History, View};
 use std::alloc::{AllocError, Global};
@@ -144,7 +144,7 @@ fn compare<R: Clock + Print + AllocGlobal>(
     let Ok(log) = logfmt::read(rt.alloc(), text, SECTORS) else {
         return println!(rt; "{name} is no log");
     };
-    let plan = Plan::new(rt.alloc(), &log, cuts)?;
+    let plan = Plan::new(rt.alloc(), &log, cuts, By::Sector)?;
     let history = History::new(rt.alloc(), &plan, &log)?;
     let Ok(total) = count(&plan, bound, false) else {
         return println!(rt; "{name} has too many images");

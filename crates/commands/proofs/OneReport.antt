@@ -9,6 +9,8 @@ use Rattle.logfmt.specs.Faults as log_fault
 use Rattle.logfmt.specs.Laws.{TextOfOneLog, TextHasNoFault}
 use Rattle.epochs.specs.Cuts.{cuts_of}
 use Rattle.choices.specs.Picks.{fates_of}
+use Rattle.epochs.specs.declared.part.By.{By}
+use Rattle.epochs.specs.declared.part.By.TheVariants as by
 use Rattle.choices.specs.Choices.{choices_at, choices_over, ranked, ranked_before, limit, IsFirstPast}
 use Rattle.bpf_isa.specs.declared.instr.Instr.{Instr}
 use Rattle.bpf_isa.specs.Program.{IsSpelledBy}
@@ -67,22 +69,22 @@ one_report texts programs verdicts text files s bytes others failing fails h k =
     (h.report ∙ same ∙ sym k.report, same_test failing fails _ _ h.fails k.fails lines)
 
 -- the first cuts have no more choices than all
-few_over : (es : List Entry) (m bound place : ℕ) (n : ℕ) (cuts : List ℕ) → length (choices_over es m bound place (take n cuts)) ≤ length (choices_over es m bound place cuts)
+few_over : (way : By) (es : List Entry) (m bound place : ℕ) (n : ℕ) (cuts : List ℕ) → length (choices_over way es m bound place (take n cuts)) ≤ length (choices_over way es m bound place cuts)
 unfolding choices_over
-few_over es m bound place zero cuts = omega arith
-few_over es m bound place (suc n) [] = omega arith
-few_over es m bound place (suc n) (cut ∷ cuts) =
+few_over way es m bound place zero cuts = omega arith
+few_over way es m bound place (suc n) [] = omega arith
+few_over way es m bound place (suc n) (cut ∷ cuts) =
     omega (
       arith,
-      few_over es m bound (place + 1) n cuts,
-      length-append (choices_at es m bound place cut) (choices_over es m bound (place + 1) (take n cuts)),
-      length-append (choices_at es m bound place cut) (choices_over es m bound (place + 1) cuts),
+      few_over way es m bound (place + 1) n cuts,
+      length-append (choices_at way es m bound place cut) (choices_over way es m bound (place + 1) (take n cuts)),
+      length-append (choices_at way es m bound place cut) (choices_over way es m bound (place + 1) cuts),
     )
 
 not_past : (s : Settings) (value : LogValue) (cut : ℕ) → length (images_of s value) ≤ limit → IsFirstPast (plan_of s value) s.bound s.tears cut → ⊥
 unfolding ranked ranked_before
 not_past s value cut few past =
-    omega (arith, few, past.past, few_over value.entries (fates_of s.tears) s.bound 0 (past.place + 1) (cuts_of s.cuts value.entries))
+    omega (arith, few, past.past, few_over by.Sector value.entries (fates_of s.tears) s.bound 0 (past.place + 1) (cuts_of s.cuts value.entries))
 
 -- the checker of a file
 checker_there : (s : Settings) (files : List (List ℕ)) (checkers : List CheckerValue) (n : ℕ) (bytes : List ℕ) → AreCheckersOf s files checkers → slice_get files n ≡ Some bytes

@@ -5,7 +5,8 @@ use Rattle.std.specs.List.{flat_map}
 use Rattle.base.specs.declared.refusal.Refusal.{Refusal}
 use Rattle.base.specs.Refusals.{memory_refusal}
 use Rattle.logfmt.specs.Bounds.{LogValue}
-use Rattle.epochs.specs.Units.{volatile_units, epoch_at, marks_at}
+use Rattle.epochs.specs.Units.{epoch_at, marks_at}
+use Rattle.epochs.specs.Parts.{volatile_parts}
 use Rattle.epochs.specs.Cuts.{cuts_of}
 use Rattle.epochs.specs.Plan.{PlanValue}
 use Rattle.choices.specs.Choices.{ranked, ranked_at}
@@ -19,7 +20,7 @@ cut_text plan cut =
 
 unfoldable pub open_text : PlanValue → ℕ → Bool → ℕ → List ℕ
 open_text plan bound tears cut =
-    codes " volatile " ++ decimal (length (volatile_units plan.log.entries cut)) ++ codes " images " ++ decimal (length (ranked_at plan bound tears cut)) ++ codes "\n"
+    codes " volatile " ++ decimal (length (volatile_parts plan.by plan.log.entries cut)) ++ codes " images " ++ decimal (length (ranked_at plan bound tears cut)) ++ codes "\n"
 
 abbrev pub cut_line : PlanValue → ℕ → Bool → ℕ → List ℕ
 cut_line plan bound tears cut = cut_text plan cut ++ open_text plan bound tears cut

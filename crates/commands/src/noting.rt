@@ -13,7 +13,7 @@ use base::refusal::{Cause, Refusal};
 use bpf_isa::codec::decode;
 use bpf_isa::program::Program;
 use choices::count;
-use epochs::{Cuts, Plan};
+use epochs::{By, Cuts, Plan};
 use logfmt::{Log, read};
 use notes::{
     asm_cure, asm_rule, code_cure, code_rule, log_cure, log_rule, put_entry, put_escaped,
@@ -256,7 +256,7 @@ fn put_cuts(
     cuts: Cuts,
     name: &str,
 ) -> Result<(), AllocError> {
-    let plan = Plan::new(alloc, log, cuts)?;
+    let plan = Plan::new(alloc, log, cuts, By::Sector)?;
     match count(&plan, options.bound(), options.tears()) {
         Ok(images) if images > 0 => write!(out, "note: with --cuts {name} there are {images}\n"),
         _ => Ok(()),
@@ -291,7 +291,7 @@ fn put_fewer(
         return Ok(());
     };
     put_fewer_cuts(alloc, out, &log, &options)?;
-    let plan = Plan::new(alloc, &log, options.cuts())?;
+    let plan = Plan::new(alloc, &log, options.cuts(), By::Sector)?;
     put_smaller_bound(out, &plan, options.bound(), options.tears())
 }
 

@@ -20,15 +20,15 @@ ending_text (Verdict answer numbers) = codes "answer " ++ decimal answer ++ code
 ending_text (Stopped cause slot) = codes "fault " ++ decimal (fault_number cause) ++ codes " slot " ++ decimal slot
 ending_text OutOfSteps = codes "out of steps"
 
--- what became of a unit that is not whole
+-- what became of a part that is not whole
 abbrev pub fate_text : Fate → List ℕ
 fate_text fate.Drop = codes "drop"
 fate_text (fate.Head eighths) = codes "head" ++ decimal eighths
 fate_text (fate.Tail eighths) = codes "tail" ++ decimal eighths
 
--- a departure: the unit's entry and its place there, and its fate
+-- a departure: the part's entry and its place there, and its fate
 unfoldable pub departure_text : Departure → List ℕ
-departure_text d = decimal d.unit.entry ++ codes "." ++ decimal d.unit.place ++ codes ":" ++ fate_text d.fate
+departure_text d = decimal d.part.entry ++ codes "." ++ decimal d.part.place ++ codes ":" ++ fate_text d.fate
 
 -- a departure that follows another
 abbrev pub next_departure_text : Departure → List ℕ

@@ -41,7 +41,7 @@ fn put_outcome(out: &mut String, outcome: &Outcome) -> Result<(), AllocError>
     }
 }
 
-/// Appends what became of a unit that is not whole.
+/// Appends what became of a part that is not whole.
 fn put_fate(out: &mut String, fate: Fate) -> Result<(), AllocError>
     ensures { OnOk result (string_bytes out.new ≡ string_bytes out.old ++ fate_text fate) }
 {
@@ -57,7 +57,7 @@ fn put_fate(out: &mut String, fate: Fate) -> Result<(), AllocError>
 fn put_departure(out: &mut String, departure: Departure) -> Result<(), AllocError>
     ensures { OnOk result (string_bytes out.new ≡ string_bytes out.old ++ departure_text departure) }
 {
-    write!(out, "{}.{}:", departure.unit.entry, departure.unit.place)?;
+    write!(out, "{}.{}:", departure.part.entry, departure.part.place)?;
     put_fate(out, departure.fate)
 }
 

@@ -5,7 +5,7 @@ ghost use Rattle.choices.specs.Choices.{ranked};
 
 use crate::log_text::{FLUSH, text_without_data};
 use choices::{Choice, Departure, Eighths, Fate, Starts, TooMany, count, count_at, next, nth};
-use epochs::{Cuts, Plan, Unit};
+use epochs::{By, Cuts, Part, Plan};
 use logfmt::read;
 use std::process::Abort;
 use std::test::Fail;
@@ -16,9 +16,10 @@ fn departure(place: u32, number: u8) -> Departure
     requires { number < 15 }
 {
     Departure {
-        unit: Unit {
+        part: Part {
             entry: 0,
             place,
+            count: 1,
             sector: place,
         },
         fate: if number == 0 {
@@ -55,7 +56,7 @@ fn check_choice(rt: &impl Abort, choice: &Choice, case: Case) {
 fn two_epochs(rt: HostRuntime) -> Result<(), Fail> {
     let text = text_without_data(rt.alloc(), &[(0, 1, 0), (0, 0, FLUSH), (0, 1, 0)])?;
     let log = read(rt.alloc(), &text, 4)?;
-    let plan = Plan::new(rt.alloc(), &log, Cuts::All)?;
+    let plan = Plan::new(rt.alloc(), &log, Cuts::All, By::Sector)?;
     assert_eq!(rt; log.entries().len(), 3);
     assert_eq!(rt; count(&plan, 1, true), Ok(34));
     if log.entries().len() == 3 {
@@ -71,7 +72,7 @@ fn two_epochs(rt: HostRuntime) -> Result<(), Fail> {
 fn pairs_of_drops(rt: HostRuntime) -> Result<(), Fail> {
     let text = text_without_data(rt.alloc(), &[(0, 2, 0)])?;
     let log = read(rt.alloc(), &text, 4)?;
-    let plan = Plan::new(rt.alloc(), &log, Cuts::BeforeFlush)?;
+    let plan = Plan::new(rt.alloc(), &log, Cuts::BeforeFlush, By::Sector)?;
     let cases = [
         Case(0, &[]),
         Case(1, &[(0, 0)]),
@@ -102,7 +103,7 @@ fn pairs_of_drops(rt: HostRuntime) -> Result<(), Fail> {
 fn refused_logs(rt: HostRuntime) -> Result<(), Fail> {
     let text = text_without_data(rt.alloc(), &[(0, 64, 0)])?;
     let log = read(rt.alloc(), &text, 64)?;
-    let plan = Plan::new(rt.alloc(), &log, Cuts::All)?;
+    let plan = Plan::new(rt.alloc(), &log, Cuts::All, By::Sector)?;
     assert_eq!(rt; count(&plan, 3, true), Err(TooMany { at: 1 }));
     assert_eq!(rt; log.entries().len(), 1);
     if log.entries().len() == 1 {
@@ -134,7 +135,7 @@ fn walk(rt: &impl Abort, plan: &Plan, bound: u8, tears: bool, total: u64)
 fn next_walks_all_choices(rt: HostRuntime) -> Result<(), Fail> {
     let text = text_without_data(rt.alloc(), &[(0, 2, 0)])?;
     let log = read(rt.alloc(), &text, 4)?;
-    let plan = Plan::new(rt.alloc(), &log, Cuts::BeforeFlush)?;
+    let plan = Plan::new(rt.alloc(), &log, Cuts::BeforeFlush, By::Sector)?;
     let total = count(&plan, 2, true);
     assert_eq!(rt; total, Ok(256));
     if let Ok(total) = total {
@@ -169,7 +170,7 @@ fn table_finds_the_cut(rt: HostRuntime) -> Result<(), Fail> {
     // cuts 0 to 3 have 1, 16, 1 and 16 choices
     let text = text_without_data(rt.alloc(), &[(0, 1, 0), (0, 0, FLUSH), (0, 1, 0)])?;
     let log = read(rt.alloc(), &text, 4)?;
-    let plan = Plan::new(rt.alloc(), &log, Cuts::All)?;
+    let plan = Plan::new(rt.alloc(), &log, Cuts::All, By::Sector)?;
     let Ok(total) = count(&plan, 1, true) else {
         return Err("too many choices".into());
     };

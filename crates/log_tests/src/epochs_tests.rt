@@ -3,7 +3,7 @@
 ghost use Rattle.std.specs.Prelude.{◌≡◌, ◌≤◌, length};
 
 use crate::log_text::{DISCARD, FLUSH, FUA, MARK, text_without_data};
-use epochs::{Cuts, Plan, Unit};
+use epochs::{By, Cuts, Part, Plan};
 use logfmt::read;
 use std::alloc::Global;
 use std::process::Abort;
@@ -12,18 +12,19 @@ use std::test::Fail;
 /// An entry: its first sector, how many sectors, its flags.
 type Item = (u64, u64, u64);
 
-/// What a cut leaves open: how many volatile units, its epoch, its marks.
+/// What a cut leaves open: how many volatile parts, its epoch, its marks.
 type State = (u32, u32, u32);
 
 /// The entries of a log, the state of each cut, the cuts before a flush, the cuts behind a mark, and
-/// the volatile units of the last cut.
+/// the volatile parts of the last cut.
 #[derive(Clone, Copy)]
-struct Case<'a>(&'a [Item], &'a [State], &'a [u32], &'a [u32], &'a [Unit]);
+struct Case<'a>(&'a [Item], &'a [State], &'a [u32], &'a [u32], &'a [Part]);
 
-fn unit(entry: u32, place: u32, sector: u32) -> Unit {
-    Unit {
+fn part(entry: u32, place: u32, sector: u32) -> Part {
+    Part {
         entry,
         place,
+        count: 1,
         sector,
     }
 }
@@ -39,7 +40,7 @@ fn cuts_leave_open_what_is_listed(rt: HostRuntime) -> Result<(), Fail> {
             &[(0, 0, 0), (1, 0, 0), (0, 1, 0), (1, 1, 0)],
             &[1, 3],
             &[],
-            &[unit(2, 0, 0)],
+            &[part(2, 0, 0)],
         ),
         // flush_with_data
         Case(
@@ -47,7 +48,7 @@ fn cuts_leave_open_what_is_listed(rt: HostRuntime) -> Result<(), Fail> {
             &[(0, 0, 0), (1, 1, 0)],
             &[0, 1],
             &[],
-            &[unit(0, 0, 0)],
+            &[part(0, 0, 0)],
         ),
         // the data of a flush entry, until the next one
         Case(
@@ -55,7 +56,7 @@ fn cuts_leave_open_what_is_listed(rt: HostRuntime) -> Result<(), Fail> {
             &[(0, 0, 0), (1, 0, 0), (2, 1, 0), (3, 1, 0), (1, 2, 0)],
             &[1, 3, 4],
             &[],
-            &[unit(3, 0, 2)],
+            &[part(3, 0, 2)],
         ),
         // forced_write
         Case(
@@ -63,7 +64,7 @@ fn cuts_leave_open_what_is_listed(rt: HostRuntime) -> Result<(), Fail> {
             &[(0, 0, 0), (1, 0, 0), (1, 0, 0)],
             &[2],
             &[],
-            &[unit(0, 0, 0)],
+            &[part(0, 0, 0)],
         ),
         // a forced flush entry makes durable what stands before it
         Case(
@@ -79,7 +80,7 @@ fn cuts_leave_open_what_is_listed(rt: HostRuntime) -> Result<(), Fail> {
             &[(0, 0, 0), (1, 0, 0), (1, 0, 0), (3, 0, 0)],
             &[3],
             &[],
-            &[unit(0, 0, 0), unit(2, 0, 1), unit(2, 1, 2)],
+            &[part(0, 0, 0), part(2, 0, 1), part(2, 1, 2)],
         ),
         // marks, at each end and in a row
         Case(
@@ -100,7 +101,7 @@ fn cuts_leave_open_what_is_listed(rt: HostRuntime) -> Result<(), Fail> {
             ],
             &[5],
             &[1, 3, 4],
-            &[unit(1, 0, 0)],
+            &[part(1, 0, 0)],
         ),
     ];
     for (number, case) in cases.iter().enumerate() {
@@ -113,13 +114,13 @@ fn check(rt: &impl Abort, alloc: Global, number: usize, case: Case) -> Result<()
     let Case(items, states, before_flush, after_mark, units) = case;
     let text = text_without_data(alloc, items)?;
     let log = read(alloc, &text, 4)?;
-    let plan = Plan::new(alloc, &log, Cuts::All)?;
+    let plan = Plan::new(alloc, &log, Cuts::All, By::Sector)?;
     let last = log.entries().len() as u32;
     check_states(rt, &plan, last, number, states);
-    check_units(rt, &plan, last, number, units);
-    let flushes = Plan::new(alloc, &log, Cuts::BeforeFlush)?;
+    check_parts(rt, &plan, last, number, units);
+    let flushes = Plan::new(alloc, &log, Cuts::BeforeFlush, By::Sector)?;
     assert_eq!(rt; flushes.cuts(), before_flush, "in case {number}");
-    let marks = Plan::new(alloc, &log, Cuts::AfterMark)?;
+    let marks = Plan::new(alloc, &log, Cuts::AfterMark, By::Sector)?;
     assert_eq!(rt; marks.cuts(), after_mark, "in case {number}");
     Ok(())
 }
@@ -144,17 +145,17 @@ fn check_states(rt: &impl Abort, plan: &Plan, last: u32, number: usize, states: 
     }
 }
 
-fn check_units(rt: &impl Abort, plan: &Plan, last: u32, number: usize, units: &[Unit])
+fn check_parts(rt: &impl Abort, plan: &Plan, last: u32, number: usize, parts: &[Part])
     requires { last ≡ length plan.now.log.entries }
 {
     let volatile = plan.volatile(last);
-    assert_eq!(rt; volatile as usize, units.len(), "in case {number}");
+    assert_eq!(rt; volatile as usize, parts.len(), "in case {number}");
     for place in 0..volatile {
-        let found = plan.unit(last, place);
+        let found = plan.part(last, place);
         assert_eq!(rt;
             Some(&found),
-            units.get(place as usize),
-            "unit {place} of case {number}"
+            parts.get(place as usize),
+            "part {place} of case {number}"
         );
     }
 }

@@ -5,7 +5,7 @@ ghost use Rattle.choices.specs.Choices.{ranked};
 
 use crate::log_text::{DISCARD, FLUSH, FUA, Item, MARK, text_of};
 use choices::{Choice, Departure, Fate, count, nth};
-use epochs::{Cuts, Plan};
+use epochs::{By, Cuts, Plan};
 use helpers::{Context, Device};
 use images::{
     Changes, History, Key, View, epoch_has_base, equal_keys_are_same, fates_show, keys_tell,
@@ -78,7 +78,7 @@ fn check_case(
 fn kept_bytes(departures: &[Departure], entry: u32, place: u64) -> (u64, u64) {
     let mut kept = (0, 512);
     for departure in departures {
-        if departure.unit.entry == entry && u64::from(departure.unit.place) == place {
+        if departure.part.entry == entry && u64::from(departure.part.place) == place {
             kept = match departure.fate {
                 Fate::Drop => (0, 0),
                 Fate::Head(eighths) => (0, 64 * u64::from(eighths.count())),
@@ -165,7 +165,7 @@ fn check_number(
 fn check_log(rt: &impl Abort, alloc: Global, log: Log) -> Result<(), Fail> {
     let text = text_of(alloc, log.0)?;
     let read = read(alloc, &text, SECTORS)?;
-    let plan = Plan::new(alloc, &read, Cuts::All)?;
+    let plan = Plan::new(alloc, &read, Cuts::All, By::Sector)?;
     let history = History::new(alloc, &plan, &read)?;
     for case in log.4 {
         check_case(rt, alloc, &plan, &history, log, *case)?;
@@ -383,7 +383,7 @@ fn contexts_count_what_was_passed(rt: HostRuntime) -> Result<(), Fail> {
     ];
     let text = text_of(rt.alloc(), &items)?;
     let log = read(rt.alloc(), &text, SECTORS)?;
-    let plan = Plan::new(rt.alloc(), &log, Cuts::All)?;
+    let plan = Plan::new(rt.alloc(), &log, Cuts::All, By::Sector)?;
     let history = History::new(rt.alloc(), &plan, &log)?;
     assert_eq!(rt; count(&plan, 0, true), Ok(5));
     for (cut, epoch, marks) in [(0, 0, 0), (1, 0, 0), (2, 1, 0), (3, 1, 1), (4, 1, 1)] {
@@ -461,7 +461,7 @@ fn check_pair(
 fn check_pairs(rt: &impl Abort, alloc: Global, items: &[Item], pairs: &[Pair]) -> Result<(), Fail> {
     let text = text_of(alloc, items)?;
     let log = read(alloc, &text, SECTORS)?;
-    let plan = Plan::new(alloc, &log, Cuts::All)?;
+    let plan = Plan::new(alloc, &log, Cuts::All, By::Sector)?;
     let history = History::new(alloc, &plan, &log)?;
     for pair in pairs {
         check_pair(rt, alloc, &plan, &history, *pair)?;
@@ -523,7 +523,7 @@ fn keys_tell_images(rt: HostRuntime) -> Result<(), Fail> {
 fn check_many(rt: &impl Abort, alloc: Global, written: u64) -> Result<Option<usize>, Fail> {
     let text = text_of(alloc, &[(0, written, 0, 0xaa)])?;
     let log = read(alloc, &text, 65)?;
-    let plan = Plan::new(alloc, &log, Cuts::All)?;
+    let plan = Plan::new(alloc, &log, Cuts::All, By::Sector)?;
     let history = History::new(alloc, &plan, &log)?;
     let key = key_of(alloc, &plan, &history, 1, 0)?;
     let Some(key) = key else {
@@ -556,7 +556,7 @@ fn key_has_64_sectors(rt: HostRuntime) -> Result<(), Fail> {
 fn last_sector_of_a_large_device_changes(rt: HostRuntime) -> Result<(), Fail> {
     let text = text_of(rt.alloc(), &[(16383, 1, 0, 0x11)])?;
     let log = read(rt.alloc(), &text, 16384)?;
-    let plan = Plan::new(rt.alloc(), &log, Cuts::All)?;
+    let plan = Plan::new(rt.alloc(), &log, Cuts::All, By::Sector)?;
     let history = History::new(rt.alloc(), &plan, &log)?;
     let Some(key) = key_of(rt.alloc(), &plan, &history, 1, 0)? else {
         return Err("no key".into());
@@ -576,7 +576,7 @@ fn shard_of(alloc: Global, at: u16, program: u8) -> Result<Option<u8>, Fail> {
         *byte = 1;
     }
     let log = read(alloc, &text, SECTORS)?;
-    let plan = Plan::new(alloc, &log, Cuts::All)?;
+    let plan = Plan::new(alloc, &log, Cuts::All, By::Sector)?;
     let history = History::new(alloc, &plan, &log)?;
     Ok(key_of(alloc, &plan, &history, 1, program)?.map(|key| key.shard()))
 }
@@ -640,7 +640,7 @@ fn compare_keys(
 fn check_kept_keys(rt: &impl Abort, alloc: Global, items: &[Item]) -> Result<u64, Fail> {
     let text = text_of(alloc, items)?;
     let log = read(alloc, &text, SECTORS)?;
-    let plan = Plan::new(alloc, &log, Cuts::All)?;
+    let plan = Plan::new(alloc, &log, Cuts::All, By::Sector)?;
     let history = History::new(alloc, &plan, &log)?;
     let Ok(total) = count(&plan, 2, true) else {
         return Err("too many images".into());

@@ -3,7 +3,7 @@
 use crate::log_text::{FLUSH, text_of};
 use bpf_isa::codec::decode;
 use choices::{Starts, count};
-use epochs::{Cuts, Plan};
+use epochs::{By, Cuts, Plan};
 use explore_core::{Event, Explore, Found, Job, Jobs, run};
 use images::History;
 use interp::Checker;
@@ -103,7 +103,7 @@ fn judged<R: Threads + Wait + Sync>(
 ) -> Result<Lines, Fail> {
     let bytes = text_of(alloc, &[(0, 0, FLUSH, 0); 255])?;
     let log = read(alloc, bytes.as_slice(), 1).ok().ok_or("a log")?;
-    let plan = Plan::new(alloc, &log, Cuts::All)?;
+    let plan = Plan::new(alloc, &log, Cuts::All, By::Sector)?;
     let history = History::new(alloc, &plan, &log)?;
     let program = decode(alloc, &BY_70).ok().ok_or("a program")?;
     let checkers = [Checker::limited(&program, 3)];

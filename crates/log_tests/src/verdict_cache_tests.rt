@@ -9,8 +9,8 @@ ghost use Rattle.verdict_cache.specs.Endings.{IsEndingOf};
 use crate::log_text::text_of;
 use bpf_isa::codec::decode;
 use choices::{count, nth};
-use epochs::{Cuts, Plan};
-use images::{History, Key, View};
+use epochs::{By, Cuts, Plan};
+use images::{History, Key};
 use interp::{Checker, Outcome};
 use logfmt::{Log, read};
 use std::alloc::Global;
@@ -187,7 +187,7 @@ fn check_rooms<'a, J: Run + Send + Sync, R: Abort>(
 /// Makes calls of the empty first shard of a cache of that size, in a run of two programs.
 fn check_run<R: Abort>(rt: &R, alloc: Global, size: u32, calls: &[Call]) -> Result<u64, Fail> {
     let log = one_write(alloc)?;
-    let plan = Plan::new(alloc, &log, Cuts::All)?;
+    let plan = Plan::new(alloc, &log, Cuts::All, By::Sector)?;
     let history = History::new(alloc, &plan, &log)?;
     let program = decode(alloc, &ANSWER_1).ok().ok_or("a program")?;
     let checkers = [Checker::limited(&program, 2), Checker::limited(&program, 1)];
@@ -243,7 +243,7 @@ fn check_size<R: Abort>(
     requires { size ≤ 65536 }
 {
     let log = one_write(alloc)?;
-    let plan = Plan::new(alloc, &log, Cuts::All)?;
+    let plan = Plan::new(alloc, &log, Cuts::All, By::Sector)?;
     let history = History::new(alloc, &plan, &log)?;
     let program = decode(alloc, &ANSWER_1).ok().ok_or("a program")?;
     let checkers = [Checker::limited(&program, 2)];

@@ -9,7 +9,7 @@ use crate::log_text::{FLUSH, text_of};
 use base::refusal::Refusal;
 use bpf_isa::codec::decode;
 use choices::{Starts, count};
-use epochs::{Cuts, Plan};
+use epochs::{By, Cuts, Plan};
 use images::History;
 use interp::Checker;
 use logfmt::{Log, read};
@@ -109,7 +109,7 @@ fn collected<R: Wait>(
     blocks: &[(u32, Option<u64>)],
 ) -> Result<(u8, u64), Fail> {
     let log = flushes(alloc)?;
-    let plan = Plan::new(alloc, &log, Cuts::All)?;
+    let plan = Plan::new(alloc, &log, Cuts::All, By::Sector)?;
     let history = History::new(alloc, &plan, &log)?;
     let program = decode(alloc, program).ok().ok_or("a program")?;
     let checkers = [Checker::limited(&program, 3)];
@@ -184,7 +184,7 @@ fn explored<R: Threads + Wait + Sync>(
     requires workers { (1 ≤ workers) × (workers ≤ 64) }
     requires cache { cache ≤ 65536 }
 {
-    let plan = Plan::new(alloc, log, Cuts::All)?;
+    let plan = Plan::new(alloc, log, Cuts::All, By::Sector)?;
     let history = History::new(alloc, &plan, log)?;
     let program = decode(alloc, program).ok().ok_or("a program")?;
     let checkers = [Checker::limited(&program, 3)];

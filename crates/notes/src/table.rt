@@ -4,7 +4,7 @@ ghost use Rattle.std.specs.Prelude.{◌≡◌, ◌++◌, ◌≤◌, ◌<◌, len
 ghost use Rattle.notes.specs.LogTable.{word_text, flags_text, is_write, sectors_text, mark_text, head_text, what_text, entry_line, noted_line, entry_note, log_table};
 
 use crate::escaped::put_escaped;
-use epochs::{Cuts, Plan};
+use epochs::{By, Cuts, Plan};
 use logfmt::{Entry, Flags, Log};
 use std::alloc::{AllocError, Global};
 
@@ -93,7 +93,7 @@ fn put_line(out: &mut String, number: usize, epoch: u32, entry: &Entry) -> Resul
 pub fn log_table(alloc: Global, log: &Log) -> Result<String, AllocError>
     ensures { IfOk result (λ text. string_bytes text ≡ log_table log.now.entries) }
 {
-    let plan = Plan::new(alloc, log, Cuts::All)?;
+    let plan = Plan::new(alloc, log, Cuts::All, By::Sector)?;
     let mut out = String::new(alloc);
     for (number, entry) in log.entries().iter().enumerate() {
         put_line(&mut out, number, plan.epoch(number as u32), entry)?;
@@ -118,7 +118,7 @@ pub fn put_entry(
 ) -> Result<(), AllocError>
     ensures { OnOk result (string_bytes out.new ≡ string_bytes out.old ++ entry_note log.now.entries number) }
 {
-    let plan = Plan::new(alloc, log, Cuts::All)?;
+    let plan = Plan::new(alloc, log, Cuts::All, By::Sector)?;
     let Some(entry) = log.entries().get(number) else {
         return Ok(());
     };

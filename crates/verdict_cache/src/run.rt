@@ -22,8 +22,9 @@ pub trait Run {
 impl Run for Brand {
     ghost use Rattle.std.specs.Prelude.{[]};
     ghost use Rattle.epochs.specs.declared.cuts.Cuts.TheVariants.{All};
+    ghost use Rattle.epochs.specs.declared.part.By.TheVariants.{Sector};
 
-    ghost plan = { record { log = record { sectors = 0; entries = [] }; kind = All } };
+    ghost plan = { record { log = record { sectors = 0; entries = [] }; kind = All; by = Sector } };
 
     ghost checkers = { [] };
 
