@@ -14,27 +14,27 @@ ZEROS = bytes(SECTOR)
 HEADS = [f"head{eighths}" for eighths in range(1, 8)]
 TAILS = [f"tail{eighths}" for eighths in range(1, 8)]
 
-# What may become of a unit that isn't whole, in order, without tears and with them.
+# What may become of a part that isn't whole, in order, without tears and with them.
 LOST = ["drop"]
 LOST_OR_TORN = [*LOST, *HEADS, *TAILS]
 
 
 @dataclass(frozen=True)
-class Unit:
-    """Sector `place` of an entry."""
+class Part:
+    """What departs as one: a sector of an entry, or all sectors of one. It covers the device from `sector` on."""
 
+    name: str
     entry: int
-    place: int
     sector: int
     content: bytes
 
-    def name(self):
-        return f"{self.entry}.{self.place}"
+    def covers(self, number):
+        return self.sector <= number < self.sector + len(self.content) // SECTOR
 
 
 @dataclass(frozen=True)
 class Image:
-    """A crash image: its number, its cut, which units depart from the log, and the log."""
+    """A crash image: its number, its cut, which parts depart from the log, and the log."""
 
     number: int
     cut: int
@@ -48,67 +48,71 @@ class Image:
         return self.run.marks(self.cut)
 
     def choice(self):
-        return ",".join(f"{unit.name()}:{fate}" for unit, fate in self.departures) or "-"
+        return ",".join(f"{part.name}:{fate}" for part, fate in self.departures) or "-"
 
     def sector(self, number):
         """The 512 bytes of a sector."""
-        fates = {unit.name(): fate for unit, fate in self.departures}
+        fates = {part.name: fate for part, fate in self.departures}
         found = ZEROS
-        for unit in self.run.units:
-            if unit.entry < self.cut and unit.sector == number:
-                found = written(unit.content, found, fates.get(unit.name(), "whole"))
+        for part in self.run.parts:
+            if part.entry < self.cut and part.covers(number):
+                found = written(part, number, found, fates.get(part.name, "whole"))
         return found
 
     def content(self):
         return b"".join(self.sector(number) for number in range(self.run.sectors))
 
 
-def kept(fate):
-    """Which bytes of a unit with that fate reach the device: from the first of two positions to before the second."""
+def kept(fate, size):
+    """Which bytes of a part of `size` bytes reach the device: from the first of two positions to before the second."""
     if fate == "whole":
-        return 0, SECTOR
+        return 0, size
     if fate == "drop":
         return 0, 0
-    size = 64 * int(fate[-1])
-    return (0, size) if fate in HEADS else (SECTOR - size, SECTOR)
+    some = size // 8 * int(fate[-1])
+    return (0, some) if fate in HEADS else (size - some, size)
 
 
-def written(content, old, fate):
-    """What a unit with that fate makes of a sector."""
-    first, end = kept(fate)
-    return old[:first] + content[first:end] + old[end:]
+def written(part, number, old, fate):
+    """What a part with that fate makes of a sector that it covers."""
+    start = SECTOR * (number - part.sector)
+    first, end = (min(max(at - start, 0), SECTOR) for at in kept(fate, len(part.content)))
+    return old[:first] + part.content[start + first : start + end] + old[end:]
 
 
-def units_of(number, entry):
-    """The units of an entry."""
+def parts_of(number, entry, by):
+    """The parts of an entry: its sectors, or all of it where it has some."""
     content = bytes(SECTOR * entry.count) if entry.flags & DISCARD else entry.data
+    if by == "write":
+        return [Part(f"{number}", number, entry.sector, content)] if entry.count else []
     return [
-        Unit(number, place, entry.sector + place, content[SECTOR * place : SECTOR * (place + 1)])
+        Part(f"{number}.{place}", number, entry.sector + place, content[SECTOR * place : SECTOR * (place + 1)])
         for place in range(entry.count)
     ]
 
 
-def departures(units, count, fates):
-    """All ways to let `count` of the units depart, in order: by the first unit, its fate, then the others."""
+def departures(parts, count, fates):
+    """All ways to let `count` of the parts depart, in order: by the first part, its fate, then the others."""
     if count == 0:
         yield ()
         return
-    for place, unit in enumerate(units):
+    for place, part in enumerate(parts):
         for fate in fates:
-            for others in departures(units[place + 1 :], count - 1, fates):
-                yield ((unit, fate), *others)
+            for others in departures(parts[place + 1 :], count - 1, fates):
+                yield ((part, fate), *others)
 
 
 class Run:
     """A log, the size of the device, and which images are wanted."""
 
-    def __init__(self, entries, sectors=4, cuts="all", bound=1, tears=False):
-        self.entries, self.sectors, self.cuts, self.bound, self.tears = entries, sectors, cuts, bound, tears
-        self.units = [unit for number, entry in enumerate(entries) for unit in units_of(number, entry)]
+    def __init__(self, entries, sectors=4, cuts="all", bound=1, tears=False, by="sector"):
+        self.entries, self.sectors, self.cuts, self.bound, self.tears, self.by = entries, sectors, cuts, bound, tears, by
+        self.parts = [part for number, entry in enumerate(entries) for part in parts_of(number, entry, by)]
 
     def options(self):
         """The options of the command line that ask for this run."""
-        return f"--sectors {self.sectors} --cuts {self.cuts} --bound {self.bound}{' --tears' if self.tears else ''}"
+        words = f"--sectors {self.sectors} --cuts {self.cuts} --bound {self.bound}{' --tears' if self.tears else ''}"
+        return words + (" --by write" if self.by == "write" else "")
 
     def flushes(self, start, end):
         """How many flush entries there are from `start` to before `end`."""
@@ -129,20 +133,20 @@ class Run:
         return [cut for cut in range(1, count + 1) if self.entries[cut - 1].flags & MARK]
 
     def volatile(self, cut):
-        """The units before the cut that aren't forced and that no flush after their entry made durable."""
+        """The parts before the cut that aren't forced and that no flush after their entry made durable."""
         return [
-            unit
-            for unit in self.units
-            if unit.entry < cut
-            and not self.entries[unit.entry].flags & FUA
-            and self.flushes(unit.entry + 1, cut) == 0
+            part
+            for part in self.parts
+            if part.entry < cut
+            and not self.entries[part.entry].flags & FUA
+            and self.flushes(part.entry + 1, cut) == 0
         ]
 
     def choices(self, cut):
         fates = LOST_OR_TORN if self.tears else LOST
-        units = self.volatile(cut)
+        parts = self.volatile(cut)
         for count in range(self.bound + 1):
-            yield from departures(units, count, fates)
+            yield from departures(parts, count, fates)
 
     def images(self):
         number = 0
@@ -188,7 +192,8 @@ def failing_lines(image, checkers):
 
 def head(run, checkers, first):
     text = f"sectors {run.sectors} entries {len(run.entries)} cuts {run.cuts} bound {run.bound}"
-    text += f" tears {'yes' if run.tears else 'no'} first {'yes' if first else 'no'}\n"
+    text += f" tears {'yes' if run.tears else 'no'} first {'yes' if first else 'no'}"
+    text += " by write\n" if run.by == "write" else "\n"
     return text + "".join(f"program {number} {it.about}\n" for number, it in enumerate(checkers))
 
 

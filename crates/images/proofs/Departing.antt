@@ -1,7 +1,7 @@
 -- What the departures of an image change: their sectors alone.
-use Rattle.std.proofs.Common.{ℕ, zero, suc, ◌≡◌, ◌≢◌, ◌+◌, ◌<◌, ◌≤◌, ◌⊎◌, ◌==◌, Bool, true, false, not, ◌&&◌, ◌||◌, cond, if◌then◌else◌, List, [], ◌∷◌, ◌++◌, length, map, filter, drop, slice_get, Some, None, refl, sym, subst, ◌∙◌, ap, inl, inr, arith, add-one}
+use Rattle.std.proofs.Common.{ℕ, zero, suc, ◌≡◌, ◌≢◌, ◌+◌, ◌-◌, ◌*◌, ◌<◌, ◌≤◌, ◌⊎◌, ◌==◌, Bool, true, false, not, ◌&&◌, ◌||◌, cond, if◌then◌else◌, List, [], ◌∷◌, ◌++◌, length, map, filter, take, drop, get_or, slice_get, Some, None, refl, sym, subst, ◌∙◌, ap, inl, inr, arith, add-one}
 use Rattle.std.specs.Prelude.{sum_by}
-use Rattle.std.proofs.lemmas.List.Sums.{sum_by-cons}
+use Rattle.std.proofs.lemmas.List.Sums.{sum_by-cons, sum_by_more}
 use Rattle.std.specs.List.{All, last_or, slice_index, range_with_len}
 use Rattle.std.specs.Option.{option_map_or}
 use Rattle.std.proofs.lemmas.Bool.{cases_lt, eq-eqb, eqb-true, ne_eqb}
@@ -220,3 +220,21 @@ list_of_key view flush is =
     (λ n low high. sym (get_or_from_slice_get image n _ [] (view_there view n (omega (arith, high)))))
     ∙ ap (changes (content_at base) (content_at image) 0) size
     ∙ changes_of_key base image 0 (length image)
+
+-- how many sectors the parts of departures have, with one more
+pub one_count_more : (ds : List Departure) (j : ℕ) (d : Departure) (sum : ℕ) → slice_get ds j ≡ Some d
+    → sum ≡ sum_by (λ (e : Departure). e.part.count) (take j ds) → sum + d.part.count ≡ sum_by (λ (e : Departure). e.part.count) (take (j + 1) ds)
+one_count_more ds j d sum there is =
+    let more = sum_by_more (λ (e : Departure). e.part.count) ds j d (slice_get_within ds j d there) in
+    let one : (get_or ds j d).part.count ≡ d.part.count = ap (λ (e : Departure). e.part.count) (get_or_from_slice_get ds j d d there) in
+    omega (arith, more, one, is)
+
+-- the parts of departures have the sectors of parts of a device
+pub few_sectors : (ds : List Departure) (most : ℕ) → ((i : ℕ) (d : Departure) → slice_get ds i ≡ Some d → d.part.count ≤ most)
+    → sum_by (λ (e : Departure). e.part.count) ds ≤ length ds * most
+few_sectors [] most each = omega arith
+few_sectors (d ∷ ds) most each =
+    let first = each 0 d refl in
+    let rest = few_sectors ds most (λ i e there. each (suc i) e there) in
+    let sum = sum_by-cons (λ (e : Departure). e.part.count) d ds in
+    omega (arith, first, rest, sum)

@@ -306,7 +306,8 @@ one_sector_less base image count n content lt =
 
 -- the sectors of another image from one on, and one more of them
 pub others_there : (image other : ℕ → List ℕ) (a k n : ℕ) → a ≤ n → n < a + k → with_sectors image a k other n ≡ other n
-others_there image other a k n low high = ap (λ b. if b then other n else image n) (rw (le-leb a n low, lt-ltb n (a + k) high) refl)
+others_there image other a k n low high =
+    ap (λ b. if b && nat_lt n (a + k) then other n else image n) (le-leb a n low) ∙ ap (λ b. if b then other n else image n) (lt-ltb n (a + k) high)
 
 pub others_before : (image other : ℕ → List ℕ) (a k n : ℕ) → n < a → with_sectors image a k other n ≡ image n
 others_before image other a k n lt = ap (λ b. if b && nat_lt n (a + k) then other n else image n) (lt-leb a n lt)

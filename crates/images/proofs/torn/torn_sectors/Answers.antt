@@ -1,5 +1,8 @@
-use Rattle.std.proofs.Common.{refl, sym, ◌∙◌}
+use Rattle.std.proofs.Common.{refl, sym, ◌∙◌, ap, arith}
 use Rattle.std.proofs.lemmas.Option.{slice_get_read}
+use Rattle.epochs.specs.Units.{units_before}
+use Rattle.images.specs.Images.{sector_after}
+use Rattle.images.specs.Table.{versions, is_torn}
 use Rattle.images.proofs.Tears.{not_torn, one_torn, all_torn, torn_if}
 use Rattle.images.proofs.torn.torn_sectors.Goals as goal
 use Rattle.images.proofs.torn.torn_sectors.Goals.{then-is_none, else-is_none}
@@ -37,10 +40,10 @@ loop-departure-preserved c =
     let there = slice_get_read ds _ c.loop-departure.departure-index _ refl c.loop-departure-test.true c.departure-item.is in
     elim c.if-is_none.branch [
       | then-is_none w ↦
-          rw w.torn-is (one_torn log c.args.cut ds c.loop-departure.departure-index c.loop-departure.torn.items _ c.departure-item.result _ c.loop-departure.invariant there w.push.ensures.items refl w.formed.ensures)
+          rw w.torn-is (one_torn log c.args.cut ds c.loop-departure.departure-index c.loop-departure.torn.items _ c.departure-item.result _ c.loop-departure.invariant there w.push.ensures.items c.tear-number.ensures.value (w.formed.ensures ∙ ap (sector_after log.entries (units_before log.entries c.args.cut) ds) c.tear-number.ensures.value))
       | else-is_none w ↦
           rw w.torn-is (not_torn log c.args.cut ds c.loop-departure.departure-index c.loop-departure.torn.items c.departure-item.result c.loop-departure.invariant there
-          (sym w.if-is_none.false ∙ torn_if c.lent.result _ c.is_none.result c.is_none.ensures c.lent.ensures.torn))
+          (sym w.if-is_none.false ∙ torn_if c.lent.result _ c.is_none.result c.is_none.ensures c.lent.ensures.torn ∙ ap (λ n. is_torn ds (versions log.entries c.args.cut n)) c.tear-number.ensures.value))
     ]
 
 pub returns : goal.returns
