@@ -19,7 +19,7 @@ one_part x j lt = elim (eqb_tells x.count 0) [
   | inr some ↦
       let one : part_count by.Write x ≡ 1 = ap (λ b. if b then 0 else 1) some.0 in
       let more = some.1 in
-      (omega (arith, one, lt), elim (none_or_some x.count) [ | inl none ↦ absurd (more none) | inr le ↦ le ])
+      (omega (arith, one, lt), elim (none_or_some x.count) [ inl none ↦ absurd (more none) | inr le ↦ le ])
 ]
 
 -- a part has a sector, and lies in its entry

@@ -1,14 +1,14 @@
-//! Laws of the volatile units and the wanted cuts. The functions do nothing; each contract is a theorem.
+//! Laws of the volatile parts and the wanted cuts. The functions do nothing; each contract is a theorem.
 
 ghost use Rattle.epochs.specs.Laws.{VolatileIsSet, VolatileIsRun, UnitIsSector, CutsAreSet};
 
-/// The volatile units of a cut are those that docs/CRASH-MODEL.md says, no other, each once, by entry
+/// The volatile parts of a cut are those that docs/CRASH-MODEL.md says, no other, each once, by entry
 /// and then by sector.
 pub fn volatile_is_set()
     ensures { VolatileIsSet }
 {}
 
-/// The volatile units of a cut are one run of the units that are not forced.
+/// The volatile parts of a cut are one run of the parts that are not forced.
 pub fn volatile_is_run()
     ensures { VolatileIsRun }
 {}

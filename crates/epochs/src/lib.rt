@@ -1,62 +1,65 @@
-//! What each cut of a log leaves open: its volatile units, its epoch, its marks, and which cuts are
+//! What each cut of a log leaves open: its volatile parts, its epoch, its marks, and which cuts are
 //! wanted.
 //!
 //! Cut k of a log is the moment at which exactly its first k entries have been logged. A unit is one
-//! sector of a write or a discard. At a cut a unit is volatile where its entry isn't forced (FUA) and
-//! no flush entry stands between that entry and the cut: a crash may lose it. A flush entry makes
+//! sector of a write or a discard. A part is what departs as one: by sector each unit, by write all
+//! units of an entry. At a cut a part is volatile where its entry isn't forced (FUA) and no flush
+//! entry stands between that entry and the cut: a crash may lose it. A flush entry makes
 //! durable what stands before it, and not its own data, which comes after the flush.
 //!
-//! A `Plan` is a log together with a kind of cuts:
+//! A `Plan` is a log together with a kind of cuts, and what departs as one (`By`):
 //!
 //! | Call | Answer |
 //! |---|---|
-//! | `Plan::new(alloc, log, cuts)` | the plan of a log; the only call that takes memory |
+//! | `Plan::new(alloc, log, cuts, by)` | the plan of a log; the only call that takes memory |
 //! | `plan.cuts()` | the wanted cuts, rising |
 //! | `plan.epoch(k)` | how many flush entries stand before cut k |
 //! | `plan.marks(k)` | how many marks stand before cut k |
-//! | `plan.volatile(k)` | how many volatile units cut k has |
-//! | `plan.unit(k, i)` | the volatile unit of cut k with number i, in their order |
+//! | `plan.volatile(k)` | how many volatile parts cut k has |
+//! | `plan.part(k, i)` | the volatile part of cut k with number i, in their order |
 //!
 //! # Place
 //!
 //! The third layer, on `logfmt`, whose `Log` a plan borrows. `choices` numbers the sets of volatile
-//! units that may depart, and `images` forms what a crash leaves of them. Here no byte of a log's data
+//! parts that may depart, and `images` forms what a crash leaves of them. Here no byte of a log's data
 //! is looked at. The rules are those of docs/CRASH-MODEL.md.
 //!
 //! # What is proved
 //!
-//! A contract sees a plan as its log and its kind of cuts, and nothing else, so each call is a function
-//! of these two:
+//! A contract sees a plan as its log, its kind of cuts and its kind of parts, and nothing else, so each
+//! call is a function of these three:
 //!
-//! - `volatile_units entries k` is the list of all units before cut k, by entry and then by sector,
+//! - `volatile_parts by entries k` is the list of all parts before cut k, by entry and then by sector,
 //!   without those that are forced or stand before a flush. `volatile(k)` is its length, and
-//!   `unit(k, i)` its element i, with the device sector that it covers.
+//!   `part(k, i)` its element i, with the first device sector that it covers. Both kinds of parts are
+//!   one definition: how many sectors a part has (`part_size`), and how many parts an entry has
+//!   (`part_count`).
 //! - `epoch(k)` and `marks(k)` count the flush entries and the marks among the first k entries.
 //! - `cuts()` is exactly the list of the wanted cuts, `cuts_of kind entries`.
 //!
-//! `specs/Units.antt` and `specs/Cuts.antt` have these definitions, and `unit_content`, the 512 bytes
+//! `specs/Units.antt`, `specs/Parts.antt` and `specs/Cuts.antt` have these definitions, and `unit_content`, the 512 bytes
 //! of a unit, for the layers above. Four laws stand over them (`specs/Laws.antt`): the list has
-//! exactly the units that are volatile, in order (`volatile_is_set`), it is one run of the units that
+//! exactly the parts that are volatile, in order (`volatile_is_set`), it is one run of the parts that
 //! are not forced (`volatile_is_run`), a unit has 512 bytes (`unit_is_sector`), and the wanted cuts are
 //! exactly those of their kind, rising (`cuts_are_set`).
 //!
 //! # How it is written
 //!
-//! `table` has a row of four numbers for each cut: how many units before it are not forced, how many
-//! of these are durable, the epoch and the marks. The volatile units of a cut are the others, one run,
-//! so their number is a difference, and a unit is found by a search by halves in the rows. A plan
-//! takes 16 bytes for each cut, and 4 to 8 for each wanted cut, and none for a unit.
+//! `table` has a row of four numbers for each cut: how many parts before it are not forced, how many
+//! of these are durable, the epoch and the marks. The volatile parts of a cut are the others, one run,
+//! so their number is a difference, and a part is found by a search by halves in the rows. A plan
+//! takes 16 bytes for each cut, and 4 to 8 for each wanted cut, and none for a part.
 //!
 //! # Example
 //!
 //! ```
-//! use epochs::{Cuts, Plan, Unit};
+//! use epochs::{By, Cuts, Part, Plan};
 //!
 //! // `log` has a write of sector 0, a flush, and another write of sector 0
-//! let plan = Plan::new(alloc, &log, Cuts::All)?;
+//! let plan = Plan::new(alloc, &log, Cuts::All, By::Sector)?;
 //! // plan.cuts() is [0, 1, 2, 3]; plan.volatile(k) is 0, 1, 0, 1 and plan.epoch(k) is 0, 0, 1, 1
-//! let unit = plan.unit(3, 0);
-//! // the second write: Unit { entry: 2, place: 0, sector: 0 }
+//! let part = plan.part(3, 0);
+//! // the second write: Part { entry: 2, place: 0, count: 1, sector: 0 }
 //! ```
 #![tactic(auto)]
 

@@ -32,13 +32,7 @@ impl By {
     {
         match self {
             By::Sector => entry.count,
-            By::Write => {
-                if entry.count == 0 {
-                    0
-                } else {
-                    1
-                }
-            }
+            By::Write => { if entry.count == 0 { 0 } else { 1 } }
         }
     }
 }

@@ -82,7 +82,9 @@
 //! entries. A search by halves finds the units of a row before a cut.
 //!
 //! A view borrows the table. A sector of it is the content of the last of those units that is not
-//! dropped, where it lies in the log, or the one sector of zeros (`lent`). Where that unit is torn the
+//! dropped, where it lies in the log, or the one sector of zeros (`lent`). A part that departs has a
+//! fate over all of its bytes; `share_of` in `image` says what that makes of one of its sectors: the
+//! sector is whole, dropped, or torn as a part of one sector is. Where the unit that shows is torn the
 //! view owns the sector: `torn` forms these when the view is made, at most three, by `lanes::splice` of
 //! the unit's content and of what the units before it leave, back to the last whole one (`formed` in
 //! `image`).
@@ -90,8 +92,8 @@
 //! `changes` makes keys. It keeps the sectors in which the image where nothing departs differs from the
 //! base, and carries this list to a later cut by adding what the entries between the two write; behind
 //! a further flush, or at an earlier cut, it begins anew at the flush entry (`specs/Changes.antt`). The
-//! key of an image is this list, but for the sectors of the departures, at most three, which are
-//! compared with the base. `listing` keeps such a list in order: one search by halves for each sector.
+//! key of an image is this list, but for the sectors of the parts that depart, which are compared with
+//! the base. `listing` keeps such a list in order: one search by halves for each sector.
 //!
 //! A changed sector (`changed`) borrows its bytes from the log and keeps their mix, so a key with
 //! n sectors has 32 n bytes beside its own 48. Where a torn unit shows it owns its 512 bytes
