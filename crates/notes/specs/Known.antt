@@ -1,9 +1,10 @@
 -- What is known of the registers that an instruction reads (docs/REPORT.md, Notes; docs/VERIFIER.md,
 -- Abstract values).
-use Rattle.std.specs.Prelude.{ℕ, ℤ, ◌-◌, ◌==◌, if◌then◌else◌, List, [], ◌++◌, codes}
+use Rattle.std.specs.Prelude.{ℕ, ℤ, ◌-◌, ◌==◌, ◌||◌, ◌&&◌, Bool, if◌then◌else◌, List, [], ◌++◌, codes}
 use Rattle.std.specs.Option.{option_map_or}
 use Rattle.std.specs.Int.{cast_unsigned, w32}
-use Rattle.std.specs.Fmt.{decimal}
+use Rattle.std.specs.Ordering.{int_eq}
+use Rattle.std.specs.Fmt.{decimal, signed_decimal}
 use Rattle.bpf_isa.specs.declared.instr.Instr.{Instr}
 use Rattle.bpf_isa.specs.declared.instr.Instr.TheVariants as instr
 use Rattle.bpf_isa.specs.declared.instr.Source.{Source}
@@ -16,12 +17,28 @@ use Rattle.helpers.specs.declared.helper.Helper.TheVariants as helper
 use Rattle.helpers.specs.Helper.{helper_of}
 use Rattle.machine.specs.Memory.{byte_count, plain_size}
 use Rattle.intervals.specs.Spans.{Span}
+use Rattle.intervals.specs.SignedSpans.{SignedSpan, least, greatest}
+use Rattle.intervals.specs.Reducing.{Limits, has_one_sign}
 use Rattle.ranges.specs.Kinds.{Kind, Unset, Num, Ctx, Stack, Sector, SectorOrNull}
 use Rattle.ranges.specs.States.{Abstract}
 use Rattle.ranges.specs.Reading.{value}
 
-abbrev pub number_text : Span → List ℕ
-number_text x = if x.low == x.high then codes "the number " ++ decimal x.low else codes "a number, " ++ decimal x.low ++ codes " to " ++ decimal x.high
+abbrev pub word_text : Span → List ℕ
+word_text x = if x.low == x.high then codes "the number " ++ decimal x.low else codes "a number, " ++ decimal x.low ++ codes " to " ++ decimal x.high
+
+abbrev pub is_full : SignedSpan → Bool
+is_full s = int_eq s.low least && int_eq s.high greatest
+
+-- the signed range is named where it says more than the words do: they are of both signs, and not
+-- every reading is possible
+abbrev pub says_no_more : Limits → Bool
+says_no_more x = has_one_sign x.unsigned || is_full x.signed
+
+abbrev pub reading_text : SignedSpan → List ℕ
+reading_text s = codes ", signed " ++ signed_decimal s.low ++ codes " to " ++ signed_decimal s.high
+
+abbrev pub number_text : Limits → List ℕ
+number_text x = word_text x.unsigned ++ (if says_no_more x then [] else reading_text x.signed)
 
 -- what a register may hold; an offset in the stack counts from its lower end
 abbrev pub kind_text : Kind → List ℕ

@@ -1,31 +1,62 @@
 //! What is known of the registers that an instruction reads.
 
 ghost use Rattle.std.specs.Prelude.{◌≡◌, ◌++◌, ◌<◌, ◌≤◌, ◌-◌, OnOk, codes, string_bytes};
-ghost use Rattle.std.specs.Fmt.{decimal};
+ghost use Rattle.std.specs.Fmt.{decimal, signed_decimal};
 ghost use Rattle.machine.specs.Memory.{byte_count, plain_size};
 ghost use Rattle.bpf_asm.specs.Listing.{with_sign};
 ghost use Rattle.intervals.specs.Seen.{span_of};
+ghost use Rattle.intervals.specs.SeenSigned.{signed_span_of};
+ghost use Rattle.intervals.specs.SeenBounds.{limits_of};
 ghost use Rattle.ranges.specs.Reading.{value};
 ghost use Rattle.ranges.specs.Seen.{kind_of};
 ghost use Rattle.ranges.specs.SeenStates.{state_of};
-ghost use Rattle.notes.specs.Known.{number_text, kind_text, size_text, room_text, within_text, wanted_text, head_text, register_note, base_note, source_note, operand_notes, argument_notes, known_notes};
+ghost use Rattle.notes.specs.Known.{word_text, says_no_more, reading_text, number_text, kind_text, size_text, room_text, within_text, wanted_text, head_text, register_note, base_note, source_note, operand_notes, argument_notes, known_notes};
 
 use arithmetic::{byte_count, plain_size};
 use bpf_isa::instr::{Instr, Operator, Source};
 use bpf_isa::register::Register;
 use helpers::Helper;
-use intervals::Range;
+use intervals::{Bounds, Range, SignedRange};
 use ranges::{State, Value};
 use std::alloc::AllocError;
 
 /// Appends the words of a range.
 fn put_range(out: &mut String, range: Range) -> Result<(), AllocError>
-    ensures { OnOk result (string_bytes out.new ≡ string_bytes out.old ++ number_text (span_of range)) }
+    ensures { OnOk result (string_bytes out.new ≡ string_bytes out.old ++ word_text (span_of range)) }
 {
     if range.low == range.high {
         write!(out, "the number {}", range.low)
     } else {
         write!(out, "a number, {} to {}", range.low, range.high)
+    }
+}
+
+/// Whether the words say all that the signed range does.
+fn says_no_more(bounds: Bounds) -> bool
+    ensures { result ≡ says_no_more (limits_of bounds) }
+{
+    let (words, readings) = (bounds.unsigned, bounds.signed);
+    words.high < 0x8000_0000_0000_0000
+        || 0x8000_0000_0000_0000 <= words.low
+        || (readings.low == i64::MIN && readings.high == i64::MAX)
+}
+
+/// Appends a signed range.
+fn put_readings(out: &mut String, range: SignedRange) -> Result<(), AllocError>
+    ensures { OnOk result (string_bytes out.new ≡ string_bytes out.old ++ reading_text (signed_span_of range)) }
+{
+    write!(out, ", signed {} to {}", range.low, range.high)
+}
+
+/// Appends the words of a number, and its readings where they say more.
+fn put_number(out: &mut String, bounds: Bounds) -> Result<(), AllocError>
+    ensures { OnOk result (string_bytes out.new ≡ string_bytes out.old ++ number_text (limits_of bounds)) }
+{
+    put_range(out, bounds.unsigned)?;
+    if says_no_more(bounds) {
+        Ok(())
+    } else {
+        put_readings(out, bounds.signed)
     }
 }
 
@@ -44,7 +75,7 @@ fn put_value(out: &mut String, value: Value) -> Result<(), AllocError>
 {
     match value {
         Value::Unset => out.push_str("unset, or not of one kind on all paths"),
-        Value::Num(range) => put_range(out, range),
+        Value::Num(bounds) => put_number(out, bounds),
         Value::Ctx(place) => write!(out, "the context, offset {}", place.offset),
         Value::Stack(place) => put_below(out, place.offset),
         Value::Sector(place) => write!(out, "a sector, offset {} to {}", place.low, place.high),

@@ -1,7 +1,7 @@
 -- The order of groups and of states.
-use Rattle.std.proofs.Common.{◌≡◌, ℕ, zero, suc, ◌&&◌, Bool, true, false, IsTrue, List, [], ◌∷◌, length, map, replicate, refl, sym, ◌∙◌, arith, ap, subst}
-use Rattle.ranges.specs.Kinds.{Kind, Unset, Num, Ctx, Stack, Sector, SectorOrNull, is_pointer, join, round}
-use Rattle.ranges.specs.Groups.{GroupKind, Marked, Spilled, zip_with, unset_marks, kept, join_group, round_group, GroupContains}
+use Rattle.std.proofs.Common.{◌≡◌, ℕ, zero, suc, ◌&&◌, ◌⊎◌, inl, inr, not, Bool, true, false, IsTrue, List, [], ◌∷◌, length, map, replicate, refl, sym, ◌∙◌, arith, ap, subst}
+use Rattle.ranges.specs.Kinds.{Kind, Unset, Num, Ctx, Stack, Sector, SectorOrNull, is_number, is_unset, join, round}
+use Rattle.ranges.specs.Groups.{GroupKind, Marked, Spilled, zip_with, unset_marks, kept, met, join_group, round_group, GroupContains}
 use Rattle.ranges.specs.States.{Abstract, join_state, round_state, StateContains}
 use Rattle.ranges.specs.Order.{Under, MarksUnder, GroupUnder, EachUnder, StateUnder, IsBounded, IsGroup, Each, IsState}
 use Rattle.ranges.proofs.Joins.{join_first, join_other, join_least, under_contains, round_under, round_mono}
@@ -64,11 +64,17 @@ marks_same [] (y ∷ ys) p = absurd p
 marks_same (x ∷ xs) [] p = absurd p
 marks_same (x ∷ xs) (y ∷ ys) p = rw (and_same x y p.0, marks_same xs ys p.1) refl
 
+or_unset : (k : Kind) (zs : List Bool) → is_number k ≡ false → IsTrue (is_number k) ⊎ (zs ≡ unset_marks) → zs ≡ unset_marks
+or_unset k zs e q = elim q [ inl n ↦ absurd (let t : is_number k ≡ true = n in cc) | inr same ↦ same ]
+
+unset_under : (zs : List Bool) → zs ≡ unset_marks → MarksUnder unset_marks zs
+unset_under zs e = rw e (marks_refl unset_marks)
+
 -- groups
 
 over_kept : (k m : Kind) → Under k m → GroupUnder (Spilled k) (kept m)
-over_kept k Unset p = refl
-over_kept k (Num x) p = refl
+over_kept k Unset p = inr refl
+over_kept k (Num x) p = p
 over_kept k (Ctx a) p = p
 over_kept k (Stack a) p = p
 over_kept k (Sector x) p = p
@@ -76,15 +82,34 @@ over_kept k SectorOrNull p = p
 
 kept_unset : (k : Kind) (zs : List Bool) → zs ≡ unset_marks → GroupUnder (kept k) (Marked zs)
 kept_unset Unset zs e = rw e (marks_refl unset_marks)
-kept_unset (Num x) zs e = rw e (marks_refl unset_marks)
-kept_unset (Ctx a) zs e = e
-kept_unset (Stack a) zs e = e
-kept_unset (Sector x) zs e = e
-kept_unset SectorOrNull zs e = e
+kept_unset (Num x) zs e = inr e
+kept_unset (Ctx a) zs e = inr e
+kept_unset (Stack a) zs e = inr e
+kept_unset (Sector x) zs e = inr e
+kept_unset SectorOrNull zs e = inr e
 
-kept_under : (k m : Kind) → IsTrue (is_pointer m) → Under k m → GroupUnder (kept k) (Spilled m)
+-- where both are numbers all bytes are written, and where one may be a pointer nothing is known
+kept_joined : (k l : Kind) (zs : List Bool) → IsTrue (is_number k) ⊎ (zs ≡ unset_marks) → IsTrue (is_number l) ⊎ (zs ≡ unset_marks)
+    → GroupUnder (kept (join k l)) (Marked zs)
+unfolding join
+kept_joined (Num x) (Num y) zs p q = inl refl
+kept_joined k l zs (inr e) q = kept_unset (join k l) zs e
+kept_joined k l zs p (inr e) = kept_unset (join k l) zs e
+kept_joined Unset l zs (inl n) q = absurd (let bad : false ≡ true = n in cc)
+kept_joined (Ctx a) l zs (inl n) q = absurd (let bad : false ≡ true = n in cc)
+kept_joined (Stack a) l zs (inl n) q = absurd (let bad : false ≡ true = n in cc)
+kept_joined (Sector x) l zs (inl n) q = absurd (let bad : false ≡ true = n in cc)
+kept_joined SectorOrNull l zs (inl n) q = absurd (let bad : false ≡ true = n in cc)
+kept_joined (Num x) Unset zs p (inl n) = absurd (let bad : false ≡ true = n in cc)
+kept_joined (Num x) (Ctx a) zs p (inl n) = absurd (let bad : false ≡ true = n in cc)
+kept_joined (Num x) (Stack a) zs p (inl n) = absurd (let bad : false ≡ true = n in cc)
+kept_joined (Num x) (Sector y) zs p (inl n) = absurd (let bad : false ≡ true = n in cc)
+kept_joined (Num x) SectorOrNull zs p (inl n) = absurd (let bad : false ≡ true = n in cc)
+
+kept_under : (k m : Kind) → IsTrue (not (is_unset m)) → Under k m → GroupUnder (kept k) (Spilled m)
 kept_under k Unset t p = absurd (let bad : false ≡ true = t in cc)
-kept_under k (Num x) t p = absurd (let bad : false ≡ true = t in cc)
+kept_under (Num x) (Num y) t p = p
+kept_under k (Num y) t p = absurd p
 kept_under (Ctx a) (Ctx b) t p = p
 kept_under k (Ctx b) t p = absurd p
 kept_under (Stack a) (Stack b) t p = p
@@ -94,34 +119,77 @@ kept_under k (Sector y) t p = absurd p
 kept_under SectorOrNull SectorOrNull t p = p
 kept_under k SectorOrNull t p = absurd p
 
-kept_pointer : (k : Kind) → IsTrue (is_pointer k) → kept k ≡ Spilled k
-kept_pointer Unset t = absurd (let bad : false ≡ true = t in cc)
-kept_pointer (Num x) t = absurd (let bad : false ≡ true = t in cc)
-kept_pointer (Ctx a) t = refl
-kept_pointer (Stack a) t = refl
-kept_pointer (Sector x) t = refl
-kept_pointer SectorOrNull t = refl
+kept_known : (k : Kind) → IsTrue (not (is_unset k)) → kept k ≡ Spilled k
+kept_known Unset t = absurd (let bad : false ≡ true = t in cc)
+kept_known (Num x) t = refl
+kept_known (Ctx a) t = refl
+kept_known (Stack a) t = refl
+kept_known (Sector x) t = refl
+kept_known SectorOrNull t = refl
+
+-- marks where a value is kept instead
+
+marks_met : (xs : List Bool) (k : Kind) → length xs ≡ 8 → MarksUnder xs (met xs k)
+marks_met xs (Num x) e = marks_refl xs
+marks_met xs Unset e = marks_unset xs 8 e
+marks_met xs (Ctx a) e = marks_unset xs 8 e
+marks_met xs (Stack a) e = marks_unset xs 8 e
+marks_met xs (Sector x) e = marks_unset xs 8 e
+marks_met xs SectorOrNull e = marks_unset xs 8 e
+
+value_met : (xs : List Bool) (k : Kind) → GroupUnder (Spilled k) (Marked (met xs k))
+value_met xs (Num x) = inl refl
+value_met xs Unset = inr refl
+value_met xs (Ctx a) = inr refl
+value_met xs (Stack a) = inr refl
+value_met xs (Sector x) = inr refl
+value_met xs SectorOrNull = inr refl
+
+met_under : (xs : List Bool) (k : Kind) (zs : List Bool) → MarksUnder xs zs → IsTrue (is_number k) ⊎ (zs ≡ unset_marks) → MarksUnder (met xs k) zs
+met_under xs (Num x) zs p q = p
+met_under xs Unset zs p q = unset_under zs (or_unset Unset zs refl q)
+met_under xs (Ctx a) zs p q = unset_under zs (or_unset (Ctx a) zs refl q)
+met_under xs (Stack a) zs p q = unset_under zs (or_unset (Stack a) zs refl q)
+met_under xs (Sector x) zs p q = unset_under zs (or_unset (Sector x) zs refl q)
+met_under xs SectorOrNull zs p q = unset_under zs (or_unset SectorOrNull zs refl q)
+
+met_same : (xs : List Bool) (k : Kind) → IsTrue (is_number k) ⊎ (xs ≡ unset_marks) → met xs k ≡ xs
+met_same xs (Num x) q = refl
+met_same xs Unset q = sym (or_unset Unset xs refl q)
+met_same xs (Ctx a) q = sym (or_unset (Ctx a) xs refl q)
+met_same xs (Stack a) q = sym (or_unset (Stack a) xs refl q)
+met_same xs (Sector x) q = sym (or_unset (Sector x) xs refl q)
+met_same xs SectorOrNull q = sym (or_unset SectorOrNull xs refl q)
+
+round_marks : (k : Kind) (ys : List Bool) → IsTrue (is_number k) ⊎ (ys ≡ unset_marks) → IsTrue (is_number (round k)) ⊎ (ys ≡ unset_marks)
+unfolding round
+round_marks (Num x) ys q = inl refl
+round_marks Unset ys q = q
+round_marks (Ctx a) ys q = q
+round_marks (Stack a) ys q = q
+round_marks (Sector x) ys q = inr (or_unset (Sector x) ys refl q)
+round_marks SectorOrNull ys q = q
 
 group_first : (g h : GroupKind) → IsGroup g → IsGroup h → GroupUnder g (join_group g h)
 unfolding join_group
 group_first (Marked xs) (Marked ys) a b = marks_first xs ys (a ∙ sym b)
-group_first (Marked xs) (Spilled l) a b = marks_unset xs 8 a
-group_first (Spilled k) (Marked ys) a b = refl
+group_first (Marked xs) (Spilled l) a b = marks_met xs l a
+group_first (Spilled k) (Marked ys) a b = value_met ys k
 group_first (Spilled k) (Spilled l) a b = over_kept k (join k l) (join_first k l)
 
 group_other : (g h : GroupKind) → IsGroup g → IsGroup h → GroupUnder h (join_group g h)
 unfolding join_group
 group_other (Marked xs) (Marked ys) a b = marks_other xs ys (a ∙ sym b)
-group_other (Marked xs) (Spilled l) a b = refl
-group_other (Spilled k) (Marked ys) a b = marks_unset ys 8 b
+group_other (Marked xs) (Spilled l) a b = value_met xs l
+group_other (Spilled k) (Marked ys) a b = marks_met ys k b
 group_other (Spilled k) (Spilled l) a b = over_kept l (join k l) (join_other k l)
 
 group_least : (g h u : GroupKind) → IsGroup u → GroupUnder g u → GroupUnder h u → GroupUnder (join_group g h) u
 unfolding join_group
 group_least (Marked xs) (Marked ys) (Marked zs) c p q = marks_least xs ys zs p q
-group_least (Marked xs) (Spilled l) (Marked zs) c p q = rw q (marks_refl unset_marks)
-group_least (Spilled k) (Marked ys) (Marked zs) c p q = rw p (marks_refl unset_marks)
-group_least (Spilled k) (Spilled l) (Marked zs) c p q = kept_unset (join k l) zs p
+group_least (Marked xs) (Spilled l) (Marked zs) c p q = met_under xs l zs p q
+group_least (Spilled k) (Marked ys) (Marked zs) c p q = met_under ys k zs q p
+group_least (Spilled k) (Spilled l) (Marked zs) c p q = kept_joined k l zs p q
 group_least (Spilled k) (Spilled l) (Spilled m) c p q = kept_under (join k l) m c.0 (join_least k l m p q)
 group_least (Marked xs) h (Spilled m) c p q = absurd p
 group_least (Spilled k) (Marked ys) (Spilled m) c p q = absurd q
@@ -129,9 +197,9 @@ group_least (Spilled k) (Marked ys) (Spilled m) c p q = absurd q
 group_same : (g h : GroupKind) → IsGroup g → GroupUnder h g → GroupContains g h
 unfolding join_group
 group_same (Marked xs) (Marked ys) a p = ap (λ z. Marked z) (marks_same xs ys p)
-group_same (Marked xs) (Spilled l) a p = ap (λ z. Marked z) (sym p)
+group_same (Marked xs) (Spilled l) a p = ap (λ z. Marked z) (met_same xs l p)
 group_same (Spilled k) (Marked ys) a p = absurd p
-group_same (Spilled k) (Spilled l) a p = ap kept (under_contains k l p) ∙ kept_pointer k a.0
+group_same (Spilled k) (Spilled l) a p = ap kept (under_contains k l p) ∙ kept_known k a.0
 
 group_round : (g : GroupKind) → IsGroup g → GroupUnder g (round_group g)
 unfolding round_group
@@ -142,7 +210,7 @@ group_round_mono : (g h : GroupKind) → IsGroup g → IsGroup h → GroupUnder 
 unfolding round_group
 group_round_mono (Marked xs) (Marked ys) a b p = p
 group_round_mono (Marked xs) (Spilled l) a b p = absurd p
-group_round_mono (Spilled k) (Marked ys) a b p = p
+group_round_mono (Spilled k) (Marked ys) a b p = round_marks k ys p
 group_round_mono (Spilled k) (Spilled l) a b p = round_mono k l a.1 b.1 p
 
 -- lists, place by place

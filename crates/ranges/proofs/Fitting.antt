@@ -1,11 +1,13 @@
 -- The bounds of values, groups and states are kept.
-use Rattle.std.proofs.Common.{◌≡◌, ℕ, zero, suc, ◌-◌, ◌^◌, ◌≤◌, ◌==◌, ◌&&◌, Bool, true, false, if◌then◌else◌, IsTrue, List, [], ◌∷◌, length, map, replicate, get_or, refl, sym, ◌∙◌, arith}
+use Rattle.std.proofs.Common.{◌≡◌, ℕ, zero, suc, ◌-◌, ◌^◌, ◌≤◌, ◌==◌, ◌&&◌, not, Bool, true, false, if◌then◌else◌, IsTrue, List, [], ◌∷◌, length, map, replicate, get_or, refl, sym, ◌∙◌, arith}
 use Rattle.std.specs.Prelude.{set}
 use Rattle.std.proofs.lemmas.List.{length-map}
 use Rattle.intervals.specs.Spans.{Span, IsSpan, hull}
 use Rattle.intervals.proofs.Digits.{rounded_fits}
-use Rattle.ranges.specs.Kinds.{Kind, Unset, Num, Ctx, Stack, Sector, SectorOrNull, is_pointer, join, round}
-use Rattle.ranges.specs.Groups.{GroupKind, Marked, Spilled, zip_with, unset_marks, kept, join_group, round_group}
+use Rattle.intervals.proofs.Smaller as limits
+use Rattle.intervals.proofs.SignedDigits.{limits_rounded_fits}
+use Rattle.ranges.specs.Kinds.{Kind, Unset, Num, Ctx, Stack, Sector, SectorOrNull, is_unset, join, round}
+use Rattle.ranges.specs.Groups.{GroupKind, Marked, Spilled, zip_with, unset_marks, kept, met, join_group, round_group}
 use Rattle.ranges.specs.States.{Abstract, join_state, round_state, start, unset_groups}
 use Rattle.ranges.specs.Order.{IsBounded, IsGroup, Each, IsState}
 
@@ -57,7 +59,7 @@ hull_fits m x y p q = record { ordered = omega (arith, p.ordered, q.ordered); mo
 
 pub join_fits : (k l : Kind) → IsBounded k → IsBounded l → IsBounded (join k l)
 unfolding join
-join_fits (Num x) (Num y) h g = hull_fits (2 ^ 64 - 1) x y h g
+join_fits (Num x) (Num y) h g = limits.hull_fits x y h g
 join_fits (Ctx a) (Ctx b) h g = context_fits (a == b) a h
 join_fits (Stack a) (Stack b) h g = stack_fits (a == b) a h
 join_fits (Sector x) (Sector y) h g = hull_fits 65535 x y h g
@@ -67,42 +69,50 @@ join_fits _ _ h g = tt
 pub round_fits : (k : Kind) → IsBounded k → IsBounded (round k)
 unfolding round
 round_fits Unset h = tt
-round_fits (Num x) h = rounded_fits 64 x (omega arith) h
+round_fits (Num x) h = limits_rounded_fits x h
 round_fits (Ctx a) h = h
 round_fits (Stack a) h = h
 round_fits (Sector x) h = rounded_fits 16 x (omega arith) h
 round_fits SectorOrNull h = tt
 
-round_pointer : (k : Kind) → IsTrue (is_pointer k) → IsTrue (is_pointer (round k))
+round_known : (k : Kind) → IsTrue (not (is_unset k)) → IsTrue (not (is_unset (round k)))
 unfolding round
-round_pointer Unset t = t
-round_pointer (Num x) t = t
-round_pointer (Ctx a) t = t
-round_pointer (Stack a) t = t
-round_pointer (Sector x) t = t
-round_pointer SectorOrNull t = t
+round_known Unset t = t
+round_known (Num x) t = t
+round_known (Ctx a) t = t
+round_known (Stack a) t = t
+round_known (Sector x) t = t
+round_known SectorOrNull t = t
 
 -- groups
 
 kept_fits : (k : Kind) → IsBounded k → IsGroup (kept k)
 kept_fits Unset h = refl
-kept_fits (Num x) h = refl
+kept_fits (Num x) h = (refl, h)
 kept_fits (Ctx a) h = (refl, h)
 kept_fits (Stack a) h = (refl, h)
 kept_fits (Sector x) h = (refl, h)
 kept_fits SectorOrNull h = (refl, tt)
 
+met_fits : (marks : List Bool) (k : Kind) → length marks ≡ 8 → IsGroup (Marked (met marks k))
+met_fits marks (Num x) e = e
+met_fits marks Unset e = refl
+met_fits marks (Ctx a) e = refl
+met_fits marks (Stack a) e = refl
+met_fits marks (Sector x) e = refl
+met_fits marks SectorOrNull e = refl
+
 join_group_fits : (g h : GroupKind) → IsGroup g → IsGroup h → IsGroup (join_group g h)
 unfolding join_group
 join_group_fits (Marked xs) (Marked ys) a b = length_zip (λ x y. x && y) xs ys (a ∙ sym b) ∙ a
-join_group_fits (Marked xs) (Spilled l) a b = refl
-join_group_fits (Spilled k) (Marked ys) a b = refl
+join_group_fits (Marked xs) (Spilled l) a b = met_fits xs l a
+join_group_fits (Spilled k) (Marked ys) a b = met_fits ys k b
 join_group_fits (Spilled k) (Spilled l) a b = kept_fits (join k l) (join_fits k l a.1 b.1)
 
 round_group_fits : (g : GroupKind) → IsGroup g → IsGroup (round_group g)
 unfolding round_group
 round_group_fits (Marked xs) a = a
-round_group_fits (Spilled k) a = (round_pointer k a.0, round_fits k a.1)
+round_group_fits (Spilled k) a = (round_known k a.0, round_fits k a.1)
 
 -- states
 

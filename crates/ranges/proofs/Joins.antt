@@ -3,6 +3,8 @@ use Rattle.std.proofs.Common.{◌≡◌, ℕ, ◌-◌, ◌^◌, ◌==◌, Bool, 
 use Rattle.std.proofs.lemmas.Bool.Decides.{eqb_tells}
 use Rattle.intervals.specs.Spans.{Span, IsSpan, Within, hull}
 use Rattle.intervals.proofs.Digits.{rounded_within, rounded_mono}
+use Rattle.intervals.proofs.SignedDigits.{rounded_is, limits_rounded_mono}
+use Rattle.intervals.proofs.CallerLemmas.{hull_has_first, hull_has_other, hull_is_below, hull_is_first}
 use Rattle.ranges.specs.Kinds.{Kind, Unset, Num, Ctx, Stack, Sector, SectorOrNull, join, round, Contains}
 use Rattle.ranges.specs.Order.{Under, IsBounded}
 
@@ -35,7 +37,7 @@ first_stack false a = tt
 
 pub join_first : (k l : Kind) → Under k (join k l)
 unfolding join
-join_first (Num x) (Num y) = hull_first x y
+join_first (Num x) (Num y) = hull_has_first x y
 join_first (Ctx a) (Ctx b) = first_context (a == b) a
 join_first (Stack a) (Stack b) = first_stack (a == b) a
 join_first (Sector x) (Sector y) = hull_first x y
@@ -44,7 +46,7 @@ join_first _ _ = tt
 
 pub join_other : (k l : Kind) → Under l (join k l)
 unfolding join
-join_other (Num x) (Num y) = hull_other x y
+join_other (Num x) (Num y) = hull_has_other x y
 join_other (Ctx a) (Ctx b) = elim (eqb_tells a b) [ inl t ↦ rw t.0 (sym t.1) | inr f ↦ rw f.0 tt ]
 join_other (Stack a) (Stack b) = elim (eqb_tells a b) [ inl t ↦ rw t.0 (sym t.1) | inr f ↦ rw f.0 tt ]
 join_other (Sector x) (Sector y) = hull_other x y
@@ -54,7 +56,7 @@ join_other _ _ = tt
 pub join_least : (k l m : Kind) → Under k m → Under l m → Under (join k l) m
 unfolding join
 join_least k l Unset p q = tt
-join_least (Num x) (Num y) (Num z) p q = hull_least x y z p q
+join_least (Num x) (Num y) (Num z) p q = hull_is_below x y z p q
 join_least (Num x) l (Num z) p q = absurd q
 join_least k l (Num z) p q = absurd p
 join_least (Ctx a) (Ctx b) (Ctx c) p q = rw (same_tested a b (p ∙ sym q)) p
@@ -73,7 +75,7 @@ join_least k l SectorOrNull p q = absurd p
 pub under_contains : (k l : Kind) → Under l k → Contains k l
 unfolding join
 under_contains Unset l p = refl
-under_contains (Num x) (Num y) p = ap (λ z. Num z) (hull_same x y p)
+under_contains (Num x) (Num y) p = ap (λ z. Num z) (hull_is_first x y p)
 under_contains (Num x) l p = absurd p
 under_contains (Ctx a) (Ctx b) p = rw (same_tested a b (sym p)) refl
 under_contains (Ctx a) l p = absurd p
@@ -93,7 +95,7 @@ word_span x h = record { ordered = h.ordered; most = omega (arith, h.most) }
 pub round_under : (k : Kind) → IsBounded k → Under k (round k)
 unfolding round
 round_under Unset h = tt
-round_under (Num x) h = rounded_within x h
+round_under (Num x) h = (rounded_is x h).within
 round_under (Ctx a) h = refl
 round_under (Stack a) h = refl
 round_under (Sector x) h = rounded_within x (word_span x h)
@@ -102,7 +104,7 @@ round_under SectorOrNull h = tt
 pub round_mono : (k l : Kind) → IsBounded k → IsBounded l → Under k l → Under (round k) (round l)
 unfolding round
 round_mono k Unset h g p = tt
-round_mono (Num x) (Num y) h g p = rounded_mono x y h g p
+round_mono (Num x) (Num y) h g p = limits_rounded_mono x y h g p
 round_mono k (Num y) h g p = absurd p
 round_mono (Ctx a) (Ctx b) h g p = p
 round_mono k (Ctx b) h g p = absurd p

@@ -1,7 +1,7 @@
 -- The bounds are kept by instructions.
 use Rattle.std.proofs.Common.{◌≡◌, ℕ, zero, suc, ◌+◌, ◌-◌, ◌/◌, ◌^◌, ◌<◌, ◌≤◌, ◌==◌, nat_le, ◌&&◌, ◌||◌, Bool, true, false, if◌then◌else◌, ℤ, pos, negsuc, ◌+ℤ◌, ◌-ℤ◌, ◌≤ℤ◌, List, [], ◌∷◌, length, get_or, Option, None, Some, refl, ◌∙◌, arith}
-use Rattle.std.specs.Prelude.{set, unwrap_or}
-use Rattle.std.specs.Option.{option_map, option_map_or, option_and_then}
+use Rattle.std.specs.Prelude.{set, not}
+use Rattle.std.specs.Option.{option_map, option_map_or, option_and_then, option_or}
 use Rattle.std.specs.Int.{cast_unsigned, w32}
 use Rattle.std.proofs.lemmas.Int.{ints}
 use Rattle.std.proofs.lemmas.List.{length-set}
@@ -21,21 +21,21 @@ use Rattle.helpers.specs.declared.helper.Helper.TheVariants as helper
 use Rattle.helpers.specs.Helper.{helper_of}
 use Rattle.machine.specs.Memory.{byte_count}
 use Rattle.intervals.specs.Spans.{Span, span, only, is_constant, IsSpan}
-use Rattle.intervals.specs.Results.{result_of}
-use Rattle.intervals.proofs.Computations.{arithmetic_fits, negated_fits}
-use Rattle.intervals.proofs.Extensions.{extended_fits}
-use Rattle.intervals.proofs.Orders.{ordered_fits}
+use Rattle.intervals.specs.Seen.{immediate_span}
+use Rattle.intervals.specs.Reducing.{Limits, IsLimits, any_sign}
+use Rattle.intervals.specs.SignedResults.{limits_result_of}
+use Rattle.intervals.specs.SignedEdges.{limits_refined}
+use Rattle.intervals.proofs.Reduced.{any_fits}
+use Rattle.intervals.proofs.Outcomes.{refined_fits}
+use Rattle.intervals.proofs.CallerLemmas.{limits_fit, words_are_limits}
 use Rattle.ranges.specs.declared.place.Place.{Place}
 use Rattle.ranges.specs.declared.place.Place.TheVariants as place
-use Rattle.ranges.specs.Kinds.{Kind, Unset, Num, Ctx, Stack, Sector, is_pointer}
+use Rattle.ranges.specs.Kinds.{Kind, Unset, Num, Ctx, Stack, Sector, is_unset}
 use Rattle.ranges.specs.Groups.{GroupKind, Marked, Spilled, map_places}
 use Rattle.ranges.specs.States.{Abstract, start}
 use Rattle.ranges.specs.Pointers.{offset_in, offsets_in, moved_offset, moved_place, moved_offsets, moved}
 use Rattle.ranges.specs.Reading.{value, second, with_value, with_groups, words, any_word}
 use Rattle.ranges.specs.Places.{place_of, is_group}
-use Rattle.intervals.specs.Edges.{refined}
-use Rattle.intervals.specs.Laws.{Shrinks}
-use Rattle.intervals.proofs.Edges.{refined_shrinks}
 use Rattle.ranges.specs.Rules.{length_of, is_null_test}
 use Rattle.ranges.specs.Passing.{edge_of, with_both, tested_kind, is_equal_edge, given, entry_state}
 use Rattle.ranges.specs.After.{computed, result_kind, context_word, any_of, group_value, loaded_kind, is_touched, marks_after, group_after, written, written_at, stored_groups, answer_kind, answered, copied_state, call_after, after_of}
@@ -50,9 +50,14 @@ holds_map : {X Y : Type 0} (P : X → Type 0) (Q : Y → Type 0) (f : X → Y) �
 holds_map P Q f g None h = tt
 holds_map P Q f g (Some x) h = g x h
 
-holds_or : {X : Type 0} (P : X → Type 0) (m : Option X) (d : X) → Holds P m → P d → P (unwrap_or m d)
-holds_or P None d h e = e
-holds_or P (Some x) d h e = h
+holds_or : {X : Type 0} (P : X → Type 0) (m n : Option X) → Holds P m → Holds P n → Holds P (option_or m n)
+holds_or P None n h e = e
+holds_or P (Some x) n h e = h
+
+-- what holds of whatever an option is
+holds_of : {X : Type 0} (P : X → Type 0) (m : Option X) → ((x : X) → m ≡ Some x → P x) → Holds P m
+holds_of P None f = tt
+holds_of P (Some x) f = f x refl
 
 -- pointers that move
 
@@ -70,28 +75,30 @@ place_fits limit down o y = by_test (is_constant y)
 
 -- numbers
 
-any_fits : IsSpan (2 ^ 64 - 1) any_word
-any_fits = record { ordered = omega arith; most = omega arith }
+-- the words of a range, whatever their readings are
+up_to_fits : (low high : ℕ) → low ≤ high → high < 2 ^ 64 → IsBounded (Num (any_sign (span low high)))
+up_to_fits low high h k = any_fits (span low high) (record { ordered = h; most = omega (arith, k) })
 
-pub words_fit : (k : Kind) → IsBounded k → IsSpan (2 ^ 64 - 1) (words k)
+any_word_fits : IsLimits any_word
+any_word_fits = up_to_fits 0 (2 ^ 64 - 1) (omega arith) (omega arith)
+
+pub words_fit : (k : Kind) → IsBounded k → IsLimits (words k)
 words_fit (Num x) h = h
-words_fit _ h = any_fits
+words_fit _ h = any_word_fits
 
-computed_fits : (i : Instr) (k l : Kind) → IsBounded k → IsBounded l → IsBounded (computed i k l)
-unfolding result_of
-computed_fits (instr.Arithmetic w o dst from) k l h g = arithmetic_fits w o (words k) (words l) (words_fit k h) (words_fit l g)
-computed_fits (instr.Negate w dst) k l h g = negated_fits w (words k) (words_fit k h)
-computed_fits (instr.SignExtend e dst src) k l h g = extended_fits e (words l) (words_fit l g)
-computed_fits (instr.ByteOrder o size dst) k l h g = ordered_fits o size (words k) (words_fit k h)
-computed_fits _ k l h g = tt
+computed_fits : (i : Instr) (k l : Kind) → IsBounded k → IsBounded l → Holds IsBounded (computed i k l)
+computed_fits i k l h g =
+    holds_map IsLimits IsBounded (λ x. Num x) (λ x e. e) (limits_result_of i (words k) (words l))
+    (holds_of IsLimits (limits_result_of i (words k) (words l))
+    (λ x e. limits_fit i (words k) (words l) x (words_are_limits (words k) (words_fit k h)) (words_are_limits (words l) (words_fit l g)) e))
 
 -- loads
 
 any_of_fits : (s : Size) → IsBounded (any_of (byte_count s))
-any_of_fits size.Byte = record { ordered = omega arith; most = omega arith }
-any_of_fits size.Half = record { ordered = omega arith; most = omega arith }
-any_of_fits size.Word = record { ordered = omega arith; most = omega arith }
-any_of_fits size.Double = record { ordered = omega arith; most = omega arith }
+any_of_fits size.Byte = up_to_fits 0 (2 ^ 8 - 1) (omega arith) (omega arith)
+any_of_fits size.Half = up_to_fits 0 (2 ^ 16 - 1) (omega arith) (omega arith)
+any_of_fits size.Word = up_to_fits 0 (2 ^ 32 - 1) (omega arith) (omega arith)
+any_of_fits size.Double = up_to_fits 0 (2 ^ 64 - 1) (omega arith) (omega arith)
 
 group_value_fits : (g : GroupKind) → IsGroup g → IsBounded (group_value g)
 group_value_fits (Marked marks) h = any_of_fits size.Double
@@ -157,13 +164,13 @@ moved_fit down x y h g = by_kind (is_constant y) (nat_le y.high 65535) down
 
 moved_kind_fits : (down : Bool) (k l : Kind) → IsBounded k → IsBounded l → Holds IsBounded (moved down k l)
 unfolding moved
-moved_kind_fits down (Ctx o) (Num y) h g = holds_map (λ n. n ≤ 32) IsBounded (λ p. Ctx p) (λ n e. e) (moved_place 32 down o y) (place_fits 32 down o y)
-moved_kind_fits down (Stack o) (Num y) h g = holds_map (λ n. n ≤ 512) IsBounded (λ p. Stack p) (λ n e. e) (moved_place 512 down o y) (place_fits 512 down o y)
-moved_kind_fits down (Sector x) (Num y) h g = holds_map (λ z. IsSpan 65535 z) IsBounded (λ z. Sector z) (λ z e. e) (moved_offsets down x y) (moved_fit down x y h g)
+moved_kind_fits down (Ctx o) (Num y) h g = holds_map (λ n. n ≤ 32) IsBounded (λ p. Ctx p) (λ n e. e) (moved_place 32 down o y.unsigned) (place_fits 32 down o y.unsigned)
+moved_kind_fits down (Stack o) (Num y) h g = holds_map (λ n. n ≤ 512) IsBounded (λ p. Stack p) (λ n e. e) (moved_place 512 down o y.unsigned) (place_fits 512 down o y.unsigned)
+moved_kind_fits down (Sector x) (Num y) h g = holds_map (λ z. IsSpan 65535 z) IsBounded (λ z. Sector z) (λ z e. e) (moved_offsets down x y.unsigned) (moved_fit down x y.unsigned h g.words)
 moved_kind_fits down _ _ h g = tt
 
 -- the results of arithmetic, one case for each form that result_kind knows
-result_fits : (i : Instr) (k l : Kind) → IsBounded k → IsBounded l → IsBounded (result_kind i k l)
+result_fits : (i : Instr) (k l : Kind) → IsBounded k → IsBounded l → Holds IsBounded (result_kind i k l)
 unfolding result_kind
 result_fits (instr.Arithmetic width.W64 op.Mov dst from) k l h g = g
 result_fits (instr.Arithmetic width.W64 op.Add dst from) k l h g =
@@ -179,11 +186,11 @@ result_fits i k l h g = computed_fits i k l h g
 word_fits : (sectors at : ℕ) → sectors < 2 ^ 64 → IsBounded (context_word sectors at)
 word_fits sectors at h = by_place (at == 0) (at == 8) (at == 16)
   where
-    by_place : (a b c : Bool) → IsBounded (if a then Num (only sectors) else if b || c then Num (span 0 65536) else Num (only 0))
-    by_place true b c = record { ordered = omega arith; most = omega arith }
-    by_place false true c = record { ordered = omega arith; most = omega arith }
-    by_place false false true = record { ordered = omega arith; most = omega arith }
-    by_place false false false = record { ordered = omega arith; most = omega arith }
+    by_place : (a b c : Bool) → IsBounded (if a then Num (any_sign (only sectors)) else if b || c then Num (any_sign (span 0 65536)) else Num (any_sign (only 0)))
+    by_place true b c = up_to_fits sectors sectors (omega arith) h
+    by_place false true c = up_to_fits 0 65536 (omega arith) (omega arith)
+    by_place false false true = up_to_fits 0 65536 (omega arith) (omega arith)
+    by_place false false false = up_to_fits 0 0 (omega arith) (omega arith)
 
 loaded_fits : (sectors : ℕ) (groups : List GroupKind) (p : Place) (s : Size) → sectors < 2 ^ 64 → Each IsGroup groups
     → IsBounded (loaded_kind sectors groups p (byte_count s))
@@ -231,9 +238,9 @@ written_fits s place.Sector n a = a
 
 stored_fits : (s : Abstract) (k : Kind) (p : Place) (n : ℕ) → IsBounded k → IsState s → IsState (with_groups s (stored_groups k s.groups p n))
 unfolding stored_groups
-stored_fits s k (place.Stack at) n h a = by_test (is_pointer k) (is_group at n) refl
+stored_fits s k (place.Stack at) n h a = by_test (not (is_unset k)) (is_group at n) refl
   where
-    by_test : (b c : Bool) → is_pointer k ≡ b → IsState (with_groups s (if b && c then set s.groups (at / 8) (Spilled k) else written at n s.groups))
+    by_test : (b c : Bool) → not (is_unset k) ≡ b → IsState (with_groups s (if b && c then set s.groups (at / 8) (Spilled k) else written at n s.groups))
     by_test true true e = with_groups_fits s (set s.groups (at / 8) (Spilled k)) a (each_set IsGroup s.groups (at / 8) (Spilled k) (e, h) a.groups) (length-set s.groups (at / 8) (Spilled k))
     by_test true false e = written_fits s (place.Stack at) n a
     by_test false c e = written_fits s (place.Stack at) n a
@@ -245,8 +252,12 @@ stored_fits s k place.Sector n h a = a
 
 answer_fits : (h : Helper) → IsBounded (answer_kind h)
 answer_fits helper.Sector = tt
-answer_fits helper.Mix = any_fits
-answer_fits _ = record { ordered = omega arith; most = omega arith }
+answer_fits helper.Mix = any_word_fits
+answer_fits helper.Copy = up_to_fits 0 1 (omega arith) (omega arith)
+answer_fits helper.Again = up_to_fits 0 1 (omega arith) (omega arith)
+answer_fits helper.Report = up_to_fits 0 1 (omega arith) (omega arith)
+answer_fits helper.Zero = up_to_fits 0 2 (omega arith) (omega arith)
+answer_fits helper.Same = up_to_fits 0 2 (omega arith) (omega arith)
 
 answered_fits : (s : Abstract) (k : Kind) → IsBounded k → IsState s → IsState (answered s k)
 answered_fits s k h a =
@@ -270,51 +281,64 @@ call_fits s helper.Mix a = answered_fits s (answer_kind helper.Mix) (answer_fits
 call_fits s helper.Same a = answered_fits s (answer_kind helper.Same) (answer_fits helper.Same) a
 
 pub second_fits : (s : Abstract) (from : Source) → IsSourceInRange from → IsState s → IsBounded (second s from)
-second_fits s (source.Immediate n) h a = record { ordered = omega arith; most = sized_most width.W64 n (grind (arith, ints, nat_tests, h)) }
+second_fits s (source.Immediate n) h a =
+    any_fits (immediate_span n) (record { ordered = omega arith; most = sized_most width.W64 n (grind (arith, ints, nat_tests, h)) })
 second_fits s (source.Register r) h a = value_fits s r a
 
-pub after_fits : (sectors : ℕ) (s : Abstract) (i : Instr) → sectors < 2 ^ 64 → IsInRange i → IsState s → IsState (after_of sectors s i)
+-- a register with a result, if there is one
+register_fits : (s : Abstract) (r : ℕ) (m : Option Kind) → Holds IsBounded m → IsState s → Holds IsState (option_map (with_value s r) m)
+register_fits s r m h a = holds_map IsBounded IsState (with_value s r) (λ k e. with_value_fits s r k e a) m h
+
+pub after_fits : (sectors : ℕ) (s : Abstract) (i : Instr) → sectors < 2 ^ 64 → IsInRange i → IsState s → Holds IsState (after_of sectors s i)
 unfolding after_of IsInRange
 after_fits sectors s (instr.Arithmetic w o dst from) h r a =
-    with_value_fits s dst (result_kind (instr.Arithmetic w o dst from) (value s dst) (second s from)) (result_fits (instr.Arithmetic w o dst from) (value s dst) (second s from) (value_fits s dst a) (second_fits s from r.1 a)) a
+    register_fits s dst (result_kind (instr.Arithmetic w o dst from) (value s dst) (second s from)) (result_fits (instr.Arithmetic w o dst from) (value s dst) (second s from) (value_fits s dst a) (second_fits s from r.1 a)) a
 after_fits sectors s (instr.Negate w dst) h r a =
-    with_value_fits s dst (computed (instr.Negate w dst) (value s dst) Unset) (computed_fits (instr.Negate w dst) (value s dst) Unset (value_fits s dst a) tt) a
+    register_fits s dst (computed (instr.Negate w dst) (value s dst) Unset) (computed_fits (instr.Negate w dst) (value s dst) Unset (value_fits s dst a) tt) a
 after_fits sectors s (instr.SignExtend e dst src) h r a =
-    with_value_fits s dst (computed (instr.SignExtend e dst src) Unset (value s src)) (computed_fits (instr.SignExtend e dst src) Unset (value s src) tt (value_fits s src a)) a
+    register_fits s dst (computed (instr.SignExtend e dst src) Unset (value s src)) (computed_fits (instr.SignExtend e dst src) Unset (value s src) tt (value_fits s src a)) a
 after_fits sectors s (instr.ByteOrder o size dst) h r a =
-    with_value_fits s dst (computed (instr.ByteOrder o size dst) (value s dst) Unset) (computed_fits (instr.ByteOrder o size dst) (value s dst) Unset (value_fits s dst a) tt) a
+    register_fits s dst (computed (instr.ByteOrder o size dst) (value s dst) Unset) (computed_fits (instr.ByteOrder o size dst) (value s dst) Unset (value_fits s dst a) tt) a
 after_fits sectors s (instr.Jump distance) h r a = a
 after_fits sectors s (instr.LongJump distance) h r a = a
 after_fits sectors s (instr.Branch w c dst from distance) h r a = a
 after_fits sectors s (instr.CallHelper number) h r a = by_helper (helper_of (cast_unsigned w32 number))
   where
     by_helper : (m : Option Helper) → IsState (option_map_or (call_after s) m (answered s (Num any_word)))
-    by_helper None = answered_fits s (Num any_word) any_fits a
+    by_helper None = answered_fits s (Num any_word) any_word_fits a
     by_helper (Some x) = call_fits s x a
-after_fits sectors s (instr.CallLocal distance) h r a = answered_fits s (Num any_word) any_fits a
+after_fits sectors s (instr.CallLocal distance) h r a = answered_fits s (Num any_word) any_word_fits a
 after_fits sectors s instr.Exit h r a = a
 after_fits sectors s (instr.Load size dst base distance) h r a =
     with_value_fits s dst (loaded_kind sectors s.groups (place_of (value s base) distance (byte_count size)) (byte_count size)) (loaded_fits sectors s.groups (place_of (value s base) distance (byte_count size)) size h a.groups) a
-after_fits sectors s (instr.LoadSigned size dst base distance) h r a = with_value_fits s dst (Num any_word) any_fits a
+after_fits sectors s (instr.LoadSigned size dst base distance) h r a = with_value_fits s dst (Num any_word) any_word_fits a
 after_fits sectors s (instr.StoreImmediate size base distance n) h r a =
     stored_fits s (second s (source.Immediate n)) (place_of (value s base) distance (byte_count size)) (byte_count size) (second_fits s (source.Immediate n) r.2 a) a
 after_fits sectors s (instr.Store size base distance src) h r a =
     stored_fits s (value s src) (place_of (value s base) distance (byte_count size)) (byte_count size) (value_fits s src a) a
 after_fits sectors s (instr.LoadImmediate dst x) h r a =
     let small : x < 2 ^ 64 = r.1 in
-    with_value_fits s dst (Num (only x)) (record { ordered = omega arith; most = omega arith }) a
+    with_value_fits s dst (Num (any_sign (only x))) (up_to_fits x x (omega arith) small) a
 
 -- edges
 
-refined_state_fits : (s : Abstract) (dst : ℕ) (from : Source) (x y : Span) (m : Option (Span × Span)) → Shrinks m x y → IsState s
+abbrev AreBoth : Limits × Limits → Type 0
+AreBoth p = IsLimits p.0 × IsLimits p.1
+
+refined_state_fits : (s : Abstract) (dst : ℕ) (from : Source) (m : Option (Limits × Limits)) → Holds AreBoth m → IsState s
     → Holds IsState (option_map (with_both s dst from) m)
-refined_state_fits s dst from x y None h a = tt
-refined_state_fits s dst (source.Immediate n) x y (Some p) h a = with_value_fits s dst (Num p.0) h.0 a
-refined_state_fits s dst (source.Register r) x y (Some p) h a =
+refined_state_fits s dst from None h a = tt
+refined_state_fits s dst (source.Immediate n) (Some p) h a = with_value_fits s dst (Num p.0) h.0 a
+refined_state_fits s dst (source.Register r) (Some p) h a =
     with_value_fits (with_value s dst (Num p.0)) r (Num p.1) h.1 (with_value_fits s dst (Num p.0) h.0 a)
 
+edge_bounds : (i : Instr) (taken : Bool) (k l : Kind) → IsBounded k → IsBounded l → Holds AreBoth (limits_refined i taken (words k) (words l))
+edge_bounds i taken k l h g =
+    holds_of AreBoth (limits_refined i taken (words k) (words l))
+    (λ p e. let fits = refined_fits i taken (words k) (words l) p (words_fit k h) (words_fit l g) e in (fits.0, fits.1))
+
 tested_fits : (b : Bool) → IsBounded (tested_kind b)
-tested_fits true = record { ordered = omega arith; most = omega arith }
+tested_fits true = up_to_fits 0 0 (omega arith) (omega arith)
 tested_fits false = record { ordered = omega arith; most = omega arith }
 
 pub edge_fits : (s : Abstract) (i : Instr) (taken : Bool) → IsInRange i → IsState s → Holds IsState (edge_of s i taken)
@@ -323,11 +347,11 @@ edge_fits s (instr.Branch w c dst from distance) taken r a = by_test (is_null_te
   where
     by_test : (b : Bool) → Holds IsState
         (if b then Some (with_value s dst (tested_kind (is_equal_edge c taken)))
-        else option_map (with_both s dst from) (refined (instr.Branch w c dst from distance) taken (words (value s dst)) (words (second s from))))
+        else option_map (with_both s dst from) (limits_refined (instr.Branch w c dst from distance) taken (words (value s dst)) (words (second s from))))
     by_test true = with_value_fits s dst (tested_kind (is_equal_edge c taken)) (tested_fits (is_equal_edge c taken)) a
     by_test false =
-        refined_state_fits s dst from (words (value s dst)) (words (second s from)) (refined (instr.Branch w c dst from distance) taken (words (value s dst)) (words (second s from)))
-        (refined_shrinks (instr.Branch w c dst from distance) taken (words (value s dst)) (words (second s from)) (words_fit (value s dst) (value_fits s dst a)) (words_fit (second s from) (second_fits s from r.1 a))) a
+        refined_state_fits s dst from (limits_refined (instr.Branch w c dst from distance) taken (words (value s dst)) (words (second s from)))
+        (edge_bounds (instr.Branch w c dst from distance) taken (value s dst) (second s from) (value_fits s dst a) (second_fits s from r.1 a)) a
 edge_fits s _ taken r a = a
 
 -- the entry of a local function

@@ -8,10 +8,13 @@ use Rattle.bpf_isa.specs.declared.instr.Source.{Source}
 use Rattle.bpf_isa.specs.declared.instr.Source.TheVariants as source
 use Rattle.bpf_isa.specs.declared.instr.Width.{Width}
 use Rattle.bpf_isa.specs.declared.instr.Condition.{Condition}
-use Rattle.intervals.specs.Spans.{Span, Within}
-use Rattle.intervals.specs.Edges.{refined}
-use Rattle.intervals.specs.Laws.{WithinBoth}
-use Rattle.intervals.proofs.Edges.{refined_mono}
+use Rattle.intervals.specs.Seen.{immediate_span}
+use Rattle.intervals.specs.Spans.{only}
+use Rattle.intervals.specs.Reducing.{Limits, LimitsWithin, any_sign}
+use Rattle.intervals.specs.SignedEdges.{limits_refined}
+use Rattle.intervals.specs.LimitLaws.{Related, BothWithin}
+use Rattle.intervals.proofs.Outcomes.{refined_mono}
+use Rattle.intervals.proofs.CallerLemmas.{within_self, words_are_limits}
 use Rattle.ranges.specs.Kinds.{Kind, Unset, Num, Ctx, Stack, Sector, SectorOrNull, is_number}
 use Rattle.ranges.specs.States.{Abstract}
 use Rattle.ranges.specs.Reading.{value, second, with_value, words}
@@ -55,7 +58,7 @@ with_value_under : (s t : Abstract) (r : ℕ) (k l : Kind) → Under k l → Sta
 with_value_under s t r k l h u = record { values = each_with Under s.values t.values r k l h u.values; groups = u.groups }
 
 second_under : (s t : Abstract) (from : Source) → StateUnder s t → Under (second s from) (second t from)
-second_under s t (source.Immediate n) u = record { from = omega arith; upto = omega arith }
+second_under s t (source.Immediate n) u = within_self (any_sign (immediate_span n))
 second_under s t (source.Register r) u = value_under s t r u
 
 -- values that a test tells apart
@@ -84,11 +87,11 @@ and_false : (a : Bool) → (a && false) ≡ false
 and_false true = refl
 and_false false = refl
 
-number_no_test : (w : Width) (c : Condition) (from : Source) (x : Span) → is_null_test w c from (Num x) ≡ false
+number_no_test : (w : Width) (c : Condition) (from : Source) (x : Limits) → is_null_test w c from (Num x) ≡ false
 unfolding is_null_test
 number_no_test w c from x = rw (and_false (is_zero from), and_false (is_equality c), and_false (is_wide w)) refl
 
-words_under : (k l : Kind) → Under k l → is_number l ≡ true → Within (words k) (words l)
+words_under : (k l : Kind) → Under k l → is_number l ≡ true → LimitsWithin (words k) (words l)
 words_under (Num x) (Num y) u e = u
 words_under k (Num y) u e = absurd u
 words_under k Unset u e = absurd (let bad : false ≡ true = e in cc)
@@ -108,7 +111,7 @@ smaller_no_test w c from k SectorOrNull u e = absurd (let bad : false ≡ true =
 
 -- edges
 
-both_under : (s t : Abstract) (dst : ℕ) (from : Source) (m n : Option (Span × Span)) → WithinBoth m n → StateUnder s t
+both_under : (s t : Abstract) (dst : ℕ) (from : Source) (m n : Option (Limits × Limits)) → Related BothWithin m n → StateUnder s t
     → EdgeUnder (option_map (with_both s dst from) m) (option_map (with_both t dst from) n)
 both_under s t dst from None n h u = tt
 both_under s t dst from (Some p) None h u = absurd h
@@ -117,7 +120,7 @@ both_under s t dst (source.Register r) (Some p) (Some q) h u =
     with_value_under (with_value s dst (Num p.0)) (with_value t dst (Num q.0)) r (Num p.1) (Num q.1) h.1 (with_value_under s t dst (Num p.0) (Num q.0) h.0 u)
 
 tested_under : (b : Bool) → Under (tested_kind b) (tested_kind b)
-tested_under true = record { from = omega arith; upto = omega arith }
+tested_under true = within_self (any_sign (only 0))
 tested_under false = record { from = omega arith; upto = omega arith }
 
 pub edge_mono : (s t : Abstract) (w : Width) (c : Condition) (dst : ℕ) (from : Source) (distance : ℤ) (taken : Bool) → IsSourceInRange from → IsState s → IsState t
@@ -129,9 +132,9 @@ edge_mono s t w c dst from distance taken r a b u ok = by_test (is_null_test w c
     by_test : (x : Bool) → is_null_test w c from (value t dst) ≡ x
         → EdgeUnder
         (if is_null_test w c from (value s dst) then Some (with_value s dst (tested_kind (is_equal_edge c taken)))
-        else option_map (with_both s dst from) (refined (instr.Branch w c dst from distance) taken (words (value s dst)) (words (second s from))))
+        else option_map (with_both s dst from) (limits_refined (instr.Branch w c dst from distance) taken (words (value s dst)) (words (second s from))))
         (if x then Some (with_value t dst (tested_kind (is_equal_edge c taken)))
-        else option_map (with_both t dst from) (refined (instr.Branch w c dst from distance) taken (words (value t dst)) (words (second t from))))
+        else option_map (with_both t dst from) (limits_refined (instr.Branch w c dst from distance) taken (words (value t dst)) (words (second t from))))
     by_test true e =
         rw (test_under w c from (value s dst) (value t dst) (value_under s t dst u) e)
         (with_value_under s t dst (tested_kind (is_equal_edge c taken)) (tested_kind (is_equal_edge c taken)) (tested_under (is_equal_edge c taken)) u)
@@ -140,7 +143,8 @@ edge_mono s t w c dst from distance taken r a b u ok = by_test (is_null_test w c
         let first : is_number (value t dst) ≡ true = and_left (is_number (value t dst)) (is_number (second t from)) numbers in
         let other : is_number (second t from) ≡ true = and_right (is_number (value t dst)) (is_number (second t from)) numbers in
         rw (smaller_no_test w c from (value s dst) (value t dst) (value_under s t dst u) first)
-        (both_under s t dst from (refined (instr.Branch w c dst from distance) taken (words (value s dst)) (words (second s from))) (refined (instr.Branch w c dst from distance) taken (words (value t dst)) (words (second t from)))
+        (both_under s t dst from (limits_refined (instr.Branch w c dst from distance) taken (words (value s dst)) (words (second s from))) (limits_refined (instr.Branch w c dst from distance) taken (words (value t dst)) (words (second t from)))
         (refined_mono (instr.Branch w c dst from distance) taken (words (value s dst)) (words (second s from)) (words (value t dst)) (words (second t from))
-        (words_fit (value s dst) (value_fits s dst a)) (words_fit (second s from) (second_fits s from r a))
+        (words_are_limits (words (value s dst)) (words_fit (value s dst) (value_fits s dst a))) (words_are_limits (words (second s from)) (words_fit (second s from) (second_fits s from r a)))
+        (words_are_limits (words (value t dst)) (words_fit (value t dst) (value_fits t dst b))) (words_are_limits (words (second t from)) (words_fit (second t from) (second_fits t from r b)))
         (words_under (value s dst) (value t dst) (value_under s t dst u) first) (words_under (second s from) (second t from) (second_under s t from u) other)) u)

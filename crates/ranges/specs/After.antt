@@ -1,7 +1,7 @@
 -- What is known after an instruction (docs/VERIFIER.md, Results of arithmetic on numbers to Helper
 -- calls). It is asked where no rule is broken.
-use Rattle.std.specs.Prelude.{ℕ, ◌+◌, ◌*◌, ◌-◌, ◌/◌, ◌^◌, ◌==◌, nat_lt, nat_le, ◌&&◌, ◌||◌, not, Bool, true, false, if◌then◌else◌, ℤ, pos, List, [], ◌∷◌, slice_index_or, slice_set, unwrap_or}
-use Rattle.std.specs.Option.{option_map_or}
+use Rattle.std.specs.Prelude.{ℕ, ◌+◌, ◌*◌, ◌-◌, ◌/◌, ◌^◌, ◌==◌, nat_lt, nat_le, ◌&&◌, ◌||◌, not, Bool, true, false, if◌then◌else◌, ℤ, pos, List, [], ◌∷◌, slice_index_or, slice_set, Option, Some}
+use Rattle.std.specs.Option.{option_map, option_map_or, option_or}
 use Rattle.std.specs.Int.{cast_unsigned, w32}
 use Rattle.bpf_isa.specs.declared.instr.Instr.{Instr}
 use Rattle.bpf_isa.specs.declared.instr.Instr.TheVariants as instr
@@ -14,11 +14,12 @@ use Rattle.helpers.specs.declared.helper.Helper.TheVariants as helper
 use Rattle.helpers.specs.Helper.{helper_of}
 use Rattle.machine.specs.Memory.{byte_count}
 use Rattle.intervals.specs.Spans.{span, only}
-use Rattle.intervals.specs.Results.{result_of}
+use Rattle.intervals.specs.Reducing.{any_sign}
+use Rattle.intervals.specs.SignedResults.{limits_result_of}
 use Rattle.ranges.specs.declared.place.Place.{Place}
 use Rattle.ranges.specs.declared.place.Place.TheVariants as place
 use Rattle.ranges.specs.declared.place.Mark.TheVariants as mark
-use Rattle.ranges.specs.Kinds.{Kind, Unset, Num, SectorOrNull, is_pointer}
+use Rattle.ranges.specs.Kinds.{Kind, Unset, Num, SectorOrNull, is_unset}
 use Rattle.ranges.specs.Groups.{GroupKind, Marked, Spilled, map_places}
 use Rattle.ranges.specs.States.{Abstract}
 use Rattle.ranges.specs.Pointers.{moved}
@@ -26,28 +27,28 @@ use Rattle.ranges.specs.Places.{place_of, mark_in, is_mark, is_group}
 use Rattle.ranges.specs.Reading.{value, second, with_value, with_groups, words, any_word}
 use Rattle.ranges.specs.Rules.{length_of}
 
--- what arithmetic makes of the words of two numbers
-abbrev pub computed : Instr → Kind → Kind → Kind
-computed i k l = option_map_or (λ x. Num x) (result_of i (words k) (words l)) Unset
+-- what arithmetic makes of the words of two numbers; None where it leaves no word
+abbrev pub computed : Instr → Kind → Kind → Option Kind
+computed i k l = option_map (λ x. Num x) (limits_result_of i (words k) (words l))
 
 -- what it makes of two values, dst and the second operand: a move in 64 bits copies, and pointers
 -- move
-unfoldable pub result_kind : Instr → Kind → Kind → Kind
-result_kind (instr.Arithmetic width.W64 op.Mov dst from) k l = l
-result_kind (instr.Arithmetic width.W64 op.Add dst from) k l = unwrap_or (moved false k l) (computed (instr.Arithmetic width.W64 op.Add dst from) k l)
-result_kind (instr.Arithmetic width.W64 op.Sub dst from) k l = unwrap_or (moved true k l) (computed (instr.Arithmetic width.W64 op.Sub dst from) k l)
+unfoldable pub result_kind : Instr → Kind → Kind → Option Kind
+result_kind (instr.Arithmetic width.W64 op.Mov dst from) k l = Some l
+result_kind (instr.Arithmetic width.W64 op.Add dst from) k l = option_or (moved false k l) (computed (instr.Arithmetic width.W64 op.Add dst from) k l)
+result_kind (instr.Arithmetic width.W64 op.Sub dst from) k l = option_or (moved true k l) (computed (instr.Arithmetic width.W64 op.Sub dst from) k l)
 result_kind i k l = computed i k l
 
 -- an aligned word of the context: the number of sectors, the epoch and the marks, and 0
 abbrev pub context_word : ℕ → ℕ → Kind
 context_word sectors at =
-    if at == 0 then Num (only sectors)
-    else if at == 8 || at == 16 then Num (span 0 65536)
-    else Num (only 0)
+    if at == 0 then Num (any_sign (only sectors))
+    else if at == 8 || at == 16 then Num (any_sign (span 0 65536))
+    else Num (any_sign (only 0))
 
 -- any number of n bytes
 abbrev pub any_of : ℕ → Kind
-any_of n = Num (span 0 (2 ^ (8 * n) - 1))
+any_of n = Num (any_sign (span 0 (2 ^ (8 * n) - 1)))
 
 -- what a group gives to a load of its eight bytes
 abbrev pub group_value : GroupKind → Kind
@@ -63,7 +64,8 @@ loaded_kind sectors groups p n = any_of n
 abbrev pub is_among : ℕ → ℕ → ℕ → ℕ → Bool
 is_among at n g k = nat_le at (8 * g + k) && nat_lt (8 * g + k) (at + n)
 
--- the marks of group g where n bytes from a place on are written; those of a pointer are written too
+-- the marks of group g where n bytes from a place on are written; those of a spilled value are written
+-- too
 abbrev pub mark_after : ℕ → ℕ → ℕ → GroupKind → ℕ → Bool
 mark_after at n g group k = is_among at n g k || not (is_mark (mark_in group k) mark.Unset)
 
@@ -88,20 +90,20 @@ abbrev pub written_at : List GroupKind → Place → ℕ → List GroupKind
 written_at groups (place.Stack at) n = written at n groups
 written_at groups p n = groups
 
--- a pointer stored to a group stays a pointer; other stores make bytes written
+-- a value stored to a group is kept there; other stores make bytes written
 unfoldable pub stored_groups : Kind → List GroupKind → Place → ℕ → List GroupKind
 stored_groups k groups (place.Stack at) n =
-    if is_pointer k && is_group at n then slice_set groups (at / 8) (Spilled k) else written at n groups
+    if not (is_unset k) && is_group at n then slice_set groups (at / 8) (Spilled k) else written at n groups
 stored_groups k groups p n = groups
 
 -- what a helper answers
 abbrev pub answer_kind : Helper → Kind
 answer_kind helper.Sector = SectorOrNull
-answer_kind helper.Copy = Num (span 0 1)
-answer_kind helper.Again = Num (span 0 1)
-answer_kind helper.Report = Num (span 0 1)
-answer_kind helper.Zero = Num (span 0 2)
-answer_kind helper.Same = Num (span 0 2)
+answer_kind helper.Copy = Num (any_sign (span 0 1))
+answer_kind helper.Again = Num (any_sign (span 0 1))
+answer_kind helper.Report = Num (any_sign (span 0 1))
+answer_kind helper.Zero = Num (any_sign (span 0 2))
+answer_kind helper.Same = Num (any_sign (span 0 2))
 answer_kind helper.Mix = Num any_word
 
 -- a call answers in register 0 and unsets registers 1 to 5; of a local function any word
@@ -125,20 +127,21 @@ abbrev pub store_after : Abstract → Kind → Size → ℕ → ℤ → Abstract
 store_after s k size base distance =
     with_groups s (stored_groups k s.groups (place_of (value s base) distance (byte_count size)) (byte_count size))
 
--- the state behind an instruction that is no jump, on a device of so many sectors
-unfoldable pub after_of : ℕ → Abstract → Instr → Abstract
-after_of sectors s (instr.Arithmetic w o dst from) = with_value s dst (result_kind (instr.Arithmetic w o dst from) (value s dst) (second s from))
-after_of sectors s (instr.Negate w dst) = with_value s dst (computed (instr.Negate w dst) (value s dst) Unset)
-after_of sectors s (instr.SignExtend e dst src) = with_value s dst (computed (instr.SignExtend e dst src) Unset (value s src))
-after_of sectors s (instr.ByteOrder o size dst) = with_value s dst (computed (instr.ByteOrder o size dst) (value s dst) Unset)
-after_of sectors s (instr.Load size dst base distance) = load_after sectors s dst size base distance
-after_of sectors s (instr.LoadSigned size dst base distance) = with_value s dst (Num any_word)
-after_of sectors s (instr.StoreImmediate size base distance n) = store_after s (second s (source.Immediate n)) size base distance
-after_of sectors s (instr.Store size base distance src) = store_after s (value s src) size base distance
-after_of sectors s (instr.LoadImmediate dst x) = with_value s dst (Num (only x))
-after_of sectors s (instr.CallHelper number) = option_map_or (call_after s) (helper_of (cast_unsigned w32 number)) (answered s (Num any_word))
-after_of sectors s (instr.CallLocal distance) = answered s (Num any_word)
-after_of sectors s (instr.Jump distance) = s
-after_of sectors s (instr.LongJump distance) = s
-after_of sectors s (instr.Branch w c dst from distance) = s
-after_of sectors s instr.Exit = s
+-- the state behind an instruction that is no jump, on a device of so many sectors; None where
+-- arithmetic leaves no word, so that no machine gets there
+unfoldable pub after_of : ℕ → Abstract → Instr → Option Abstract
+after_of sectors s (instr.Arithmetic w o dst from) = option_map (with_value s dst) (result_kind (instr.Arithmetic w o dst from) (value s dst) (second s from))
+after_of sectors s (instr.Negate w dst) = option_map (with_value s dst) (computed (instr.Negate w dst) (value s dst) Unset)
+after_of sectors s (instr.SignExtend e dst src) = option_map (with_value s dst) (computed (instr.SignExtend e dst src) Unset (value s src))
+after_of sectors s (instr.ByteOrder o size dst) = option_map (with_value s dst) (computed (instr.ByteOrder o size dst) (value s dst) Unset)
+after_of sectors s (instr.Load size dst base distance) = Some (load_after sectors s dst size base distance)
+after_of sectors s (instr.LoadSigned size dst base distance) = Some (with_value s dst (Num any_word))
+after_of sectors s (instr.StoreImmediate size base distance n) = Some (store_after s (second s (source.Immediate n)) size base distance)
+after_of sectors s (instr.Store size base distance src) = Some (store_after s (value s src) size base distance)
+after_of sectors s (instr.LoadImmediate dst x) = Some (with_value s dst (Num (any_sign (only x))))
+after_of sectors s (instr.CallHelper number) = Some (option_map_or (call_after s) (helper_of (cast_unsigned w32 number)) (answered s (Num any_word)))
+after_of sectors s (instr.CallLocal distance) = Some (answered s (Num any_word))
+after_of sectors s (instr.Jump distance) = Some s
+after_of sectors s (instr.LongJump distance) = Some s
+after_of sectors s (instr.Branch w c dst from distance) = Some s
+after_of sectors s instr.Exit = Some s

@@ -1,6 +1,6 @@
 -- The bytes of a stack in aligned groups of eight (docs/VERIFIER.md, Abstract states).
-use Rattle.std.specs.Prelude.{◌≡◌, ℕ, ◌+◌, ◌&&◌, Bool, false, List, [], ◌∷◌, replicate}
-use Rattle.ranges.specs.Kinds.{Kind, Unset, Num, join, round}
+use Rattle.std.specs.Prelude.{◌≡◌, ℕ, ◌+◌, ◌&&◌, if◌then◌else◌, Bool, false, List, [], ◌∷◌, replicate}
+use Rattle.ranges.specs.Kinds.{Kind, Unset, is_number, join, round}
 
 -- two lists, element by element
 unfoldable pub zip_with : {A B C : Type 0} → (A → B → C) → List A → List B → List C
@@ -13,7 +13,7 @@ unfoldable pub map_places : {A B : Type 0} → (ℕ → A → B) → ℕ → Lis
 map_places f n [] = []
 map_places f n (x ∷ xs) = f n x ∷ map_places f (n + 1) xs
 
--- eight bytes: for each whether it is written, or a pointer that was spilled to all of them
+-- eight bytes: for each whether it is written, or a number or pointer that was spilled to all of them
 pub data GroupKind : Type 0 where
   Marked : List Bool → GroupKind
   Spilled : Kind → GroupKind
@@ -21,17 +21,22 @@ pub data GroupKind : Type 0 where
 abbrev pub unset_marks : List Bool
 unset_marks = replicate 8 false
 
--- a pointer that is kept in eight bytes; what is no pointer leaves them unset
+-- a value that is kept in eight bytes; what may be anything leaves them unset
 abbrev pub kept : Kind → GroupKind
 kept Unset = Marked unset_marks
-kept (Num x) = Marked unset_marks
 kept k = Spilled k
 
--- bytes of different kinds become unset; spilled pointers join as values do
+-- what bytes that are known by marks are where a value is kept instead: all bytes of a number are
+-- written, and those of a pointer become unset
+abbrev pub met : List Bool → Kind → List Bool
+met marks k = if is_number k then marks else unset_marks
+
+-- bytes of different kinds become unset; spilled values join as values do
 unfoldable pub join_group : GroupKind → GroupKind → GroupKind
 join_group (Marked xs) (Marked ys) = Marked (zip_with (λ a b. a && b) xs ys)
+join_group (Marked xs) (Spilled l) = Marked (met xs l)
+join_group (Spilled k) (Marked ys) = Marked (met ys k)
 join_group (Spilled k) (Spilled l) = kept (join k l)
-join_group _ _ = Marked unset_marks
 
 unfoldable pub round_group : GroupKind → GroupKind
 round_group (Marked xs) = Marked xs

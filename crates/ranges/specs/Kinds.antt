@@ -3,12 +3,14 @@
 use Rattle.std.specs.Prelude.{◌≡◌, ℕ, ◌==◌, if◌then◌else◌, Bool, true, false}
 use Rattle.intervals.specs.Spans.{Span, hull}
 use Rattle.intervals.specs.Rounding.{rounded}
+use Rattle.intervals.specs.Reducing.{Limits, limits_hull}
+use Rattle.intervals.specs.SignedRounding.{limits_rounded}
 
--- anything, unset too; the words of a range; the address of the context, of the lower end of the
+-- anything, unset too; the words of both ranges of a number; the address of the context, of the lower end of the
 -- stack, or of a sector, and an offset; 0 or the address of a sector
 pub data Kind : Type 0 where
   Unset : Kind
-  Num : Span → Kind
+  Num : Limits → Kind
   Ctx : ℕ → Kind
   Stack : ℕ → Kind
   Sector : Span → Kind
@@ -29,7 +31,7 @@ is_unset _ = false
 
 -- the join: ranges of one kind give their hull, equal pointers stay, all else may be anything
 unfoldable pub join : Kind → Kind → Kind
-join (Num x) (Num y) = Num (hull x y)
+join (Num x) (Num y) = Num (limits_hull x y)
 join (Ctx a) (Ctx b) = if a == b then Ctx a else Unset
 join (Stack a) (Stack b) = if a == b then Stack a else Unset
 join (Sector x) (Sector y) = Sector (hull x y)
@@ -42,6 +44,6 @@ Contains k l = join k l ≡ k
 
 -- rounding widens ranges
 unfoldable pub round : Kind → Kind
-round (Num x) = Num (rounded x)
+round (Num x) = Num (limits_rounded x)
 round (Sector x) = Sector (rounded x)
 round k = k

@@ -46,7 +46,7 @@ pub record StartFits : Type 0 where
 pub record StatesFit : Type 0 where
   pub join : (s t : Abstract) → IsState s → IsState t → IsState (join_state s t)
   pub round : (s : Abstract) → IsState s → IsState (round_state s)
-  pub after : (sectors : ℕ) (s : Abstract) (i : Instr) → sectors < 2 ^ 64 → IsInRange i → IsState s → IsState (after_of sectors s i)
+  pub after : (sectors : ℕ) (s : Abstract) (i : Instr) → sectors < 2 ^ 64 → IsInRange i → IsState s → Holds IsState (after_of sectors s i)
   pub edge : (s : Abstract) (i : Instr) (taken : Bool) → IsInRange i → IsState s → Holds IsState (edge_of s i taken)
   pub entry : (s : Abstract) → IsState s → IsState (entry_state s)
 

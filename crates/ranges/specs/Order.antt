@@ -1,15 +1,16 @@
 -- Which abstract values and states know more than others, in the words of their machine values
 -- (docs/VERIFIER.md, Abstract states), and the bounds that the types of the code keep.
-use Rattle.std.specs.Prelude.{◌≡◌, ◌≤◌, ◌-◌, ◌^◌, IsTrue, Bool, List, [], ◌∷◌, length, Option, None, Some}
+use Rattle.std.specs.Prelude.{◌≡◌, ◌≤◌, ◌⊎◌, not, IsTrue, Bool, List, [], ◌∷◌, length, Option, None, Some}
 use Rattle.intervals.specs.Spans.{IsSpan, Within}
-use Rattle.ranges.specs.Kinds.{Kind, Unset, Num, Ctx, Stack, Sector, SectorOrNull, is_pointer}
+use Rattle.intervals.specs.Reducing.{LimitsWithin, IsLimits}
+use Rattle.ranges.specs.Kinds.{Kind, Unset, Num, Ctx, Stack, Sector, SectorOrNull, is_number, is_unset}
 use Rattle.ranges.specs.Groups.{GroupKind, Marked, Spilled, unset_marks}
 use Rattle.ranges.specs.States.{Abstract}
 
 -- the second holds all that the first does
 abbrev pub Under : Kind → Kind → Type 0
 Under k Unset = Unit {0}
-Under (Num x) (Num y) = Within x y
+Under (Num x) (Num y) = LimitsWithin x y
 Under (Ctx a) (Ctx b) = a ≡ b
 Under (Stack a) (Stack b) = a ≡ b
 Under (Sector x) (Sector y) = Within x y
@@ -24,7 +25,7 @@ MarksUnder _ _ = ⊥
 
 abbrev pub GroupUnder : GroupKind → GroupKind → Type 0
 GroupUnder (Marked xs) (Marked ys) = MarksUnder xs ys
-GroupUnder (Spilled k) (Marked ys) = ys ≡ unset_marks
+GroupUnder (Spilled k) (Marked ys) = IsTrue (is_number k) ⊎ (ys ≡ unset_marks)
 GroupUnder (Spilled k) (Spilled l) = Under k l
 GroupUnder (Marked xs) (Spilled l) = ⊥
 
@@ -41,7 +42,7 @@ pub record StateUnder (s t : Abstract) : Type 0 where
 -- the bounds of values, of groups and of states
 abbrev pub IsBounded : Kind → Type 0
 IsBounded Unset = Unit {0}
-IsBounded (Num x) = IsSpan (2 ^ 64 - 1) x
+IsBounded (Num x) = IsLimits x
 IsBounded (Ctx o) = o ≤ 32
 IsBounded (Stack o) = o ≤ 512
 IsBounded (Sector x) = IsSpan 65535 x
@@ -49,7 +50,7 @@ IsBounded SectorOrNull = Unit {0}
 
 abbrev pub IsGroup : GroupKind → Type 0
 IsGroup (Marked marks) = length marks ≡ 8
-IsGroup (Spilled k) = IsTrue (is_pointer k) × IsBounded k
+IsGroup (Spilled k) = IsTrue (not (is_unset k)) × IsBounded k
 
 abbrev pub Each : {X : Type 0} → (X → Type 0) → List X → Type 0
 Each P [] = Unit {0}

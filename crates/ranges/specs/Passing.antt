@@ -8,8 +8,9 @@ use Rattle.bpf_isa.specs.declared.instr.Source.TheVariants as source
 use Rattle.bpf_isa.specs.declared.instr.Condition.{Condition}
 use Rattle.bpf_isa.specs.declared.instr.Condition.TheVariants as cond
 use Rattle.bpf_isa.specs.Slots.{target_slot}
-use Rattle.intervals.specs.Spans.{Span, only}
-use Rattle.intervals.specs.Edges.{refined}
+use Rattle.intervals.specs.Spans.{only}
+use Rattle.intervals.specs.Reducing.{Limits, any_sign}
+use Rattle.intervals.specs.SignedEdges.{limits_refined}
 use Rattle.ranges.specs.Kinds.{Kind, Unset, Num, Stack, Sector}
 use Rattle.ranges.specs.States.{Abstract, unset_groups}
 use Rattle.ranges.specs.Reading.{value, second, with_value, words}
@@ -23,15 +24,15 @@ is_equal_edge _ taken = not taken
 
 -- the answer of helper 1 behind a null test
 abbrev pub tested_kind : Bool → Kind
-tested_kind true = Num (only 0)
+tested_kind true = Num (any_sign (only 0))
 tested_kind false = Sector (only 0)
 
--- the second operand with another range; an immediate has none of its own
-abbrev pub with_second : Abstract → Source → Span → Abstract
+-- the second operand with other ranges; an immediate has none of its own
+abbrev pub with_second : Abstract → Source → Limits → Abstract
 with_second s (source.Immediate n) y = s
 with_second s (source.Register r) y = with_value s r (Num y)
 
-abbrev pub with_both : Abstract → ℕ → Source → Span × Span → Abstract
+abbrev pub with_both : Abstract → ℕ → Source → Limits × Limits → Abstract
 with_both s dst from p = with_second (with_value s dst (Num p.0)) from p.1
 
 -- The state on an edge of a conditional jump, the one that is taken or the other; None where no
@@ -39,7 +40,7 @@ with_both s dst from p = with_second (with_value s dst (Num p.0)) from p.1
 unfoldable pub edge_of : Abstract → Instr → Bool → Option Abstract
 edge_of s (instr.Branch w c dst from distance) taken =
     if is_null_test w c from (value s dst) then Some (with_value s dst (tested_kind (is_equal_edge c taken)))
-    else option_map (with_both s dst from) (refined (instr.Branch w c dst from distance) taken (words (value s dst)) (words (second s from)))
+    else option_map (with_both s dst from) (limits_refined (instr.Branch w c dst from distance) taken (words (value s dst)) (words (second s from)))
 edge_of s (instr.Arithmetic w o dst from) taken = Some s
 edge_of s (instr.Negate w dst) taken = Some s
 edge_of s (instr.SignExtend e dst src) taken = Some s
@@ -75,9 +76,9 @@ abbrev pub sent : ℕ → Option Abstract → List (ℕ × Abstract)
 sent slot None = []
 sent slot (Some s) = (slot, s) ∷ []
 
--- the state behind an instruction, passed to the next slot
+-- the state behind an instruction, passed to the next slot, if there is one
 abbrev pub behind : ℕ → Abstract → ℕ → Instr → List (ℕ × Abstract)
-behind sectors s slot i = (slot + 1, after_of sectors s i) ∷ []
+behind sectors s slot i = sent (slot + 1) (after_of sectors s i)
 
 -- to which slots what state is passed, the next slot first; rounding where it arrives is not a part
 -- of it
@@ -89,8 +90,8 @@ passes sectors s slot (instr.Branch w c dst from distance) =
     ++ sent (target_slot slot distance) (edge_of s (instr.Branch w c dst from distance) true)
 passes sectors s slot instr.Exit = []
 passes sectors s slot (instr.CallLocal distance) =
-    (slot + 1, after_of sectors s (instr.CallLocal distance)) ∷ (target_slot slot distance, entry_state s) ∷ []
-passes sectors s slot (instr.LoadImmediate dst x) = (slot + 2, after_of sectors s (instr.LoadImmediate dst x)) ∷ []
+    sent (slot + 1) (after_of sectors s (instr.CallLocal distance)) ++ (target_slot slot distance, entry_state s) ∷ []
+passes sectors s slot (instr.LoadImmediate dst x) = sent (slot + 2) (after_of sectors s (instr.LoadImmediate dst x))
 passes sectors s slot (instr.Arithmetic w o dst from) = behind sectors s slot (instr.Arithmetic w o dst from)
 passes sectors s slot (instr.Negate w dst) = behind sectors s slot (instr.Negate w dst)
 passes sectors s slot (instr.SignExtend e dst src) = behind sectors s slot (instr.SignExtend e dst src)

@@ -6,7 +6,7 @@ use Rattle.ranges.specs.declared.place.Place.{Place}
 use Rattle.ranges.specs.declared.place.Place.TheVariants as place
 use Rattle.ranges.specs.declared.place.Mark.{Mark}
 use Rattle.ranges.specs.declared.place.Mark.TheVariants as mark
-use Rattle.ranges.specs.Kinds.{Kind, Ctx, Stack, Sector}
+use Rattle.ranges.specs.Kinds.{Kind, Ctx, Stack, Sector, is_number}
 use Rattle.ranges.specs.Groups.{GroupKind, Marked, Spilled}
 use Rattle.ranges.specs.Pointers.{offset_in}
 
@@ -31,10 +31,10 @@ abbrev pub is_inside : Place → Bool
 is_inside place.Outside = false
 is_inside p = true
 
--- a byte of a group
+-- a byte of a group; those of a number are written bytes to every rule
 abbrev pub mark_in : GroupKind → ℕ → Mark
 mark_in (Marked marks) k = if slice_index_or marks k false then mark.Written else mark.Unset
-mark_in (Spilled k) _ = mark.Pointer
+mark_in (Spilled k) _ = if is_number k then mark.Written else mark.Pointer
 
 -- a byte of the stack
 abbrev pub mark_at : List GroupKind → ℕ → Mark

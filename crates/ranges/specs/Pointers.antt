@@ -42,7 +42,7 @@ moved_offsets down x y =
 
 -- a pointer moved by a number, forward or down; None where it isn't allowed
 unfoldable pub moved : Bool → Kind → Kind → Option Kind
-moved down (Ctx o) (Num y) = option_map (λ p. Ctx p) (moved_place 32 down o y)
-moved down (Stack o) (Num y) = option_map (λ p. Stack p) (moved_place 512 down o y)
-moved down (Sector x) (Num y) = option_map (λ z. Sector z) (moved_offsets down x y)
+moved down (Ctx o) (Num y) = option_map (λ p. Ctx p) (moved_place 32 down o y.unsigned)
+moved down (Stack o) (Num y) = option_map (λ p. Stack p) (moved_place 512 down o y.unsigned)
+moved down (Sector x) (Num y) = option_map (λ z. Sector z) (moved_offsets down x y.unsigned)
 moved down k l = None

@@ -4,7 +4,8 @@ use Rattle.std.specs.List.{list_all}
 use Rattle.bpf_isa.specs.declared.instr.Source.{Source}
 use Rattle.bpf_isa.specs.declared.instr.Source.TheVariants as source
 use Rattle.machine.specs.Step.{is_length}
-use Rattle.intervals.specs.Spans.{Span, span, is_constant}
+use Rattle.intervals.specs.Spans.{span, is_constant}
+use Rattle.intervals.specs.Reducing.{Limits, any_sign}
 use Rattle.intervals.specs.Seen.{immediate_span}
 use Rattle.ranges.specs.Kinds.{Kind, Unset, Num, Ctx, Stack, Sector, is_unset}
 use Rattle.ranges.specs.Groups.{GroupKind}
@@ -23,7 +24,7 @@ with_groups s groups = record { values = s.values; groups = groups }
 
 -- the second operand
 abbrev pub second : Abstract → Source → Kind
-second s (source.Immediate n) = Num (immediate_span n)
+second s (source.Immediate n) = Num (any_sign (immediate_span n))
 second s (source.Register r) = value s r
 
 -- whether all of these registers are set
@@ -31,11 +32,11 @@ abbrev pub are_set : Abstract → List ℕ → Bool
 are_set s registers = list_all (λ r. not (is_unset (value s r))) registers
 
 -- all words
-abbrev pub any_word : Span
-any_word = span 0 (2 ^ 64 - 1)
+abbrev pub any_word : Limits
+any_word = any_sign (span 0 (2 ^ 64 - 1))
 
 -- the words of a number; of what is none nothing is asked
-abbrev pub words : Kind → Span
+abbrev pub words : Kind → Limits
 words (Num x) = x
 words _ = any_word
 
@@ -52,5 +53,5 @@ is_base _ = false
 
 -- a length of helper 2, which is a constant
 abbrev pub has_length : Kind → Bool
-has_length (Num x) = is_constant x && is_length x.low
+has_length (Num x) = is_constant x.unsigned && is_length x.unsigned.low
 has_length _ = false

@@ -107,7 +107,7 @@ store_rules s set stored base distance n =
 
 -- the length of helper 2
 abbrev pub length_of : Kind → ℕ
-length_of k = (words k).low
+length_of k = (words k).unsigned.low
 
 unfoldable pub call_rules : Abstract → Helper → List (Check VerifierCause)
 call_rules s helper.Copy =

@@ -1,6 +1,6 @@
 -- How contracts see values.
 use Rattle.intervals.specs.Spans.{Span, span}
-use Rattle.intervals.specs.Seen.{span_of}
+use Rattle.intervals.specs.SeenBounds.{limits_of}
 use Rattle.ranges.specs.declared.value.SectorOffsets.{SectorOffsets}
 use Rattle.ranges.specs.declared.value.Value.{Value}
 use Rattle.ranges.specs.declared.value.Value.TheVariants as value
@@ -11,7 +11,7 @@ offsets_of x = span x.low x.high
 
 abbrev pub kind_of : Value → Kind
 kind_of value.Unset = Unset
-kind_of (value.Num x) = Num (span_of x)
+kind_of (value.Num x) = Num (limits_of x)
 kind_of (value.Ctx o) = Ctx o.offset
 kind_of (value.Stack o) = Stack o.offset
 kind_of (value.Sector x) = Sector (offsets_of x)

@@ -2,7 +2,7 @@
 
 ghost use Rattle.std.specs.Prelude.{◌≡◌, IsTrue};
 ghost use Rattle.std.specs.Option.{option_map};
-ghost use Rattle.intervals.specs.Seen.{span_of, spans_of};
+ghost use Rattle.intervals.specs.SeenBounds.{limits_of, both_limits};
 ghost use Rattle.intervals.specs.Edges.{is_branch};
 ghost use Rattle.ranges.specs.Passing.{is_equal_edge, tested_kind, with_second, with_both, edge_of, given, entry_state};
 ghost use Rattle.ranges.specs.Seen.{kind_of};
@@ -14,7 +14,7 @@ use crate::state::State;
 use crate::value::{SectorOffsets, StackOffset, Value};
 use bpf_isa::instr::{Condition, Instr, Source};
 use bpf_isa::register::Register;
-use intervals::{Range, refine};
+use intervals::{Bounds, refine_bounds};
 
 /// Whether an edge of a null test says that the register is 0.
 fn is_equal_edge(condition: Condition, taken: bool) -> bool
@@ -31,30 +31,30 @@ fn tested_value(is_zero: bool) -> Value
     ensures { kind_of result ≡ tested_kind is_zero }
 {
     if is_zero {
-        Value::Num(Range::constant(0))
+        Value::Num(Bounds::constant(0))
     } else {
         Value::Sector(SectorOffsets { low: 0, high: 0 })
     }
 }
 
-/// The state with another range in the second operand. An immediate has none of its own.
-fn with_second(state: &State, source: &Source, range: Range) -> State
-    ensures { state_of result ≡ with_second (state_of state.now) source.now (span_of range) }
+/// The state with other bounds in the second operand. An immediate has none of its own.
+fn with_second(state: &State, source: &Source, bounds: Bounds) -> State
+    ensures { state_of result ≡ with_second (state_of state.now) source.now (limits_of bounds) }
 {
     match source {
         Source::Immediate(_) => *state,
-        Source::Register(register) => state.with_value(*register, Value::Num(range)),
+        Source::Register(register) => state.with_value(*register, Value::Num(bounds)),
     }
 }
 
-/// The state with other ranges in both operands.
-fn with_both(state: &State, dst: Register, source: &Source, ranges: (Range, Range)) -> State
-    ensures { state_of result ≡ with_both (state_of state.now) dst source.now (spans_of ranges) }
+/// The state with other bounds in both operands.
+fn with_both(state: &State, dst: Register, source: &Source, bounds: (Bounds, Bounds)) -> State
+    ensures { state_of result ≡ with_both (state_of state.now) dst source.now (both_limits bounds) }
 {
     with_second(
-        &state.with_value(dst, Value::Num(ranges.0)),
+        &state.with_value(dst, Value::Num(bounds.0)),
         source,
-        ranges.1,
+        bounds.1,
     )
 }
 
@@ -78,8 +78,8 @@ pub fn branch(instr: &Instr, taken: bool, state: &State) -> Option<State>
                 let value = tested_value(is_equal_edge(*condition, taken));
                 Some(state.with_value(*dst, value))
             } else {
-                let ranges = refine(instr, taken, first.words(), other.words())?;
-                Some(with_both(state, *dst, source, ranges))
+                let bounds = refine_bounds(instr, taken, first.words(), other.words())?;
+                Some(with_both(state, *dst, source, bounds))
             }
         }
         Instr::Arithmetic { .. }

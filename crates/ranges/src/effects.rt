@@ -1,8 +1,10 @@
 //! What is known after an instruction.
 
-ghost use Rattle.std.specs.Prelude.{◌≡◌, IsTrue, unwrap_or};
-ghost use Rattle.std.specs.Option.{option_map};
+ghost use Rattle.std.specs.Prelude.{◌≡◌, IsTrue};
+ghost use Rattle.std.specs.Option.{option_map, option_or};
 ghost use Rattle.machine.specs.Memory.{byte_count};
+ghost use Rattle.intervals.specs.Spans.{span};
+ghost use Rattle.intervals.specs.Reducing.{any_sign};
 ghost use Rattle.intervals.specs.Results.{is_arithmetic};
 ghost use Rattle.ranges.specs.Places.{Fits};
 ghost use Rattle.ranges.specs.Kinds.{Num};
@@ -22,35 +24,40 @@ use arithmetic::byte_count;
 use bpf_isa::instr::{Instr, Operator, Size, Width};
 use bpf_isa::register::Register;
 use helpers::Helper;
-use intervals::Range;
+use intervals::{Bounds, Range, result_bounds};
 
-/// What arithmetic makes of the words of two numbers.
-fn computed(instr: &Instr, first: Value, other: Value) -> Value
+/// What arithmetic makes of the words of two numbers; None where it leaves no word.
+fn computed(instr: &Instr, first: Value, other: Value) -> Option<Value>
     requires { IsTrue (is_arithmetic instr.now) }
-    ensures { kind_of result ≡ computed instr.now (kind_of first) (kind_of other) }
+    ensures { option_map kind_of result ≡ computed instr.now (kind_of first) (kind_of other) }
 {
-    match intervals::result(instr, first.words(), other.words()) {
-        Some(range) => Value::Num(range),
-        None => Value::Unset,
+    match result_bounds(instr, first.words(), other.words()) {
+        Some(bounds) => Some(Value::Num(bounds)),
+        None => None,
     }
 }
 
 /// A pointer that was moved, or else what arithmetic makes of numbers.
-fn moved_or_computed(instr: &Instr, moved: Option<Value>, first: Value, other: Value) -> Value
+fn moved_or_computed(
+    instr: &Instr,
+    moved: Option<Value>,
+    first: Value,
+    other: Value,
+) -> Option<Value>
     requires { IsTrue (is_arithmetic instr.now) }
-    ensures { kind_of result ≡ unwrap_or (option_map kind_of moved) (computed instr.now (kind_of first) (kind_of other)) }
+    ensures { option_map kind_of result ≡ option_or (option_map kind_of moved) (computed instr.now (kind_of first) (kind_of other)) }
 {
     match moved {
-        Some(value) => value,
+        Some(value) => Some(value),
         None => computed(instr, first, other),
     }
 }
 
-/// What arithmetic makes of dst and the second operand.
+/// What arithmetic makes of dst and the second operand; None where it leaves no word.
 #[tactic(auto, unfolding(crate::specs::After::result_kind))]
-fn result_value(instr: &Instr, first: Value, other: Value) -> Value
+fn result_value(instr: &Instr, first: Value, other: Value) -> Option<Value>
     requires { IsTrue (is_arithmetic instr.now) }
-    ensures { kind_of result ≡ result_kind instr.now (kind_of first) (kind_of other) }
+    ensures { option_map kind_of result ≡ result_kind instr.now (kind_of first) (kind_of other) }
 {
     match instr {
         Instr::Arithmetic {
@@ -58,7 +65,7 @@ fn result_value(instr: &Instr, first: Value, other: Value) -> Value
             operator,
             ..
         } => match operator {
-            Operator::Mov => other,
+            Operator::Mov => Some(other),
             Operator::Add => moved_or_computed(instr, moved(false, first, other), first, other),
             Operator::Sub => moved_or_computed(instr, moved(true, first, other), first, other),
             _ => computed(instr, first, other),
@@ -67,16 +74,23 @@ fn result_value(instr: &Instr, first: Value, other: Value) -> Value
     }
 }
 
+/// The numbers up to this one.
+fn up_to(high: u64) -> Value
+    ensures { kind_of result ≡ Num (any_sign (span 0 high)) }
+{
+    Value::Num(Bounds::of(Range::up_to(high)))
+}
+
 /// An aligned word of the context.
 fn context_word(sectors: u32, at: u64) -> Value
     ensures { kind_of result ≡ context_word sectors at }
 {
     if at == 0 {
-        Value::Num(Range::constant(u64::from(sectors)))
+        Value::Num(Bounds::constant(u64::from(sectors)))
     } else if at == 8 || at == 16 {
-        Value::Num(Range::up_to(65536))
+        up_to(65536)
     } else {
-        Value::Num(Range::constant(0))
+        Value::Num(Bounds::constant(0))
     }
 }
 
@@ -84,12 +98,12 @@ fn context_word(sectors: u32, at: u64) -> Value
 fn any_of(size: Size) -> Value
     ensures { kind_of result ≡ any_of (byte_count size) }
 {
-    Value::Num(Range::up_to(match size {
+    up_to(match size {
         Size::Byte => 0xff,
         Size::Half => 0xffff,
         Size::Word => 0xffff_ffff,
         Size::Double => u64::MAX,
-    }))
+    })
 }
 
 /// What a group gives to a load of its eight bytes.
@@ -97,7 +111,7 @@ fn group_value(group: Group) -> Value
     ensures { kind_of result ≡ group_value (group_of group) }
 {
     match group {
-        Group::Marked(_) => Value::Num(Range::full()),
+        Group::Marked(_) => Value::Num(Bounds::full()),
         Group::Spilled(spill) => spill.value,
     }
 }
@@ -123,9 +137,9 @@ fn answer_value(helper: Helper) -> Value
 {
     match helper {
         Helper::Sector => Value::SectorOrNull,
-        Helper::Copy | Helper::Again | Helper::Report => Value::Num(Range::up_to(1)),
-        Helper::Zero | Helper::Same => Value::Num(Range::up_to(2)),
-        Helper::Mix => Value::Num(Range::full()),
+        Helper::Copy | Helper::Again | Helper::Report => up_to(1),
+        Helper::Zero | Helper::Same => up_to(2),
+        Helper::Mix => Value::Num(Bounds::full()),
     }
 }
 
@@ -146,7 +160,7 @@ fn answered(state: &State, value: Value) -> State
 fn copied(state: &State) -> State
     ensures { state_of result ≡ copied_state (state_of state.now) }
 {
-    let length = state.at(3).words().low;
+    let length = state.at(3).words().unsigned.low;
     with_written(state, place_of(state.at(2), 0, length), length)
 }
 
@@ -185,59 +199,61 @@ fn store_after(state: &State, stored: Value, size: Size, base: Register, offset:
 }
 
 /// The state behind an instruction at whose state no rule is broken, on a device of so many sectors.
-/// Behind a local call r0 is any word. A jump leaves the state as it is, and so does the end of a
-/// function.
+/// None where arithmetic leaves no word, so that no machine gets there. Behind a local call r0 is any
+/// word. A jump leaves the state as it is, and so does the end of a function.
 #[tactic(auto, unfolding(crate::specs::After::after_of))]
-pub fn after(instr: &Instr, state: &State, sectors: u32) -> State
-    ensures { state_of result ≡ after_of sectors (state_of state.now) instr.now }
+pub fn after(instr: &Instr, state: &State, sectors: u32) -> Option<State>
+    ensures { option_map state_of result ≡ after_of sectors (state_of state.now) instr.now }
 {
     match instr {
         Instr::Arithmetic { dst, source, .. } => {
-            let value = result_value(instr, state.value(*dst), state.second(source));
-            state.with_value(*dst, value)
+            let value = result_value(instr, state.value(*dst), state.second(source))?;
+            Some(state.with_value(*dst, value))
         }
         Instr::Negate { dst, .. } | Instr::ByteOrder { dst, .. } => {
-            let value = computed(instr, state.value(*dst), Value::Unset);
-            state.with_value(*dst, value)
+            let value = computed(instr, state.value(*dst), Value::Unset)?;
+            Some(state.with_value(*dst, value))
         }
         Instr::SignExtend { dst, src, .. } => {
-            let value = computed(instr, Value::Unset, state.value(*src));
-            state.with_value(*dst, value)
+            let value = computed(instr, Value::Unset, state.value(*src))?;
+            Some(state.with_value(*dst, value))
         }
         Instr::Load {
             size,
             dst,
             base,
             offset,
-        } => load_after(state, sectors, *dst, *size, *base, *offset),
-        Instr::LoadSigned { dst, .. } => state.with_value(*dst, Value::Num(Range::full())),
+        } => Some(load_after(state, sectors, *dst, *size, *base, *offset)),
+        Instr::LoadSigned { dst, .. } => Some(state.with_value(*dst, Value::Num(Bounds::full()))),
         Instr::StoreImmediate {
             size,
             base,
             offset,
             immediate,
-        } => store_after(
+        } => Some(store_after(
             state,
-            Value::Num(Range::immediate(*immediate)),
+            Value::Num(Bounds::immediate(*immediate)),
             *size,
             *base,
             *offset,
-        ),
+        )),
         Instr::Store {
             size,
             base,
             offset,
             src,
-        } => store_after(state, state.value(*src), *size, *base, *offset),
-        Instr::LoadImmediate { dst, value } => state.with_value(
+        } => Some(store_after(state, state.value(*src), *size, *base, *offset)),
+        Instr::LoadImmediate { dst, value } => Some(state.with_value(
             *dst,
-            Value::Num(Range::constant(*value)),
-        ),
+            Value::Num(Bounds::constant(*value)),
+        )),
         Instr::CallHelper { number } => match Helper::of(number.cast_unsigned()) {
-            Some(helper) => call_after(state, helper),
-            None => answered(state, Value::Num(Range::full())),
+            Some(helper) => Some(call_after(state, helper)),
+            None => Some(answered(state, Value::Num(Bounds::full()))),
         },
-        Instr::CallLocal { .. } => answered(state, Value::Num(Range::full())),
-        Instr::Jump { .. } | Instr::LongJump { .. } | Instr::Branch { .. } | Instr::Exit => *state,
+        Instr::CallLocal { .. } => Some(answered(state, Value::Num(Bounds::full()))),
+        Instr::Jump { .. } | Instr::LongJump { .. } | Instr::Branch { .. } | Instr::Exit => Some(
+            *state,
+        ),
     }
 }

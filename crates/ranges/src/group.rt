@@ -1,7 +1,7 @@
 //! Eight bytes of a stack.
 
 ghost use Rattle.std.specs.Prelude.{◌≡◌, ◌<◌, IsTrue, ◌&&◌, ◌↔◌};
-ghost use Rattle.ranges.specs.Groups.{zip_with, kept, join_group, round_group, GroupContains};
+ghost use Rattle.ranges.specs.Groups.{Marked, zip_with, kept, met, join_group, round_group, GroupContains};
 ghost use Rattle.ranges.specs.Seen.{kind_of};
 ghost use Rattle.ranges.specs.SeenStates.{group_of};
 
@@ -15,7 +15,7 @@ use crate::value::Value;
 pub enum Group {
     /// For each byte whether it is written. One that is not may be unset.
     Marked(ByteMarks),
-    /// The bytes of a pointer.
+    /// The bytes of a number or a pointer.
     Spilled(Spill),
 }
 
@@ -24,12 +24,12 @@ pub const UNSET: Group = Group::Marked(ByteMarks {
     written: [false; 8],
 });
 
-/// A pointer that is kept in the eight bytes. What is no pointer leaves them unset.
+/// A value that is kept in the eight bytes. What may be anything leaves them unset.
 fn kept(value: Value) -> Group
     ensures { group_of result ≡ kept (kind_of value) }
 {
     match value {
-        Value::Unset | Value::Num(_) => UNSET,
+        Value::Unset => UNSET,
         value => Group::Spilled(Spill { value }),
     }
 }
@@ -53,6 +53,18 @@ fn both(x: ByteMarks, y: ByteMarks) -> ByteMarks
     }
 }
 
+/// What bytes that are known by marks are where a value is kept instead: all bytes of a number are
+/// written, and those of a pointer become unset.
+fn met(marks: ByteMarks, value: Value) -> Group
+    ensures { group_of result ≡ Marked (met marks.written (kind_of value)) }
+{
+    if value.is_number() {
+        Group::Marked(marks)
+    } else {
+        UNSET
+    }
+}
+
 /// Whether the marks of the bytes are the same.
 fn same(x: &[bool; 8], y: &[bool; 8]) -> bool
     ensures { IsTrue result ↔ (x.now ≡ y.now) }
@@ -70,12 +82,13 @@ impl Group {
     {
         match (self, other) {
             (Group::Marked(x), Group::Marked(y)) => Group::Marked(both(x, y)),
+            (Group::Marked(x), Group::Spilled(y)) => met(x, y.value),
+            (Group::Spilled(x), Group::Marked(y)) => met(y, x.value),
             (Group::Spilled(x), Group::Spilled(y)) => kept(x.value.join(y.value)),
-            _ => UNSET,
         }
     }
 
-    /// The group with its spilled pointer rounded.
+    /// The group with its spilled value rounded.
     #[tactic(auto, unfolding(crate::specs::Groups::round_group))]
     pub fn round(self) -> Group
         ensures { group_of result ≡ round_group (group_of self) }
@@ -96,7 +109,8 @@ impl Group {
         match (self, other) {
             (Group::Marked(x), Group::Marked(y)) => same(&both(x, y).written, &x.written),
             (Group::Spilled(x), Group::Spilled(y)) => x.value.contains(y.value),
-            (Group::Marked(x), Group::Spilled(_)) => same(&x.written, &[false; 8]),
+            (Group::Marked(x), Group::Spilled(y)) => y.value.is_number()
+                || same(&x.written, &[false; 8]),
             (Group::Spilled(_), Group::Marked(_)) => false,
         }
     }
@@ -112,7 +126,11 @@ impl Group {
             } else {
                 Mark::Unset
             },
-            Group::Spilled(_) => Mark::Pointer,
+            Group::Spilled(x) => if x.value.is_number() {
+                Mark::Written
+            } else {
+                Mark::Pointer
+            },
         }
     }
 }

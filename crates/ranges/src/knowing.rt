@@ -11,7 +11,7 @@ use crate::state::State;
 use crate::value::{ContextOffset, StackOffset, Value};
 use bpf_isa::instr::Source;
 use bpf_isa::register::Register;
-use intervals::Range;
+use intervals::Bounds;
 
 fn join_values(x: &[Value; 11], y: &[Value; 11]) -> [Value; 11]
     ensures { map kind_of result ≡ zip_with join (map kind_of x.now) (map kind_of y.now) }
@@ -109,7 +109,7 @@ impl State {
         }
     }
 
-    /// The state with all ranges rounded, those of spilled pointers too.
+    /// The state with all ranges rounded, those of spilled values too.
     #[tactic(auto, unfolding(crate::specs::States::round_state))]
     pub fn round(&self) -> State
         ensures { state_of result ≡ round_state (state_of self.now) }
@@ -148,7 +148,7 @@ impl State {
         ensures { kind_of result ≡ second (state_of self.now) source.now }
     {
         match source {
-            Source::Immediate(immediate) => Value::Num(Range::immediate(*immediate)),
+            Source::Immediate(immediate) => Value::Num(Bounds::immediate(*immediate)),
             Source::Register(register) => self.value(*register),
         }
     }

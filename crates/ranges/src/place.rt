@@ -25,7 +25,7 @@ pub enum Place {
 pub enum Mark {
     /// It may be unset.
     Unset,
-    /// It is set.
+    /// It is set, and may be one of the eight of a spilled number.
     Written,
     /// It is one of the eight of a spilled pointer.
     Pointer,

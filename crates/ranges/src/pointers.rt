@@ -93,18 +93,20 @@ pub(crate) fn moved(down: bool, pointer: Value, number: Value) -> Option<Value>
 {
     match (pointer, number) {
         (Value::Ctx(o), Value::Num(y)) => {
-            let offset = moved_place(32, down, u64::from(o.offset), y)?;
+            let offset = moved_place(32, down, u64::from(o.offset), y.unsigned)?;
             Some(Value::Ctx(ContextOffset {
                 offset: offset as u8,
             }))
         }
         (Value::Stack(o), Value::Num(y)) => {
-            let offset = moved_place(512, down, u64::from(o.offset), y)?;
+            let offset = moved_place(512, down, u64::from(o.offset), y.unsigned)?;
             Some(Value::Stack(StackOffset {
                 offset: offset as u16,
             }))
         }
-        (Value::Sector(x), Value::Num(y)) => Some(Value::Sector(moved_offsets(down, x, y)?)),
+        (Value::Sector(x), Value::Num(y)) => Some(Value::Sector(moved_offsets(
+            down, x, y.unsigned,
+        )?)),
         _ => None,
     }
 }

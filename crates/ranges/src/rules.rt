@@ -26,7 +26,7 @@ use base::causes::VerifierCause;
 use bpf_isa::instr::{Condition, Instr, Operator, Size, Source, Width};
 use bpf_isa::register::Register;
 use helpers::Helper;
-use intervals::Range;
+use intervals::Bounds;
 
 /// Whether arithmetic may take these operands.
 #[tactic(auto, unfolding(crate::specs::Rules::may_compute))]
@@ -200,7 +200,7 @@ fn copy_breach(state: &State) -> Option<VerifierCause>
         Some(VerifierCause::UnsetRegister)
     } else if !from.is_number() || !to.is_stack() || !length.has_length() {
         Some(VerifierCause::HelperArgument)
-    } else if matches!(place_of(to, 0, length.words().low), Place::Outside) {
+    } else if matches!(place_of(to, 0, length.words().unsigned.low), Place::Outside) {
         Some(VerifierCause::OutsideRegion)
     } else {
         None
@@ -256,7 +256,7 @@ fn constant_store_breach(
 ) -> Option<VerifierCause>
     ensures { result ≡ first_failing (store_rules (state_of state.now) (are_set (state_of state.now) (base ∷ [])) (second (state_of state.now) (operand.Immediate immediate)) base offset (byte_count size)) }
 {
-    let stored = Value::Num(Range::immediate(immediate));
+    let stored = Value::Num(Bounds::immediate(immediate));
     let set = is_set(state, base);
     store_breach(state, set, stored, base, offset, byte_count(size))
 }

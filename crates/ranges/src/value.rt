@@ -2,7 +2,7 @@
 
 ghost use Rattle.std.specs.Prelude.{◌≤◌};
 
-use intervals::Range;
+use intervals::{Bounds, Range};
 
 /// An offset in the context: 0 to 32.
 #[derive(Clone, Copy, Debug, PartialEq, Eq)]
@@ -32,8 +32,8 @@ pub struct SectorOffsets {
 pub enum Value {
     /// Anything, unset too.
     Unset,
-    /// The words of a range.
-    Num(Range),
+    /// The words of both ranges of a number.
+    Num(Bounds),
     /// The address of the context, and an offset.
     Ctx(ContextOffset),
     /// The lower end of the stack of the frame at hand, and an offset.
@@ -46,10 +46,10 @@ pub enum Value {
 
 impl Value {
     ghost use Rattle.std.specs.Prelude.{◌≡◌, IsTrue, ◌↔◌, not};
-    ghost use Rattle.ranges.specs.Kinds.{join, round, Contains, is_number, is_pointer, is_unset};
+    ghost use Rattle.ranges.specs.Kinds.{join, round, Contains, is_number, is_unset};
     ghost use Rattle.ranges.specs.Reading.{is_stack, is_base, has_length, words};
     ghost use Rattle.ranges.specs.Seen.{kind_of};
-    ghost use Rattle.intervals.specs.Seen.{span_of};
+    ghost use Rattle.intervals.specs.SeenBounds.{limits_of};
 
     /// The least value that holds all that either does (docs/VERIFIER.md, Abstract states).
     #[tactic(auto, unfolding(crate::specs::Kinds::join))]
@@ -86,7 +86,7 @@ impl Value {
     #[tactic(auto, unfolding(crate::specs::Kinds::round))]
     pub fn round(self) -> Value
         ensures value { kind_of result ≡ round (kind_of self) }
-        ensures kind { is_pointer (kind_of result) ≡ is_pointer (kind_of self) }
+        ensures kind { is_unset (kind_of result) ≡ is_unset (kind_of self) }
     {
         match self {
             Value::Num(x) => Value::Num(x.round()),
@@ -121,29 +121,22 @@ impl Value {
         ensures { result ≡ has_length (kind_of self) }
     {
         match self {
-            Value::Num(x) => x.is_constant() && 1 <= x.low && x.low <= 512,
+            Value::Num(x) => x.is_constant() && 1 <= x.unsigned.low && x.unsigned.low <= 512,
             _ => false,
         }
     }
 
     /// The words of a number; of what is none nothing is asked.
-    pub(crate) fn words(self) -> Range
-        ensures { span_of result ≡ words (kind_of self) }
+    pub(crate) fn words(self) -> Bounds
+        ensures { limits_of result ≡ words (kind_of self) }
     {
         match self {
             Value::Num(x) => x,
-            _ => Range::full(),
+            _ => Bounds::full(),
         }
     }
 
-    /// Whether it is a pointer.
-    pub(crate) fn is_pointer(self) -> bool
-        ensures { result ≡ is_pointer (kind_of self) }
-    {
-        !matches!(self, Value::Unset | Value::Num(_))
-    }
-
-    /// Whether it is a range of words.
+    /// Whether it is a number.
     pub fn is_number(self) -> bool
         ensures { result ≡ is_number (kind_of self) }
     {

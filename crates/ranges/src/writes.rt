@@ -82,7 +82,7 @@ pub(crate) fn with_stored(state: &State, value: Value, place: Place, n: u64) -> 
     ensures { state_of result ≡ with_groups (state_of state.now) (stored_groups (kind_of value) (state_of state.now).groups place n) }
 {
     match place {
-        Place::Stack(at) => if value.is_pointer() && is_group(at, n) {
+        Place::Stack(at) => if value.is_set() && is_group(at, n) {
             state.with_group((at / 8) as usize, Group::Spilled(Spill { value }))
         } else {
             with_written(state, place, n)

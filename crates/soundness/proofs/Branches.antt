@@ -1,7 +1,7 @@
 -- Jumps: what is known where they lead.
 use Rattle.std.proofs.Common.{◌≡◌, ℕ, ◌+◌, ◌*◌, ◌==◌, ◌&&◌, not, Bool, true, false, if◌then◌else◌, ℤ, pos, negsuc, List, [], ◌∷◌, ◌++◌, length, get_or, Option, None, Some, is_some, refl, sym, ap, ◌∙◌, inl, inr, ◌⊎◌, subst, arith}
 use Rattle.std.specs.Prelude.{set, unwrap_or}
-use Rattle.std.specs.Option.{option_map}
+use Rattle.std.specs.Option.{option_map, IsSomeAnd}
 use Rattle.std.specs.Ordering.{int_eq}
 use Rattle.std.specs.Int.{cast_unsigned, w64}
 use Rattle.std.specs.List.{list_all}
@@ -15,6 +15,7 @@ use Rattle.bpf_isa.specs.declared.instr.Instr.{Instr}
 use Rattle.bpf_isa.specs.declared.instr.Instr.TheVariants as instr
 use Rattle.bpf_isa.specs.declared.instr.Source.{Source}
 use Rattle.bpf_isa.specs.declared.instr.Source.TheVariants as source
+use Rattle.bpf_isa.specs.Spelling.{IsSourceInRange}
 use Rattle.bpf_isa.specs.declared.instr.Width.{Width}
 use Rattle.bpf_isa.specs.declared.instr.Width.TheVariants as width
 use Rattle.bpf_isa.specs.declared.instr.Condition.{Condition}
@@ -25,10 +26,10 @@ use Rattle.machine.specs.State.{State, word}
 use Rattle.machine.specs.Step as step
 use Rattle.bpf_isa.specs.Slots.{at, target_slot}
 use Rattle.machine.specs.Step.{source_registers, branch_slot, checks, effect, step_of, tested, go_to, Next}
-use Rattle.intervals.specs.Spans.{Span, Has}
-use Rattle.intervals.specs.Edges.{refined}
-use Rattle.intervals.specs.Laws.{Leaves}
-use Rattle.intervals.proofs.Edges.{refined_leaves}
+use Rattle.intervals.specs.Reducing.{Limits, HasWord}
+use Rattle.intervals.specs.SignedEdges.{limits_refined}
+use Rattle.intervals.proofs.Outcomes.{refined_has}
+use Rattle.intervals.proofs.CallerLemmas.{words_are_limits}
 use Rattle.ranges.specs.Kinds.{Kind, Unset, Num, SectorOrNull, is_unset}
 use Rattle.ranges.specs.States.{Abstract}
 use Rattle.ranges.specs.Reading.{value, second, are_set, with_value, words}
@@ -37,7 +38,8 @@ use Rattle.ranges.specs.Passing.{passes, edge_of, with_both, with_second, tested
 use Rattle.soundness.specs.Meaning.{Describes, Means}
 use Rattle.soundness.specs.Laws.{Arrives}
 use Rattle.soundness.proofs.Checks.{pass_one, pass_two, two_tell, tested_passes, and_parts}
-use Rattle.soundness.proofs.Meanings.{means_word}
+use Rattle.soundness.proofs.Meanings.{means_word, word_in}
+use Rattle.ranges.proofs.Keeping.{words_fit, value_fits, second_fits}
 use Rattle.soundness.proofs.Standing.{Parts, machine, number, Stands, Goes, goes_first, goes_to, covers_machine, set_means, not_unset, reads_set}
 use Rattle.soundness.proofs.Computing.{Site, read_has, second_has, rest_set, first_describes}
 
@@ -122,7 +124,7 @@ equal_holds cond.SignedLt a b taken e h = absurd (elim e [ inl f ↦ (let bad : 
 equal_holds cond.SignedLe a b taken e h = absurd (elim e [ inl f ↦ (let bad : cond.SignedLe ≡ cond.Eq = f in cc) | inr f ↦ (let bad : cond.SignedLe ≡ cond.Ne = f in cc) ])
 
 tested_means : (sectors frame : ℕ) (w : ℕ) (zero : Bool) → Describes sectors frame SectorOrNull w → (w == 0) ≡ zero → Means sectors frame (tested_kind zero) (Some w)
-tested_means sectors frame w true (inl z) e = (w, refl, rw z (record { from = omega arith; upto = omega arith }))
+tested_means sectors frame w true (inl z) e = (w, refl, rw z (word_in 0 0 0 (omega arith) (omega arith) (omega arith)))
 tested_means sectors frame w false (inl z) e = absurd (let bad : (0 == 0) ≡ false = rw z at e in let worse : true ≡ false = bad in cc)
 tested_means sectors frame w true (inr d) e = absurd (let at : w ≡ 0 = grind (arith, nat_tests) in omega (arith, d.2, at))
 tested_means sectors frame w false (inr d) e =
@@ -130,17 +132,17 @@ tested_means sectors frame w false (inr d) e =
 
 -- numbers
 
-second_stands : (sectors : ℕ) (known : Abstract) (m : Parts) (from : Source) (y : Span) → length known.values ≡ 11
+second_stands : (sectors : ℕ) (known : Abstract) (m : Parts) (from : Source) (y : Limits) → length known.values ≡ 11
     → ((r : ℕ) → from ≡ source.Register r → Means sectors (number m) (Num y) (get_or m.registers r None))
     → Stands sectors (number m) known m.registers m.stack → Stands sectors (number m) (with_second known from y) m.registers m.stack
 second_stands sectors known m (source.Immediate n) y long means h = h
 second_stands sectors known m (source.Register r) y long means h = known_stands sectors (number m) known m.registers m.stack r (Num y) long (means r refl) h
 
-number_means : (sectors frame : ℕ) (c : Option ℕ) (w : ℕ) (y : Span) → c ≡ Some w → Has y w → Means sectors frame (Num y) c
+number_means : (sectors frame : ℕ) (c : Option ℕ) (w : ℕ) (y : Limits) → c ≡ Some w → HasWord y w → Means sectors frame (Num y) c
 number_means sectors frame c w y e h = (w, e, h)
 
-both_stand : (sectors : ℕ) (known : Abstract) (m : Parts) (dst : ℕ) (from : Source) (q : Option (Span × Span)) → Site sectors known m
-    → are_set known (dst ∷ source_registers from) ≡ true → Leaves q (word (machine m) dst) (step.second (machine m) from) → Edge sectors m (option_map (with_both known dst from) q)
+both_stand : (sectors : ℕ) (known : Abstract) (m : Parts) (dst : ℕ) (from : Source) (q : Option (Limits × Limits)) → Site sectors known m
+    → are_set known (dst ∷ source_registers from) ≡ true → IsSomeAnd q (λ p. HasWord p.0 (word (machine m) dst) × HasWord p.1 (step.second (machine m) from)) → Edge sectors m (option_map (with_both known dst from) q)
 both_stand sectors known m dst from None site is leaves = absurd leaves
 both_stand sectors known m dst from (Some p) site is leaves = record {
   state = with_both known dst from p;
@@ -150,7 +152,7 @@ both_stand sectors known m dst from (Some p) site is leaves = record {
       (number_means sectors (number m) (get_or m.registers dst None) (word (machine m) dst) p.0 (register_is sectors known m dst (source_registers from) site is) leaves.0) site.stands);
 }
   where
-    other : (from : Source) → are_set known (dst ∷ source_registers from) ≡ true → Has p.1 (step.second (machine m) from)
+    other : (from : Source) → are_set known (dst ∷ source_registers from) ≡ true → HasWord p.1 (step.second (machine m) from)
         → (r : ℕ) → from ≡ source.Register r → Means sectors (number m) (Num p.1) (get_or m.registers r None)
     other (source.Immediate n) set has r e = absurd (let bad : source.Immediate n ≡ source.Register r = e in cc)
     other (source.Register q) set has r e =
@@ -159,11 +161,11 @@ both_stand sectors known m dst from (Some p) site is leaves = record {
         (number_means sectors (number m) (get_or m.registers q None) (word (machine m) q) p.1 (register_is sectors known m q [] site (rest_set known dst (q ∷ []) set)) has)
 
 -- the edge that the machine takes
-edge_stands : (sectors : ℕ) (known : Abstract) (m : Parts) (w : Width) (c : Condition) (dst : ℕ) (from : Source) (distance : ℤ) (taken : Bool) → Site sectors known m
+edge_stands : (sectors : ℕ) (known : Abstract) (m : Parts) (w : Width) (c : Condition) (dst : ℕ) (from : Source) (distance : ℤ) (taken : Bool) → Site sectors known m → IsSourceInRange from
     → are_set known (dst ∷ source_registers from) ≡ true → holds w c (word (machine m) dst) (step.second (machine m) from) ≡ taken
     → Edge sectors m (edge_of known (instr.Branch w c dst from distance) taken)
 unfolding edge_of
-edge_stands sectors known m w c dst from distance taken site is h = by (is_null_test w c from (value known dst)) refl
+edge_stands sectors known m w c dst from distance taken site range is h = by (is_null_test w c from (value known dst)) refl
   where
     null : (w ≡ width.W64) × ((c ≡ cond.Eq) ⊎ (c ≡ cond.Ne)) × (is_zero from ≡ true) × (value known dst ≡ SectorOrNull)
         → Means sectors (number m) (tested_kind (is_equal_edge c taken)) (get_or m.registers dst None)
@@ -178,15 +180,17 @@ edge_stands sectors known m w c dst from distance taken site is h = by (is_null_
 
     by : (b : Bool) → is_null_test w c from (value known dst) ≡ b → Edge sectors m
         (if b then Some (with_value known dst (tested_kind (is_equal_edge c taken)))
-        else option_map (with_both known dst from) (refined (instr.Branch w c dst from distance) taken (words (value known dst)) (words (second known from))))
+        else option_map (with_both known dst from) (limits_refined (instr.Branch w c dst from distance) taken (words (value known dst)) (words (second known from))))
     by true t = record {
       state = with_value known dst (tested_kind (is_equal_edge c taken));
       is = refl;
       stands = known_stands sectors (number m) known m.registers m.stack dst (tested_kind (is_equal_edge c taken)) site.fits.registers (null (null_parts w c from (value known dst) t)) site.stands;
     }
-    by false t = both_stand sectors known m dst from (refined (instr.Branch w c dst from distance) taken (words (value known dst)) (words (second known from))) site is
-        (refined_leaves w c dst from distance taken (words (value known dst)) (words (second known from)) (word (machine m) dst) (step.second (machine m) from)
-        (read_has sectors known m dst site) (second_has sectors known m from site) h)
+    by false t = both_stand sectors known m dst from (limits_refined (instr.Branch w c dst from distance) taken (words (value known dst)) (words (second known from))) site is
+        (refined_has w c dst from distance taken (words (value known dst)) (words (second known from)) (word (machine m) dst) (step.second (machine m) from)
+        (words_are_limits (words (value known dst)) (words_fit (value known dst) (value_fits known dst site.fits)))
+        (words_are_limits (words (second known from)) (words_fit (second known from) (second_fits known from range site.fits)))
+        (read_has sectors known m dst site) (second_has sectors known m from site range) h)
 
 -- states that are sent
 
@@ -206,11 +210,11 @@ arrives_sent sectors m slot passed e =
     subst (λ o. Arrives sectors (sent slot o) (machine to)) (sym e.is) (inl (refl, covers_machine sectors e.state to e.stands))
 
 pub branch_goes : (program : List (Option Instr)) (context : List ℕ) (device : List (List ℕ)) (sectors : ℕ) (known : Abstract) (m : Parts) (w : Width) (c : Condition) (dst : ℕ) (from : Source) (distance : ℤ)
-    → Site sectors known m → is_some (at program (m.slot + 1)) ≡ true → is_some (at program (target_slot m.slot distance)) ≡ true
+    → Site sectors known m → IsSourceInRange from → is_some (at program (m.slot + 1)) ≡ true → is_some (at program (target_slot m.slot distance)) ≡ true
     → first_failing (rules known (instr.Branch w c dst from distance)) ≡ None
     → Goes sectors m (passes sectors known m.slot (instr.Branch w c dst from distance)) (step_of program context device (machine m) (instr.Branch w c dst from distance))
 unfolding rules passes step_of checks effect
-branch_goes program context device sectors known m w c dst from distance site next there keeps =
+branch_goes program context device sectors known m w c dst from distance site range next there keeps =
     by (holds w c (word (machine m) dst) (step.second (machine m) from)) refl
   where
     is : are_set known (dst ∷ source_registers from) ≡ true
@@ -238,10 +242,10 @@ branch_goes program context device sectors known m w c dst from distance site ne
         (go_to (if b then target_slot m.slot distance else m.slot + 1) (machine m)))
     by true h = goes (target_slot m.slot distance) there
         (arrives_right sectors left right (machine (record { slot = target_slot m.slot distance; registers = m.registers; below = m.below; caller = m.caller; stack = m.stack; turns = m.turns; codes = m.codes }))
-        (arrives_sent sectors m (target_slot m.slot distance) (edge_of known (instr.Branch w c dst from distance) true) (edge_stands sectors known m w c dst from distance true site is h)))
+        (arrives_sent sectors m (target_slot m.slot distance) (edge_of known (instr.Branch w c dst from distance) true) (edge_stands sectors known m w c dst from distance true site range is h)))
     by false h = goes (m.slot + 1) next
         (arrives_left sectors left right (machine (record { slot = m.slot + 1; registers = m.registers; below = m.below; caller = m.caller; stack = m.stack; turns = m.turns; codes = m.codes }))
-        (arrives_sent sectors m (m.slot + 1) (edge_of known (instr.Branch w c dst from distance) false) (edge_stands sectors known m w c dst from distance false site is h)))
+        (arrives_sent sectors m (m.slot + 1) (edge_of known (instr.Branch w c dst from distance) false) (edge_stands sectors known m w c dst from distance false site range is h)))
 
 pub jump_goes : (program : List (Option Instr)) (sectors : ℕ) (known : Abstract) (m : Parts) (slot : ℕ) → Site sectors known m → is_some (at program slot) ≡ true
     → Goes sectors m ((slot, known) ∷ []) (tested (machine m) (step.goes_on program slot ∷ []) (go_to slot (machine m)))

@@ -25,6 +25,7 @@ use Rattle.machine.specs.Step as step
 use Rattle.bpf_isa.specs.Slots.{at}
 use Rattle.machine.specs.Step.{checks, effect, step_of, tested, Stepped, Next, call_checks, call_effect, is_length, is_limit, turns_here, counted}
 use Rattle.intervals.specs.Spans.{span, is_constant}
+use Rattle.intervals.specs.Reducing.{any_sign}
 use Rattle.ranges.specs.declared.place.Place.TheVariants as place
 use Rattle.ranges.specs.Kinds.{Kind, Unset, Num, Ctx, Stack, Sector, SectorOrNull, is_number}
 use Rattle.ranges.specs.States.{Abstract}
@@ -39,6 +40,7 @@ use Rattle.ranges.proofs.Keeping.{value_fits}
 use Rattle.soundness.specs.Meaning.{Describes, Means}
 use Rattle.soundness.specs.Machines.{IsSetting}
 use Rattle.soundness.proofs.Checks.{pass_two, pass_three, pass_five, two_tell, three_tell, tested_passes, and_parts}
+use Rattle.soundness.proofs.Meanings.{word_in}
 use Rattle.soundness.proofs.Standing.{Parts, machine, number, frames_of, all_frames, Stands, Goes, goes_first, answered_stands, reads_set, described_word}
 use Rattle.soundness.proofs.Places.{Lands, place_lands}
 use Rattle.soundness.proofs.Loads.{AreSmall}
@@ -65,8 +67,8 @@ reads_pass program sectors known m list site is next =
     pass_two fault.UnsetRegister fault.NoInstruction (list_all (λ r. is_some (get_or m.registers r None)) list) (is_some (at program (m.slot + 1)))
     (reads_set sectors (number m) known m.registers list site.stands.values is) next
 
-number_means : (sectors frame most x : ℕ) → x ≤ most → Means sectors frame (Num (span 0 most)) (Some x)
-number_means sectors frame most x le = (x, refl, record { from = omega arith; upto = le })
+number_means : (sectors frame most x : ℕ) → most < 2 ^ 64 → x ≤ most → Means sectors frame (Num (any_sign (span 0 most))) (Some x)
+number_means sectors frame most x few le = (x, refl, word_in 0 most x few (omega arith) le)
 
 -- what the helpers answer
 
@@ -191,7 +193,7 @@ copies program sectors device context known m p n set site is length_is count ne
     } in
     let most = copy_most device position w in
     let to : Parts = record { slot = m.slot + 1; registers = step.with_answer m.registers x; below = m.below; caller = m.caller; stack = stack; turns = m.turns; codes = m.codes } in
-    let last = answered_stands sectors (number m) less m.registers stack k x site.fits.registers (omega (arith, most)) (number_means sectors (number m) 1 x most) stands in
+    let last = answered_stands sectors (number m) less m.registers stack k x site.fits.registers (omega (arith, most)) (number_means sectors (number m) 1 x (omega arith) most) stands in
     let mem = byte_at (context_bytes context) device (all_frames m) in
     let list_passes = pass_five fault.UnsetRegister fault.HelperArgument fault.Unmapped fault.ReadOnly fault.NoInstruction
     (list_all (λ r. is_some (get_or m.registers r None)) (1 ∷ 2 ∷ 3 ∷ [])) (is_length w) (all_mapped mem a w) (all_in_stacks a w) (is_some (at program (m.slot + 1)))
@@ -212,10 +214,10 @@ length_known sectors frame (Stack o) w e d = absurd (let bad : false ≡ true = 
 length_known sectors frame (Sector x) w e d = absurd (let bad : false ≡ true = e in cc)
 length_known sectors frame SectorOrNull w e d = absurd (let bad : false ≡ true = e in cc)
 length_known sectors frame (Num x) w e d =
-    let h = and_parts (is_constant x) (is_length x.low) e in
+    let h = and_parts (is_constant x.unsigned) (is_length x.unsigned.low) e in
     let one = h.0 in
-    let same : x.low ≡ x.high = grind (arith, nat_tests) in
-    (omega (arith, same, d.from, d.upto), h.1)
+    let same : x.unsigned.low ≡ x.unsigned.high = grind (arith, nat_tests) in
+    (omega (arith, same, d.word.from, d.word.upto), h.1)
 
 copy_goes : (program : List (Option Instr)) (sectors : ℕ) (device : List (List ℕ)) (context : Context) (known : Abstract) (m : Parts)
     → IsSetting program sectors device context → Site sectors known m → is_some (at program (m.slot + 1)) ≡ true → first_failing (call_rules known helper.Copy) ≡ None
@@ -264,32 +266,32 @@ helper_goes program sectors device context known m helper.Again set site next li
     let n : ℕ = word (machine m) 1 in
     let x : ℕ = again_answer (turns_here (machine m)) n in
     let most = again_most (turns_here (machine m)) n in
-    answers sectors known m (step.reads (machine m) (1 ∷ []) ∷ check fault.HelperArgument (is_limit n) ∷ step.goes_on program (m.slot + 1) ∷ []) (Num (span 0 1)) x
+    answers sectors known m (step.reads (machine m) (1 ∷ []) ∷ check fault.HelperArgument (is_limit n) ∷ step.goes_on program (m.slot + 1) ∷ []) (Num (any_sign (span 0 1))) x
     (counted (machine m) n) m.codes site (counted_long m n site.turns)
     (pass_three fault.UnsetRegister fault.HelperArgument fault.NoInstruction (list_all (λ r. is_some (get_or m.registers r None)) (1 ∷ [])) (is_limit n) (is_some (at program (m.slot + 1)))
     (reads_set sectors (number m) known m.registers (1 ∷ []) site.stands.values is) (limit refl) next)
-    (omega (arith, most)) (number_means sectors (number m) 1 x most)
+    (omega (arith, most)) (number_means sectors (number m) 1 x (omega arith) most)
 helper_goes program sectors device context known m helper.Report set site next limit keeps =
     let is = (two_tell cause.UnsetRegister cause.HelperArgument (are_set known (1 ∷ [])) (is_number (value known 1)) keeps).0 in
     let x : ℕ = report_answer m.codes in
     let most = report_most m.codes in
-    answers sectors known m (step.reads (machine m) (1 ∷ []) ∷ step.goes_on program (m.slot + 1) ∷ []) (Num (span 0 1)) x m.turns (reported m.codes (word (machine m) 1)) site site.turns
-    (reads_pass program sectors known m (1 ∷ []) site is next) (omega (arith, most)) (number_means sectors (number m) 1 x most)
+    answers sectors known m (step.reads (machine m) (1 ∷ []) ∷ step.goes_on program (m.slot + 1) ∷ []) (Num (any_sign (span 0 1))) x m.turns (reported m.codes (word (machine m) 1)) site site.turns
+    (reads_pass program sectors known m (1 ∷ []) site is next) (omega (arith, most)) (number_means sectors (number m) 1 x (omega arith) most)
 helper_goes program sectors device context known m helper.Zero set site next limit keeps =
     let is = (two_tell cause.UnsetRegister cause.HelperArgument (are_set known (1 ∷ [])) (is_number (value known 1)) keeps).0 in
     let x : ℕ = zero_answer device (word (machine m) 1) in
     let most = zero_most device (word (machine m) 1) in
-    answers sectors known m (step.reads (machine m) (1 ∷ []) ∷ step.goes_on program (m.slot + 1) ∷ []) (Num (span 0 2)) x m.turns m.codes site site.turns
-    (reads_pass program sectors known m (1 ∷ []) site is next) (omega (arith, most)) (number_means sectors (number m) 2 x most)
+    answers sectors known m (step.reads (machine m) (1 ∷ []) ∷ step.goes_on program (m.slot + 1) ∷ []) (Num (any_sign (span 0 2))) x m.turns m.codes site site.turns
+    (reads_pass program sectors known m (1 ∷ []) site is next) (omega (arith, most)) (number_means sectors (number m) 2 x (omega arith) most)
 helper_goes program sectors device context known m helper.Mix set site next limit keeps =
     let is = (two_tell cause.UnsetRegister cause.HelperArgument (are_set known (1 ∷ [])) (is_number (value known 1)) keeps).0 in
     let x : ℕ = mix_answer device (word (machine m) 1) in
     let small = mix_word device (word (machine m) 1) in
     answers sectors known m (step.reads (machine m) (1 ∷ []) ∷ step.goes_on program (m.slot + 1) ∷ []) (Num any_word) x m.turns m.codes site site.turns
-    (reads_pass program sectors known m (1 ∷ []) site is next) small (number_means sectors (number m) (2 ^ 64 - 1) x (omega (arith, small)))
+    (reads_pass program sectors known m (1 ∷ []) site is next) small (number_means sectors (number m) (2 ^ 64 - 1) x (omega arith) (omega (arith, small)))
 helper_goes program sectors device context known m helper.Same set site next limit keeps =
     let is = (two_tell cause.UnsetRegister cause.HelperArgument (are_set known (1 ∷ 2 ∷ [])) (is_number (value known 1) && is_number (value known 2)) keeps).0 in
     let x : ℕ = same_answer device (word (machine m) 1) (word (machine m) 2) in
     let most = same_most device (word (machine m) 1) (word (machine m) 2) in
-    answers sectors known m (step.reads (machine m) (1 ∷ 2 ∷ []) ∷ step.goes_on program (m.slot + 1) ∷ []) (Num (span 0 2)) x m.turns m.codes site site.turns
-    (reads_pass program sectors known m (1 ∷ 2 ∷ []) site is next) (omega (arith, most)) (number_means sectors (number m) 2 x most)
+    answers sectors known m (step.reads (machine m) (1 ∷ 2 ∷ []) ∷ step.goes_on program (m.slot + 1) ∷ []) (Num (any_sign (span 0 2))) x m.turns m.codes site site.turns
+    (reads_pass program sectors known m (1 ∷ 2 ∷ []) site is next) (omega (arith, most)) (number_means sectors (number m) 2 x (omega arith) most)

@@ -1,6 +1,6 @@
 -- Arithmetic: what a register means behind it.
-use Rattle.std.proofs.Common.{◌≡◌, ◌<◌, ◌≤◌, ℕ, ◌+◌, ◌-◌, ◌^◌, ◌==◌, Bool, true, false, not, List, [], ◌∷◌, length, get_or, Option, None, Some, is_some, refl, arith}
-use Rattle.std.specs.Prelude.{unwrap_or}
+use Rattle.std.proofs.Common.{◌≡◌, ◌<◌, ◌≤◌, ℕ, ◌+◌, ◌-◌, ◌^◌, ◌==◌, ℤ, Bool, true, false, not, List, [], ◌∷◌, length, get_or, Option, None, Some, is_some, refl, arith}
+use Rattle.std.specs.Option.{option_map, option_or, IsSomeAnd}
 use Rattle.std.specs.Int.{cast_unsigned, w64}
 use Rattle.std.specs.List.{list_all}
 use Rattle.base.specs.Check.{Check, first_failing}
@@ -24,23 +24,24 @@ use Rattle.machine.specs.State.{word}
 use Rattle.machine.specs.Step as step
 use Rattle.bpf_isa.specs.Slots.{at}
 use Rattle.machine.specs.Step.{operands, source_registers, checks, effect, step_of, memory, set_and_go}
-use Rattle.intervals.specs.Spans.{Span, only, IsSpan, Has}
-use Rattle.intervals.specs.Results.{result_of, arithmetic_result, negated_result, extended_result, ordered_result}
-use Rattle.intervals.proofs.Computations.{arithmetic_has, arithmetic_fits, negated_has, negated_fits}
-use Rattle.intervals.proofs.Extensions.{extended_has, extended_fits}
-use Rattle.intervals.proofs.Orders.{ordered_has, ordered_fits}
-use Rattle.ranges.specs.Kinds.{Kind, Num, is_unset, is_number}
+use Rattle.intervals.specs.Spans.{only, Has}
+use Rattle.intervals.specs.Seen.{immediate_span}
+use Rattle.intervals.specs.Reducing.{Limits, HasWord, any_sign, IsLimits}
+use Rattle.intervals.specs.SignedResults.{limits_result_of}
+use Rattle.intervals.proofs.Outcomes.{any_has}
+use Rattle.intervals.proofs.CallerLemmas.{limits_cover, limits_fit, words_are_limits}
+use Rattle.ranges.specs.Kinds.{Kind, Unset, Num, is_unset, is_number}
 use Rattle.ranges.specs.States.{Abstract}
 use Rattle.ranges.specs.Order.{IsBounded, IsState}
 use Rattle.ranges.specs.Pointers.{moved}
 use Rattle.ranges.specs.Reading.{value, second, are_set, words, with_value}
 use Rattle.ranges.specs.Rules.{rules, may_compute, computes}
-use Rattle.ranges.specs.After.{result_kind, after_of}
-use Rattle.ranges.specs.Passing.{passes}
+use Rattle.ranges.specs.After.{computed as computed_kind, result_kind, after_of}
+use Rattle.ranges.specs.Passing.{passes, sent}
 use Rattle.ranges.proofs.Keeping.{words_fit, value_fits, second_fits}
 use Rattle.soundness.specs.Meaning.{Describes, Means}
 use Rattle.soundness.proofs.Checks.{first_check, pass_two, pass_three, and_parts}
-use Rattle.soundness.proofs.Meanings.{word_means}
+use Rattle.soundness.proofs.Meanings.{word_means, word_in}
 use Rattle.soundness.proofs.Standing.{Parts, machine, number, AreFew, Stands, Goes, set_goes, not_unset, reads_set, described, words_has}
 use Rattle.soundness.proofs.Pointers.{shifted, moved_describes}
 
@@ -51,20 +52,30 @@ pub record Site (sectors : ℕ) (known : Abstract) (m : Parts) : Type 0 where
   pub stands : Stands sectors (number m) known m.registers m.stack
   pub turns : length m.turns ≡ 4096
 
-below_most : (r : Span) (n : ℕ) → IsSpan (2 ^ 64 - 1) r → Has r n → n < 2 ^ 64
-below_most r n f h = omega (arith, f.most, h.upto)
+-- a word that a result has
+result_small : (i : Instr) (x y : Limits) (n : ℕ) → IsLimits x → IsLimits y → IsSomeAnd (limits_result_of i x y) (λ z. HasWord z n) → n < 2 ^ 64
+result_small i x y n hx hy h = by (limits_result_of i x y) refl h
+  where
+    by : (r : Option Limits) → limits_result_of i x y ≡ r → IsSomeAnd r (λ z. HasWord z n) → n < 2 ^ 64
+    by None e k = absurd k
+    by (Some z) e k = let fits = limits_fit i x y z (words_are_limits x hx) (words_are_limits y hy) e in omega (arith, fits.words.most, k.word.upto)
 
 -- the words of operands
 
-pub read_has : (sectors : ℕ) (known : Abstract) (m : Parts) (r : ℕ) → Site sectors known m → Has (words (value known r)) (word (machine m) r)
+pub read_has : (sectors : ℕ) (known : Abstract) (m : Parts) (r : ℕ) → Site sectors known m → HasWord (words (value known r)) (word (machine m) r)
 read_has sectors known m r s = words_has sectors (number m) (value known r) (get_or m.registers r None) (s.stands.words.words r) (s.stands.values r)
 
 itself : (n : ℕ) → Has (only n) n
 itself n = record { from = omega arith; upto = omega arith }
 
-pub second_has : (sectors : ℕ) (known : Abstract) (m : Parts) (from : Source) → Site sectors known m → Has (words (second known from)) (step.second (machine m) from)
-second_has sectors known m (source.Immediate n) s = itself (cast_unsigned w64 n)
-second_has sectors known m (source.Register r) s = read_has sectors known m r s
+-- the constant of an instruction
+constant_has : (known : Abstract) (n : ℤ) → IsSourceInRange (source.Immediate n) → IsState known → HasWord (any_sign (immediate_span n)) (cast_unsigned w64 n)
+constant_has known n range fits = any_has (immediate_span n) (cast_unsigned w64 n) (second_fits known (source.Immediate n) range fits).words (itself (cast_unsigned w64 n))
+
+pub second_has : (sectors : ℕ) (known : Abstract) (m : Parts) (from : Source) → Site sectors known m → IsSourceInRange from
+    → HasWord (words (second known from)) (step.second (machine m) from)
+second_has sectors known m (source.Immediate n) s range = constant_has known n range s.fits
+second_has sectors known m (source.Register r) s range = read_has sectors known m r s
 
 pub read_describes : (sectors : ℕ) (known : Abstract) (m : Parts) (r : ℕ) → Site sectors known m → are_set known (r ∷ []) ≡ true
     → Describes sectors (number m) (value known r) (word (machine m) r)
@@ -78,10 +89,10 @@ first_describes sectors known m r rest s e =
     let set = and_parts (not (is_unset (value known r))) (are_set known rest) e in
     described sectors (number m) (value known r) (get_or m.registers r None) (not_unset (is_unset (value known r)) set.0) (s.stands.values r)
 
-pub second_describes : (sectors : ℕ) (known : Abstract) (m : Parts) (from : Source) → Site sectors known m → are_set known (source_registers from) ≡ true
+pub second_describes : (sectors : ℕ) (known : Abstract) (m : Parts) (from : Source) → Site sectors known m → IsSourceInRange from → are_set known (source_registers from) ≡ true
     → Describes sectors (number m) (second known from) (step.second (machine m) from)
-second_describes sectors known m (source.Immediate n) s e = itself (cast_unsigned w64 n)
-second_describes sectors known m (source.Register r) s e = read_describes sectors known m r s e
+second_describes sectors known m (source.Immediate n) s range e = constant_has known n range s.fits
+second_describes sectors known m (source.Register r) s range e = read_describes sectors known m r s e
 
 pub rest_set : (known : Abstract) (r : ℕ) (rest : List ℕ) → are_set known (r ∷ rest) ≡ true → are_set known rest ≡ true
 rest_set known r rest e = (and_parts (not (is_unset (value known r))) (are_set known rest) e).1
@@ -89,17 +100,32 @@ rest_set known r rest e = (and_parts (not (is_unset (value known r))) (are_set k
 -- numbers
 
 computed_has : (sectors : ℕ) (known : Abstract) (m : Parts) (w : Width) (o : Operator) (dst : ℕ) (from : Source) → Site sectors known m → IsSourceInRange from
-    → Has (arithmetic_result w o (words (value known dst)) (words (second known from))) (arithmetic w o (word (machine m) dst) (step.second (machine m) from))
+    → IsSomeAnd (limits_result_of (instr.Arithmetic w o dst from) (words (value known dst)) (words (second known from)))
+    (λ z. HasWord z (arithmetic w o (word (machine m) dst) (step.second (machine m) from)))
 computed_has sectors known m w o dst from s range =
-    arithmetic_has w o (words (value known dst)) (words (second known from)) (word (machine m) dst) (step.second (machine m) from)
-    (words_fit (value known dst) (value_fits known dst s.fits)) (words_fit (second known from) (second_fits known from range s.fits))
-    (read_has sectors known m dst s) (second_has sectors known m from s)
+    limits_cover.operators w o dst from (words (value known dst)) (words (second known from)) (word (machine m) dst) (step.second (machine m) from)
+    (words_are_limits (words (value known dst)) (words_fit (value known dst) (value_fits known dst s.fits)))
+    (words_are_limits (words (second known from)) (words_fit (second known from) (second_fits known from range s.fits)))
+    (read_has sectors known m dst s) (second_has sectors known m from s range)
 
-moved_or : (sectors frame : ℕ) (down : Bool) (k l c : Kind) (a b v : ℕ) → (v ≡ shifted down a b) → AreFew sectors frame → IsBounded k → IsBounded l
-    → Describes sectors frame k a → Describes sectors frame l b → Describes sectors frame c v → Describes sectors frame (unwrap_or (moved down k l) c) v
+-- what arithmetic makes describes what the machine does
+number_describes : (sectors frame v : ℕ) (r : Option Limits) → IsSomeAnd r (λ z. HasWord z v) → IsSomeAnd (option_map (λ x. Num x) r) (λ k. Describes sectors frame k v)
+number_describes sectors frame v None h = absurd h
+number_describes sectors frame v (Some z) h = h
+
+computed_describes : (sectors : ℕ) (known : Abstract) (m : Parts) (w : Width) (o : Operator) (dst : ℕ) (from : Source) → Site sectors known m → IsSourceInRange from
+    → IsSomeAnd (computed_kind (instr.Arithmetic w o dst from) (value known dst) (second known from))
+    (λ k. Describes sectors (number m) k (arithmetic w o (word (machine m) dst) (step.second (machine m) from)))
+computed_describes sectors known m w o dst from s range =
+    number_describes sectors (number m) (arithmetic w o (word (machine m) dst) (step.second (machine m) from))
+    (limits_result_of (instr.Arithmetic w o dst from) (words (value known dst)) (words (second known from))) (computed_has sectors known m w o dst from s range)
+
+moved_or : (sectors frame : ℕ) (down : Bool) (k l : Kind) (c : Option Kind) (a b v : ℕ) → (v ≡ shifted down a b) → AreFew sectors frame → IsBounded k → IsBounded l
+    → Describes sectors frame k a → Describes sectors frame l b → IsSomeAnd c (λ j. Describes sectors frame j v)
+    → IsSomeAnd (option_or (moved down k l) c) (λ j. Describes sectors frame j v)
 moved_or sectors frame down k l c a b v e few fk fl dk dl dc = by (moved down k l) refl
   where
-    by : (p : Option Kind) → moved down k l ≡ p → Describes sectors frame (unwrap_or p c) v
+    by : (p : Option Kind) → moved down k l ≡ p → IsSomeAnd (option_or p c) (λ j. Describes sectors frame j v)
     by None f = dc
     by (Some p) f = rw e (moved_describes sectors frame down k l p a b few fk fl dk dl f)
 
@@ -117,24 +143,25 @@ difference_is a b = refl
 
 result_describes : (sectors : ℕ) (known : Abstract) (m : Parts) (w : Width) (o : Operator) (dst : ℕ) (from : Source) → Site sectors known m → IsSourceInRange from
     → are_set known (operands o dst from) ≡ true
-    → Describes sectors (number m) (result_kind (instr.Arithmetic w o dst from) (value known dst) (second known from)) (arithmetic w o (word (machine m) dst) (step.second (machine m) from))
-unfolding result_kind result_of
+    → IsSomeAnd (result_kind (instr.Arithmetic w o dst from) (value known dst) (second known from))
+    (λ k. Describes sectors (number m) k (arithmetic w o (word (machine m) dst) (step.second (machine m) from)))
+unfolding result_kind
 result_describes sectors known m width.W64 op.Mov dst from s range e =
-    rw (move_is (word (machine m) dst) (step.second (machine m) from)) (second_describes sectors known m from s e)
+    rw (move_is (word (machine m) dst) (step.second (machine m) from)) (second_describes sectors known m from s range e)
 result_describes sectors known m width.W64 op.Add dst from s range e =
-    moved_or sectors (number m) false (value known dst) (second known from) (Num (arithmetic_result width.W64 op.Add (words (value known dst)) (words (second known from))))
+    moved_or sectors (number m) false (value known dst) (second known from) (computed_kind (instr.Arithmetic width.W64 op.Add dst from) (value known dst) (second known from))
     (word (machine m) dst) (step.second (machine m) from) (arithmetic width.W64 op.Add (word (machine m) dst) (step.second (machine m) from)) (sum_is (word (machine m) dst) (step.second (machine m) from))
     s.few (value_fits known dst s.fits) (second_fits known from range s.fits)
-    (first_describes sectors known m dst (source_registers from) s e) (second_describes sectors known m from s (rest_set known dst (source_registers from) e))
-    (computed_has sectors known m width.W64 op.Add dst from s range)
+    (first_describes sectors known m dst (source_registers from) s e) (second_describes sectors known m from s range (rest_set known dst (source_registers from) e))
+    (computed_describes sectors known m width.W64 op.Add dst from s range)
 result_describes sectors known m width.W64 op.Sub dst from s range e =
-    moved_or sectors (number m) true (value known dst) (second known from) (Num (arithmetic_result width.W64 op.Sub (words (value known dst)) (words (second known from))))
+    moved_or sectors (number m) true (value known dst) (second known from) (computed_kind (instr.Arithmetic width.W64 op.Sub dst from) (value known dst) (second known from))
     (word (machine m) dst) (step.second (machine m) from) (arithmetic width.W64 op.Sub (word (machine m) dst) (step.second (machine m) from)) (difference_is (word (machine m) dst) (step.second (machine m) from))
     s.few (value_fits known dst s.fits) (second_fits known from range s.fits)
-    (first_describes sectors known m dst (source_registers from) s e) (second_describes sectors known m from s (rest_set known dst (source_registers from) e))
-    (computed_has sectors known m width.W64 op.Sub dst from s range)
-result_describes sectors known m width.W64 o dst from s range e = computed_has sectors known m width.W64 o dst from s range
-result_describes sectors known m width.W32 o dst from s range e = computed_has sectors known m width.W32 o dst from s range
+    (first_describes sectors known m dst (source_registers from) s e) (second_describes sectors known m from s range (rest_set known dst (source_registers from) e))
+    (computed_describes sectors known m width.W64 op.Sub dst from s range)
+result_describes sectors known m width.W64 o dst from s range e = computed_describes sectors known m width.W64 o dst from s range
+result_describes sectors known m width.W32 o dst from s range e = computed_describes sectors known m width.W32 o dst from s range
 
 -- the checks of an instruction that writes a register and goes on to the next slot
 abbrev register_checks : List (Option Instr) → Parts → ℕ → List ℕ → List (Check MachineFault)
@@ -149,6 +176,15 @@ register_goes program sectors known m dst x k list s free set next small means =
     (is_some (at program (m.slot + 1))) free (reads_set sectors (number m) known m.registers list s.stands.values set) next)
     s.fits s.stands s.turns small means
 
+-- the same, where the value is what arithmetic makes, if it makes something
+result_goes : (program : List (Option Instr)) (sectors : ℕ) (known : Abstract) (m : Parts) (dst x : ℕ) (r : Option Kind) (list : List ℕ) → Site sectors known m
+    → not (dst == 10) ≡ true → are_set known list ≡ true → is_some (at program (m.slot + 1)) ≡ true → x < 2 ^ 64
+    → IsSomeAnd r (λ k. Describes sectors (number m) k x)
+    → Goes sectors m (sent (m.slot + 1) (option_map (with_value known dst) r)) (step.tested (machine m) (register_checks program m dst list) (set_and_go 1 (machine m) dst x))
+result_goes program sectors known m dst x None list s free set next small describes = absurd describes
+result_goes program sectors known m dst x (Some k) list s free set next small describes =
+    register_goes program sectors known m dst x k list s free set next small (word_means sectors (number m) k x describes)
+
 pub arithmetic_goes : (program : List (Option Instr)) (context : List ℕ) (device : List (List ℕ)) (sectors : ℕ) (known : Abstract) (m : Parts)
     (w : Width) (o : Operator) (dst : ℕ) (from : Source) → Site sectors known m → IsSourceInRange from → not (dst == 10) ≡ true → is_some (at program (m.slot + 1)) ≡ true
     → first_failing (rules known (instr.Arithmetic w o dst from)) ≡ None
@@ -157,60 +193,62 @@ unfolding rules passes after_of step_of checks effect
 arithmetic_goes program context device sectors known m w o dst from s range free next keeps =
     let set = (first_check cause.UnsetRegister (are_set known (operands o dst from)) (computes (may_compute w o (value known dst) (second known from)) ∷ []) keeps).0 in
     let x : ℕ = arithmetic w o (word (machine m) dst) (step.second (machine m) from) in
-    let k : Kind = result_kind (instr.Arithmetic w o dst from) (value known dst) (second known from) in
-    let small : x < 2 ^ 64 = below_most (arithmetic_result w o (words (value known dst)) (words (second known from))) x
-    (arithmetic_fits w o (words (value known dst)) (words (second known from)) (words_fit (value known dst) (value_fits known dst s.fits)) (words_fit (second known from) (second_fits known from range s.fits)))
+    let small : x < 2 ^ 64 = result_small (instr.Arithmetic w o dst from) (words (value known dst)) (words (second known from)) x
+    (words_fit (value known dst) (value_fits known dst s.fits)) (words_fit (second known from) (second_fits known from range s.fits))
     (computed_has sectors known m w o dst from s range) in
-    register_goes program sectors known m dst x k (operands o dst from) s free set next small
-    (word_means sectors (number m) k x (result_describes sectors known m w o dst from s range set))
+    result_goes program sectors known m dst x (result_kind (instr.Arithmetic w o dst from) (value known dst) (second known from)) (operands o dst from) s free set next small
+    (result_describes sectors known m w o dst from s range set)
+
+-- an instruction whose result is that of one register, whichever operand it is
+one_goes : (program : List (Option Instr)) (sectors : ℕ) (known : Abstract) (m : Parts) (i : Instr) (k l : Kind) (dst x : ℕ) (list : List ℕ) → Site sectors known m
+    → IsBounded k → IsBounded l → not (dst == 10) ≡ true → are_set known list ≡ true → is_some (at program (m.slot + 1)) ≡ true
+    → IsSomeAnd (limits_result_of i (words k) (words l)) (λ z. HasWord z x)
+    → Goes sectors m (sent (m.slot + 1) (option_map (with_value known dst) (computed_kind i k l))) (step.tested (machine m) (register_checks program m dst list) (set_and_go 1 (machine m) dst x))
+one_goes program sectors known m i k l dst x list s fk fl free set next has =
+    result_goes program sectors known m dst x (computed_kind i k l) list s free set next
+    (result_small i (words k) (words l) x (words_fit k fk) (words_fit l fl) has) (number_describes sectors (number m) x (limits_result_of i (words k) (words l)) has)
 
 pub negate_goes : (program : List (Option Instr)) (context : List ℕ) (device : List (List ℕ)) (sectors : ℕ) (known : Abstract) (m : Parts)
     (w : Width) (dst : ℕ) → Site sectors known m → not (dst == 10) ≡ true → is_some (at program (m.slot + 1)) ≡ true
     → first_failing (rules known (instr.Negate w dst)) ≡ None
     → Goes sectors m (passes sectors known m.slot (instr.Negate w dst)) (step_of program context device (machine m) (instr.Negate w dst))
-unfolding rules passes after_of step_of checks effect result_of
+unfolding rules passes after_of step_of checks effect
 negate_goes program context device sectors known m w dst s free next keeps =
     let set = (first_check cause.UnsetRegister (are_set known (dst ∷ [])) (computes (is_number (value known dst)) ∷ []) keeps).0 in
-    let x : ℕ = arithmetic w op.Sub 0 (word (machine m) dst) in
-    let r : Span = negated_result w (words (value known dst)) in
-    let fit = words_fit (value known dst) (value_fits known dst s.fits) in
-    let has : Has r x = negated_has w (words (value known dst)) (word (machine m) dst) fit (read_has sectors known m dst s) in
-    register_goes program sectors known m dst x (Num r) (dst ∷ []) s free set next
-    (below_most r x (negated_fits w (words (value known dst)) fit) has) (x, refl, has)
+    let fits = value_fits known dst s.fits in
+    one_goes program sectors known m (instr.Negate w dst) (value known dst) Unset dst (arithmetic w op.Sub 0 (word (machine m) dst)) (dst ∷ []) s fits tt free set next
+    (limits_cover.opposites w dst (words (value known dst)) (words Unset) (word (machine m) dst)
+    (words_are_limits (words (value known dst)) (words_fit (value known dst) fits)) (read_has sectors known m dst s))
 
 pub extend_goes : (program : List (Option Instr)) (context : List ℕ) (device : List (List ℕ)) (sectors : ℕ) (known : Abstract) (m : Parts)
     (e : SignExtension) (dst src : ℕ) → Site sectors known m → not (dst == 10) ≡ true → is_some (at program (m.slot + 1)) ≡ true
     → first_failing (rules known (instr.SignExtend e dst src)) ≡ None
     → Goes sectors m (passes sectors known m.slot (instr.SignExtend e dst src)) (step_of program context device (machine m) (instr.SignExtend e dst src))
-unfolding rules passes after_of step_of checks effect result_of
+unfolding rules passes after_of step_of checks effect
 extend_goes program context device sectors known m e dst src s free next keeps =
     let set = (first_check cause.UnsetRegister (are_set known (src ∷ [])) (computes (is_number (value known src)) ∷ []) keeps).0 in
-    let x : ℕ = extended e (word (machine m) src) in
-    let r : Span = extended_result e (words (value known src)) in
-    let fit = words_fit (value known src) (value_fits known src s.fits) in
-    let has : Has r x = extended_has e (words (value known src)) (word (machine m) src) fit (read_has sectors known m src s) in
-    register_goes program sectors known m dst x (Num r) (src ∷ []) s free set next
-    (below_most r x (extended_fits e (words (value known src)) fit) has) (x, refl, has)
+    let fits = value_fits known src s.fits in
+    one_goes program sectors known m (instr.SignExtend e dst src) Unset (value known src) dst (extended e (word (machine m) src)) (src ∷ []) s tt fits free set next
+    (limits_cover.signs e dst src (words Unset) (words (value known src)) (word (machine m) src)
+    (words_are_limits (words (value known src)) (words_fit (value known src) fits)) (read_has sectors known m src s))
 
 pub order_goes : (program : List (Option Instr)) (context : List ℕ) (device : List (List ℕ)) (sectors : ℕ) (known : Abstract) (m : Parts)
     (o : Order) (size : OrderSize) (dst : ℕ) → Site sectors known m → not (dst == 10) ≡ true → is_some (at program (m.slot + 1)) ≡ true
     → first_failing (rules known (instr.ByteOrder o size dst)) ≡ None
     → Goes sectors m (passes sectors known m.slot (instr.ByteOrder o size dst)) (step_of program context device (machine m) (instr.ByteOrder o size dst))
-unfolding rules passes after_of step_of checks effect result_of
+unfolding rules passes after_of step_of checks effect
 order_goes program context device sectors known m o size dst s free next keeps =
     let set = (first_check cause.UnsetRegister (are_set known (dst ∷ [])) (computes (is_number (value known dst)) ∷ []) keeps).0 in
-    let x : ℕ = in_order o size (word (machine m) dst) in
-    let r : Span = ordered_result o size (words (value known dst)) in
-    let fit = words_fit (value known dst) (value_fits known dst s.fits) in
-    let has : Has r x = ordered_has o size (words (value known dst)) (word (machine m) dst) fit (read_has sectors known m dst s) in
-    register_goes program sectors known m dst x (Num r) (dst ∷ []) s free set next
-    (below_most r x (ordered_fits o size (words (value known dst)) fit) has) (x, refl, has)
+    let fits = value_fits known dst s.fits in
+    one_goes program sectors known m (instr.ByteOrder o size dst) (value known dst) Unset dst (in_order o size (word (machine m) dst)) (dst ∷ []) s fits tt free set next
+    (limits_cover.orders o size dst (words (value known dst)) (words Unset) (word (machine m) dst)
+    (words_are_limits (words (value known dst)) (words_fit (value known dst) fits)) (read_has sectors known m dst s))
 
 pub immediate_goes : (program : List (Option Instr)) (context : List ℕ) (device : List (List ℕ)) (sectors : ℕ) (known : Abstract) (m : Parts)
     (dst x : ℕ) → Site sectors known m → x < 2 ^ 64 → not (dst == 10) ≡ true → is_some (at program (m.slot + 2)) ≡ true
     → Goes sectors m (passes sectors known m.slot (instr.LoadImmediate dst x)) (step_of program context device (machine m) (instr.LoadImmediate dst x))
 unfolding passes after_of step_of checks effect
 immediate_goes program context device sectors known m dst x s small free next =
-    set_goes sectors known m (step.may_write dst ∷ step.goes_on program (m.slot + 2) ∷ []) 2 dst x (Num (only x))
+    set_goes sectors known m (step.may_write dst ∷ step.goes_on program (m.slot + 2) ∷ []) 2 dst x (Num (any_sign (only x)))
     (pass_two fault.FramePointer fault.NoInstruction (not (dst == 10)) (is_some (at program (m.slot + 2))) free next) s.fits s.stands s.turns small
-    (x, refl, itself x)
+    (x, refl, word_in x x x small (omega arith) (omega arith))

@@ -44,7 +44,7 @@ use Rattle.ranges.proofs.Keeping.{value_fits}
 use Rattle.soundness.specs.Meaning.{Describes, Means, GroupMeans, IsSetAt, bare}
 use Rattle.soundness.specs.Machines.{IsSetting, IsStack}
 use Rattle.soundness.proofs.Checks.{pass_five, four_tell, and_parts}
-use Rattle.soundness.proofs.Meanings.{word_means}
+use Rattle.soundness.proofs.Meanings.{word_means, word_in}
 use Rattle.soundness.proofs.Standing.{Parts, machine, number, all_frames, Goes, set_goes, not_unset, reads_set}
 use Rattle.soundness.proofs.Memory.{Reads, reads_bytes, number_below, in_context, in_sector, set_in_stack, bare_at, long_bare}
 use Rattle.soundness.proofs.Places.{Lands, place_lands}
@@ -137,19 +137,19 @@ context_word_means : (sectors frame : ℕ) (c : Context) (at : ℕ) → c.sector
 context_word_means sectors frame c at told few epoch marks fits aligned = by (at / 8) (omega (arith, aligned))
   where
     by : (q : ℕ) → at ≡ 8 * q → Describes sectors frame (context_word sectors at) (number_at 8 at (context_bytes c))
-    by zero e0 = let e : at ≡ 0 = omega (arith, e0) in rw (e, word_zero c (omega (arith, told, few)), told) (record { from = omega arith; upto = omega arith })
-    by (suc zero) e0 = let e : at ≡ 8 = omega (arith, e0) in rw (e, word_one c (omega (arith, epoch))) (record { from = omega arith; upto = epoch })
-    by (suc (suc zero)) e0 = let e : at ≡ 16 = omega (arith, e0) in rw (e, word_two c (omega (arith, marks))) (record { from = omega arith; upto = marks })
-    by (suc (suc (suc zero))) e0 = let e : at ≡ 24 = omega (arith, e0) in rw (e, word_three c) (record { from = omega arith; upto = omega arith })
+    by zero e0 = let e : at ≡ 0 = omega (arith, e0) in rw (e, word_zero c (omega (arith, told, few)), told) (word_in sectors sectors sectors (omega (arith, few)) (omega arith) (omega arith))
+    by (suc zero) e0 = let e : at ≡ 8 = omega (arith, e0) in rw (e, word_one c (omega (arith, epoch))) (word_in 0 65536 c.epoch (omega arith) (omega arith) epoch)
+    by (suc (suc zero)) e0 = let e : at ≡ 16 = omega (arith, e0) in rw (e, word_two c (omega (arith, marks))) (word_in 0 65536 c.marks (omega arith) (omega arith) marks)
+    by (suc (suc (suc zero))) e0 = let e : at ≡ 24 = omega (arith, e0) in rw (e, word_three c) (word_in 0 0 0 (omega arith) (omega arith) (omega arith))
     by (suc (suc (suc (suc q)))) e = absurd (omega (arith, e, fits))
 
 -- any number
 
 any_describes : (sectors frame : ℕ) (s : Size) (x : ℕ) → x < 256 ^ byte_count s → Describes sectors frame (any_of (byte_count s)) x
-any_describes sectors frame size.Byte x lt = record { from = omega arith; upto = omega (arith, lt) }
-any_describes sectors frame size.Half x lt = record { from = omega arith; upto = omega (arith, lt) }
-any_describes sectors frame size.Word x lt = record { from = omega arith; upto = omega (arith, lt) }
-any_describes sectors frame size.Double x lt = record { from = omega arith; upto = omega (arith, lt) }
+any_describes sectors frame size.Byte x lt = word_in 0 (2 ^ 8 - 1) x (omega arith) (omega arith) (omega (arith, lt))
+any_describes sectors frame size.Half x lt = word_in 0 (2 ^ 16 - 1) x (omega arith) (omega arith) (omega (arith, lt))
+any_describes sectors frame size.Word x lt = word_in 0 (2 ^ 32 - 1) x (omega arith) (omega arith) (omega (arith, lt))
+any_describes sectors frame size.Double x lt = word_in 0 (2 ^ 64 - 1) x (omega arith) (omega arith) (omega (arith, lt))
 
 any_word_below : (s : Size) (x : ℕ) → x < 256 ^ byte_count s → x < 2 ^ 64
 any_word_below size.Byte x lt = omega (arith, lt)
@@ -224,7 +224,7 @@ means_describes sectors frame SectorOrNull w m = subst (Describes sectors frame 
 
 group_describes : (sectors frame : ℕ) (gk : GroupKind) (stack : List (Option ℕ)) (g x : ℕ) → GroupMeans sectors frame gk stack g → x ≡ number_at 8 (8 * g) (map bare stack) → x < 2 ^ 64
     → Describes sectors frame (group_value gk) x
-group_describes sectors frame (Marked marks) stack g x m e lt = record { from = omega arith; upto = omega (arith, lt) }
+group_describes sectors frame (Marked marks) stack g x m e lt = word_in 0 (2 ^ 64 - 1) x (omega arith) (omega arith) (omega (arith, lt))
 group_describes sectors frame (Spilled k) stack g x m e lt = rw e (means_describes sectors frame k (number_at 8 (8 * g) (map bare stack)) m.1)
 
 -- what a load finds
@@ -363,4 +363,4 @@ signed_load_goes program sectors device context known m s dst base distance set 
     let small : x < 2 ^ 64 = extended_word (extension_of s) v word in
     set_goes sectors known m (step.load_checks program bytes (machine m) dst base distance n) 1 dst x (Num any_word)
     (load_passes program bytes sectors known m dst base n f.number distance site f.reads tell.0 free next) site.fits site.stands site.turns small
-    (x, refl, record { from = omega arith; upto = omega (arith, small) })
+    (x, refl, word_in 0 (2 ^ 64 - 1) x (omega arith) (omega arith) (omega (arith, small)))

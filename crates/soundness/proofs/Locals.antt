@@ -32,6 +32,7 @@ use Rattle.soundness.specs.Machines.{AreRegisters, IsStack, first_caller, IsMach
 use Rattle.soundness.specs.Callers.{restored, AreWaiting}
 use Rattle.soundness.specs.Laws.{IsKnown, Enters, Returns, IsCovered}
 use Rattle.soundness.proofs.Checks.{pass_one, pass_two, two_tell, tested_passes}
+use Rattle.soundness.proofs.Meanings.{word_in}
 use Rattle.soundness.proofs.Standing.{Parts, machine, number, frames_of, all_frames, number_is, last_is, Stands, covers_machine, answered_stands, reads_set}
 use Rattle.soundness.proofs.Computing.{Site}
 use Rattle.soundness.proofs.Branches.{register_is}
@@ -129,7 +130,7 @@ eleven (a ∷ b ∷ c ∷ d ∷ f ∷ g ∷ h ∷ i ∷ j ∷ k ∷ l ∷ q ∷ 
 restored_stands : (sectors : ℕ) (known : Abstract) (m : Parts) (x : ℕ) → Site sectors known m → x < 2 ^ 64
     → Stands sectors (number m) (answered known (Num any_word)) (restored (saved (machine m)) x) m.stack
 restored_stands sectors known m x site lt =
-    let word : Means sectors (number m) (Num any_word) (Some x) = (x, refl, record { from = omega arith; upto = omega (arith, lt) }) in
+    let word : Means sectors (number m) (Num any_word) (Some x) = (x, refl, word_in 0 (2 ^ 64 - 1) x (omega arith) (omega arith) (omega (arith, lt))) in
     subst (λ (rs : List (Option ℕ)). Stands sectors (number m) (answered known (Num any_word)) rs m.stack) (eleven m.registers x site.stands.words.long)
     (answered_stands sectors (number m) known m.registers m.stack (Num any_word) x site.fits.registers lt word site.stands)
 

@@ -1,7 +1,9 @@
 -- What values, groups and states mean.
-use Rattle.std.proofs.Common.{◌≡◌, ℕ, zero, suc, Bool, true, false, List, [], ◌∷◌, replicate, get_or, Option, Some, None, refl, sym, ◌∙◌, arith}
+use Rattle.std.proofs.Common.{◌≡◌, ◌<◌, ◌≤◌, ◌^◌, ℕ, zero, suc, Bool, true, false, List, [], ◌∷◌, replicate, get_or, Option, Some, None, refl, sym, ◌∙◌, arith}
 use Rattle.machine.specs.State.{State}
-use Rattle.intervals.specs.Spans.{Span, Has, Within}
+use Rattle.intervals.specs.Spans.{Span, span, Has, Within}
+use Rattle.intervals.specs.Reducing.{HasWord, any_sign}
+use Rattle.intervals.proofs.Outcomes as limits
 use Rattle.ranges.specs.Kinds.{Kind, Unset, Num, Ctx, Stack, Sector, SectorOrNull, is_unset}
 use Rattle.ranges.specs.Groups.{GroupKind, Marked, Spilled}
 use Rattle.ranges.specs.States.{Abstract}
@@ -27,6 +29,11 @@ word_means sectors frame (Stack o) w d = (w, refl, d)
 word_means sectors frame (Sector x) w d = (w, refl, d)
 word_means sectors frame SectorOrNull w d = (w, refl, d)
 
+-- a word of a range, whatever its reading is
+pub word_in : (low high w : ℕ) → high < 2 ^ 64 → low ≤ w → w ≤ high → HasWord (any_sign (span low high)) w
+word_in low high w fits from upto =
+    limits.any_has (span low high) w (record { ordered = omega (arith, from, upto); most = omega (arith, fits) }) (record { from = from; upto = upto })
+
 -- the order of values
 
 has_within : (x y : Span) (a : ℕ) → Within x y → Has x a → Has y a
@@ -34,7 +41,7 @@ has_within x y a p h = record { from = omega (arith, p.from, h.from); upto = ome
 
 described_under : (sectors frame : ℕ) (k l : Kind) (w : ℕ) → Under k l → Describes sectors frame k w → Describes sectors frame l w
 described_under sectors frame k Unset w p d = tt
-described_under sectors frame (Num x) (Num y) w p d = has_within x y w p d
+described_under sectors frame (Num x) (Num y) w p d = limits.within_has x y w p d
 described_under sectors frame (Ctx a) (Ctx b) w p d = rw (← p) d
 described_under sectors frame (Stack a) (Stack b) w p d = rw (← p) d
 described_under sectors frame (Sector x) (Sector y) w p d = (d.0, d.1, d.2, has_within x y d.1 p d.3, d.4)
@@ -63,11 +70,6 @@ means_under sectors frame k l c p m =
 
 -- the order of groups
 
-unset_at : (n k : ℕ) → get_or (replicate n false) k false ≡ false
-unset_at zero k = refl
-unset_at (suc n) zero = refl
-unset_at (suc n) (suc k) = unset_at n k
-
 mark_under : (xs ys : List Bool) (k : ℕ) → MarksUnder xs ys → get_or ys k false ≡ true → get_or xs k false ≡ true
 mark_under [] [] k p e = e
 mark_under [] (y ∷ ys) k p e = absurd p
@@ -77,8 +79,7 @@ mark_under (x ∷ xs) (y ∷ ys) (suc k) p e = mark_under xs ys k p.1 e
 
 group_under : (sectors frame : ℕ) (g h : GroupKind) (stack : List (Option ℕ)) (i : ℕ) → GroupUnder g h → GroupMeans sectors frame g stack i → GroupMeans sectors frame h stack i
 group_under sectors frame (Marked xs) (Marked ys) stack i p m = λ k lt e. m k lt (mark_under xs ys k p e)
-group_under sectors frame (Spilled x) (Marked ys) stack i p m =
-    λ k lt e. absurd (let none : get_or ys k false ≡ false = rw p (unset_at 8 k) in let bad : true ≡ false = sym e ∙ none in cc)
+group_under sectors frame (Spilled x) (Marked ys) stack i p m = λ k lt e. m.0 k lt
 group_under sectors frame (Spilled x) (Spilled y) stack i p m = (m.0, means_under sectors frame x y _ p m.1)
 group_under sectors frame (Marked xs) (Spilled y) stack i p m = absurd p
 

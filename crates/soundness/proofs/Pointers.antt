@@ -122,30 +122,30 @@ offsets_moved down start o b x y z e fx fy hx hy low = by_kind (is_constant y) (
 pub moved_describes : (sectors frame : ℕ) (down : Bool) (k l p : Kind) (a b : ℕ) → AreFew sectors frame → IsBounded k → IsBounded l → Describes sectors frame k a → Describes sectors frame l b
     → moved down k l ≡ Some p → Describes sectors frame p (shifted down a b)
 unfolding moved
-moved_describes sectors frame down (Ctx o) (Num y) p a b few fk fl dk dl e = by (moved_place 32 down o y) refl e
+moved_describes sectors frame down (Ctx o) (Num y) p a b few fk fl dk dl e = by (moved_place 32 down o y.unsigned) refl e
   where
-    by : (m : Option ℕ) → moved_place 32 down o y ≡ m → option_map (λ q. Ctx q) m ≡ Some p → Describes sectors frame p (shifted down a b)
+    by : (m : Option ℕ) → moved_place 32 down o y.unsigned ≡ m → option_map (λ q. Ctx q) m ≡ Some p → Describes sectors frame p (shifted down a b)
     by None f g = absurd (let bad : None ≡ Some p = g in cc)
     by (Some q) f g =
         let same : Ctx q ≡ p = cc in
         subst (λ r. Describes sectors frame r (shifted down a b)) same
-        (rw dk (place_is 32 down 0x1_0000_0000 o b q y f fl dl (omega arith) (omega (arith, fk)) (omega arith)))
-moved_describes sectors frame down (Stack o) (Num y) p a b few fk fl dk dl e = by (moved_place 512 down o y) refl e
+        (rw dk (place_is 32 down 0x1_0000_0000 o b q y.unsigned f fl.words dl.word (omega arith) (omega (arith, fk)) (omega arith)))
+moved_describes sectors frame down (Stack o) (Num y) p a b few fk fl dk dl e = by (moved_place 512 down o y.unsigned) refl e
   where
-    by : (m : Option ℕ) → moved_place 512 down o y ≡ m → option_map (λ q. Stack q) m ≡ Some p → Describes sectors frame p (shifted down a b)
+    by : (m : Option ℕ) → moved_place 512 down o y.unsigned ≡ m → option_map (λ q. Stack q) m ≡ Some p → Describes sectors frame p (shifted down a b)
     by None f g = absurd (let bad : None ≡ Some p = g in cc)
     by (Some q) f g =
         let same : Stack q ≡ p = cc in
         subst (λ r. Describes sectors frame r (shifted down a b)) same
-        (rw dk (place_is 512 down (0x2_0000_0000 + 1024 * frame) o b q y f fl dl (omega arith) fk (omega (arith, few.frames))))
-moved_describes sectors frame down (Sector x) (Num y) p a b few fk fl dk dl e = by (moved_offsets down x y) refl e
+        (rw dk (place_is 512 down (0x2_0000_0000 + 1024 * frame) o b q y.unsigned f fl.words dl.word (omega arith) fk (omega (arith, few.frames))))
+moved_describes sectors frame down (Sector x) (Num y) p a b few fk fl dk dl e = by (moved_offsets down x y.unsigned) refl e
   where
-    by : (m : Option Span) → moved_offsets down x y ≡ m → option_map (λ z. Sector z) m ≡ Some p → Describes sectors frame p (shifted down a b)
+    by : (m : Option Span) → moved_offsets down x y.unsigned ≡ m → option_map (λ z. Sector z) m ≡ Some p → Describes sectors frame p (shifted down a b)
     by None f g = absurd (let bad : None ≡ Some p = g in cc)
     by (Some z) f g =
         let same : Sector z ≡ p = cc in
         let lt = dk.2 in
-        let h = offsets_moved down (sector_start + 1024 * dk.0) dk.1 b x y z f fk fl dk.3 dl (omega (arith, few.device, lt)) in
+        let h = offsets_moved down (sector_start + 1024 * dk.0) dk.1 b x y.unsigned z f fk fl.words dk.3 dl.word (omega (arith, few.device, lt)) in
         subst (λ r. Describes sectors frame r (shifted down a b)) same
         (dk.0, h.to, dk.2, h.inside, ap (λ v. shifted down v b) dk.4 ∙ h.is)
 moved_describes sectors frame down k l p a b few fk fl dk dl e = absurd (let bad : None ≡ Some p = e in cc)

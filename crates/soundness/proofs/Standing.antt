@@ -7,18 +7,18 @@ use Rattle.base.specs.Check.{Check, first_failing}
 use Rattle.base.specs.declared.causes.MachineFault.{MachineFault}
 use Rattle.machine.specs.State.{Caller, Frame, State}
 use Rattle.machine.specs.Step.{Stepped, Next, Done, Fault, tested, set_and_go, with_answer}
-use Rattle.intervals.specs.Spans.{Has}
+use Rattle.intervals.specs.Reducing.{HasWord}
 use Rattle.ranges.specs.Kinds.{Kind, Unset, Num, Ctx, Stack, Sector, SectorOrNull, is_unset}
 use Rattle.ranges.specs.Groups.{Marked}
 use Rattle.ranges.specs.States.{Abstract}
 use Rattle.ranges.specs.Order.{IsBounded, IsState}
-use Rattle.ranges.specs.Reading.{value, are_set, with_value, words}
+use Rattle.ranges.specs.Reading.{value, are_set, with_value, words, any_word}
 use Rattle.ranges.specs.After.{answered}
 use Rattle.soundness.specs.Meaning.{Describes, Means, GroupMeans, Covers, frame_number, last_stack}
 use Rattle.soundness.specs.Machines.{AreRegisters, IsStack}
 use Rattle.soundness.specs.Laws.{Arrives}
 use Rattle.soundness.proofs.Checks.{and_parts, tested_passes}
-use Rattle.soundness.proofs.Meanings.{means_word}
+use Rattle.soundness.proofs.Meanings.{means_word, word_in}
 
 -- what a machine holds: what the frame at hand has, and the frames below it
 pub record Parts : Type 0 where
@@ -179,18 +179,18 @@ described sectors frame k c e m =
     rw h.1 h.2
 
 -- the words of a value, of a register that is 0 where it is unset
-pub words_has : (sectors frame : ℕ) (k : Kind) (c : Option ℕ) → IsWord c → Means sectors frame k c → Has (words k) (unwrap_or c 0)
+pub words_has : (sectors frame : ℕ) (k : Kind) (c : Option ℕ) → IsWord c → Means sectors frame k c → HasWord (words k) (unwrap_or c 0)
 words_has sectors frame (Num x) c w m = described sectors frame (Num x) c refl m
 words_has sectors frame k c w m = any_has c w
   where
-    any_has : (c : Option ℕ) → IsWord c → Has (record { low = 0; high = 2 ^ 64 - 1 }) (unwrap_or c 0)
-    any_has None w = record { from = omega arith; upto = omega arith }
-    any_has (Some x) w = let lt : x < 2 ^ 64 = w x refl in record { from = omega arith; upto = omega (arith, lt) }
+    any_has : (c : Option ℕ) → IsWord c → HasWord any_word (unwrap_or c 0)
+    any_has None w = word_in 0 (2 ^ 64 - 1) 0 (omega arith) (omega arith) (omega arith)
+    any_has (Some x) w = let lt : x < 2 ^ 64 = w x refl in word_in 0 (2 ^ 64 - 1) x (omega arith) (omega arith) (omega (arith, lt))
 
 -- a pointer or a number that is within its bounds is a word
 pub described_word : (sectors frame : ℕ) (k : Kind) (w : ℕ) → AreFew sectors frame → is_unset k ≡ false → IsBounded k → Describes sectors frame k w → w < 2 ^ 64
 described_word sectors frame Unset w few e b d = absurd (let bad : true ≡ false = e in cc)
-described_word sectors frame (Num x) w few e b d = omega (arith, b.most, d.upto)
+described_word sectors frame (Num x) w few e b d = omega (arith, b.words.most, d.word.upto)
 described_word sectors frame (Ctx o) w few e b d = omega (arith, b, d)
 described_word sectors frame (Stack o) w few e b d = omega (arith, b, d, few.frames)
 described_word sectors frame (Sector x) w few e b d = omega (arith, b.most, d.2, d.3.upto, d.4, few.device)

@@ -35,7 +35,7 @@ use Rattle.ranges.specs.Rules.{rules, call_rules}
 use Rattle.ranges.specs.After.{after_of, call_after, answered}
 use Rattle.ranges.specs.Reading.{any_word}
 use Rattle.ranges.specs.Kinds.{Num}
-use Rattle.ranges.specs.Passing.{passes, edge_of, sent}
+use Rattle.ranges.specs.Passing.{passes, edge_of, entry_state, sent}
 use Rattle.ranges.proofs.Keeping.{after_fits, edge_fits, entry_fits}
 use Rattle.ranges.proofs.Covering.{state_round}
 use Rattle.verifier.specs.Tables.{arrival}
@@ -119,7 +119,7 @@ instr_goes program sectors device context known m (instr.Jump distance) set site
 instr_goes program sectors device context known m (instr.LongJump distance) set site e range limit keeps inside =
     long_jump_step program (context_bytes context) device sectors known m distance site (begins_at program m.slot (target_slot m.slot distance) (instr.LongJump distance) set.shaped e (inr refl))
 instr_goes program sectors device context known m (instr.Branch w c dst from distance) set site e range limit keeps inside =
-    branch_goes program (context_bytes context) device sectors known m w c dst from distance site
+    branch_goes program (context_bytes context) device sectors known m w c dst from distance site range.1
     (begins_at program m.slot (m.slot + 1) (instr.Branch w c dst from distance) set.shaped e (inl refl))
     (begins_at program m.slot (target_slot m.slot distance) (instr.Branch w c dst from distance) set.shaped e (inr refl)) keeps
 instr_goes program sectors device context known m (instr.CallHelper number) set site e range limit keeps inside = call_goes program sectors device context known m number set site e limit keeps
@@ -175,8 +175,8 @@ arrives_edge sectors known slot (instr.Branch w c dst from distance) t inside a 
       | inr right ↦ target_leads (Some (slot + 1)) (target_slot slot distance) t.slot (sent_slot sectors (target_slot slot distance) (edge_of known (instr.Branch w c dst from distance) true) t right)
     ]
 arrives_edge sectors known slot (instr.LoadImmediate dst x) t inside a =
-    next_leads None (slot + 2) t.slot (one_slot sectors (slot + 2) (after_of sectors known (instr.LoadImmediate dst x)) t a)
-arrives_edge sectors known slot i t inside a = next_leads None (slot + 1) t.slot (one_slot sectors (slot + 1) (after_of sectors known i) t a)
+    next_leads None (slot + 2) t.slot (sent_slot sectors (slot + 2) (after_of sectors known (instr.LoadImmediate dst x)) t a)
+arrives_edge sectors known slot i t inside a = next_leads None (slot + 1) t.slot (sent_slot sectors (slot + 1) (after_of sectors known i) t a)
 
 -- the limit of `again` is set before it
 
@@ -244,12 +244,15 @@ each_sent slot (Some s) h = (h, tt)
 pub passes_fit : (sectors : ℕ) (known : Abstract) (slot : ℕ) (i : Instr) → sectors < 2 ^ 64 → IsInRange i → IsState known → Each (λ (p : ℕ × Abstract). IsState p.1) (passes sectors known slot i)
 unfolding passes
 passes_fit sectors known slot instr.Exit few range fits = tt
-passes_fit sectors known slot (instr.CallLocal distance) few range fits = (after_fits sectors known (instr.CallLocal distance) few range fits, (entry_fits known fits, tt))
+passes_fit sectors known slot (instr.CallLocal distance) few range fits =
+    each_append (sent (slot + 1) (after_of sectors known (instr.CallLocal distance))) ((target_slot slot distance, entry_state known) ∷ [])
+    (each_sent (slot + 1) (after_of sectors known (instr.CallLocal distance)) (after_fits sectors known (instr.CallLocal distance) few range fits)) (entry_fits known fits, tt)
 passes_fit sectors known slot (instr.Jump distance) few range fits = (fits, tt)
 passes_fit sectors known slot (instr.LongJump distance) few range fits = (fits, tt)
 passes_fit sectors known slot (instr.Branch w c dst from distance) few range fits =
     each_append (sent (slot + 1) (edge_of known (instr.Branch w c dst from distance) false)) (sent (target_slot slot distance) (edge_of known (instr.Branch w c dst from distance) true))
     (each_sent (slot + 1) (edge_of known (instr.Branch w c dst from distance) false) (edge_fits known (instr.Branch w c dst from distance) false range fits))
     (each_sent (target_slot slot distance) (edge_of known (instr.Branch w c dst from distance) true) (edge_fits known (instr.Branch w c dst from distance) true range fits))
-passes_fit sectors known slot (instr.LoadImmediate dst x) few range fits = (after_fits sectors known (instr.LoadImmediate dst x) few range fits, tt)
-passes_fit sectors known slot i few range fits = (after_fits sectors known i few range fits, tt)
+passes_fit sectors known slot (instr.LoadImmediate dst x) few range fits =
+    each_sent (slot + 2) (after_of sectors known (instr.LoadImmediate dst x)) (after_fits sectors known (instr.LoadImmediate dst x) few range fits)
+passes_fit sectors known slot i few range fits = each_sent (slot + 1) (after_of sectors known i) (after_fits sectors known i few range fits)

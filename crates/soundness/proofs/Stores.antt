@@ -1,5 +1,5 @@
 -- Stores: what the stack means behind them.
-use Rattle.std.proofs.Common.{◌≡◌, ◌<◌, ◌≤◌, ℕ, ◌+◌, ◌*◌, ◌/◌, ◌%◌, ◌^◌, ◌&&◌, ◌||◌, Bool, true, false, if◌then◌else◌, ℤ, List, [], ◌∷◌, length, get_or, Option, None, Some, is_some, refl, sym, ap, ◌∙◌, subst, arith}
+use Rattle.std.proofs.Common.{◌≡◌, ◌<◌, ◌≤◌, ℕ, ◌+◌, ◌*◌, ◌/◌, ◌%◌, ◌^◌, ◌&&◌, ◌||◌, not, Bool, true, false, if◌then◌else◌, ℤ, List, [], ◌∷◌, length, get_or, Option, None, Some, is_some, refl, sym, ap, ◌∙◌, subst, arith}
 use Rattle.std.specs.Prelude.{FitsSigned, set}
 use Rattle.std.specs.Option.{option_map_or}
 use Rattle.std.specs.Int.{cast_unsigned, w16, w64}
@@ -22,7 +22,7 @@ use Rattle.machine.specs.Step as step
 use Rattle.bpf_isa.specs.Slots.{at}
 use Rattle.machine.specs.Step.{checks, effect, step_of, tested, Next}
 use Rattle.ranges.specs.declared.place.Place.TheVariants as place
-use Rattle.ranges.specs.Kinds.{Kind, Unset, Num, Ctx, Stack, Sector, SectorOrNull, is_unset, is_pointer, is_number}
+use Rattle.ranges.specs.Kinds.{Kind, Unset, Num, Ctx, Stack, Sector, SectorOrNull, is_unset, is_number}
 use Rattle.ranges.specs.Groups.{Marked, Spilled}
 use Rattle.ranges.specs.States.{Abstract}
 use Rattle.ranges.specs.Order.{IsBounded}
@@ -35,7 +35,7 @@ use Rattle.ranges.proofs.Keeping.{value_fits, second_fits}
 use Rattle.soundness.specs.Meaning.{Describes, GroupMeans}
 use Rattle.soundness.proofs.Checks.{pass_four, five_tell, tested_passes}
 use Rattle.soundness.proofs.Meanings.{word_means}
-use Rattle.soundness.proofs.Standing.{Parts, machine, number, frames_of, all_frames, Stands, Goes, goes_first, reads_set, described_word}
+use Rattle.soundness.proofs.Standing.{Parts, machine, number, frames_of, all_frames, Stands, Goes, goes_first, reads_set, described_word, not_unset}
 use Rattle.soundness.proofs.Memory.{all_pass, in_stack}
 use Rattle.soundness.proofs.Places.{Lands, place_lands}
 use Rattle.soundness.proofs.Loads.{small_number, group_parts}
@@ -73,14 +73,10 @@ store_passes program context device sectors known m list a p n site e fits is ne
 
 -- the groups
 
-pointer_set : (k : Kind) → is_pointer k ≡ true → is_unset k ≡ false
-pointer_set Unset e = absurd (let bad : false ≡ true = e in cc)
-pointer_set _ e = refl
-
 stored_means : (sectors : ℕ) (known : Abstract) (m : Parts) (k : Kind) (p n x : ℕ) → Site sectors known m → p + n ≤ 512 → IsBounded k → Describes sectors (number m) k x
     → (g : ℕ) → GroupMeans sectors (number m) (get_or (stored_groups k known.groups (place.Stack p) n) g (Marked [])) (filled m.stack p (number_bytes n x)) g
 unfolding stored_groups
-stored_means sectors known m k p n x site fits bounded describes = by (is_pointer k) (is_group p n) refl refl
+stored_means sectors known m k p n x site fits bounded describes = by (not (is_unset k)) (is_group p n) refl refl
   where
     plain : (g : ℕ) → GroupMeans sectors (number m) (get_or (written p n known.groups) g (Marked [])) (filled m.stack p (number_bytes n x)) g
     plain = written_means sectors (number m) known.groups (number_bytes n x) m.stack p n site.fits.stack (length-number_bytes n x) fits site.stands.cells.long site.stands.groups
@@ -92,9 +88,9 @@ stored_means sectors known m k p n x site fits bounded describes = by (is_pointe
         subst (λ (v : ℕ). (g : ℕ) → GroupMeans sectors (number m) (get_or (set known.groups (p / 8) (Spilled k)) g (Marked [])) (filled m.stack p (number_bytes v x)) g) (sym e)
         (spilled_means sectors (number m) known.groups m.stack k p x site.fits.stack eight aligned site.stands.cells.long small (word_means sectors (number m) k x describes) site.stands.groups)
 
-    by : (b c : Bool) → is_pointer k ≡ b → is_group p n ≡ c
+    by : (b c : Bool) → not (is_unset k) ≡ b → is_group p n ≡ c
         → (g : ℕ) → GroupMeans sectors (number m) (get_or (if b && c then set known.groups (p / 8) (Spilled k) else written p n known.groups) g (Marked [])) (filled m.stack p (number_bytes n x)) g
-    by true true e f = let h = group_parts p n f in spilled n h.0 fits h.1 (described_word sectors (number m) k x site.few (pointer_set k e) bounded describes)
+    by true true e f = let h = group_parts p n f in spilled n h.0 fits h.1 (described_word sectors (number m) k x site.few (not_unset (is_unset k) e) bounded describes)
     by true false e f = plain
     by false c e f = plain
 
@@ -161,7 +157,7 @@ store_immediate_goes program context device sectors known m s base distance z si
     let tell = five_tell cause.UnsetRegister cause.OutsideRegion cause.ReadOnly cause.OutsideRegion cause.PointerAsNumber (are_set known (base ∷ [])) (is_base (value known base))
     (is_stack (value known base)) (is_inside (place_of (value known base) distance n)) (is_number k || is_whole (place_of (value known base) distance n) n) keeps in
     stores program context device sectors known m k (base ∷ []) base n (cast_unsigned w64 z) distance site fits tell.0 next (second_fits known (source.Immediate z) range site.fits)
-    (second_describes sectors known m (source.Immediate z) site refl) (first_describes sectors known m base [] site tell.0) tell.2 tell.3
+    (second_describes sectors known m (source.Immediate z) site range refl) (first_describes sectors known m base [] site tell.0) tell.2 tell.3
 
 pub store_goes : (program : List (Option Instr)) (context : List ℕ) (device : List (List ℕ)) (sectors : ℕ) (known : Abstract) (m : Parts) (s : Size) (base : ℕ) (distance : ℤ) (src : ℕ)
     → Site sectors known m → FitsSigned w16 distance → is_some (at program (m.slot + 1)) ≡ true

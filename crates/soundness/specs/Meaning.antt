@@ -5,17 +5,18 @@ use Rattle.base.specs.Numbers.{number_at}
 use Rattle.helpers.specs.Answers.{sector_start}
 use Rattle.machine.specs.State.{Frame, State, context_start, stack_start}
 use Rattle.intervals.specs.Spans.{Has}
+use Rattle.intervals.specs.Reducing.{HasWord}
 use Rattle.ranges.specs.Kinds.{Kind, Unset, Num, Ctx, Stack, Sector, SectorOrNull}
 use Rattle.ranges.specs.Groups.{GroupKind, Marked, Spilled}
 use Rattle.ranges.specs.States.{Abstract}
 use Rattle.ranges.specs.Reading.{value}
 
 -- What a value says of a word, on a device of so many sectors, where the frame at hand has this number:
--- a number of a range; the address of the context, of the lower end of the frame's stack, or of a
+-- a word of both ranges of a number; the address of the context, of the lower end of the frame's stack, or of a
 -- sector, and an offset; 0 or the address of a sector.
 abbrev pub Describes : ℕ → ℕ → Kind → ℕ → Type 0
 Describes sectors frame Unset w = Unit {0}
-Describes sectors frame (Num x) w = Has x w
+Describes sectors frame (Num x) w = HasWord x w
 Describes sectors frame (Ctx o) w = w ≡ context_start + o
 Describes sectors frame (Stack o) w = w ≡ stack_start + 1024 * frame + o
 Describes sectors frame (Sector x) w = (n : ℕ) × (o : ℕ) × (n < sectors) × Has x o × (w ≡ sector_start + 1024 * n + o)
@@ -34,7 +35,7 @@ bare c = unwrap_or c 0
 abbrev pub IsSetAt : List (Option ℕ) → ℕ → ℕ → Type 0
 IsSetAt stack g k = is_some (slice_index_or stack (8 * g + k) None) ≡ true
 
--- What a group says of its eight bytes: those that are written are set; of a pointer that was spilled
+-- What a group says of its eight bytes: those that are written are set; of a value that was spilled
 -- all are set, and it says what it says of their number.
 abbrev pub GroupMeans : ℕ → ℕ → GroupKind → List (Option ℕ) → ℕ → Type 0
 GroupMeans sectors frame (Marked marks) stack g = (k : ℕ) → k < 8 → slice_index_or marks k false ≡ true → IsSetAt stack g k

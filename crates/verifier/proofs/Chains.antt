@@ -1,15 +1,16 @@
 -- The order of abstract states in a row of three.
-use Rattle.std.proofs.Common.{◌≡◌, ℕ, zero, suc, Bool, true, false, List, [], ◌∷◌, replicate, refl, ◌∙◌, arith}
+use Rattle.std.proofs.Common.{◌≡◌, ℕ, zero, suc, Bool, true, false, IsTrue, inl, inr, List, [], ◌∷◌, replicate, refl, ◌∙◌, arith}
 use Rattle.intervals.specs.Spans.{Span, Within}
-use Rattle.ranges.specs.Kinds.{Kind, Unset, Num, Ctx, Stack, Sector, SectorOrNull}
+use Rattle.intervals.proofs.CallerLemmas.{within_self, within_chain}
+use Rattle.ranges.specs.Kinds.{Kind, Unset, Num, Ctx, Stack, Sector, SectorOrNull, is_number}
 use Rattle.ranges.specs.Groups.{GroupKind, Marked, Spilled, unset_marks}
 use Rattle.ranges.specs.States.{Abstract, join_state, StateContains}
 use Rattle.ranges.specs.Order.{Under, MarksUnder, GroupUnder, EachUnder, StateUnder, IsState}
 use Rattle.ranges.proofs.Covering.{state_first, state_other, state_same, state_under}
 use Rattle.ranges.proofs.Fitting.{join_state_fits}
 
-within_chain : (x y z : Span) → Within x y → Within y z → Within x z
-within_chain x y z p q = record { from = omega (arith, p.from, q.from); upto = omega (arith, p.upto, q.upto) }
+span_chain : (x y z : Span) → Within x y → Within y z → Within x z
+span_chain x y z p q = record { from = omega (arith, p.from, q.from); upto = omega (arith, p.upto, q.upto) }
 
 under_chain : (k l m : Kind) → Under k l → Under l m → Under k m
 under_chain k l Unset p q = tt
@@ -22,7 +23,7 @@ under_chain k l (Ctx c) p q = absurd q
 under_chain (Stack a) (Stack b) (Stack c) p q = p ∙ q
 under_chain k (Stack b) (Stack c) p q = absurd p
 under_chain k l (Stack c) p q = absurd q
-under_chain (Sector x) (Sector y) (Sector z) p q = within_chain x y z p q
+under_chain (Sector x) (Sector y) (Sector z) p q = span_chain x y z p q
 under_chain k (Sector y) (Sector z) p q = absurd p
 under_chain k l (Sector z) p q = absurd q
 under_chain SectorOrNull SectorOrNull SectorOrNull p q = tt
@@ -54,13 +55,24 @@ above_unset (suc n) [] p = absurd p
 above_unset (suc n) (false ∷ zs) p = rw (above_unset n zs p.1) refl
 above_unset (suc n) (true ∷ zs) p = absurd (let bad : false ≡ true = p.0 refl in cc)
 
+-- what is under a number is one
+number_under : (k l : Kind) → Under k l → IsTrue (is_number l) → IsTrue (is_number k)
+number_under (Num x) (Num y) p n = refl
+number_under k (Num y) p n = absurd p
+number_under k Unset p n = absurd (let bad : false ≡ true = n in cc)
+number_under k (Ctx a) p n = absurd (let bad : false ≡ true = n in cc)
+number_under k (Stack a) p n = absurd (let bad : false ≡ true = n in cc)
+number_under k (Sector x) p n = absurd (let bad : false ≡ true = n in cc)
+number_under k SectorOrNull p n = absurd (let bad : false ≡ true = n in cc)
+
 group_chain : (g h i : GroupKind) → GroupUnder g h → GroupUnder h i → GroupUnder g i
 group_chain (Marked xs) (Marked ys) (Marked zs) p q = marks_chain xs ys zs p q
 group_chain (Marked xs) (Marked ys) (Spilled m) p q = absurd q
 group_chain (Marked xs) (Spilled l) i p q = absurd p
-group_chain (Spilled k) (Marked ys) (Marked zs) p q = let unset : MarksUnder unset_marks zs = rw p at q in above_unset 8 zs unset
+group_chain (Spilled k) (Marked ys) (Marked zs) p q =
+    elim p [ inl n ↦ inl n | inr unset ↦ inr (let above : MarksUnder unset_marks zs = rw unset at q in above_unset 8 zs above) ]
 group_chain (Spilled k) (Marked ys) (Spilled m) p q = absurd q
-group_chain (Spilled k) (Spilled l) (Marked zs) p q = q
+group_chain (Spilled k) (Spilled l) (Marked zs) p q = elim q [ inl n ↦ inl (number_under k l p n) | inr unset ↦ inr unset ]
 group_chain (Spilled k) (Spilled l) (Spilled m) p q = under_chain k l m p q
 
 state_chain : (s t u : Abstract) → StateUnder s t → StateUnder t u → StateUnder s u
@@ -82,7 +94,7 @@ contains_more s t u a b c e =
 -- a state contains itself
 under_self : (k : Kind) → Under k k
 under_self Unset = tt
-under_self (Num x) = record { from = omega arith; upto = omega arith }
+under_self (Num x) = within_self x
 under_self (Ctx a) = refl
 under_self (Stack a) = refl
 under_self (Sector x) = record { from = omega arith; upto = omega arith }

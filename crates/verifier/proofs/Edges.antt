@@ -1,11 +1,12 @@
 -- What an instruction passes on, edge by edge.
-use Rattle.std.proofs.Common.{◌≡◌, ℕ, Bool, List, ◌++◌, map, Option, Some, None, refl}
+use Rattle.std.proofs.Common.{◌≡◌, ℕ, ◌+◌, Bool, List, [], ◌∷◌, ◌++◌, map, Option, Some, None, refl}
 use Rattle.std.specs.Option.{option_to_list}
 use Rattle.bpf_isa.specs.declared.instr.Instr.{Instr}
 use Rattle.bpf_isa.specs.declared.instr.Instr.TheVariants as instr
 use Rattle.bpf_shape.specs.Edges.{edges_of}
 use Rattle.bpf_shape.specs.Calls.{callee_of}
 use Rattle.ranges.specs.States.{Abstract}
+use Rattle.ranges.specs.After.{after_of}
 use Rattle.ranges.specs.Passing.{passes, edge_of, sent}
 use Rattle.verifier.specs.Tables.{arrival}
 use Rattle.verifier.specs.Passing.{next_state, target_of, target_state, along}
@@ -16,6 +17,15 @@ two heads a b None (Some t) = refl
 two heads a b (Some s) None = refl
 two heads a b (Some s) (Some t) = refl
 
+one : (heads : List Bool) (a : ℕ) (m : Option Abstract) → option_to_list (along heads (Some a) m) ++ [] ≡ map (arrival heads) (sent a m)
+one heads a None = refl
+one heads a (Some s) = refl
+
+with_entry : (heads : List Bool) (a b : ℕ) (m : Option Abstract) (t : Abstract)
+    → option_to_list (along heads (Some a) m) ++ option_to_list (along heads (Some b) (Some t)) ≡ map (arrival heads) (sent a m ++ (b, t) ∷ [])
+with_entry heads a b None t = refl
+with_entry heads a b (Some s) t = refl
+
 pub by_edges : (heads : List Bool) (sectors slot : ℕ) (s : Abstract) (i : Instr)
     → option_to_list (along heads (edges_of slot i).next (next_state sectors s i)) ++ option_to_list (along heads (target_of slot i) (target_state s i))
     ≡ map (arrival heads) (passes sectors s slot i)
@@ -24,6 +34,6 @@ by_edges heads sectors slot s instr.Exit = refl
 by_edges heads sectors slot s (instr.Jump distance) = refl
 by_edges heads sectors slot s (instr.LongJump distance) = refl
 by_edges heads sectors slot s (instr.Branch w c dst from distance) = two heads _ _ _ _
-by_edges heads sectors slot s (instr.CallLocal distance) = refl
-by_edges heads sectors slot s (instr.LoadImmediate dst x) = refl
-by_edges heads sectors slot s _ = refl
+by_edges heads sectors slot s (instr.CallLocal distance) = with_entry heads _ _ _ _
+by_edges heads sectors slot s (instr.LoadImmediate dst x) = one heads (slot + 2) (after_of sectors s (instr.LoadImmediate dst x))
+by_edges heads sectors slot s i = one heads (slot + 1) (after_of sectors s i)

@@ -16,20 +16,20 @@ use Rattle.verifier.specs.Rounds.{receive, passed_by, round_of, IsSame}
 -- the state on the edge to the next slot
 unfoldable pub next_state : ℕ → Abstract → Instr → Option Abstract
 next_state sectors s (instr.Branch w c dst from distance) = edge_of s (instr.Branch w c dst from distance) false
-next_state sectors s (instr.Arithmetic w o dst from) = Some (after_of sectors s (instr.Arithmetic w o dst from))
-next_state sectors s (instr.Negate w dst) = Some (after_of sectors s (instr.Negate w dst))
-next_state sectors s (instr.SignExtend e dst src) = Some (after_of sectors s (instr.SignExtend e dst src))
-next_state sectors s (instr.ByteOrder o size dst) = Some (after_of sectors s (instr.ByteOrder o size dst))
-next_state sectors s (instr.Jump distance) = Some (after_of sectors s (instr.Jump distance))
-next_state sectors s (instr.LongJump distance) = Some (after_of sectors s (instr.LongJump distance))
-next_state sectors s (instr.CallHelper number) = Some (after_of sectors s (instr.CallHelper number))
-next_state sectors s (instr.CallLocal distance) = Some (after_of sectors s (instr.CallLocal distance))
-next_state sectors s instr.Exit = Some (after_of sectors s instr.Exit)
-next_state sectors s (instr.Load size dst base distance) = Some (after_of sectors s (instr.Load size dst base distance))
-next_state sectors s (instr.LoadSigned size dst base distance) = Some (after_of sectors s (instr.LoadSigned size dst base distance))
-next_state sectors s (instr.StoreImmediate size base distance n) = Some (after_of sectors s (instr.StoreImmediate size base distance n))
-next_state sectors s (instr.Store size base distance src) = Some (after_of sectors s (instr.Store size base distance src))
-next_state sectors s (instr.LoadImmediate dst x) = Some (after_of sectors s (instr.LoadImmediate dst x))
+next_state sectors s (instr.Arithmetic w o dst from) = after_of sectors s (instr.Arithmetic w o dst from)
+next_state sectors s (instr.Negate w dst) = after_of sectors s (instr.Negate w dst)
+next_state sectors s (instr.SignExtend e dst src) = after_of sectors s (instr.SignExtend e dst src)
+next_state sectors s (instr.ByteOrder o size dst) = after_of sectors s (instr.ByteOrder o size dst)
+next_state sectors s (instr.Jump distance) = after_of sectors s (instr.Jump distance)
+next_state sectors s (instr.LongJump distance) = after_of sectors s (instr.LongJump distance)
+next_state sectors s (instr.CallHelper number) = after_of sectors s (instr.CallHelper number)
+next_state sectors s (instr.CallLocal distance) = after_of sectors s (instr.CallLocal distance)
+next_state sectors s instr.Exit = after_of sectors s instr.Exit
+next_state sectors s (instr.Load size dst base distance) = after_of sectors s (instr.Load size dst base distance)
+next_state sectors s (instr.LoadSigned size dst base distance) = after_of sectors s (instr.LoadSigned size dst base distance)
+next_state sectors s (instr.StoreImmediate size base distance n) = after_of sectors s (instr.StoreImmediate size base distance n)
+next_state sectors s (instr.Store size base distance src) = after_of sectors s (instr.Store size base distance src)
+next_state sectors s (instr.LoadImmediate dst x) = after_of sectors s (instr.LoadImmediate dst x)
 
 -- where a state is passed besides the next slot: to the entry of a local function, or the target of a jump
 abbrev pub either : Option ℕ → Option ℕ → Option ℕ

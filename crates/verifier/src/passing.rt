@@ -74,7 +74,7 @@ fn next_state(instr: &Instr, state: &State, sectors: u32) -> Option<State>
         | Instr::LoadSigned { .. }
         | Instr::StoreImmediate { .. }
         | Instr::Store { .. }
-        | Instr::LoadImmediate { .. } => Some(after(instr, state, sectors)),
+        | Instr::LoadImmediate { .. } => after(instr, state, sectors),
     }
 }
 
