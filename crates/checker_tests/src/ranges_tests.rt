@@ -3,7 +3,7 @@
 
 use bpf_isa::instr::{Condition, Instr, Operator, Size, Source, Width};
 use bpf_isa::register::Register;
-use intervals::Range;
+use intervals::{Bounds, Range, SignedRange, reduce};
 use ranges::{SectorOffsets, StackOffset, State, Value, after, branch, check, entry};
 use std::test::Fail;
 
@@ -72,6 +72,24 @@ fn store_number(base: u8, offset: i16) -> Instr {
     }
 }
 
+/// `add64 dst, src` or `sub64 dst, src`.
+fn move_by(operator: Operator, dst: u8, src: u8) -> Instr {
+    arithmetic(operator, dst, Source::Register(r(src)))
+}
+
+/// A number of a range, whatever its readings are.
+fn number(range: Range) -> Value {
+    Value::Num(Bounds::of(range))
+}
+
+/// The state behind an instruction, on 4 sectors; the one before it, if there is none.
+fn behind(instr: &Instr, state: &State) -> State {
+    match after(instr, state, 4) {
+        Some(behind) => behind,
+        None => *state,
+    }
+}
+
 /// The number of the rule that an instruction breaks, or 0.
 fn broken(instr: &Instr, state: &State) -> u8 {
     match check(instr, state) {
@@ -89,7 +107,7 @@ fn refused(program: &[Instr]) -> (usize, u8) {
         if number != 0 {
             return (place, number);
         }
-        state = after(instr, &state, 4);
+        state = behind(instr, &state);
     }
     (program.len(), 0)
 }
@@ -114,15 +132,6 @@ fn pointers(rt: HostRuntime) {
     );
     assert_eq!(rt; refused(&[add(10, 1)]), (0, 54));
     assert_eq!(rt; refused(&[copy(2, 10), add(2, -512), add(2, -1)]), (2, 54));
-    assert_eq!(rt;
-        refused(&[
-            store_number(10, -8),
-            load(Size::Double, 2, 10, -8),
-            copy(3, 10),
-            arithmetic(Operator::Sub, 3, Source::Register(r(2))),
-        ]),
-        (3, 54)
-    );
 }
 
 #[test]
@@ -217,7 +226,7 @@ fn arguments(rt: HostRuntime) {
 
 /// The state behind `mov64 r1, 0; call 1`.
 fn answered() -> State {
-    after(&call(1), &after(&put(1, 0), &State::start(), 4), 4)
+    behind(&call(1), &behind(&put(1, 0), &State::start()))
 }
 
 /// What r0 holds, if there is a state.
@@ -245,7 +254,7 @@ fn null_test(rt: HostRuntime) {
     );
     assert_eq!(rt;
         answer(branch(&test, false, &state)),
-        Value::Num(Range::constant(0))
+        number(Range::constant(0))
     );
 }
 
@@ -260,28 +269,28 @@ const JUMP: Instr = Instr::Branch {
 
 #[test]
 fn numbers(rt: HostRuntime) {
-    let state = after(&load(Size::Double, 0, 1, 8), &State::start(), 4);
+    let state = behind(&load(Size::Double, 0, 1, 8), &State::start());
     assert_eq!(rt;
         answer(branch(&JUMP, false, &state)),
-        Value::Num(Range::up_to(63))
+        number(Range::up_to(63))
     );
     assert_eq!(rt;
         answer(branch(&JUMP, true, &state)),
-        Value::Num(Range {
+        number(Range {
             low: 64,
             high: 65536
         })
     );
-    let small = after(&put(0, 3), &State::start(), 4);
+    let small = behind(&put(0, 3), &State::start());
     assert!(rt; branch(&JUMP, true, &small).is_none());
 }
 
 #[test]
 fn joined(rt: HostRuntime) {
-    let first = after(&put(0, 3), &State::start(), 4);
-    let other = after(&put(0, 6), &store_byte(), 4);
+    let first = behind(&put(0, 3), &State::start());
+    let other = behind(&put(0, 6), &store_byte());
     let both = first.join(&other);
-    assert_eq!(rt; both.values[0], Value::Num(Range { low: 3, high: 6 }));
+    assert_eq!(rt; both.values[0], number(Range { low: 3, high: 6 }));
     // the byte is written on one way only
     assert_eq!(rt; broken(&load(Size::Byte, 0, 10, -1), &other), 0);
     assert_eq!(rt; broken(&load(Size::Byte, 0, 10, -1), &both), 51);
@@ -289,35 +298,153 @@ fn joined(rt: HostRuntime) {
     assert!(rt; !first.contains(&both));
     assert_eq!(rt;
         both.round().values[0],
-        Value::Num(Range { low: 2, high: 7 })
+        number(Range { low: 2, high: 7 })
     );
     assert!(rt; both.round().contains(&both));
 }
 
 /// The state behind `stdw [r10-8], 7`.
 fn store_byte() -> State {
-    after(&store_number(10, -8), &State::start(), 4)
+    behind(&store_number(10, -8), &State::start())
 }
 
 #[test]
 fn local_calls(rt: HostRuntime) {
     // r1 stays the context, r6 is 7, and r2 is 3
-    let before = after(&put(2, 3), &after(&put(6, 7), &store_byte(), 4), 4);
+    let before = behind(&put(2, 3), &behind(&put(6, 7), &store_byte()));
     let call = Instr::CallLocal { offset: 1 };
     assert_eq!(rt; broken(&call, &before), 0);
-    let behind = after(&call, &before, 4);
-    assert_eq!(rt; behind.values[0], Value::Num(Range::full()));
-    assert_eq!(rt; behind.values[1], Value::Unset);
-    assert_eq!(rt; behind.values[2], Value::Unset);
-    assert_eq!(rt; behind.values[6], Value::Num(Range::constant(7)));
-    assert_eq!(rt; broken(&load(Size::Byte, 0, 10, -1), &behind), 0);
+    let kept = behind(&call, &before);
+    assert_eq!(rt; kept.values[0], number(Range::full()));
+    assert_eq!(rt; kept.values[1], Value::Unset);
+    assert_eq!(rt; kept.values[2], Value::Unset);
+    assert_eq!(rt; kept.values[6], number(Range::constant(7)));
+    assert_eq!(rt; broken(&load(Size::Byte, 0, 10, -1), &kept), 0);
     let entered = entry(&before);
     assert_eq!(rt; entered.values[1], Value::Unset);
-    assert_eq!(rt; entered.values[2], Value::Num(Range::constant(3)));
+    assert_eq!(rt; entered.values[2], number(Range::constant(3)));
     assert_eq!(rt; entered.values[6], Value::Unset);
     assert_eq!(rt;
         entered.values[10],
         Value::Stack(StackOffset { offset: 512 })
     );
     assert_eq!(rt; broken(&load(Size::Byte, 0, 10, -1), &entered), 51);
+}
+
+/// What is known behind a program without jumps, on 4 sectors.
+fn known(program: &[Instr]) -> State {
+    let mut state = State::start();
+    for instr in program {
+        state = behind(instr, &state);
+    }
+    state
+}
+
+#[test]
+fn spilled_numbers(rt: HostRuntime) {
+    let spilled = [store_number(10, -8), load(Size::Double, 0, 10, -8)];
+    assert_eq!(rt; known(&spilled).values[0], number(Range::constant(7)));
+    // it moves a pointer
+    assert_eq!(rt;
+        refused(&[spilled[0], load(Size::Double, 2, 10, -8), copy(3, 10), move_by(Operator::Sub, 3, 2)]),
+        (4, 0)
+    );
+    // a part of it is any number of its size
+    let part = [spilled[0], load(Size::Word, 0, 10, -8)];
+    assert_eq!(rt; known(&part).values[0], number(Range::up_to(0xffff_ffff)));
+    // so is it whole, where it isn't stored to eight aligned bytes, or one of them was overwritten
+    let unaligned = [store_number(10, -16), store_number(10, -12), load(Size::Double, 0, 10, -12)];
+    assert_eq!(rt; known(&unaligned).values[0], number(Range::full()));
+    let low = [spilled[0], store_small(-8), spilled[1]];
+    assert_eq!(rt; known(&low).values[0], number(Range::full()));
+    let high = [spilled[0], store_small(-1), spilled[1]];
+    assert_eq!(rt; known(&high).values[0], number(Range::full()));
+    // one beside it stays
+    let beside = [spilled[0], store_small(-9), spilled[1]];
+    assert_eq!(rt; known(&beside).values[0], number(Range::constant(7)));
+}
+
+/// `stb [r10+offset], 7`.
+fn store_small(offset: i16) -> Instr {
+    Instr::StoreImmediate {
+        size: Size::Byte,
+        base: r(10),
+        offset,
+        immediate: 7,
+    }
+}
+
+#[test]
+fn spills_joined(rt: HostRuntime) {
+    let spilled = known(&[store_number(10, -8)]);
+    let pointer = known(&[store(10, -8, 1)]);
+    let unset = State::start();
+    let read = load(Size::Double, 0, 10, -8);
+    // numbers join as in registers, and so they are rounded
+    let other = known(&[put(2, 9), store(10, -8, 2)]);
+    let both = spilled.join(&other);
+    assert_eq!(rt; behind(&read, &both).values[0], number(Range { low: 7, high: 9 }));
+    assert_eq!(rt;
+        behind(&read, &both.round()).values[0],
+        number(Range { low: 4, high: 15 })
+    );
+    assert!(rt; both.contains(&spilled) && !spilled.contains(&both));
+    // eight written bytes contain a spilled number, whose bytes are written
+    let written = known(&[store_number(10, -8), store_small(-8)]);
+    assert!(rt; written.contains(&spilled) && !spilled.contains(&written));
+    assert_eq!(rt; behind(&read, &written.join(&spilled)).values[0], number(Range::full()));
+    // with unset bytes, or with a pointer, the bytes are unset
+    assert_eq!(rt; broken(&read, &spilled.join(&unset)), 51);
+    assert_eq!(rt; broken(&read, &spilled.join(&pointer)), 51);
+    assert_eq!(rt; broken(&read, &pointer.join(&spilled)), 51);
+}
+
+/// `jslt r0, immediate, +1`.
+fn jump_below(immediate: i32) -> Instr {
+    Instr::Branch {
+        width: Width::W64,
+        condition: Condition::SignedLt,
+        dst: r(0),
+        source: Source::Immediate(immediate),
+        offset: 1,
+    }
+}
+
+/// What bounds are left of two ranges.
+fn bounds(low: u64, high: u64, least: i64, greatest: i64) -> Value {
+    match (Range::new(low, high), SignedRange::new(least, greatest)) {
+        (Some(unsigned), Some(signed)) => match reduce(unsigned, signed) {
+            Some(bounds) => Value::Num(bounds),
+            None => Value::Unset,
+        },
+        _ => Value::Unset,
+    }
+}
+
+#[test]
+fn signed_numbers(rt: HostRuntime) {
+    // r0 is any number behind a local call
+    let any = known(&[Instr::CallLocal { offset: 1 }]);
+    let least = i64::MIN;
+    assert_eq!(rt; answer(branch(&jump_below(5), true, &any)), bounds(0, u64::MAX, least, 4));
+    assert_eq!(rt; answer(branch(&jump_below(0), false, &any)), number(Range::up_to(0x7fff_ffff_ffff_ffff)));
+    // from 0 to 4 the words are known too, and no number is below 0 there
+    let few = match branch(&jump_below(5), true, &any) {
+        Some(state) => answered_by(branch(&jump_below(0), false, &state)),
+        None => any,
+    };
+    assert_eq!(rt; few.values[0], number(Range::up_to(4)));
+    assert!(rt; branch(&jump_below(0), true, &few).is_none());
+    // a sum keeps its signed ends, and a range that is rounded both
+    let moved = behind(&add(0, -5), &few);
+    assert_eq!(rt; moved.values[0], bounds(0, u64::MAX, -5, -1));
+    assert_eq!(rt; moved.round().values[0], bounds(0, u64::MAX, -8, -1));
+}
+
+/// The state, or the start.
+fn answered_by(state: Option<State>) -> State {
+    match state {
+        Some(state) => state,
+        None => State::start(),
+    }
 }
