@@ -36,7 +36,6 @@ Where the rows stand
     rows/modelled.py    whole reports of many logs, against the model
     rows/workers.py     runs by many workers, with and without a cache
     rows/limits.py      sizes near each limit
-    rows/not_built.py   options and instructions that this version refuses, since their work isn't built
 
     notation.py         how rows, logs and programs are written down
     model.py            the crash model and the report, written from docs/CRASH-MODEL.md and docs/REPORT.md alone
@@ -72,7 +71,6 @@ from rows import (
     limits,
     logs,
     modelled,
-    not_built,
     notes,
     process,
     refusals,
@@ -99,7 +97,6 @@ TABLES = [
     modelled,
     workers,
     limits,
-    not_built,
 ]
 
 SHORTENED = 100

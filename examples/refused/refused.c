@@ -318,7 +318,7 @@ u64 written_sector_cured(const struct context *context)
 	return mix(0) - u64_at(504) == u64_at(504) ? 0 : 2;
 }
 
-/* 54: signed tests tell the verifier nothing. */
+/* Accepted since signed tests tell the verifier what an int may be; it was 54. */
 u64 int_index(const struct context *context)
 {
 	const u32 *table = SECTOR(1, return 1);

@@ -62,7 +62,8 @@ REFUSED = {
     "turned_test": ("refused 52 at 16", 1037),
     "inner_loop": ("refused 52 at 36", 2210),
     "written_sector": ("refused 53 at 7", 21),
-    "int_index": ("refused 54 at 17", 23),
+    # accepted since signed tests cut the range of an index
+    "int_index": ("accepted budget 24", 23),
     "short_index": ("refused 54 at 24", 12525),
     "merged_tests": ("refused 54 at 15", 22),
     "counters": ("refused 54 at 22", 14364),

@@ -301,8 +301,12 @@ TESTS_THAT_SKIP = {
     "jeq r6, 65536": "refused 52 at 6",
     "jeq r6, 0": "refused 54 at 5",
     "jeq r6, 512": "refused 54 at 5",
+    # signed tests as well
+    "jsge r6, 512": "accepted budget 9",
+    "jsge r6, 513": "refused 52 at 6",
+    "jsgt r6, 511": "accepted budget 9",
+    "jsgt r6, -1": "accepted budget 9",
     # these refine nothing
-    "jsge r6, 512": "refused 54 at 5",
     "jge32 r6, 512": "refused 54 at 5",
     "jset r6, -512": "refused 54 at 5",
     "jge r6, r6": "refused 54 at 5",
@@ -319,7 +323,10 @@ TESTS_THAT_ENTER = {
     "jeq r6, 512": "refused 52 at 7",
     "jne r6, 7": "refused 54 at 6",
     "jne r6, 65536": "refused 52 at 7",
-    "jslt r6, 512": "refused 54 at 6",
+    "jslt r6, 512": "accepted budget 9",
+    "jslt r6, 513": "refused 52 at 7",
+    "jsle r6, 511": "accepted budget 9",
+    "jsle r6, 512": "refused 52 at 7",
     "jlt32 r6, 512": "refused 54 at 6",
 }
 
@@ -393,7 +400,87 @@ RANGES = {
 
 RANGED = {INDEX.format(skipped=3, made=made): answer for made, answer in RANGES.items()}
 
+# An index that helper 6 answers, which may be any number, is tested signed at both ends.
+SIGNED_INDEX = (
+    "mov64 r1, 0; call 1; jne r0, 0, +2; mov64 r0, 0; exit; mov64 r6, r0; mov64 r1, 0; call 6; {low}, +3; "
+    "{high}, +2; add64 r6, r0; ldxdw r1, [r6+0]; mov64 r0, 0; exit"
+)
+
+SIGNED = {
+    SIGNED_INDEX.format(low="jslt r0, 0", high="jsgt r0, 504"): "accepted budget 12",
+    SIGNED_INDEX.format(low="jslt r0, 0", high="jsgt r0, 505"): "refused 52 at 11",
+    SIGNED_INDEX.format(low="jsle r0, -1", high="jsge r0, 505"): "accepted budget 12",
+    # from -1 on an index has numbers of both signs
+    SIGNED_INDEX.format(low="jslt r0, -1", high="jsgt r0, 504"): "refused 54 at 10",
+    SIGNED_INDEX.format(low="jslt32 r0, 0", high="jsgt r0, 504"): "refused 54 at 10",
+    SIGNED_INDEX.format(low="jslt r0, 0", high="jsgt32 r0, 504"): "refused 54 at 10",
+    SIGNED_INDEX.format(low="jslt r0, r0", high="jsgt r0, 504"): "refused 54 at 10",
+    # one test at each end, of which one is unsigned
+    SIGNED_INDEX.format(low="jslt r0, 0", high="jgt r0, 504"): "accepted budget 12",
+    # a difference keeps its signed ends, and so does a copy
+    (
+        "mov64 r1, 0; call 1; jne r0, 0, +2; mov64 r0, 0; exit; mov64 r6, r0; mov64 r1, 0; call 6; jslt r0, 8, +5; "
+        "jsgt r0, 512, +4; mov64 r2, r0; sub64 r2, 8; add64 r6, r2; ldxdw r1, [r6+0]; mov64 r0, 0; exit"
+    ): "accepted budget 14",
+    # r6 is 0..65536 less 7, which has numbers of both signs; the tests cut it to 0..504
+    (
+        "ldxdw r6, [r1+8]; sub64 r6, 7; mov64 r1, 0; call 1; jeq r0, 0, +4; jslt r6, 0, +3; jsgt r6, 504, +2; "
+        "add64 r0, r6; ldxdw r0, [r0+0]; mov64 r0, 0; exit"
+    ): "accepted budget 11",
+    # a sum that may leave the signed numbers has none of its ends: 2^63 - 1 and 1 give -2^63
+    (
+        "lddw r6, 9223372036854775807; ldxdw r7, [r1+8]; add64 r7, 1; mov64 r1, 0; call 1; jeq r0, 0, +4; add64 r6, r7; "
+        "jslt r6, 0, +2; add64 r0, r6; ldxb r0, [r0+0]; mov64 r0, 0; exit"
+    ): "accepted budget 12",
+    # no number is left behind an edge, and so no rule is broken there
+    "ldxdw r6, [r1+8]; jsge r6, 0, +1; ldxb r0, [r6+0]; mov64 r0, 0; exit": "accepted budget 5",
+}
+
+SPILLED_ON_TWO_PATHS = (
+    "stdw [r10-8], 8; ldxdw r2, [r1+8]; jeq r2, 0, +1; stdw [r10-8], 16; ldxdw r6, [r10-8]; mov64 r1, 0; call 1; "
+    "jeq r0, 0, +2; add64 r0, r6; ldxb r0, [r0+{distance}]; mov64 r0, 0; exit"
+)
+
+SPILLS = {
+    "stdw [r10-8], 8; ldxdw r2, [r10-8]; mov64 r3, r10; sub64 r3, r2; ldxdw r0, [r3+0]; exit": "accepted budget 6",
+    "mov64 r4, 8; stxdw [r10-8], r4; ldxdw r2, [r10-8]; mov64 r3, r10; sub64 r3, r2; ldxdw r0, [r3+0]; exit": (
+        "accepted budget 7"
+    ),
+    # a byte of it was overwritten
+    "stdw [r10-8], 8; stb [r10-8], 8; ldxdw r2, [r10-8]; mov64 r3, r10; sub64 r3, r2; ldxdw r0, [r3+0]; exit": (
+        "refused 54 at 4"
+    ),
+    "stdw [r10-8], 8; stb [r10-1], 0; ldxdw r2, [r10-8]; mov64 r3, r10; sub64 r3, r2; ldxdw r0, [r3+0]; exit": (
+        "refused 54 at 4"
+    ),
+    # one beside it
+    "stdw [r10-8], 8; stb [r10-9], 0; ldxdw r2, [r10-8]; mov64 r3, r10; sub64 r3, r2; ldxdw r0, [r3+0]; exit": (
+        "accepted budget 7"
+    ),
+    # neither narrower nor unaligned stores and loads keep a number
+    "stw [r10-8], 8; stw [r10-4], 0; ldxdw r2, [r10-8]; mov64 r3, r10; sub64 r3, r2; ldxdw r0, [r3+0]; exit": (
+        "refused 54 at 4"
+    ),
+    "stdw [r10-16], 8; stdw [r10-12], 8; ldxdw r2, [r10-12]; mov64 r3, r10; sub64 r3, r2; mov64 r0, 0; exit": (
+        "refused 54 at 4"
+    ),
+    "stdw [r10-8], 8; ldxw r2, [r10-8]; mov64 r3, r10; sub64 r3, r2; ldxdw r0, [r3+0]; exit": "refused 54 at 3",
+    # its bytes are written
+    "stdw [r10-8], 8; ldxb r0, [r10-1]; exit": "accepted budget 3",
+    # on two paths: two numbers give a range, a number and a pointer unset bytes
+    SPILLED_ON_TWO_PATHS.format(distance=495): "accepted budget 12",
+    SPILLED_ON_TWO_PATHS.format(distance=496): "refused 52 at 9",
+    "stdw [r10-8], 8; ldxdw r2, [r1+8]; jeq r2, 0, +1; stxdw [r10-8], r1; ldxdw r0, [r10-8]; exit": "refused 51 at 4",
+    # helper 2 writes bytes
+    (
+        "stdw [r10-8], 8; mov64 r2, r10; add64 r2, -8; mov64 r1, 0; mov64 r3, 1; call 2; ldxdw r2, [r10-8]; "
+        "mov64 r3, r10; sub64 r3, r2; mov64 r0, 0; exit"
+    ): "refused 54 at 8",
+}
+
 TABLES = [
+    SIGNED,
+    SPILLS,
     TARGETS,
     NEXT_SLOTS,
     FRAME_POINTER,

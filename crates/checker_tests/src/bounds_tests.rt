@@ -1,4 +1,4 @@
-//! Worked rows of docs/VERIFIER.md, 'Signed bounds and spilled numbers', with ends that were computed by hand.
+//! Worked rows of docs/VERIFIER.md with ends that were computed by hand.
 
 use bpf_isa::instr::{Condition, Instr, Operator, Source, Width};
 use bpf_isa::register::Register;

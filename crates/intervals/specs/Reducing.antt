@@ -1,5 +1,5 @@
 -- The two ranges of a number, of its word and of its reading as a signed number, and how one cuts the
--- other (docs/VERIFIER.md, Signed bounds and spilled numbers).
+-- other (docs/VERIFIER.md, Abstract values).
 use Rattle.std.specs.Prelude.{◌≡◌, ℕ, ℤ, pos, ◌-◌, ◌^◌, ◌<◌, ◌≤◌, ◌<ℤ◌, ◌≤ℤ◌, nat_lt, nat_le, int_lt, int_le, ◌||◌, ◌⊎◌, Bool, if◌then◌else◌, Option, None, Some, min, max}
 use Rattle.std.specs.Option.{option_map, option_and_then}
 use Rattle.std.specs.Int.{cast_signed, cast_unsigned, w64}

@@ -1,5 +1,5 @@
--- What an edge of a conditional jump says of the limits of its operands (docs/VERIFIER.md, Signed
--- bounds and spilled numbers). x is the range of dst, y that of the second operand; None where one of
+-- What an edge of a conditional jump says of the limits of its operands (docs/VERIFIER.md,
+-- Branches). x is the range of dst, y that of the second operand; None where one of
 -- them would be empty, so that the edge isn't taken.
 use Rattle.std.specs.Prelude.{ℕ, ℤ, pos, ◌+ℤ◌, ◌-ℤ◌, Bool, true, false, if◌then◌else◌, Option, Some}
 use Rattle.std.specs.Option.{option_map, option_and_then}

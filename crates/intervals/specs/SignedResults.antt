@@ -1,5 +1,5 @@
 -- The limits that an arithmetic instruction makes of the limits of its operands (docs/VERIFIER.md,
--- Signed bounds and spilled numbers).
+-- Results of arithmetic on numbers).
 use Rattle.std.specs.Prelude.{ℤ, ◌+ℤ◌, ◌-ℤ◌, int_le, ◌&&◌, if◌then◌else◌, Option, Some, None, unwrap_or}
 use Rattle.std.specs.Option.{option_and_then}
 use Rattle.bpf_isa.specs.declared.instr.Instr.{Instr}

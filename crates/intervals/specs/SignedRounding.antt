@@ -1,4 +1,4 @@
--- Signed ranges between powers of two (docs/VERIFIER.md, Signed bounds and spilled numbers).
+-- Signed ranges between powers of two (docs/VERIFIER.md, Abstract states).
 use Rattle.std.specs.Prelude.{◌≡◌, ℕ, ℤ, pos, negsuc, neg_ℤ, ◌-◌, ◌^◌, ◌≤ℤ◌, ◌<ℤ◌, ◌⊎◌, unwrap_or}
 use Rattle.intervals.specs.Rounding.{ceiling, rounded}
 use Rattle.intervals.specs.SignedSpans.{SignedSpan, signed_span}

@@ -1,4 +1,4 @@
--- Ranges of signed numbers (docs/VERIFIER.md, Signed bounds and spilled numbers).
+-- Ranges of signed numbers (docs/VERIFIER.md, Abstract values).
 use Rattle.std.specs.Prelude.{ℤ, pos, neg_ℤ, ◌≤ℤ◌, ◌-◌, ◌^◌, int_le, Bool, if◌then◌else◌, Option, None, Some}
 use Rattle.std.specs.Int.{int_min, int_max, w64}
 use Rattle.std.specs.Int.RustNames.{FitsSigned}

@@ -14,7 +14,7 @@ use crate::signed_range::SignedRange;
 use bpf_isa::instr::{Condition, Instr, Width};
 
 /// The bounds of dst and of the second operand of a conditional jump on the edge that is taken, or on
-/// the other (docs/VERIFIER.md, Signed bounds and spilled numbers). None says that no words go that
+/// the other (docs/VERIFIER.md, Branches). None says that no words go that
 /// way. Only tests in 64 bits, of two different operands, make bounds smaller: the unsigned ones cut
 /// the words, the signed ones the readings, and equality both.
 #[tactic(auto, unfolding(crate::specs::SignedEdges::limits_refined))]

@@ -13,8 +13,8 @@ use crate::results::result;
 use crate::signed_range::SignedRange;
 use bpf_isa::instr::{Instr, Operator, Width};
 
-/// The bounds of what an arithmetic instruction makes of the words of two (docs/VERIFIER.md, Signed
-/// bounds and spilled numbers): those of dst, and those of the second operand, which are
+/// The bounds of what an arithmetic instruction makes of the words of two (docs/VERIFIER.md, Results
+/// of arithmetic on numbers): those of dst, and those of the second operand, which are
 /// `Bounds::immediate` of an immediate. The range of words is that of `result`; a move, a sum and a
 /// difference in 64 bits keep a signed range too. None says that no words are left.
 #[tactic(auto, unfolding(crate::specs::SignedResults::limits_result_of))]

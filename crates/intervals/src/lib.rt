@@ -1,9 +1,8 @@
 //! Ranges of words: what arithmetic makes of them, what a conditional jump leaves of them, and how they
 //! are joined and rounded.
 //!
-//! A `Range` is the words from `low` to `high`, both included; by its type it isn't empty. The verifier
-//! says with it which words a register may hold. The rules are those of docs/VERIFIER.md, Results of
-//! arithmetic on numbers and Branches.
+//! A `Range` is the words from `low` to `high`, both included; by its type it isn't empty. The rules are
+//! those of docs/VERIFIER.md, Results of arithmetic on numbers and Branches.
 //!
 //! | Call | Answer |
 //! |---|---|
@@ -15,8 +14,8 @@
 //! | `x.join(y)`, `x.round()` | the least range that has both, the least one between powers of two |
 //!
 //! A `Bounds` says more of a number: a range of its word and one of its reading as a signed number, a
-//! `SignedRange`, each cut by the other (docs/VERIFIER.md, Signed bounds and spilled numbers). No crate
-//! uses it yet; the verifier still keeps a `Range`.
+//! `SignedRange`, each cut by the other (docs/VERIFIER.md, Abstract values). The verifier says with it
+//! which words a register may hold.
 //!
 //! | Call | Answer |
 //! |---|---|
@@ -31,7 +30,8 @@
 //! # Place
 //!
 //! On `bpf_isa`, whose instructions it takes, on the definitions of `machine`, whose arithmetic it covers,
-//! and on `arithmetic`, which computes constants. The crate of abstract values stands on it; there a register holds a range or a pointer.
+//! and on `arithmetic`, which computes constants. The crate of abstract values stands on it; there a
+//! register holds the bounds of a number, or a pointer.
 //!
 //! # What is proved
 //!

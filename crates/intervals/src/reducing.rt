@@ -13,7 +13,7 @@ use crate::bounds::Bounds;
 use crate::range::Range;
 use crate::signed_range::SignedRange;
 
-/// The two ranges, each cut by the other (docs/VERIFIER.md, Signed bounds and spilled numbers). None
+/// The two ranges, each cut by the other (docs/VERIFIER.md, Abstract values). None
 /// says that one of them is left empty: then no word is in both. Where both have numbers of both signs
 /// neither is cut, so there a word may be left that has no reading in the signed range.
 #[tactic(auto, unfolding(crate::specs::Reducing::reduced))]

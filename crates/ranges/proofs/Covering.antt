@@ -206,7 +206,7 @@ unfolding round_group
 group_round (Marked xs) a = marks_refl xs
 group_round (Spilled k) a = round_under k a.1
 
-group_round_mono : (g h : GroupKind) → IsGroup g → IsGroup h → GroupUnder g h → GroupUnder (round_group g) (round_group h)
+pub group_round_mono : (g h : GroupKind) → IsGroup g → IsGroup h → GroupUnder g h → GroupUnder (round_group g) (round_group h)
 unfolding round_group
 group_round_mono (Marked xs) (Marked ys) a b p = p
 group_round_mono (Marked xs) (Spilled l) a b p = absurd p
@@ -254,7 +254,7 @@ each_map : {X : Type 0} (R : X → X → Type 0) (P : X → Type 0) (r : X → X
 each_map R P r f [] a = tt
 each_map R P r f (x ∷ xs) a = (f x a.0, each_map R P r f xs a.1)
 
-each_mono : {X : Type 0} (R : X → X → Type 0) (P : X → Type 0) (r : X → X) → ((x y : X) → P x → P y → R x y → R (r x) (r y))
+pub each_mono : {X : Type 0} (R : X → X → Type 0) (P : X → Type 0) (r : X → X) → ((x y : X) → P x → P y → R x y → R (r x) (r y))
     → (xs ys : List X) → Each P xs → Each P ys → EachUnder R xs ys → EachUnder R (map r xs) (map r ys)
 each_mono R P r f [] [] a b p = tt
 each_mono R P r f [] (y ∷ ys) a b p = absurd p

@@ -26,7 +26,7 @@ length_zip j [] ys e = refl
 length_zip j (x ∷ xs) [] e = absurd (let bad : suc (length xs) ≡ 0 = e in cc)
 length_zip j (x ∷ xs) (y ∷ ys) e = let rest = length_zip j xs ys (omega arith) in omega (arith, rest)
 
-each_mapped : {X : Type 0} (P : X → Type 0) (r : X → X) → ((x : X) → P x → P (r x)) → (xs : List X) → Each P xs → Each P (map r xs)
+pub each_mapped : {X : Type 0} (P : X → Type 0) (r : X → X) → ((x : X) → P x → P (r x)) → (xs : List X) → Each P xs → Each P (map r xs)
 each_mapped P r f [] a = tt
 each_mapped P r f (x ∷ xs) a = (f x a.0, each_mapped P r f xs a.1)
 
@@ -109,7 +109,7 @@ join_group_fits (Marked xs) (Spilled l) a b = met_fits xs l a
 join_group_fits (Spilled k) (Marked ys) a b = met_fits ys k b
 join_group_fits (Spilled k) (Spilled l) a b = kept_fits (join k l) (join_fits k l a.1 b.1)
 
-round_group_fits : (g : GroupKind) → IsGroup g → IsGroup (round_group g)
+pub round_group_fits : (g : GroupKind) → IsGroup g → IsGroup (round_group g)
 unfolding round_group
 round_group_fits (Marked xs) a = a
 round_group_fits (Spilled k) a = (round_known k a.0, round_fits k a.1)

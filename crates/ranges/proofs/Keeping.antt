@@ -46,16 +46,16 @@ holds_if : {X : Type 0} (P : X → Type 0) (b : Bool) (x : X) → (b ≡ true �
 holds_if P true x f = f refl
 holds_if P false x f = tt
 
-holds_map : {X Y : Type 0} (P : X → Type 0) (Q : Y → Type 0) (f : X → Y) → ((x : X) → P x → Q (f x)) → (m : Option X) → Holds P m → Holds Q (option_map f m)
+pub holds_map : {X Y : Type 0} (P : X → Type 0) (Q : Y → Type 0) (f : X → Y) → ((x : X) → P x → Q (f x)) → (m : Option X) → Holds P m → Holds Q (option_map f m)
 holds_map P Q f g None h = tt
 holds_map P Q f g (Some x) h = g x h
 
-holds_or : {X : Type 0} (P : X → Type 0) (m n : Option X) → Holds P m → Holds P n → Holds P (option_or m n)
+pub holds_or : {X : Type 0} (P : X → Type 0) (m n : Option X) → Holds P m → Holds P n → Holds P (option_or m n)
 holds_or P None n h e = e
 holds_or P (Some x) n h e = h
 
 -- what holds of whatever an option is
-holds_of : {X : Type 0} (P : X → Type 0) (m : Option X) → ((x : X) → m ≡ Some x → P x) → Holds P m
+pub holds_of : {X : Type 0} (P : X → Type 0) (m : Option X) → ((x : X) → m ≡ Some x → P x) → Holds P m
 holds_of P None f = tt
 holds_of P (Some x) f = f x refl
 
@@ -162,7 +162,7 @@ moved_fit down x y h g = by_kind (is_constant y) (nat_le y.high 65535) down
     by_kind false true d = by_way d
     by_kind false false d = tt
 
-moved_kind_fits : (down : Bool) (k l : Kind) → IsBounded k → IsBounded l → Holds IsBounded (moved down k l)
+pub moved_kind_fits : (down : Bool) (k l : Kind) → IsBounded k → IsBounded l → Holds IsBounded (moved down k l)
 unfolding moved
 moved_kind_fits down (Ctx o) (Num y) h g = holds_map (λ n. n ≤ 32) IsBounded (λ p. Ctx p) (λ n e. e) (moved_place 32 down o y.unsigned) (place_fits 32 down o y.unsigned)
 moved_kind_fits down (Stack o) (Num y) h g = holds_map (λ n. n ≤ 512) IsBounded (λ p. Stack p) (λ n e. e) (moved_place 512 down o y.unsigned) (place_fits 512 down o y.unsigned)
@@ -208,7 +208,7 @@ loaded_fits sectors groups (place.Stack at) s h a = by_test (is_group at (byte_c
 loaded_fits sectors groups place.Outside s h a = any_of_fits s
 loaded_fits sectors groups place.Sector s h a = any_of_fits s
 
-with_groups_fits : (s : Abstract) (groups : List GroupKind) → IsState s → Each IsGroup groups → length groups ≡ length s.groups → IsState (with_groups s groups)
+pub with_groups_fits : (s : Abstract) (groups : List GroupKind) → IsState s → Each IsGroup groups → length groups ≡ length s.groups → IsState (with_groups s groups)
 with_groups_fits s groups a h e = record { values = a.values; groups = h; registers = a.registers; stack = e ∙ a.stack }
 
 group_after_fits : (at n g : ℕ) (group : GroupKind) → IsGroup group → IsGroup (group_after at n g group)
@@ -219,12 +219,12 @@ group_after_fits at n g group h = by_test (is_touched at n g)
     by_test true = refl
     by_test false = h
 
-places_fit : (at n g : ℕ) (groups : List GroupKind) → Each IsGroup groups → Each IsGroup (map_places (group_after at n) g groups)
+pub places_fit : (at n g : ℕ) (groups : List GroupKind) → Each IsGroup groups → Each IsGroup (map_places (group_after at n) g groups)
 unfolding map_places
 places_fit at n g [] a = tt
 places_fit at n g (x ∷ xs) a = (group_after_fits at n g x a.0, places_fit at n (g + 1) xs a.1)
 
-places_long : (at n g : ℕ) (groups : List GroupKind) → length (map_places (group_after at n) g groups) ≡ length groups
+pub places_long : (at n g : ℕ) (groups : List GroupKind) → length (map_places (group_after at n) g groups) ≡ length groups
 unfolding map_places
 places_long at n g [] = refl
 places_long at n g (x ∷ xs) = let rest = places_long at n (g + 1) xs in omega (arith, rest)
@@ -286,7 +286,7 @@ second_fits s (source.Immediate n) h a =
 second_fits s (source.Register r) h a = value_fits s r a
 
 -- a register with a result, if there is one
-register_fits : (s : Abstract) (r : ℕ) (m : Option Kind) → Holds IsBounded m → IsState s → Holds IsState (option_map (with_value s r) m)
+pub register_fits : (s : Abstract) (r : ℕ) (m : Option Kind) → Holds IsBounded m → IsState s → Holds IsState (option_map (with_value s r) m)
 register_fits s r m h a = holds_map IsBounded IsState (with_value s r) (λ k e. with_value_fits s r k e a) m h
 
 pub after_fits : (sectors : ℕ) (s : Abstract) (i : Instr) → sectors < 2 ^ 64 → IsInRange i → IsState s → Holds IsState (after_of sectors s i)
@@ -337,7 +337,7 @@ edge_bounds i taken k l h g =
     holds_of AreBoth (limits_refined i taken (words k) (words l))
     (λ p e. let fits = refined_fits i taken (words k) (words l) p (words_fit k h) (words_fit l g) e in (fits.0, fits.1))
 
-tested_fits : (b : Bool) → IsBounded (tested_kind b)
+pub tested_fits : (b : Bool) → IsBounded (tested_kind b)
 tested_fits true = up_to_fits 0 0 (omega arith) (omega arith)
 tested_fits false = record { ordered = omega arith; most = omega arith }
 

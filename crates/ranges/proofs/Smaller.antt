@@ -54,7 +54,7 @@ each_with R (x ∷ xs) (y ∷ ys) (suc i) a b r p = (p.0, each_with R xs ys i a 
 value_under : (s t : Abstract) (r : ℕ) → StateUnder s t → Under (value s r) (value t r)
 value_under s t r u = each_at Under s.values t.values r Unset tt u.values
 
-with_value_under : (s t : Abstract) (r : ℕ) (k l : Kind) → Under k l → StateUnder s t → StateUnder (with_value s r k) (with_value t r l)
+pub with_value_under : (s t : Abstract) (r : ℕ) (k l : Kind) → Under k l → StateUnder s t → StateUnder (with_value s r k) (with_value t r l)
 with_value_under s t r k l h u = record { values = each_with Under s.values t.values r k l h u.values; groups = u.groups }
 
 second_under : (s t : Abstract) (from : Source) → StateUnder s t → Under (second s from) (second t from)

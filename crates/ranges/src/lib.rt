@@ -13,7 +13,7 @@
 //! | `s.contains(&t)` | whether the join of both is the first: it covers all that the other does |
 //! | `s.round()` | the state with its ranges between powers of two, as it is at the head of a loop |
 //! | `check(&instr, &state)` | that each rule of the instruction holds, or the first that is broken |
-//! | `after(&instr, &state, sectors)` | the state behind an instruction that is no conditional jump |
+//! | `after(&instr, &state, sectors)` | the state behind an instruction that is no conditional jump, None where no machine gets there |
 //! | `branch(&instr, taken, &state)` | the state on an edge of a conditional jump, None where no machine goes that way |
 //! | `entry(&state)` | the state at the entry of a local function that is called there |
 //!
@@ -24,7 +24,7 @@
 //! # Place
 //!
 //! On `bpf_isa` and `helpers`, whose instructions and helpers it takes, on `arithmetic`, which has the
-//! sizes of accesses, on `intervals`, which knows the ranges of numbers, and on the definitions of
+//! sizes of accesses, on `intervals`, which knows the bounds of numbers, and on the definitions of
 //! `machine`. The verifier stands on it.
 //!
 //! # What is proved
@@ -32,7 +32,8 @@
 //! Contracts see a value as a `Kind` (`specs/Kinds.antt`), eight bytes of the stack as a `GroupKind`,
 //! and a state as an `Abstract`, the lists of both; `kind_of`, `group_of` and `state_of` lead there.
 //! The bounds of offsets and ranges are kept by the types `ContextOffset`, `StackOffset`,
-//! `SectorOffsets`, `Range` and `Spill`.
+//! `SectorOffsets`, `Bounds` and `Spill`. A number or a pointer that is stored to eight aligned bytes is kept
+//! there as a `Spill`, until one of them is overwritten.
 //!
 //! - `join`, `contains`, `round` and `start` of values, groups and states are exactly those of
 //!   `specs/Kinds.antt`, `specs/Groups.antt` and `specs/States.antt`.
