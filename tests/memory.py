@@ -1,9 +1,9 @@
 #!/usr/bin/env python3
-"""Refuses each allocation of the built program in turn, and looks at what it makes of that; and how much many lines take.
+"""Refuses each allocation of the built programs in turn, and looks at what they make of that; and how much many lines take.
 
-    python3 tests/memory.py [PROGRAM]
+    python3 tests/memory.py [PROGRAM [CALLS]]
 
-PROGRAM is as in run.py. A C compiler (`cc`, `gcc` or `clang`) builds `refuse.c` beside this script, which is loaded before
+PROGRAM is as in run.py, CALLS crates/refused_calls/out/refused_calls in the same way. A C compiler (`cc`, `gcc` or `clang`) builds `refuse.c` beside this script, which is loaded before
 the program and refuses its Nth call of `malloc`, `calloc` or `realloc`. Each row below is run with N = 1, 2, .. until a run
 asks for fewer than N. The answer is then either what the row says, byte by byte, or want of memory: nothing on standard
 output, status 2, and on standard error one line, a refusal with a cause for memory at 0 or `error: out of memory`. Notes
@@ -11,6 +11,9 @@ below a refusal are left out where there is no memory for them.
 
 Rows are those of run.py, by name, with the number of allocations that a run makes, so that a new allocation is noticed;
 None where workers side by side make it vary.
+
+CALLS makes public calls by themselves, those too that the program doesn't make, and makes each again that is refused for
+want of memory. Its allocations are refused in the same way: it has to print what it always prints, whichever is refused.
 
 Then each run of LARGE, in which every image fails, is given no more room than twice its report, twice its log, and 64 MiB,
 as the system counts a process's addresses (`ulimit -v`): it has to print the same report as without that limit, whose last
@@ -78,6 +81,9 @@ ROWS = {
     "verify checkers/journal_scan": 740,
 }
 
+
+# How many allocations the calls by themselves make.
+CALLS = 1381
 
 # Runs with some 600,000 lines and more. Of n writes in one epoch, of which up to three are lost, there are as many images as
 # ways to pick them, over all cuts.
@@ -157,13 +163,13 @@ def built(folder):
     return library
 
 
-def run_refusing(program, library, row, folder, number):
+def run_refusing(program, library, words, folder, number):
     """A run in which the allocation of that number is refused, and how many it asked for."""
     counted = Path(folder, "counted")
     counted.unlink(missing_ok=True)
     surroundings = {**os.environ, "LD_PRELOAD": str(library), "REFUSED": str(number), "COUNTED": str(counted)}
     done = subprocess.run(
-        ["crashbpf", *row.words.split()],
+        words,
         executable=program,
         cwd=folder,
         stdin=subprocess.DEVNULL,
@@ -190,32 +196,61 @@ def is_want_of_memory(done, row):
     return done.returncode == 2 and not done.stdout and WANT_OF_MEMORY.fullmatch(error) is not None
 
 
-def swept(program, library, row, wanted, assembler):
-    """What went wrong with a row: a sentence for each allocation whose refusal did, and for a wrong count."""
+def swept_runs(run, wanted, is_right, is_answer):
+    """What went wrong with runs, `run(N)` the one in which allocation N is refused: a sentence for each that did, and for a
+    wrong count. The run in which none is refused has to be right, and each other an answer."""
     found = []
-    with tempfile.TemporaryDirectory() as folder:
-        for name, content in row.files.items():
-            put(folder, name, content, assembler)
-        done, asked = run_refusing(program, library, row, folder, 0)
-        if not is_right(done, row):
-            found.append("it isn't right where nothing is refused")
-        if wanted not in (None, asked):
-            found.append(f"{asked} allocations, {wanted} were wanted")
-        number = 1
-        while asked is not None and asked >= number - 1:
-            done, asked = run_refusing(program, library, row, folder, number)
-            if not is_right(done, row) and not is_want_of_memory(done, row):
-                found.append(f"allocation {number}: status {done.returncode}, standard error '{shortened(done.stderr)}'")
-            number += 1
-        if asked is None:
-            found.append(f"allocation {number - 1}: no regular end")
+    done, asked = run(0)
+    if not is_right(done):
+        found.append("it isn't right where nothing is refused")
+    if wanted not in (None, asked):
+        found.append(f"{asked} allocations, {wanted} were wanted")
+    number = 1
+    while asked is not None and asked >= number - 1:
+        done, asked = run(number)
+        if not is_answer(done):
+            found.append(f"allocation {number}: status {done.returncode}, standard error '{shortened(done.stderr)}'")
+        number += 1
+    if asked is None:
+        found.append(f"allocation {number - 1}: no regular end")
     return found
 
 
+def swept(program, library, row, wanted, assembler):
+    """What went wrong with a row."""
+    with tempfile.TemporaryDirectory() as folder:
+        for name, content in row.files.items():
+            put(folder, name, content, assembler)
+        return swept_runs(
+            lambda number: run_refusing(program, library, ["crashbpf", *row.words.split()], folder, number),
+            wanted,
+            lambda done: is_right(done, row),
+            lambda done: is_right(done, row) or is_want_of_memory(done, row),
+        )
+
+
+def swept_calls(calls, library):
+    """What went wrong with the calls by themselves."""
+    printed = Path(TOP, "crates/refused_calls/stdout").read_bytes()
+
+    def is_same(done):
+        return (done.returncode, done.stdout, done.stderr) == (0, printed, b"")
+
+    with tempfile.TemporaryDirectory() as folder:
+        return swept_runs(lambda number: run_refusing(calls, library, ["refused_calls"], folder, number), CALLS, is_same, is_same)
+
+
+def built_program(words, place, name):
+    """The path of a program: the word at that place, or where `rt run` leaves it."""
+    path = str(Path(words[place] if len(words) > place else TOP / f"crates/{name}/out/{name}").resolve())
+    if not os.access(path, os.X_OK):
+        sys.exit(f"there is no program {path}: `rt run` in crates/{name} builds it")
+    return path
+
+
 def main(words):
-    program = str(Path(words[0] if words else TOP / "crates/crashbpf/out/crashbpf").resolve())
-    if not os.access(program, os.X_OK):
-        sys.exit(f"there is no program {program}: `rt run` in crates/crashbpf builds it")
+    program = built_program(words, 0, "crashbpf")
+    calls = built_program(words, 1, "refused_calls")
     rows = {row.name: row for row in all_rows()}
     missing = [name for name in ROWS if name not in rows]
     if missing:
@@ -223,9 +258,14 @@ def main(words):
     assembler = Assembler(program)
     with tempfile.TemporaryDirectory() as folder, ThreadPoolExecutor(os.cpu_count()) as pool:
         library = built(folder)
+        by_themselves = pool.submit(swept_calls, calls, library)
         results = list(pool.map(lambda name: swept(program, library, rows[name], ROWS[name], assembler), ROWS))
         large = list(pool.map(lambda name: overfull(program, name, assembler), LARGE))
+        found_in_calls = by_themselves.result()
     failed = 0
+    if found_in_calls:
+        failed += 1
+        print(f"FAILED calls by themselves with memory refused: {'; '.join(found_in_calls)}")
     for name, found in zip(ROWS, results):
         if found:
             failed += 1
@@ -234,7 +274,7 @@ def main(words):
         if found:
             failed += 1
             print(f"FAILED many lines, {name}: {'; '.join(found)}")
-    print(f"{len(ROWS) + len(LARGE) - failed} passed, {failed} failed")
+    print(f"{1 + len(ROWS) + len(LARGE) - failed} passed, {failed} failed")
     return 1 if failed else 0
 
 

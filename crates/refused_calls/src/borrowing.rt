@@ -1,0 +1,68 @@
+//! Calls whose answers borrow what they are given, made again where memory was refused.
+
+ghost use Rattle.std.specs.Prelude.{◌≡◌, ◌≤◌, IfOk, false, length};
+ghost use Rattle.choices.specs.Choices.{ranked, limit};
+
+use choices::Starts;
+use epochs::{Cuts, Plan};
+use explore_core::{Event, Explore, Jobs, run};
+use images::History;
+use logfmt::Log;
+use std::alloc::{AllocError, Global};
+
+/// The plan of a log with all its cuts.
+pub fn plan_of<'a>(alloc: Global, log: &'a Log) -> Result<Plan<'a>, AllocError>
+    ensures { IfOk result (λ plan. plan.log ≡ log.now) }
+{
+    if let Ok(plan) = Plan::new(alloc, log, Cuts::All) {
+        return Ok(plan);
+    }
+    Plan::new(alloc, log, Cuts::All)
+}
+
+/// The history of a plan.
+pub fn history_of<'a>(
+    alloc: Global,
+    plan: &'a Plan<'a>,
+    log: &'a Log,
+) -> Result<History<'a>, AllocError>
+    requires { plan.now.log ≡ log.now }
+    ensures { IfOk result (λ history. history ≡ plan.now) }
+{
+    if let Ok(history) = History::new(alloc, plan, log) {
+        return Ok(history);
+    }
+    History::new(alloc, plan, log)
+}
+
+/// The table of the choices of a plan.
+pub fn starts_of<'a>(alloc: Global, plan: &'a Plan<'a>, bound: u8) -> Result<Starts<'a>, AllocError>
+    requires bound { bound ≤ 3 }
+    requires counted { length (ranked plan.now bound false) ≤ limit }
+    ensures { IfOk result (λ starts. starts ≡ record { plan = plan.now; bound = bound; tears = false }) }
+{
+    if let Ok(starts) = Starts::new(alloc, plan, bound, false) {
+        return Ok(starts);
+    }
+    Starts::new(alloc, plan, bound, false)
+}
+
+/// An exploration of two workers before its first event.
+pub fn begun<'a>(alloc: Global, jobs: &'a Jobs) -> Result<Explore<'a>, AllocError> {
+    if let Ok(explore) = Explore::new(alloc, jobs, 2, false) {
+        return Ok(explore);
+    }
+    Explore::new(alloc, jobs, 2, false)
+}
+
+/// An exploration of two workers after these events.
+pub fn ended<'a>(
+    alloc: Global,
+    jobs: &'a Jobs,
+    events: &[Event],
+) -> Result<Explore<'a>, AllocError> {
+    if let Ok(explore) = run(alloc, jobs, 2, false, events) {
+        return Ok(explore);
+    }
+    run(alloc, jobs, 2, false, events)
+}
