@@ -8,13 +8,18 @@ ghost use Rattle.shares.specs.Deques.{DequeRule, port};
 
 use crossbeam_deque::protocol::{Outcome, Protocol};
 use std::collections::LinkedList;
-use std::marker::PhantomData;
+use std::marker::{Brand, PhantomData};
 
-/// What the hands of a run are told once, in contracts alone: its number of blocks.
+/// What the hands of a run are told once, in contracts alone: its number of blocks. A caller picks it at
+/// one call, which passes `std::marker::Brand`.
 pub trait Deal {
     ghost use Rattle.std.specs.Prelude.{ℕ};
 
     ghost blocks: { ℕ };
+}
+
+impl Deal for Brand {
+    ghost blocks = { 0 };
 }
 
 /// What a port of a deque knows. No value of it is made.

@@ -8,8 +8,7 @@
 //!
 //! **A hand** is a worker's own deque of blocks, which the others may steal from, with the stealers of the
 //! others' deques, and a short list of blocks that its deque had no place for. A worker with a seat and a
-//! hand draws some blocks ahead, and takes from others when no block is left to draw. No worker has a hand
-//! as yet.
+//! hand draws some blocks ahead, and takes from others when no block is left to draw.
 //!
 //! | Call | Its one step | Answer |
 //! |---|---|---|

@@ -4,7 +4,8 @@ use Rattle.std.proofs.lemmas.Grind.{flat_map-append}
 use Rattle.std.proofs.lemmas.List.{map-append}
 use Rattle.shares.specs.declared.view.SeatStep.{SeatStep}
 use Rattle.shares.specs.Steps.{late_draws, drew_late}
-use Rattle.shares.specs.Seats.{BoardName, BoardValue, SeatValue, HasEnded, taken, all_taken, all_steps}
+use Rattle.shares.specs.Seats.{BoardName, BoardValue, SeatValue, HasEnded, all_steps}
+use Rattle.shares.specs.Hands.{HandValue, hand_value}
 use Rattle.shares.proofs.Lists.{total_append}
 use Rattle.workers.specs.declared.crew.Done.{Done}
 use Rattle.workers.specs.declared.crew.Job.{Job}
@@ -18,7 +19,7 @@ seats_of : List Done → List SeatValue
 seats_of done = map (λ (d : Done). d.seat) done
 
 abbrev AllHand : Subject → BoardName → List Done → Type 0
-AllHand s board done = HandsOver s (all_taken (map (λ (d : Done). d.seat) done)) (all_steps (map (λ (d : Done). d.seat) done)) (flat_map pieces_of done)
+AllHand s board done = HandsOver s (all_steps (map (λ (d : Done). d.seat) done)) (flat_map pieces_of done)
     × (length done ≤ late_draws board.blocks (all_steps (map (λ (d : Done). d.seat) done)))
     × All (λ (seat : SeatValue). seat.board ≡ board) (map (λ (d : Done). d.seat) done)
 
@@ -29,6 +30,18 @@ all_cons : {X : Type 0} (P : X → Type 0) (x : X) (xs : List X) → P x → All
 all_cons P x xs p h zero d lt = p
 all_cons P x xs p h (suc i) d lt = h i d (omega (arith, lt))
 
+pub all_snoc : {X : Type 0} (P : X → Type 0) (xs : List X) (x : X) → All P xs → P x → All P (xs ++ x ∷ [])
+all_snoc P [] x h own = all_cons P x [] own (λ i d lt. absurd (omega (arith, lt)))
+all_snoc P (y ∷ xs) x h own = all_cons P y (xs ++ x ∷ []) (h 0 y (omega arith)) (all_snoc P xs x (all_tail P y xs h) own)
+
+pub all_front : {X : Type 0} (P : X → Type 0) (xs ys : List X) → All P (xs ++ ys) → All P xs
+all_front P [] ys h = λ i d lt. absurd (omega (arith, lt))
+all_front P (x ∷ xs) ys h = all_cons P x xs (h 0 x (omega arith)) (all_front P xs ys (all_tail P x (xs ++ ys) h))
+
+pub ok_both : {V E : Type 0} (r : Result V E) (P Q R : V → Type 0) → IfOk r P → IfOk r Q → ((v : V) → P v → Q v → R v) → IfOk r R
+ok_both (Ok v) P Q R h g f = f v h g
+ok_both (Err e) P Q R h g f = tt
+
 one_ok : {V E : Type 0} (r : Result V E) (P : V → Type 0) (items : V → List PieceValue) (C : List PieceValue → Type 0) → is_ok r ≡ true → IfOk r P → ((v : V) → P v → C (items v)) → C (items_or_none r items)
 one_ok (Ok v) P items C ok h f = f v h
 one_ok (Err e) P items C ok h f = absurd (let bad : false ≡ true = ok in cc)
@@ -38,13 +51,14 @@ all_hand s board [] are ok = (nothing_yet s, omega arith, λ i d lt. absurd (ome
 all_hand s board (d ∷ done) are ok =
     let first = are 0 d (omega arith) in
     let rest = all_hand s board done (all_tail (IsDone s board) d done are) (all_tail (λ (e : Done). is_ok e.pieces ≡ true) d done ok) in
-    let own : HandsOver s (taken d.seat) d.seat.steps (pieces_of d) × HasEnded d.seat =
-    one_ok d.pieces (λ pieces. HandsOver s (taken d.seat) d.seat.steps pieces.items × HasEnded d.seat) (λ pieces. pieces.items) (λ ps. HandsOver s (taken d.seat) d.seat.steps ps × HasEnded d.seat)
-    (ok 0 d (omega arith)) first.1 (λ pieces h. h) in
-    let late : late_draws d.seat.board.blocks d.seat.steps ≡ late_draws board.blocks d.seat.steps = ap (λ (b : BoardName). late_draws b.blocks d.seat.steps) first.0 in (
-      both s (taken d.seat) _ d.seat.steps _ (pieces_of d) _ own.0 rest.0,
-      omega (arith, own.1, late, rest.1, total_append (drew_late board.blocks) d.seat.steps (all_steps (map (λ (e : Done). e.seat) done))),
-      all_cons (λ (seat : SeatValue). seat.board ≡ board) d.seat _ first.0 rest.2,
+    let own : (d.seat.board ≡ board) × HandsOver s d.seat.steps (pieces_of d) × HasEnded d.seat =
+    one_ok d.pieces (λ pieces. (d.seat.board ≡ board) × HandsOver s d.seat.steps pieces.items × HasEnded d.seat) (λ pieces. pieces.items)
+    (λ ps. (d.seat.board ≡ board) × HandsOver s d.seat.steps ps × HasEnded d.seat)
+    (ok 0 d (omega arith)) first (λ pieces h. h) in
+    let late : late_draws d.seat.board.blocks d.seat.steps ≡ late_draws board.blocks d.seat.steps = ap (λ (b : BoardName). late_draws b.blocks d.seat.steps) own.0 in (
+      both s d.seat.steps _ (pieces_of d) _ own.1 rest.0,
+      omega (arith, own.2, late, rest.1, total_append (drew_late board.blocks) d.seat.steps (all_steps (map (λ (e : Done). e.seat) done))),
+      all_cons (λ (seat : SeatValue). seat.board ≡ board) d.seat _ own.0 rest.2,
     )
 
 -- the seats and the pieces of workers who are all done
@@ -78,19 +92,15 @@ one_parted done d seats pieces own h ok e = record {
   seats_are = rw (h.seats_are, map-append) refl;
   pieces_are = rw (flat_map-append pieces_of done (d ∷ []), h.pieces_are) (ap (λ (ps : List PieceValue). flat_map pieces_of done ++ ps) (sym (append-nil (pieces_of d) ∙ e)));
 }
-  where
-    all_snoc : (P : Done → Type 0) (xs : List Done) (x : Done) → All P xs → P x → All P (xs ++ x ∷ [])
-    all_snoc P [] x h own = all_cons P x [] own (λ i d lt. absurd (omega (arith, lt)))
-    all_snoc P (y ∷ xs) x h own = all_cons P y (xs ++ x ∷ []) (h 0 y (omega arith)) (all_snoc P xs x (all_tail P y xs h) own)
 
--- a job for each seat
-pub jobs_all : (P : SeatValue → Type 0) (jobs : List Job) (seats : List SeatValue) → map (λ (j : Job). j.seat) jobs ≡ seats → All P seats → All (λ (j : Job). P j.seat) jobs
-jobs_all P jobs seats e h = over jobs (subst (All P) (sym e) h)
+-- a job for each seat, with an empty hand
+pub jobs_fresh : {X : Type 0} (name : BoardName) (jobs : List (Job X)) (seats : List SeatValue) → map (λ (j : Job X). j.seat) jobs ≡ seats → All (λ (s : SeatValue). (s.board ≡ name) × (s.steps ≡ [])) seats
+    → All (λ (j : Job X). j.hand ≡ hand_value [] [] []) jobs → All (λ (j : Job X). (j.seat.board ≡ name) × (j.seat.steps ≡ []) × (j.hand ≡ hand_value [] [] [])) jobs
+jobs_fresh {X} name jobs seats e h empty = over jobs (subst (All (λ (s : SeatValue). (s.board ≡ name) × (s.steps ≡ []))) (sym e) h) empty
   where
-    over : (js : List Job) → All P (map (λ (j : Job). j.seat) js) → All (λ (j : Job). P j.seat) js
-    over [] h = λ i d lt. absurd (omega (arith, lt))
-    over (j ∷ js) h = all_cons (λ (k : Job). P k.seat) j js (h 0 j.seat (omega arith)) (over js (all_tail P j.seat (map (λ (k : Job). k.seat) js) h))
-
-pub jobs_fresh : (name : BoardName) (jobs : List Job) (seats : List SeatValue) → map (λ (j : Job). j.seat) jobs ≡ seats → All (λ (s : SeatValue). (s.board ≡ name) × (s.steps ≡ [])) seats
-    → All (λ (j : Job). (j.seat.board ≡ name) × (j.seat.steps ≡ [])) jobs
-jobs_fresh name jobs seats e h = jobs_all (λ (s : SeatValue). (s.board ≡ name) × (s.steps ≡ [])) jobs seats e h
+    over : (js : List (Job X)) → All (λ (s : SeatValue). (s.board ≡ name) × (s.steps ≡ [])) (map (λ (j : Job X). j.seat) js) → All (λ (j : Job X). j.hand ≡ hand_value [] [] []) js
+        → All (λ (j : Job X). (j.seat.board ≡ name) × (j.seat.steps ≡ []) × (j.hand ≡ hand_value [] [] [])) js
+    over [] h g = λ i d lt. absurd (omega (arith, lt))
+    over (j ∷ js) h g = all_cons (λ (k : Job X). (k.seat.board ≡ name) × (k.seat.steps ≡ []) × (k.hand ≡ hand_value [] [] [])) j js
+        ((h 0 j.seat (omega arith)).0, (h 0 j.seat (omega arith)).1, g 0 j (omega arith))
+        (over js (all_tail (λ (s : SeatValue). (s.board ≡ name) × (s.steps ≡ [])) j.seat (map (λ (k : Job X). k.seat) js) h) (all_tail (λ (k : Job X). k.hand ≡ hand_value [] [] []) j js g))

@@ -1,29 +1,28 @@
 -- What workers hand over, as they take blocks, and when all are back.
-use Rattle.std.proofs.Common.{ℕ, zero, suc, ◌≡◌, ◌+◌, ◌-◌, ◌*◌, ◌==◌, min, if◌then◌else◌, IfSome, ◌<◌, ◌≤◌, ⊎_elim, Bool, true, false, ◌&&◌, nat_lt, nat_le, eqb, List, [], ◌∷◌, ◌++◌, length, map, filter, Option, None, Some, slice_get, refl, sym, ◌∙◌, ap, subst, arith}
+use Rattle.std.proofs.Common.{ℕ, zero, suc, ◌≡◌, ◌+◌, ◌-◌, ◌*◌, ◌==◌, min, if◌then◌else◌, IfSome, ◌<◌, ◌≤◌, ⊎_elim, Bool, true, false, ◌&&◌, nat_lt, nat_le, eqb, List, [], ◌∷◌, ◌++◌, length, Option, None, Some, slice_get, refl, sym, ◌∙◌, ap, subst, arith}
 use Rattle.std.proofs.lemmas.Bool.Decides.{eqb_tells, leb_tells, nat_tests}
 use Rattle.std.proofs.lemmas.Grind.{flat_map-append}
-use Rattle.std.proofs.lemmas.List.{map-append}
 use Rattle.lines.specs.Line.{FailingLine}
 use Rattle.shares.specs.declared.view.SeatStep.{SeatStep}
 use Rattle.shares.specs.declared.view.SeatStep.TheVariants.{Drew, Posted, SawLeast, SawNext}
 use Rattle.shares.specs.Steps.{bit, none_posted, posted_it, found_it, posts, finds, image_or_none, shown_next, next_seen, late_draws}
-use Rattle.shares.specs.Seats.{SeatValue, DrawsNone, all_taken, all_steps, times, AreTakenOnce, FoundArePosted}
+use Rattle.shares.specs.Seats.{SeatValue, DrawsNone}
+use Rattle.shares.specs.Hands.{PostsNothing}
 use Rattle.shares.proofs.Lists.{total_append, total_snoc, greatest_snoc}
 use Rattle.workers.specs.declared.found.Found.{Found}
 use Rattle.workers.specs.declared.found.Found.TheVariants.{Lines, Passed}
-use Rattle.workers.specs.Counting.{reaches, counts_with}
-use Rattle.workers.specs.Exploring.{passes_over, ArePiecesOf}
+use Rattle.workers.specs.Counting.{reaches}
+use Rattle.workers.specs.Exploring.{passes_over}
 use Rattle.workers.specs.Failing.{Subject, image_count, lines_from, part}
 use Rattle.workers.specs.Least.{lower, least_image}
-use Rattle.workers.specs.Pieces.{PieceValue, EachPiece, ArePieces, AreFull, HasPart, passes, block_count, lines_of, full_lines, piece_of, counts}
+use Rattle.workers.specs.Pieces.{PieceValue, EachPiece, ArePieces, AreFull, HasPart, passes, block_count, lines_of, full_lines, piece_of}
 use Rattle.workers.specs.Taking.{IsSeen, HandsOver, KeepsPosts, AddsPiece}
-use Rattle.workers.proofs.Least.{least_append, least_of_push, counts_by_least}
-use Rattle.workers.proofs.Runs.{each_push, count_blocks}
+use Rattle.workers.proofs.Least.{least_append, least_of_push}
+use Rattle.workers.proofs.Runs.{each_push}
 use Rattle.workers.proofs.Sets.{Each, each_then, of_range}
 
-pub nothing_yet : (s : Subject) → HandsOver s [] [] []
+pub nothing_yet : (s : Subject) → HandsOver s [] []
 nothing_yet s = record {
-  each = refl;
   own = λ i p there. absurd (let bad : None ≡ Some p = there in cc);
   full = λ all i p there. absurd (let bad : None ≡ Some p = there in cc);
   seen = λ i p there. absurd (let bad : None ≡ Some p = there in cc);
@@ -36,9 +35,8 @@ seen_more : (before after : List SeatStep) → ((image : ℕ) → finds image be
 seen_more before after more block (Lines own) h = tt
 seen_more before after more block (Passed image) h = (h.0, omega (arith, h.1, more image))
 
-pub keeps_posts : (s : Subject) (took : List ℕ) (before after : List SeatStep) (ps : List PieceValue) → KeepsPosts before after → HandsOver s took before ps → HandsOver s took after ps
-keeps_posts s took before after ps keeps h = record {
-  each = h.each;
+pub keeps_posts : (s : Subject) (before after : List SeatStep) (ps : List PieceValue) → KeepsPosts before after → HandsOver s before ps → HandsOver s after ps
+keeps_posts s before after ps keeps h = record {
   own = h.own;
   full = h.full;
   seen = λ i p there. seen_more before after keeps.found p.block p.found (h.seen i p there);
@@ -68,20 +66,19 @@ saw_found steps found =
 
 -- one more piece
 
-reaches_left : (a b : Option ℕ) (image : ℕ) → reaches a image ≡ true → reaches (lower a b) image ≡ true
+pub reaches_left : (a b : Option ℕ) (image : ℕ) → reaches a image ≡ true → reaches (lower a b) image ≡ true
 reaches_left None b image e = absurd (let bad : false ≡ true = e in cc)
 reaches_left (Some n) None image e = e
 reaches_left (Some n) (Some m) image e = grind (arith, nat_tests, e)
 
-reaches_right : (a b : Option ℕ) (image : ℕ) → reaches b image ≡ true → reaches (lower a b) image ≡ true
+pub reaches_right : (a b : Option ℕ) (image : ℕ) → reaches b image ≡ true → reaches (lower a b) image ≡ true
 reaches_right None b image e = e
 reaches_right (Some n) None image e = absurd (let bad : false ≡ true = e in cc)
 reaches_right (Some n) (Some m) image e = grind (arith, nat_tests, e)
 
-more : (s : Subject) (took : List ℕ) (steps : List SeatStep) (ps : List PieceValue) (p : PieceValue) → HandsOver s took steps ps
-    → p.block < block_count s → HasPart s p.block p.found → (s.first ≡ false → passes p.found ≡ false) → IsSeen steps p.block p.found → HandsOver s (took ++ p.block ∷ []) steps (ps ++ p ∷ [])
-more s took steps ps p h lt part_is full seen = record {
-  each = rw (map-append, h.each) refl;
+more : (s : Subject) (steps : List SeatStep) (ps : List PieceValue) (p : PieceValue) → HandsOver s steps ps
+    → p.block < block_count s → HasPart s p.block p.found → (s.first ≡ false → passes p.found ≡ false) → IsSeen steps p.block p.found → HandsOver s steps (ps ++ p ∷ [])
+more s steps ps p h lt part_is full seen = record {
   own = each_push (λ q. (q.block < block_count s) × HasPart s q.block q.found) ps p h.own (lt, part_is);
   full = λ all. each_push (λ q. passes q.found ≡ false) ps p (h.full all) (full all);
   seen = each_push (λ q. IsSeen steps q.block q.found) ps p h.seen seen;
@@ -91,8 +88,9 @@ more s took steps ps p h lt part_is full seen = record {
 pub adds_passed : (s : Subject) (block image : ℕ) (before after : List SeatStep) → KeepsPosts before after → block < block_count s → passes_over s block image ≡ true → 0 < finds image after
     → AddsPiece s block before after (record { block = block; found = Passed image })
 adds_passed s block image before after keeps lt passed found = record {
-  adds = λ took ps h.
-      more s took after ps (record { block = block; found = Passed image }) (keeps_posts s took before after ps keeps h) lt tt
+  block_is = refl;
+  adds = λ ps h.
+      more s after ps (record { block = block; found = Passed image }) (keeps_posts s before after ps keeps h) lt tt
       (λ all. absurd (let bad : false ≡ true = sym (ap (λ b. b && nat_lt image (64 * block)) all) ∙ passed in cc)) (behind s.first (nat_lt image (64 * block)) refl passed, found);
 }
   where
@@ -101,18 +99,16 @@ adds_passed s block image before after keeps lt passed found = record {
     behind true false e h = absurd (let bad : false ≡ true = h in cc)
     behind false b e h = absurd (let bad : false ≡ true = h in cc)
 
-full_more : (s : Subject) (took : List ℕ) (block : ℕ) (steps : List SeatStep) (ps : List PieceValue) → HandsOver s took steps ps → block < block_count s
-    → HandsOver s (took ++ block ∷ []) steps (ps ++ piece_of s block ∷ [])
-full_more s took block steps ps h lt = more s took steps ps (piece_of s block) h lt refl (λ all. refl) tt
+full_more : (s : Subject) (block : ℕ) (steps : List SeatStep) (ps : List PieceValue) → HandsOver s steps ps → block < block_count s → HandsOver s steps (ps ++ piece_of s block ∷ [])
+full_more s block steps ps h lt = more s steps ps (piece_of s block) h lt refl (λ all. refl) tt
 
 pub adds_full : (s : Subject) (block : ℕ) (before after : List SeatStep) → KeepsPosts before after → block < block_count s → AddsPiece s block before after (piece_of s block)
-adds_full s block before after keeps lt = record { adds = λ took ps h. full_more s took block after ps (keeps_posts s took before after ps keeps h) lt }
+adds_full s block before after keeps lt = record { block_is = refl; adds = λ ps h. full_more s block after ps (keeps_posts s before after ps keeps h) lt }
 
 -- with its first failing image posted
-posts_own : (s : Subject) (took : List ℕ) (steps : List SeatStep) (ps : List PieceValue) (image found : ℕ) → HandsOver s took steps ps → reaches (least_image (full_lines ps)) image ≡ true
-    → HandsOver s took (steps ++ Posted image found ∷ []) ps
-posts_own s took steps ps image found h reached = record {
-  each = h.each;
+posts_own : (s : Subject) (steps : List SeatStep) (ps : List PieceValue) (image found : ℕ) → HandsOver s steps ps → reaches (least_image (full_lines ps)) image ≡ true
+    → HandsOver s (steps ++ Posted image found ∷ []) ps
+posts_own s steps ps image found h reached = record {
   own = h.own;
   full = h.full;
   seen = λ i p there. seen_more steps (steps ++ Posted image found ∷ []) (λ other. omega (arith, total_snoc (found_it other) steps (Posted image found))) p.block p.found (h.seen i p there);
@@ -125,11 +121,12 @@ posts_own s took steps ps image found h reached = record {
 pub adds_posted : (s : Subject) (block image found : ℕ) (before after : List SeatStep) → KeepsPosts before after → block < block_count s → least_image (part s block) ≡ Some image
     → AddsPiece s block before (after ++ Posted image found ∷ []) (piece_of s block)
 adds_posted s block image found before after keeps lt least_is = record {
-  adds = λ took ps h.
+  block_is = refl;
+  adds = λ ps h.
       let same : nat_le image image ≡ true = grind (arith, nat_tests) in
       let own : reaches (least_image (part s block)) image ≡ true = rw least_is same in
-      posts_own s (took ++ block ∷ []) after (ps ++ piece_of s block ∷ []) image found
-      (full_more s took block after ps (keeps_posts s took before after ps keeps h) lt)
+      posts_own s after (ps ++ piece_of s block ∷ []) image found
+      (full_more s block after ps (keeps_posts s before after ps keeps h) lt)
       (rw (← (least_of_push ps (piece_of s block))) (reaches_right (least_image (full_lines ps)) (least_image (part s block)) image own));
 }
 
@@ -140,10 +137,8 @@ each_both P [] qs h g i q there = g i q there
 each_both P (p ∷ ps) qs h g zero q there = let same : p ≡ q = (let e : Some p ≡ Some q = there in cc) in subst P same (h 0 p refl)
 each_both P (p ∷ ps) qs h g (suc i) q there = each_both P ps qs (λ j r at. h (suc j) r at) g i q there
 
-pub both : (s : Subject) (took more_took : List ℕ) (steps more_steps : List SeatStep) (ps qs : List PieceValue) → HandsOver s took steps ps → HandsOver s more_took more_steps qs
-    → HandsOver s (took ++ more_took) (steps ++ more_steps) (ps ++ qs)
-both s took more_took steps more_steps ps qs h g = record {
-  each = rw (map-append, h.each, g.each) refl;
+pub both : (s : Subject) (steps more_steps : List SeatStep) (ps qs : List PieceValue) → HandsOver s steps ps → HandsOver s more_steps qs → HandsOver s (steps ++ more_steps) (ps ++ qs)
+both s steps more_steps ps qs h g = record {
   own = each_both (λ p. (p.block < block_count s) × HasPart s p.block p.found) ps qs h.own g.own;
   full = λ all. each_both (λ p. passes p.found ≡ false) ps qs (h.full all) (g.full all);
   seen = each_both (λ p. IsSeen (steps ++ more_steps) p.block p.found) ps qs
@@ -159,25 +154,6 @@ both s took more_took steps more_steps ps qs h g = record {
     lines_both : full_lines (ps ++ qs) ≡ full_lines ps ++ full_lines qs
     lines_both = flat_map-append (λ (p : PieceValue). lines_of p.found) ps qs
 
--- when all are back
-
-pub whole_run : (s : Subject) (seats : List SeatValue) (ps : List PieceValue) → block_count s ≤ 262144 → HandsOver s (all_taken seats) (all_steps seats) ps → AreTakenOnce (block_count s) seats
-    → FoundArePosted (all_steps seats) → ArePiecesOf s ps
-whole_run s seats ps few h taken_once found_posted = record {
-  once = λ b lt. count_blocks ps b ∙ ap (λ (bs : List ℕ). length (filter (λ (n : ℕ). n == b) bs)) h.each ∙ taken_once.once b lt;
-  own = h.own;
-  counted = λ i p there. by_found p.block p.found (h.own i p there).0 (h.seen i p there);
-  full = h.full;
-}
-  where
-    by_found : (block : ℕ) (found : Found) → block < block_count s → IsSeen (all_steps seats) block found → counts (full_lines ps) block found ≡ true
-    by_found block (Lines own) lt seen = refl
-    by_found block (Passed image) lt seen =
-        let before : nat_lt image (64 * block) ≡ true = grind (arith, nat_tests, seen.0) in
-        let posted : 0 < posts image (all_steps seats) = found_posted.each image (omega (arith, seen.0, lt, few)) seen.1 in
-        let reached : counts_with (least_image (full_lines ps)) block (Passed image) ≡ true = rw (before, h.posted image posted) refl in
-        sym (counts_by_least (full_lines ps) block (Passed image)) ∙ reached
-
 -- what a worker's steps do to what it hands over
 
 pub seen_later : (made : SeatStep) (before after : List SeatStep) → after ≡ before ++ made ∷ [] → next_seen before ≤ next_seen after
@@ -188,6 +164,12 @@ drew_seen found before after e = let same = ap next_seen e in omega (arith, grea
 
 pub drew_keeps : (found : ℕ) (before after : List SeatStep) → after ≡ before ++ Drew found ∷ [] → KeepsPosts before after
 drew_keeps found before after e = subst (KeepsPosts before) (sym e) (drew_quiet before found)
+
+pub nothing_keeps : (before after : List SeatStep) → PostsNothing before after → KeepsPosts before after
+nothing_keeps before after h = record {
+  posted = λ image. rw h.steps (omega (arith, total_append (posted_it image) before h.made, h.silent image));
+  found = λ image. rw h.steps (omega (arith, total_append (found_it image) before h.made));
+}
 
 pub saw_keeps : (found : ℕ) (before after : List SeatStep) → after ≡ before ++ SawLeast found ∷ [] → KeepsPosts before after
 saw_keeps found before after e = subst (KeepsPosts before) (sym e) (saw_quiet before found)

@@ -6,6 +6,8 @@ pub mod SomeLines
 pub mod Runs
 pub mod Collected
 pub mod HandingOver
+pub mod Takes
+pub mod Settled
 pub mod Back
 pub mod Safe
 pub mod Crossing

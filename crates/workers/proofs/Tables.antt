@@ -105,12 +105,12 @@ twice_first ps p blocks (Some t) h none =
 
 -- a row that is set, and the others
 
-set_here : {X : Type 0} (xs : List X) (n : ℕ) (y : X) → n < length xs → slice_get (slice_set xs n y) n ≡ Some y
+pub set_here : {X : Type 0} (xs : List X) (n : ℕ) (y : X) → n < length xs → slice_get (slice_set xs n y) n ≡ Some y
 set_here [] n y h = absurd (omega (arith, h))
 set_here (x ∷ xs) zero y h = refl
 set_here (x ∷ xs) (suc n) y h = set_here xs n y (omega (arith, h))
 
-set_there : {X : Type 0} (xs : List X) (n b : ℕ) (y : X) → n ≢ b → slice_get (slice_set xs n y) b ≡ slice_get xs b
+pub set_there : {X : Type 0} (xs : List X) (n b : ℕ) (y : X) → n ≢ b → slice_get (slice_set xs n y) b ≡ slice_get xs b
 set_there [] zero b y h = refl
 set_there [] (suc n) b y h = refl
 set_there (x ∷ xs) zero zero y h = absurd (h refl)
@@ -118,13 +118,13 @@ set_there (x ∷ xs) zero (suc b) y h = refl
 set_there (x ∷ xs) (suc n) zero y h = refl
 set_there (x ∷ xs) (suc n) (suc b) y h = set_there xs n b y (λ e. h (ap suc e))
 
-length_set : {X : Type 0} (xs : List X) (n : ℕ) (y : X) → length (slice_set xs n y) ≡ length xs
+pub length_set : {X : Type 0} (xs : List X) (n : ℕ) (y : X) → length (slice_set xs n y) ≡ length xs
 length_set [] zero y = refl
 length_set [] (suc n) y = refl
 length_set (x ∷ xs) zero y = refl
 length_set (x ∷ xs) (suc n) y = ap suc (length_set xs n y)
 
-same_row : (rows : List Row) (b : ℕ) (x y : Row) → slice_get rows b ≡ Some x → slice_get rows b ≡ Some y → x ≡ y
+pub same_row : (rows : List Row) (b : ℕ) (x y : Row) → slice_get rows b ≡ Some x → slice_get rows b ≡ Some y → x ≡ y
 same_row rows b x y h g = let e : Some x ≡ Some y = sym h ∙ g in cc
 
 -- a piece of a block that has one
@@ -187,7 +187,7 @@ put_new ps p blocks rows twice least (Some q) h at found = absurd (let bad : tru
 
 -- before the first piece
 
-element_of_blank : (n b : ℕ) (row : Row) → slice_get (replicate n None) b ≡ Some row → row ≡ None
+pub element_of_blank : (n b : ℕ) (row : Row) → slice_get (replicate n None) b ≡ Some row → row ≡ None
 element_of_blank zero b row h = absurd (let bad : None ≡ Some row = h in cc)
 element_of_blank (suc n) zero row h = let e : Some None ≡ Some row = h in cc
 element_of_blank (suc n) (suc b) row h = element_of_blank n b row h

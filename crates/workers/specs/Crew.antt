@@ -1,15 +1,15 @@
 -- What the workers of a run come back with.
 use Rattle.std.specs.Prelude.{ℕ, ◌≡◌, ◌<◌, ◌≤◌, true, List, [], map, length, flat_map, All, Result, Ok, Err, IfOk, is_ok}
 use Rattle.shares.specs.Steps.{late_draws}
-use Rattle.shares.specs.Seats.{BoardName, BoardValue, SeatValue, HasEnded, taken, all_taken, all_steps}
+use Rattle.shares.specs.Seats.{BoardName, BoardValue, SeatValue, HasEnded, all_steps}
 use Rattle.workers.specs.declared.crew.Done.{Done}
 use Rattle.workers.specs.Failing.{Subject}
 use Rattle.workers.specs.Pieces.{PieceValue, block_count}
 use Rattle.workers.specs.Taking.{HandsOver}
 
--- a worker is back from that board; where it found memory, it has the pieces of what it took, and found no block left
+-- a worker that found memory is back from that board with its pieces, and found no block left
 abbrev pub IsDone : Subject → BoardName → Done → Type 0
-IsDone s board d = (d.seat.board ≡ board) × IfOk d.pieces (λ pieces. HandsOver s (taken d.seat) d.seat.steps pieces.items × HasEnded d.seat)
+IsDone s board d = IfOk d.pieces (λ pieces. (d.seat.board ≡ board) × HandsOver s d.seat.steps pieces.items × HasEnded d.seat)
 
 abbrev pub items_or_none : {V E : Type 0} → Result V E → (V → List PieceValue) → List PieceValue
 items_or_none (Ok pieces) items = items pieces
@@ -24,11 +24,11 @@ pub record AreParted (done : List Done) (seats : List SeatValue) (pieces : List 
   pub seats_are : seats ≡ map (λ (d : Done). d.seat) done
   pub pieces_are : pieces ≡ flat_map pieces_of done
 
--- all workers of a run are back, with the pieces of all that they took
+-- all workers of a run are back, with their pieces
 pub record AreBack (s : Subject) (board : BoardValue) (seats : List SeatValue) (pieces : List PieceValue) : Type 0 where
   pub own : All (λ (seat : SeatValue). seat.board ≡ board.name) seats
   pub all : board.seats ≤ length seats
   pub blocks : board.name.blocks ≡ block_count s
   pub few : block_count s ≤ 262144
-  pub pieces_are : HandsOver s (all_taken seats) (all_steps seats) pieces
+  pub pieces_are : HandsOver s (all_steps seats) pieces
   pub ended : 0 < late_draws board.name.blocks (all_steps seats)

@@ -7,6 +7,7 @@ pub mod Counting
 pub mod Table
 pub mod Exploring
 pub mod Taking
+pub mod Settling
 pub mod Crew
 pub mod Laws
 pub mod Safe

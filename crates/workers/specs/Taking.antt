@@ -1,23 +1,23 @@
 -- What workers hand over of the blocks that they took.
-use Rattle.std.specs.Prelude.{ℕ, ◌≡◌, ◌*◌, ◌<◌, ◌≤◌, ◌++◌, false, true, List, [], ◌∷◌, map}
+use Rattle.std.specs.Prelude.{ℕ, ◌≡◌, ◌+◌, ◌*◌, ◌<◌, ◌≤◌, ◌++◌, false, true, List, [], ◌∷◌}
 use Rattle.shares.specs.declared.view.SeatStep.{SeatStep}
 use Rattle.shares.specs.Steps.{posts, finds}
+use Rattle.shares.specs.Seats.{BoardName, SeatValue, taken, times}
+use Rattle.shares.specs.Hands.{HandValue}
 use Rattle.workers.specs.declared.found.Found.{Found}
 use Rattle.workers.specs.declared.found.Found.TheVariants.{Lines, Passed}
 use Rattle.workers.specs.Counting.{reaches}
 use Rattle.workers.specs.Failing.{Subject}
 use Rattle.workers.specs.Least.{least_image}
-use Rattle.workers.specs.Pieces.{PieceValue, EachPiece, ArePieces, AreFull, full_lines}
+use Rattle.workers.specs.Pieces.{PieceValue, EachPiece, ArePieces, AreFull, full_lines, pieces_at}
 
 -- a block was passed over only after an image before all of it that was found as the least one posted
 abbrev pub IsSeen : List SeatStep → ℕ → Found → Type 0
 IsSeen steps block (Lines own) = Unit {0}
 IsSeen steps block (Passed image) = (image < 64 * block) × (0 < finds image steps)
 
--- pieces of a run that workers hand over who took those blocks and made those steps: one for each block that
--- they took. Of what they posted each image fails in a full piece, or one before it does.
-pub record HandsOver (s : Subject) (took : List ℕ) (steps : List SeatStep) (pieces : List PieceValue) : Type 0 where
-  pub each : map (λ (p : PieceValue). p.block) pieces ≡ took
+-- pieces of a run that workers hand over who made those steps. Of what they posted each image fails in a full piece, or one before it does.
+pub record HandsOver (s : Subject) (steps : List SeatStep) (pieces : List PieceValue) : Type 0 where
   pub own : ArePieces s pieces
   pub full : s.first ≡ false → AreFull pieces
   pub seen : EachPiece (λ p. IsSeen steps p.block p.found) pieces
@@ -30,4 +30,12 @@ pub record KeepsPosts (before after : List SeatStep) : Type 0 where
 
 -- with later steps, the piece of one more block is handed over
 pub record AddsPiece (s : Subject) (block : ℕ) (before after : List SeatStep) (p : PieceValue) : Type 0 where
-  pub adds : (took : List ℕ) (pieces : List PieceValue) → HandsOver s took before pieces → HandsOver s (took ++ block ∷ []) after (pieces ++ p ∷ [])
+  pub block_is : p.block ≡ block
+  pub adds : (pieces : List PieceValue) → HandsOver s before pieces → HandsOver s after (pieces ++ p ∷ [])
+
+-- what a worker has with its seat and its hand. The blocks of its pieces, those that it is about to judge, those that it pushed and
+-- those in its list are together, each as often, those that it drew and those that it popped or stole.
+pub record HasTaken (s : Subject) (board : BoardName) (seat : SeatValue) (hand : HandValue) (judging : List ℕ) (pieces : List PieceValue) : Type 0 where
+  pub board_is : seat.board ≡ board
+  pub handed : HandsOver s seat.steps pieces
+  pub together : (x : ℕ) → pieces_at pieces x + times x judging + times x hand.pushed + times x hand.list ≡ times x (taken seat) + times x hand.got

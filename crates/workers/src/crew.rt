@@ -1,6 +1,7 @@
 //! The workers of a run, each on a thread of its own.
 
 ghost use Rattle.std.specs.Prelude.{◌≡◌, ◌<◌, ◌≤◌, [], All, length, map, flat_map, IfOk};
+ghost use Rattle.shares.specs.Hands.{hand_value};
 ghost use Rattle.shares.specs.Seats.{BoardName, SeatValue};
 ghost use Rattle.workers.specs.Input.{IsRunOf};
 ghost use Rattle.workers.specs.Pieces.{block_count};
@@ -10,18 +11,19 @@ use crate::gate::Gate;
 use crate::input::Input;
 use crate::piece::Piece;
 use crate::taking::pieces_taken;
-use shares::{Board, Seat};
+use shares::{Board, Deal, Hand, Seat, hands};
 use std::alloc::{AllocError, Global};
 use std::sync::{Mutex, Wait};
 use std::thread;
 use std::thread::Threads;
 use verdict_cache::{Run, Shard};
 
-/// What a worker begins with: its number, and its seat at the board.
+/// What a worker begins with: its number, its seat at the board, and its hand.
 #[derive(Drop)]
-pub(crate) struct Job {
+pub(crate) struct Job<H: Deal> {
     worker: u8,
     seat: Seat,
+    hand: Hand<H>,
 }
 
 /// What a worker comes back with: its seat in any case, and the pieces of the blocks that it took.
@@ -31,22 +33,31 @@ pub(crate) struct Done {
     pieces: Result<Vec<Piece>, AllocError>,
 }
 
-/// A job for each seat. The last is that of worker 0, since the last one runs on the thread of the
-/// caller.
-fn jobs_of(alloc: Global, seats: Vec<Seat>) -> Result<Vec<Job>, AllocError>
-    requires { length seats.items ≤ 64 }
-    ensures { IfOk result (λ jobs. map (λ j. j.seat) jobs.items ≡ seats.items) }
+/// A job for each seat, with a hand. The last is that of worker 0, since the last one runs on the thread
+/// of the caller. Each worker has the hand of its number.
+fn jobs_of<H: Deal>(
+    alloc: Global,
+    seats: Vec<Seat>,
+    hands: Vec<Hand<H>>,
+) -> Result<Vec<Job<H>>, AllocError>
+    requires seats { length seats.items ≤ 64 }
+    requires hands { length hands.items ≡ length seats.items }
+    requires empty { All (λ h. h ≡ hand_value [] [] []) hands.items }
+    ensures seats { IfOk result (λ jobs. map (λ j. j.seat) jobs.items ≡ seats.items) }
+    ensures empty { IfOk result (λ jobs. All (λ j. j.hand ≡ hand_value [] [] []) jobs.items) }
 {
     let mut worker = seats.len() as u8;
+    let mut hands = hands;
     let mut jobs = Vec::new(alloc);
     for seat in seats {
         worker = worker.saturating_sub(1);
-        jobs.push(Job { worker, seat })?;
+        let hand = hands.pop().unwrap();
+        jobs.push(Job { worker, seat, hand })?;
     }
     Ok(jobs)
 }
 
-impl Job {
+impl<H: Deal> Job<H> {
     /// Takes blocks until there is none left.
     fn done<'a, J: Run, G: Gate, R: Wait>(
         self,
@@ -59,38 +70,52 @@ impl Job {
     ) -> Done
         requires run { IsRunOf J.plan J.checkers input.now }
         requires shards { length shards.now ≡ 16 }
-        requires board { (self.seat.board ≡ board.now.name) × (board.now.name.blocks ≡ block_count input.now) }
-        requires fresh { self.seat.steps ≡ [] }
+        requires board { self.seat.board ≡ board.now.name }
+        requires blocks { (board.now.name.blocks ≡ block_count input.now) × (H.blocks ≡ block_count input.now) }
+        requires fresh { (self.seat.steps ≡ []) × (self.hand ≡ hand_value [] [] []) }
         ensures { IsDone input.now board.now.name result }
     {
-        let Job { worker, mut seat } = self;
-        let pieces = pieces_taken(rt, alloc, gate, input, shards, board, worker, &mut seat);
+        let Job {
+            worker,
+            mut seat,
+            mut hand,
+        } = self;
+        let pieces = pieces_taken(
+            rt, alloc, gate, input, shards, board, worker, &mut seat, &mut hand,
+        );
         Done { seat, pieces }
     }
 }
 
 /// What the workers come back with. Each job has a thread, the last one that of the caller.
-fn all_done<'a, J: Run + Send + Sync, G: Gate + Sync, R: Threads + Wait + Sync>(
+fn all_done<
+    'a,
+    J: Run + Send + Sync,
+    H: Deal + Send + Sync,
+    G: Gate + Sync,
+    R: Threads + Wait + Sync,
+>(
     rt: &R,
     alloc: Global,
     gate: &G,
     input: &Input<'a>,
     shards: &[Mutex<Shard<'a, J>>],
     board: &Board,
-    jobs: Vec<Job>,
+    jobs: Vec<Job<H>>,
 ) -> Result<Vec<Done>, AllocError>
     requires run { IsRunOf J.plan J.checkers input.now }
     requires shards { length shards.now ≡ 16 }
-    requires blocks { board.now.name.blocks ≡ block_count input.now }
-    requires seats { All (λ j. (j.seat.board ≡ board.now.name) × (j.seat.steps ≡ [])) jobs.items }
+    requires blocks { (board.now.name.blocks ≡ block_count input.now) × (H.blocks ≡ block_count input.now) }
+    requires fresh { All (λ j. (j.seat.board ≡ board.now.name) × (j.seat.steps ≡ []) × (j.hand ≡ hand_value [] [] [])) jobs.items }
     ensures count { IfOk result (λ done. length done.items ≡ length jobs.items) }
     ensures each { IfOk result (λ done. All (IsDone input.now board.now.name) done.items) }
 {
     thread::map_vec(
         rt,
         jobs,
-        &|job: Job| -> Done
-            requires { IsRunOf J.plan J.checkers input.now × (length shards.now ≡ 16) × (job.seat.board ≡ board.now.name) × (board.now.name.blocks ≡ block_count input.now) × (job.seat.steps ≡ []) }
+        &|job: Job<H>| -> Done
+            requires { IsRunOf J.plan J.checkers input.now × (length shards.now ≡ 16) × (board.now.name.blocks ≡ block_count input.now) × (H.blocks ≡ block_count input.now)
+                × (job.seat.board ≡ board.now.name) × (job.seat.steps ≡ []) × (job.hand ≡ hand_value [] [] []) }
             ensures { IsDone input.entry.now board.entry.now.name result }
         { job.done(rt, alloc, gate, input, shards, board) },
     )
@@ -128,7 +153,13 @@ fn parted(alloc: Global, done: Vec<Done>) -> Result<(Vec<Seat>, Vec<Piece>), All
 /// # Errors
 ///
 /// Memory was refused, here or to a worker.
-pub(crate) fn crew_back<'a, J: Run + Send + Sync, G: Gate + Sync, R: Threads + Wait + Sync>(
+pub(crate) fn crew_back<
+    'a,
+    J: Run + Send + Sync,
+    H: Deal + Send + Sync,
+    G: Gate + Sync,
+    R: Threads + Wait + Sync,
+>(
     rt: &R,
     alloc: Global,
     gate: &G,
@@ -137,10 +168,12 @@ pub(crate) fn crew_back<'a, J: Run + Send + Sync, G: Gate + Sync, R: Threads + W
 ) -> Result<Back, AllocError>
     requires run { IsRunOf J.plan J.checkers input.now }
     requires shards { length shards.now ≡ 16 }
+    requires blocks { H.blocks ≡ block_count input.now }
     ensures { IfOk result (λ back. AreBack input.now back.board back.seats.items back.pieces.items) }
 {
-    let (board, seats) = Board::new(alloc, input.block_count(), input.crew())?;
-    let jobs = jobs_of(alloc, seats)?;
+    let crew = input.crew();
+    let (board, seats) = Board::new(alloc, input.block_count(), crew)?;
+    let jobs = jobs_of(alloc, seats, hands::<H>(alloc, crew)?)?;
     let done = all_done(rt, alloc, gate, input, shards, &board, jobs)?;
     let (seats, pieces) = parted(alloc, done)?;
     Ok(Back {

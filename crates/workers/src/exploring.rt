@@ -15,6 +15,7 @@ use crate::crew::{Back, crew_back};
 use crate::gate::Gate;
 use crate::input::Input;
 use crate::piece::Piece;
+use crate::settling::settled;
 use base::refusal::Refusal;
 use lines::Lines;
 use std::alloc::Global;
@@ -32,7 +33,7 @@ pub struct Work {
     pub hits: u64,
 }
 
-/// The pieces of all blocks.
+/// The pieces of all blocks, one of each.
 fn all_pieces<'a, J: Run + Send + Sync, G: Gate + Sync, R: Threads + Wait + Sync>(
     rt: &R,
     alloc: Global,
@@ -45,7 +46,7 @@ fn all_pieces<'a, J: Run + Send + Sync, G: Gate + Sync, R: Threads + Wait + Sync
     ensures pieces { IfOk result (λ pieces. ArePiecesOf input.now pieces.items) }
     ensures refused { IfErr result (λ r. r ≡ memory_refusal) }
 {
-    let back = match crew_back(rt, alloc, gate, input, shards) {
+    let back = match crew_back::<J, Brand, G, R>(rt, alloc, gate, input, shards) {
         Ok(back) => back,
         Err(_error) => return Err(Refusal::of_memory()),
     };
@@ -54,9 +55,12 @@ fn all_pieces<'a, J: Run + Send + Sync, G: Gate + Sync, R: Threads + Wait + Sync
         seats,
         pieces,
     } = back;
-    match board.gather(seats) {
-        Ok(_least) => Ok(pieces),
-        Err(refusal) => Err(refusal),
+    if let Err(refusal) = board.gather(seats) {
+        return Err(refusal);
+    }
+    match settled(rt, alloc, gate, input, shards, pieces) {
+        Ok(settled) => Ok(settled),
+        Err(_error) => Err(Refusal::of_memory()),
     }
 }
 

@@ -13,8 +13,8 @@
 //! | `explore_all(rt, alloc, gate, input)` | the work as a whole: the failing lines, in order |
 //! | `Gate` | is told how many images there are, and of each block before and after it is taken |
 //!
-//! Workers share the board of `shares`, from which each takes blocks until there is none left, and the
-//! shards of `verdict_cache`. The caller is worker 0, each other one has a thread of its own where one can
+//! Workers share the board of `shares`, from which each takes blocks by its hand until there is none left,
+//! and the shards of `verdict_cache`. The caller is worker 0, each other one has a thread of its own where one can
 //! be made. Before a checker is run, the shard of the image's key is asked for what it ends in; where it
 //! has nothing, the checker is run and the outcome put there. An image without a key is judged without
 //! the cache, and without a cache no key is made.
@@ -48,22 +48,26 @@
 //!   (`collection_begins_with_first`).
 //! - `explore_all` gives all failing lines, or with `first` all those of the first failing image and
 //!   some of the others, for every number of workers and every size of the cache. It is refused for want
-//!   of memory alone: no block is lost or judged twice, however the workers run.
+//!   of memory alone: no block is lost or counted twice, however the workers run.
 //!
-//! The last rests on what a worker hands over (`HandsOver` in `specs/Taking.antt`): one piece for each block
-//! that it took, in that order; an image in a passed piece was found posted; and of what it posted each
-//! image fails in one of its full pieces. Two workers together hand over what both took (`both` in
-//! `proofs/HandingOver.antt`). When all are back, `gather` of `shares` says that each block was taken once and
-//! that what was found was posted, so each block has one piece, and it counts. These clauses speak of the
-//! blocks that a worker took, and not of where it took them from.
+//! The last rests on what a worker hands over (`HandsOver` in `specs/Taking.antt`): pieces of the run; an
+//! image in a passed piece was found posted; and of what it posted each image fails in one of its full
+//! pieces. Two workers together hand over what both have (`both` in `proofs/HandingOver.antt`). When all are
+//! back, `settled` keeps one piece of each block, a full one where there is one, and judges a block that
+//! has none (`AreSettled` in `specs/Settling.antt`); and `gather` of `shares` says that what was found was
+//! posted. So each block has one piece, and it counts. No law of the deques is used for that. In fact
+//! nothing is left to judge and no piece comes twice, which is tested.
 //!
-//! Only tests show that more than one thread works, and that the cache is asked.
+//! Of one worker `HasTaken` says what it took: the blocks of its pieces, with those that it pushed and those
+//! in its list, are together those that it drew, popped or stole.
+//!
+//! Only tests show that more than one thread works, that workers steal, and that the cache is asked.
 //!
 //! # How it is written
 //!
 //! `judging` finds the first choice of a block by its number, and then goes on from choice to choice.
 //! `block_lines` keeps the least image beside the lines of a block. `taking` is one worker, and `crew` sends
-//! them out and waits for them. `collecting` puts the pieces into a table with a row for each block, and notes
+//! them out and waits for them; `settling` makes of their pieces one of each block. `collecting` puts the pieces into a table with a row for each block, and notes
 //! the lowest block that comes twice and the least failing image. `exploring` puts all together; there a
 //! run gets its name, a type parameter that only contracts read, so that its shards are its own.
 #![tactic(auto)]
@@ -78,6 +82,7 @@ mod input;
 mod judging;
 mod laws;
 mod piece;
+mod settling;
 mod taking;
 
 pub use collecting::collect;

@@ -1,20 +1,21 @@
 //! A worker: it takes blocks, and hands over a piece of each.
 
-ghost use Rattle.std.specs.Prelude.{◌≡◌, ◌≤◌, ◌<◌, [], length, true, IfOk, IfSome, IfNone};
+ghost use Rattle.std.specs.Prelude.{◌≡◌, ◌≤◌, ◌<◌, [], length, true, IfOk, OnOk, IfSome};
 ghost use Rattle.shares.specs.Steps.{next_seen, finds};
+ghost use Rattle.shares.specs.Hands.{HandValue, hand_value};
 ghost use Rattle.shares.specs.Seats.{HasEnded, taken};
 ghost use Rattle.workers.specs.Exploring.{passes_over};
 ghost use Rattle.workers.specs.Input.{IsRunOf};
 ghost use Rattle.workers.specs.Least.{least_image};
 ghost use Rattle.workers.specs.Pieces.{block_count, lines_of, piece_of};
-ghost use Rattle.workers.specs.Taking.{KeepsPosts, HandsOver, AddsPiece};
+ghost use Rattle.workers.specs.Taking.{KeepsPosts, AddsPiece, HasTaken};
 
 use crate::gate::Gate;
 use crate::input::Input;
 use crate::judging::judge_taken;
 use crate::piece::Piece;
 use images::Changes;
-use shares::{Board, Seat};
+use shares::{Board, Deal, Hand, Seat};
 use std::alloc::{AllocError, Global};
 use std::sync::{Mutex, Wait};
 use verdict_cache::{Run, Shard};
@@ -85,9 +86,104 @@ fn piece_taken<'a, J: Run, R: Wait>(
     Ok(piece)
 }
 
-/// The pieces of the blocks that a worker takes, until there is none left. The gate is told before and
-/// after each.
-pub(crate) fn pieces_taken<'a, J: Run, G: Gate, R: Wait>(
+/// The piece of a block that a worker took. The gate is told before and after.
+fn piece_through<'a, J: Run, G: Gate, R: Wait>(
+    rt: &R,
+    alloc: Global,
+    gate: &G,
+    input: &Input<'a>,
+    shards: &[Mutex<Shard<'a, J>>],
+    changes: &mut Changes<'a>,
+    board: &Board,
+    worker: u8,
+    seat: &mut Seat,
+    block: u32,
+) -> Result<Piece, AllocError>
+    requires run { IsRunOf J.plan J.checkers input.now }
+    requires shards { length shards.now ≡ 16 }
+    requires board { seat.old.board ≡ board.now.name }
+    requires changes { changes.old ≡ input.now.plan.log }
+    requires block { block < block_count input.now }
+    ensures changes { changes.new ≡ changes.old }
+    ensures board { seat.new.board ≡ seat.old.board }
+    ensures taken { taken seat.new ≡ taken seat.old }
+    ensures seen { next_seen seat.old.steps ≤ next_seen seat.new.steps }
+    ensures added { IfOk result (AddsPiece input.now block seat.old.steps seat.new.steps) }
+{
+    gate.before(worker, block);
+    let piece = piece_taken(rt, alloc, input, shards, changes, board, seat, block)?;
+    gate.after(worker, block);
+    Ok(piece)
+}
+
+/// Takes blocks by a worker's hand until it finds none, but no more than there are, and adds a piece of each.
+fn take_blocks<'a, J: Run, H: Deal, G: Gate, R: Wait>(
+    rt: &R,
+    alloc: Global,
+    gate: &G,
+    input: &Input<'a>,
+    shards: &[Mutex<Shard<'a, J>>],
+    changes: &mut Changes<'a>,
+    board: &Board,
+    worker: u8,
+    seat: &mut Seat,
+    hand: &mut Hand<H>,
+    pieces: &mut Vec<Piece>,
+) -> Result<(), AllocError>
+    requires run { IsRunOf J.plan J.checkers input.now }
+    requires shards { length shards.now ≡ 16 }
+    requires blocks { (board.now.name.blocks ≡ block_count input.now) × (H.blocks ≡ block_count input.now) }
+    requires changes { changes.old ≡ input.now.plan.log }
+    requires taken { HasTaken input.now board.now.name seat.old hand.old [] pieces.old.items }
+    ensures changes { changes.new ≡ changes.old }
+    ensures taken { OnOk result (HasTaken input.now board.now.name seat.new hand.new [] pieces.new.items) }
+{
+    for _turn in 0..input.block_count() {
+        let Some(block) = hand.take(board, seat) else {
+            return Ok(());
+        };
+        let piece = piece_through(
+            rt, alloc, gate, input, shards, changes, board, worker, seat, block,
+        )?;
+        pieces.push(piece)?;
+    }
+    Ok(())
+}
+
+/// Draws blocks from the board until there is none left, and adds a piece of each.
+fn draw_blocks<'a, J: Run, G: Gate, R: Wait>(
+    rt: &R,
+    alloc: Global,
+    gate: &G,
+    input: &Input<'a>,
+    shards: &[Mutex<Shard<'a, J>>],
+    changes: &mut Changes<'a>,
+    board: &Board,
+    worker: u8,
+    seat: &mut Seat,
+    pieces: &mut Vec<Piece>,
+) -> Result<(), AllocError>
+    requires run { IsRunOf J.plan J.checkers input.now }
+    requires shards { length shards.now ≡ 16 }
+    requires blocks { board.now.name.blocks ≡ block_count input.now }
+    requires board { seat.old.board ≡ board.now.name }
+    requires changes { changes.old ≡ input.now.plan.log }
+    ensures taken { OnOk result ((hand : HandValue) → HasTaken input.now board.now.name seat.old hand [] pieces.old.items
+        → HasTaken input.now board.now.name seat.new hand [] pieces.new.items) }
+    ensures ended { OnOk result (HasEnded seat.new) }
+{
+    while let Some(block) = board.draw(seat) {
+        let piece = piece_through(
+            rt, alloc, gate, input, shards, changes, board, worker, seat, block,
+        )?;
+        pieces.push(piece)?;
+    }
+    Ok(())
+}
+
+/// The pieces of the blocks that a worker takes. It takes them by its hand, until the hand finds none. A
+/// hand that gave as many blocks as there are is asked no more: what is left to draw is then drawn alone.
+pub(crate) fn pieces_taken<'a, J: Run, H: Deal, G: Gate, R: Wait>(
     rt: &R,
     alloc: Global,
     gate: &G,
@@ -96,22 +192,42 @@ pub(crate) fn pieces_taken<'a, J: Run, G: Gate, R: Wait>(
     board: &Board,
     worker: u8,
     seat: &mut Seat,
+    hand: &mut Hand<H>,
 ) -> Result<Vec<Piece>, AllocError>
     requires run { IsRunOf J.plan J.checkers input.now }
     requires shards { length shards.now ≡ 16 }
-    requires board { (seat.old.board ≡ board.now.name) × (board.now.name.blocks ≡ block_count input.now) }
-    requires fresh { seat.old.steps ≡ [] }
-    ensures board { seat.new.board ≡ seat.old.board }
-    ensures pieces { IfOk result (λ pieces. HandsOver input.now (taken seat.new) seat.new.steps pieces.items) }
+    requires board { seat.old.board ≡ board.now.name }
+    requires blocks { (board.now.name.blocks ≡ block_count input.now) × (H.blocks ≡ block_count input.now) }
+    requires fresh { (seat.old.steps ≡ []) × (hand.old ≡ hand_value [] [] []) }
+    ensures pieces { IfOk result (λ pieces. HasTaken input.now board.now.name seat.new hand.new [] pieces.items) }
     ensures ended { IfOk result (λ _. HasEnded seat.new) }
 {
     let mut changes = Changes::new(alloc, input.history());
     let mut pieces = Vec::new(alloc);
-    while let Some(block) = board.draw(seat) {
-        gate.before(worker, block);
-        let piece = piece_taken(rt, alloc, input, shards, &mut changes, board, seat, block)?;
-        gate.after(worker, block);
-        pieces.push(piece)?;
-    }
+    take_blocks(
+        rt,
+        alloc,
+        gate,
+        input,
+        shards,
+        &mut changes,
+        board,
+        worker,
+        seat,
+        hand,
+        &mut pieces,
+    )?;
+    draw_blocks(
+        rt,
+        alloc,
+        gate,
+        input,
+        shards,
+        &mut changes,
+        board,
+        worker,
+        seat,
+        &mut pieces,
+    )?;
     Ok(pieces)
 }

@@ -1,0 +1,6 @@
+use Rattle.std.proofs.Common.{◌≡◌, []}
+use Rattle.workers.specs.Taking.{HasTaken}
+use Rattle.workers.proofs.taking.take_blocks.Given as goal
+
+abbrev pub invariant-loop-turn : goal.invariant-loop-turn
+invariant-loop-turn g l = HasTaken l.input l.board.name l.seat l.hand [] l.pieces.items × (l.changes ≡ l.input.plan.log)
