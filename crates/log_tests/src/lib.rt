@@ -25,8 +25,6 @@ mod replay_tests;
 #[cfg(test)]
 mod shares_tests;
 #[cfg(test)]
-mod stealing_tests;
-#[cfg(test)]
 mod verdict_cache_tests;
 #[cfg(test)]
 mod verified_tests;
