@@ -25,6 +25,8 @@ mod replay_tests;
 #[cfg(test)]
 mod shares_tests;
 #[cfg(test)]
+mod stealing_tests;
+#[cfg(test)]
 mod verdict_cache_tests;
 #[cfg(test)]
 mod verified_tests;
