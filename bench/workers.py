@@ -11,6 +11,8 @@ part of the gate.
     tears     some 4,000,000 images of one cut, two sectors lost or torn, and the same checker: images a second. The log
               has as many sectors as it takes, so that an older program, for which a sector is torn in fewer ways, makes as
               many images
+    uneven    65,536 images in 1,024 blocks, each sixteenth of which takes 100,000 steps an image and each other 1,000, by
+              1 and 4 workers
     cache     18,001 images, equal but for their choice, and a checker of 20,003 steps: with no cache and one of 65,536
 """
 import os
@@ -24,26 +26,47 @@ sys.dont_write_bytecode = True
 TOP = Path(__file__).resolve().parent.parent
 sys.path.insert(0, str(TOP / "tests"))
 
-from notation import W, log  # noqa: E402
+from notation import F, W, log  # noqa: E402
 
 ROUNDS = 3
 FIVE_STEPS = "mov64 r1, 0\nmov64 r2, 0\nmov64 r3, 0\nmov64 r0, 0\nexit\n"
+# The images of a block have epochs that differ in their low six bits.
+UNEVEN_STEPS = """ldxdw r6, [r1+8]
+rsh64 r6, 6
+and64 r6, 15
+jeq r6, 0, +5
+mov64 r1, 250
+call 3
+jeq r0, 0, +1
+ja -4
+ja +4
+mov64 r1, 25000
+call 3
+jeq r0, 0, +1
+ja -4
+mov64 r0, 0
+exit
+"""
 MANY_STEPS = "mov64 r1, 5000\ncall 3\njeq r0, 0, +1\nja -4\nmov64 r0, 0\nexit\n"
 
 LOGS = {
     "drops.log": lambda: [W(sector, 1, 0x55) for sector in range(2828)],
     "equal.log": lambda: [W(sector % 64, 1, 0) for sector in range(1200)],
+    "flushes.log": lambda: [F] * 65535,
 }
 
 DROPS = "explore drops.log five --sectors 4096 --cuts flush --bound 2"
 TEARS = "--sectors 1024 --cuts flush --bound 2 --tears"
 TORN_IMAGES = 4_000_000
+UNEVEN = "explore flushes.log uneven --sectors 1 --bound 0"
 EQUAL = "explore equal.log many --sectors 64 --cuts flush --bound 1 --tears"
 
 RUNS = {
     "1 worker": DROPS,
     "2 workers": f"{DROPS} --workers 2",
     "4 workers": f"{DROPS} --workers 4",
+    "uneven, 1 worker": UNEVEN,
+    "uneven, 4 workers": f"{UNEVEN} --workers 4",
     "no cache": EQUAL,
     "cache": f"{EQUAL} --cache 65536",
 }
@@ -59,7 +82,7 @@ def seconds(program, words, folder):
 def prepare(program, folder):
     for name, entries in LOGS.items():
         Path(folder, name).write_bytes(log(entries()))
-    for name, text in [("five", FIVE_STEPS), ("many", MANY_STEPS)]:
+    for name, text in [("five", FIVE_STEPS), ("many", MANY_STEPS), ("uneven", UNEVEN_STEPS)]:
         Path(folder, "source").write_text(text)
         done = subprocess.run([program, "asm", "source"], cwd=folder, capture_output=True, check=True)
         Path(folder, name).write_bytes(done.stdout)
@@ -87,22 +110,27 @@ def main(words):
         if len(words) > 1:
             before = str(Path(words[1]).resolve())
             runs["1 worker, before"] = (before, DROPS)
+            runs["4 workers, before"] = (before, f"{DROPS} --workers 4")
+            runs["uneven, 4 workers, before"] = (before, f"{UNEVEN} --workers 4")
             runs["tears, before"] = (before, f"explore torn_before.log five {TEARS}")
             images["tears, before"] = torn_log(before, "torn_before.log", folder)
         for _round in range(ROUNDS):
             for name, (which, row) in runs.items():
                 best[name] = min(best.get(name, 1e9), seconds(which, row, folder))
     for name, took in best.items():
-        print(f"{name:22} {took:8.3f} s")
+        print(f"{name:26} {took:8.3f} s")
     fast = {name: count / best[name] for name, count in images.items()}
     for name, count in images.items():
         print(f"{name:22} {count} images, {fast[name]:,.0f} a second")
     print(f"processors {os.cpu_count()}")
     print(f"2 workers  {best['1 worker'] / best['2 workers']:6.2f} times one")
     print(f"4 workers  {best['1 worker'] / best['4 workers']:6.2f} times one")
+    print(f"uneven     {best['uneven, 1 worker'] / best['uneven, 4 workers']:6.2f} times one, by 4 workers")
     print(f"cache      {best['no cache'] / best['cache']:6.2f} times none")
     if len(words) > 1:
         print(f"one worker {best['1 worker, before'] / best['1 worker']:6.2f} times before")
+        for name in ["4 workers", "uneven, 4 workers"]:
+            print(f"{name:17} {best[f'{name}, before'] / best[name]:6.2f} times before")
         print(f"tears      {fast['tears'] / fast['tears, before']:6.2f} times the images a second of before")
 
 

@@ -296,10 +296,7 @@ fn joined(rt: HostRuntime) {
     assert_eq!(rt; broken(&load(Size::Byte, 0, 10, -1), &both), 51);
     assert!(rt; both.contains(&first) && both.contains(&other));
     assert!(rt; !first.contains(&both));
-    assert_eq!(rt;
-        both.round().values[0],
-        number(Range { low: 2, high: 7 })
-    );
+    assert_eq!(rt; both.round().values[0], number(Range { low: 2, high: 7 }));
     assert!(rt; both.round().contains(&both));
 }
 
@@ -346,14 +343,23 @@ fn spilled_numbers(rt: HostRuntime) {
     assert_eq!(rt; known(&spilled).values[0], number(Range::constant(7)));
     // it moves a pointer
     assert_eq!(rt;
-        refused(&[spilled[0], load(Size::Double, 2, 10, -8), copy(3, 10), move_by(Operator::Sub, 3, 2)]),
+        refused(&[
+            spilled[0],
+            load(Size::Double, 2, 10, -8),
+            copy(3, 10),
+            move_by(Operator::Sub, 3, 2)
+        ]),
         (4, 0)
     );
     // a part of it is any number of its size
     let part = [spilled[0], load(Size::Word, 0, 10, -8)];
     assert_eq!(rt; known(&part).values[0], number(Range::up_to(0xffff_ffff)));
     // so is it whole, where it isn't stored to eight aligned bytes, or one of them was overwritten
-    let unaligned = [store_number(10, -16), store_number(10, -12), load(Size::Double, 0, 10, -12)];
+    let unaligned = [
+        store_number(10, -16),
+        store_number(10, -12),
+        load(Size::Double, 0, 10, -12),
+    ];
     assert_eq!(rt; known(&unaligned).values[0], number(Range::full()));
     let low = [spilled[0], store_small(-8), spilled[1]];
     assert_eq!(rt; known(&low).values[0], number(Range::full()));
@@ -383,7 +389,10 @@ fn spills_joined(rt: HostRuntime) {
     // numbers join as in registers, and so they are rounded
     let other = known(&[put(2, 9), store(10, -8, 2)]);
     let both = spilled.join(&other);
-    assert_eq!(rt; behind(&read, &both).values[0], number(Range { low: 7, high: 9 }));
+    assert_eq!(rt;
+        behind(&read, &both).values[0],
+        number(Range { low: 7, high: 9 })
+    );
     assert_eq!(rt;
         behind(&read, &both.round()).values[0],
         number(Range { low: 4, high: 15 })
@@ -392,7 +401,10 @@ fn spills_joined(rt: HostRuntime) {
     // eight written bytes contain a spilled number, whose bytes are written
     let written = known(&[store_number(10, -8), store_small(-8)]);
     assert!(rt; written.contains(&spilled) && !spilled.contains(&written));
-    assert_eq!(rt; behind(&read, &written.join(&spilled)).values[0], number(Range::full()));
+    assert_eq!(rt;
+        behind(&read, &written.join(&spilled)).values[0],
+        number(Range::full())
+    );
     // with unset bytes, or with a pointer, the bytes are unset
     assert_eq!(rt; broken(&read, &spilled.join(&unset)), 51);
     assert_eq!(rt; broken(&read, &spilled.join(&pointer)), 51);
@@ -426,8 +438,14 @@ fn signed_numbers(rt: HostRuntime) {
     // r0 is any number behind a local call
     let any = known(&[Instr::CallLocal { offset: 1 }]);
     let least = i64::MIN;
-    assert_eq!(rt; answer(branch(&jump_below(5), true, &any)), bounds(0, u64::MAX, least, 4));
-    assert_eq!(rt; answer(branch(&jump_below(0), false, &any)), number(Range::up_to(0x7fff_ffff_ffff_ffff)));
+    assert_eq!(rt;
+        answer(branch(&jump_below(5), true, &any)),
+        bounds(0, u64::MAX, least, 4)
+    );
+    assert_eq!(rt;
+        answer(branch(&jump_below(0), false, &any)),
+        number(Range::up_to(0x7fff_ffff_ffff_ffff))
+    );
     // from 0 to 4 the words are known too, and no number is below 0 there
     let few = match branch(&jump_below(5), true, &any) {
         Some(state) => answered_by(branch(&jump_below(0), false, &state)),

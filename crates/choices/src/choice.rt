@@ -101,6 +101,7 @@ impl Choice {
 }
 
 /// The departures of those numbers at a cut of a plan.
+#[inline(always)]
 pub(crate) fn departures_of(plan: &Plan, cut: u32, picks: &[Pick]) -> ArrayVec<Departure, 3>
     requires cut { cut ≤ length plan.now.log.entries }
     requires few { length picks.now ≤ 3 }

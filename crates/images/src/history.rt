@@ -56,6 +56,7 @@ impl<'a> History<'a> {
 
     /// The crash image of a choice of the plan, as a device. It borrows the sectors of the log, takes
     /// no memory, and never refuses.
+    #[inline(always)]
     pub fn view(&self, _alloc: Global, choice: &Choice) -> Result<View<'_>, AllocError>
         requires { IsMember self.now choice.now }
         ensures value { IfOk result (λ view. view ≡ view_of self.now choice.now) }

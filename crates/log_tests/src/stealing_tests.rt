@@ -5,7 +5,7 @@ ghost use Rattle.std.specs.Prelude.{◌≤◌};
 use crate::log_text::{FLUSH, text_of};
 use bpf_isa::codec::decode;
 use choices::{Starts, count};
-use epochs::{Cuts, Plan};
+use epochs::{By, Cuts, Plan};
 use images::History;
 use interp::Checker;
 use logfmt::read;
@@ -82,7 +82,7 @@ fn failing<R: Threads + Wait + Sync>(
 {
     let bytes = text_of(alloc, &[(0, 0, FLUSH, 0); 511])?;
     let log = read(alloc, bytes.as_slice(), 1).ok().ok_or("a log")?;
-    let plan = Plan::new(alloc, &log, Cuts::All)?;
+    let plan = Plan::new(alloc, &log, Cuts::All, By::Sector)?;
     let history = History::new(alloc, &plan, &log)?;
     let program = decode(alloc, &ANSWER_1).ok().ok_or("a program")?;
     let checkers = [Checker::limited(&program, 3)];

@@ -10,7 +10,7 @@ use crate::log_text::text_of;
 use bpf_isa::codec::decode;
 use choices::{count, nth};
 use epochs::{By, Cuts, Plan};
-use images::{History, Key};
+use images::{History, Key, View};
 use interp::{Checker, Outcome};
 use logfmt::{Log, read};
 use std::alloc::Global;

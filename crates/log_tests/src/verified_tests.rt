@@ -9,7 +9,7 @@ use crate::log_text::text_of;
 use bpf_asm::assemble;
 use bpf_isa::program::Program;
 use choices::{count, nth};
-use epochs::{Cuts, Plan};
+use epochs::{By, Cuts, Plan};
 use images::{History, View};
 use interp::{Checker, Outcome, run_checked};
 use logfmt::{Log, read};
@@ -82,7 +82,7 @@ fn check_log(
 ) -> Result<(), Fail>
     requires device { IsFor log.now.sectors checker.now.verified }
 {
-    let plan = Plan::new(alloc, log, Cuts::All)?;
+    let plan = Plan::new(alloc, log, Cuts::All, By::Sector)?;
     let history = History::new(alloc, &plan, log)?;
     let Ok(total) = count(&plan, 1, true) else {
         return Err("few images".into());

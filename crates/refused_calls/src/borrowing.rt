@@ -4,7 +4,7 @@ ghost use Rattle.std.specs.Prelude.{◌≡◌, ◌≤◌, IfOk, false, length};
 ghost use Rattle.choices.specs.Choices.{ranked, limit};
 
 use choices::Starts;
-use epochs::{Cuts, Plan};
+use epochs::{By, Cuts, Plan};
 use explore_core::{Event, Explore, Jobs, run};
 use images::History;
 use logfmt::Log;
@@ -14,10 +14,10 @@ use std::alloc::{AllocError, Global};
 pub fn plan_of<'a>(alloc: Global, log: &'a Log) -> Result<Plan<'a>, AllocError>
     ensures { IfOk result (λ plan. plan.log ≡ log.now) }
 {
-    if let Ok(plan) = Plan::new(alloc, log, Cuts::All) {
+    if let Ok(plan) = Plan::new(alloc, log, Cuts::All, By::Sector) {
         return Ok(plan);
     }
-    Plan::new(alloc, log, Cuts::All)
+    Plan::new(alloc, log, Cuts::All, By::Sector)
 }
 
 /// The history of a plan.

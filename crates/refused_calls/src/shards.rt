@@ -1,6 +1,8 @@
 //! The calls of a shard of the cache.
 
-ghost use Rattle.std.specs.Prelude.{◌≡◌, ◌≤◌, IfOk, IfSome};
+ghost use Rattle.std.specs.Prelude.{◌≡◌, ◌≤◌, false, is_some, IfOk, IfSome};
+ghost use Rattle.images.specs.Views.{context_at, sectors_of};
+ghost use Rattle.interp.specs.Checker.{judged};
 ghost use Rattle.interp.specs.Ending.{ending_of};
 ghost use Rattle.verdict_cache.specs.Endings.{IsEndingOf};
 
@@ -10,7 +12,7 @@ use crate::texts::{Item, text_of};
 use bpf_isa::codec::decode;
 use choices::{count, nth};
 use epochs::Plan;
-use images::{History, Key};
+use images::{History, Key, View};
 use interp::{Checker, Outcome};
 use logfmt::read;
 use std::alloc::{AllocError, Global};
@@ -23,7 +25,15 @@ const ANSWER_1: [u8; 16] = [0xb7, 0, 0, 0, 1, 0, 0, 0, 0x95, 0, 0, 0, 0, 0, 0, 0
 
 const ONE_WRITE: [Item; 1] = [(0, 1, 0, 0xaa)];
 
-/// The key of an image, and what its checker ends in; none where there is no such image or program.
+/// What a checker with a limit ends in on an image.
+fn ended_on(view: &View<'_>, checker: &Checker<'_>) -> Outcome
+    requires limited { is_some checker.now.verified ≡ false }
+    ensures { ending_of result ≡ judged checker.now (sectors_of view.now) (context_at view.now.log view.now.cut) }
+{
+    checker.judge(&view.context(), view)
+}
+
+/// The key of an image, and what its checker, which has a limit, ends in; none where there is no such image or program.
 fn judged<'a>(
     alloc: Global,
     plan: &Plan<'_>,
@@ -41,12 +51,14 @@ fn judged<'a>(
     let Some(checker) = checkers.first() else {
         return Ok(None);
     };
+    if checker.is_verified() {
+        return Ok(None);
+    }
     let view = history.view(alloc, &nth(plan, 1, false, image))?;
     let Some(key) = view.key(alloc, 0)? else {
         return Ok(None);
     };
-    let outcome = checker.judge(&view.context(), &view);
-    Ok(Some((key, outcome)))
+    Ok(Some((key, ended_on(&view, checker))))
 }
 
 /// Whether a key that is new to a shard with room is put into it, and an entry for which memory was refused

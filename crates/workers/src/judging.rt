@@ -56,6 +56,7 @@ fn push_failing(
 }
 
 /// What a checker ends in on an image, where it is run. One that was verified is for the device of the log.
+#[inline(always)]
 fn outcome_on(view: &View<'_>, checker: &Checker<'_>) -> Outcome
     requires device { IsFor view.now.log.sectors checker.now.verified }
     ensures { ending_of result ≡ judged checker.now (sectors_of view.now) (context_at view.now.log view.now.cut) }
