@@ -39,17 +39,17 @@ from run import Assembler, all_rows, made, put, shortened, split_notes, split_pr
 WANT_OF_MEMORY = re.compile(rb"refused (11|26|35|60|72) at 0( of program [0-7])?\n|error: out of memory\n")
 
 ROWS = {
-    "no word at all: the stored run": 40,
-    "empty_log_bad": 221,
-    "empty_log_bad, first": 225,
-    "torn_sector": 315,
-    "torn_sector, first": 319,
-    "torn_sector, within 9 steps": 281,
+    "no word at all: the stored run": 46,
+    "empty_log_bad": 227,
+    "empty_log_bad, first": 231,
+    "torn_sector": 269,
+    "torn_sector, first": 273,
+    "torn_sector, within 9 steps": 235,
     "pairs_of_drops": 152,
-    "pairs_of_drops, each choice": 1541,
-    "sixteen_codes": 2760,
-    "sixteen_codes, first": 1764,
-    "eight programs": 501,
+    "pairs_of_drops, each choice": 318,
+    "sixteen_codes": 1506,
+    "sixteen_codes, first": 1455,
+    "eight programs": 483,
     "torn_sector, 2 workers, cache 16": None,
     "marks, 2 workers, cache 16": None,
     "sixteen_codes, 2 workers, cache 16": None,
@@ -83,7 +83,7 @@ ROWS = {
 
 
 # How many allocations the calls by themselves make.
-CALLS = 1381
+CALLS = 799
 
 # Runs with some 600,000 lines and more. Of n writes in one epoch, of which up to three are lost, there are as many images as
 # ways to pick them, over all cuts.
