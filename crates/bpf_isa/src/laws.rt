@@ -2,7 +2,7 @@
 //! round trip, as the contract of a function that makes it.
 
 ghost use Rattle.bpf_isa.specs.Forms.{IsOneTable};
-ghost use Rattle.bpf_isa.specs.Running.{EachReady};
+ghost use Rattle.bpf_isa.specs.Running.{AgainIsNumbered, EachReady};
 ghost use Rattle.bpf_isa.specs.Laws.{OneProgram, NoFaultInSpelled, OneFault};
 ghost use Rattle.std.specs.Prelude.{◌≡◌, IfOk, IfErr};
 ghost use Rattle.bpf_isa.specs.Decoding.{memory_fault};
@@ -30,6 +30,11 @@ pub fn no_fault_in_spelled()
 /// The record of each slot is that of its instruction, and one record stands behind the end.
 pub fn each_ready()
     ensures { EachReady }
+{}
+
+/// The records of slots that call `again` have numbers of their own, below that of all such slots.
+pub fn again_is_numbered()
+    ensures { AgainIsNumbered }
 {}
 
 /// Bytes have one first fault at most.

@@ -9,7 +9,9 @@
 //!   instruction that begins there, or none in the second half of an instruction of two slots.
 //! - `codec`: `decode` and `encode`.
 //! - `ready`: the record that a program keeps for each slot, of one shape, with one fieldless `Code`,
-//!   the registers, the absolute target and the constant. The machine runs over these.
+//!   the registers, the absolute target and the constant. The machine runs over these. The record of a call
+//!   of `again` has its number among such calls. A program knows how many of them it has, and whether it calls
+//!   a local function.
 //! - `form`, `fields`, `from_fields`, `to_fields`: the table of opcodes, the five fields of a slot, and each
 //!   form from its fields and back. Only this crate calls them.
 //! - `laws`: what holds of the encoding as a whole.
