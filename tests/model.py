@@ -286,6 +286,31 @@ def journal(image):
     return 0, ()
 
 
+def page_of(image, commit):
+    """The page of a commit, and whether the mixes of its sectors have the sum 1."""
+    first = 8 + commit % 2 * 8
+    sectors = [image.sector(first + place) for place in range(8)]
+    return sectors, sum(mix(it) for it in sectors) % 2**64 == 1
+
+
+def pages(image):
+    """By examples/pages/checker.s: of the commit that the header names the page is taken, or where its sum is wrong that of
+    the commit before; it has to be that of the commit."""
+    named = word(image.sector(0), 0)
+    if named < image.marks():
+        return 2, ()
+    for commit in [named, named - 1]:
+        if commit < image.marks():
+            return 2, ()
+        if commit == 0:
+            return 0, ()
+        sectors, whole = page_of(image, commit)
+        if whole:
+            found = word(sectors[0], 0)
+            return (0, ()) if found == commit else (1, (found,))
+    return 2, ()
+
+
 def one(_image):
     return 1, ()
 

@@ -22,6 +22,7 @@ def design(name, which, checker, options, report, status):
 
 TWO_SLOTS = "--sectors 4 --bound 2 --tears"
 TWO_DEPART = "--sectors 8 --bound 2 --tears"
+PAGES = "--sectors 24 --by write"
 WRONG_BY_C = data(EXAMPLES / "two_slots/wrong.report").replace(b"slots 39 budget 87", b"slots 42 budget 111")
 
 REPORTS = [
@@ -30,6 +31,16 @@ REPORTS = [
     design("two_slots, by the checker in C", "two_slots/wrong.log", "two_slots/checker_c.bpf", TWO_SLOTS, WRONG_BY_C, 1),
     design("journal, right", "journal/right.log", "journal/checker.bpf", TWO_DEPART, "journal/right.report", 0),
     design("journal, wrong", "journal/wrong.log", "journal/checker.bpf", "--sectors 8 --bound 1", "journal/wrong.report", 1),
+    design("pages, right", "pages/right.log", "pages/checker.bpf", f"{PAGES} --bound 2 --tears", "pages/right.report", 0),
+    design("pages, wrong", "pages/wrong.log", "pages/checker.bpf", PAGES, "pages/wrong.report", 1),
+    design(
+        "pages, wrong, by sector",
+        "pages/wrong.log",
+        "pages/checker.bpf",
+        "--sectors 24 --bound 3",
+        "pages/wrong_by_sector.report",
+        0,
+    ),
     # none of the checkers takes more than 62 steps on any image here
     design(
         "two_slots, wrong, within 62 steps",
@@ -106,6 +117,18 @@ def count(records):
 # The header says three records, and the third isn't there.
 IMAGE_17 = count(3) + RECORDS[1] + RECORDS[2] + bytes(2560)
 
+
+def page(number):
+    """A page: the number of its commit, its data, and a last word with which the mixes of its sectors have the sum 1."""
+    body = bytes([0xC0 + number]) * 512
+    sectors = [struct.pack("<Q", number) + body[8:], *[body] * 6, body[:504] + bytes(8)]
+    seal = (1 - sum(model.mix(it) for it in sectors)) % 2**64
+    return b"".join(sectors)[:-8] + struct.pack("<Q", seal)
+
+
+# The header says commit 3, and the page that it names is that of commit 1.
+IMAGE_18 = count(3) + bytes(7 * 512) + page(2) + page(1)
+
 SHOWN = [
     Row(
         "two_slots, wrong, survey",
@@ -115,6 +138,7 @@ SHOWN = [
     ),
     Row("two_slots, image 567", f"image log 567 {TWO_SLOTS}", {"log": data(LOGS / "two_slots/wrong.log")}, IMAGE_567),
     Row("two_slots, image 574", f"image log 574 {TWO_SLOTS}", {"log": data(LOGS / "two_slots/wrong.log")}, IMAGE_574),
+    Row("pages, image 18", f"image log 18 {PAGES}", {"log": data(LOGS / "pages/wrong.log")}, IMAGE_18),
     Row("journal, image 17", "image log 17 --sectors 8 --bound 1", {"log": data(LOGS / "journal/wrong.log")}, IMAGE_17),
 ]
 
@@ -159,16 +183,30 @@ JOURNAL_WRONG = [
 ]
 
 
-def written(which, run, first=False):
+def pages(flags):
+    """The entries of three commits: each its page, its header, a flush, a mark."""
+    return [
+        entry
+        for number in [1, 2, 3]
+        for entry in [S(8 + 8 * (number % 2), page(number)), S(0, count(number), flags), F, M(f"commit {number}")]
+    ]
+
+
+def written(which, run, first=False, stored=None):
     """The run of a log that was written entry by entry here; its report is the stored one, or that of its first failing
     image, and the model's."""
     folder = which.split("/")[0]
-    judges = {"two_slots": ("slots 39 budget 87", model.two_slots), "journal": ("slots 33 budget 144", model.journal)}
+    judges = {
+        "two_slots": ("slots 39 budget 87", model.two_slots),
+        "journal": ("slots 33 budget 144", model.journal),
+        "pages": ("slots 53 budget 1026", model.pages),
+    }
     report = explored(run, [Checker(*judges[folder])], first)
+    stored = stored or which
     if not first:
-        assert report.encode() == data(EXAMPLES / f"{which}.report"), f"{which}.report isn't the model's"
+        assert report.encode() == data(EXAMPLES / f"{stored}.report"), f"{stored}.report isn't the model's"
     return explore(
-        f"{which}, written here{', first' if first else ''}",
+        f"{stored}, written here{', first' if first else ''}",
         f"{run.options()}{' --first' if first else ''}",
         run.entries,
         data(EXAMPLES / f"{folder}/checker.bpf"),
@@ -181,6 +219,10 @@ def written(which, run, first=False):
 TORN_JOURNAL = explored(Run(JOURNAL_WRONG, 8, bound=2, tears=True), [Checker("slots 33 budget 144", model.journal)])
 assert TORN_JOURNAL.endswith("\nimages 1271 failing 729 lines 729\n")
 
+# and of this one 8, the page lost in each
+TORN_PAGES = explored(Run(pages(0), 24, bound=2, tears=True, by="write"), [Checker("slots 53 budget 1026", model.pages)])
+assert TORN_PAGES.endswith("\nimages 823 failing 8 lines 8\n")
+
 WRITTEN = [
     written("two_slots/right", Run(two_slots(FLUSH), 4, bound=2, tears=True)),
     written("two_slots/right", Run(two_slots(FLUSH), 4, bound=2, tears=True), first=True),
@@ -188,6 +230,17 @@ WRITTEN = [
     written("journal/right", Run(JOURNAL_RIGHT, 8, bound=2, tears=True)),
     written("journal/wrong", Run(JOURNAL_WRONG, 8)),
     written("journal/wrong", Run(JOURNAL_WRONG, 8, bound=2, tears=True), first=True),
+    written("pages/right", Run(pages(FLUSH), 24, bound=2, tears=True, by="write")),
+    written("pages/wrong", Run(pages(0), 24, by="write")),
+    written("pages/wrong", Run(pages(0), 24, bound=3), stored="pages/wrong_by_sector"),
+    design(
+        "pages, wrong, torn",
+        "pages/wrong.log",
+        "pages/checker.bpf",
+        f"{PAGES} --bound 2 --tears",
+        TORN_PAGES.encode(),
+        1,
+    ),
     design("journal, wrong, torn", "journal/wrong.log", "journal/checker.bpf", TWO_DEPART, TORN_JOURNAL.encode(), 1),
 ]
 
@@ -198,11 +251,12 @@ CHECKERS = [
         {"checker.s": data(EXAMPLES / f"{name}.s")},
         data(EXAMPLES / f"{name}.bpf"),
     )
-    for name in ["two_slots/checker", "journal/checker"]
+    for name in ["two_slots/checker", "journal/checker", "pages/checker"]
 ] + [
     verified("verify two_slots/checker", data(EXAMPLES / "two_slots/checker.bpf"), "accepted budget 87"),
     verified("verify two_slots/checker_c", data(EXAMPLES / "two_slots/checker_c.bpf"), "accepted budget 111"),
     verified("verify journal/checker", data(EXAMPLES / "journal/checker.bpf"), "accepted budget 144", 8),
+    verified("verify pages/checker", data(EXAMPLES / "pages/checker.bpf"), "accepted budget 1026", 24),
 ]
 
 ROWS = [*REPORTS, *SHOWN, *WRITTEN, *CHECKERS]

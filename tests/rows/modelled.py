@@ -1,10 +1,11 @@
 """Whole reports, surveys and images of many logs, compared with the model (model.py).
 
-Each log is explored with every kind of cuts, every bound, with and without tears, by three programs at once: one whose
+Each log is explored with every kind of cuts, every bound, with and without tears, by sector and by write, by three programs at once: one whose
 answer is made of all sectors, one that answers epoch and marks, and one that reports codes. Runs of more than MOST images
 are left out.
 """
 import random
+from itertools import product
 from math import comb
 
 import model
@@ -65,6 +66,9 @@ COMMITS = [
     ]
 ]
 
+# Writes and a discard of many sectors, over one another, and an entry without sectors.
+PAGED = [S(0, noise(1, 8)), S(4, noise(2, 8)), D(2, 5), S(1, noise(3, 3)), Entry(3), F, S(0, noise(4, 12)), S(5, noise(5), FUA)]
+
 LOGS = {
     "torn_over_torn": (4, TORN_OVER_TORN),
     "forced_between": (4, FORCED_BETWEEN),
@@ -76,6 +80,7 @@ LOGS = {
     "ends": (64, ENDS),
     "the_same": (2, THE_SAME),
     "commits": (8, COMMITS),
+    "paged": (12, PAGED),
 }
 
 PROGRAMS = [named("whole_image"), named("epoch_and_marks"), named("sectors_0_and_1")]
@@ -96,12 +101,11 @@ def count(run):
 def runs():
     """All runs of the logs that aren't too long, by name."""
     for name, (sectors, entries) in LOGS.items():
-        for cuts in ["all", "flush", "mark"]:
-            for bound in range(4):
-                for tears in [False, True]:
-                    run = Run(entries, sectors, cuts, bound, tears)
-                    if count(run) <= MOST:
-                        yield f"{name} {cuts} {bound}{' tears' if tears else ''}", run
+        for cuts, bound, tears, by in product(["all", "flush", "mark"], range(4), [False, True], ["sector", "write"]):
+            run = Run(entries, sectors, cuts, bound, tears, by)
+            if count(run) <= MOST:
+                words = " tears" if tears else ""
+                yield f"{name} {cuts} {bound}{words}{' by write' if by == 'write' else ''}", run
 
 
 def modelled(name, run):
@@ -144,10 +148,12 @@ def shown(name, run, numbers):
 TORN = Run(TORN_OVER_TORN, 4, "flush", 3, True)
 LOST = Run(DISCARDED, 4, "all", 2, False)
 WIDE = Run(ENDS, 64, "flush", 2, True)
+PAGES = Run(PAGED, 12, "all", 2, True, "write")
 
 ROWS = [
     *(row for name, run in runs() for row in modelled(name, run)),
     *shown("torn_over_torn", TORN, [0, 1, 2, 9, 15, 45, 46, 47, 54, 151, 720, 721, 959, 1687, 2409, 3000, 3968, 4094, 4095]),
     *shown("discarded", LOST, range(count(LOST))),
     *shown("ends", WIDE, [0, 1, 30, count(WIDE) - 1]),
+    *shown("paged by write", PAGES, range(0, count(PAGES), 29)),
 ]

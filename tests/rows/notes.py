@@ -131,7 +131,8 @@ LOGS = [
 # Images
 
 TOO_MANY = "with this cut there are more than 16777216 images (docs/CRASH-MODEL.md, Limits)"
-TAKE_FEWER = "take fewer cuts (--cuts flush), a smaller --bound, or no --tears"
+TAKE_FEWER = "take fewer cuts (--cuts flush), a smaller --bound, --by write, or no --tears"
+TAKE_FEWER_WRITES = "take fewer cuts (--cuts flush), a smaller --bound, or no --tears"
 
 
 def too_many(name, options, entries, error, *notes):
@@ -185,6 +186,15 @@ IMAGES = [
         TAKE_FEWER,
         f"with --bound 2 there are {1 + 1 + 64 * 15 + 64 * 63 // 2 * 225}",
     ),
+    noted(
+        "too many images by write",
+        "images log --sectors 64 --bound 3 --tears --cuts flush --by write",
+        files([W(number, 2, 0xAA) for number in range(62)]),
+        "refused 12 at 62",
+        TOO_MANY,
+        TAKE_FEWER_WRITES,
+        f"with --bound 2 there are {1 + 62 * 15 + 62 * 61 // 2 * 225}",
+    ),
 ]
 
 # Options, numbers and files
@@ -203,6 +213,7 @@ OPTIONS = [
         "a run has 1 to 8 programs",
     ),
     noted("cuts", "images log --sectors 4 --cuts none", {}, "refused 13 at 7", "--cuts is all, flush or mark"),
+    noted("parts", "images log --sectors 4 --by page", {}, "refused 13 at 10", "--by is sector or write"),
     noted(
         "no such image",
         "image log 5 --sectors 4",
@@ -462,6 +473,7 @@ def answered(name, words, content, out, *notes):
 
 UNREACHED = "is the checker the first function of its file?"
 NOT_AMONG = "none is ever dropped as a whole"
+BY_WRITE = "with --by write each may be dropped as a whole"
 NO_LARGE = lines("""
     cut 0 epoch 0 marks 0 volatile 0 images 1
     cut 1 epoch 0 marks 0 volatile 1 images 2
@@ -524,6 +536,7 @@ ANSWERS = [
         files([W(0, 3, 1), D(0, 4), W(0, 2, 1), W(0, 3, 1, FUA), F]),
         lines(TWO_LARGE),
         f"entries with more than 2 sectors: 2; {NOT_AMONG}",
+        BY_WRITE,
     ),
     answered(
         "writes of more sectors than the bound where none is given",
@@ -537,6 +550,19 @@ ANSWERS = [
         total 8
         """),
         f"entries with more than 1 sectors: 1; {NOT_AMONG}",
+        BY_WRITE,
+    ),
+    answered(
+        "nothing of writes of more sectors than the bound where writes depart",
+        "images log --sectors 4 --by write",
+        files([W(0, 1, 1), W(0, 2, 1), F]),
+        lines("""
+        cut 0 epoch 0 marks 0 volatile 0 images 1
+        cut 1 epoch 0 marks 0 volatile 1 images 2
+        cut 2 epoch 0 marks 0 volatile 2 images 3
+        cut 3 epoch 1 marks 0 volatile 0 images 1
+        total 7
+        """),
     ),
     answered(
         "nothing of bound 0, with which nothing is lost",

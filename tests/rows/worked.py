@@ -870,6 +870,66 @@ VERIFIED = [
     ),
 ]
 
+WIDE = [W(0, 3, 0xAA)]
+BY_WRITE = "--sectors 4 --tears --by write"
+
+
+def wide_image(number, *parts):
+    """An image of wide_write: its sectors have so many bytes of each of these."""
+    content = b"".join(bytes([byte]) * count for count, byte in parts)
+    return Row(f"wide_write, image {number}", f"image log {number} {BY_WRITE}", files(WIDE), content)
+
+
+def wide_line(number, choice):
+    return f"image {number} cut 1 program 0 answer 170 codes - choice {choice}\n"
+
+
+WIDE_WRITE = [
+    explore(
+        "wide_write",
+        BY_WRITE,
+        WIDE,
+        named("first_byte"),
+        report("""
+            sectors 4 entries 1 cuts all bound 1 tears yes first no by write
+            program 0 slots 7 budget 5
+            """)
+        + wide_line(1, "-")
+        + "".join(wide_line(2 + eighths, f"0:head{eighths}") for eighths in range(1, 8))
+        + "images 17 failing 8 lines 8\n",
+        1,
+    ),
+    explore(
+        "wide_write, first",
+        f"{BY_WRITE} --first",
+        WIDE,
+        named("first_byte"),
+        report("""
+            sectors 4 entries 1 cuts all bound 1 tears yes first yes by write
+            program 0 slots 7 budget 5
+            """)
+        + wide_line(1, "-")
+        + "images 17 first 1\n",
+        1,
+    ),
+    Row(
+        "wide_write, images",
+        f"images log {BY_WRITE}",
+        files(WIDE),
+        "cut 0 epoch 0 marks 0 volatile 0 images 1\ncut 1 epoch 0 marks 0 volatile 1 images 16\ntotal 17\n",
+        notes=[],
+    ),
+    wide_image(0, (2048, 0)),
+    wide_image(1, (1536, 0xAA), (512, 0)),
+    wide_image(2, (2048, 0)),
+    wide_image(3, (192, 0xAA), (1856, 0)),
+    wide_image(5, (576, 0xAA), (1472, 0)),
+    wide_image(9, (1344, 0xAA), (704, 0)),
+    wide_image(10, (1344, 0), (192, 0xAA), (512, 0)),
+    wide_image(16, (192, 0), (1344, 0xAA), (512, 0)),
+    refused("wide_write, image 17", f"image log 17 {BY_WRITE}", files(WIDE), "refused 13 at 9"),
+]
+
 ROWS = [
     *EMPTY_LOG,
     *LIMITS_OF_STEPS,
@@ -882,6 +942,7 @@ ROWS = [
     *(row for about in CHECKED_AND_UNCHECKED for row in both_ways(*about)),
     *IMAGES,
     *SEVERAL,
+    *WIDE_WRITE,
     *CUT_LOG,
     *REFUSED_LOGS,
     *VERIFIED,

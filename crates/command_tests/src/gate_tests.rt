@@ -5,7 +5,7 @@ ghost use Rattle.std.specs.Prelude.{◌≤◌};
 
 use base::refusal::Refusal;
 use commands::{
-    Cuts, Explored, Gate, OpenGate, Options, Settings, explore, explore_with, fault_line,
+    By, Cuts, Explored, Gate, OpenGate, Options, Settings, explore, explore_with, fault_line,
 };
 use std::alloc::Global;
 use std::process::Abort;
@@ -24,6 +24,7 @@ const SETTINGS: Settings = Settings {
     cuts: Cuts::All,
     bound: 0,
     tears: true,
+    by: By::Sector,
     workers: 1,
     cache: 0,
     checked: Some(2),
@@ -264,6 +265,7 @@ fn by_workers(workers: u64, cache: u64, first: bool) -> Settings {
         cuts: Cuts::All,
         bound: 0,
         tears: false,
+        by: By::Sector,
         workers,
         cache,
         checked: Some(2),
@@ -329,6 +331,7 @@ const SIXTEEN_CODES: Settings = Settings {
     cuts: Cuts::BeforeFlush,
     bound: 2,
     tears: true,
+    by: By::Sector,
     workers: 2,
     cache: 0,
     checked: None,
@@ -422,6 +425,7 @@ fn hits_of<R: Threads + Wait + Sync>(
         cuts: Cuts::All,
         bound: 1,
         tears: false,
+        by: By::Sector,
         workers: 1,
         cache,
         checked: Some(7),

@@ -10,7 +10,6 @@ use Rattle.logfmt.specs.Laws.{TextOfOneLog, TextHasNoFault}
 use Rattle.epochs.specs.Cuts.{cuts_of}
 use Rattle.choices.specs.Picks.{fates_of}
 use Rattle.epochs.specs.declared.part.By.{By}
-use Rattle.epochs.specs.declared.part.By.TheVariants as by
 use Rattle.choices.specs.Choices.{choices_at, choices_over, ranked, ranked_before, limit, IsFirstPast}
 use Rattle.bpf_isa.specs.declared.instr.Instr.{Instr}
 use Rattle.bpf_isa.specs.Program.{IsSpelledBy}
@@ -84,7 +83,7 @@ few_over way es m bound place (suc n) (cut ∷ cuts) =
 not_past : (s : Settings) (value : LogValue) (cut : ℕ) → length (images_of s value) ≤ limit → IsFirstPast (plan_of s value) s.bound s.tears cut → ⊥
 unfolding ranked ranked_before
 not_past s value cut few past =
-    omega (arith, few, past.past, few_over by.Sector value.entries (fates_of s.tears) s.bound 0 (past.place + 1) (cuts_of s.cuts value.entries))
+    omega (arith, few, past.past, few_over s.by value.entries (fates_of s.tears) s.bound 0 (past.place + 1) (cuts_of s.cuts value.entries))
 
 -- the checker of a file
 checker_there : (s : Settings) (files : List (List ℕ)) (checkers : List CheckerValue) (n : ℕ) (bytes : List ℕ) → AreCheckersOf s files checkers → slice_get files n ≡ Some bytes

@@ -51,6 +51,7 @@ head_of s value checkers = record {
   cuts = s.cuts;
   bound = s.bound;
   tears = s.tears;
+  by = s.by;
   first = s.first;
   programs = map program_head checkers;
   images = length (images_of s value);

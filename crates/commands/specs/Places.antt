@@ -12,3 +12,4 @@ place_number place.Checked = 5
 place_number place.Programs = 6
 place_number place.Cuts = 7
 place_number place.Image = 9
+place_number place.By = 10

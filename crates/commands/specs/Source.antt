@@ -9,7 +9,6 @@ use Rattle.base.specs.declared.refusal.Cause.TheVariants.{Log, Request}
 use Rattle.logfmt.specs.Bounds.{LogValue}
 use Rattle.logfmt.specs.LogText.{LogText}
 use Rattle.logfmt.specs.Faults as log_fault
-use Rattle.epochs.specs.declared.part.By.TheVariants as by
 use Rattle.epochs.specs.Plan.{PlanValue}
 use Rattle.choices.specs.Choices.{ChoiceValue, ranked, limit, IsFirstPast}
 use Rattle.commands.specs.declared.settings.Settings.{Settings}
@@ -19,9 +18,9 @@ pub record IsLogOf (text : List ℕ) (s : Settings) (value : LogValue) : Type 0 
   pub device : value.sectors ≡ s.sectors
   pub of_log : LogText text value
 
--- the log with the kind of cuts that is asked for; what departs as one is a sector
+-- the log with the kind of cuts and of parts that is asked for
 abbrev pub plan_of : Settings → LogValue → PlanValue
-plan_of s value = record { log = value; kind = s.cuts; by = by.Sector }
+plan_of s value = record { log = value; kind = s.cuts; by = s.by }
 
 -- the choices of which the images are: image n is that of choice n
 abbrev pub images_of : Settings → LogValue → List ChoiceValue

@@ -82,7 +82,7 @@ fn text_of(
     Ok(out.into_bytes())
 }
 
-/// A line for each wanted cut of a log, with its epoch, the marks before it, its volatile units and
+/// A line for each wanted cut of a log, with its epoch, the marks before it, its volatile parts and
 /// how many images it has, and then their total (docs/REPORT.md, Commands).
 ///
 /// # Errors

@@ -81,7 +81,7 @@ mod words;
 mod writing;
 
 pub use action::act;
-pub use epochs::Cuts;
+pub use epochs::{By, Cuts};
 pub use explore_command::{Explored, explore, explore_with};
 pub use image_command::image;
 pub use images_command::survey;

@@ -256,7 +256,7 @@ fn put_cuts(
     cuts: Cuts,
     name: &str,
 ) -> Result<(), AllocError> {
-    let plan = Plan::new(alloc, log, cuts, By::Sector)?;
+    let plan = Plan::new(alloc, log, cuts, options.by())?;
     match count(&plan, options.bound(), options.tears()) {
         Ok(images) if images > 0 => write!(out, "note: with --cuts {name} there are {images}\n"),
         _ => Ok(()),
@@ -291,8 +291,21 @@ fn put_fewer(
         return Ok(());
     };
     put_fewer_cuts(alloc, out, &log, &options)?;
-    let plan = Plan::new(alloc, &log, options.cuts(), By::Sector)?;
+    let plan = Plan::new(alloc, &log, options.cuts(), options.by())?;
     put_smaller_bound(out, &plan, options.bound(), options.tears())
+}
+
+/// With which options there are fewer images.
+fn fewer_images(options: Option<OptionWords>) -> &'static str {
+    match options {
+        Some(
+            OptionWords {
+                by: Some(By::Write),
+                ..
+            },
+        ) => "take fewer cuts (--cuts flush), a smaller --bound, or no --tears",
+        _ => "take fewer cuts (--cuts flush), a smaller --bound, --by write, or no --tears",
+    }
 }
 
 /// Appends that there are too many images, and with what there are fewer.
@@ -305,7 +318,7 @@ fn put_images_notes(
     put_refused(
         out,
         "with this cut there are more than 16777216 images (docs/CRASH-MODEL.md, Limits)",
-        "take fewer cuts (--cuts flush), a smaller --bound, or no --tears",
+        fewer_images(log_options(words.request())),
     )?;
     match (held(files, 0), log_options(words.request())) {
         (Some(bytes), Some(options)) => put_fewer(alloc, out, bytes, options),
@@ -323,6 +336,7 @@ fn option_rule(place: u64) -> &'static str {
         5 => "--checked is 0 to 1000000000",
         6 => "a run has 1 to 8 programs",
         7 => "--cuts is all, flush or mark",
+        10 => "--by is sector or write",
         _ => "the log has no image of that number; 'crashbpf images' tells how many it has",
     }
 }
@@ -421,7 +435,17 @@ fn put_explored_notes(
     Ok(())
 }
 
-/// Appends how many writes of a log have more sectors than may depart.
+/// Appends how many writes of a log have more sectors than may depart, and how they do as a whole.
+fn put_large_notes(out: &mut String, log: &Log, bound: u8) -> Result<(), AllocError> {
+    let before = out.len();
+    put_large(out, log, bound)?;
+    if out.len() > before {
+        return put_note(out, "with --by write each may be dropped as a whole");
+    }
+    Ok(())
+}
+
+/// Appends how many writes of a log have more sectors than may depart, where sectors depart.
 fn put_survey_notes(
     alloc: Global,
     out: &mut String,
@@ -431,14 +455,17 @@ fn put_survey_notes(
     let Ok(options) = options_of(words) else {
         return Ok(());
     };
+    if options.by() == By::Write || options.bound() == 0 {
+        return Ok(());
+    }
     match read_log(alloc, bytes, options.sectors()) {
-        Ok(log) if options.bound() > 0 => put_large(out, &log, options.bound()),
-        _ => Ok(()),
+        Ok(log) => put_large_notes(out, &log, options.bound()),
+        Err(_refusal) => Ok(()),
     }
 }
 
 /// The notes beside the answer of a command that succeeded: what no run of a program reaches (`verify`, `explore`), and how many
-/// writes never depart as a whole (`images`). Each line begins with `note: `; mostly there is none.
+/// writes never depart as a whole (`images` by sector). Each line begins with `note: `; mostly there is none.
 pub fn notes_beside(
     alloc: Global,
     words: &Words,

@@ -7,13 +7,13 @@ ghost use Rattle.commands.specs.Settings.{settings_refusal, IsAsked};
 use crate::refusals::option_refusal_of;
 use crate::settings::{OptionPlace, Settings};
 use base::refusal::Refusal;
-use epochs::Cuts;
+use epochs::{By, Cuts};
 use std::marker::Model;
 
 /// The greatest number of sectors of a device.
 const MAX_SECTORS: u64 = 16_384;
 
-/// The most units that may depart.
+/// The most parts that may depart.
 const MAX_BOUND: u64 = 3;
 
 /// The most workers.
@@ -32,6 +32,7 @@ pub struct Options {
     cuts: Cuts,
     bound: u8,
     tears: bool,
+    by: By,
     workers: u8,
     cache: u32,
     checked: Option<u64>,
@@ -44,9 +45,9 @@ impl Model for Options {
 
     ghost Value = { Settings };
 
-    ghost view = { λ o. record { sectors = o.sectors; cuts = o.cuts; bound = o.bound; tears = o.tears; workers = o.workers; cache = o.cache; checked = o.checked; first = o.first } };
+    ghost view = { λ o. record { sectors = o.sectors; cuts = o.cuts; bound = o.bound; tears = o.tears; by = o.by; workers = o.workers; cache = o.cache; checked = o.checked; first = o.first } };
 
-    ghost invariant = { λ o. IsAsked (record { sectors = o.sectors; cuts = o.cuts; bound = o.bound; tears = o.tears; workers = o.workers; cache = o.cache; checked = o.checked; first = o.first }) };
+    ghost invariant = { λ o. IsAsked (record { sectors = o.sectors; cuts = o.cuts; bound = o.bound; tears = o.tears; by = o.by; workers = o.workers; cache = o.cache; checked = o.checked; first = o.first }) };
 }
 
 /// Whether there is a limit of steps that is too great.
@@ -90,6 +91,7 @@ impl Options {
             cuts: settings.cuts,
             bound: settings.bound as u8,
             tears: settings.tears,
+            by: settings.by,
             workers: settings.workers as u8,
             cache: settings.cache as u32,
             checked: settings.checked,
@@ -112,7 +114,7 @@ impl Options {
         self.cuts
     }
 
-    /// How many units may depart, 0 to 3.
+    /// How many parts may depart, 0 to 3.
     pub(crate) fn bound(&self) -> u8
         ensures value { result ≡ self.now.bound }
         ensures few { result ≤ 3 }
@@ -120,11 +122,18 @@ impl Options {
         self.bound
     }
 
-    /// Whether units may be torn.
+    /// Whether parts may be torn.
     pub(crate) fn tears(&self) -> bool
         ensures { result ≡ self.now.tears }
     {
         self.tears
+    }
+
+    /// What departs as one.
+    pub(crate) fn by(&self) -> By
+        ensures { result ≡ self.now.by }
+    {
+        self.by
     }
 
     /// How many workers judge, 1 to 64.

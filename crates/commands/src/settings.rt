@@ -3,7 +3,7 @@
 ghost use Rattle.std.specs.Prelude.{◌≡◌};
 ghost use Rattle.commands.specs.Places.{place_number};
 
-use epochs::Cuts;
+use epochs::{By, Cuts};
 
 /// What a run is asked (docs/REPORT.md, Options).
 #[derive(Clone, Copy)]
@@ -12,10 +12,12 @@ pub struct Settings {
     pub sectors: u64,
     /// Which cuts are wanted.
     pub cuts: Cuts,
-    /// How many units may depart.
+    /// How many parts may depart.
     pub bound: u64,
-    /// Whether units may be torn.
+    /// Whether parts may be torn.
     pub tears: bool,
+    /// What departs as one.
+    pub by: By,
     /// The number of workers.
     pub workers: u64,
     /// How many judgements may be kept.
@@ -39,6 +41,8 @@ pub enum OptionPlace {
     Cuts = 7,
     /// The number of an image.
     Image = 9,
+    /// What departs as one.
+    By = 10,
 }
 
 impl OptionPlace {

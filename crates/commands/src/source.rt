@@ -10,7 +10,7 @@ use crate::options::Options;
 use base::causes::RequestCause;
 use base::refusal::{Cause, Refusal};
 use choices::{TooMany, count};
-use epochs::{By, Plan};
+use epochs::Plan;
 use logfmt::{Log, LogFault, read};
 use std::alloc::Global;
 
@@ -61,7 +61,7 @@ pub(crate) fn planned<'a>(
     ensures few { IfOk result (λ p. p.1 ≤ limit) }
     ensures refused { IfErr result (RefusesPlan options.now log.now) }
 {
-    let plan = match Plan::new(alloc, log, options.cuts(), By::Sector) {
+    let plan = match Plan::new(alloc, log, options.cuts(), options.by()) {
         Ok(plan) => plan,
         Err(_error) => return Err(Refusal::of_memory()),
     };

@@ -4,7 +4,7 @@ ghost use Rattle.std.specs.Prelude.{◌≡◌, [], IsOkAnd, map, string_bytes};
 ghost use Rattle.commands.specs.declared.words.Request.TheVariants as request;
 
 use clap::{Arg, ArgAction, ArgMatches, Command, Error};
-use epochs::Cuts;
+use epochs::{By, Cuts};
 use std::alloc::{AllocError, Global};
 use std::marker::Model;
 
@@ -16,6 +16,8 @@ pub(crate) struct OptionWords {
     pub cuts: Option<Cuts>,
     pub bound: u64,
     pub tears: bool,
+    /// None where the word is no kind of part.
+    pub by: Option<By>,
     pub workers: u64,
     pub cache: u64,
     pub checked: Option<u64>,
@@ -81,7 +83,8 @@ output that can't be written.";
 const AFTER_EXPLORE: &str =
     "Each line of the report names an image, its cut, a program, what that answered, and the sectors
 that were lost or torn: 'choice 8.0:head7' is sector 0 of entry 8, of which the first seven eighths
-arrived; 'choice 8.0:tail1' is the same sector, of which the last eighth arrived.
+arrived; 'choice 8.0:tail1' is the same sector, of which the last eighth arrived. With --by write
+'choice 8:drop' is all of entry 8.
 
 Example: crashbpf explore disk.log check.bpf --sectors 64 --cuts flush --bound 2 --tears
 
@@ -89,8 +92,8 @@ Exit status: 0 where no image fails, 1 where one does, 2 for a refusal.";
 
 /// What stands behind the help of `images`.
 const AFTER_IMAGES: &str =
-    "A cut with v sectors on their way has the sum over i up to the bound of C(v, i) * m^i images, where
-m is 15 with --tears and else 1.
+    "A cut with v sectors on their way, or with --by write v writes, has the sum over i up to the bound of
+C(v, i) * m^i images, where m is 15 with --tears and else 1.
 
 Example: crashbpf images disk.log --sectors 64 --tears
 
@@ -170,17 +173,23 @@ fn log_command<'a>(alloc: Global, name: &'a str) -> Result<Command<'a>, AllocErr
         .long("tears")
         .action(ArgAction::SetTrue)
         .help("Sectors may also be torn: of the new content only the first or last eighths arrive");
+    let by = Arg::new(alloc, "by")
+        .long("by")
+        .value_name("WHAT")
+        .default_value("sector")
+        .help("What is lost or torn as one: sector; write, all sectors of a write or discard");
     let bound = number_option(
         alloc,
         "bound",
         "1",
-        "How many sectors of an image may be lost or torn, 0 to 3",
+        "How many sectors, or by write how many writes, may be lost or torn, 0 to 3",
     );
     Command::new(alloc, name)
         .arg(sectors_option(alloc))?
         .arg(cuts)?
         .arg(bound)?
         .arg(tears)?
+        .arg(by)?
         .arg(log_file(alloc))
 }
 
@@ -328,6 +337,15 @@ fn cuts_of(word: Option<&str>) -> Option<Cuts> {
     }
 }
 
+/// The kind of part that a word names.
+fn by_of(word: Option<&str>) -> Option<By> {
+    match word {
+        Some("sector") => Some(By::Sector),
+        Some("write") => Some(By::Write),
+        _ => None,
+    }
+}
+
 /// The options of `verify` and `log`: the number of sectors, and what stands for the others.
 fn device_words(matches: &ArgMatches<'_>) -> OptionWords {
     OptionWords {
@@ -335,6 +353,7 @@ fn device_words(matches: &ArgMatches<'_>) -> OptionWords {
         cuts: Some(Cuts::All),
         bound: 1,
         tears: false,
+        by: Some(By::Sector),
         workers: 1,
         cache: 0,
         checked: None,
@@ -348,6 +367,7 @@ fn log_words(matches: &ArgMatches<'_>) -> OptionWords {
         cuts: cuts_of(matches.get_str("cuts")),
         bound: matches.get_one::<u64>("bound").unwrap_or(1),
         tears: matches.get_flag("tears"),
+        by: by_of(matches.get_str("by")),
         ..device_words(matches)
     }
 }

@@ -15,7 +15,7 @@ pub enum Content {
     /// The record of the journal with that number: the number, then 0x11 times the number in each
     /// byte; sealed.
     Record(u8),
-    /// The header of a journal of so many records: that number, then zeros.
+    /// The header of a journal of so many records, or of pages whose last commit has that number: the number, then zeros.
     Header(u8),
 }
 
@@ -29,6 +29,40 @@ impl Content {
             Content::Header(records) => header(records),
         }
     }
+}
+
+/// How many sectors a page has.
+pub const PAGE: u64 = 8;
+
+/// The bytes of a sector of the page of the commit with that number, by its place in the page. Each byte of a page is
+/// 0xc0 and the number, but for the first word, which is the number, and the last one, which makes the sum of the mixes of
+/// its sectors 1.
+pub fn page_sector(number: u8, place: u64) -> [u8; 512] {
+    match place {
+        0 => page_start(number),
+        7 => page_end(number),
+        _ => page_body(number),
+    }
+}
+
+fn page_body(number: u8) -> [u8; 512] {
+    [0xc0 | number; 512]
+}
+
+fn page_start(number: u8) -> [u8; 512] {
+    let mut sector = page_body(number);
+    set_word(&mut sector, 0, u64::from(number));
+    sector
+}
+
+fn page_end(number: u8) -> [u8; 512] {
+    let mut sector = page_body(number);
+    set_word(&mut sector, 504, 0);
+    let rest = mix(&page_start(number))
+        .wrapping_add(mix(&page_body(number)).wrapping_mul(PAGE - 2))
+        .wrapping_add(mix(&sector));
+    set_word(&mut sector, 504, 1u64.wrapping_sub(rest));
+    sector
 }
 
 fn payload(number: u8) -> [u8; 512] {

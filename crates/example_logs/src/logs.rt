@@ -4,13 +4,15 @@ ghost use Rattle.std.specs.Prelude.{◌≤◌};
 
 use crate::content::Content;
 use crate::content::Content::{Header, Payload, Record, Slot};
-use crate::logs::Item::{Flush, FlushAndWrite, Mark, Write};
+use crate::logs::Item::{Flush, FlushAndWrite, Mark, Write, WritePage};
 
 /// An entry of a log.
 #[derive(Clone, Copy)]
 pub enum Item {
     /// Writes that sector of the device.
     Write(u64, Content),
+    /// Writes eight sectors from that one on with the page of the commit with that number.
+    WritePage(u64, u8),
     /// Flushes, then writes that sector of the device, in one entry.
     FlushAndWrite(u64, Content),
     /// Flushes.
@@ -26,14 +28,18 @@ pub enum Which {
     TwoSlotsWrong,
     JournalRight,
     JournalWrong,
+    PagesRight,
+    PagesWrong,
 }
 
 /// All logs.
-pub const ALL: [Which; 4] = [
+pub const ALL: [Which; 6] = [
     Which::TwoSlotsRight,
     Which::TwoSlotsWrong,
     Which::JournalRight,
     Which::JournalWrong,
+    Which::PagesRight,
+    Which::PagesWrong,
 ];
 
 /// Slot and payload of a commit are written one after the other, with a flush between them.
@@ -96,6 +102,39 @@ const JOURNAL_WRONG: [Item; 10] = [
     Mark("record 3"),
 ];
 
+/// The page of a commit is written to the area that the commit before doesn't use, then the header that names the commit,
+/// with a flush between them.
+const PAGES_RIGHT: [Item; 12] = [
+    WritePage(16, 1),
+    FlushAndWrite(0, Header(1)),
+    Flush,
+    Mark("commit 1"),
+    WritePage(8, 2),
+    FlushAndWrite(0, Header(2)),
+    Flush,
+    Mark("commit 2"),
+    WritePage(16, 3),
+    FlushAndWrite(0, Header(3)),
+    Flush,
+    Mark("commit 3"),
+];
+
+/// The same without the flush between page and header.
+const PAGES_WRONG: [Item; 12] = [
+    WritePage(16, 1),
+    Write(0, Header(1)),
+    Flush,
+    Mark("commit 1"),
+    WritePage(8, 2),
+    Write(0, Header(2)),
+    Flush,
+    Mark("commit 2"),
+    WritePage(16, 3),
+    Write(0, Header(3)),
+    Flush,
+    Mark("commit 3"),
+];
+
 impl Which {
     /// The file of the log, below examples/.
     pub fn name(self) -> &'static str {
@@ -104,6 +143,8 @@ impl Which {
             Which::TwoSlotsWrong => "two_slots/wrong.log",
             Which::JournalRight => "journal/right.log",
             Which::JournalWrong => "journal/wrong.log",
+            Which::PagesRight => "pages/right.log",
+            Which::PagesWrong => "pages/wrong.log",
         }
     }
 
@@ -120,6 +161,7 @@ impl Which {
         match self {
             Which::TwoSlotsRight | Which::TwoSlotsWrong => 4,
             Which::JournalRight | Which::JournalWrong => 8,
+            Which::PagesRight | Which::PagesWrong => 24,
         }
     }
 
@@ -130,6 +172,8 @@ impl Which {
             Which::TwoSlotsWrong => &TWO_SLOTS_WRONG,
             Which::JournalRight => &JOURNAL_RIGHT,
             Which::JournalWrong => &JOURNAL_WRONG,
+            Which::PagesRight => &PAGES_RIGHT,
+            Which::PagesWrong => &PAGES_WRONG,
         }
     }
 }

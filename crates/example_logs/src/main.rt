@@ -28,7 +28,8 @@
 //!
 //! `logs` has the names, the size of each device, and the entries as values of `Item`. `text` appends
 //! the super block and the entries to one list. `content` fills a sector of 512 bytes, and seals it
-//! where the design asks for that: its last word is set so that the mix of the sector is 1.
+//! where the design asks for that: its last word is set so that the mix of the sector is 1, or that of a page so
+//! that the mixes of its sectors have the sum 1.
 //!
 //! # Example
 //!
@@ -40,6 +41,8 @@
 //! two_slots/wrong.log 12 entries 9728 bytes the same
 //! journal/right.log 10 entries 8192 bytes the same
 //! journal/wrong.log 10 entries 8192 bytes the same
+//! pages/right.log 12 entries 20480 bytes the same
+//! pages/wrong.log 12 entries 20480 bytes the same
 //! ```
 #![tactic(auto)]
 

@@ -1,5 +1,6 @@
 //! From the entries of a log to its bytes (docs/LOG-FORMAT.md).
 
+use crate::content::{PAGE, page_sector};
 use crate::logs::{Item, Which};
 use base::numbers::{put_u32, put_u64, put_zeros};
 use logfmt::{LogFault, read, write};
@@ -35,12 +36,24 @@ fn text_of(alloc: Global, entries: &[Item]) -> Result<Vec<u8>, AllocError> {
     Ok(out)
 }
 
-/// The header of an entry, and the sector that it writes.
+/// The sectors of the page of the commit with that number.
+fn put_page(out: &mut Vec<u8>, number: u8) -> Result<(), AllocError> {
+    for place in 0..PAGE {
+        out.extend_from_slice(&page_sector(number, place))?;
+    }
+    Ok(())
+}
+
+/// The header of an entry, and the sectors that it writes.
 fn put_item(out: &mut Vec<u8>, item: Item) -> Result<(), AllocError> {
     match item {
         Item::Write(sector, content) => {
             put_header(out, sector, 1, 0, "")?;
             out.extend_from_slice(&content.sector())
+        }
+        Item::WritePage(sector, number) => {
+            put_header(out, sector, PAGE, 0, "")?;
+            put_page(out, number)
         }
         Item::FlushAndWrite(sector, content) => {
             put_header(out, sector, 1, FLUSH, "")?;

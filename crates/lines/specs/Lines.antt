@@ -6,7 +6,7 @@ use Rattle.lines.specs.declared.line.Line.{Line}
 use Rattle.lines.specs.Line.{FailingLine}
 
 abbrev pub line_value : Line → FailingLine
-line_value l = record { image = l.image; cut = l.cut; program = l.program; ending = ending_of l.outcome; departures = l.departures.items }
+line_value l = record { image = l.image; cut = l.cut; program = l.program; ending = ending_of l.outcome; by = l.by; departures = l.departures.items }
 
 -- what the lines said that are remembered
 abbrev pub said_by : List (Snapshot Line) → List FailingLine

@@ -4,6 +4,9 @@ use Rattle.std.specs.Fmt.{decimal}
 use Rattle.std.specs.List.{flat_map}
 use Rattle.base.specs.Causes.{fault_number}
 use Rattle.machine.specs.Outcome.{Ending, Verdict, Stopped, OutOfSteps}
+use Rattle.epochs.specs.declared.part.By.{By}
+use Rattle.epochs.specs.declared.part.By.TheVariants as by
+use Rattle.epochs.specs.declared.part.Part.{Part}
 use Rattle.choices.specs.declared.choice.Departure.{Departure}
 use Rattle.choices.specs.declared.fate.Fate.{Fate}
 use Rattle.choices.specs.declared.fate.Fate.TheVariants as fate
@@ -26,21 +29,26 @@ fate_text fate.Drop = codes "drop"
 fate_text (fate.Head eighths) = codes "head" ++ decimal eighths
 fate_text (fate.Tail eighths) = codes "tail" ++ decimal eighths
 
--- a departure: the part's entry and its place there, and its fate
-unfoldable pub departure_text : Departure → List ℕ
-departure_text d = decimal d.part.entry ++ codes "." ++ decimal d.part.place ++ codes ":" ++ fate_text d.fate
+-- a part: its entry, and by sector its place there too
+unfoldable pub part_text : By → Part → List ℕ
+part_text by.Sector p = decimal p.entry ++ codes "." ++ decimal p.place
+part_text by.Write p = decimal p.entry
+
+-- a departure: its part, and what became of it
+unfoldable pub departure_text : By → Departure → List ℕ
+departure_text way d = part_text way d.part ++ codes ":" ++ fate_text d.fate
 
 -- a departure that follows another
-abbrev pub next_departure_text : Departure → List ℕ
-next_departure_text d = codes "," ++ departure_text d
+abbrev pub next_departure_text : By → Departure → List ℕ
+next_departure_text way d = codes "," ++ departure_text way d
 
 -- the departures of a choice, joined by commas; a hyphen where there is none
-unfoldable pub choice_text : List Departure → List ℕ
-choice_text [] = codes "-"
-choice_text (d ∷ ds) = departure_text d ++ flat_map next_departure_text ds
+unfoldable pub choice_text : By → List Departure → List ℕ
+choice_text way [] = codes "-"
+choice_text way (d ∷ ds) = departure_text way d ++ flat_map (next_departure_text way) ds
 
 -- a failing line
 unfoldable pub line_text : FailingLine → List ℕ
 line_text l =
     codes "image " ++ decimal l.image ++ codes " cut " ++ decimal l.cut ++ codes " program " ++ decimal l.program ++ codes " "
-    ++ ending_text l.ending ++ codes " choice " ++ choice_text l.departures ++ codes "\n"
+    ++ ending_text l.ending ++ codes " choice " ++ choice_text l.by l.departures ++ codes "\n"

@@ -2,7 +2,7 @@
 //!
 //! A run judges each crash image of a log by its programs. An image on which a program does not answer
 //! 0 makes a line: the number of the image and its cut, the number of the program, what the program
-//! ended in, and the units of the image that are not whole.
+//! ended in, what departs as one, and the parts of the image that are not whole.
 //!
 //! | Type | What it is |
 //! |---|---|

@@ -2,6 +2,7 @@
 
 use arrayvec::ArrayVec;
 use choices::Departure;
+use epochs::By;
 use interp::Outcome;
 
 /// A failing line: an image on which a program does not answer 0 (docs/REPORT.md, The report).
@@ -15,6 +16,8 @@ pub struct Line {
     pub program: u8,
     /// What the program ended in.
     pub outcome: Outcome,
-    /// The units of the image that are not whole.
+    /// What departs as one.
+    pub by: By,
+    /// The parts of the image that are not whole.
     pub departures: ArrayVec<Departure, 3>,
 }

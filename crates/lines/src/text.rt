@@ -3,10 +3,11 @@
 ghost use Rattle.std.specs.Prelude.{◌≡◌, ◌++◌, OnOk, string_bytes};
 ghost use Rattle.interp.specs.Ending.{ending_of};
 ghost use Rattle.lines.specs.Lines.{line_value};
-ghost use Rattle.lines.specs.Text.{codes_text, ending_text, fate_text, departure_text, next_departure_text, choice_text, line_text};
+ghost use Rattle.lines.specs.Text.{codes_text, ending_text, fate_text, part_text, departure_text, next_departure_text, choice_text, line_text};
 
 use crate::line::Line;
 use choices::{Departure, Fate};
+use epochs::{By, Part};
 use interp::Outcome;
 use std::alloc::AllocError;
 
@@ -52,34 +53,46 @@ fn put_fate(out: &mut String, fate: Fate) -> Result<(), AllocError>
     }
 }
 
+/// Appends a part.
+#[tactic(auto, unfolding(crate::specs::Text::part_text))]
+fn put_part(out: &mut String, by: By, part: Part) -> Result<(), AllocError>
+    ensures { OnOk result (string_bytes out.new ≡ string_bytes out.old ++ part_text by part) }
+{
+    match by {
+        By::Sector => write!(out, "{}.{}", part.entry, part.place),
+        By::Write => write!(out, "{}", part.entry),
+    }
+}
+
 /// Appends a departure.
 #[tactic(auto, unfolding(crate::specs::Text::departure_text))]
-fn put_departure(out: &mut String, departure: Departure) -> Result<(), AllocError>
-    ensures { OnOk result (string_bytes out.new ≡ string_bytes out.old ++ departure_text departure) }
+fn put_departure(out: &mut String, by: By, departure: Departure) -> Result<(), AllocError>
+    ensures { OnOk result (string_bytes out.new ≡ string_bytes out.old ++ departure_text by departure) }
 {
-    write!(out, "{}.{}:", departure.part.entry, departure.part.place)?;
+    put_part(out, by, departure.part)?;
+    write!(out, ":")?;
     put_fate(out, departure.fate)
 }
 
 /// Appends a departure that follows another.
-fn put_next_departure(out: &mut String, departure: Departure) -> Result<(), AllocError>
-    ensures { OnOk result (string_bytes out.new ≡ string_bytes out.old ++ next_departure_text departure) }
+fn put_next_departure(out: &mut String, by: By, departure: Departure) -> Result<(), AllocError>
+    ensures { OnOk result (string_bytes out.new ≡ string_bytes out.old ++ next_departure_text by departure) }
 {
     write!(out, ",")?;
-    put_departure(out, departure)
+    put_departure(out, by, departure)
 }
 
 /// Appends the departures of a choice.
 #[tactic(auto, unfolding(crate::specs::Text::choice_text))]
-fn put_choice(out: &mut String, departures: &[Departure]) -> Result<(), AllocError>
-    ensures { OnOk result (string_bytes out.new ≡ string_bytes out.old ++ choice_text departures.now) }
+fn put_choice(out: &mut String, by: By, departures: &[Departure]) -> Result<(), AllocError>
+    ensures { OnOk result (string_bytes out.new ≡ string_bytes out.old ++ choice_text by departures.now) }
 {
     match departures {
         [] => write!(out, "-"),
         [first, rest @ ..] => {
-            put_departure(out, *first)?;
+            put_departure(out, by, *first)?;
             for departure in rest {
-                put_next_departure(out, *departure)?;
+                put_next_departure(out, by, *departure)?;
             }
             Ok(())
         }
@@ -98,6 +111,6 @@ pub(crate) fn put_line(out: &mut String, line: &Line) -> Result<(), AllocError>
     )?;
     put_outcome(out, &line.outcome)?;
     write!(out, " choice ")?;
-    put_choice(out, line.departures.as_slice())?;
+    put_choice(out, line.by, line.departures.as_slice())?;
     write!(out, "\n")
 }

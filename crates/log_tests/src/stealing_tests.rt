@@ -89,7 +89,17 @@ fn failing<R: Threads + Wait + Sync>(
     let images = count(&plan, 0, false).ok().ok_or("few images")?;
     let starts = Starts::new(alloc, &plan, 0, false)?;
     let input = Input::new(
-        &plan, &starts, &history, &checkers, 0, false, workers, 0, false, images,
+        &plan,
+        &starts,
+        &history,
+        &checkers,
+        By::Sector,
+        0,
+        false,
+        workers,
+        0,
+        false,
+        images,
     );
     let work = explore_all(rt, alloc, gate, &input).ok().ok_or("work")?;
     Ok(work.lines.len())

@@ -116,7 +116,17 @@ fn collected<R: Wait>(
     let images = count(&plan, 0, false).ok().ok_or("few images")?;
     let starts = Starts::new(alloc, &plan, 0, false)?;
     let input = Input::new(
-        &plan, &starts, &history, &checkers, 0, false, 2, 16, true, images,
+        &plan,
+        &starts,
+        &history,
+        &checkers,
+        By::Sector,
+        0,
+        false,
+        2,
+        16,
+        true,
+        images,
     );
     collected_by::<Brand, R>(rt, alloc, &input, &history, &checkers, 16, blocks)
 }
@@ -191,7 +201,17 @@ fn explored<R: Threads + Wait + Sync>(
     let images = count(&plan, 0, false).ok().ok_or("few images")?;
     let starts = Starts::new(alloc, &plan, 0, false)?;
     let input = Input::new(
-        &plan, &starts, &history, &checkers, 0, false, workers, cache, first, images,
+        &plan,
+        &starts,
+        &history,
+        &checkers,
+        By::Sector,
+        0,
+        false,
+        workers,
+        cache,
+        first,
+        images,
     );
     let work = explore_all(rt, alloc, &OpenGate, &input)
         .ok()

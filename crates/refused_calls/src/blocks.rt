@@ -10,6 +10,7 @@ use crate::texts::{FLUSH, text_of};
 use base::refusal::Refusal;
 use bpf_isa::codec::decode;
 use choices::count;
+use epochs::By;
 use images::History;
 use interp::Checker;
 use lines::Lines;
@@ -93,7 +94,17 @@ pub fn are_right<R: Threads + Wait + Sync>(rt: &R, alloc: Global) -> bool {
         return false;
     };
     let input = Input::new(
-        &plan, &starts, &history, &checkers, 0, false, 1, 16, false, images,
+        &plan,
+        &starts,
+        &history,
+        &checkers,
+        By::Sector,
+        0,
+        false,
+        1,
+        16,
+        false,
+        images,
     );
     if !blocks_are_right::<Brand, R>(rt, alloc, &input, &history, &checkers) {
         return false;

@@ -2,6 +2,7 @@
 
 use crate::refused::OfMemory;
 use arrayvec::ArrayVec;
+use epochs::By;
 use interp::Outcome;
 use lines::{Line, Lines, Part};
 use std::alloc::{AllocError, Global};
@@ -13,6 +14,7 @@ fn line(image: u64) -> Line {
         cut: 1,
         program: 0,
         outcome: Outcome::OutOfSteps,
+        by: By::Sector,
         departures: ArrayVec::new(),
     }
 }

@@ -3,11 +3,12 @@ use Rattle.std.specs.Prelude.{ℕ, ◌+◌, Bool, true, false, List, [], ◌∷�
 use Rattle.std.specs.Fmt.{decimal}
 use Rattle.std.specs.List.{flat_map}
 use Rattle.epochs.specs.declared.cuts.Cuts.{Cuts}
+use Rattle.epochs.specs.declared.part.By.{By}
 use Rattle.report.specs.declared.head.ProgramHead.{ProgramHead}
 use Rattle.lines.specs.Line.{FailingLine, first_lines}
 use Rattle.lines.specs.Images.{failing_images, first_image}
 pub use Rattle.lines.specs.Text.{line_text}
-use Rattle.report.specs.Text.{yes_or_no, cuts_word}
+use Rattle.report.specs.Text.{yes_or_no, cuts_word, by_words}
 
 -- what the report says at its head, and how many images there are
 pub record HeadValue : Type 0 where
@@ -16,6 +17,7 @@ pub record HeadValue : Type 0 where
   pub cuts : Cuts
   pub bound : ℕ
   pub tears : Bool
+  pub by : By
   pub first : Bool
   pub programs : List ProgramHead
   pub images : ℕ
@@ -27,7 +29,7 @@ device_text h =
 
 unfoldable pub choices_text : HeadValue → List ℕ
 choices_text h =
-    codes " bound " ++ decimal h.bound ++ codes " tears " ++ yes_or_no h.tears ++ codes " first " ++ yes_or_no h.first ++ codes "\n"
+    codes " bound " ++ decimal h.bound ++ codes " tears " ++ yes_or_no h.tears ++ codes " first " ++ yes_or_no h.first ++ by_words h.by ++ codes "\n"
 
 abbrev pub options_line : HeadValue → List ℕ
 options_line h = device_text h ++ choices_text h

@@ -1,5 +1,7 @@
 -- Words as they stand at the head of the report (docs/REPORT.md).
-use Rattle.std.specs.Prelude.{ℕ, Bool, true, false, List, codes}
+use Rattle.std.specs.Prelude.{ℕ, Bool, true, false, List, [], codes}
+use Rattle.epochs.specs.declared.part.By.{By}
+use Rattle.epochs.specs.declared.part.By.TheVariants as by
 use Rattle.epochs.specs.declared.cuts.Cuts.{Cuts}
 use Rattle.epochs.specs.declared.cuts.Cuts.TheVariants.{All, BeforeFlush, AfterMark}
 
@@ -11,3 +13,8 @@ abbrev pub cuts_word : Cuts → List ℕ
 cuts_word All = codes "all"
 cuts_word BeforeFlush = codes "flush"
 cuts_word AfterMark = codes "mark"
+
+-- what departs as one, where it isn't a sector
+abbrev pub by_words : By → List ℕ
+by_words by.Sector = []
+by_words by.Write = codes " by write"

@@ -1,6 +1,6 @@
 //! What the report says before its lines.
 
-use epochs::Cuts;
+use epochs::{By, Cuts};
 use std::marker::Model;
 
 /// What the report says of a program at its head.
@@ -22,10 +22,12 @@ pub struct Head {
     pub entries: u32,
     /// The kind of the cuts.
     pub cuts: Cuts,
-    /// How many units may depart.
+    /// How many parts may depart.
     pub bound: u8,
-    /// Whether units may be torn.
+    /// Whether parts may be torn.
     pub tears: bool,
+    /// What departs as one.
+    pub by: By,
     /// Whether the report holds the first failing image alone.
     pub first: bool,
     /// The programs in order.
@@ -39,5 +41,5 @@ impl Model for Head {
 
     ghost Value = { HeadValue };
 
-    ghost view = { λ h. record { sectors = h.sectors; entries = h.entries; cuts = h.cuts; bound = h.bound; tears = h.tears; first = h.first; programs = h.programs.items; images = h.images } };
+    ghost view = { λ h. record { sectors = h.sectors; entries = h.entries; cuts = h.cuts; bound = h.bound; tears = h.tears; by = h.by; first = h.first; programs = h.programs.items; images = h.images } };
 }

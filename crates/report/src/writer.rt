@@ -5,11 +5,11 @@ ghost use Rattle.std.specs.List.{flat_map};
 ghost use Rattle.std.specs.List.Sorted.{IsNonDecreasing};
 ghost use Rattle.lines.specs.Line.{first_lines};
 ghost use Rattle.lines.specs.Text.{line_text};
-ghost use Rattle.report.specs.Text.{yes_or_no, cuts_word};
+ghost use Rattle.report.specs.Text.{yes_or_no, cuts_word, by_words};
 ghost use Rattle.report.specs.Report.{device_text, choices_text, steps_word, program_line, program_lines, totals_line, image_text, first_line, last_line, shown_lines, head_text, report_bytes};
 
 use crate::head::{Head, ProgramHead};
-use epochs::Cuts;
+use epochs::{By, Cuts};
 use lines::Lines;
 use std::alloc::{AllocError, Global};
 
@@ -26,6 +26,16 @@ fn word_of_cuts(cuts: Cuts) -> &'static str
         Cuts::All => "all",
         Cuts::BeforeFlush => "flush",
         Cuts::AfterMark => "mark",
+    }
+}
+
+/// What departs as one, where it isn't a sector.
+fn words_of_by(by: By) -> &'static str
+    ensures { result.now ≡ by_words by }
+{
+    match by {
+        By::Sector => "",
+        By::Write => " by write",
     }
 }
 
@@ -56,7 +66,9 @@ fn put_choices(out: &mut String, head: &Head) -> Result<(), AllocError>
 {
     let tears = yes_or_no_word(head.tears);
     let first = yes_or_no_word(head.first);
-    write!(out, " bound {} tears {tears} first {first}\n", head.bound)
+    write!(out, " bound {} tears {tears} first {first}", head.bound)?;
+    let by = words_of_by(head.by);
+    write!(out, "{by}\n")
 }
 
 /// Appends the line of a program.

@@ -7,6 +7,7 @@ use Rattle.std.proofs.lemmas.Grind.{flat_map-append}
 use Rattle.std.proofs.lemmas.List.{map-append}
 use Rattle.std.proofs.lemmas.List.Elements.{filter-append}
 use Rattle.base.proofs.Lists.{range_with_len-more, range_with_len-append}
+use Rattle.epochs.specs.declared.part.By.{By}
 use Rattle.choices.specs.Choices.{ChoiceValue}
 use Rattle.interp.specs.Checker.{CheckerValue}
 use Rattle.machine.specs.Outcome.{Ending}
@@ -24,11 +25,11 @@ Matches n None (Some l) = ⊥
 Matches n (Some j) None = j.fails ≡ false
 Matches n (Some j) (Some l) = (j.fails ≡ true) × (j ≡ job_of_line n l)
 
-fails_so : (n : Numbers) (i p : ℕ) (choice : ChoiceValue) (ending : Ending) (b : Bool) → fails ending ≡ b
+fails_so : (n : Numbers) (way : By) (i p : ℕ) (choice : ChoiceValue) (ending : Ending) (b : Bool) → fails ending ≡ b
     → Matches n (Some (job_with n i p ending))
-    (if b then Some (record { image = i; cut = choice.cut; program = p; ending = ending; departures = choice.departures }) else None)
-fails_so n i p choice ending false f = f
-fails_so n i p choice ending true f = (f, refl)
+    (if b then Some (record { image = i; cut = choice.cut; program = p; ending = ending; by = way; departures = choice.departures }) else None)
+fails_so n way i p choice ending false f = f
+fails_so n way i p choice ending true f = (f, refl)
 
 matches_pair : (s : Subject) (n : Numbers) (i p : ℕ) → Matches n (job_of s n i p) (line_of s i p)
 unfolding job_of line_of
@@ -36,9 +37,9 @@ matches_pair s n i p = at_choice (slice_get (choices_of s) i)
   where
     at_checker : (choice : ChoiceValue) (o : Option CheckerValue)
         → Matches n (option_map (λ checker. job_with n i p (ending_at s choice checker)) o)
-        (option_and_then (λ checker. line_if i choice p (ending_at s choice checker)) o)
+        (option_and_then (λ checker. line_if s.plan.by i choice p (ending_at s choice checker)) o)
     at_checker choice None = tt
-    at_checker choice (Some checker) = fails_so n i p choice (ending_at s choice checker) (fails (ending_at s choice checker)) refl
+    at_checker choice (Some checker) = fails_so n s.plan.by i p choice (ending_at s choice checker) (fails (ending_at s choice checker)) refl
 
     at_choice : (o : Option ChoiceValue)
         → Matches n (option_and_then (λ choice. job_at s n i choice p) o) (option_and_then (λ choice. line_at s i choice p) o)

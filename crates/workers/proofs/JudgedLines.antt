@@ -5,6 +5,7 @@ use Rattle.std.proofs.lemmas.Bool.{cases_lt}
 use Rattle.std.proofs.lemmas.List.Elements.{filter_map-append}
 use Rattle.std.proofs.lemmas.Grind.{flat_map-append}
 use Rattle.base.proofs.Lists.{range_with_len-more, range_with_len-append}
+use Rattle.epochs.specs.declared.part.By.{By}
 use Rattle.epochs.specs.Plan.{PlanValue}
 use Rattle.choices.specs.Choices.{ChoiceValue}
 use Rattle.interp.specs.Checker.{CheckerValue}
@@ -18,7 +19,7 @@ use Rattle.workers.specs.Pieces.{block_count}
 -- the line of an image and a checker, both of the run
 pub line_is : (s : Subject) (image program : ℕ) (choice : ChoiceValue) (checker : CheckerValue)
     → slice_get (choices_of s) image ≡ Some choice → slice_get s.checkers program ≡ Some checker
-    → line_of s image program ≡ line_if image choice program (ending_at s choice checker)
+    → line_of s image program ≡ line_if s.plan.by image choice program (ending_at s choice checker)
 unfolding line_of
 line_is s image program choice checker there named = rw (there, named) refl
 
@@ -28,17 +29,17 @@ single (Some l) = refl
 
 line_here : (s : Subject) (image n : ℕ) (choice : ChoiceValue) (checker : CheckerValue)
     → slice_get (choices_of s) image ≡ Some choice → slice_get s.checkers n ≡ Some checker
-    → filter_map (line_of s image) (n ∷ []) ≡ line_list (line_if image choice n (ending_at s choice checker))
+    → filter_map (line_of s image) (n ∷ []) ≡ line_list (line_if s.plan.by image choice n (ending_at s choice checker))
 line_here s image n choice checker there named =
-    rw (line_is s image n choice checker there named) (single (line_if image choice n (ending_at s choice checker)))
+    rw (line_is s image n choice checker there named) (single (line_if s.plan.by image choice n (ending_at s choice checker)))
 
-pub checker_next : (s : Subject) (image n : ℕ) (choice : ChoiceValue) (checker : CheckerValue) (first before : List FailingLine)
-    → slice_get (choices_of s) image ≡ Some choice → slice_get s.checkers n ≡ Some checker
+pub checker_next : (s : Subject) (way : By) (image n : ℕ) (choice : ChoiceValue) (checker : CheckerValue) (first before : List FailingLine)
+    → way ≡ s.plan.by → slice_get (choices_of s) image ≡ Some choice → slice_get s.checkers n ≡ Some checker
     → before ≡ first ++ filter_map (line_of s image) (range_with_len 0 n)
-    → before ++ line_list (line_if image choice n (ending_at s choice checker)) ≡ first ++ filter_map (line_of s image) (range_with_len 0 (n + 1))
-checker_next s image n choice checker first before there named so =
+    → before ++ line_list (line_if way image choice n (ending_at s choice checker)) ≡ first ++ filter_map (line_of s image) (range_with_len 0 (n + 1))
+checker_next s way image n choice checker first before same there named so =
     let e : 0 + n ≡ n = omega arith in
-    rw (range_with_len-more 0 n, e, filter_map-append (line_of s image) (range_with_len 0 n) (n ∷ []), line_here s image n choice checker there named, so, append_assoc) refl
+    rw (same, range_with_len-more 0 n, e, filter_map-append (line_of s image) (range_with_len 0 n) (n ∷ []), line_here s image n choice checker there named, so, append_assoc) refl
 
 -- what the cache tells of an image of the run is what the checker ends in there
 pub same_ending : (s : Subject) (plan : PlanValue) (choice : ChoiceValue) (checker : CheckerValue) → plan ≡ s.plan → ending_on plan choice checker ≡ ending_at s choice checker
@@ -46,12 +47,12 @@ unfolding ending_at
 same_ending s plan choice checker e = rw e refl
 
 -- the line of one more checker, with its ending as it was found
-pub checker_found : (s : Subject) (image n : ℕ) (choice : ChoiceValue) (checker : CheckerValue) (ending : Ending) (first before after : List FailingLine)
-    → slice_get (choices_of s) image ≡ Some choice → slice_get s.checkers n ≡ Some checker → ending ≡ ending_at s choice checker
-    → before ≡ first ++ filter_map (line_of s image) (range_with_len 0 n) → after ≡ before ++ line_list (line_if image choice n ending)
+pub checker_found : (s : Subject) (way : By) (image n : ℕ) (choice : ChoiceValue) (checker : CheckerValue) (ending : Ending) (first before after : List FailingLine)
+    → way ≡ s.plan.by → slice_get (choices_of s) image ≡ Some choice → slice_get s.checkers n ≡ Some checker → ending ≡ ending_at s choice checker
+    → before ≡ first ++ filter_map (line_of s image) (range_with_len 0 n) → after ≡ before ++ line_list (line_if way image choice n ending)
     → after ≡ first ++ filter_map (line_of s image) (range_with_len 0 (n + 1))
-checker_found s image n choice checker ending first before after there named found so e =
-    e ∙ ap (λ (end : Ending). before ++ line_list (line_if image choice n end)) found ∙ checker_next s image n choice checker first before there named so
+checker_found s way image n choice checker ending first before after same there named found so e =
+    e ∙ ap (λ (end : Ending). before ++ line_list (line_if way image choice n end)) found ∙ checker_next s way image n choice checker first before same there named so
 
 -- the lines of one more image
 pub image_next : (s : Subject) (a i : ℕ) (first before : List FailingLine) → a ≤ i

@@ -64,7 +64,7 @@ IsOfOption s i p (Some l) = IsFailing s l × (l.image ≡ i) × (l.program ≡ p
 
 line_if-fails : (s : Subject) (i p : ℕ) (choice : ChoiceValue) (checker : CheckerValue) (b : Bool)
     → slice_get (choices_of s) i ≡ Some choice → slice_get s.checkers p ≡ Some checker → fails (ending_at s choice checker) ≡ b
-    → IsOfOption s i p (line_if i choice p (ending_at s choice checker))
+    → IsOfOption s i p (line_if s.plan.by i choice p (ending_at s choice checker))
 line_if-fails s i p choice checker false there named f = rw f tt
 line_if-fails s i p choice checker true there named f =
     rw f (
@@ -75,6 +75,7 @@ line_if-fails s i p choice checker true there named f =
         of_program = named;
         ends = refl;
         cut = refl;
+        by_is = refl;
         departures = refl;
         fails = rw f refl;
       },
@@ -87,7 +88,7 @@ unfolding line_of
 of_pair s i p = at_choice (slice_get (choices_of s) i) refl
   where
     at_checker : (choice : ChoiceValue) (o : Option CheckerValue) → slice_get (choices_of s) i ≡ Some choice → slice_get s.checkers p ≡ o
-        → IsOfOption s i p (option_and_then (λ checker. line_if i choice p (ending_at s choice checker)) o)
+        → IsOfOption s i p (option_and_then (λ checker. line_if s.plan.by i choice p (ending_at s choice checker)) o)
     at_checker choice None there named = tt
     at_checker choice (Some checker) there named = line_if-fails s i p choice checker (fails (ending_at s choice checker)) there named refl
 
@@ -149,10 +150,10 @@ of_range s a (suc n) = step (image_lines s a) (lines_from s (a + 1) n) (lines_he
 option_line : (s : Subject) (l : FailingLine) → IsFailing s l → line_of s l.image l.program ≡ Some l
 option_line s l h = line_is s l.image l.program h.choice h.checker h.of_image h.of_program ∙ told (ending_at s h.choice h.checker) (sym h.ends)
   where
-    told : (e : Ending) → e ≡ l.ending → line_if l.image h.choice l.program e ≡ Some l
+    told : (e : Ending) → e ≡ l.ending → line_if s.plan.by l.image h.choice l.program e ≡ Some l
     told e same =
         let failing : fails e ≡ true = rw same h.fails in
-        rw failing (λ i. Some (record { image = l.image; cut = sym h.cut i; program = l.program; ending = same i; departures = sym h.departures i }))
+        rw failing (λ i. Some (record { image = l.image; cut = sym h.cut i; program = l.program; ending = same i; by = sym h.by_is i; departures = sym h.departures i }))
 
 in_options : (f : ℕ → Option FailingLine) (a n p : ℕ) (l : FailingLine) → a ≤ p → p < a + n → f p ≡ Some l → (i : ℕ) × (slice_get (filter_map f (range_with_len a n)) i ≡ Some l)
 in_options f a zero p l low high h = absurd (omega (arith, low, high))

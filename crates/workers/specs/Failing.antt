@@ -3,6 +3,7 @@
 use Rattle.std.specs.Prelude.{ℕ, ◌-◌, ◌*◌, min, Bool, if◌then◌else◌, List, length, Option, None, Some, slice_get}
 use Rattle.std.specs.Option.{option_and_then}
 use Rattle.std.specs.List.{filter_map, flat_map, range_with_len}
+use Rattle.epochs.specs.declared.part.By.{By}
 use Rattle.epochs.specs.Plan.{PlanValue}
 use Rattle.choices.specs.Choices.{ChoiceValue, ranked}
 use Rattle.machine.specs.Outcome.{Ending}
@@ -31,16 +32,16 @@ unfoldable pub ending_at : Subject → ChoiceValue → CheckerValue → Ending
 ending_at s choice checker =
     judged checker (sectors_of (view_of s.plan choice)) (context_at s.plan.log choice.cut)
 
--- the line of an image and a checker, if it fails there
-abbrev pub line_if : ℕ → ChoiceValue → ℕ → Ending → Option FailingLine
-line_if image choice program ending =
+-- the line of an image and a checker, if it fails there, with what departs as one
+abbrev pub line_if : By → ℕ → ChoiceValue → ℕ → Ending → Option FailingLine
+line_if way image choice program ending =
     if fails ending
-    then Some (record { image = image; cut = choice.cut; program = program; ending = ending; departures = choice.departures })
+    then Some (record { image = image; cut = choice.cut; program = program; ending = ending; by = way; departures = choice.departures })
     else None
 
 abbrev pub line_at : Subject → ℕ → ChoiceValue → ℕ → Option FailingLine
 line_at s image choice program =
-    option_and_then (λ checker. line_if image choice program (ending_at s choice checker)) (slice_get s.checkers program)
+    option_and_then (λ checker. line_if s.plan.by image choice program (ending_at s choice checker)) (slice_get s.checkers program)
 
 unfoldable pub line_of : Subject → ℕ → ℕ → Option FailingLine
 line_of s image program = option_and_then (λ choice. line_at s image choice program) (slice_get (choices_of s) image)

@@ -1,5 +1,6 @@
 -- What the work is given.
 use Rattle.std.specs.Prelude.{ℕ, ◌≡◌, ◌≤◌, List, [], ◌∷◌, length, Option, None, Some}
+use Rattle.epochs.specs.declared.part.By.{By}
 use Rattle.epochs.specs.Plan.{PlanValue}
 use Rattle.interp.specs.Checker.{CheckerValue, AreFor}
 use Rattle.choices.specs.Choices.{limit}
@@ -7,11 +8,12 @@ use Rattle.choices.specs.Sums.{StartsValue}
 use Rattle.lines.specs.Line.{FailingLine}
 use Rattle.workers.specs.Failing.{Subject, image_count}
 
--- the history and the table of choices are those of the plan, each checker is for the device of its log, the images are
+-- the history, the table of choices and what departs as one are those of the plan, each checker is for the device of its log, the images are
 -- counted, and each number is within its limit
-pub record IsInput (s : Subject) (plan : PlanValue) (starts : StartsValue) (workers cache images : ℕ) : Type 0 where
+pub record IsInput (s : Subject) (plan : PlanValue) (starts : StartsValue) (way : By) (workers cache images : ℕ) : Type 0 where
   pub history : plan ≡ s.plan
   pub table : starts ≡ record { plan = s.plan; bound = s.bound; tears = s.tears }
+  pub by_is : way ≡ s.plan.by
   pub bound : s.bound ≤ 3
   pub checkers : length s.checkers ≤ 8
   pub device : AreFor s.plan.log.sectors s.checkers

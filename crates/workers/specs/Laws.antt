@@ -14,6 +14,7 @@ pub record IsFailing (s : Subject) (l : FailingLine) : Type 0 where
   pub of_program : slice_get s.checkers l.program ≡ Some checker
   pub ends : l.ending ≡ ending_at s choice checker
   pub cut : l.cut ≡ choice.cut
+  pub by_is : l.by ≡ s.plan.by
   pub departures : l.departures ≡ choice.departures
   pub fails : IsTrue (fails l.ending)
 

@@ -9,7 +9,7 @@ ghost use Rattle.workers.specs.Exploring.{passes_over};
 
 use crate::piece::BLOCK;
 use choices::{Choice, Starts};
-use epochs::Plan;
+use epochs::{By, Plan};
 use images::History;
 use interp::Checker;
 use std::marker::Model;
@@ -23,6 +23,7 @@ pub struct Input<'a> {
     pub(crate) plan: &'a Plan<'a>,
     pub(crate) history: &'a History<'a>,
     pub(crate) checkers: &'a [Checker<'a>],
+    pub(crate) by: By,
     pub(crate) bound: u8,
     pub(crate) tears: bool,
     first: bool,
@@ -39,12 +40,12 @@ impl<'a> Model for Input<'a> {
 
     ghost view = { λ i. record { plan = i.plan.now; checkers = i.checkers.now; bound = i.bound; tears = i.tears; first = i.first } };
 
-    ghost invariant = { λ i. IsInput (record { plan = i.plan.now; checkers = i.checkers.now; bound = i.bound; tears = i.tears; first = i.first }) i.history.now i.starts.now i.workers i.cache i.images };
+    ghost invariant = { λ i. IsInput (record { plan = i.plan.now; checkers = i.checkers.now; bound = i.bound; tears = i.tears; first = i.first }) i.history.now i.starts.now i.by i.workers i.cache i.images };
 }
 
 impl<'a> Input<'a> {
-    /// What is judged by a run. The history and the table of choices are those of the plan, and the images are counted, as
-    /// `choices::count` does. A checker that was verified is one that was for devices of the log's size. With
+    /// What is judged by a run. The history, the table of choices and what departs as one are those of the plan, and the images
+    /// are counted, as `choices::count` does. A checker that was verified is one that was for devices of the log's size. With
     /// `first` the run looks for the first failing image alone. It is judged by 1 to 64 workers, who keep at
     /// most `cache` outcomes, 0 to 65,536.
     pub fn new(
@@ -52,6 +53,7 @@ impl<'a> Input<'a> {
         starts: &'a Starts<'a>,
         history: &'a History<'a>,
         checkers: &'a [Checker<'a>],
+        by: By,
         bound: u8,
         tears: bool,
         workers: u8,
@@ -63,6 +65,7 @@ impl<'a> Input<'a> {
         requires history { history.now ≡ plan.now }
         requires checkers { length checkers.now ≤ 8 }
         requires device { AreFor plan.now.log.sectors checkers.now }
+        requires by { by ≡ plan.now.by }
         requires bound { bound ≤ 3 }
         requires workers { (1 ≤ workers) × (workers ≤ 64) }
         requires cache { cache ≤ 65536 }
@@ -75,6 +78,7 @@ impl<'a> Input<'a> {
             plan,
             history,
             checkers,
+            by,
             bound,
             tears,
             first,

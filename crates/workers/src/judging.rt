@@ -15,6 +15,7 @@ use crate::block_lines::BlockLines;
 use crate::input::Input;
 use crate::piece::{BLOCK, Piece};
 use choices::{Choice, next};
+use epochs::By;
 use images::{Changes, Key, View};
 use interp::{Checker, Outcome};
 use lines::Line;
@@ -36,12 +37,13 @@ fn fails_with(outcome: &Outcome) -> bool
 /// Appends the line of an image and a checker that ended so, if it fails there.
 fn push_failing(
     lines: &mut BlockLines,
+    by: By,
     image: u64,
     choice: &Choice,
     number: u8,
     outcome: Outcome,
 ) -> Result<(), AllocError>
-    ensures { OnOk result (lines.new ≡ lines.old ++ line_list (line_if image choice.now number (ending_of outcome))) }
+    ensures { OnOk result (lines.new ≡ lines.old ++ line_list (line_if by image choice.now number (ending_of outcome))) }
 {
     if fails_with(&outcome) {
         lines.push(Line {
@@ -49,6 +51,7 @@ fn push_failing(
             cut: choice.cut(),
             program: number,
             outcome,
+            by,
             departures: choice.departures_owned(),
         })?;
     }
@@ -68,6 +71,7 @@ fn outcome_on(view: &View<'_>, checker: &Checker<'_>) -> Outcome
 #[tactic(auto, unfolding(crate::specs::Failing::ending_at))]
 fn judge_checker(
     lines: &mut BlockLines,
+    by: By,
     image: u64,
     choice: &Choice,
     view: &View<'_>,
@@ -76,9 +80,9 @@ fn judge_checker(
 ) -> Result<(), AllocError>
     requires device { IsFor view.now.log.sectors checker.now.verified }
     ensures { (s : Subject) → view.now ≡ view_of s.plan choice.now
-        → OnOk result (lines.new ≡ lines.old ++ line_list (line_if image choice.now number (ending_at s choice.now checker.now))) }
+        → OnOk result (lines.new ≡ lines.old ++ line_list (line_if by image choice.now number (ending_at s choice.now checker.now))) }
 {
-    push_failing(lines, image, choice, number, outcome_on(view, checker))
+    push_failing(lines, by, image, choice, number, outcome_on(view, checker))
 }
 
 /// What the checker of a key ends in on the key's image: what the cache has for it, or else what it ends
@@ -126,7 +130,7 @@ impl<'a> Input<'a> {
         ensures { OnOk result (lines.new ≡ lines.old ++ image_lines self.now image) }
     {
         for (number, checker) in self.checkers.iter().enumerate() {
-            judge_checker(lines, image, choice, view, number as u8, checker)?;
+            judge_checker(lines, self.by, image, choice, view, number as u8, checker)?;
         }
         Ok(())
     }
@@ -153,7 +157,7 @@ impl<'a> Input<'a> {
         for (number, checker) in self.checkers.iter().enumerate() {
             key.set_program(number as u8);
             let outcome = outcome_of(rt, alloc, shards, choice, view, &key, checker);
-            push_failing(lines, image, choice, number as u8, outcome)?;
+            push_failing(lines, self.by, image, choice, number as u8, outcome)?;
         }
         Ok(())
     }

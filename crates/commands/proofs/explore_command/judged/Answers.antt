@@ -1,5 +1,6 @@
-use Rattle.std.proofs.Common.{◌∙◌}
+use Rattle.std.proofs.Common.{◌∙◌, ap, sym}
 use Rattle.std.proofs.lemmas.Result.{err_from_is_err_and}
+use Rattle.epochs.specs.Plan.{PlanValue}
 use Rattle.commands.specs.Source.{no_plan_memory}
 use Rattle.commands.proofs.Findings.{same_subject, report_of_work, fails_of_work}
 use Rattle.commands.proofs.Fitting.{fit_plan}
@@ -11,6 +12,9 @@ returns-in-Err-clause-refused g c = rw c.of_memory.ensures no_plan_memory
 
 pub returns-in-Err-new-clause-refused : goal.returns-in-Err-new-clause-refused
 returns-in-Err-new-clause-refused g c = rw c.of_memory-in-Err-new.ensures no_plan_memory
+
+pub new-input-requires-clause-by : goal.new-input-requires-clause-by
+new-input-requires-clause-by g c = c.by.ensures ∙ sym (ap (λ (p : PlanValue). p.by) c.requires.plan)
 
 pub new-input-requires-clause-images : goal.new-input-requires-clause-images
 new-input-requires-clause-images g c = counted_of _ _ _ _ _ _ c.args.images c.requires.plan c.bound-bound.ensures.value c.tears-tears.ensures c.requires.images

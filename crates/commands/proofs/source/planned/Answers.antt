@@ -11,4 +11,4 @@ pub returns-clause-refused : goal.returns-clause-refused
 returns-clause-refused c =
     rw c.images_refusal_of.ensures
     (too_many c.in-Err-count.fault.at
-    (past_of _ _ _ _ _ _ _ (same_plan _ _ _ _ c.in-Ok.ensures.log (c.in-Ok.ensures.kind ∙ c.cuts.ensures) c.in-Ok.ensures.by) c.bound.ensures.value c.tears.ensures c.in-Err-count.ensures.past))
+    (past_of _ _ _ _ _ _ _ (same_plan _ _ _ _ c.in-Ok.ensures.log (c.in-Ok.ensures.kind ∙ c.cuts.ensures) (c.in-Ok.ensures.by ∙ c.by.ensures)) c.bound.ensures.value c.tears.ensures c.in-Err-count.ensures.past))

@@ -5,4 +5,4 @@ use Rattle.lines.proofs.text.put_choice.Given as goal
 
 abbrev pub invariant-loop-departure : goal.invariant-loop-departure
 invariant-loop-departure l =
-    string_bytes l.out ≡ (string_bytes l.initial.out) ++ flat_map next_departure_text (take l.departure-index l.rest)
+    string_bytes l.out ≡ (string_bytes l.initial.out) ++ flat_map (next_departure_text l.by) (take l.departure-index l.rest)

@@ -23,7 +23,7 @@ loop-number-preserved g c =
     let there : slice_get checkers c.loop-number.number ≡ Some c.checker-item.result =
     slice_get_read checkers (length checkers) c.loop-number.number c.checker-item.result refl c.loop-number-test.true c.checker-item.is in
     let (lines, program, told) = c.loop-number.invariant in (
-      checker_found c.args.self.now c.args.image c.loop-number.number c.args.choice.now c.checker-item.result _ c.args.lines.now c.loop-number.lines _ c.requires.choice (rw (← c.self.view_is) there)
+      checker_found c.args.self.now c.self.inside.by c.args.image c.loop-number.number c.args.choice.now c.checker-item.result _ c.args.lines.now c.loop-number.lines _ (rw (← c.self.view_is) c.self.invariant.by_is) c.requires.choice (rw (← c.self.view_is) there)
           (c.outcome_of-outcome.ensures ∙ same_ending c.args.self.now _ c.args.choice.now c.checker-item.result c.requires.run.plan_is)
           lines c.in_ok-push_failing.ensures,
       _,

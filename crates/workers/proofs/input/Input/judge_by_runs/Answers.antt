@@ -23,4 +23,4 @@ loop-number-preserved c =
     let there : slice_get checkers c.loop-number.number ≡ Some c.checker-item.result =
     slice_get_read checkers (length checkers) c.loop-number.number c.checker-item.result refl c.loop-number-test.true c.checker-item.is in
     c.in_ok-judge_checker.ensures c.args.self.now c.requires.view
-    ∙ checker_next c.args.self.now c.args.image c.loop-number.number c.args.choice.now c.checker-item.result c.args.lines.now c.loop-number.lines c.requires.choice (rw (← c.self.view_is) there) c.loop-number.invariant
+    ∙ checker_next c.args.self.now c.self.inside.by c.args.image c.loop-number.number c.args.choice.now c.checker-item.result c.args.lines.now c.loop-number.lines (rw (← c.self.view_is) c.self.invariant.by_is) c.requires.choice (rw (← c.self.view_is) there) c.loop-number.invariant
