@@ -7,3 +7,7 @@ pub mod Fitting
 pub mod Keeping
 pub mod Smaller
 pub mod Typed
+pub mod Chains
+pub mod SmallerMoves
+pub mod SmallerRules
+pub mod SmallerStates

@@ -23,11 +23,11 @@ use Rattle.ranges.specs.Passing.{edge_of, with_both, tested_kind, is_equal_edge}
 use Rattle.ranges.specs.Order.{Under, EachUnder, StateUnder, IsState, EdgeUnder}
 use Rattle.ranges.proofs.Keeping.{value_fits, second_fits, words_fit}
 
-and_right : (a b : Bool) → (a && b) ≡ true → b ≡ true
+pub and_right : (a b : Bool) → (a && b) ≡ true → b ≡ true
 and_right true b e = e
 and_right false b e = absurd (let bad : false ≡ true = e in cc)
 
-and_left : (a b : Bool) → (a && b) ≡ true → a ≡ true
+pub and_left : (a b : Bool) → (a && b) ≡ true → a ≡ true
 and_left true b e = refl
 and_left false b e = e
 
@@ -37,27 +37,27 @@ or_left_false false b e f = e
 
 -- lists, place by place
 
-each_at : {X : Type 0} (R : X → X → Type 0) (xs ys : List X) (i : ℕ) (d : X) → R d d → EachUnder R xs ys → R (get_or xs i d) (get_or ys i d)
+pub each_at : {X : Type 0} (R : X → X → Type 0) (xs ys : List X) (i : ℕ) (d : X) → R d d → EachUnder R xs ys → R (get_or xs i d) (get_or ys i d)
 each_at R [] [] i d r p = r
 each_at R [] (y ∷ ys) i d r p = absurd p
 each_at R (x ∷ xs) [] i d r p = absurd p
 each_at R (x ∷ xs) (y ∷ ys) zero d r p = p.0
 each_at R (x ∷ xs) (y ∷ ys) (suc i) d r p = each_at R xs ys i d r p.1
 
-each_with : {X : Type 0} (R : X → X → Type 0) (xs ys : List X) (i : ℕ) (x y : X) → R x y → EachUnder R xs ys → EachUnder R (set xs i x) (set ys i y)
+pub each_with : {X : Type 0} (R : X → X → Type 0) (xs ys : List X) (i : ℕ) (x y : X) → R x y → EachUnder R xs ys → EachUnder R (set xs i x) (set ys i y)
 each_with R [] [] i a b r p = tt
 each_with R [] (y ∷ ys) i a b r p = absurd p
 each_with R (x ∷ xs) [] i a b r p = absurd p
 each_with R (x ∷ xs) (y ∷ ys) zero a b r p = (r, p.1)
 each_with R (x ∷ xs) (y ∷ ys) (suc i) a b r p = (p.0, each_with R xs ys i a b r p.1)
 
-value_under : (s t : Abstract) (r : ℕ) → StateUnder s t → Under (value s r) (value t r)
+pub value_under : (s t : Abstract) (r : ℕ) → StateUnder s t → Under (value s r) (value t r)
 value_under s t r u = each_at Under s.values t.values r Unset tt u.values
 
 pub with_value_under : (s t : Abstract) (r : ℕ) (k l : Kind) → Under k l → StateUnder s t → StateUnder (with_value s r k) (with_value t r l)
 with_value_under s t r k l h u = record { values = each_with Under s.values t.values r k l h u.values; groups = u.groups }
 
-second_under : (s t : Abstract) (from : Source) → StateUnder s t → Under (second s from) (second t from)
+pub second_under : (s t : Abstract) (from : Source) → StateUnder s t → Under (second s from) (second t from)
 second_under s t (source.Immediate n) u = within_self (any_sign (immediate_span n))
 second_under s t (source.Register r) u = value_under s t r u
 
@@ -72,7 +72,7 @@ null_under k (Ctx x) u e = absurd (let bad : false ≡ true = e in cc)
 null_under k (Stack x) u e = absurd (let bad : false ≡ true = e in cc)
 null_under k (Sector x) u e = absurd (let bad : false ≡ true = e in cc)
 
-test_under : (w : Width) (c : Condition) (from : Source) (k l : Kind) → Under k l → is_null_test w c from l ≡ true → is_null_test w c from k ≡ true
+pub test_under : (w : Width) (c : Condition) (from : Source) (k l : Kind) → Under k l → is_null_test w c from l ≡ true → is_null_test w c from k ≡ true
 unfolding is_null_test
 test_under w c from k l u e =
     let wide : is_wide w ≡ true = and_left (is_wide w) (is_equality c && (is_zero from && may_be_null l)) e in
@@ -91,7 +91,7 @@ number_no_test : (w : Width) (c : Condition) (from : Source) (x : Limits) → is
 unfolding is_null_test
 number_no_test w c from x = rw (and_false (is_zero from), and_false (is_equality c), and_false (is_wide w)) refl
 
-words_under : (k l : Kind) → Under k l → is_number l ≡ true → LimitsWithin (words k) (words l)
+pub words_under : (k l : Kind) → Under k l → is_number l ≡ true → LimitsWithin (words k) (words l)
 words_under (Num x) (Num y) u e = u
 words_under k (Num y) u e = absurd u
 words_under k Unset u e = absurd (let bad : false ≡ true = e in cc)

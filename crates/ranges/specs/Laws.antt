@@ -1,17 +1,18 @@
 -- What holds of abstract values and states.
-use Rattle.std.specs.Prelude.{◌≡◌, ◌↔◌, ℕ, ◌<◌, ◌^◌, Bool, ℤ, true}
+use Rattle.std.specs.Prelude.{◌≡◌, ◌↔◌, ℕ, ◌<◌, ◌^◌, Bool, ℤ, true, None}
+use Rattle.base.specs.Check.{first_failing}
 use Rattle.bpf_isa.specs.declared.instr.Instr.{Instr}
 use Rattle.bpf_isa.specs.declared.instr.Instr.TheVariants as instr
 use Rattle.bpf_isa.specs.declared.instr.Source.{Source}
 use Rattle.bpf_isa.specs.declared.instr.Width.{Width}
 use Rattle.bpf_isa.specs.declared.instr.Condition.{Condition}
-use Rattle.ranges.specs.Rules.{compares}
+use Rattle.ranges.specs.Rules.{compares, rules}
 use Rattle.bpf_isa.specs.Spelling.{IsInRange, IsSourceInRange}
 use Rattle.ranges.specs.After.{after_of}
-use Rattle.ranges.specs.Passing.{edge_of, entry_state}
+use Rattle.ranges.specs.Passing.{edge_of, entry_state, passes}
 use Rattle.ranges.specs.Kinds.{Kind, join, round, Contains}
 use Rattle.ranges.specs.States.{Abstract, join_state, round_state, StateContains, start}
-use Rattle.ranges.specs.Order.{Under, StateUnder, IsBounded, IsState, Holds, EdgeUnder}
+use Rattle.ranges.specs.Order.{Under, StateUnder, IsBounded, IsState, Each, Holds, EdgeUnder, SentUnder}
 
 -- The join of two values is the least value that holds all that either does, and one value contains
 -- another just where it holds all that the other does.
@@ -49,6 +50,7 @@ pub record StatesFit : Type 0 where
   pub after : (sectors : ℕ) (s : Abstract) (i : Instr) → sectors < 2 ^ 64 → IsInRange i → IsState s → Holds IsState (after_of sectors s i)
   pub edge : (s : Abstract) (i : Instr) (taken : Bool) → IsInRange i → IsState s → Holds IsState (edge_of s i taken)
   pub entry : (s : Abstract) → IsState s → IsState (entry_state s)
+  pub passes : (sectors slot : ℕ) (s : Abstract) (i : Instr) → sectors < 2 ^ 64 → IsInRange i → IsState s → Each (λ p. IsState p.1) (passes sectors s slot i)
 
 -- where the larger of two states keeps the rule of a conditional jump, the smaller one passes a
 -- smaller state along each edge, and none where the larger passes none
@@ -56,3 +58,24 @@ abbrev pub EdgesAreMonotone : Type 0
 EdgesAreMonotone = (s t : Abstract) (w : Width) (c : Condition) (dst : ℕ) (from : Source) (distance : ℤ) (taken : Bool)
     → IsSourceInRange from → IsState s → IsState t → StateUnder s t → compares t w c dst from ≡ true
     → EdgeUnder (edge_of s (instr.Branch w c dst from distance) taken) (edge_of t (instr.Branch w c dst from distance) taken)
+
+-- the order of states is one
+pub record StatesAreOrdered : Type 0 where
+  pub self : (s : Abstract) → StateUnder s s
+  pub chain : (s t u : Abstract) → StateUnder s t → StateUnder t u → StateUnder s u
+  pub same : (s t : Abstract) → StateUnder s t → StateUnder t s → s ≡ t
+
+-- a smaller state breaks no rule where a larger one breaks none
+abbrev pub RulesAreMonotone : Type 0
+RulesAreMonotone = (s t : Abstract) (i : Instr) → IsInRange i → IsState s → IsState t → StateUnder s t
+    → first_failing (rules t i) ≡ None → first_failing (rules s i) ≡ None
+
+-- there a smaller state is left with a smaller one behind an instruction, or with none
+abbrev pub AfterIsMonotone : Type 0
+AfterIsMonotone = (sectors : ℕ) (s t : Abstract) (i : Instr) → IsInRange i → IsState s → IsState t → StateUnder s t
+    → first_failing (rules t i) ≡ None → EdgeUnder (after_of sectors s i) (after_of sectors t i)
+
+-- and passes on smaller states
+abbrev pub PassesAreMonotone : Type 0
+PassesAreMonotone = (sectors slot : ℕ) (s t : Abstract) (i : Instr) → IsInRange i → IsState s → IsState t → StateUnder s t
+    → first_failing (rules t i) ≡ None → SentUnder (passes sectors s slot i) (passes sectors t slot i)

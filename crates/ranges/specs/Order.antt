@@ -1,6 +1,6 @@
 -- Which abstract values and states know more than others, in the words of their machine values
 -- (docs/VERIFIER.md, Abstract states), and the bounds that the types of the code keep.
-use Rattle.std.specs.Prelude.{◌≡◌, ◌≤◌, ◌⊎◌, not, IsTrue, Bool, List, [], ◌∷◌, length, Option, None, Some}
+use Rattle.std.specs.Prelude.{◌≡◌, ℕ, ◌≤◌, ◌⊎◌, not, IsTrue, Bool, List, [], ◌∷◌, length, Option, None, Some}
 use Rattle.intervals.specs.Spans.{IsSpan, Within}
 use Rattle.intervals.specs.Reducing.{LimitsWithin, IsLimits}
 use Rattle.ranges.specs.Kinds.{Kind, Unset, Num, Ctx, Stack, Sector, SectorOrNull, is_number, is_unset}
@@ -72,3 +72,10 @@ abbrev pub EdgeUnder : Option Abstract → Option Abstract → Type 0
 EdgeUnder None n = Unit {0}
 EdgeUnder (Some s) None = ⊥
 EdgeUnder (Some s) (Some t) = StateUnder s t
+
+-- what is passed to which slots: for each of the first there is one of the second, in the same order, that is passed
+-- to the same slot and is above it
+abbrev pub SentUnder : List (ℕ × Abstract) → List (ℕ × Abstract) → Type 0
+SentUnder [] qs = Unit {0}
+SentUnder (p ∷ ps) [] = ⊥
+SentUnder (p ∷ ps) (q ∷ qs) = ((p.0 ≡ q.0) × StateUnder p.1 q.1 × SentUnder ps qs) ⊎ SentUnder (p ∷ ps) qs

@@ -1,6 +1,6 @@
 //! Laws of abstract values. The functions do nothing; each contract is a theorem.
 
-ghost use Rattle.ranges.specs.Laws.{JoinIsLeast, RoundContains, StatesJoin, StatesRound, StartFits, StatesFit, EdgesAreMonotone};
+ghost use Rattle.ranges.specs.Laws.{JoinIsLeast, RoundContains, StatesJoin, StatesRound, StartFits, StatesFit, EdgesAreMonotone, StatesAreOrdered, RulesAreMonotone, AfterIsMonotone, PassesAreMonotone};
 
 /// The join of two values is the least that holds all that either does.
 pub fn join_is_least()
@@ -35,4 +35,25 @@ pub fn states_fit()
 /// A smaller state passes smaller states along the edges of a conditional jump.
 pub fn edges_are_monotone()
     ensures { EdgesAreMonotone }
+{}
+
+/// Each state is under itself, the order leads on from state to state, and two states that are under each other are
+/// the same.
+pub fn states_are_ordered()
+    ensures { StatesAreOrdered }
+{}
+
+/// A smaller state breaks no rule where a larger one breaks none.
+pub fn rules_are_monotone()
+    ensures { RulesAreMonotone }
+{}
+
+/// Where a larger state breaks no rule, a smaller one is left with a smaller state behind an instruction, or with none.
+pub fn after_is_monotone()
+    ensures { AfterIsMonotone }
+{}
+
+/// Where a larger state breaks no rule, a smaller one passes smaller states to the same slots, or passes nothing.
+pub fn passes_are_monotone()
+    ensures { PassesAreMonotone }
 {}

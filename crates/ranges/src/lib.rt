@@ -49,12 +49,14 @@
 //! - `round_contains`, `states_round`: rounding loses nothing, and keeps the order.
 //! - `start_fits`, `states_fit`: the state at the start is within the bounds of states (`IsState`), and
 //!   so is what is made of states by joins, rounding, instructions, edges and local calls.
+//! - `states_are_ordered`: each state is under itself, the order leads on from state to state, and two
+//!   that are under each other are the same.
+//! - `rules_are_monotone`: a smaller state breaks no rule where a larger one breaks none.
+//! - `after_is_monotone`, `edges_are_monotone`, `passes_are_monotone`: there it is left with a smaller
+//!   state behind an instruction and on the edges of a conditional jump, or with none, and passes smaller
+//!   states to the same slots.
 //!
-//! - `edges_are_monotone`: on the edges of a conditional jump whose rule the larger of two states keeps,
-//!   the smaller one passes a smaller state, and none where the larger passes none.
-//!
-//! That states cover what the machine does is proved in `soundness`. Not proved yet: that a smaller state
-//! breaks no rule which a larger one keeps, and that `after` keeps the order of states.
+//! That states cover what the machine does is proved in `soundness`.
 //!
 //! # How it is written
 //!
