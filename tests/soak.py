@@ -116,11 +116,12 @@ def options_of(chance, command):
         "checked": chance.choice([0, 1, 2, 100, 10000, 1000000001]),
         "workers": chance.choice([1, 1, 2, 4, 64, 65, 0]),
         "cache": chance.choice([0, 1, 16, 65536, 65537]),
+        "by": chance.choice(["sector", "write", "write", "page"]),
     }
     taken = {
-        "explore": ["sectors", "cuts", "bound", "checked", "workers", "cache"],
-        "images": ["sectors", "cuts", "bound"],
-        "image": ["sectors", "cuts", "bound"],
+        "explore": ["sectors", "cuts", "bound", "checked", "workers", "cache", "by"],
+        "images": ["sectors", "cuts", "bound", "by"],
+        "image": ["sectors", "cuts", "bound", "by"],
         "verify": ["sectors"],
     }.get(command, [])
     words = []
