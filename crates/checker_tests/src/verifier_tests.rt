@@ -5,11 +5,17 @@ ghost use Rattle.bpf_shape.specs.Shape.{IsShapeOf};
 use bpf_isa::codec::decode;
 use bpf_isa::program::Program;
 use bpf_shape::{Shape, shape};
-use ranges::State;
+use intervals::Range;
+use ranges::{ByteMarks, ContextOffset, StackOffset, State};
 use std::alloc::Global;
 use std::test::Fail;
-use verifier::laws::{good_has_no_breach, one_breach, one_verdict, settled_is_good};
-use verifier::{Table, check_table, verify};
+use verifier::laws::{
+    good_has_no_breach, one_breach, one_verdict, settled_is_good, unsigned_stays_good,
+};
+use verifier::{
+    Pointer, Table, UnsignedGroup, UnsignedState, UnsignedTable, UnsignedValue, check_table, raise,
+    verify,
+};
 
 /// A slot: opcode, registers (the source in the high half), offset, immediate.
 type Slot = (u8, u8, i16, i32);
@@ -333,10 +339,42 @@ fn other_tables(rt: HostRuntime) -> Result<(), Fail> {
     Ok(())
 }
 
+/// The start under the rules without signed bounds, but with this value in r0.
+fn unsigned_start(first: UnsignedValue) -> UnsignedState {
+    let unset = UnsignedValue::Unset;
+    let context = UnsignedValue::Pointer(Pointer::Ctx(ContextOffset { offset: 0 }));
+    let stack = UnsignedValue::Pointer(Pointer::Stack(StackOffset { offset: 512 }));
+    let bytes = UnsignedGroup::Marked(ByteMarks {
+        written: [false; 8],
+    });
+    UnsignedState {
+        values: [
+            first, context, unset, unset, unset, unset, unset, unset, unset, unset, stack,
+        ],
+        groups: [bytes; 64],
+    }
+}
+
+#[test]
+fn raised_table(rt: HostRuntime) -> Result<(), Fail> {
+    // mov64 r0, 0; exit
+    let program = program_of(rt.alloc(), &[(0xb7, 0, 0, 0), EXIT])?;
+    let shape = shape(rt.alloc(), &program)?;
+    let start = unsigned_start(UnsignedValue::Unset);
+    let zero = unsigned_start(UnsignedValue::Num(Range { low: 0, high: 0 }));
+    let table = UnsignedTable {
+        states: vec![in rt.alloc(); Some(start), Some(zero)]?,
+    };
+    let raised = raise(rt.alloc(), &table)?;
+    assert_eq!(rt; breach(&program, &shape, &raised), (0, 0));
+    Ok(())
+}
+
 #[test]
 fn laws() {
     good_has_no_breach();
     one_breach();
     settled_is_good();
+    unsigned_stays_good();
     one_verdict();
 }

@@ -75,7 +75,7 @@ group_chain (Spilled k) (Marked ys) (Spilled m) p q = absurd q
 group_chain (Spilled k) (Spilled l) (Marked zs) p q = elim q [ inl n ↦ inl (number_under k l p n) | inr unset ↦ inr unset ]
 group_chain (Spilled k) (Spilled l) (Spilled m) p q = under_chain k l m p q
 
-state_chain : (s t u : Abstract) → StateUnder s t → StateUnder t u → StateUnder s u
+pub state_chain : (s t u : Abstract) → StateUnder s t → StateUnder t u → StateUnder s u
 state_chain s t u p q = record {
   values = each_chain Under under_chain s.values t.values u.values p.values q.values;
   groups = each_chain GroupUnder group_chain s.groups t.groups u.groups p.groups q.groups;
@@ -92,7 +92,7 @@ contains_more s t u a b c e =
     (state_chain u s (join_state s t) (state_under s u a c e) (state_first s t a b))
 
 -- a state contains itself
-under_self : (k : Kind) → Under k k
+pub under_self : (k : Kind) → Under k k
 under_self Unset = tt
 under_self (Num x) = within_self x
 under_self (Ctx a) = refl
@@ -104,13 +104,16 @@ marks_self : (xs : List Bool) → MarksUnder xs xs
 marks_self [] = tt
 marks_self (x ∷ xs) = (λ t. t, marks_self xs)
 
-group_self : (g : GroupKind) → GroupUnder g g
+pub group_self : (g : GroupKind) → GroupUnder g g
 group_self (Marked xs) = marks_self xs
 group_self (Spilled k) = under_self k
 
-each_self : {X : Type 0} (R : X → X → Type 0) → ((x : X) → R x x) → (xs : List X) → EachUnder R xs xs
+pub each_self : {X : Type 0} (R : X → X → Type 0) → ((x : X) → R x x) → (xs : List X) → EachUnder R xs xs
 each_self R f [] = tt
 each_self R f (x ∷ xs) = (f x, each_self R f xs)
 
+pub state_self : (s : Abstract) → StateUnder s s
+state_self s = record { values = each_self Under under_self s.values; groups = each_self GroupUnder group_self s.groups }
+
 pub contains_self : (s : Abstract) → IsState s → StateContains s s
-contains_self s a = state_same s s a a (record { values = each_self Under under_self s.values; groups = each_self GroupUnder group_self s.groups })
+contains_self s a = state_same s s a a (state_self s)

@@ -8,3 +8,5 @@ pub mod Settled
 pub mod Marks
 pub mod Accepting
 pub mod Verdict
+pub mod Staying
+pub mod Filled

@@ -6,6 +6,7 @@ use Rattle.bpf_isa.specs.Program.{IsProgram}
 use Rattle.bpf_shape.specs.Rules.{IsShaped}
 use Rattle.ranges.specs.States.{Abstract}
 use Rattle.verifier.specs.Good.{IsGood}
+use Rattle.verifier.specs.Unsigned.{IsUnsignedGood}
 use Rattle.verifier.specs.Breaches.{FirstBreach, KeepsRules}
 use Rattle.verifier.specs.Rounds.{IsSettled}
 use Rattle.verifier.specs.Verdicts.{VerifiedValue, IsVerified, Refused}
@@ -24,6 +25,12 @@ OneBreach = (program : List (Option Instr)) (sectors : ℕ) (table : List (Optio
 abbrev pub SettledIsGood : Type 0
 SettledIsGood = (program : List (Option Instr)) (sectors : ℕ) (table : List (Option Abstract)) → sectors < 2 ^ 64 → IsProgram program → IsShaped program
     → IsSettled program sectors table → KeepsRules program table → IsGood program sectors table
+
+-- A table that is good under the rules without signed bounds is good under those with them, each number
+-- with all readings of its words.
+abbrev pub UnsignedStaysGood : Type 0
+UnsignedStaysGood = (program : List (Option Instr)) (sectors : ℕ) (table : List (Option Abstract)) → sectors < 2 ^ 64 → IsProgram program
+    → IsUnsignedGood program sectors table → IsGood program sectors table
 
 -- A program has one verdict for a number of sectors, want of memory aside: one refusal, or one budget
 -- and one table.

@@ -1,7 +1,9 @@
 -- Tables, good and inferred (docs/VERIFIER.md, Good table and Inference).
 pub mod Tables
 pub mod Seen
+pub mod SeenUnsigned
 pub mod Good
+pub mod Unsigned
 pub mod Breaches
 pub mod Rounds
 pub mod Verdicts

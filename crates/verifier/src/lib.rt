@@ -14,6 +14,7 @@
 //! | `inferred(alloc, &program, sectors)` | the table on which `verify` looks for the first broken rule, also of a program that is refused |
 //! | `check_table(&program, &shape, sectors, &table)` | that a table is good, or its first breach; takes no memory |
 //! | `Verified`: `program`, `sectors`, `budget`, `table` | what was accepted, for which devices, how many steps a run takes at most, and what is known |
+//! | `raise(alloc, &table)` | what a table of the rules without signed bounds and spilled numbers, an `UnsignedTable`, is under those with them |
 //! | `Table`: `of`, `into_states`, `states`, `slots`, `state` | a table by its states |
 //!
 //! # Place
@@ -75,11 +76,15 @@ mod check;
 mod inferring;
 pub mod laws;
 mod passing;
+mod raising;
 mod rounds;
 mod table;
+mod unsigned_state;
 mod verified;
 
 pub use check::check_table;
 pub use inferring::inferred;
+pub use raising::{UnsignedTable, raise};
 pub use table::Table;
+pub use unsigned_state::{Pointer, UnsignedGroup, UnsignedState, UnsignedValue};
 pub use verified::{Verified, verify};
