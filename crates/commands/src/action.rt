@@ -7,7 +7,7 @@ ghost use Rattle.commands.specs.declared.words.Request.TheVariants as request;
 ghost use Rattle.commands.specs.Explore.{Refuses};
 ghost use Rattle.commands.specs.Settings.{settings_refusal};
 ghost use Rattle.commands.specs.Assembly.{file_refusal};
-ghost use Rattle.commands.specs.Acting.{settings_with, settings_of, words_refusal, AskFor, first_held, unread, stored_log, stored_programs, status_of, AnswersRun, AnswersFiles, Answers, RefusesToAct, RefusesFiles};
+ghost use Rattle.commands.specs.Acting.{settings_of, words_refusal, AskFor, first_held, unread, stored_log, stored_programs, status_of, AnswersRun, AnswersFiles, Answers, RefusesToAct, RefusesFiles};
 
 use crate::asm_command::assembled;
 use crate::explore_command::explore_with;
@@ -49,31 +49,26 @@ pub(crate) const STORED_SETTINGS: Settings = Settings {
     first: false,
 };
 
-/// What these words ask for, with cuts of that kind, and parts of that.
-fn settings_with(words: OptionWords, cuts: Cuts, by: By) -> Settings
-    ensures { result ≡ settings_with words cuts by }
-{
-    Settings {
-        sectors: words.sectors,
-        cuts,
-        bound: words.bound,
-        tears: words.tears,
-        by,
-        workers: words.workers,
-        cache: words.cache,
-        checked: words.checked,
-        first: words.first,
-    }
-}
-
 /// The options that these words ask for.
 pub(crate) fn options_of(words: OptionWords) -> Result<Options, Refusal>
     ensures { MatchResult result (λ o. AskFor words o) (λ r. words_refusal words ≡ Some r) }
 {
-    match (words.cuts, words.by) {
-        (Some(cuts), Some(by)) => Options::new(&settings_with(words, cuts, by)),
-        (Some(_cuts), None) => Err(option_refusal_of(OptionPlace::By)),
-        (None, _) => Err(option_refusal_of(OptionPlace::Cuts)),
+    match words.cuts {
+        Some(cuts) => match words.by {
+            Some(by) => Options::new(&Settings {
+                sectors: words.sectors,
+                cuts,
+                bound: words.bound,
+                tears: words.tears,
+                by,
+                workers: words.workers,
+                cache: words.cache,
+                checked: words.checked,
+                first: words.first,
+            }),
+            None => Err(option_refusal_of(OptionPlace::By)),
+        },
+        None => Err(option_refusal_of(OptionPlace::Cuts)),
     }
 }
 
