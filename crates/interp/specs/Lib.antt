@@ -5,6 +5,5 @@ pub mod Going
 pub mod Cells
 pub mod Reading
 pub mod Frames
-pub mod Operations
 pub mod Stopping
 pub mod Accesses
