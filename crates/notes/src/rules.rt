@@ -157,7 +157,7 @@ pub fn verifier_rule(cause: VerifierCause) -> &'static str {
             "there is no helper of that number, only 1 to 7 (docs/MACHINE.md, Helpers)"
         }
         VerifierCause::Unsettled => {
-            "what is known of the registers doesn't settle in 1000000 rounds (docs/VERIFIER.md, Inference)"
+            "a table isn't settled: what is passed to a slot isn't contained in what the table has there (docs/VERIFIER.md, Good table)"
         }
         VerifierCause::Memory => "there is no memory to verify the program",
     }

@@ -33,7 +33,7 @@ faultless : (v : VerifiedValue) (device : List (List ℕ)) (context : Context) �
     → StepsWithoutFault v.program (context_bytes context) device
 faultless v device context verified image = λ n s cause slot reached fault.
     no_fault _ cause slot
-    (table_covers.sound v.program v.sectors device context v.table n s (setting v device context verified image) verified.good reached) fault
+    (table_covers.sound v.program v.sectors device context v.table n s (setting v device context verified image) verified.table.good reached) fault
 
 ends : (program : List (Option Instr)) (device : List (List ℕ)) (context : Context) (budget : ℕ)
     → StepsWithoutFault program (context_bytes context) device → EndsWithin program (context_bytes context) device budget → IsSafeRun program device context budget

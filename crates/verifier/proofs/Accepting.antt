@@ -1,13 +1,15 @@
--- What is accepted.
+-- What is accepted, and what is refused.
 use Rattle.std.proofs.Common.{◌≡◌, ◌≤◌, ◌<◌, ◌^◌, ℕ, List, Option}
 use Rattle.bpf_isa.specs.declared.instr.Instr.{Instr}
 use Rattle.bpf_isa.specs.Program.{IsProgram}
 use Rattle.bpf_shape.specs.Shape.{ShapeValue, IsShapeOf}
 use Rattle.ranges.specs.States.{Abstract}
-use Rattle.verifier.specs.Breaches.{KeepsRules}
+use Rattle.base.specs.declared.causes.VerifierCause.{VerifierCause}
+use Rattle.bpf_shape.specs.Rules.{IsShaped}
+use Rattle.verifier.specs.Breaches.{KeepsRules, FirstRule}
 use Rattle.verifier.specs.Rounds.{IsSettled}
-use Rattle.verifier.specs.Verdicts.{IsVerified}
-use Rattle.verifier.proofs.Settled.{settled_is_good}
+use Rattle.verifier.specs.Verdicts.{IsVerified, Refused, no_table}
+use Rattle.verifier.proofs.Below.{settled_is_least, broken_has_no_good, rule_is_breach}
 
 pub accepted : (program : List (Option Instr)) (sectors budget : ℕ) (table : List (Option Abstract)) (shape : ShapeValue) → 1 ≤ sectors → sectors ≤ 16384 → sectors < 2 ^ 64
     → IsProgram program → IsShapeOf program shape → budget ≡ shape.budget → IsSettled program sectors table → KeepsRules program table
@@ -20,6 +22,11 @@ accepted program sectors budget table shape some device few p h e settled kept =
       shape = h.rules;
       budget = rw e h.budget;
       limit = rw e h.limit;
-      settled = settled;
-      good = settled_is_good program sectors table few p h.rules settled kept;
+      table = settled_is_least program sectors table few p h.rules settled kept;
     }
+
+pub refused : (program : List (Option Instr)) (sectors : ℕ) (table : List (Option Abstract)) (c : VerifierCause) (slot : ℕ) → sectors < 2 ^ 64 → IsProgram program → IsShaped program
+    → IsSettled program sectors table → FirstRule program table c slot → Refused program sectors c slot
+refused program sectors table c slot few p h settled first =
+    no_table c slot table h (broken_has_no_good program sectors table c slot few p h settled first.breaks) settled
+    (rule_is_breach program sectors table c slot few p h settled first)

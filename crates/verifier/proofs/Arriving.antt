@@ -26,7 +26,7 @@ joined_keeps None s x h a b c = absurd c
 joined_keeps (Some t) s x h a b c = contains_more t s x h a b c
 
 -- what is known after an arrival: at its slot, and at the others
-here : (table : List (Option Abstract)) (p : ℕ × Abstract) → p.0 < length table → state_at (receive table p) p.0 ≡ Some (joined (state_at table p.0) p.1)
+pub here : (table : List (Option Abstract)) (p : ℕ × Abstract) → p.0 < length table → state_at (receive table p) p.0 ≡ Some (joined (state_at table p.0) p.1)
 here table p inside = get_or-set_same table p.0 (Some (joined (state_at table p.0) p.1)) None inside
 
 pub elsewhere : (table : List (Option Abstract)) (p : ℕ × Abstract) (slot : ℕ) → (slot ≡ p.0 → ⊥) → state_at (receive table p) slot ≡ state_at table slot
@@ -60,7 +60,7 @@ pub all_long : (table : List (Option Abstract)) (ps : List (ℕ × Abstract)) �
 all_long table [] = refl
 all_long table (p ∷ ps) = all_long (receive table p) ps ∙ receive_long table p
 
-still : (table : List (Option Abstract)) (p : ℕ × Abstract) (ps : List (ℕ × Abstract)) → Arrive (length table) ps → Arrive (length (receive table p)) ps
+pub still : (table : List (Option Abstract)) (p : ℕ × Abstract) (ps : List (ℕ × Abstract)) → Arrive (length table) ps → Arrive (length (receive table p)) ps
 still table p ps a = rw (receive_long table p) a
 
 pub all_fit : (table : List (Option Abstract)) (ps : List (ℕ × Abstract)) → AreStates table → Arrive (length table) ps → AreStates (fold receive table ps)

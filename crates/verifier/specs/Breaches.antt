@@ -4,7 +4,6 @@ use Rattle.std.specs.Prelude.{◌≡◌, ◌≢◌, ◌<◌, ◌⊎◌, ℕ, Lis
 use Rattle.base.specs.declared.causes.VerifierCause.{VerifierCause}
 use Rattle.base.specs.declared.causes.VerifierCause.TheVariants as cause
 use Rattle.bpf_isa.specs.declared.instr.Instr.{Instr}
-use Rattle.bpf_shape.specs.declared.fault.Fault.{Fault}
 use Rattle.ranges.specs.States.{Abstract, start}
 use Rattle.verifier.specs.Tables.{state_at, Covers, CoversAll, rule_at, sent_from}
 use Rattle.verifier.specs.Good.{IsGoodAt}
@@ -37,7 +36,3 @@ pub record FirstRule (program : List (Option Instr)) (table : List (Option Abstr
 -- no slot breaks a rule
 abbrev pub KeepsRules : List (Option Instr) → List (Option Abstract) → Type 0
 KeepsRules program table = (slot : ℕ) → rule_at program table slot ≡ None
-
--- the cause of tables that are not settled
-abbrev pub unsettled_at : ℕ → Fault
-unsettled_at slot = record { code = cause.Unsettled; slot = slot }

@@ -1,6 +1,7 @@
 -- What holds of tables.
-use Rattle.std.specs.Prelude.{◌≡◌, ◌<◌, ◌^◌, ℕ, List, Option}
+use Rattle.std.specs.Prelude.{◌≡◌, ◌<◌, ◌^◌, ℕ, suc, List, Option}
 use Rattle.base.specs.declared.causes.VerifierCause.{VerifierCause}
+use Rattle.base.specs.declared.causes.VerifierCause.TheVariants as cause
 use Rattle.bpf_isa.specs.declared.instr.Instr.{Instr}
 use Rattle.bpf_isa.specs.Program.{IsProgram}
 use Rattle.bpf_shape.specs.Rules.{IsShaped}
@@ -8,7 +9,9 @@ use Rattle.ranges.specs.States.{Abstract}
 use Rattle.verifier.specs.Good.{IsGood}
 use Rattle.verifier.specs.Unsigned.{IsUnsignedGood}
 use Rattle.verifier.specs.Breaches.{FirstBreach, KeepsRules}
-use Rattle.verifier.specs.Rounds.{IsSettled}
+use Rattle.verifier.specs.Least.{IsLeast}
+use Rattle.verifier.specs.Rounds.{rounds, IsSame, IsSettled}
+use Rattle.verifier.specs.Measure.{weight}
 use Rattle.verifier.specs.Verdicts.{VerifiedValue, IsVerified, Refused}
 
 -- a good table has no first breach
@@ -26,11 +29,20 @@ abbrev pub SettledIsGood : Type 0
 SettledIsGood = (program : List (Option Instr)) (sectors : ℕ) (table : List (Option Abstract)) → sectors < 2 ^ 64 → IsProgram program → IsShaped program
     → IsSettled program sectors table → KeepsRules program table → IsGood program sectors table
 
--- A table that is good under the rules without signed bounds is good under those with them, each number
--- with all readings of its words.
-abbrev pub UnsignedStaysGood : Type 0
-UnsignedStaysGood = (program : List (Option Instr)) (sectors : ℕ) (table : List (Option Abstract)) → sectors < 2 ^ 64 → IsProgram program
-    → IsUnsignedGood program sectors table → IsGood program sectors table
+-- A good table of a program of right shape is enough for a least one, there is one least table only, and no program is
+-- refused for a table that isn't settled.
+pub record AcceptanceIsExact : Type 0 where
+  pub least : (program : List (Option Instr)) (sectors : ℕ) (g : List (Option Abstract)) → sectors < 2 ^ 64 → IsProgram program → IsShaped program
+      → IsGood program sectors g → (table : List (Option Abstract)) × IsLeast program sectors table
+  pub one : (program : List (Option Instr)) (sectors : ℕ) (t u : List (Option Abstract)) → IsLeast program sectors t → IsLeast program sectors u → t ≡ u
+  pub settled : (program : List (Option Instr)) (sectors slot : ℕ) → sectors < 2 ^ 64 → IsProgram program → Refused program sectors cause.Unsettled slot → ⊥
+
+-- each round that changes the table raises its sum, which stays below 2^96
+pub record RoundsEnd : Type 0 where
+  pub rises : (program : List (Option Instr)) (sectors turns : ℕ) → sectors < 2 ^ 64 → IsProgram program → IsShaped program
+      → (IsSame program sectors (rounds program sectors turns) → ⊥) → weight (rounds program sectors turns) < weight (rounds program sectors (suc turns))
+  pub below : (program : List (Option Instr)) (sectors turns : ℕ) → sectors < 2 ^ 64 → IsProgram program → IsShaped program
+      → weight (rounds program sectors turns) < 2 ^ 96
 
 -- A program has one verdict for a number of sectors, want of memory aside: one refusal, or one budget
 -- and one table.

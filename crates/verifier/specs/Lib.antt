@@ -3,9 +3,10 @@ pub mod Tables
 pub mod Seen
 pub mod SeenUnsigned
 pub mod Good
-pub mod Unsigned
+pub mod Least
 pub mod Breaches
 pub mod Rounds
+pub mod Measure
 pub mod Verdicts
 pub mod Passing
 pub mod Laws

@@ -1,5 +1,5 @@
 -- Inference by rounds (docs/VERIFIER.md, Inference).
-use Rattle.std.specs.Prelude.{◌≡◌, ◌<◌, ℕ, zero, suc, if◌then◌else◌, List, [], length, replicate, set, Option, None, Some, is_some}
+use Rattle.std.specs.Prelude.{◌≡◌, ℕ, zero, suc, if◌then◌else◌, List, [], length, replicate, set, Option, None, Some, is_some}
 use Rattle.std.specs.List.{fold, flat_map, range_with_len}
 use Rattle.bpf_isa.specs.declared.instr.Instr.{Instr}
 use Rattle.ranges.specs.States.{Abstract, join_state, start}
@@ -39,17 +39,8 @@ rounds program sectors (suc n) = round_of program sectors (rounds program sector
 abbrev pub IsSame : List (Option Instr) → ℕ → List (Option Abstract) → Type 0
 IsSame program sectors table = round_of program sectors table ≡ table
 
--- how many rounds are made at most
-abbrev pub most_rounds : ℕ
-most_rounds = 1000000
-
--- the table that one of these rounds doesn't change
+-- the table at which the rounds end: one of them, which a round doesn't change
 pub record IsSettled (program : List (Option Instr)) (sectors : ℕ) (table : List (Option Abstract)) : Type 0 where
   pub turns : ℕ
-  pub few : turns < most_rounds
   pub is : table ≡ rounds program sectors turns
   pub same : IsSame program sectors table
-
--- each of these rounds changes the table
-abbrev pub IsUnsettled : List (Option Instr) → ℕ → Type 0
-IsUnsettled program sectors = (turns : ℕ) → turns < most_rounds → IsSame program sectors (rounds program sectors turns) → ⊥

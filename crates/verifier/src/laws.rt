@@ -1,6 +1,6 @@
 //! Laws of tables. The functions do nothing; each contract is a theorem.
 
-ghost use Rattle.verifier.specs.Laws.{GoodHasNoBreach, OneBreach, SettledIsGood, UnsignedStaysGood, OneVerdict};
+ghost use Rattle.verifier.specs.Laws.{GoodHasNoBreach, OneBreach, SettledIsGood, AcceptanceIsExact, RoundsEnd, OneVerdict};
 
 use bpf_shape::laws::{no_fault_in_shaped, one_fault};
 
@@ -19,9 +19,15 @@ pub fn settled_is_good()
     ensures { SettledIsGood }
 {}
 
-/// A table that is good without signed bounds stays good with them.
-pub fn unsigned_stays_good()
-    ensures { UnsignedStaysGood }
+/// Where a good table exists there is a least one, which is the only one; and no program is refused for a table that
+/// isn't settled.
+pub fn acceptance_is_exact()
+    ensures { AcceptanceIsExact }
+{}
+
+/// The rounds end: each that changes the table raises its sum, which stays below 2^96.
+pub fn rounds_end()
+    ensures { RoundsEnd }
 {}
 
 /// A program has one verdict at most: one refusal, or one budget and one table.

@@ -33,23 +33,27 @@
 //!   on to which slots as it arrives there, rounded at heads. All else is said by these two.
 //! - `Good`: `IsGood`. That the states are within their bounds is a part of it, and holds of each `Table`.
 //!   `Breaches`: `FirstBreach` of a table, in the order of the document.
-//! - `Rounds`: `round_of`, the table of so many `rounds`, and `IsSettled`: the table of fewer than
-//!   1,000,000 rounds that a round doesn't change.
-//! - `Verdicts`: `IsVerified`, what holds of each `Verified`, and `Refused`, by cases.
+//! - `Least`: `IsLeast`, a good table that is contained in each good table.
+//! - `Rounds`: `round_of`, the table of so many `rounds`, and `IsSettled`: the one of them that a round doesn't
+//!   change. `Measure`: the sum of a table, by which the rounds end.
+//! - `Verdicts`: `IsVerified`, what holds of each `Verified`, and `Refused`, by cases. Acceptance speaks of no rounds:
+//!   a program is accepted where it has the right shape and a good table exists.
 //!
 //! The contracts, in words:
 //!
 //! - `check_table` answers Ok exactly where the table is good, else its first breach. Which breach that
 //!   is is determined, and a good table has none (`laws`).
-//! - What `verify` accepts has right shape, the budget of its longest path, and the settled table of the
-//!   rounds, which is good, so that `check_table` takes it.
-//! - What it refuses, want of memory aside, breaks this shape rule first; or it breaks this rule first on
-//!   its settled table; or its rounds don't settle in time. No program is both accepted and refused, and
-//!   there is one budget, one table and one refusal at most (`laws`).
+//! - What `verify` accepts has right shape, the budget of its longest path, and its least good table, which
+//!   `check_table` takes.
+//! - What it refuses, want of memory aside, breaks this shape rule first; or no table is good for it, and this is
+//!   the first breach of its settled table. No program is both accepted and refused, there is one budget, one table
+//!   and one refusal at most, and none is refused for a table that isn't settled (`laws`).
+//! - The rounds end: each that changes the table raises its sum, which stays below 2^96 (`laws`). So there is no
+//!   limit of rounds.
 //! - `inferred` answers the settled table of each program of right shape, also of one that breaks a rule.
 //!
-//! That the settled table is the least of all good tables is not proved yet; that a run of an accepted
-//! program meets no fault is proved in `soundness`.
+//! That the settled table is the least rests on `ranges`: a smaller state breaks no rule that a larger one keeps, and
+//! passes on smaller states. That a run of an accepted program meets no fault is proved in `soundness`.
 //!
 //! # How it is written
 //!

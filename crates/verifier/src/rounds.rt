@@ -3,26 +3,19 @@
 //! In a round only the slots with a mark pass on what they know: those at which the round before learned
 //! something. What the others pass on is contained where it arrives since they passed it on last.
 
-ghost use Rattle.std.specs.Prelude.{◌≡◌, ◌<◌, ◌⊎◌, ◌++◌, [], ◌∷◌, OnOk, IfOk, IfErr, true, false, get_or, length, map, replicate};
+ghost use Rattle.std.specs.Prelude.{◌≡◌, ◌<◌, ◌++◌, [], ◌∷◌, OnOk, IfOk, true, false, get_or, length, map, replicate};
 ghost use Rattle.bpf_isa.specs.Program.{IsProgram};
-ghost use Rattle.bpf_shape.specs.Fault.{memory_fault};
 ghost use Rattle.bpf_shape.specs.Shape.{IsShapeOf};
 ghost use Rattle.verifier.specs.Tables.{sent_from};
 ghost use Rattle.verifier.specs.Seen.{arrival_of, arrivals_of};
-ghost use Rattle.verifier.specs.Breaches.{unsettled_at};
-ghost use Rattle.verifier.specs.Rounds.{passed_by, IsSettled, IsUnsettled};
+ghost use Rattle.verifier.specs.Rounds.{passed_by, IsSettled};
 ghost use Rattle.verifier.specs.Passing.{Arrive, IsRound, Arrived, IsMarked, MadeRound, Kept, passed_if, passed_again};
 
-use crate::check::refused;
 use crate::passing::{Arrival, Arrivals, rule_at, sent_from};
 use crate::table::Table;
-use base::causes::VerifierCause;
 use bpf_isa::program::Program;
-use bpf_shape::{Fault, Shape};
+use bpf_shape::Shape;
 use std::alloc::{AllocError, Global};
-
-/// The greatest number of rounds.
-const MOST_ROUNDS: u32 = 1_000_000;
 
 /// Appends what is passed on.
 fn push_arrivals(waiting: &mut Vec<Arrival>, arrivals: Arrivals) -> Result<(), AllocError>
@@ -172,24 +165,22 @@ fn make_round(
     Ok(arrive_all(table, marks, waiting.as_slice()))
 }
 
-/// The table that the rounds don't change any more.
+/// The table at which the rounds end: each that changes it raises its sum, which stays below 2^96.
 pub(crate) fn infer(
     alloc: Global,
     program: &Program,
     shape: &Shape,
     sectors: u32,
-) -> Result<Table, Fault>
+) -> Result<Table, AllocError>
     requires shape { IsShapeOf program.now shape.now }
     ensures settled { IfOk result (λ table. IsSettled program.now sectors table) }
     ensures program { OnOk result (IsProgram program.now) }
-    ensures refused { IfErr result (λ f. (f ≡ memory_fault) ⊎ ((f ≡ unsettled_at 0) × IsUnsettled program.now sectors)) }
 {
     let mut table = Table::first(alloc, program.slots())?;
     let mut marks = all_marked(alloc, program.slots())?;
-    for _ in 0..MOST_ROUNDS {
+    loop {
         if !make_round(alloc, program, shape, sectors, &mut table, &mut marks)? {
             return Ok(table);
         }
     }
-    Err(refused(VerifierCause::Unsettled, 0))
 }

@@ -15,8 +15,8 @@ use bpf_shape::{Fault, shape};
 use std::alloc::Global;
 use std::marker::Model;
 
-/// A program that is accepted for devices of so many sectors, with the budget of its steps and the
-/// table that was inferred.
+/// A program that is accepted for devices of so many sectors, with the budget of its steps and its
+/// least good table.
 ///
 /// Contracts see it as a record of these four, of which `IsVerified` always holds.
 #[derive(Drop)]
@@ -62,7 +62,7 @@ impl<'x> Verified<'x> {
         self.budget
     }
 
-    /// What is known at each slot. The table is good.
+    /// What is known at each slot: the least good table.
     pub fn table(&self) -> &Table
         ensures table { result.now ≡ self.now.table }
         ensures verified { IsVerified self.now }
@@ -71,9 +71,9 @@ impl<'x> Verified<'x> {
     }
 }
 
-/// Whether a program is accepted for devices of so many sectors (docs/VERIFIER.md). Else the first
-/// broken shape rule; or the first rule that is broken on the table that was inferred; or, at slot 0,
-/// `Unsettled`, where the rounds don't end in time. `Memory` is want of memory.
+/// Whether a program is accepted for devices of so many sectors (docs/VERIFIER.md): it is where it has the right shape
+/// and some table is good for it, and then it has the least good table. Else the first broken shape rule; or the first
+/// breach of the table at which the rounds end, where no table is good. `Memory` is want of memory.
 pub fn verify<'x>(alloc: Global, program: &'x Program, sectors: u32) -> Result<Verified<'x>, Fault>
     requires some { 1 ≤ sectors }
     requires device { sectors ≤ 16384 }

@@ -1,9 +1,11 @@
-use Rattle.std.proofs.Common.{◌≡◌, ◌<◌, ℕ}
-use Rattle.verifier.specs.Rounds.{rounds, IsSame}
+use Rattle.std.proofs.Common.{◌≡◌, ◌-◌, ◌^◌, ℕ}
+use Rattle.verifier.specs.Rounds.{rounds}
+use Rattle.verifier.specs.Measure.{weight}
 use Rattle.verifier.specs.Passing.{IsMarked}
 use Rattle.verifier.proofs.rounds.infer.Given as goal
 
-abbrev pub invariant-loop : goal.invariant-loop
-invariant-loop l =
-    (l.table ≡ rounds l.program l.sectors l.counter) × IsMarked l.program l.sectors l.table l.marks.items
-    × ((n : ℕ) → n < l.counter → IsSame l.program l.sectors (rounds l.program l.sectors n) → ⊥)
+abbrev pub invariant-loop-marks : goal.invariant-loop-marks
+invariant-loop-marks l = ((turns : ℕ) × (l.table ≡ rounds l.program l.sectors turns)) × IsMarked l.program l.sectors l.table l.marks.items
+
+abbrev pub decreases-loop-marks : goal.decreases-loop-marks
+decreases-loop-marks l = 2 ^ 96 - weight l.table

@@ -1,7 +1,7 @@
 use Rattle.std.proofs.Common.{inl, inr, arith}
 use Rattle.std.proofs.lemmas.Result.{err_from_is_err_and}
-use Rattle.verifier.specs.Verdicts.{shape, rule, endless}
-use Rattle.verifier.proofs.Accepting.{accepted}
+use Rattle.verifier.specs.Verdicts.{shape}
+use Rattle.verifier.proofs.Accepting.{accepted, refused}
 use Rattle.verifier.proofs.verified.verify.Goals as goal
 
 pub returns-in_err-shape-clause-refused : goal.returns-in_err-shape-clause-refused
@@ -13,19 +13,12 @@ returns-in_err-shape-clause-refused c =
       | inr broken ↦ inr (shape _ _ broken)
     ])
 
-pub returns-in_err-table-clause-refused : goal.returns-in_err-table-clause-refused
-returns-in_err-table-clause-refused c =
-    let p = err_from_is_err_and c.from_residual-in_err-table.result c.from_residual-in_err-table.ensures.1 in
-    rw (p.1, p.2)
-    (elim c.in_err-table.ensures.refused [
-      | inl memory ↦ inl memory
-      | inr unsettled ↦ inr (rw unsettled.0 (endless c.in_ok-shape.ensures.shape.rules unsettled.1))
-    ])
-
 pub returns-in_err-check_rules-clause-refused : goal.returns-in_err-check_rules-clause-refused
 returns-in_err-check_rules-clause-refused c =
     let p = err_from_is_err_and c.from_residual-in_err-check_rules.result c.from_residual-in_err-check_rules.ensures.1 in
-    rw (p.1, p.2) (inr (rule _ _ c.in_ok-table.table c.in_ok-shape.ensures.shape.rules c.in_ok-table.ensures.settled c.in_err-check_rules.ensures.broken))
+    rw (p.1, p.2)
+    (inr (refused c.args.program.now c.args.sectors c.in_ok-table.table _ _ (omega (arith, c.ranges.sectors.fits)) c.in_ok-table.ensures.program
+    c.in_ok-shape.ensures.shape.rules c.in_ok-table.ensures.settled c.in_err-check_rules.ensures.broken))
 
 pub invariant_of-result : goal.invariant_of-result
 invariant_of-result c =
