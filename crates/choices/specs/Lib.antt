@@ -9,3 +9,4 @@ pub mod Laws
 pub mod Sums
 pub mod Named
 pub mod Seeking
+pub mod Numbers

@@ -18,6 +18,8 @@
 //! | `starts.nth(number)` | the choice of a number, by the table |
 //! | `next(plan, bound, tears, choice)` | goes on to the following choice, if there is one |
 //! | `choice_named(plan, bound, tears, cut, names)` | the choice at a cut of which the departures have these names |
+//! | `numbers_at(plan, bound, tears, cut, rest)` | the departures of a choice at a cut as numbers that rise in their order |
+//! | `starts.range_of(place)` | the numbers of the choices at the wanted cut of a place |
 //! | `choice.cut()`, `choice.departures()` | the cut, and the departures with their fates |
 //! | `choice.departures_owned()` | the same departures, for what outlives the choice |
 //!
@@ -83,6 +85,7 @@ mod fate;
 mod laws;
 mod name;
 mod named;
+mod numbers;
 mod pick;
 mod rank;
 mod ranked;
@@ -95,5 +98,6 @@ pub use fate::{Eighths, Fate};
 pub use laws::{list_is_set, ranked_is_model, ways_agree};
 pub use name::Name;
 pub use named::choice_named;
+pub use numbers::numbers_at;
 pub use ranked::{TooMany, count, count_at, next, nth};
 pub use starts::Starts;

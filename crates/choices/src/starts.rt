@@ -1,8 +1,9 @@
 //! The choices of a plan, found by a table.
 
-ghost use Rattle.std.specs.Prelude.{◌≡◌, ◌+◌, ◌-◌, ◌<◌, ◌≤◌, length, IfOk};
+ghost use Rattle.std.specs.Prelude.{◌≡◌, ◌+◌, ◌-◌, ℕ, ◌<◌, ◌≤◌, length, IfOk};
 ghost use Rattle.std.specs.List.{slice_index_or};
-ghost use Rattle.choices.specs.Choices.{ranked, limit};
+ghost use Rattle.epochs.specs.Cuts.{cuts_of};
+ghost use Rattle.choices.specs.Choices.{ranked, ranked_at, ranked_before, limit};
 ghost use Rattle.choices.specs.Sums.{AreSums, FallsAt};
 
 use crate::choice::Choice;
@@ -74,6 +75,40 @@ impl<'a> Starts<'a> {
     {
         let (place, rest) = self.place_of(number);
         choice_at(self.plan, self.bound, self.tears, place, rest)
+    }
+
+    /// Its plan.
+    pub fn plan(&self) -> &'a Plan<'a>
+        ensures { result.now ≡ self.now.plan }
+    {
+        self.plan
+    }
+
+    /// How many departures a choice may have.
+    pub fn bound(&self) -> u8
+        ensures value { result ≡ self.now.bound }
+        ensures few { result ≤ 3 }
+    {
+        self.bound
+    }
+
+    /// Whether writes may be torn.
+    pub fn tears(&self) -> bool
+        ensures { result ≡ self.now.tears }
+    {
+        self.tears
+    }
+
+    /// The numbers of the choices at the wanted cut of that place: the first, and the one behind the last.
+    pub fn range_of(&self, place: usize) -> (u64, u64)
+        requires { place < length (cuts_of self.now.plan.kind self.now.plan.log.entries) }
+        ensures first { result.0 ≡ length (ranked_before self.now.plan self.now.bound self.now.tears place) }
+        ensures end { result.1 ≡ length (ranked_before self.now.plan self.now.bound self.now.tears (place + 1)) }
+        ensures own { (cut : ℕ) → slice_get (cuts_of self.now.plan.kind self.now.plan.log.entries) place ≡ Some cut
+            → result.1 ≡ result.0 + length (ranked_at self.now.plan self.now.bound self.now.tears cut) }
+    {
+        let sums = self.sums.as_slice();
+        (u64::from(sums[place]), u64::from(sums[place + 1]))
     }
 
     /// The place of a choice's cut among the wanted cuts, and its number among the choices at that cut.

@@ -1,0 +1,6 @@
+-- Lemmas of the crate.
+pub mod Between
+pub mod Ordered
+pub mod Counting
+pub mod Collected
+pub mod Standing

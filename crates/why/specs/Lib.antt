@@ -1,0 +1,4 @@
+-- Why a program fails.
+pub mod Groups
+pub mod Failures
+pub mod Laws
