@@ -87,6 +87,18 @@ le_alike a b c d to back = elim (cases_lt b a) [
   ]
 ]
 
+-- a part of one sector is torn as it is
+one_kept : (t n j : ℕ) → n ≡ 1 → j < n → t * n - 8 * j ≡ t
+one_kept t n j one lt =
+    let P : ℕ → Type 0 = λ m. t * m - 8 * j ≡ t in
+    subst P (sym one) (omega (arith, lt, one))
+
+pub one_head : (t n j : ℕ) → n ≡ 1 → j < n → 1 ≤ t → t < 8 → Some (fate.Head t) ≡ head_of (t * n - 8 * j)
+one_head t n j one lt low high = sym (ap head_of (one_kept t n j one lt) ∙ head_some t low high)
+
+pub one_tail : (t n j : ℕ) → n ≡ 1 → j < n → 1 ≤ t → t < 8 → Some (fate.Tail t) ≡ tail_of (t * n - 8 * (n - 1 - j))
+one_tail t n j one lt low high = sym (ap tail_of (one_kept t n (n - 1 - j) one (omega (arith, lt, one))) ∙ tail_some t low high)
+
 -- byte i of sector j of a part, of which the first m eighths of sectors are kept
 head_share : (m j i : ℕ) → i < 512 → nat_lt (512 * j + i) (64 * m) ≡ kept_by (head_of (m - 8 * j)) i
 head_share m j i lt = elim (eighths (m - 8 * j)) [
@@ -172,6 +184,12 @@ torn_there fate.Drop n j g within h left =
     absurd (let bad : true ≡ false = sym left ∙ ap (λ f. leaves (Some f)) drop in cc)
 torn_there (fate.Head t) n j g within h left = head_tear (t * n) j g h left
 torn_there (fate.Tail t) n j g within h left = tail_tear n (t * n) j g within h left
+
+-- nor is the part dropped then
+pub tears_by : (f : Fate) (n j : ℕ) (g : Fate) → share_of f n j ≡ Some g → leaves (Some g) ≡ true → leaves (Some f) ≡ true
+tears_by fate.Drop n j g h left = ap (λ (k : Fate). leaves (Some k)) (same_Some fate.Drop g h) ∙ left
+tears_by (fate.Head t) n j g h left = refl
+tears_by (fate.Tail t) n j g h left = refl
 
 -- the eighths of a part: at least one for each of its sectors, and fewer than all
 pub mul_bounds : (t n : ℕ) → 1 ≤ t → t < 8 → (n ≤ t * n) × (t * n ≤ 7 * n)

@@ -1,6 +1,6 @@
 -- The sectors in which a torn unit shows: each has a departure of that unit.
 use Rattle.std.proofs.Common.{ℕ, suc, ◌≡◌, ◌+◌, ◌-◌, ◌<◌, ◌≤◌, ◌==◌, Bool, true, false, if◌then◌else◌, not, List, [], ◌∷◌, ◌++◌, length, slice_get, Option, Some, None, refl, sym, subst, ◌∙◌, ap, inl, inr, arith, length-append}
-use Rattle.std.specs.Option.{option_map_or, is_some, is_none}
+use Rattle.std.specs.Option.{option_map_or, is_some}
 use Rattle.std.proofs.lemmas.Bool.{cases_lt}
 use Rattle.std.proofs.lemmas.Option.{slice_get_within, same_Some}
 use Rattle.base.proofs.Lists.{slice_get-append_left, slice_get-push, slice_get_of_push}
@@ -16,7 +16,7 @@ use Rattle.images.specs.declared.torn.TornSector.{TornSector}
 use Rattle.images.specs.Images.{is_in, sector_after}
 use Rattle.images.specs.Table.{versions, share, leaves, tear_of, fate_at, showing, is_torn, HasSector, AreTorn}
 use Rattle.images.proofs.Kept.{some_departure}
-use Rattle.images.proofs.Shares.{lies_in, taken, torn_there}
+use Rattle.images.proofs.Shares.{lies_in, taken, tears_by, torn_there}
 use Rattle.images.proofs.Showing.{showing_reaches}
 use Rattle.images.proofs.Spliced.{unit_showing}
 
@@ -29,8 +29,7 @@ pub record TornSoFar (log : LogValue) (cut : ℕ) (ds : List Departure) (n : ℕ
   pub few : length torn ≤ n
   pub bytes : (j : ℕ) (t : TornSector) → slice_get torn j ≡ Some t
       → t.content ≡ sector_after log.entries (units_before log.entries cut) ds t.number
-  pub each : (i : ℕ) (d : Departure) → i < n → slice_get ds i ≡ Some d → is_torn ds (versions log.entries cut (tear_sector d)) ≡ true
-      → HasSector torn (tear_sector d)
+  pub each : (i : ℕ) (d : Departure) → i < n → slice_get ds i ≡ Some d → leaves (Some d.fate) ≡ true → HasSector torn (tear_sector d)
 
 -- the loop over the departures: the torn sectors before it, with one more, and at its end
 pub none_torn : (log : LogValue) (cut : ℕ) (ds : List Departure) (torn : List TornSector) → torn ≡ [] → TornSoFar log cut ds 0 torn
@@ -38,23 +37,23 @@ none_torn log cut ds torn none =
     let first : TornSoFar log cut ds 0 [] = record {
       few = omega arith;
       bytes = λ j t there. absurd (let bad : None ≡ Some t = there in cc);
-      each = λ i d lt there shows. absurd (omega (arith, lt));
+      each = λ i d lt there tears. absurd (omega (arith, lt));
     } in
     let P : List TornSector → Type 0 = λ ts. TornSoFar log cut ds 0 ts in
     subst P (sym none) first
 
--- a departure of a unit that isn't torn or doesn't show
+-- a departure that tears nothing
 pub not_torn : (log : LogValue) (cut : ℕ) (ds : List Departure) (n : ℕ) (torn : List TornSector) (d : Departure) → TornSoFar log cut ds n torn
-    → slice_get ds n ≡ Some d → false ≡ is_torn ds (versions log.entries cut (tear_sector d)) → TornSoFar log cut ds (n + 1) torn
-not_torn log cut ds n torn d was here whole = record {
+    → slice_get ds n ≡ Some d → leaves (Some d.fate) ≡ false → TornSoFar log cut ds (n + 1) torn
+not_torn log cut ds n torn d was here dropped = record {
   few = let few = was.few in omega (arith, few);
   bytes = was.bytes;
-  each = λ i e lt there shows. elim (cases_lt i n) [
-    | inl less ↦ was.each i e less there shows
+  each = λ i e lt there tears. elim (cases_lt i n) [
+    | inl less ↦ was.each i e less there tears
     | inr past ↦
         let same : i ≡ n = omega (arith, lt, past) in
         let one : e ≡ d = same_Some e d (sym there ∙ ap (slice_get ds) same ∙ here) in
-        let bad : false ≡ true = whole ∙ ap (λ (f : Departure). is_torn ds (versions log.entries cut (tear_sector f))) (sym one) ∙ shows in
+        let bad : false ≡ true = sym dropped ∙ ap (λ (f : Departure). leaves (Some f.fate)) (sym one) ∙ tears in
         absurd (let b : false ≡ true = bad in cc)
   ];
 }
@@ -71,9 +70,9 @@ one_torn log cut ds n torn more d t was here is number content =
         | inr last ↦ ap (λ (x : TornSector). x.content) last.1 ∙ content
             ∙ ap (sector_after log.entries (units_before log.entries cut) ds) (sym number ∙ ap (λ (x : TornSector). x.number) (sym last.1))
       ];
-      each = λ i e lt there shows. elim (cases_lt i n) [
+      each = λ i e lt there tears. elim (cases_lt i n) [
         | inl less ↦
-            let has = was.each i e less there shows in
+            let has = was.each i e less there tears in
             (has.0, has.1, ap (λ ts. slice_get ts has.0) is ∙ slice_get-append_left torn (t ∷ []) has.0 (slice_get_within torn has.0 has.1 has.2) ∙ has.2, has.3)
         | inr past ↦
             let same : i ≡ n = omega (arith, lt, past) in
@@ -103,6 +102,10 @@ torn_here log d u f part unit of left =
     let high = at.high in
     let place = torn_there d.fate d.part.count (u.place - d.part.place) f (omega (arith, low, high)) own.1 left in
     sym (one_sector log d.part u part unit own.0 ∙ ap (λ n. d.part.sector + n) place)
+
+-- what leaves something of a unit, and not all of it, isn't a drop
+tears_it : (d : Departure) (u : LogUnit) (f : Fate) → share d u ≡ Some f → leaves (Some f) ≡ true → leaves (Some d.fate) ≡ true
+tears_it d u f of left = tears_by d.fate d.part.count (u.place - d.part.place) f (taken d u f of).1 left
 
 unit_torn : (ds : List Departure) (row : List LogUnit) → is_torn ds row ≡ true
     → (u : LogUnit) × (f : Fate) × (showing ds row ≡ Some u) × (fate_at ds u ≡ Some f) × (leaves (Some f) ≡ true)
@@ -137,16 +140,22 @@ all_torn log cut ds n torn is le parts all so = record {
       let d = departs.1 in
       let sector : tear_sector d ≡ s = torn_here log d shown.0 shown.1 (parts departs.0 d departs.2) unit.0 departs.3 shown.4 ∙ unit.1 in
       let within = slice_get_within ds departs.0 d departs.2 in
-      let has = so.each departs.0 d (omega (arith, within, all)) departs.2 (ap (λ m. is_torn ds (versions log.entries cut m)) sector ∙ torn_there) in
+      let has = so.each departs.0 d (omega (arith, within, all)) departs.2 (tears_it d shown.0 shown.1 departs.3 shown.4) in
       (has.0, has.1, has.2, has.3 ∙ sector);
 }
 
--- that nothing is found, by the two tests of an option
-pub torn_if : {A : Type 0} (o : Option A) (t b : Bool) → is_some o ≡ not b → is_none o ≡ t → b ≡ t
-torn_if None t true some none = none
-torn_if None t false some none = absurd (let bad : false ≡ true = some in cc)
-torn_if (Some x) t true some none = absurd (let bad : true ≡ false = some in cc)
-torn_if (Some x) t false some none = none
+-- where no departure tears its part nothing has to be formed
+pub none_tears : (log : LogValue) (cut : ℕ) (ds : List Departure) (torn : List TornSector) → IsLog log → cut ≤ length log.entries
+    → ((i : ℕ) (d : Departure) → slice_get ds i ≡ Some d → IsPart log d.part) → ((i : ℕ) (d : Departure) → slice_get ds i ≡ Some d → leaves (Some d.fate) ≡ false)
+    → torn ≡ [] → AreTorn log cut ds torn
+none_tears log cut ds torn is le parts none empty =
+    let so : TornSoFar log cut ds (length ds) [] = record {
+      few = omega arith;
+      bytes = λ j t there. absurd (let bad : None ≡ Some t = there in cc);
+      each = λ i d lt there tears. absurd (let bad : false ≡ true = sym (none i d there) ∙ tears in cc);
+    } in
+    let P : List TornSector → Type 0 = λ ts. AreTorn log cut ds ts in
+    subst P (sym empty) (all_torn log cut ds (length ds) [] is le parts (omega arith) so)
 
 -- no torn unit shows where nothing departs
 pub none_departs : (row : List LogUnit) → is_torn [] row ≡ false

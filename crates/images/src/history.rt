@@ -2,9 +2,10 @@
 
 ghost use Rattle.std.specs.Prelude.{◌≡◌, IfOk, IsOk};
 
-use crate::torn::torn_sectors;
+use crate::torn::{put_torn, tear_any};
 use crate::versions::{Versions, rows_of};
 use crate::view::View;
+use arrayvec::ArrayVec;
 use choices::Choice;
 use epochs::{Plan, Unit};
 use helpers::Context;
@@ -64,18 +65,30 @@ impl<'a> History<'a> {
     {
         let cut = choice.cut();
         let versions = Versions::of(&*self.log, self.rows.as_slice());
-        let torn = torn_sectors(&versions, cut, choice.departures());
+        let own = choice.departures();
         let departures = choice.departures_owned();
+        let context = Context {
+            sectors: self.log.sectors(),
+            epoch: self.plan.epoch(cut),
+            marks: self.plan.marks(cut),
+        };
+        if tear_any(own) {
+            let mut torn = ArrayVec::new();
+            put_torn(&mut torn, &versions, cut, own);
+            return Ok(View {
+                versions,
+                cut,
+                departures,
+                torn,
+                context,
+            });
+        }
         Ok(View {
             versions,
             cut,
             departures,
-            torn,
-            context: Context {
-                sectors: self.log.sectors(),
-                epoch: self.plan.epoch(cut),
-                marks: self.plan.marks(cut),
-            },
+            torn: ArrayVec::new(),
+            context,
         })
     }
 }

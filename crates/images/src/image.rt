@@ -57,6 +57,7 @@ fn tail_of(kept: u64) -> Option<Fate>
 }
 
 /// What becomes of a sector of a part of so many sectors, before which so many others stand, by the fate of the part.
+#[tactic(auto, using(crate::proofs::Shares::one_head, crate::proofs::Shares::one_tail))]
 fn share_of(fate: Fate, count: u64, before: u64) -> Option<Fate>
     requires count { count < 2 ^ 32 }
     requires before { before < count }
@@ -65,11 +66,21 @@ fn share_of(fate: Fate, count: u64, before: u64) -> Option<Fate>
     match fate {
         Fate::Drop => Some(Fate::Drop),
         Fate::Head(eighths) => {
-            head_of((u64::from(eighths.count()) * count).saturating_sub(8 * before))
+            let kept = eighths.count();
+            if count == 1 {
+                Some(Fate::Head(eighths))
+            } else {
+                head_of((u64::from(kept) * count).saturating_sub(8 * before))
+            }
         }
         Fate::Tail(eighths) => {
-            let behind = count - 1 - before;
-            tail_of((u64::from(eighths.count()) * count).saturating_sub(8 * behind))
+            let kept = eighths.count();
+            if count == 1 {
+                Some(Fate::Tail(eighths))
+            } else {
+                let behind = count - 1 - before;
+                tail_of((u64::from(kept) * count).saturating_sub(8 * behind))
+            }
         }
     }
 }
@@ -179,8 +190,8 @@ pub(crate) fn formed(log: &Log, row: &[Unit], departures: &[Departure]) -> Secto
     let last = row.len() - 1;
     let unit = row[last];
     let content = content_of(log, unit);
-    match fate_at(departures, unit) {
-        None => *content,
-        Some(fate) => laid(content, &formed(log, &row[..last], departures), fate),
-    }
+    let Some(fate) = fate_at(departures, unit) else {
+        return *content;
+    };
+    laid(content, &formed(log, &row[..last], departures), fate)
 }

@@ -85,9 +85,9 @@
 //! dropped, where it lies in the log, or the one sector of zeros (`lent`). A part that departs has a
 //! fate over all of its bytes; `share_of` in `image` says what that makes of one of its sectors: the
 //! sector is whole, dropped, or torn as a part of one sector is. Where the unit that shows is torn the
-//! view owns the sector: `torn` forms these when the view is made, at most three, by `lanes::splice` of
-//! the unit's content and of what the units before it leave, back to the last whole one (`formed` in
-//! `image`).
+//! view owns the sector: `torn` forms these when the view is made, one for each departure that tears its
+//! part, so at most three, by `lanes::splice` of the unit's content and of what the units before it
+//! leave, back to the last whole one (`formed` in `image`). An image in which no part is torn owns none.
 //!
 //! `changes` makes keys. It keeps the sectors in which the image where nothing departs differs from the
 //! base, and carries this list to a later cut by adding what the entries between the two write; behind

@@ -1,11 +1,11 @@
 //! The sectors of a crash image in which a torn unit shows.
 
-ghost use Rattle.std.specs.Prelude.{◌≡◌, ◌+◌, ◌<◌, ◌≤◌, ℕ, length, slice_get, Some};
+ghost use Rattle.std.specs.Prelude.{◌≡◌, ◌+◌, ◌<◌, ◌≤◌, [], ℕ, IsFalse, false, length, slice_get, Some};
 ghost use Rattle.choices.specs.declared.choice.Departure.{Departure as LogDeparture};
 ghost use Rattle.epochs.specs.Plan.{IsPart};
 ghost use Rattle.logfmt.specs.Bounds.{IsLog};
 ghost use Rattle.images.specs.declared.torn.TornSector.{TornSector as Torn};
-ghost use Rattle.images.specs.Table.{HasSector, AreTorn, DepartOnce, tear_of};
+ghost use Rattle.images.specs.Table.{HasSector, AreTorn, DepartOnce, leaves, tear_of};
 
 use crate::image::Sector;
 use crate::versions::Versions;
@@ -53,30 +53,56 @@ fn tear(departure: Departure) -> u32
     part.sector + tear_of(departure.fate, part.count)
 }
 
-/// The sectors in which a torn unit shows, each by the departure that tears it.
-pub(crate) fn torn_sectors(
+/// Whether a part with that fate is torn: something of it reaches the device, and something doesn't.
+fn tears(fate: Fate) -> bool
+    ensures { result ≡ leaves (Some fate) }
+{
+    match fate {
+        Fate::Drop => false,
+        Fate::Head(_) => true,
+        Fate::Tail(_) => true,
+    }
+}
+
+/// Whether one of the departures tears its part.
+#[inline(always)]
+pub(crate) fn tear_any(departures: &[Departure]) -> bool
+    ensures { IsFalse result → (i : ℕ) (d : LogDeparture) → slice_get departures.now i ≡ Some d → leaves (Some d.fate) ≡ false }
+{
+    for departure in departures {
+        if tears(departure.fate) {
+            return true;
+        }
+    }
+    false
+}
+
+/// Fills an empty list with the sectors in which a torn unit shows: with that of each departure that
+/// tears its part, whatever shows there.
+#[inline(never)]
+pub(crate) fn put_torn(
+    torn: &mut ArrayVec<TornSector, 3>,
     versions: &Versions<'_>,
     cut: u32,
     departures: &[Departure],
-) -> ArrayVec<TornSector, 3>
+)
+    requires empty { torn.old.items ≡ [] }
     requires bounds { IsLog versions.now }
     requires cut { cut ≤ length versions.now.entries }
     requires few { length departures.now ≤ 3 }
     requires parts { (i : ℕ) (d : LogDeparture) → slice_get departures.now i ≡ Some d → IsPart versions.now d.part }
     requires once { DepartOnce departures.now }
-    ensures { AreTorn versions.now cut departures.now result.items }
+    ensures { AreTorn versions.now cut departures.now torn.new.items }
 {
-    let mut torn = ArrayVec::new();
     for departure in departures {
-        let number = tear(*departure);
-        if versions.lent(number, cut, departures).is_none() {
+        if tears(departure.fate) {
+            let number = tear(*departure);
             torn.push(TornSector {
                 number,
                 content: versions.formed(number, cut, departures),
             });
         }
     }
-    torn
 }
 
 /// The bytes of a torn sector.

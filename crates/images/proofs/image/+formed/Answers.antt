@@ -18,16 +18,16 @@ formed-requires t c =
     let some : 0 < length c.args.row.now = search rules in
     (search rules, ((λ i u there. c.requires.units i u (in_take _ c.args.row.now i u there)), c.requires.once))
 
-pub returns-in-None : goal.returns-in-None
-returns-in-None t c =
+pub returns-in_default : goal.returns-in_default
+returns-in_default t c =
     let some : 0 < length c.args.row.now = search rules in
     let there = slice_get-get_or c.args.row.now (length c.args.row.now - 1) _ (omega (arith, some)) in
     λ s all. whole_last c.args.log.now.entries c.args.row.now c.args.departures.now s (length c.args.row.now - 1) _ _
-    (omega (arith, some)) there (all _ _ there) (sym c.fate_at.ensures ∙ c.in-None.is)
+    (omega (arith, some)) there (all _ _ there) (sym c.fate_at.ensures ∙ c.in_default.is)
     c.content_of-content.ensures.value c.content_of-content.ensures.size
 
-pub returns-in-Some : goal.returns-in-Some
-returns-in-Some t c =
+pub returns : goal.returns
+returns t c =
     let some : 0 < length c.args.row.now = search rules in
     let there = slice_get-get_or c.args.row.now (length c.args.row.now - 1) _ (omega (arith, some)) in
     λ s all. spliced c.args.log.now.entries c.args.row.now c.args.departures.now s (length c.args.row.now - 1) _ _ _ _ _

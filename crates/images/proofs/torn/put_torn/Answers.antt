@@ -2,10 +2,9 @@ use Rattle.std.proofs.Common.{refl, sym, ◌∙◌, ap, arith}
 use Rattle.std.proofs.lemmas.Option.{slice_get_read}
 use Rattle.epochs.specs.Units.{units_before}
 use Rattle.images.specs.Images.{sector_after}
-use Rattle.images.specs.Table.{versions, is_torn}
-use Rattle.images.proofs.Tears.{not_torn, one_torn, all_torn, torn_if}
-use Rattle.images.proofs.torn.torn_sectors.Goals as goal
-use Rattle.images.proofs.torn.torn_sectors.Goals.{then-is_none, else-is_none}
+use Rattle.images.proofs.Tears.{not_torn, one_torn, all_torn}
+use Rattle.images.proofs.torn.put_torn.Goals as goal
+use Rattle.images.proofs.torn.put_torn.Goals.{then-tears, else-tears}
 
 pub tear-number-requires-clause-some : goal.tear-number-requires-clause-some
 tear-number-requires-clause-some c =
@@ -19,13 +18,6 @@ tear-number-requires-clause-device c =
     let small = c.requires.bounds.device in
     omega (arith, on, small)
 
-pub lent-requires-clause-number : goal.lent-requires-clause-number
-lent-requires-clause-number c =
-    let there = slice_get_read c.args.departures.now _ c.loop-departure.departure-index _ refl c.loop-departure-test.true c.departure-item.is in
-    let on = (c.requires.parts c.loop-departure.departure-index _ there).device in
-    let inside = c.tear-number.ensures.inside in
-    omega (arith, on, inside)
-
 pub formed-requires-clause-number : goal.formed-requires-clause-number
 formed-requires-clause-number c =
     let there = slice_get_read c.args.departures.now _ c.loop-departure.departure-index _ refl c.loop-departure-test.true c.departure-item.is in
@@ -38,12 +30,12 @@ loop-departure-preserved c =
     let log = c.args.versions.now in
     let ds = c.args.departures.now in
     let there = slice_get_read ds _ c.loop-departure.departure-index _ refl c.loop-departure-test.true c.departure-item.is in
-    elim c.if-is_none.branch [
-      | then-is_none w ↦
-          rw w.torn-is (one_torn log c.args.cut ds c.loop-departure.departure-index c.loop-departure.torn.items _ c.departure-item.result _ c.loop-departure.invariant there w.push.ensures.items c.tear-number.ensures.value (w.formed.ensures ∙ ap (sector_after log.entries (units_before log.entries c.args.cut) ds) c.tear-number.ensures.value))
-      | else-is_none w ↦
+    elim c.if-tears.branch [
+      | then-tears w ↦
+          rw w.torn-is (one_torn log c.args.cut ds c.loop-departure.departure-index c.loop-departure.torn.items _ c.departure-item.result _ c.loop-departure.invariant there w.push.ensures.items w.tear-number.ensures.value (w.formed.ensures ∙ ap (sector_after log.entries (units_before log.entries c.args.cut) ds) w.tear-number.ensures.value))
+      | else-tears w ↦
           rw w.torn-is (not_torn log c.args.cut ds c.loop-departure.departure-index c.loop-departure.torn.items c.departure-item.result c.loop-departure.invariant there
-          (sym w.if-is_none.false ∙ torn_if c.lent.result _ c.is_none.result c.is_none.ensures c.lent.ensures.torn ∙ ap (λ n. is_torn ds (versions log.entries c.args.cut n)) c.tear-number.ensures.value))
+          (sym c.tears.ensures ∙ w.if-tears.false))
     ]
 
 pub returns : goal.returns
