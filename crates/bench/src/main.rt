@@ -7,6 +7,7 @@
 mod caching;
 mod choosing;
 mod kernels;
+mod parting;
 mod reading;
 mod running;
 mod texts;
@@ -20,8 +21,9 @@ fn main(rt: HostRuntime) -> io::Result<()> {
         Some(word) if word.as_str() == "caching" => caching::run(&rt),
         Some(word) if word.as_str() == "choosing" => choosing::run(&rt),
         Some(word) if word.as_str() == "kernels" => kernels::run(&rt),
+        Some(word) if word.as_str() == "parting" => parting::run(&rt),
         Some(word) if word.as_str() == "reading" => reading::run(&rt),
         Some(word) if word.as_str() == "running" => running::run(&rt),
-        _ => println!(rt; "usage: bench caching|choosing|kernels|reading|running"),
+        _ => println!(rt; "usage: bench caching|choosing|kernels|parting|reading|running"),
     }
 }

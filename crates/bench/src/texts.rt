@@ -1,5 +1,7 @@
 //! Logs that are made for timing.
 
+ghost use Rattle.std.specs.Prelude.{◌≤◌};
+
 use base::numbers::{put_u32, put_u64, put_zeros};
 use std::alloc::{AllocError, Global};
 
@@ -31,6 +33,13 @@ pub fn put_header(
     put_u64(text, count)?;
     put_u64(text, flags)?;
     put_zeros(text, 488)
+}
+
+/// Appends the data of so many sectors, all bytes alike.
+pub fn put_data(text: &mut Vec<u8>, sectors: u64, byte: u8) -> Result<(), AllocError>
+    requires { sectors ≤ 8 }
+{
+    text.resize(text.len().saturating_add(512 * sectors as usize), byte)
 }
 
 /// Appends a write of one sector, all bytes alike but its last two words.
