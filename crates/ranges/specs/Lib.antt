@@ -12,3 +12,4 @@ pub mod After
 pub mod Passing
 pub mod Order
 pub mod Laws
+pub mod Moving

@@ -17,7 +17,7 @@ use bpf_isa::register::Register;
 use intervals::{Bounds, refine_bounds};
 
 /// Whether an edge of a null test says that the register is 0.
-fn is_equal_edge(condition: Condition, taken: bool) -> bool
+pub(crate) fn is_equal_edge(condition: Condition, taken: bool) -> bool
     ensures { result ≡ is_equal_edge condition taken }
 {
     match condition {
@@ -27,7 +27,7 @@ fn is_equal_edge(condition: Condition, taken: bool) -> bool
 }
 
 /// The answer of helper 1 behind a null test.
-fn tested_value(is_zero: bool) -> Value
+pub(crate) fn tested_value(is_zero: bool) -> Value
     ensures { kind_of result ≡ tested_kind is_zero }
 {
     if is_zero {

@@ -27,7 +27,7 @@ use helpers::Helper;
 use intervals::{Bounds, Range, result_bounds};
 
 /// What arithmetic makes of the words of two numbers; None where it leaves no word.
-fn computed(instr: &Instr, first: Value, other: Value) -> Option<Value>
+pub(crate) fn computed(instr: &Instr, first: Value, other: Value) -> Option<Value>
     requires { IsTrue (is_arithmetic instr.now) }
     ensures { option_map kind_of result ≡ computed instr.now (kind_of first) (kind_of other) }
 {
@@ -55,7 +55,7 @@ fn moved_or_computed(
 
 /// What arithmetic makes of dst and the second operand; None where it leaves no word.
 #[tactic(auto, unfolding(crate::specs::After::result_kind))]
-fn result_value(instr: &Instr, first: Value, other: Value) -> Option<Value>
+pub(crate) fn result_value(instr: &Instr, first: Value, other: Value) -> Option<Value>
     requires { IsTrue (is_arithmetic instr.now) }
     ensures { option_map kind_of result ≡ result_kind instr.now (kind_of first) (kind_of other) }
 {
@@ -118,7 +118,7 @@ fn group_value(group: Group) -> Value
 
 /// What a load gives.
 #[tactic(auto, unfolding(crate::specs::After::loaded_kind))]
-fn loaded(state: &State, sectors: u32, place: Place, size: Size) -> Value
+pub(crate) fn loaded(state: &State, sectors: u32, place: Place, size: Size) -> Value
     requires { Fits place (byte_count size) }
     ensures { kind_of result ≡ loaded_kind sectors (state_of state.now).groups place (byte_count size) }
 {
@@ -132,7 +132,7 @@ fn loaded(state: &State, sectors: u32, place: Place, size: Size) -> Value
 }
 
 /// What a helper answers.
-fn answer_value(helper: Helper) -> Value
+pub(crate) fn answer_value(helper: Helper) -> Value
     ensures { kind_of result ≡ answer_kind helper }
 {
     match helper {

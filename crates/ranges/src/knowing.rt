@@ -120,6 +120,24 @@ impl State {
         }
     }
 
+    /// Joins another state to it, as `join` does.
+    #[tactic(auto, unfolding(crate::specs::States::join_state))]
+    pub fn take_in(&mut self, other: &State)
+        ensures { state_of self.new ≡ join_state (state_of self.old) (state_of other.now) }
+    {
+        self.values = join_values(&self.values, &other.values);
+        self.groups = join_groups(&self.groups, &other.groups);
+    }
+
+    /// Rounds it, as `round` does.
+    #[tactic(auto, unfolding(crate::specs::States::round_state))]
+    pub fn widen(&mut self)
+        ensures { state_of self.new ≡ round_state (state_of self.old) }
+    {
+        self.values = round_values(&self.values);
+        self.groups = round_groups(&self.groups);
+    }
+
     /// Whether it covers all that the other does: the join of both is itself.
     #[tactic(auto, unfolding(crate::specs::States::join_state))]
     pub fn contains(&self, other: &State) -> bool
@@ -176,6 +194,36 @@ impl State {
         ensures { state_of result ≡ with_value (state_of self.now) register (kind_of value) }
     {
         self.with_at(register.number(), value)
+    }
+
+    /// Puts another value into register n.
+    pub(crate) fn set_at(&mut self, n: usize, value: Value)
+        requires { n < 11 }
+        ensures { state_of self.new ≡ with_value (state_of self.old) n (kind_of value) }
+    {
+        self.values[n] = value;
+    }
+
+    /// Puts another value into a register.
+    pub(crate) fn set_value(&mut self, register: Register, value: Value)
+        ensures { state_of self.new ≡ with_value (state_of self.old) register (kind_of value) }
+    {
+        self.set_at(register.number(), value);
+    }
+
+    /// Puts other groups into it.
+    pub(crate) fn set_groups(&mut self, groups: [Group; 64])
+        ensures { state_of self.new ≡ with_groups (state_of self.old) (map group_of groups) }
+    {
+        self.groups = groups;
+    }
+
+    /// Puts another group n into it.
+    pub(crate) fn set_group(&mut self, n: usize, group: Group)
+        requires { n < 64 }
+        ensures { state_of self.new ≡ with_groups (state_of self.old) (slice_set (state_of self.old).groups n (group_of group)) }
+    {
+        self.groups[n] = group;
     }
 
     /// The state with other groups.

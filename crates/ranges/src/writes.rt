@@ -90,3 +90,31 @@ pub(crate) fn with_stored(state: &State, value: Value, place: Place, n: u64) -> 
         _ => *state,
     }
 }
+
+/// Writes n bytes from a place on.
+// The new groups make its frame large.
+#[inline(never)]
+pub(crate) fn write(state: &mut State, place: Place, n: u64)
+    requires { Fits place n }
+    ensures { state_of state.new ≡ with_groups (state_of state.old) (written_at (state_of state.old).groups place n) }
+{
+    if let Place::Stack(at) = place {
+        let groups = written(&state.groups, at, n);
+        state.set_groups(groups);
+    }
+}
+
+/// Stores a value.
+#[tactic(auto, unfolding(crate::specs::After::stored_groups))]
+pub(crate) fn store(state: &mut State, value: Value, place: Place, n: u64)
+    requires { Fits place n }
+    ensures { state_of state.new ≡ with_groups (state_of state.old) (stored_groups (kind_of value) (state_of state.old).groups place n) }
+{
+    if let Place::Stack(at) = place {
+        if value.is_set() && is_group(at, n) {
+            state.set_group((at / 8) as usize, Group::Spilled(Spill { value }));
+        } else {
+            write(state, place, n);
+        }
+    }
+}

@@ -1,5 +1,5 @@
 -- What an instruction passes on, edge by edge.
-use Rattle.std.proofs.Common.{◌≡◌, ℕ, ◌+◌, Bool, List, [], ◌∷◌, ◌++◌, map, Option, Some, None, refl}
+use Rattle.std.proofs.Common.{◌≡◌, ℕ, ◌+◌, Bool, List, [], ◌∷◌, ◌++◌, map, Option, Some, None, refl, ap, ◌∙◌, append_assoc}
 use Rattle.std.specs.Option.{option_to_list}
 use Rattle.bpf_isa.specs.declared.instr.Instr.{Instr}
 use Rattle.bpf_isa.specs.declared.instr.Instr.TheVariants as instr
@@ -37,3 +37,11 @@ by_edges heads sectors slot s (instr.Branch w c dst from distance) = two heads _
 by_edges heads sectors slot s (instr.CallLocal distance) = with_entry heads _ _ _ _
 by_edges heads sectors slot s (instr.LoadImmediate dst x) = one heads (slot + 2) (after_of sectors s (instr.LoadImmediate dst x))
 by_edges heads sectors slot s i = one heads (slot + 1) (after_of sectors s i)
+
+-- both edges, one after the other
+pub by_both : (heads : List Bool) (sectors slot : ℕ) (s : Abstract) (i : Instr) (before : List (ℕ × Abstract))
+    → before ++ option_to_list (along heads (edges_of slot i).next (next_state sectors s i)) ++ option_to_list (along heads (target_of slot i) (target_state s i))
+    ≡ before ++ map (arrival heads) (passes sectors s slot i)
+by_both heads sectors slot s i before =
+    append_assoc before (option_to_list (along heads (edges_of slot i).next (next_state sectors s i))) (option_to_list (along heads (target_of slot i) (target_state s i)))
+    ∙ ap (λ t. before ++ t) (by_edges heads sectors slot s i)

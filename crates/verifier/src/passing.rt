@@ -1,12 +1,12 @@
 //! What a slot passes on, and the first rule that is broken there.
 
-ghost use Rattle.std.specs.Prelude.{◌≡◌, ◌<◌, Some};
-ghost use Rattle.std.specs.Option.{option_map};
+ghost use Rattle.std.specs.Prelude.{◌≡◌, ◌<◌, ◌++◌, OnOk, Some, map};
+ghost use Rattle.std.specs.Option.{option_map, option_to_list};
 ghost use Rattle.base.specs.Check.{first_failing};
 ghost use Rattle.bpf_shape.specs.Again.{heads};
 ghost use Rattle.ranges.specs.SeenStates.{state_of};
 ghost use Rattle.ranges.specs.Rules.{rules};
-ghost use Rattle.ranges.specs.Passing.{edge_of};
+ghost use Rattle.ranges.specs.Moving.{reached};
 ghost use Rattle.verifier.specs.Tables.{arriving, arrival, rule_at, sent_from, passed_on};
 ghost use Rattle.verifier.specs.Passing.{next_state, target_of, target_state, along};
 ghost use Rattle.verifier.specs.Seen.{arrival_of, arrivals_of};
@@ -16,7 +16,8 @@ use base::causes::VerifierCause;
 use bpf_isa::instr::Instr;
 use bpf_isa::program::Program;
 use bpf_shape::{Shape, callee_of, edges_of};
-use ranges::{State, after, branch, check, entry};
+use ranges::{State, advance, check, enter, follow};
+use std::alloc::AllocError;
 
 /// A state that arrives at a slot.
 #[derive(Clone, Copy)]
@@ -54,13 +55,14 @@ pub(crate) fn rule_at(program: &Program, table: &Table, slot: usize) -> Option<V
     }
 }
 
-/// The state on the edge to the next slot, on a device of so many sectors.
+/// Leads a state along the edge to the next slot, on a device of so many sectors. Whether something is
+/// passed there.
 #[tactic(auto, unfolding(crate::specs::Passing::next_state))]
-fn next_state(instr: &Instr, state: &State, sectors: u32) -> Option<State>
-    ensures { option_map state_of result ≡ next_state sectors (state_of state.now) instr.now }
+fn go_next(instr: &Instr, state: &mut State, sectors: u32) -> bool
+    ensures { next_state sectors (state_of state.old) instr.now ≡ reached result (state_of state.new) }
 {
     match instr {
-        Instr::Branch { .. } => branch(instr, false, state),
+        Instr::Branch { .. } => follow(instr, false, state),
         Instr::Arithmetic { .. }
         | Instr::Negate { .. }
         | Instr::SignExtend { .. }
@@ -74,7 +76,7 @@ fn next_state(instr: &Instr, state: &State, sectors: u32) -> Option<State>
         | Instr::LoadSigned { .. }
         | Instr::StoreImmediate { .. }
         | Instr::Store { .. }
-        | Instr::LoadImmediate { .. } => after(instr, state, sectors),
+        | Instr::LoadImmediate { .. } => advance(instr, state, sectors),
     }
 }
 
@@ -91,13 +93,16 @@ fn target_of(slot: usize, instr: &Instr) -> Option<usize>
     }
 }
 
-/// The state that is passed there.
+/// Leads a state there. Whether something is passed.
 #[tactic(auto, unfolding(crate::specs::Passing::target_state))]
-fn target_state(instr: &Instr, state: &State) -> Option<State>
-    ensures { option_map state_of result ≡ target_state (state_of state.now) instr.now }
+fn go_to_target(instr: &Instr, state: &mut State) -> bool
+    ensures { target_state (state_of state.old) instr.now ≡ reached result (state_of state.new) }
 {
     match instr {
-        Instr::CallLocal { .. } => Some(entry(state)),
+        Instr::CallLocal { .. } => {
+            enter(state);
+            true
+        }
         Instr::Arithmetic { .. }
         | Instr::Negate { .. }
         | Instr::SignExtend { .. }
@@ -111,31 +116,78 @@ fn target_state(instr: &Instr, state: &State) -> Option<State>
         | Instr::LoadSigned { .. }
         | Instr::StoreImmediate { .. }
         | Instr::Store { .. }
-        | Instr::LoadImmediate { .. } => branch(instr, true, state),
+        | Instr::LoadImmediate { .. } => follow(instr, true, state),
     }
 }
 
-/// A state as it arrives at a slot, rounded where that is a head.
-fn arriving(shape: &Shape, slot: usize, state: &State) -> State
-    ensures { state_of result ≡ arriving shape.now.heads slot (state_of state.now) }
+/// A state arrives at a slot: it is rounded where that is a head.
+fn arrive_at(shape: &Shape, slot: usize, state: &mut State)
+    ensures { state_of state.new ≡ arriving shape.now.heads slot (state_of state.old) }
 {
     if shape.is_head(slot) {
-        state.round()
-    } else {
-        *state
+        state.widen();
     }
 }
 
-/// What arrives along an edge, if there is one and something is passed.
-fn along(shape: &Shape, edge: Option<usize>, state: Option<State>) -> Option<Arrival>
-    ensures { option_map arrival_of result ≡ along shape.now.heads edge (option_map state_of state) }
+/// What arrives at the next slot, if something is passed there.
+fn at_next(
+    shape: &Shape,
+    slot: usize,
+    sectors: u32,
+    instr: &Instr,
+    state: &State,
+) -> Option<Arrival>
+    ensures { option_map arrival_of result ≡ along shape.now.heads (Some slot) (next_state sectors (state_of state.now) instr.now) }
 {
-    match (edge, state) {
-        (Some(slot), Some(state)) => Some(Arrival {
-            slot,
-            state: arriving(shape, slot, &state),
-        }),
-        _ => None,
+    let mut arrived = *state;
+    if !go_next(instr, &mut arrived, sectors) {
+        return None;
+    }
+    arrive_at(shape, slot, &mut arrived);
+    Some(Arrival {
+        slot,
+        state: arrived,
+    })
+}
+
+/// What arrives at the target, if something is passed there.
+fn at_target(shape: &Shape, slot: usize, instr: &Instr, state: &State) -> Option<Arrival>
+    ensures { option_map arrival_of result ≡ along shape.now.heads (Some slot) (target_state (state_of state.now) instr.now) }
+{
+    let mut arrived = *state;
+    if !go_to_target(instr, &mut arrived) {
+        return None;
+    }
+    arrive_at(shape, slot, &mut arrived);
+    Some(Arrival {
+        slot,
+        state: arrived,
+    })
+}
+
+/// What arrives along the edge to the next slot, if there is one and something is passed.
+fn along_next(
+    shape: &Shape,
+    edge: Option<usize>,
+    sectors: u32,
+    instr: &Instr,
+    state: &State,
+) -> Option<Arrival>
+    ensures { option_map arrival_of result ≡ along shape.now.heads edge (next_state sectors (state_of state.now) instr.now) }
+{
+    match edge {
+        Some(slot) => at_next(shape, slot, sectors, instr, state),
+        None => None,
+    }
+}
+
+/// What arrives along the other edge, if there is one and something is passed.
+fn along_target(shape: &Shape, edge: Option<usize>, instr: &Instr, state: &State) -> Option<Arrival>
+    ensures { option_map arrival_of result ≡ along shape.now.heads edge (target_state (state_of state.now) instr.now) }
+{
+    match edge {
+        Some(slot) => at_target(shape, slot, instr, state),
+        None => None,
     }
 }
 
@@ -146,8 +198,126 @@ fn passed_on(shape: &Shape, sectors: u32, slot: usize, instr: &Instr, state: &St
 {
     let next = edges_of(slot, instr).next;
     Arrivals {
-        next: along(shape, next, next_state(instr, state, sectors)),
-        target: along(shape, target_of(slot, instr), target_state(instr, state)),
+        next: along_next(shape, next, sectors, instr, state),
+        target: along_target(shape, target_of(slot, instr), instr, state),
+    }
+}
+
+/// Appends what arrives at the next slot, if something is passed there.
+// The state makes its frame large, so it is entered only where there is that edge.
+#[inline(never)]
+fn push_at_next(
+    waiting: &mut Vec<Arrival>,
+    shape: &Shape,
+    slot: usize,
+    sectors: u32,
+    instr: &Instr,
+    state: &State,
+) -> Result<(), AllocError>
+    ensures { OnOk result (map arrival_of waiting.new.items ≡ map arrival_of waiting.old.items ++ option_to_list (along shape.now.heads (Some slot) (next_state sectors (state_of state.now) instr.now))) }
+{
+    let mut arrival = Arrival {
+        slot,
+        state: *state,
+    };
+    if !go_next(instr, &mut arrival.state, sectors) {
+        return Ok(());
+    }
+    arrive_at(shape, slot, &mut arrival.state);
+    waiting.push(arrival)?;
+    Ok(())
+}
+
+/// Appends what arrives at the target, if something is passed there.
+#[inline(never)]
+fn push_at_target(
+    waiting: &mut Vec<Arrival>,
+    shape: &Shape,
+    slot: usize,
+    instr: &Instr,
+    state: &State,
+) -> Result<(), AllocError>
+    ensures { OnOk result (map arrival_of waiting.new.items ≡ map arrival_of waiting.old.items ++ option_to_list (along shape.now.heads (Some slot) (target_state (state_of state.now) instr.now))) }
+{
+    let mut arrival = Arrival {
+        slot,
+        state: *state,
+    };
+    if !go_to_target(instr, &mut arrival.state) {
+        return Ok(());
+    }
+    arrive_at(shape, slot, &mut arrival.state);
+    waiting.push(arrival)?;
+    Ok(())
+}
+
+/// Appends what arrives along the edge to the next slot, if there is one and something is passed.
+fn push_along_next(
+    waiting: &mut Vec<Arrival>,
+    shape: &Shape,
+    edge: Option<usize>,
+    sectors: u32,
+    instr: &Instr,
+    state: &State,
+) -> Result<(), AllocError>
+    ensures { OnOk result (map arrival_of waiting.new.items ≡ map arrival_of waiting.old.items ++ option_to_list (along shape.now.heads edge (next_state sectors (state_of state.now) instr.now))) }
+{
+    match edge {
+        Some(slot) => push_at_next(waiting, shape, slot, sectors, instr, state),
+        None => Ok(()),
+    }
+}
+
+/// Appends what arrives along the other edge, if there is one and something is passed.
+fn push_along_target(
+    waiting: &mut Vec<Arrival>,
+    shape: &Shape,
+    edge: Option<usize>,
+    instr: &Instr,
+    state: &State,
+) -> Result<(), AllocError>
+    ensures { OnOk result (map arrival_of waiting.new.items ≡ map arrival_of waiting.old.items ++ option_to_list (along shape.now.heads edge (target_state (state_of state.now) instr.now))) }
+{
+    match edge {
+        Some(slot) => push_at_target(waiting, shape, slot, instr, state),
+        None => Ok(()),
+    }
+}
+
+/// Appends what an instruction passes on, as it arrives.
+fn push_passed_on(
+    waiting: &mut Vec<Arrival>,
+    shape: &Shape,
+    sectors: u32,
+    slot: usize,
+    instr: &Instr,
+    state: &State,
+) -> Result<(), AllocError>
+    requires { slot < 4096 }
+    ensures { OnOk result (map arrival_of waiting.new.items ≡ map arrival_of waiting.old.items ++ passed_on shape.now.heads sectors slot (Some instr.now) (Some (state_of state.now))) }
+{
+    let next = edges_of(slot, instr).next;
+    push_along_next(waiting, shape, next, sectors, instr, state)?;
+    push_along_target(waiting, shape, target_of(slot, instr), instr, state)?;
+    Ok(())
+}
+
+/// Appends what a slot passes on, as it arrives; nothing, where it has no state, or no instruction begins.
+#[tactic(auto, unfolding(crate::specs::Tables::sent_from))]
+pub(crate) fn push_sent(
+    waiting: &mut Vec<Arrival>,
+    program: &Program,
+    shape: &Shape,
+    sectors: u32,
+    table: &Table,
+    slot: usize,
+) -> Result<(), AllocError>
+    requires { shape.now.heads ≡ heads program.now }
+    ensures { OnOk result (map arrival_of waiting.new.items ≡ map arrival_of waiting.old.items ++ sent_from program.now sectors table.now slot) }
+{
+    match (program.at(slot), table.state(slot)) {
+        (Some(instr), Some(state)) => push_passed_on(waiting, shape, sectors, slot, &instr, state),
+        _ => Ok(()),
     }
 }
 

@@ -7,28 +7,20 @@ ghost use Rattle.std.specs.Prelude.{◌≡◌, ◌<◌, ◌++◌, [], ◌∷◌,
 ghost use Rattle.bpf_isa.specs.Program.{IsProgram};
 ghost use Rattle.bpf_shape.specs.Shape.{IsShapeOf};
 ghost use Rattle.verifier.specs.Tables.{sent_from};
-ghost use Rattle.verifier.specs.Seen.{arrival_of, arrivals_of};
-ghost use Rattle.verifier.specs.Rounds.{passed_by, IsSettled};
+ghost use Rattle.verifier.specs.Seen.{arrival_of};
+ghost use Rattle.verifier.specs.Breaches.{unsettled_at};
+ghost use Rattle.verifier.specs.Rounds.{passed_by, IsSettled, IsUnsettled};
 ghost use Rattle.verifier.specs.Passing.{Arrive, IsRound, Arrived, IsMarked, MadeRound, Kept, passed_if, passed_again};
 
-use crate::passing::{Arrival, Arrivals, rule_at, sent_from};
+use crate::check::refused;
+use crate::passing::{Arrival, push_sent, rule_at};
 use crate::table::Table;
 use bpf_isa::program::Program;
 use bpf_shape::Shape;
 use std::alloc::{AllocError, Global};
 
-/// Appends what is passed on.
-fn push_arrivals(waiting: &mut Vec<Arrival>, arrivals: Arrivals) -> Result<(), AllocError>
-    ensures { OnOk result (map arrival_of waiting.new.items ≡ map arrival_of waiting.old.items ++ arrivals_of arrivals) }
-{
-    if let Some(arrival) = arrivals.next {
-        waiting.push(arrival)?;
-    }
-    if let Some(arrival) = arrivals.target {
-        waiting.push(arrival)?;
-    }
-    Ok(())
-}
+/// The greatest number of rounds.
+const MOST_ROUNDS: u32 = 1_000_000;
 
 /// Whether a slot has a mark.
 fn is_marked(marks: &[bool], slot: usize) -> bool
@@ -54,7 +46,7 @@ fn push_passed(
     if rule_at(program, table, slot).is_some() {
         return Ok(());
     }
-    push_arrivals(waiting, sent_from(program, shape, sectors, table, slot))
+    push_sent(waiting, program, shape, sectors, table, slot)
 }
 
 /// The same of a slot with a mark; nothing, where it has none.

@@ -4,5 +4,5 @@ use Rattle.verifier.proofs.passing.passed_on.Goals as goal
 
 pub returns : goal.returns
 returns c =
-    rw (c.along.ensures, c.along-2.ensures, c.next_state.ensures, c.target_state.ensures, c.target_of.ensures, c.edges_of-next.ensures)
+    rw (c.along_next.ensures, c.along_target.ensures, c.target_of.ensures, c.edges_of-next.ensures)
     (by_edges c.args.shape.now.heads c.args.sectors c.args.slot (state_of c.args.state.now) c.args.instr.now)
