@@ -16,6 +16,7 @@
 //! | `put_known(out, instr, state)` | what is known of the registers that an instruction reads, and what an access wants |
 //! | `put_large(out, log, bound)` | how many entries have more sectors than may depart, if any has |
 //! | `put_entry(alloc, out, log, number)` | an entry, as in the table |
+//! | `put_entry_line(out, number, epoch, entry)` | a line of the table |
 //! | `put_least(out, log)` | the size of the least device that holds a log |
 //! | `put_escaped(out, bytes)` | bytes of a foreign text, so that they stay on their line |
 //! | `log_rule`, `code_rule`, `asm_rule`, `verifier_rule`; `log_cure` .. | what a refusal's number means; what most likely helps |
@@ -52,4 +53,4 @@ pub use listing::{numbered_listing, put_slot};
 pub use rules::{
     asm_cure, asm_rule, code_cure, code_rule, log_cure, log_rule, verifier_cure, verifier_rule,
 };
-pub use table::{log_table, put_entry};
+pub use table::{log_table, put_entry, put_entry_line};

@@ -78,9 +78,14 @@ fn put_what(out: &mut String, entry: &Entry) -> Result<(), AllocError>
     put_text(out, entry)
 }
 
-/// Appends the line of an entry.
+/// Appends the line of an entry of that number and epoch, as in the table.
 #[tactic(auto, unfolding(crate::specs::LogTable::entry_line))]
-fn put_line(out: &mut String, number: usize, epoch: u32, entry: &Entry) -> Result<(), AllocError>
+pub fn put_entry_line(
+    out: &mut String,
+    number: usize,
+    epoch: u32,
+    entry: &Entry,
+) -> Result<(), AllocError>
     ensures { OnOk result (string_bytes out.new ≡ string_bytes out.old ++ entry_line number epoch entry.now) }
 {
     put_head(out, number, epoch)?;
@@ -96,7 +101,7 @@ pub fn log_table(alloc: Global, log: &Log) -> Result<String, AllocError>
     let plan = Plan::new(alloc, log, Cuts::All, By::Sector)?;
     let mut out = String::new(alloc);
     for (number, entry) in log.entries().iter().enumerate() {
-        put_line(&mut out, number, plan.epoch(number as u32), entry)?;
+        put_entry_line(&mut out, number, plan.epoch(number as u32), entry)?;
     }
     Ok(out)
 }
@@ -106,7 +111,7 @@ fn put_noted(out: &mut String, number: usize, epoch: u32, entry: &Entry) -> Resu
     ensures { OnOk result (string_bytes out.new ≡ string_bytes out.old ++ noted_line number epoch entry.now) }
 {
     out.push_str("note: ")?;
-    put_line(out, number, epoch, entry)
+    put_entry_line(out, number, epoch, entry)
 }
 
 /// Appends a note with the entry of that number, where the log has one.

@@ -8,4 +8,4 @@ pub loop-number-preserved : goal.loop-number-preserved
 loop-number-preserved c =
     one_more_entry c.args.log.now.entries c.entries-entry-items.result.now c.loop-number.number c.epoch.result c.entry-item.result _ _
     c.entries-entry-items.ensures.value c.loop-number-test.true c.entry-item.is
-    (c.epoch.ensures.value ∙ ap (λ (log : LogValue). epoch_at log.entries c.loop-number.number) c.in_ok-plan.ensures.log) c.loop-number.invariant c.in_ok-put_line.ensures
+    (c.epoch.ensures.value ∙ ap (λ (log : LogValue). epoch_at log.entries c.loop-number.number) c.in_ok-plan.ensures.log) c.loop-number.invariant c.in_ok-put_entry_line.ensures

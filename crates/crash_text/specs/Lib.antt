@@ -1,0 +1,4 @@
+pub mod Rows
+pub mod Sectors
+pub mod Cut
+pub mod Shown

@@ -1,0 +1,240 @@
+//! What stands at a cut.
+
+ghost use Rattle.std.specs.Prelude.{ℕ, ◌⊎◌, ◌≡◌, ◌+◌, ◌*◌, ◌<◌, ◌≤◌, ◌++◌, [], ◌∷◌, Bool, if◌then◌else◌, length, slice_get, Some, IfSome, OnOk, string_bytes};
+ghost use Rattle.epochs.specs.Cuts.{is_flush_at};
+ghost use Rattle.notes.specs.LogTable.{line_at};
+ghost use Rattle.crash_text.specs.Cut.{place_text, arrived_text, departed_line, volatile_line, parts_text, volatile_text, is_mark_at, last_before, last_line, flush_text, mark_text, before_line, before_text};
+ghost use Rattle.crash_text.specs.Shown.{cut_shown};
+
+use choices::{Departure, Fate};
+use epochs::{Part, Plan};
+use logfmt::{Entry, Log};
+use notes::put_entry_line;
+use std::alloc::AllocError;
+
+/// Appends a part: its entry, and the sectors that it covers.
+#[tactic(auto, unfolding(crate::specs::Cut::place_text))]
+fn put_place(out: &mut String, part: Part) -> Result<(), AllocError>
+    ensures { OnOk result (string_bytes out.new ≡ string_bytes out.old ++ place_text part) }
+{
+    write!(out, "entry {}", part.entry)?;
+    if part.count == 1 {
+        write!(out, ", sector {}", part.sector)
+    } else {
+        write!(out, ", {} sectors from {} on", part.count, part.sector)
+    }
+}
+
+/// Appends what of a part of so many sectors arrived.
+fn put_arrived(out: &mut String, count: u32, fate: Fate) -> Result<(), AllocError>
+    ensures { OnOk result (string_bytes out.new ≡ string_bytes out.old ++ arrived_text count fate) }
+{
+    match fate {
+        Fate::Drop => write!(out, "nothing of it arrived"),
+        Fate::Head(eighths) => {
+            let bytes = 64 * (u64::from(eighths.count()) * u64::from(count));
+            write!(out, "only its first {bytes} bytes arrived")
+        }
+        Fate::Tail(eighths) => {
+            let bytes = 64 * (u64::from(eighths.count()) * u64::from(count));
+            write!(out, "only its last {bytes} bytes arrived")
+        }
+    }
+}
+
+/// Appends a line for a departure.
+#[tactic(auto, unfolding(crate::specs::Cut::departed_line))]
+pub(crate) fn put_departed(out: &mut String, departure: Departure) -> Result<(), AllocError>
+    ensures { OnOk result (string_bytes out.new ≡ string_bytes out.old ++ departed_line departure) }
+{
+    out.push_str("departed: ")?;
+    put_place(out, departure.part)?;
+    out.push_str(": ")?;
+    put_arrived(out, departure.part.count, departure.fate)?;
+    out.push_str("\n")
+}
+
+/// Appends a line for a volatile part.
+#[tactic(auto, unfolding(crate::specs::Cut::volatile_line))]
+fn put_volatile_part(out: &mut String, part: Part) -> Result<(), AllocError>
+    ensures { OnOk result (string_bytes out.new ≡ string_bytes out.old ++ volatile_line part) }
+{
+    out.push_str("volatile: ")?;
+    put_place(out, part)?;
+    out.push_str("\n")
+}
+
+/// How many of so many volatile parts are shown.
+fn shown_parts(parts: u32) -> u32
+    ensures { ((parts < 32) × (result ≡ parts)) ⊎ ((32 ≤ parts) × (result ≡ 32)) }
+{
+    if parts < 32 { parts } else { 32 }
+}
+
+/// Appends a line for each of the first volatile parts of a cut.
+fn put_parts(out: &mut String, plan: &Plan<'_>, cut: u32) -> Result<(), AllocError>
+    requires { cut ≤ length plan.now.log.entries }
+    ensures { OnOk result (string_bytes out.new ≡ string_bytes out.old ++ parts_text plan.now cut) }
+{
+    let parts = shown_parts(plan.volatile(cut));
+    for number in 0..parts {
+        put_volatile_part(out, plan.part(cut, number))?;
+    }
+    Ok(())
+}
+
+/// Appends the first volatile parts of a cut, and how many there are.
+#[tactic(auto, unfolding(crate::specs::Cut::volatile_text))]
+fn put_volatile(out: &mut String, plan: &Plan<'_>, cut: u32) -> Result<(), AllocError>
+    requires { cut ≤ length plan.now.log.entries }
+    ensures { OnOk result (string_bytes out.new ≡ string_bytes out.old ++ volatile_text plan.now cut) }
+{
+    let parts = plan.volatile(cut);
+    write!(out, "volatile parts: {parts}\n")?;
+    put_parts(out, plan, cut)
+}
+
+/// Appends the line of an entry.
+fn put_entry(out: &mut String, plan: &Plan<'_>, log: &Log, entry: u32) -> Result<(), AllocError>
+    requires log { plan.now.log ≡ log.now }
+    requires there { entry < length log.now.entries }
+    ensures { OnOk result (string_bytes out.new ≡ string_bytes out.old ++ line_at log.now.entries entry) }
+{
+    put_entry_line(
+        out,
+        entry as usize,
+        plan.epoch(entry),
+        &log.entries()[entry as usize],
+    )
+}
+
+/// The last flush entry, of those before an entry and of that.
+fn later_flush(entries: &[Entry], last: Option<u32>, number: u32) -> Option<u32>
+    requires { number < length entries.now }
+    ensures { result ≡ if is_flush_at entries.now number then Some number else last }
+{
+    if entries[number as usize].flags.flush {
+        Some(number)
+    } else {
+        last
+    }
+}
+
+/// The last mark, of those before an entry and of that.
+fn later_mark(entries: &[Entry], last: Option<u32>, number: u32) -> Option<u32>
+    requires { number < length entries.now }
+    ensures { result ≡ if is_mark_at entries.now number then Some number else last }
+{
+    if entries[number as usize].flags.mark {
+        Some(number)
+    } else {
+        last
+    }
+}
+
+/// The last flush entry before a cut.
+fn last_flush(entries: &[Entry], cut: u32) -> Option<u32>
+    requires { cut ≤ length entries.now }
+    ensures value { result ≡ last_before (is_flush_at entries.now) cut }
+    ensures before { IfSome result (λ entry. entry < cut) }
+{
+    let mut last = None;
+    for entry in 0..cut {
+        last = later_flush(entries, last, entry);
+    }
+    last
+}
+
+/// The last mark before a cut.
+fn last_mark(entries: &[Entry], cut: u32) -> Option<u32>
+    requires { cut ≤ length entries.now }
+    ensures value { result ≡ last_before (is_mark_at entries.now) cut }
+    ensures before { IfSome result (λ entry. entry < cut) }
+{
+    let mut last = None;
+    for entry in 0..cut {
+        last = later_mark(entries, last, entry);
+    }
+    last
+}
+
+/// Appends the line of the last entry of a kind, if there is one.
+fn put_last(
+    out: &mut String,
+    plan: &Plan<'_>,
+    log: &Log,
+    what: &str,
+    last: Option<u32>,
+) -> Result<(), AllocError>
+    requires log { plan.now.log ≡ log.now }
+    requires there { IfSome last (λ entry. entry < length log.now.entries) }
+    ensures { OnOk result (string_bytes out.new ≡ string_bytes out.old ++ last_line what.now log.now.entries last) }
+{
+    write!(out, "last {what}: ")?;
+    match last {
+        Some(entry) => put_entry(out, plan, log, entry),
+        None => out.push_str("none\n"),
+    }
+}
+
+/// Appends the last flush entry before a cut.
+#[tactic(auto, unfolding(crate::specs::Cut::flush_text))]
+fn put_flush(out: &mut String, plan: &Plan<'_>, log: &Log, cut: u32) -> Result<(), AllocError>
+    requires log { plan.now.log ≡ log.now }
+    requires cut { cut ≤ length log.now.entries }
+    ensures { OnOk result (string_bytes out.new ≡ string_bytes out.old ++ flush_text log.now.entries cut) }
+{
+    put_last(out, plan, log, "flush", last_flush(log.entries(), cut))
+}
+
+/// Appends the last mark before a cut.
+#[tactic(auto, unfolding(crate::specs::Cut::mark_text))]
+fn put_mark(out: &mut String, plan: &Plan<'_>, log: &Log, cut: u32) -> Result<(), AllocError>
+    requires log { plan.now.log ≡ log.now }
+    requires cut { cut ≤ length log.now.entries }
+    ensures { OnOk result (string_bytes out.new ≡ string_bytes out.old ++ mark_text log.now.entries cut) }
+{
+    put_last(out, plan, log, "mark", last_mark(log.entries(), cut))
+}
+
+/// Appends a line for an entry before a cut.
+fn put_before_line(
+    out: &mut String,
+    plan: &Plan<'_>,
+    log: &Log,
+    entry: u32,
+) -> Result<(), AllocError>
+    requires log { plan.now.log ≡ log.now }
+    requires there { entry < length log.now.entries }
+    ensures { OnOk result (string_bytes out.new ≡ string_bytes out.old ++ before_line log.now.entries entry) }
+{
+    out.push_str("before the cut: ")?;
+    put_entry(out, plan, log, entry)
+}
+
+/// Appends the last entries before a cut, at most four.
+#[tactic(auto, using(crate::proofs::Steps::text_more), unfolding(crate::specs::Cut::before_text))]
+fn put_before(out: &mut String, plan: &Plan<'_>, log: &Log, cut: u32) -> Result<(), AllocError>
+    requires log { plan.now.log ≡ log.now }
+    requires cut { cut ≤ length log.now.entries }
+    ensures { OnOk result (string_bytes out.new ≡ string_bytes out.old ++ before_text log.now.entries cut) }
+{
+    let first = cut.saturating_sub(4);
+    for step in 0..cut - first {
+        put_before_line(out, plan, log, first + step)?;
+    }
+    Ok(())
+}
+
+/// Appends what stands at a cut: what is volatile, the last entries before it, its last flush and its last mark.
+#[tactic(auto, unfolding(crate::specs::Shown::cut_shown))]
+pub fn put_cut(out: &mut String, plan: &Plan<'_>, log: &Log, cut: u32) -> Result<(), AllocError>
+    requires log { plan.now.log ≡ log.now }
+    requires cut { cut ≤ length plan.now.log.entries }
+    ensures { OnOk result (string_bytes out.new ≡ string_bytes out.old ++ cut_shown plan.now cut) }
+{
+    put_volatile(out, plan, cut)?;
+    put_before(out, plan, log, cut)?;
+    put_flush(out, plan, log, cut)?;
+    put_mark(out, plan, log, cut)
+}

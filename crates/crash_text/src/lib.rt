@@ -1,0 +1,50 @@
+//! crash_text, a crash image in words: what stands at its cut, what departed, and what in it differs from the
+//! image of the same cut where nothing departed (docs/REPORT.md, The text of `show`).
+//!
+//! # Place
+//!
+//! On `epochs` and `choices`, whose plan and choice it puts into words, on `choice_text` for the text of the
+//! choice, on `notes` for the lines of entries, and on `helpers`, whose trait `Device` the images are read by.
+//! It forms no image and finds no choice: `commands` hands them over.
+//!
+//! | Call | Appends |
+//! |---|---|
+//! | `put_shown(out, plan, log, options.., choice, whole, image)` | all of the below, behind a line of what images are numbered by |
+//! | `put_choice(out, plan, choice)` | the cut and the choice in a line, and a line for each departure |
+//! | `put_cut(out, plan, log, cut)` | what is volatile at a cut, the last entries before it, its last flush and its last mark |
+//! | `put_differences(out, whole, image)` | each sector in which two devices differ: how many bytes, the first of them, and rows of both |
+//!
+//! # What is proved
+//!
+//! Each call appends exactly the text of its definition (`specs/`) over the plan, the choice and the sectors of
+//! both devices, as their contracts tell them. So nothing shown is made up: a number in the text is one of the
+//! log, of the choice, or of a byte that the images have.
+//!
+//! # Example
+//!
+//! ```text
+//! sectors 4 entries 2 cuts all bound 1 tears yes by sector
+//! cut 2 epoch 0 marks 0 choice 1.0:tail1
+//! departed: entry 1, sector 0: only its last 64 bytes arrived
+//! volatile parts: 2
+//! volatile: entry 0, sector 0
+//! volatile: entry 1, sector 0
+//! before the cut: entry 0 epoch 0 write sector 0 count 1
+//! before the cut: entry 1 epoch 0 write sector 0 count 1
+//! last flush: none
+//! last mark: none
+//! sector 0: 448 of 512 bytes differ, the first is byte 0
+//! < 00000000: 2222 2222 2222 2222 2222 2222 2222 2222  """"""""""""""""
+//! > 00000000: 1111 1111 1111 1111 1111 1111 1111 1111  ................
+//! ..
+//! ```
+#![tactic(auto)]
+
+mod cut;
+mod row;
+mod sector;
+mod shown;
+
+pub use cut::put_cut;
+pub use sector::put_differences;
+pub use shown::{Numbering, put_choice, put_shown};

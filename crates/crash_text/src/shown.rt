@@ -1,0 +1,191 @@
+//! An image in words.
+
+ghost use Rattle.std.specs.Prelude.{ℕ, ◌≡◌, ◌<◌, ◌≤◌, ◌++◌, length, codes, true, if◌then◌else◌, OnOk, string_bytes};
+ghost use Rattle.crash_text.specs.Shown.{cuts_word, by_word, numbered_text, chosen_text, cut_text, choice_line, departed_text, choice_shown, shown_text};
+
+use crate::cut::{put_cut, put_departed};
+use crate::sector::put_differences;
+use choice_text::put_departures;
+use choices::Choice;
+use epochs::{By, Cuts, Plan};
+use helpers::Device;
+use logfmt::Log;
+use std::alloc::AllocError;
+
+/// What the kinds of cuts are called.
+fn cuts_word(cuts: Cuts) -> &'static str
+    ensures { result.now ≡ cuts_word cuts }
+{
+    match cuts {
+        Cuts::All => "all",
+        Cuts::BeforeFlush => "flush",
+        Cuts::AfterMark => "mark",
+    }
+}
+
+/// What the kinds of parts are called.
+fn by_word(by: By) -> &'static str
+    ensures { result.now ≡ by_word by }
+{
+    match by {
+        By::Sector => "sector",
+        By::Write => "write",
+    }
+}
+
+/// Whether something is so, in a word.
+fn yes_or_no(is_so: bool) -> &'static str
+    ensures { result.now ≡ if is_so then codes "yes" else codes "no" }
+{
+    if is_so { "yes" } else { "no" }
+}
+
+/// Appends the device, the log and the wanted cuts.
+#[tactic(auto, unfolding(crate::specs::Shown::numbered_text))]
+fn put_numbered(out: &mut String, plan: &Plan<'_>, log: &Log, cuts: Cuts) -> Result<(), AllocError>
+    requires log { plan.now.log ≡ log.now }
+    requires cuts { plan.now.kind ≡ cuts }
+    ensures { OnOk result (string_bytes out.new ≡ string_bytes out.old ++ numbered_text plan.now) }
+{
+    let _plan = plan;
+    write!(
+        out,
+        "sectors {} entries {}",
+        log.sectors(),
+        log.entries().len()
+    )?;
+    let cuts = cuts_word(cuts);
+    write!(out, " cuts {cuts}")
+}
+
+/// Appends the other options.
+#[tactic(auto, unfolding(crate::specs::Shown::chosen_text))]
+fn put_chosen(
+    out: &mut String,
+    plan: &Plan<'_>,
+    by: By,
+    bound: u8,
+    tears: bool,
+) -> Result<(), AllocError>
+    requires { plan.now.by ≡ by }
+    ensures { OnOk result (string_bytes out.new ≡ string_bytes out.old ++ chosen_text plan.now bound tears) }
+{
+    let _plan = plan;
+    let tears = yes_or_no(tears);
+    write!(out, " bound {bound} tears {tears}")?;
+    let by = by_word(by);
+    write!(out, " by {by}\n")
+}
+
+/// Appends where a cut stands.
+#[tactic(auto, unfolding(crate::specs::Shown::cut_text))]
+fn put_place(out: &mut String, plan: &Plan<'_>, cut: u32) -> Result<(), AllocError>
+    requires { cut ≤ length plan.now.log.entries }
+    ensures { OnOk result (string_bytes out.new ≡ string_bytes out.old ++ cut_text plan.now cut) }
+{
+    write!(
+        out,
+        "cut {cut} epoch {} marks {}",
+        plan.epoch(cut),
+        plan.marks(cut)
+    )
+}
+
+/// Appends the cut of a choice and its text.
+fn put_choice_line(
+    out: &mut String,
+    plan: &Plan<'_>,
+    by: By,
+    choice: &Choice,
+) -> Result<(), AllocError>
+    requires by { plan.now.by ≡ by }
+    requires cut { choice.now.cut ≤ length plan.now.log.entries }
+    ensures { OnOk result (string_bytes out.new ≡ string_bytes out.old ++ choice_line plan.now choice.now) }
+{
+    put_place(out, plan, choice.cut())?;
+    out.push_str(" choice ")?;
+    put_departures(out, by, choice.departures())?;
+    out.push_str("\n")
+}
+
+/// Appends a line for each departure of a choice.
+#[tactic(auto, unfolding(crate::specs::Shown::departed_text))]
+fn put_departed_lines(out: &mut String, choice: &Choice) -> Result<(), AllocError>
+    ensures { OnOk result (string_bytes out.new ≡ string_bytes out.old ++ departed_text choice.now) }
+{
+    for departure in choice.departures() {
+        put_departed(out, *departure)?;
+    }
+    Ok(())
+}
+
+/// Appends a choice: its cut and its text in a line, and a line for each departure.
+#[tactic(auto, unfolding(crate::specs::Shown::choice_shown))]
+pub fn put_choice(
+    out: &mut String,
+    plan: &Plan<'_>,
+    by: By,
+    choice: &Choice,
+) -> Result<(), AllocError>
+    requires by { plan.now.by ≡ by }
+    requires cut { choice.now.cut ≤ length plan.now.log.entries }
+    ensures { OnOk result (string_bytes out.new ≡ string_bytes out.old ++ choice_shown plan.now choice.now) }
+{
+    put_choice_line(out, plan, by, choice)?;
+    put_departed_lines(out, choice)
+}
+
+/// What images are numbered by, beside the device and the log.
+#[derive(Clone, Copy, Debug)]
+pub struct Numbering {
+    /// The kind of the cuts.
+    pub cuts: Cuts,
+    /// What departs as one.
+    pub by: By,
+    /// How many parts may depart.
+    pub bound: u8,
+    /// Whether parts may be torn.
+    pub tears: bool,
+}
+
+/// Appends what images are numbered by, in a line.
+fn put_options(
+    out: &mut String,
+    plan: &Plan<'_>,
+    log: &Log,
+    numbering: Numbering,
+) -> Result<(), AllocError>
+    requires log { plan.now.log ≡ log.now }
+    requires cuts { plan.now.kind ≡ numbering.cuts }
+    requires by { plan.now.by ≡ numbering.by }
+    ensures { OnOk result (string_bytes out.new ≡ string_bytes out.old ++ (numbered_text plan.now ++ chosen_text plan.now numbering.bound numbering.tears)) }
+{
+    put_numbered(out, plan, log, numbering.cuts)?;
+    put_chosen(out, plan, numbering.by, numbering.bound, numbering.tears)
+}
+
+/// Appends a crash image in words: what images are numbered by, the choice, what stands at its cut, and what in the image
+/// differs from that of the cut where nothing departs.
+#[tactic(auto, unfolding(crate::specs::Shown::shown_text))]
+pub fn put_shown<W: Device, I: Device>(
+    out: &mut String,
+    plan: &Plan<'_>,
+    log: &Log,
+    numbering: Numbering,
+    choice: &Choice,
+    whole: &W,
+    image: &I,
+) -> Result<(), AllocError>
+    requires log { plan.now.log ≡ log.now }
+    requires cuts { plan.now.kind ≡ numbering.cuts }
+    requires by { plan.now.by ≡ numbering.by }
+    requires cut { choice.now.cut ≤ length plan.now.log.entries }
+    requires device { length (I.content image.now) ≤ 16384 }
+    ensures { OnOk result (string_bytes out.new ≡ string_bytes out.old
+        ++ shown_text plan.now numbering.bound numbering.tears choice.now (W.content whole.now) (I.content image.now)) }
+{
+    put_options(out, plan, log, numbering)?;
+    put_choice(out, plan, numbering.by, choice)?;
+    put_cut(out, plan, log, choice.cut())?;
+    put_differences(out, whole, image)
+}
