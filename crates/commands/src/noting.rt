@@ -295,16 +295,19 @@ fn put_fewer(
     put_smaller_bound(out, &plan, options.bound(), options.tears())
 }
 
-/// With which options there are fewer images.
-fn fewer_images(options: Option<OptionWords>) -> &'static str {
-    match options {
-        Some(
-            OptionWords {
-                by: Some(By::Write),
-                ..
-            },
-        ) => "take fewer cuts (--cuts flush), a smaller --bound, or no --tears",
+/// With which options there are fewer images than with parts of that kind.
+fn fewer_images(by: Option<By>) -> &'static str {
+    match by {
+        Some(By::Write) => "take fewer cuts (--cuts flush), a smaller --bound, or no --tears",
         _ => "take fewer cuts (--cuts flush), a smaller --bound, --by write, or no --tears",
+    }
+}
+
+/// The kind of parts that a command takes, where it takes some.
+fn parts_of(request: Request) -> Option<By> {
+    match log_options(request) {
+        Some(words) => words.by,
+        None => None,
     }
 }
 
@@ -318,7 +321,7 @@ fn put_images_notes(
     put_refused(
         out,
         "with this cut there are more than 16777216 images (docs/CRASH-MODEL.md, Limits)",
-        fewer_images(log_options(words.request())),
+        fewer_images(parts_of(words.request())),
     )?;
     match (held(files, 0), log_options(words.request())) {
         (Some(bytes), Some(options)) => put_fewer(alloc, out, bytes, options),
