@@ -8,6 +8,8 @@ pub mod Settled
 pub mod Marks
 pub mod Accepting
 pub mod Verdict
+pub mod Staying
+pub mod Filled
 pub mod Below
 pub mod Weights
 pub mod Rising

@@ -1,6 +1,6 @@
 -- A table that is good under the rules without signed bounds is good under those with them: what is
 -- passed on along each edge holds no more.
-use Rattle.std.proofs.Common.{◌≡◌, ◌<◌, ◌≤◌, ℕ, zero, suc, ◌+◌, ◌*◌, ◌-◌, ◌/◌, ◌%◌, ◌^◌, ◌==◌, nat_lt, nat_le, ◌&&◌, not, Bool, true, false, if◌then◌else◌, IsTrue, ℤ, List, [], ◌∷◌, ◌++◌, length, map, get_or, Option, Some, None, refl, sym, ◌∙◌, inl, inr, ap, arith}
+use Rattle.std.proofs.Common.{◌≡◌, ◌<◌, ◌≤◌, ℕ, zero, suc, ◌+◌, ◌*◌, ◌/◌, ◌%◌, ◌^◌, ◌==◌, nat_lt, ◌&&◌, not, Bool, true, false, if◌then◌else◌, IsTrue, ℤ, List, [], ◌∷◌, ◌++◌, map, get_or, Option, Some, None, refl, ◌∙◌, inl, ap, arith}
 use Rattle.std.specs.Prelude.{set}
 use Rattle.std.specs.Option.{option_map, option_map_or, option_and_then, option_or}
 use Rattle.std.specs.Int.{cast_unsigned, w32}
@@ -22,7 +22,7 @@ use Rattle.bpf_isa.specs.Program.{IsProgram}
 use Rattle.bpf_isa.specs.Slots.{at, target_slot}
 use Rattle.bpf_shape.specs.Again.{heads}
 use Rattle.machine.specs.Memory.{byte_count}
-use Rattle.intervals.specs.Spans.{Span, only, IsSpan, Within}
+use Rattle.intervals.specs.Spans.{Span, only, Within}
 use Rattle.intervals.specs.Rounding.{rounded}
 use Rattle.intervals.specs.SignedSpans.{SignedSpan, IsSignedSpan}
 use Rattle.intervals.specs.Reducing.{Limits, limits, reduced, any_sign, LimitsWithin, IsWordLimits, IsLimits}
@@ -40,28 +40,28 @@ use Rattle.intervals.proofs.SignedSums.{signed_result_fits}
 use Rattle.intervals.proofs.SignedOrders.{TwoOf, signed_narrowed_two}
 use Rattle.intervals.proofs.SignedDigits.{rounded_is, widened_fits, limits_rounded_fits}
 use Rattle.intervals.proofs.Outcomes.{any_holds}
-use Rattle.intervals.proofs.CallerLemmas.{fitting, words_are_limits, within_self}
+use Rattle.intervals.proofs.CallerLemmas.{fitting, words_are_limits}
 use Rattle.ranges.specs.declared.place.Place.{Place}
 use Rattle.ranges.specs.declared.place.Place.TheVariants as place
 use Rattle.ranges.specs.Kinds.{Kind, Unset, Num, Ctx, Stack, Sector, SectorOrNull, is_pointer, is_unset, round}
-use Rattle.ranges.specs.Groups.{GroupKind, Marked, Spilled, map_places, round_group}
+use Rattle.ranges.specs.Groups.{GroupKind, Spilled, map_places, round_group}
 use Rattle.ranges.specs.States.{Abstract, round_state}
 use Rattle.ranges.specs.Reading.{value, second, with_value, with_groups, words, any_word}
 use Rattle.ranges.specs.Places.{place_of, is_group}
 use Rattle.ranges.specs.Pointers.{moved}
 use Rattle.ranges.specs.Rules.{is_null_test}
-use Rattle.ranges.specs.After.{computed, result_kind, is_touched, marks_after, group_after, written, stored_groups, load_after, answered, call_after, after_of}
+use Rattle.ranges.specs.After.{computed, result_kind, is_touched, group_after, written, stored_groups, load_after, answered, call_after, after_of}
 use Rattle.ranges.specs.Passing.{edge_of, entry_state, is_equal_edge, tested_kind, with_both, sent, passes}
 use Rattle.ranges.specs.Order.{Under, GroupUnder, EachUnder, StateUnder, IsBounded, IsGroup, Each, IsState, Holds, EdgeUnder}
 use Rattle.ranges.proofs.Covering.{state_same, state_under, each_mono, group_round_mono}
 use Rattle.ranges.proofs.Fitting.{round_state_fits, round_fits, each_set, each_mapped, round_group_fits}
-use Rattle.ranges.proofs.Keeping.{holds_map, holds_or, holds_of, words_fit, value_fits, second_fits, with_value_fits, with_groups_fits, register_fits, moved_kind_fits, places_fit, places_long, tested_fits, after_fits, edge_fits, entry_fits}
+use Rattle.ranges.proofs.Keeping.{holds_or, words_fit, value_fits, second_fits, with_value_fits, with_groups_fits, register_fits, moved_kind_fits, places_fit, places_long, tested_fits, after_fits, edge_fits, entry_fits}
 use Rattle.ranges.proofs.Joins.{round_mono}
 use Rattle.ranges.proofs.Smaller.{with_value_under}
-use Rattle.verifier.specs.Tables.{state_at, Covers, CoversAll, AreStates, rule_at, sent_from, passed_on, arriving, arrival}
-use Rattle.verifier.specs.Good.{IsGood, IsGoodAt}
-use Rattle.verifier.specs.Unsigned.{number, numbers, unsigned_computed, unsigned_result, unsigned_stored, unsigned_after, unsigned_edge, unsigned_passes, unsigned_round, unsigned_round_state, unsigned_arriving, unsigned_arrival, unsigned_passed_on, unsigned_sent_from, IsUnsignedGood, IsUnsignedGoodAt}
-use Rattle.verifier.proofs.Chains.{under_self, group_self, each_self, state_self, state_chain}
+use Rattle.verifier.specs.Tables.{state_at, Covers, CoversAll, AreStates, sent_from, passed_on, arriving, arrival}
+use Rattle.verifier.specs.Good.{IsGood}
+use Rattle.verifier.specs.Unsigned.{number, numbers, unsigned_computed, unsigned_result, unsigned_stored, unsigned_after, unsigned_edge, unsigned_passes, unsigned_round, unsigned_round_state, unsigned_arriving, unsigned_arrival, unsigned_passed_on, unsigned_sent_from, IsUnsignedGood}
+use Rattle.ranges.proofs.Chains.{under_self, group_self, each_self, state_self, state_chain}
 use Rattle.verifier.proofs.Reaching.{each_append, each_left, each_right, in_range}
 
 spans_self : (u : Span) → Within u u

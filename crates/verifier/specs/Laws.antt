@@ -29,6 +29,12 @@ abbrev pub SettledIsGood : Type 0
 SettledIsGood = (program : List (Option Instr)) (sectors : ℕ) (table : List (Option Abstract)) → sectors < 2 ^ 64 → IsProgram program → IsShaped program
     → IsSettled program sectors table → KeepsRules program table → IsGood program sectors table
 
+-- A table that is good under the rules without signed bounds is good under those with them, each number
+-- with all readings of its words.
+abbrev pub UnsignedStaysGood : Type 0
+UnsignedStaysGood = (program : List (Option Instr)) (sectors : ℕ) (table : List (Option Abstract)) → sectors < 2 ^ 64 → IsProgram program
+    → IsUnsignedGood program sectors table → IsGood program sectors table
+
 -- A good table of a program of right shape is enough for a least one, there is one least table only, and no program is
 -- refused for a table that isn't settled.
 pub record AcceptanceIsExact : Type 0 where

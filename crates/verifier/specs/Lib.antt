@@ -3,6 +3,7 @@ pub mod Tables
 pub mod Seen
 pub mod SeenUnsigned
 pub mod Good
+pub mod Unsigned
 pub mod Least
 pub mod Breaches
 pub mod Rounds

@@ -2,7 +2,7 @@
 -- signed bounds). A number there is a range of words, of which nothing is known but these, so it is
 -- seen as the words of the range, whatever their readings are. What isn't defined here is the same
 -- under both rules.
-use Rattle.std.specs.Prelude.{◌≡◌, ℕ, ◌+◌, ◌/◌, ◌&&◌, IsTrue, Bool, true, false, if◌then◌else◌, List, [], ◌∷◌, ◌++◌, map, length, get_or, slice_set, Option, None, Some}
+use Rattle.std.specs.Prelude.{◌≡◌, ℕ, ◌+◌, ◌/◌, ◌&&◌, IsTrue, Bool, true, false, if◌then◌else◌, List, [], ◌++◌, map, length, get_or, slice_set, Option, None, Some}
 use Rattle.std.specs.Option.{option_map, option_or}
 use Rattle.bpf_isa.specs.declared.instr.Instr.{Instr}
 use Rattle.bpf_isa.specs.declared.instr.Instr.TheVariants as instr
@@ -29,7 +29,7 @@ use Rattle.ranges.specs.Pointers.{moved}
 use Rattle.ranges.specs.Rules.{is_null_test}
 use Rattle.ranges.specs.After.{written, after_of}
 use Rattle.ranges.specs.Passing.{edge_of, is_equal_edge, tested_kind, with_both, sent, passes}
-use Rattle.ranges.specs.Order.{Each, Holds, IsState}
+use Rattle.ranges.specs.Order.{Each, Holds}
 use Rattle.verifier.specs.Tables.{state_at, Covers, CoversAll, AreStates, rule_at}
 
 -- a number of a range

@@ -1,6 +1,6 @@
 //! Laws of tables. The functions do nothing; each contract is a theorem.
 
-ghost use Rattle.verifier.specs.Laws.{GoodHasNoBreach, OneBreach, SettledIsGood, AcceptanceIsExact, RoundsEnd, OneVerdict};
+ghost use Rattle.verifier.specs.Laws.{GoodHasNoBreach, OneBreach, SettledIsGood, AcceptanceIsExact, RoundsEnd, UnsignedStaysGood, OneVerdict};
 
 use bpf_shape::laws::{no_fault_in_shaped, one_fault};
 
@@ -17,6 +17,11 @@ pub fn one_breach()
 /// A settled table on which each slot keeps its rules is good.
 pub fn settled_is_good()
     ensures { SettledIsGood }
+{}
+
+/// A table that is good without signed bounds stays good with them.
+pub fn unsigned_stays_good()
+    ensures { UnsignedStaysGood }
 {}
 
 /// Where a good table exists there is a least one, which is the only one; and no program is refused for a table that

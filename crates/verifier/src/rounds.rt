@@ -8,19 +8,14 @@ ghost use Rattle.bpf_isa.specs.Program.{IsProgram};
 ghost use Rattle.bpf_shape.specs.Shape.{IsShapeOf};
 ghost use Rattle.verifier.specs.Tables.{sent_from};
 ghost use Rattle.verifier.specs.Seen.{arrival_of};
-ghost use Rattle.verifier.specs.Breaches.{unsettled_at};
-ghost use Rattle.verifier.specs.Rounds.{passed_by, IsSettled, IsUnsettled};
+ghost use Rattle.verifier.specs.Rounds.{passed_by, IsSettled};
 ghost use Rattle.verifier.specs.Passing.{Arrive, IsRound, Arrived, IsMarked, MadeRound, Kept, passed_if, passed_again};
 
-use crate::check::refused;
 use crate::passing::{Arrival, push_sent, rule_at};
 use crate::table::Table;
 use bpf_isa::program::Program;
 use bpf_shape::Shape;
 use std::alloc::{AllocError, Global};
-
-/// The greatest number of rounds.
-const MOST_ROUNDS: u32 = 1_000_000;
 
 /// Whether a slot has a mark.
 fn is_marked(marks: &[bool], slot: usize) -> bool

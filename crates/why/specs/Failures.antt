@@ -1,4 +1,4 @@
--- What fails at each cut, of a program that fails on some images (docs/REPORT.md, The text of `why`).
+-- What fails at each cut, of a program that fails on some images (docs/CRASH-MODEL.md, Order and numbers of the images).
 use Rattle.std.specs.Prelude.{ℕ, ◌≡◌, ◌+◌, ◌-◌, ◌<◌, ◌≤◌, nat_le, nat_lt, Bool, ◌&&◌, List, [], length, map, filter, slice_get, Some}
 use Rattle.std.specs.Option.{option_map_or}
 use Rattle.epochs.specs.Cuts.{cuts_of}
