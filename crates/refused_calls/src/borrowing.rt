@@ -2,6 +2,7 @@
 
 ghost use Rattle.std.specs.Prelude.{◌≡◌, ◌≤◌, IfOk, false, length};
 ghost use Rattle.choices.specs.Choices.{ranked, limit};
+ghost use Rattle.epochs.specs.declared.part.By.TheVariants.{Sector};
 
 use choices::Starts;
 use epochs::{By, Cuts, Plan};
@@ -12,7 +13,8 @@ use std::alloc::{AllocError, Global};
 
 /// The plan of a log with all its cuts.
 pub fn plan_of<'a>(alloc: Global, log: &'a Log) -> Result<Plan<'a>, AllocError>
-    ensures { IfOk result (λ plan. plan.log ≡ log.now) }
+    ensures log { IfOk result (λ plan. plan.log ≡ log.now) }
+    ensures by { IfOk result (λ plan. plan.by ≡ Sector) }
 {
     if let Ok(plan) = Plan::new(alloc, log, Cuts::All, By::Sector) {
         return Ok(plan);
