@@ -118,12 +118,17 @@ fn compare<R: Clock + Print + AllocGlobal>(
     put_row(rt, name, [first, second, third])
 }
 
+/// How many images were made.
+fn count_of(best: &Best) -> f64 {
+    f64::from(u32::try_from(best.answer()).unwrap_or(u32::MAX))
+}
+
 /// Prints how many images each way has, and the nanoseconds of each.
 fn put_row<R: Print>(rt: &R, name: &str, ways: [Best; 3]) -> io::Result<()> {
     let [sector, write, page] = ways;
-    let one = sector.nanoseconds(sector.answer() as f64);
-    let two = write.nanoseconds(write.answer() as f64);
-    let three = page.nanoseconds(page.answer() as f64);
+    let one = sector.nanoseconds(count_of(&sector));
+    let two = write.nanoseconds(count_of(&write));
+    let three = page.nanoseconds(count_of(&page));
     let images = sector.answer();
     println!(rt; "{name:12} {images:>8} {one:>12.1} {two:>12.1} {three:>12.1}")?;
     if write.answer() != images || page.answer() != images {
