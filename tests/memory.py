@@ -60,6 +60,12 @@ ROWS = {
     "overwritten_sector, bound 1, image 34": 157,
     "two_slots, wrong, survey": 176,
     "journal, image 17": 168,
+    "journal/wrong, image 17 in words": 0,
+    "pages/wrong, --cut 10 --choice 8:drop in words": 0,
+    "image: a tear without --tears": 0,
+    "why: two_slots/wrong": 0,
+    "why: journal/wrong": 0,
+    "why: journal, wrong, two lost or torn, by 4 workers": None,
     "asm report_codes, with labels": 120,
     "asm masked_index": 122,
     "two_slots/checker, assembled": 134,
@@ -83,7 +89,7 @@ ROWS = {
 
 
 # How many allocations the calls by themselves make.
-CALLS = 799
+CALLS = 813
 
 # Runs with some 600,000 lines and more. Of n writes in one epoch, of which up to three are lost, there are as many images as
 # ways to pick them, over all cuts.

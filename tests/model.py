@@ -211,6 +211,117 @@ def explored(run, checkers, first=False):
     return FIRST_LINE + head(run, checkers, first) + "".join(f"{it}\n" for it in [*found, last])
 
 
+def departures_of(image):
+    return {(part.name, fate) for part, fate in image.departures}
+
+
+def groups(failing):
+    """For each smallest of the failing images of a cut how many of them stand under it: each under the first that is a part
+    of it, by its departures."""
+    count = {}
+    for image in failing:
+        first = next(it for it in failing if departures_of(it) <= departures_of(image))
+        count[first] = count.get(first, 0) + 1
+    return sorted(count.items(), key=lambda it: it[0].number)
+
+
+def cut_causes(run, cut, failing):
+    """The lines of `why` for a cut at which some images fail."""
+    text = f"cut {cut} images {sum(1 for _choice in run.choices(cut))} failing {len(failing)}\n"
+    for image, count in groups(failing):
+        text += f"group image {image.number} choice {image.choice()} failing {count}\n"
+    return text
+
+
+def causes(run, checkers):
+    """What `why` prints."""
+    images = list(run.images())
+    failing = [[it for it in images if checker.judge(it)[0] != 0] for checker in checkers]
+    text = "crash causes 1\n" + head(run, checkers, False)
+    for number, own in enumerate(failing):
+        text += f"program {number} failing {len(own)}\n"
+        for cut in sorted({it.cut for it in own}):
+            text += cut_causes(run, cut, [it for it in own if it.cut == cut])
+    failed = {it.number for own in failing for it in own}
+    return text + f"images {len(images)} failing {len(failed)} lines {sum(len(own) for own in failing)}\n"
+
+
+# An image in words
+
+FLAGS = [(FLUSH, "flush"), (FUA, "fua"), (DISCARD, "discard"), (MARK, "mark"), (16, "metadata")]
+
+
+def entry_line(run, number):
+    """An entry as `log` prints it."""
+    entry = run.entries[number]
+    text = f"entry {number} epoch {run.epoch(number)}"
+    text += " write" if entry.count and not entry.flags & DISCARD else ""
+    text += "".join(f" {word}" for flag, word in FLAGS if entry.flags & flag)
+    text += f" sector {entry.sector} count {entry.count}" if entry.count else ""
+    return text + (f' text "{entry.text.decode()}"' if entry.flags & MARK else "")
+
+
+def place(part):
+    count = len(part.content) // SECTOR
+    where = f"sector {part.sector}" if count == 1 else f"{count} sectors from {part.sector} on"
+    return f"entry {part.entry}, {where}"
+
+
+def departed(part, fate):
+    some = len(part.content) // 8 * int(fate[-1]) if fate != "drop" else 0
+    arrived = "nothing of it" if fate == "drop" else f"only its {'first' if fate in HEADS else 'last'} {some} bytes"
+    return f"departed: {place(part)}: {arrived} arrived"
+
+
+def row(number, content, start):
+    """Sixteen bytes as xxd prints them."""
+    some = content[start : start + 16]
+    pairs = " ".join(some[at : at + 2].hex() for at in range(0, 16, 2))
+    characters = "".join(chr(it) if 32 <= it < 127 else "." for it in some)
+    return f"{SECTOR * number + start:08x}: {pairs}  {characters}"
+
+
+def sector_lines(number, whole, found):
+    """In what a sector differs."""
+    places = [at for at in range(SECTOR) if whole[at] != found[at]]
+    if not places:
+        return
+    yield f"sector {number}: {len(places)} of {SECTOR} bytes differ, the first is byte {places[0]}"
+    first = places[0] // 16 * 16
+    for start in range(first, min(first + 64, SECTOR), 16):
+        if whole[start : start + 16] != found[start : start + 16]:
+            yield f"< {row(number, whole, start)}"
+            yield f"> {row(number, found, start)}"
+
+
+def last_line(run, what, flag, cut):
+    found = [number for number in range(cut) if run.entries[number].flags & flag]
+    return f"last {what}: {entry_line(run, found[-1]) if found else 'none'}"
+
+
+def shown_lines(run, image):
+    cut, whole = image.cut, Image(image.number, image.cut, (), run)
+    yield (
+        f"sectors {run.sectors} entries {len(run.entries)} cuts {run.cuts} bound {run.bound}"
+        f" tears {'yes' if run.tears else 'no'} by {run.by}"
+    )
+    yield f"cut {cut} epoch {image.epoch()} marks {image.marks()} choice {image.choice()}"
+    yield from (departed(part, fate) for part, fate in image.departures)
+    parts = run.volatile(cut)
+    yield f"volatile parts: {len(parts)}"
+    yield from (f"volatile: {place(part)}" for part in parts[:32])
+    yield from (f"before the cut: {entry_line(run, number)}" for number in range(max(cut - 4, 0), cut))
+    yield last_line(run, "flush", FLUSH, cut)
+    yield last_line(run, "mark", MARK, cut)
+    for number in range(run.sectors):
+        yield from sector_lines(number, whole.sector(number), image.sector(number))
+
+
+def shown(run, image):
+    """What `show` prints."""
+    return "".join(f"{it}\n" for it in shown_lines(run, image))
+
+
 @functools.lru_cache(maxsize=None)
 def mix(sector):
     """The mix of the 512 bytes of a sector."""

@@ -34,6 +34,8 @@ Where the rows stand
     rows/notes.py       the notes behind each refusal, and beside answers
     rows/tables.py      logs as tables, and listings with slots
     rows/modelled.py    whole reports of many logs, against the model
+    rows/shown.py       images in words, by number and by cut and choice, against the model
+    rows/why.py         why checkers fail, of many logs and of the designs, against the model
     rows/workers.py     runs by many workers, with and without a cache
     rows/limits.py      sizes near each limit
 
@@ -74,8 +76,10 @@ from rows import (
     notes,
     process,
     refusals,
+    shown,
     tables,
     texts,
+    why,
     worked,
     workers,
 )
@@ -95,6 +99,8 @@ TABLES = [
     notes,
     tables,
     modelled,
+    shown,
+    why,
     workers,
     limits,
 ]

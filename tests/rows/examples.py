@@ -2,7 +2,7 @@
 import struct
 
 import model
-from model import Checker, Run, explored
+from model import Checker, Run, explored, shown
 from notation import FLUSH, TOP, F, M, Row, S, W, explore, verified
 
 EXAMPLES = TOP / "examples"
@@ -244,6 +244,27 @@ WRITTEN = [
     design("journal, wrong, torn", "journal/wrong.log", "journal/checker.bpf", TWO_DEPART, TORN_JOURNAL.encode(), 1),
 ]
 
+
+def told(which, run, number):
+    """An image of a log that was written entry by entry here, in words: by its number, and as a line of the report names it.
+    Both print what is stored, which is the model's."""
+    image = list(run.images())[number]
+    stored = data(EXAMPLES / f"{which}.show")
+    assert shown(run, image).encode() == stored, f"{which}.show isn't the model's"
+    content = {"log": data(LOGS / f"{which}.log")}
+    by_line = f"--cut {image.cut} --choice {image.choice()}"
+    return [
+        Row(f"{which}, image {number} in words", f"show log {number} {run.options()}", content, stored),
+        Row(f"{which}, {by_line} in words", f"show log {by_line} {run.options()}", content, stored),
+    ]
+
+
+TOLD = [
+    *told("two_slots/wrong", Run(two_slots(0), 4, bound=2, tears=True), 567),
+    *told("journal/wrong", Run(JOURNAL_WRONG, 8), 17),
+    *told("pages/wrong", Run(pages(0), 24, by="write"), 18),
+]
+
 CHECKERS = [
     Row(
         f"{name}, assembled",
@@ -259,4 +280,4 @@ CHECKERS = [
     verified("verify pages/checker", data(EXAMPLES / "pages/checker.bpf"), "accepted budget 1026", 24),
 ]
 
-ROWS = [*REPORTS, *SHOWN, *WRITTEN, *CHECKERS]
+ROWS = [*REPORTS, *SHOWN, *WRITTEN, *TOLD, *CHECKERS]

@@ -7,17 +7,19 @@ use Rattle.logfmt.specs.Bounds.{LogValue}
 use Rattle.interp.specs.Checker.{CheckerValue}
 use Rattle.lines.specs.Line.{FailingLine, first_lines}
 use Rattle.report.specs.Report.{HeadValue, options_line, program_lines, line_text, first_line, findings_text, report_bytes}
-use Rattle.workers.specs.Failing.{Subject, failing_lines}
+use Rattle.workers.specs.Failing.{Subject, failing_lines, image_lines, line_of, ending_at}
 use Rattle.commands.specs.declared.settings.Settings.{Settings}
 use Rattle.commands.specs.Source.{plan_of}
 use Rattle.commands.specs.Explore.{subject_of, head_of, report_of}
+use Rattle.commands.specs.Why.{with_first}
+use Rattle.commands.specs.Found.{AreFound}
 
 same_findings : (first : Bool) (images : ℕ) (ls ms : List FailingLine) → (first ≡ false → ls ≡ ms) → first_lines ls ≡ first_lines ms
     → findings_text first images ls ≡ findings_text first images ms
 same_findings false images ls ms whole same = ap (findings_text false images) (whole refl)
 same_findings true images ls ms whole same = ap (λ (fs : List FailingLine). flat_map line_text fs ++ first_line images fs) same
 
-same_report : (h : HeadValue) (ls ms : List FailingLine) → (h.first ≡ false → ls ≡ ms) → first_lines ls ≡ first_lines ms
+pub same_report : (h : HeadValue) (ls ms : List FailingLine) → (h.first ≡ false → ls ≡ ms) → first_lines ls ≡ first_lines ms
     → report_bytes h ls ≡ report_bytes h ms
 unfolding report_bytes
 same_report h ls ms whole same =
@@ -43,20 +45,46 @@ pub same_subject : (s : Settings) (value : LogValue) (checkers : List CheckerVal
 same_subject s value checkers plan bound tears first e f g h =
     λ i. record { plan = e i; checkers = checkers; bound = f i; tears = g i; first = h i }
 
+-- whether the first failing image alone is asked for changes no failing line
+any_first : (plan : PlanValue) (checkers : List CheckerValue) (bound : ℕ) (tears a b : Bool)
+    → failing_lines (record { plan = plan; checkers = checkers; bound = bound; tears = tears; first = a })
+    ≡ failing_lines (record { plan = plan; checkers = checkers; bound = bound; tears = tears; first = b })
+unfolding failing_lines image_lines line_of ending_at
+any_first plan checkers bound tears a b = refl
+
+-- the failing lines of a run are those that the report tells
+pub same_lines : (s : Settings) (value : LogValue) (checkers : List CheckerValue) (plan : PlanValue) (bound : ℕ) (tears first : Bool)
+    → plan ≡ plan_of s value → bound ≡ s.bound → tears ≡ s.tears
+    → failing_lines (record { plan = plan; checkers = checkers; bound = bound; tears = tears; first = first }) ≡ failing_lines (subject_of s value checkers)
+same_lines s value checkers plan bound tears first e f g =
+    any_first plan checkers bound tears first s.first
+    ∙ ap failing_lines (same_subject s value checkers plan bound tears s.first e f g refl)
+
+-- what the work found of them
+pub found_of : (s : Settings) (value : LogValue) (checkers : List CheckerValue) (plan : PlanValue) (bound : ℕ) (tears first : Bool) (input made : Subject) (ls : List FailingLine)
+    → plan ≡ plan_of s value → bound ≡ s.bound → tears ≡ s.tears → made ≡ record { plan = plan; checkers = checkers; bound = bound; tears = tears; first = first }
+    → input ≡ made → (input.first ≡ false → ls ≡ failing_lines input) → first_lines ls ≡ first_lines (failing_lines input)
+    → AreFound first (failing_lines (subject_of s value checkers)) ls
+found_of s value checkers plan bound tears first input made ls e f g is same whole firsts =
+    let all = same_lines s value checkers plan bound tears first e f g in
+    let path = same ∙ is in
+    record {
+      whole = λ none. subst (λ (x : Subject). x.first ≡ false → ls ≡ failing_lines x) path whole none ∙ all;
+      firsts = subst (λ (x : Subject). first_lines ls ≡ first_lines (failing_lines x)) path firsts ∙ ap first_lines all;
+    }
+
 -- the report of what the work found
-pub report_of_work : (s : Settings) (value : LogValue) (checkers : List CheckerValue) (input : Subject) (ls : List FailingLine)
-    → input ≡ subject_of s value checkers → (input.first ≡ false → ls ≡ failing_lines input) → first_lines ls ≡ first_lines (failing_lines input)
-    → report_bytes (head_of s value checkers) ls ≡ report_of s value checkers
+pub report_of_found : (s : Settings) (value : LogValue) (checkers : List CheckerValue) (first : Bool) (head : HeadValue) (ls : List FailingLine) (bytes : List ℕ)
+    → first ≡ s.first → head ≡ head_of (with_first first s) value checkers → AreFound s.first (failing_lines (subject_of s value checkers)) ls
+    → bytes ≡ report_bytes head ls → bytes ≡ report_of s value checkers
 unfolding head_of
-report_of_work s value checkers input ls same whole first =
-    same_report (head_of s value checkers) ls (failing_lines (subject_of s value checkers))
-    (subst (λ (x : Subject). x.first ≡ false → ls ≡ failing_lines x) same whole)
-    (subst (λ (x : Subject). first_lines ls ≡ first_lines (failing_lines x)) same first)
+report_of_found s value checkers first head ls bytes asked heads found is =
+    is
+    ∙ ap (λ (h : HeadValue). report_bytes h ls) (heads ∙ ap (λ (b : Bool). head_of (with_first b s) value checkers) asked)
+    ∙ same_report (head_of s value checkers) ls (failing_lines (subject_of s value checkers)) found.whole found.firsts
 
 -- whether the work found a failing line
-pub fails_of_work : (s : Settings) (value : LogValue) (checkers : List CheckerValue) (input : Subject) (ls : List FailingLine) (empty : Bool)
-    → input ≡ subject_of s value checkers → first_lines ls ≡ first_lines (failing_lines input) → IsTrue empty ↔ (ls ≡ [])
+pub fails_of_found : (s : Settings) (value : LogValue) (checkers : List CheckerValue) (first : Bool) (ls : List FailingLine) (empty : Bool)
+    → AreFound first (failing_lines (subject_of s value checkers)) ls → IsTrue empty ↔ (ls ≡ [])
     → IsTrue (not empty) ↔ (failing_lines (subject_of s value checkers) ≢ [])
-fails_of_work s value checkers input ls empty same first h =
-    still_fails ls (failing_lines (subject_of s value checkers)) empty
-    (subst (λ (x : Subject). first_lines ls ≡ first_lines (failing_lines x)) same first) h
+fails_of_found s value checkers first ls empty found h = still_fails ls (failing_lines (subject_of s value checkers)) empty found.firsts h

@@ -6,6 +6,10 @@ pub mod Plans
 pub mod Ranges
 pub mod RefusalLemmas
 pub mod Runs
+pub mod Explained
 pub mod Texts
 pub mod Faultless
 pub mod Fitting
+pub mod Printed
+pub mod Short
+pub mod Meant

@@ -10,6 +10,9 @@ use Rattle.commands.specs.Table as table
 use Rattle.interp.specs.Checker.{CheckerValue}
 use Rattle.workers.specs.Failing.{failing_lines}
 use Rattle.workers.specs.Safe.{AcceptedCheckersRunSafely}
+use Rattle.commands.specs.declared.settings.Telling.{Telling}
+use Rattle.commands.specs.declared.settings.Telling.TheVariants as telling
+use Rattle.commands.specs.Why.{Tells, IsTold}
 use Rattle.commands.specs.Explore.{Refuses, for_source, AreCheckersOf, subject_of, report_of, IsProgramCount, IsReport}
 use Rattle.commands.proofs.Faultless.{faultless}
 
@@ -51,6 +54,24 @@ reported sound text files s log checkers now bytes failing count source made sam
       checkers = now;
       made = subst (AreCheckersOf s files) (sym same) made;
       report = report;
+      fails = fails;
+      faultless = faultless sound text s files log now source (subst (AreCheckersOf s files) (sym same) made);
+    }
+
+-- what is told of a run
+pub told_of : (t : Telling) → AcceptedCheckersRunSafely → (text : List ℕ) (files : List (List ℕ)) (s : Settings) (log : LogValue) (checkers now : List CheckerValue) (bytes : List ℕ)
+    (failing : Bool) → IsProgramCount (length files) → HasImages text s log → AreCheckersOf s files checkers → now ≡ checkers → Tells t s log now bytes
+    → IsTrue failing ↔ (failing_lines (subject_of s log now) ≢ []) → IsTold t text files s bytes failing
+told_of telling.Report sound text files s log checkers now bytes failing count source made same tells fails =
+    reported sound text files s log checkers now bytes failing count source made same tells fails
+told_of telling.Causes sound text files s log checkers now bytes failing count source made same tells fails =
+    record {
+      count = count;
+      value = log;
+      source = source;
+      checkers = now;
+      made = subst (AreCheckersOf s files) (sym same) made;
+      causes = tells;
       fails = fails;
       faultless = faultless sound text s files log now source (subst (AreCheckersOf s files) (sym same) made);
     }

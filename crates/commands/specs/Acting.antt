@@ -13,8 +13,12 @@ use Rattle.commands.specs.declared.words.OptionWords.{OptionWords}
 use Rattle.commands.specs.declared.words.Request.{Request}
 use Rattle.commands.specs.declared.words.Request.TheVariants as request
 use Rattle.commands.specs.Settings.{option_refusal, settings_refusal}
-use Rattle.commands.specs.Explore.{IsReport, Refuses}
+use Rattle.commands.specs.declared.settings.Telling.{Telling}
+use Rattle.commands.specs.declared.settings.Telling.TheVariants as telling
+use Rattle.commands.specs.Explore.{Refuses}
+use Rattle.commands.specs.Why.{IsTold}
 use Rattle.commands.specs.Image.{IsImage, RefusesImage}
+use Rattle.commands.specs.Show.{IsShown}
 use Rattle.commands.specs.Survey.{IsSurvey, RefusesSurvey}
 use Rattle.commands.specs.Table.{IsTable, RefusesTable}
 use Rattle.commands.specs.Verifying.{IsAcceptedText, RefusesVerified}
@@ -76,24 +80,24 @@ stored_programs = STORED_PROGRAM ∷ []
 abbrev pub status_of : Bool → ℕ
 status_of failing = if failing then 1 else 0
 
--- the report of a run, and its status
-pub record AnswersRun (s : Settings) (log : List ℕ) (programs : List (List ℕ)) (bytes : List ℕ) (status : ℕ) : Type 0 where
+-- what is told of a run, and its status
+pub record AnswersRun (t : Telling) (s : Settings) (log : List ℕ) (programs : List (List ℕ)) (bytes : List ℕ) (status : ℕ) : Type 0 where
   pub failing : Bool
-  pub report : IsReport log programs s bytes failing
+  pub told : IsTold t log programs s bytes failing
   pub ends : status ≡ status_of failing
 
--- the report of a run over the command's files, the log first
-pub record AnswersFiles (s : Settings) (files : Files) (bytes : List ℕ) (status : ℕ) : Type 0 where
+-- the same of a run over the command's files, the log first
+pub record AnswersFiles (t : Telling) (s : Settings) (files : Files) (bytes : List ℕ) (status : ℕ) : Type 0 where
   pub log : List ℕ
   pub programs : List (List ℕ)
   pub read : files ≡ map Some (log ∷ programs)
-  pub answers : AnswersRun s log programs bytes status
+  pub answers : AnswersRun t s log programs bytes status
 
 -- the same of the settings that the words ask for
-pub record AnswersExplore (w : OptionWords) (files : Files) (bytes : List ℕ) (status : ℕ) : Type 0 where
+pub record AnswersExplore (t : Telling) (w : OptionWords) (files : Files) (bytes : List ℕ) (status : ℕ) : Type 0 where
   pub settings : Settings
   pub asked : AskFor w settings
-  pub answers : AnswersFiles settings files bytes status
+  pub answers : AnswersFiles t settings files bytes status
 
 -- what a command on one file answers, by what that file holds; its status is 0
 pub record AnswersFile (Is : List ℕ → List ℕ → Type 0) (files : Files) (bytes : List ℕ) (status : ℕ) : Type 0 where
@@ -110,11 +114,13 @@ pub record AnswersWith (w : OptionWords) (Is : Settings → List ℕ → List �
 
 -- the bytes for standard output, and the status, of what the command line asks for
 abbrev pub Answers : Request → Files → List ℕ → ℕ → Type 0
-Answers request.StoredRun files bytes status = AnswersRun STORED_SETTINGS stored_log stored_programs bytes status
-Answers (request.Explore w) files bytes status = AnswersExplore w files bytes status
+Answers request.StoredRun files bytes status = AnswersRun telling.Report STORED_SETTINGS stored_log stored_programs bytes status
+Answers (request.Explore w) files bytes status = AnswersExplore telling.Report w files bytes status
+Answers (request.Why w) files bytes status = AnswersExplore telling.Causes w files bytes status
 Answers (request.Images w) files bytes status = AnswersWith w (λ s text. IsSurvey text s) files bytes status
 Answers (request.Log w) files bytes status = AnswersWith w (λ s text. IsTable text s) files bytes status
-Answers (request.Image w number) files bytes status = AnswersWith w (λ s text. IsImage text s number) files bytes status
+Answers (request.Image w which) files bytes status = AnswersWith w (λ s text. IsImage text s which) files bytes status
+Answers (request.Show w which) files bytes status = AnswersWith w (λ s text. IsShown text s which) files bytes status
 Answers (request.Verify w) files bytes status = AnswersWith w (λ s code. IsAcceptedText code s.sectors) files bytes status
 Answers request.Asm files bytes status = AnswersFile IsAssembled files bytes status
 Answers (request.List numbered) files bytes status = AnswersFile (IsListed numbered) files bytes status
@@ -129,7 +135,7 @@ pub data RefusesFile (files : Files) (Rest : List ℕ → Refusal → Type 0) : 
   for_file : first_held files ≡ None → RefusesFile files Rest (file_refusal 0)
   for_held : (held : List ℕ) (r : Refusal) → first_held files ≡ Some held → Rest held r → RefusesFile files Rest r
 
--- the refusals of `explore` behind its options: the first file that can't be read, then those of the run; or
+-- the refusals of `explore` and `why` behind their options: the first file that can't be read, then those of the run; or
 -- want of memory
 pub data RefusesFiles (files : Files) (s : Settings) : Refusal → Type 0 where
   for_unread : (place : ℕ) → unread files ≡ Some place → RefusesFiles files s (file_refusal place)
@@ -140,9 +146,11 @@ pub data RefusesFiles (files : Files) (s : Settings) : Refusal → Type 0 where
 abbrev pub RefusesToAct : Request → Files → Refusal → Type 0
 RefusesToAct request.StoredRun files r = (r ≡ memory_refusal) ⊎ Refuses stored_log stored_programs STORED_SETTINGS r
 RefusesToAct (request.Explore w) files r = RefusesWith w (RefusesFiles files) r
+RefusesToAct (request.Why w) files r = RefusesWith w (RefusesFiles files) r
 RefusesToAct (request.Images w) files r = RefusesWith w (λ s. RefusesFile files (λ text. RefusesSurvey text s)) r
 RefusesToAct (request.Log w) files r = RefusesWith w (λ s. RefusesFile files (λ text. RefusesTable text s)) r
-RefusesToAct (request.Image w number) files r = RefusesWith w (λ s. RefusesFile files (λ text. RefusesImage text s number)) r
+RefusesToAct (request.Image w which) files r = RefusesWith w (λ s. RefusesFile files (λ text. RefusesImage text s which)) r
+RefusesToAct (request.Show w which) files r = RefusesWith w (λ s. RefusesFile files (λ text. RefusesImage text s which)) r
 RefusesToAct (request.Verify w) files r = RefusesWith w (λ s. RefusesFile files (λ code. RefusesVerified code s.sectors)) r
 RefusesToAct request.Asm files r = RefusesFile files RefusesText r
 RefusesToAct (request.List numbered) files r = RefusesFile files RefusesBytes r

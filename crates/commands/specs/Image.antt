@@ -6,25 +6,26 @@ use Rattle.base.specs.Refusals.{memory_refusal}
 use Rattle.logfmt.specs.Bounds.{LogValue}
 use Rattle.choices.specs.Choices.{ChoiceValue}
 use Rattle.images.specs.Views.{view_of, sectors_of}
-use Rattle.commands.specs.declared.settings.OptionPlace.TheVariants as place
+use Rattle.commands.specs.declared.words.Which.{Which}
 use Rattle.commands.specs.declared.settings.Settings.{Settings}
 use Rattle.commands.specs.Settings.{option_refusal}
+use Rattle.commands.specs.Which.{IsMeant, IsOnly, NoneIs, which_place}
 use Rattle.commands.specs.Source.{plan_of, images_of, HasImages, RefusesSource}
 
 -- sectors one after the other
 abbrev pub joined : List (List ℕ) → List ℕ
 joined sectors = flat_map (λ (sector : List ℕ). sector) sectors
 
--- the bytes are those of the image with that number
-pub record IsImage (text : List ℕ) (s : Settings) (number : ℕ) (bytes : List ℕ) : Type 0 where
+-- the bytes are those of the image that is meant
+pub record IsImage (text : List ℕ) (s : Settings) (which : Which) (bytes : List ℕ) : Type 0 where
   pub value : LogValue
   pub source : HasImages text s value
   pub choice : ChoiceValue
-  pub numbered : slice_get (images_of s value) number ≡ Some choice
+  pub meant : IsOnly (IsMeant (plan_of s value) s.bound s.tears which) choice
   pub shown : bytes ≡ joined (sectors_of (view_of (plan_of s value) choice))
 
--- the refusals in their order: the log, the number of its images, then the number that was asked for
-pub data RefusesImage (text : List ℕ) (s : Settings) (number : ℕ) : Refusal → Type 0 where
-  for_source : (r : Refusal) → RefusesSource text s r → RefusesImage text s number r
-  for_number : (value : LogValue) → HasImages text s value → length (images_of s value) ≤ number → RefusesImage text s number (option_refusal place.Image)
-  for_memory : (value : LogValue) → HasImages text s value → RefusesImage text s number memory_refusal
+-- the refusals in their order: the log, the number of its images, then an image that there isn't
+pub data RefusesImage (text : List ℕ) (s : Settings) (which : Which) : Refusal → Type 0 where
+  for_source : (r : Refusal) → RefusesSource text s r → RefusesImage text s which r
+  for_number : (value : LogValue) → HasImages text s value → NoneIs (IsMeant (plan_of s value) s.bound s.tears which) → RefusesImage text s which (option_refusal (which_place which))
+  for_memory : (value : LogValue) → HasImages text s value → RefusesImage text s which memory_refusal

@@ -4,7 +4,12 @@ pub mod Settings
 pub mod Source
 pub mod Programs
 pub mod Explore
+pub mod Why
+pub mod Marked
+pub mod Found
+pub mod Which
 pub mod Image
+pub mod Show
 pub mod Survey
 pub mod Table
 pub mod Assembly

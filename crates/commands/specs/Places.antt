@@ -13,3 +13,4 @@ place_number place.Programs = 6
 place_number place.Cuts = 7
 place_number place.Image = 9
 place_number place.By = 10
+place_number place.Choice = 11

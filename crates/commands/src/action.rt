@@ -7,19 +7,21 @@ ghost use Rattle.commands.specs.declared.words.Request.TheVariants as request;
 ghost use Rattle.commands.specs.Explore.{Refuses};
 ghost use Rattle.commands.specs.Settings.{settings_refusal};
 ghost use Rattle.commands.specs.Assembly.{file_refusal};
-ghost use Rattle.commands.specs.Acting.{settings_of, words_refusal, AskFor, first_held, unread, stored_log, stored_programs, status_of, AnswersRun, AnswersFiles, Answers, RefusesToAct, RefusesFiles};
+ghost use Rattle.commands.specs.Acting.{settings_of, words_refusal, AskFor, first_held, unread, stored_log, stored_programs, status_of, AnswersRun, AnswersFiles, AnswersExplore, Answers, RefusesWith, RefusesToAct, RefusesFiles};
+ghost use Rattle.commands.specs.declared.settings.Telling.TheVariants as tells;
 
 use crate::asm_command::assembled;
-use crate::explore_command::explore_with;
+use crate::explore_command::run_with;
 use crate::image_command::image;
 use crate::images_command::survey;
 use crate::list_command::listed;
 use crate::log_command::shown_log;
 use crate::options::Options;
 use crate::refusals::{option_refusal_of, unreadable};
-use crate::settings::{OptionPlace, Settings};
+use crate::settings::{OptionPlace, Settings, Telling};
+use crate::show_command::show;
 use crate::verify_command::verified;
-use crate::words::{OptionWords, Request, Words};
+use crate::words::{OptionWords, Request, Which, Words};
 use base::refusal::Refusal;
 use epochs::{By, Cuts};
 use std::alloc::{AllocError, Global};
@@ -92,19 +94,20 @@ fn programs_of(alloc: Global, files: &[Option<Vec<u8>>]) -> Result<Vec<Vec<u8>>,
     Ok(programs)
 }
 
-/// Explores a log, and answers the report with its status: 1 where there is a failing image.
+/// Explores a log, and answers what is to be told with its status: 1 where there is a failing image.
 fn explore_files<G: Gate + Sync, R: Threads + Wait + Sync>(
     rt: &R,
     alloc: Global,
     gate: &G,
+    telling: Telling,
     log: &[u8],
     programs: &[Vec<u8>],
     options: &Options,
 ) -> Result<(Vec<u8>, u8), Refusal>
-    ensures answers { IfOk result (λ answer. AnswersRun options.now log.now (map (λ f. f.items) programs.now) answer.0.items answer.1) }
+    ensures answers { IfOk result (λ answer. AnswersRun telling options.now log.now (map (λ f. f.items) programs.now) answer.0.items answer.1) }
     ensures refused { IfErr result (Refuses log.now (map (λ f. f.items) programs.now) options.now) }
 {
-    let explored = explore_with(rt, alloc, gate, log, programs, options)?;
+    let explored = run_with(rt, alloc, gate, telling, log, programs, options)?;
     let status = if explored.failing { 1 } else { 0 };
     Ok((explored.bytes, status))
 }
@@ -137,14 +140,15 @@ fn act_explore<G: Gate + Sync, R: Threads + Wait + Sync>(
     rt: &R,
     alloc: Global,
     gate: &G,
+    telling: Telling,
     words: OptionWords,
     files: &[Option<Vec<u8>>],
 ) -> Result<(Vec<u8>, u8), Refusal>
-    ensures answers { IfOk result (λ answer. Answers (request.Explore words) (map (option_map (λ f. f.items)) files.now) answer.0.items answer.1) }
-    ensures refused { IfErr result (RefusesToAct (request.Explore words) (map (option_map (λ f. f.items)) files.now)) }
+    ensures answers { IfOk result (λ answer. AnswersExplore telling words (map (option_map (λ f. f.items)) files.now) answer.0.items answer.1) }
+    ensures refused { IfErr result (RefusesWith words (RefusesFiles (map (option_map (λ f. f.items)) files.now))) }
 {
     let options = options_of(words)?;
-    explore_readable(rt, alloc, gate, &options, files)
+    explore_readable(rt, alloc, gate, telling, &options, files)
 }
 
 /// Explores files, each of which has to be readable.
@@ -152,10 +156,11 @@ fn explore_readable<G: Gate + Sync, R: Threads + Wait + Sync>(
     rt: &R,
     alloc: Global,
     gate: &G,
+    telling: Telling,
     options: &Options,
     files: &[Option<Vec<u8>>],
 ) -> Result<(Vec<u8>, u8), Refusal>
-    ensures answers { IfOk result (λ answer. AnswersFiles options.now (map (option_map (λ f. f.items)) files.now) answer.0.items answer.1) }
+    ensures answers { IfOk result (λ answer. AnswersFiles telling options.now (map (option_map (λ f. f.items)) files.now) answer.0.items answer.1) }
     ensures refused { IfErr result (RefusesFiles (map (option_map (λ f. f.items)) files.now) options.now) }
 {
     let Some((first, others)) = files.split_first() else {
@@ -172,6 +177,7 @@ fn explore_readable<G: Gate + Sync, R: Threads + Wait + Sync>(
             rt,
             alloc,
             gate,
+            telling,
             log.as_slice(),
             programs.as_slice(),
             options,
@@ -197,7 +203,7 @@ fn act_stored<G: Gate + Sync, R: Threads + Wait + Sync>(
     alloc: Global,
     gate: &G,
 ) -> Result<(Vec<u8>, u8), Refusal>
-    ensures answers { IfOk result (λ answer. AnswersRun STORED_SETTINGS stored_log stored_programs answer.0.items answer.1) }
+    ensures answers { IfOk result (λ answer. AnswersRun tells.Report STORED_SETTINGS stored_log stored_programs answer.0.items answer.1) }
     ensures refused { IfErr result (λ r. (r ≡ memory_refusal) ⊎ Refuses stored_log stored_programs STORED_SETTINGS r) }
 {
     let options = stored_options();
@@ -207,6 +213,7 @@ fn act_stored<G: Gate + Sync, R: Threads + Wait + Sync>(
                 rt,
                 alloc,
                 gate,
+                Telling::Report,
                 log.as_slice(),
                 programs.as_slice(),
                 &options,
@@ -250,15 +257,31 @@ fn act_log(
 fn act_image(
     alloc: Global,
     words: OptionWords,
-    number: u64,
+    which: Which,
     files: &[Option<Vec<u8>>],
 ) -> Result<(Vec<u8>, u8), Refusal>
-    ensures answers { IfOk result (λ answer. Answers (request.Image words number) (map (option_map (λ f. f.items)) files.now) answer.0.items answer.1) }
-    ensures refused { IfErr result (RefusesToAct (request.Image words number) (map (option_map (λ f. f.items)) files.now)) }
+    ensures answers { IfOk result (λ answer. Answers (request.Image words which) (map (option_map (λ f. f.items)) files.now) answer.0.items answer.1) }
+    ensures refused { IfErr result (RefusesToAct (request.Image words which) (map (option_map (λ f. f.items)) files.now)) }
 {
     let options = options_of(words)?;
     let log = first_of(files)?;
-    let bytes = image(alloc, log, number, &options)?;
+    let bytes = image(alloc, log, which, &options)?;
+    Ok((bytes, 0))
+}
+
+/// One crash image of a log, in words.
+fn act_show(
+    alloc: Global,
+    words: OptionWords,
+    which: Which,
+    files: &[Option<Vec<u8>>],
+) -> Result<(Vec<u8>, u8), Refusal>
+    ensures answers { IfOk result (λ answer. Answers (request.Show words which) (map (option_map (λ f. f.items)) files.now) answer.0.items answer.1) }
+    ensures refused { IfErr result (RefusesToAct (request.Show words which) (map (option_map (λ f. f.items)) files.now)) }
+{
+    let options = options_of(words)?;
+    let log = first_of(files)?;
+    let bytes = show(alloc, log, which, &options)?;
     Ok((bytes, 0))
 }
 
@@ -322,10 +345,14 @@ pub fn act<G: Gate + Sync, R: Threads + Wait + Sync>(
 {
     match words.request() {
         Request::StoredRun => act_stored(rt, alloc, gate),
-        Request::Explore(options) => act_explore(rt, alloc, gate, options, files),
+        Request::Explore(options) => {
+            act_explore(rt, alloc, gate, Telling::Report, options, files)
+        }
+        Request::Why(options) => act_explore(rt, alloc, gate, Telling::Causes, options, files),
         Request::Images(options) => act_images(alloc, options, files),
         Request::Log(options) => act_log(alloc, options, files),
-        Request::Image(options, number) => act_image(alloc, options, number, files),
+        Request::Image(options, which) => act_image(alloc, options, which, files),
+        Request::Show(options, which) => act_show(alloc, options, which, files),
         Request::Verify(options) => act_verify(alloc, options, files),
         Request::Asm => act_asm(alloc, files),
         Request::List { numbered } => act_list(alloc, numbered, files),

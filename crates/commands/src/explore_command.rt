@@ -1,21 +1,24 @@
-//! From the bytes of a log and of programs to the bytes of the report.
+//! From the bytes of a log and of programs to the bytes of the report, or to why the programs fail.
 
-ghost use Rattle.std.specs.Prelude.{◌≡◌, ◌≢◌, ◌≤◌, ◌<◌, ◌+◌, ◌⊎◌, ◌↔◌, IsTrue, ◌++◌, ◌∷◌, [], length, map, IfOk, IfErr, OnOk, Some};
+ghost use Rattle.std.specs.Prelude.{◌≡◌, ◌≢◌, ◌≤◌, ◌<◌, ◌+◌, ◌⊎◌, ◌↔◌, IsTrue, ◌++◌, ◌∷◌, [], length, map, false, IfOk, IfErr, OnOk, Some};
 ghost use Rattle.base.specs.declared.causes.CodeCause.TheVariants as code;
 ghost use Rattle.bpf_isa.specs.Program.{IsSpelledBy, HasNoFault};
 ghost use Rattle.std.specs.List.Sorted.{IsNonDecreasing};
 ghost use Rattle.choices.specs.Choices.{limit};
 ghost use Rattle.interp.specs.Checker.{AreFor};
-ghost use Rattle.report.specs.Report.{report_bytes};
 ghost use Rattle.workers.specs.Failing.{failing_lines};
 ghost use Rattle.base.specs.Refusals.{memory_refusal};
 ghost use Rattle.commands.specs.Source.{plan_of, images_of, RefusesPlan};
 ghost use Rattle.commands.specs.Explore.{HasReport, IsReport, IsProgramCount, Refuses, program_head, subject_of, head_of, report_of};
+ghost use Rattle.commands.specs.declared.settings.Telling.TheVariants as tells;
+ghost use Rattle.commands.specs.Why.{starts_of, with_first, first_asked, Tells, IsExplained, IsTold};
+ghost use Rattle.commands.specs.Found.{AreFound};
 ghost use Rattle.commands.specs.Programs.{IsRunWithin, IsCodeFault, IsUnaccepted, code_refusal, verifier_refusal, AreDecoded, AreFirstMade, RefusesOneOf};
 
+use crate::causes::causes_text;
 use crate::options::Options;
 use crate::refusals::option_refusal_of;
-use crate::settings::OptionPlace;
+use crate::settings::{OptionPlace, Telling};
 use crate::source::{planned, read_log};
 use base::refusal::{Cause, Refusal};
 use bpf_isa::codec::decode;
@@ -31,7 +34,9 @@ use std::alloc::{AllocError, Global};
 use std::sync::Wait;
 use std::thread::Threads;
 use verifier::verify;
-use workers::{Gate, Input, OpenGate, Work, accepted_checkers_run_safely, explore_all};
+use workers::{
+    Gate, Input, OpenGate, Work, accepted_checkers_run_safely, explore_all, lines_are_set,
+};
 
 /// The most programs of a run.
 const MAX_PROGRAMS: usize = 8;
@@ -39,7 +44,7 @@ const MAX_PROGRAMS: usize = 8;
 /// What a run answers.
 #[derive(Drop)]
 pub struct Explored {
-    /// The report, of the first failing image alone where that was asked for.
+    /// The report, of the first failing image alone where that was asked for; or why programs fail.
     pub bytes: Vec<u8>,
     /// How many judgements were taken from the cache, at most 2^64 - 1.
     pub hits: u64,
@@ -198,8 +203,34 @@ fn program_heads(alloc: Global, checkers: &[Checker<'_>]) -> Result<Vec<ProgramH
     Ok(heads)
 }
 
-/// The report of the work.
+/// What stands at the head of a text, of which it is said whether it is of the first failing image alone.
 #[tactic(auto, unfolding(crate::specs::Explore::head_of))]
+fn head_of_run(
+    alloc: Global,
+    log: &Log,
+    checkers: &[Checker<'_>],
+    options: &Options,
+    images: u64,
+    first: bool,
+) -> Result<Head, AllocError>
+    requires images { images ≡ length (images_of options.now log.now) }
+    requires device { log.now.sectors ≡ options.now.sectors }
+    ensures { IfOk result (λ head. head ≡ head_of (with_first first options.now) log.now checkers.now) }
+{
+    Ok(Head {
+        sectors: options.sectors(),
+        entries: log.entries().len() as u32,
+        cuts: options.cuts(),
+        bound: options.bound(),
+        tears: options.tears(),
+        by: options.by(),
+        first,
+        programs: program_heads(alloc, checkers)?,
+        images,
+    })
+}
+
+/// The report of the work.
 fn reported(
     alloc: Global,
     log: &Log,
@@ -211,27 +242,89 @@ fn reported(
     requires images { images ≡ length (images_of options.now log.now) }
     requires device { log.now.sectors ≡ options.now.sectors }
     requires order { IsNonDecreasing (map (λ l. l.image) work.now.lines) }
-    ensures { IfOk result (λ bytes. bytes.items ≡ report_bytes (head_of options.now log.now checkers.now) work.now.lines) }
+    requires lines { AreFound options.now.first (failing_lines (subject_of options.now log.now checkers.now)) work.now.lines }
+    ensures { IfOk result (λ bytes. bytes.items ≡ report_of options.now log.now checkers.now) }
 {
-    let head = Head {
-        sectors: options.sectors(),
-        entries: log.entries().len() as u32,
-        cuts: options.cuts(),
-        bound: options.bound(),
-        tears: options.tears(),
-        by: options.by(),
-        first: options.first(),
-        programs: program_heads(alloc, checkers)?,
-        images,
-    };
+    let head = head_of_run(alloc, log, checkers, options, images, options.first())?;
     write_report(alloc, &head, &work.lines)
 }
 
-/// Judges the crash images of a plan by checkers, and reports those that fail.
+/// Why the programs fail, by the work, of which the marks are kept.
+fn explained(
+    alloc: Global,
+    log: &Log,
+    checkers: &[Checker<'_>],
+    options: &Options,
+    images: u64,
+    starts: &Starts<'_>,
+    work: &Work,
+) -> Result<Vec<u8>, AllocError>
+    requires images { images ≡ length (images_of options.now log.now) }
+    requires device { log.now.sectors ≡ options.now.sectors }
+    requires order { IsNonDecreasing (map (λ l. l.image) work.now.lines) }
+    requires starts { starts.now ≡ starts_of options.now log.now }
+    requires lines { work.now.lines ≡ failing_lines (subject_of options.now log.now checkers.now) }
+    ensures { IfOk result (λ bytes. Tells tells.Causes options.now log.now checkers.now bytes.items) }
+{
+    let Some(marks) = work.lines.marks() else {
+        return Err(AllocError);
+    };
+    let head = head_of_run(alloc, log, checkers, options, images, false)?;
+    // A law of the failing lines, which does nothing: they are in their order, and so are those of each program.
+    lines_are_set();
+    causes_text(alloc, &head, starts, &work.lines, marks)
+}
+
+/// What is to be told of the work.
+fn told(
+    alloc: Global,
+    telling: Telling,
+    log: &Log,
+    checkers: &[Checker<'_>],
+    options: &Options,
+    images: u64,
+    starts: &Starts<'_>,
+    work: &Work,
+) -> Result<Vec<u8>, AllocError>
+    requires images { images ≡ length (images_of options.now log.now) }
+    requires device { log.now.sectors ≡ options.now.sectors }
+    requires order { IsNonDecreasing (map (λ l. l.image) work.now.lines) }
+    requires starts { starts.now ≡ starts_of options.now log.now }
+    requires lines { AreFound (first_asked telling options.now.first) (failing_lines (subject_of options.now log.now checkers.now)) work.now.lines }
+    ensures { IfOk result (λ bytes. Tells telling options.now log.now checkers.now bytes.items) }
+{
+    match telling {
+        Telling::Report => reported(alloc, log, checkers, options, images, work),
+        Telling::Causes => explained(alloc, log, checkers, options, images, starts, work),
+    }
+}
+
+/// Whether blocks behind the first failing image may be passed over.
+fn is_first_asked(telling: Telling, options: &Options) -> bool
+    ensures { result ≡ first_asked telling options.now.first }
+{
+    match telling {
+        Telling::Report => options.first(),
+        Telling::Causes => false,
+    }
+}
+
+/// The input of a run, which keeps marks of the failing lines where why programs fail is to be told.
+fn marked<'a>(telling: Telling, input: Input<'a>) -> Input<'a>
+    ensures { result ≡ input.entry }
+{
+    match telling {
+        Telling::Report => input,
+        Telling::Causes => input.with_marks(),
+    }
+}
+
+/// Judges the crash images of a plan by checkers, and tells of those that fail.
 fn judged<'x, G: Gate + Sync, R: Threads + Wait + Sync>(
     rt: &R,
     alloc: Global,
     gate: &G,
+    telling: Telling,
     log: &'x Log,
     plan: &'x Plan<'x>,
     checkers: &'x [Checker<'x>],
@@ -244,7 +337,7 @@ fn judged<'x, G: Gate + Sync, R: Threads + Wait + Sync>(
     requires verified { AreFor options.now.sectors checkers.now }
     requires images { images ≡ length (images_of options.now log.now) }
     requires few { images ≤ limit }
-    ensures bytes { IfOk result (λ e. e.bytes.items ≡ report_of options.now log.now checkers.now) }
+    ensures bytes { IfOk result (λ e. Tells telling options.now log.now checkers.now e.bytes.items) }
     ensures failing { IfOk result (λ e. IsTrue e.failing ↔ (failing_lines (subject_of options.now log.now checkers.now) ≢ [])) }
     ensures refused { IfErr result (RefusesPlan options.now log.now) }
 {
@@ -257,7 +350,8 @@ fn judged<'x, G: Gate + Sync, R: Threads + Wait + Sync>(
         Ok(starts) => starts,
         Err(_error) => return Err(Refusal::of_memory()),
     };
-    let input = Input::new(
+    let first = is_first_asked(telling, options);
+    let unmarked = Input::new(
         &*plan,
         &starts,
         &history,
@@ -267,11 +361,14 @@ fn judged<'x, G: Gate + Sync, R: Threads + Wait + Sync>(
         tears,
         options.workers(),
         options.cache(),
-        options.first(),
+        first,
         images,
     );
+    let input = marked(telling, unmarked);
     let work = explore_all(rt, alloc, gate, &input)?;
-    match reported(alloc, log, checkers, options, images, &work) {
+    match told(
+        alloc, telling, log, checkers, options, images, &starts, &work,
+    ) {
         Ok(bytes) => Ok(Explored {
             bytes,
             hits: work.hits,
@@ -279,6 +376,44 @@ fn judged<'x, G: Gate + Sync, R: Threads + Wait + Sync>(
         }),
         Err(_error) => Err(Refusal::of_memory()),
     }
+}
+
+/// Judges the crash images of a log by one to eight programs, and tells of those that fail what is asked for.
+pub(crate) fn run_with<G: Gate + Sync, R: Threads + Wait + Sync>(
+    rt: &R,
+    alloc: Global,
+    gate: &G,
+    telling: Telling,
+    log: &[u8],
+    programs: &[Vec<u8>],
+    options: &Options,
+) -> Result<Explored, Refusal>
+    ensures told { IfOk result (λ e. IsTold telling log.now (map (λ f. f.items) programs.now) options.now e.bytes.items e.failing) }
+    ensures refused { IfErr result (Refuses log.now (map (λ f. f.items) programs.now) options.now) }
+{
+    if !is_program_count(programs.len()) {
+        return Err(option_refusal_of(OptionPlace::Programs));
+    }
+    let log = read_log(alloc, log, options.sectors())?;
+    let (plan, images) = planned(alloc, &log, options)?;
+    let decoded = decode_all(alloc, programs)?;
+    let checkers = checkers_of(alloc, decoded.programs.as_slice(), options)?;
+    if let Some(refusal) = decoded.refusal {
+        return Err(refusal);
+    }
+    // A law of the machine, which does nothing: an accepted program meets no fault.
+    accepted_checkers_run_safely();
+    judged(
+        rt,
+        alloc,
+        gate,
+        telling,
+        &log,
+        &plan,
+        checkers.as_slice(),
+        options,
+        images,
+    )
 }
 
 /// Explores the crash images of a log: judges each by the one to eight programs, and reports those that
@@ -302,28 +437,28 @@ pub fn explore_with<G: Gate + Sync, R: Threads + Wait + Sync>(
     ensures report { IfOk result (λ e. IsReport log.now (map (λ f. f.items) programs.now) options.now e.bytes.items e.failing) }
     ensures refused { IfErr result (Refuses log.now (map (λ f. f.items) programs.now) options.now) }
 {
-    if !is_program_count(programs.len()) {
-        return Err(option_refusal_of(OptionPlace::Programs));
-    }
-    let log = read_log(alloc, log, options.sectors())?;
-    let (plan, images) = planned(alloc, &log, options)?;
-    let decoded = decode_all(alloc, programs)?;
-    let checkers = checkers_of(alloc, decoded.programs.as_slice(), options)?;
-    if let Some(refusal) = decoded.refusal {
-        return Err(refusal);
-    }
-    // A law of the machine, which does nothing: an accepted program meets no fault.
-    accepted_checkers_run_safely();
-    judged(
-        rt,
-        alloc,
-        gate,
-        &log,
-        &plan,
-        checkers.as_slice(),
-        options,
-        images,
-    )
+    run_with(rt, alloc, gate, Telling::Report, log, programs, options)
+}
+
+/// Says why programs fail on the crash images of a log: of each program how many images of each cut fail, and under which
+/// smallest failing choices they stand (docs/REPORT.md, The text of `why`). It judges each image once, as `explore_with` does,
+/// whether or not the first failing image alone is asked for.
+///
+/// # Errors
+///
+/// Those of `explore_with`.
+pub fn why<G: Gate + Sync, R: Threads + Wait + Sync>(
+    rt: &R,
+    alloc: Global,
+    gate: &G,
+    log: &[u8],
+    programs: &[Vec<u8>],
+    options: &Options,
+) -> Result<Explored, Refusal>
+    ensures explained { IfOk result (λ e. IsExplained log.now (map (λ f. f.items) programs.now) options.now e.bytes.items e.failing) }
+    ensures refused { IfErr result (Refuses log.now (map (λ f. f.items) programs.now) options.now) }
+{
+    run_with(rt, alloc, gate, Telling::Causes, log, programs, options)
 }
 
 /// The bytes of `explore_with`, with a gate that does nothing.

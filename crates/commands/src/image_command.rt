@@ -7,11 +7,11 @@ ghost use Rattle.commands.specs.Source.{plan_of, images_of};
 ghost use Rattle.commands.specs.Image.{joined, IsImage, RefusesImage};
 
 use crate::options::Options;
-use crate::refusals::option_refusal_of;
-use crate::settings::OptionPlace;
 use crate::source::{planned, read_log};
+use crate::which::choice_meant;
+use crate::words::Which;
 use base::refusal::Refusal;
-use choices::{Choice, nth};
+use choices::Choice;
 use epochs::Plan;
 use helpers::Device;
 use images::History;
@@ -56,23 +56,20 @@ fn shown<'x>(
     bytes_of(alloc, &view)
 }
 
-/// The bytes of the crash image of that number: its sectors one after the other (docs/REPORT.md,
-/// Commands). The programs' options are not asked for.
+/// The bytes of the crash image that is meant: its sectors one after the other (docs/REPORT.md, Commands). The
+/// programs' options are not asked for.
 ///
 /// # Errors
 ///
-/// The first refusal in the order of docs/REPORT.md: the log, the number of its images, then a number
-/// that no image has, 13 at 9; or want of memory.
-pub fn image(alloc: Global, log: &[u8], number: u64, options: &Options) -> Result<Vec<u8>, Refusal>
-    ensures shown { IfOk result (λ bytes. IsImage log.now options.now number bytes.items) }
-    ensures refused { IfErr result (RefusesImage log.now options.now number) }
+/// The first refusal in the order of docs/REPORT.md: the log, the number of its images, then a number that no
+/// image has, 13 at 9, or a cut and a choice that none has, 13 at 11; or want of memory.
+pub fn image(alloc: Global, log: &[u8], which: Which, options: &Options) -> Result<Vec<u8>, Refusal>
+    ensures shown { IfOk result (λ bytes. IsImage log.now options.now which bytes.items) }
+    ensures refused { IfErr result (RefusesImage log.now options.now which) }
 {
     let log = read_log(alloc, log, options.sectors())?;
     let (plan, images) = planned(alloc, &log, options)?;
-    if number >= images {
-        return Err(option_refusal_of(OptionPlace::Image));
-    }
-    let choice = nth(&plan, options.bound(), options.tears(), number);
+    let choice = choice_meant(alloc, &plan, images, options, which)?;
     match shown(alloc, &log, &plan, &choice) {
         Ok(bytes) => Ok(bytes),
         Err(_error) => Err(Refusal::of_memory()),

@@ -2,6 +2,7 @@
 //! contract is a theorem.
 
 ghost use Rattle.commands.specs.Laws.{OneReport, ReportOrRefusal};
+ghost use Rattle.commands.specs.Which.{ChoicesAreShort, PrintsChoices};
 
 use bpf_isa::laws::{no_fault_in_spelled, one_program};
 use logfmt::{text_has_no_fault, text_of_one_log};
@@ -26,3 +27,15 @@ pub fn report_or_refusal()
     no_fault_in_spelled();
     one_verdict();
 }
+
+/// The report prints of a choice what `show` prints of it: the same bytes.
+#[tactic(auto, using(crate::proofs::Printed::prints_choices))]
+pub fn report_prints_choices()
+    ensures { PrintsChoices }
+{}
+
+/// No choice of a plan has a text of more than 96 bytes, so none is missed where a longer text means none.
+#[tactic(auto, using(crate::proofs::Short::choices_are_short))]
+pub fn choices_are_short()
+    ensures { ChoicesAreShort }
+{}

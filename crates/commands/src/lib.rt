@@ -10,17 +10,20 @@
 //!
 //! The layer below the program. `logfmt` reads the log, `epochs` says its cuts, `choices` and `images` its
 //! crash images, `bpf_isa` decodes the checkers, `verifier` accepts them, `bpf_asm` assembles and lists
-//! them, `workers` judges the images by `interp`, `report` writes the lines, `notes` the words. What stands here:
+//! them, `workers` judges the images by `interp`, `report` writes the lines, `choice_text` reads choices, `crash_text` and `notes` have the words. What stands here:
 //!
 //! - `settings` and `options`: what a run is asked, and `Options`, tested in their order.
 //! - `source`: what each command reads of a log, with the refusals in their order.
-//! - `explore_command`: `explore_with` and `explore`, from bytes to the bytes of the report.
-//! - `images_command`, `image_command`: the number of images cut by cut, and the bytes of one image.
+//! - `explore_command`: `explore_with` and `explore`, from bytes to the bytes of the report, and `why`, the same run told
+//!   by its causes; `causes` has their text.
+//! - `images_command`, `image_command`, `show_command`: the number of images cut by cut, the bytes of one image, and one
+//!   image in words.
+//! - `which`: the choice of the image that is meant, by its number, or by its cut and its choice as the report prints it.
 //! - `log_command`: a log as a table.
 //! - `verify_command`, `asm_command`, `list_command`: what the verifier says of a program by itself, a
 //!   program from a source text, and the listing of a program.
 //! - `words`, `action`: the words of the command line, and what a command answers.
-//! - `laws`: that there is one report at most, and no refusal beside it but for memory.
+//! - `laws`: that there is one report at most, and no refusal beside it but for memory; what the texts of choices are.
 //! - `refusals`: the refusals of files and options, and `fault_line`, the line of a refusal.
 //! - `writing`: `emit`, which writes all of an answer.
 //! - `progress`: the gate that says on standard error how far an exploration is.
@@ -35,8 +38,10 @@
 //! of steps that is asked for, or, without one, within the budget with which the verifier accepts it for
 //! the device; what it doesn't accept is refused (`specs/Programs.antt`). Without a limit that is asked for no
 //! run has a fault or spends its budget, and no line says so (`IsFaultless` in `specs/Explore.antt`), by the
-//! soundness of the verifier. `image` answers the bytes of
-//! the image of a number, and `survey` the text of `specs/Survey.antt`. Where one of them answers `Err`,
+//! soundness of the verifier. `why` answers, of the same failing lines, what fails of each program at each cut
+//! (`IsExplained` in `specs/Why.antt`). `image` answers the bytes of
+//! the image that is meant, of which there is one (`specs/Which.antt`), `show` its text, beside the image of the same cut
+//! where nothing departs (`specs/Show.antt`), and `survey` the text of `specs/Survey.antt`. Where one of them answers `Err`,
 //! the refusal is the first in the order of docs/REPORT.md (`specs/Explore.antt`, `specs/Image.antt`,
 //! `specs/Survey.antt`), or memory ran out.
 //!
@@ -62,6 +67,7 @@
 
 mod action;
 mod asm_command;
+mod causes;
 mod explore_command;
 mod headers;
 mod image_command;
@@ -74,23 +80,26 @@ mod options;
 mod progress;
 mod refusals;
 mod settings;
+mod show_command;
 mod source;
 mod unreached;
 mod verify_command;
+mod which;
 mod words;
 mod writing;
 
 pub use action::act;
 pub use epochs::{By, Cuts};
-pub use explore_command::{Explored, explore, explore_with};
+pub use explore_command::{Explored, explore, explore_with, why};
 pub use image_command::image;
 pub use images_command::survey;
-pub use laws::{one_report, report_or_refusal};
+pub use laws::{choices_are_short, one_report, report_or_refusal, report_prints_choices};
 pub use noting::{notes_behind, notes_beside};
 pub use options::Options;
 pub use progress::Progress;
 pub use refusals::fault_line;
 pub use settings::{OptionPlace, Settings};
-pub use words::Words;
+pub use show_command::show;
+pub use words::{Which, Words};
 pub use workers::{Gate, OpenGate};
 pub use writing::emit;

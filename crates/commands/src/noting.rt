@@ -160,7 +160,8 @@ fn names_instruction(cause: VerifierCause) -> bool {
 /// The options that a command takes, where it takes some of a log.
 fn log_options(request: Request) -> Option<OptionWords> {
     match request {
-        Request::Explore(words) | Request::Images(words) | Request::Image(words, _) => Some(words),
+        Request::Explore(words) | Request::Why(words) | Request::Images(words) => Some(words),
+        Request::Image(words, _) | Request::Show(words, _) => Some(words),
         _ => None,
     }
 }
@@ -168,7 +169,7 @@ fn log_options(request: Request) -> Option<OptionWords> {
 /// The options that a command takes, where it verifies programs.
 fn verifier_options(request: Request) -> Option<OptionWords> {
     match request {
-        Request::Explore(words) | Request::Verify(words) => Some(words),
+        Request::Explore(words) | Request::Why(words) | Request::Verify(words) => Some(words),
         _ => None,
     }
 }
@@ -340,6 +341,7 @@ fn option_rule(place: u64) -> &'static str {
         6 => "a run has 1 to 8 programs",
         7 => "--cuts is all, flush or mark",
         10 => "--by is sector or write",
+        11 => "no image of that cut has that choice, as the report prints it with the same options",
         _ => "the log has no image of that number; 'crashbpf images' tells how many it has",
     }
 }
@@ -479,7 +481,9 @@ pub fn notes_beside(
         (Request::Verify(options), Some(bytes)) => {
             put_verified_notes(alloc, &mut out, options, bytes)?
         }
-        (Request::Explore(options), _) => put_explored_notes(alloc, &mut out, options, files)?,
+        (Request::Explore(options) | Request::Why(options), _) => put_explored_notes(
+            alloc, &mut out, options, files,
+        )?,
         (Request::Images(options), Some(bytes)) => {
             put_survey_notes(alloc, &mut out, options, bytes)?
         }

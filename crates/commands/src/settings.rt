@@ -28,6 +28,15 @@ pub struct Settings {
     pub first: bool,
 }
 
+/// What a run is to tell of the failing images.
+#[derive(Clone, Copy)]
+pub(crate) enum Telling {
+    /// Each of them: the report.
+    Report,
+    /// Why the programs fail on them.
+    Causes,
+}
+
 /// What a refusal of the command line names, each by the number of its place (docs/REPORT.md, Options).
 #[derive(Clone, Copy, Debug, PartialEq, Eq)]
 pub enum OptionPlace {
@@ -43,6 +52,8 @@ pub enum OptionPlace {
     Image = 9,
     /// What departs as one.
     By = 10,
+    /// The cut and the choice of an image.
+    Choice = 11,
 }
 
 impl OptionPlace {

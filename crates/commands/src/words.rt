@@ -1,8 +1,9 @@
 //! The words of the command line.
 
-ghost use Rattle.std.specs.Prelude.{◌≡◌, [], IsOkAnd, map, string_bytes};
+ghost use Rattle.std.specs.Prelude.{◌≡◌, ◌<◌, [], length, IsOkAnd, MatchOption, map, string_bytes};
 ghost use Rattle.commands.specs.declared.words.Request.TheVariants as request;
 
+use arrayvec::ArrayString;
 use clap::{Arg, ArgAction, ArgMatches, Command, Error};
 use epochs::{By, Cuts};
 use std::alloc::{AllocError, Global};
@@ -24,6 +25,19 @@ pub(crate) struct OptionWords {
     pub first: bool,
 }
 
+/// Which image is meant.
+#[derive(Clone, Copy)]
+pub enum Which {
+    /// The image of that number.
+    Number(u64),
+    /// The image of that cut and of the choice that the report prints so; none where the text has more than 96 bytes, as
+    /// no choice's has.
+    Printed {
+        cut: u64,
+        choice: Option<ArrayString<96>>,
+    },
+}
+
 /// What the command line asks for.
 #[derive(Clone, Copy)]
 pub(crate) enum Request {
@@ -31,12 +45,16 @@ pub(crate) enum Request {
     StoredRun,
     /// `explore LOG PROGRAM..`
     Explore(OptionWords),
+    /// `why LOG PROGRAM..`
+    Why(OptionWords),
     /// `images LOG`
     Images(OptionWords),
     /// `log LOG`, of which the number of sectors counts.
     Log(OptionWords),
-    /// `image LOG N`, with the number of the image.
-    Image(OptionWords, u64),
+    /// `image LOG N`, or with `--cut` and `--choice` in place of the number.
+    Image(OptionWords, Which),
+    /// `show LOG N`, or the same.
+    Show(OptionWords, Which),
     /// `verify PROGRAM`, of which the number of sectors counts.
     Verify(OptionWords),
     /// `asm SOURCE`
@@ -90,6 +108,15 @@ Example: crashbpf explore disk.log check.bpf --sectors 64 --cuts flush --bound 2
 
 Exit status: 0 where no image fails, 1 where one does, 2 for a refusal.";
 
+/// What stands behind the help of `why`.
+const AFTER_WHY: &str =
+    "For each program the cuts at which it fails, and of each the smallest failing choices: those of which
+no part fails. Each failing image is counted under the first of them that is a part of its own choice.
+
+Example: crashbpf why disk.log check.bpf --sectors 64 --cuts flush --bound 2 --tears
+
+Exit status: 0 where no image fails, 1 where one does, 2 for a refusal.";
+
 /// What stands behind the help of `images`.
 const AFTER_IMAGES: &str =
     "A cut with v sectors on their way, or with --by write v writes, has the sum over i up to the bound of
@@ -109,9 +136,21 @@ Example: crashbpf log disk.log
 Exit status: 0, or 2 for a refusal: 1 to 10 at the entry.";
 
 /// What stands behind the help of `image`.
-const AFTER_IMAGE: &str = "The number is that of a line of the report, with the same options.
+const AFTER_IMAGE: &str =
+    "The number is that of a line of the report, with the same options. With --cut and --choice, as a line
+of the report has them, it can be left out.
 
-Example: crashbpf image disk.log 202 --sectors 64 --tears > broken.img
+Examples: crashbpf image disk.log 202 --sectors 64 --tears > broken.img
+          crashbpf image disk.log --cut 19 --choice 17.0:drop --sectors 64 > broken.img
+
+Exit status: 0, or 2 for a refusal.";
+
+/// What stands behind the help of `show`.
+const AFTER_SHOW: &str =
+    "The image is named as for 'image'. Rows of bytes behind '<' are those of the image of the same cut where
+nothing is lost, those behind '>' of this image; of each sector the first rows that differ are shown.
+
+Example: crashbpf show disk.log --cut 19 --choice 17.0:drop --sectors 64
 
 Exit status: 0, or 2 for a refusal.";
 
@@ -193,17 +232,13 @@ fn log_command<'a>(alloc: Global, name: &'a str) -> Result<Command<'a>, AllocErr
         .arg(log_file(alloc))
 }
 
-/// The options of `explore` behind those of a log.
+/// The options of a run behind those of a log.
 fn with_run_options<'a>(alloc: Global, command: Command<'a>) -> Result<Command<'a>, AllocError> {
     let checked = Arg::new(alloc, "checked")
         .long("checked")
         .value_name("N")
         .value_parser(clap::value_parser!(u64))
         .help("Ask no verifier, and run each program for at most N steps, 0 to 1000000000");
-    let first = Arg::new(alloc, "first")
-        .long("first")
-        .action(ArgAction::SetTrue)
-        .help("Report the first failing image alone");
     let progress = Arg::new(alloc, "progress")
         .long("progress")
         .action(ArgAction::SetTrue)
@@ -212,21 +247,38 @@ fn with_run_options<'a>(alloc: Global, command: Command<'a>) -> Result<Command<'
         .arg(number_option(alloc, "workers", "1", "Threads, 1 to 64"))?
         .arg(number_option(alloc, "cache", "0", "Verdicts to keep, up to 65536"))?
         .arg(checked)?
-        .arg(first)?
         .arg(progress)
+}
+
+/// The programs of a run.
+fn program_files<'a>(alloc: Global) -> Arg<'a> {
+    Arg::new(alloc, "programs")
+        .num_args(1..)
+        .required(true)
+        .value_name("PROGRAM")
+        .help("Checkers, one to eight: BPF programs that answer 0 for a good image")
+}
+
+/// The command `why`.
+fn why_command<'a>(alloc: Global) -> Result<Command<'a>, AllocError> {
+    let command = log_command(alloc, "why")?
+        .about("Tells which losses make a checker fail, cut by cut")
+        .after_help(AFTER_WHY);
+    with_run_options(alloc, command)?.arg(program_files(alloc))
 }
 
 /// The command `explore`.
 fn explore_command<'a>(alloc: Global) -> Result<Command<'a>, AllocError> {
-    let programs = Arg::new(alloc, "programs")
-        .num_args(1..)
-        .required(true)
-        .value_name("PROGRAM")
-        .help("Checkers, one to eight: BPF programs that answer 0 for a good image");
+    let first = Arg::new(alloc, "first")
+        .long("first")
+        .action(ArgAction::SetTrue)
+        .help("Report the first failing image alone");
     let command = log_command(alloc, "explore")?
         .about("Reports the crash images on which a checker doesn't answer 0")
         .after_help(AFTER_EXPLORE);
-    with_run_options(alloc, command)?.arg(programs)
+    with_run_options(alloc, command)?
+        .arg(first)?
+        .arg(program_files(alloc))
 }
 
 /// The command `images`.
@@ -238,17 +290,45 @@ fn images_command<'a>(alloc: Global) -> Result<Command<'a>, AllocError> {
     )
 }
 
-/// The command `image`.
-fn image_command<'a>(alloc: Global) -> Result<Command<'a>, AllocError> {
+/// A command on one crash image of a log.
+fn named_command<'a>(alloc: Global, name: &'a str) -> Result<Command<'a>, AllocError> {
     let number = Arg::new(alloc, "number")
-        .required(true)
+        .required_unless_present("cut")?
+        .conflicts_with("cut")?
         .value_parser(clap::value_parser!(u64))
         .value_name("N")
         .help("The number of the image, from 0");
-    log_command(alloc, "image")?
-        .about("Writes the bytes of one crash image, sector after sector")
-        .after_help(AFTER_IMAGE)
-        .arg(number)
+    let cut = Arg::new(alloc, "cut")
+        .long("cut")
+        .value_name("K")
+        .requires_arg("choice")?
+        .value_parser(clap::value_parser!(u64))
+        .help("The cut of the image, in place of its number");
+    let choice = Arg::new(alloc, "choice")
+        .long("choice")
+        .value_name("CHOICE")
+        .requires_arg("cut")?
+        .allow_hyphen_values(true)
+        .help("What was lost or torn, as a line of the report says it: 17.0:drop,18.1:head3, or -");
+    log_command(alloc, name)?.arg(cut)?.arg(choice)?.arg(number)
+}
+
+/// The command `image`.
+fn image_command<'a>(alloc: Global) -> Result<Command<'a>, AllocError> {
+    Ok(
+        named_command(alloc, "image")?
+            .about("Writes the bytes of one crash image, sector after sector")
+            .after_help(AFTER_IMAGE),
+    )
+}
+
+/// The command `show`.
+fn show_command<'a>(alloc: Global) -> Result<Command<'a>, AllocError> {
+    Ok(
+        named_command(alloc, "show")?
+            .about("Tells one crash image in words: its cut, what departed, and which bytes differ")
+            .after_help(AFTER_SHOW),
+    )
 }
 
 /// The command `log`.
@@ -319,8 +399,10 @@ fn commands<'a>(alloc: Global) -> Result<Command<'a>, AllocError> {
         .no_binary_name(true)
         .subcommand_required(true)
         .subcommand(explore_command(alloc)?)?
+        .subcommand(why_command(alloc)?)?
         .subcommand(images_command(alloc)?)?
         .subcommand(image_command(alloc)?)?
+        .subcommand(show_command(alloc)?)?
         .subcommand(table_command(alloc)?)?
         .subcommand(verify_command(alloc)?)?
         .subcommand(asm_command(alloc)?)?
@@ -372,25 +454,52 @@ fn log_words(matches: &ArgMatches<'_>) -> OptionWords {
     }
 }
 
-/// The options of `explore`.
-fn explore_words(matches: &ArgMatches<'_>) -> OptionWords {
+/// The options of a run.
+fn run_words(matches: &ArgMatches<'_>) -> OptionWords {
     OptionWords {
         workers: matches.get_one::<u64>("workers").unwrap_or(1),
         cache: matches.get_one::<u64>("cache").unwrap_or(0),
         checked: matches.get_one::<u64>("checked"),
-        first: matches.get_flag("first"),
         ..log_words(matches)
+    }
+}
+
+/// The options of `explore`.
+fn explore_words(matches: &ArgMatches<'_>) -> OptionWords {
+    OptionWords {
+        first: matches.get_flag("first"),
+        ..run_words(matches)
+    }
+}
+
+/// The text of a choice, if it isn't longer than any choice's.
+fn choice_word(word: &str) -> Option<ArrayString<96>>
+    ensures { MatchOption result (96 < length word.now) (λ text. text.bytes ≡ word.now) }
+{
+    match ArrayString::from(word) {
+        Ok(choice) => Some(choice),
+        Err(_error) => None,
+    }
+}
+
+/// Which image is meant.
+fn which_of(matches: &ArgMatches<'_>) -> Which {
+    match matches.get_one::<u64>("cut") {
+        Some(cut) => Which::Printed {
+            cut,
+            choice: choice_word(matches.get_str("choice").unwrap_or("")),
+        },
+        None => Which::Number(matches.get_one::<u64>("number").unwrap_or(0)),
     }
 }
 
 /// What a command with that name asks for.
 fn request_of(name: &str, matches: &ArgMatches<'_>) -> Request {
     match name {
+        "why" => Request::Why(run_words(matches)),
         "images" => Request::Images(log_words(matches)),
-        "image" => Request::Image(
-            log_words(matches),
-            matches.get_one::<u64>("number").unwrap_or(0),
-        ),
+        "image" => Request::Image(log_words(matches), which_of(matches)),
+        "show" => Request::Show(log_words(matches), which_of(matches)),
         "log" => Request::Log(device_words(matches)),
         "verify" => Request::Verify(device_words(matches)),
         "asm" => Request::Asm,
@@ -401,7 +510,7 @@ fn request_of(name: &str, matches: &ArgMatches<'_>) -> Request {
     }
 }
 
-/// The files that a command names: its log, source or program, then the programs of `explore`.
+/// The files that a command names: its log, source or program, then the programs of `explore` and `why`.
 fn file_words(
     alloc: Global,
     name: &str,
@@ -411,7 +520,7 @@ fn file_words(
     if let Some(first) = matches.get_str("file") {
         files.push(first.to_string(alloc)?)?;
     }
-    if name != "explore" {
+    if name != "explore" && name != "why" {
         return Ok(files);
     }
     if let Some(programs) = matches.get_strs("programs") {
@@ -443,7 +552,7 @@ impl Words {
             Some((name, inner)) => Ok(Words {
                 request: request_of(name, inner),
                 files: file_words(alloc, name, inner)?,
-                progress: name == "explore" && inner.get_flag("progress"),
+                progress: (name == "explore" || name == "why") && inner.get_flag("progress"),
             }),
             None => Ok(Words {
                 request: Request::StoredRun,

@@ -1,9 +1,9 @@
 -- Of which images two lists of lines are together.
-use Rattle.std.proofs.Common.{ℕ, ◌≡◌, ◌+◌, ◌-◌, ◌<◌, ◌≤◌, ◌^◌, Bool, true, false, if◌then◌else◌, inl, inr, List, [], ◌∷◌, ◌++◌, length, Option, None, Some, refl, sym, ◌∙◌, ap, arith, length-append}
+use Rattle.std.proofs.Common.{ℕ, ◌≡◌, ◌+◌, ◌-◌, ◌<◌, ◌≤◌, ◌^◌, Bool, true, false, ◌==◌, if◌then◌else◌, inl, inr, List, [], ◌∷◌, ◌++◌, length, Option, None, Some, refl, sym, ◌∙◌, arith, length-append}
 use Rattle.std.proofs.lemmas.Bool.Decides.{eqb_tells}
 use Rattle.lines.specs.Line.{FailingLine}
 use Rattle.lines.specs.Images.{first_image, last_behind, first_of, is_same, changes_behind}
-use Rattle.lines.specs.Kept.{AreOf}
+use Rattle.lines.specs.Kept.{AreOf, if_any}
 
 pub first_image-append : (ls more : List FailingLine) → first_image (ls ++ more) ≡ first_of (first_image ls) (first_image more)
 first_image-append [] more = refl
@@ -49,7 +49,7 @@ count_of_both : (same : Bool) (a b c : ℕ) → b + (if same then 1 else 0) ≡ 
 count_of_both true a b c e = omega (arith, e)
 count_of_both false a b c e = omega (arith, e)
 
-pub of_both : (ls more : List FailingLine) (first last others end : Option ℕ) (a c : ℕ) → AreOf ls first last a → AreOf more others end c
+of_both : (ls more : List FailingLine) (first last others end : Option ℕ) (a c : ℕ) → AreOf ls first last a → AreOf more others end c
     → AreOf (ls ++ more) (first_of first others) (first_of end last) (if is_same last others then a + c - 1 else a + c)
 of_both ls more first last others end a c h k = record {
   first_is = rw (h.first_is, k.first_is) (sym (first_image-append ls more));
@@ -61,11 +61,28 @@ of_both ls more first last others end a c h k = record {
       ∙ sym (changes-append None ls more));
 }
 
-pub of_none : AreOf [] None None 0
-of_none = record { first_is = refl; last_is = refl; count_is = refl }
+any : (count image : ℕ) → 0 < count → if_any count image ≡ Some image
+any count image some = elim (eqb_tells count 0) [
+  | inl none ↦ absurd (omega (arith, some, none.1))
+  | inr e ↦ rw e.0 refl
+]
 
-pub of_one : (l : FailingLine) (image : ℕ) → l.image ≡ image → AreOf (l ∷ []) (Some image) (Some image) 1
-of_one l image e = record { first_is = ap Some (sym e); last_is = ap Some (sym e); count_is = refl }
+still_some : (same : Bool) (a c : ℕ) → 0 < a → 0 < c → 0 < (if same then a + c - 1 else a + c)
+still_some true a c h k = omega (arith, h, k)
+still_some false a c h k = omega (arith, h, k)
+
+-- two lists, neither of which is empty
+pub of_some : (ls more : List FailingLine) (first last others end a c n : ℕ) → 0 < a → 0 < c
+    → AreOf ls (if_any a first) (if_any a last) a → AreOf more (if_any c others) (if_any c end) c
+    → n ≡ (if last == others then a + c - 1 else a + c)
+    → AreOf (ls ++ more) (if_any n first) (if_any n end) n
+of_some ls more first last others end a c n p q h k e =
+    let own : AreOf ls (Some first) (Some last) a = rw (any a first p, any a last p) at h in
+    let own_more : AreOf more (Some others) (Some end) c = rw (any c others q, any c end q) at k in
+    let some : 0 < n = rw e (still_some (last == others) a c p q) in
+    let all : AreOf (ls ++ more) (Some first) (Some end) (if last == others then a + c - 1 else a + c) =
+    of_both ls more (Some first) (Some last) (Some others) (Some end) a c own own_more in
+    rw (any n first some, any n end some, e) all
 
 pub few_of_both : (ls more : List FailingLine) (first last others end : Option ℕ) (a c n : ℕ) → AreOf ls first last a → AreOf more others end c
     → length (ls ++ more) ≡ n → n < 2 ^ 64 → a + c < 2 ^ 64

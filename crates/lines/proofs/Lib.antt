@@ -3,3 +3,4 @@ pub mod Leads
 pub mod Order
 pub mod Keeping
 pub mod Crossing
+pub mod Marked

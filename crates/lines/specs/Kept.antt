@@ -1,9 +1,13 @@
 -- What is kept of lines.
-use Rattle.std.specs.Prelude.{ℕ, ◌≡◌, ◌≤◌, ◌==◌, ◌&&◌, ◌||◌, Bool, List, Option, None, take, length}
+use Rattle.std.specs.Prelude.{ℕ, ◌≡◌, ◌≤◌, ◌==◌, ◌&&◌, ◌||◌, Bool, if◌then◌else◌, List, Option, None, Some, take, length}
 use Rattle.std.specs.List.{flat_map}
 use Rattle.lines.specs.Line.{FailingLine}
 use Rattle.lines.specs.Images.{first_image, last_behind, changes_behind, is_same, leading}
 use Rattle.lines.specs.Text.{line_text}
+
+-- an image, where there are so many that there is one
+abbrev pub if_any : ℕ → ℕ → Option ℕ
+if_any count image = if count == 0 then None else Some image
 
 -- the images of the first and of the last line, and how many lines begin one
 pub record AreOf (ls : List FailingLine) (first last : Option ℕ) (count : ℕ) : Type 0 where

@@ -4,3 +4,4 @@ pub mod Lines
 pub mod Images
 pub mod Text
 pub mod Kept
+pub mod Marks

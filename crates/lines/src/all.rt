@@ -1,14 +1,16 @@
 //! Lines in parts.
 
-ghost use Rattle.std.specs.Prelude.{◌≡◌, ◌≤◌, ◌↔◌, ◌++◌, [], if◌then◌else◌, length, take, IsTrue, IfOk, OnOk};
+ghost use Rattle.std.specs.Prelude.{◌≡◌, ◌≤◌, ◌↔◌, ◌++◌, [], if◌then◌else◌, length, take, IsTrue, IfOk, IfSome, OnOk};
 ghost use Rattle.std.specs.List.{flat_map};
 ghost use Rattle.std.specs.List.Sorted.{IsNonDecreasing};
 ghost use Rattle.lines.specs.Line.{first_lines};
 ghost use Rattle.lines.specs.Images.{images_of, failing_images, first_image};
 ghost use Rattle.lines.specs.Text.{line_text};
+ghost use Rattle.lines.specs.Marks.{marks_of};
 
 use crate::images::Images;
 use crate::line::Line;
+use crate::marks::{Mark, both_marks};
 use crate::part::Part;
 use std::alloc::{AllocError, Global};
 use std::marker::Model;
@@ -22,23 +24,26 @@ pub struct Lines {
     /// The text of the first line and of those behind it of the same image, once more.
     leading: Vec<u8>,
     images: Images,
+    /// Of which image and which program each line is, where that is kept of all parts.
+    marks: Option<Vec<Mark>>,
     /// What the lines say, for contracts alone: it takes no room.
     said: Vec<Snapshot<Line>>,
 }
 
 impl Model for Lines {
-    ghost use Rattle.std.specs.Prelude.{List};
+    ghost use Rattle.std.specs.Prelude.{List, option_map};
     ghost use Rattle.std.specs.List.{flat_map};
     ghost use Rattle.lines.specs.Line.{FailingLine};
+    ghost use Rattle.lines.specs.Marks.{AreMarksOf, marks_of};
 
     ghost Value = { List FailingLine };
 
     ghost use Rattle.lines.specs.Lines.{said_by};
-    ghost use Rattle.lines.specs.Kept.{AreKept};
+    ghost use Rattle.lines.specs.Kept.{AreKept, if_any};
 
     ghost view = { λ l. said_by l.said.items };
 
-    ghost invariant = { λ l. AreKept (said_by l.said.items) (flat_map (λ t. t.items) l.texts.items) l.leading.items l.images.first l.images.last l.images.count };
+    ghost invariant = { λ l. AreKept (said_by l.said.items) (flat_map (λ t. t.items) l.texts.items) l.leading.items (if_any l.images.count l.images.first) (if_any l.images.count l.images.last) l.images.count × AreMarksOf (option_map (λ v. v.items) l.marks) (marks_of (said_by l.said.items)) };
 }
 
 impl Lines {
@@ -50,6 +55,7 @@ impl Lines {
             texts: Vec::new(alloc),
             leading: Vec::new(alloc),
             images: Images::none(),
+            marks: Some(Vec::new(alloc)),
             said: Vec::new(alloc),
         }
     }
@@ -65,6 +71,7 @@ impl Lines {
             mut texts,
             mut leading,
             images,
+            marks,
             mut said,
         } = self;
         let Part {
@@ -72,6 +79,7 @@ impl Lines {
             leading_end,
             images: own,
             printed: _,
+            marks: own_marks,
             said: mut more,
         } = part;
         let leads = images.leads_on(own);
@@ -83,6 +91,7 @@ impl Lines {
             texts,
             leading,
             images: images.followed_by(own),
+            marks: both_marks(marks, own_marks),
             said,
         })
     }
@@ -112,6 +121,16 @@ impl Lines {
         bytes
     }
 
+    /// Of which image and which program each line is, where that was kept of all parts (`Part::with_marks`).
+    pub fn marks(&self) -> Option<&[Mark]>
+        ensures { IfSome result (λ marks. marks.now ≡ marks_of self.now) }
+    {
+        match &self.marks {
+            Some(marks) => Some(marks.as_slice()),
+            None => None,
+        }
+    }
+
     /// How many lines there are.
     pub fn len(&self) -> usize
         ensures { result ≡ length self.now }
@@ -132,7 +151,7 @@ impl Lines {
         ensures value { result ≡ first_image self.now }
         ensures alike { result ≡ first_image (first_lines self.now) }
     {
-        self.images.first
+        self.images.first()
     }
 
     /// Whether there is no line.

@@ -9,6 +9,7 @@
 //! | `Line` | one image with one program on which it fails |
 //! | `Part` | lines in a row, as they are printed |
 //! | `Lines` | lines in their order, made of parts |
+//! | `Mark` | of which image and which program a line is, kept beside the text where that is asked for |
 //!
 //! # Place
 //!
@@ -21,7 +22,7 @@
 //! `Part::push` adds to its end, and keeps the lines where memory is wanting; `followed_by` puts a part
 //! behind all lines so far. `put` appends exactly `line_text` of each line (`specs/Text.antt`), and where
 //! the lines are in the order of their images, `put_first` that of the lines of the first image, and
-//! `image_count` counts their images.
+//! `image_count` counts their images. `marks` answers the marks of all lines, or none.
 //!
 //! # How it is written
 //!
@@ -34,6 +35,10 @@
 //! A line is written apart first, in room that the part uses again for each. So want of memory in the midst
 //! of it changes no text. A part gives back by `trim` what its text doesn't take, and parts are put together
 //! without a copy.
+//!
+//! Where it is asked for, a part keeps a mark of each line too, of which image and which program it is. Marks
+//! stand in a box: a run has a part for each block of images, and one without marks has room for no more than
+//! a pointer to them. Where memory is wanting for marks, they are given up, and the lines are kept.
 //!
 //! # Example
 //!
@@ -49,9 +54,11 @@
 mod all;
 mod images;
 mod line;
+mod marks;
 mod part;
 mod text;
 
 pub use all::Lines;
 pub use line::Line;
+pub use marks::Mark;
 pub use part::Part;

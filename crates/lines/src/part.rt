@@ -5,6 +5,7 @@ ghost use Rattle.lines.specs.Lines.{line_value, said_by};
 
 use crate::images::Images;
 use crate::line::Line;
+use crate::marks::{Mark, keep_mark, no_marks, trim_marks};
 use crate::text::put_line;
 use std::alloc::{AllocError, Global};
 use std::marker::Model;
@@ -21,22 +22,25 @@ pub struct Part {
     pub(crate) images: Images,
     /// Where a line is printed before it is added, so that want of memory in the midst of it changes no text.
     pub(crate) printed: String,
+    /// Of which image and which program each line is, where that is kept.
+    pub(crate) marks: Option<Box<Vec<Mark>>>,
     /// What the lines say, for contracts alone: it takes no room.
     pub(crate) said: Vec<Snapshot<Line>>,
 }
 
 impl Model for Part {
-    ghost use Rattle.std.specs.Prelude.{List};
+    ghost use Rattle.std.specs.Prelude.{List, option_map};
     ghost use Rattle.lines.specs.Line.{FailingLine};
+    ghost use Rattle.lines.specs.Marks.{AreMarksOf, marks_of};
 
     ghost Value = { List FailingLine };
 
     ghost use Rattle.lines.specs.Lines.{said_by};
-    ghost use Rattle.lines.specs.Kept.{IsPart};
+    ghost use Rattle.lines.specs.Kept.{IsPart, if_any};
 
     ghost view = { λ p. said_by p.said.items };
 
-    ghost invariant = { λ p. IsPart (said_by p.said.items) p.text.items p.leading_end p.images.first p.images.last p.images.count };
+    ghost invariant = { λ p. IsPart (said_by p.said.items) p.text.items p.leading_end (if_any p.images.count p.images.first) (if_any p.images.count p.images.last) p.images.count × AreMarksOf (option_map (λ b. b.value.items) p.marks) (marks_of (said_by p.said.items)) };
 }
 
 /// Adds a line to what is said and to the text. Where memory is wanting, both stay as they were.
@@ -69,11 +73,19 @@ impl Part {
     pub fn new(alloc: Global) -> Part
         ensures { result ≡ [] }
     {
+        Part::with_marks(alloc, false)
+    }
+
+    /// No line; of those that are added the marks are kept too, if that is asked for, as long as there is memory for them.
+    pub fn with_marks(alloc: Global, kept: bool) -> Part
+        ensures { result ≡ [] }
+    {
         Part {
             text: Vec::new(alloc),
             leading_end: 0,
             images: Images::none(),
             printed: String::new(alloc),
+            marks: no_marks(alloc, kept),
             said: Vec::new(alloc),
         }
     }
@@ -91,6 +103,13 @@ impl Part {
             &line,
             self.printed.as_bytes(),
         )?;
+        keep_mark(
+            &mut self.marks,
+            Mark {
+                image: line.image,
+                program: line.program,
+            },
+        );
         let images = Images::of(line.image);
         let leads = self.images.leads_on(images);
         let _count = self.said.len();
@@ -106,6 +125,7 @@ impl Part {
         self.text.shrink_to_fit();
         self.printed.clear();
         self.printed.shrink_to_fit();
+        trim_marks(&mut self.marks);
     }
 
     /// Whether there is no line.

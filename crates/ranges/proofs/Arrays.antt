@@ -1,8 +1,8 @@
 -- Arrays that a loop fills, and lists taken together element by element.
-use Rattle.std.proofs.Common.{◌≡◌, ◌≢◌, ℕ, zero, suc, ◌+◌, ◌<◌, inl, inr, List, [], ◌∷◌, length, map, get_or, sym, arith, refl}
+use Rattle.std.proofs.Common.{◌≡◌, ◌≢◌, ℕ, zero, suc, ◌+◌, ◌<◌, inl, inr, List, [], ◌∷◌, length, map, get_or, sym, ◌∙◌, ◌≤◌, ap, arith, refl}
 use Rattle.std.specs.Prelude.{set}
 use Rattle.std.proofs.lemmas.Bool.{cases_lt}
-use Rattle.std.proofs.lemmas.List.{get_or-set_same, get_or-set_other, get_or_default, map-set}
+use Rattle.std.proofs.lemmas.List.{get_or-set_same, get_or-set_other, get_or_default, map-set, length-set}
 use Rattle.ranges.specs.Groups.{zip_with, map_places}
 
 -- the elements below n are right; after one more, those below n + 1
@@ -129,3 +129,43 @@ places_filled f h (x ∷ xs) (o ∷ os) g d lo e =
     let next : g + suc k ≡ g + 1 + k = omega arith in
     rw next at (e (suc k) (omega arith))) in
     rw (here, rest) refl
+
+-- an array to which another is joined, place by place: those below n are joined, the others as they were
+pub record Joined {X Y : Type 0} (f : X → Y) (j : Y → Y → Y) (a b out : List X) (n : ℕ) (d : X) : Type 0 where
+  pub long : length out ≡ length a
+  pub below : (k : ℕ) → k < n → f (get_or out k d) ≡ j (f (get_or a k d)) (f (get_or b k d))
+  pub above : (k : ℕ) → n ≤ k → get_or out k d ≡ get_or a k d
+
+pub joined_none : {X Y : Type 0} (f : X → Y) (j : Y → Y → Y) (a b : List X) (d : X) → Joined f j a b a 0 d
+joined_none f j a b d = record { long = refl; below = λ k small. absurd (omega (arith, small)); above = λ k least. refl }
+
+-- one place more is joined
+pub joined_more : {X Y : Type 0} (f : X → Y) (j : Y → Y → Y) (a b out : List X) (n : ℕ) (u v r d : X) → n < length a → n < length b
+    → Joined f j a b out n d → f r ≡ j (f (get_or out n u)) (f (get_or b n v)) → Joined f j a b (set out n r) (n + 1) d
+joined_more f j a b out n u v r d ia ib h e =
+    let inside : n < length out = (let long = h.long in omega (arith, ia, long)) in
+    let was : get_or out n d ≡ get_or a n d = h.above n (omega arith) in
+    let read : f r ≡ j (f (get_or out n d)) (f (get_or b n d)) = read_two f j out b n u v d r inside ib e in
+    record {
+      long = length-set out n r ∙ h.long;
+      below = one_more f (λ k. j (f (get_or a k d)) (f (get_or b k d))) out n r d inside h.below (rw was at read);
+      above = λ k least. let other : k ≢ n = (λ same. omega (arith, least, same)) in rw (get_or-set_other out n k r d other) (h.above k (omega (arith, least)));
+    }
+
+-- one place that joining leaves as it is
+pub joined_same : {X Y : Type 0} (f : X → Y) (j : Y → Y → Y) (a b out : List X) (n : ℕ) (u v d : X) → n < length a → n < length b
+    → Joined f j a b out n d → j (f (get_or out n u)) (f (get_or b n v)) ≡ f (get_or out n u) → Joined f j a b out (n + 1) d
+joined_same f j a b out n u v d ia ib h e =
+    let inside : n < length out = (let long = h.long in omega (arith, ia, long)) in
+    let was : get_or out n d ≡ get_or a n d = h.above n (omega arith) in
+    let here : f (get_or out n d) ≡ j (f (get_or out n d)) (f (get_or b n d)) = read_both f j out b n u v d inside ib e in
+    let there : f (get_or out n d) ≡ j (f (get_or a n d)) (f (get_or b n d)) = here ∙ ap (λ z. j (f z) (f (get_or b n d))) was in
+    record {
+      long = h.long;
+      below = one_more_same f (λ k. j (f (get_or a k d)) (f (get_or b k d))) out n d h.below there;
+      above = λ k least. h.above k (omega (arith, least));
+    }
+
+pub joined_all : {X Y : Type 0} (f : X → Y) (j : Y → Y → Y) (a b out : List X) (n : ℕ) (d : X) → length b ≡ length a → length a ≤ n
+    → Joined f j a b out n d → map f out ≡ zip_with j (map f a) (map f b)
+joined_all f j a b out n d lb la h = zip_filled f j a b out d lb h.long (λ k small. h.below k (omega (arith, small, la)))

@@ -1,7 +1,7 @@
 -- Bytes of the stack, looked at one after the other.
-use Rattle.std.proofs.Common.{◌≡◌, ℕ, suc, ◌+◌, ◌-◌, ◌<◌, ◌≤◌, Bool, true, false, not, ◌&&◌, List, refl, arith, sym, ◌∙◌}
+use Rattle.std.proofs.Common.{◌≡◌, ℕ, suc, ◌+◌, ◌-◌, ◌<◌, ◌≤◌, Bool, true, false, not, ◌&&◌, List, [], ◌∷◌, refl, arith, sym, ◌∙◌}
 use Rattle.ranges.specs.declared.place.Mark.{Mark}
-use Rattle.ranges.specs.Groups.{GroupKind}
+use Rattle.ranges.specs.Groups.{GroupKind, zip_with}
 use Rattle.ranges.specs.Places.{mark_at, is_mark, none_is}
 
 none_more : (m : Mark) (groups : List GroupKind) (at n : ℕ)
@@ -43,3 +43,18 @@ none_ends m groups at n k whole past so =
     let left : n - k ≡ 0 = omega arith in
     let so2 : none_is m groups (at + k) 0 ≡ whole = rw left at so in
     so2
+
+-- marks that are the same are those that both have
+and_self : (x : Bool) → (x && x) ≡ x
+and_self true = refl
+and_self false = refl
+
+pub same_marks : (xs ys : List Bool) → xs ≡ ys → zip_with (λ a b. a && b) xs ys ≡ xs
+unfolding zip_with
+same_marks [] ys e = refl
+same_marks (x ∷ xs) [] e = absurd (let bad : x ∷ xs ≡ [] = e in cc)
+same_marks (x ∷ xs) (y ∷ ys) e =
+    let first : x ≡ y = cc in
+    let rest : xs ≡ ys = cc in
+    let both : (x && y) ≡ x = rw (← first) (and_self x) in
+    rw (both, same_marks xs ys rest) refl

@@ -115,6 +115,18 @@ impl Group {
         }
     }
 
+    /// Whether both are known by the same marks of their bytes. Then joining the other changes nothing.
+    #[inline(always)]
+    #[tactic(auto, using(crate::proofs::Marks::same_marks), unfolding(crate::specs::Groups::join_group))]
+    pub(crate) fn has_same_marks(&self, other: &Group) -> bool
+        ensures { IsTrue result → GroupContains (group_of self.now) (group_of other.now) }
+    {
+        match (self, other) {
+            (Group::Marked(x), Group::Marked(y)) => same(&x.written, &y.written),
+            _ => false,
+        }
+    }
+
     /// What is known of byte k.
     pub(crate) fn mark(self, k: usize) -> Mark
         requires { k < 8 }

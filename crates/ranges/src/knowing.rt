@@ -1,6 +1,6 @@
 //! What is known where either of two states is, what rounds a state, and the parts of one.
 
-ghost use Rattle.std.specs.Prelude.{◌≡◌, IsTrue, map, ◌↔◌};
+ghost use Rattle.std.specs.Prelude.{◌≡◌, IsTrue, length, map, ◌↔◌};
 ghost use Rattle.ranges.specs.Kinds.{join, round};
 ghost use Rattle.ranges.specs.Groups.{zip_with, join_group, round_group};
 ghost use Rattle.ranges.specs.Seen.{kind_of};
@@ -31,6 +31,18 @@ fn join_groups(x: &[Group; 64], y: &[Group; 64]) -> [Group; 64]
         groups[k] = x[k].join(y[k]);
     }
     groups
+}
+
+/// Joins the groups of another stack to those of one. Most are bytes with the same marks.
+fn join_into(x: &mut [Group; 64], y: &[Group; 64])
+    ensures groups { map group_of x.new ≡ zip_with join_group (map group_of x.old) (map group_of y.now) }
+    ensures long { length x.new ≡ length x.old }
+{
+    for k in 0..64 {
+        if !x[k].has_same_marks(&y[k]) {
+            x[k] = x[k].join(y[k]);
+        }
+    }
 }
 
 fn round_values(x: &[Value; 11]) -> [Value; 11]
@@ -126,7 +138,7 @@ impl State {
         ensures { state_of self.new ≡ join_state (state_of self.old) (state_of other.now) }
     {
         self.values = join_values(&self.values, &other.values);
-        self.groups = join_groups(&self.groups, &other.groups);
+        join_into(&mut self.groups, &other.groups);
     }
 
     /// Rounds it, as `round` does.

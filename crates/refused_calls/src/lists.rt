@@ -4,7 +4,7 @@ use crate::refused::OfMemory;
 use arrayvec::ArrayVec;
 use epochs::By;
 use interp::Outcome;
-use lines::{Line, Lines, Part};
+use lines::{Line, Lines, Mark, Part};
 use std::alloc::{AllocError, Global};
 
 /// The line of an image whose run was out of steps.
@@ -34,6 +34,36 @@ fn gathered(alloc: Global) -> Result<Lines, AllocError> {
         .followed_by(part(alloc, 9, 10)?)
 }
 
+/// The lines of a part that keeps their marks.
+fn marked(alloc: Global) -> Result<Lines, AllocError> {
+    let mut part = Part::with_marks(alloc, true);
+    part.push(line(3))?;
+    part.push(line(9))?;
+    part.trim();
+    Lines::new(alloc).followed_by(part)
+}
+
+/// Whether these are the marks of two lines.
+fn are_marks(marks: Option<&[Mark]>) -> bool {
+    match marks {
+        Some([first, second]) => {
+            first.image == 3 && first.program == 0 && second.image == 9 && second.program == 0
+        }
+        _ => false,
+    }
+}
+
+/// Whether marks are there where they were asked for. Where memory is wanting for them alone, the lines are
+/// there without any.
+fn marks_are_right(alloc: Global) -> bool {
+    let lines = settled!(marked(alloc));
+    if lines.marks().is_some() {
+        return are_marks(lines.marks());
+    }
+    let again = settled!(marked(alloc));
+    lines.len() == 2 && are_marks(again.marks())
+}
+
 /// What lines print, and what those of the first image do.
 fn printed(alloc: Global, lines: &Lines) -> Result<Vec<u8>, AllocError> {
     let mut out = Vec::new(alloc);
@@ -60,5 +90,5 @@ fn part_is_right(alloc: Global) -> bool {
 pub fn are_right(alloc: Global) -> bool {
     let lines = settled!(gathered(alloc));
     let out = settled!(printed(alloc, &lines));
-    part_is_right(alloc) && lines.len() == 4 && out.as_slice() == PRINTED
+    part_is_right(alloc) && marks_are_right(alloc) && lines.len() == 4 && out.as_slice() == PRINTED
 }

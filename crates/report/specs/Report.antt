@@ -72,9 +72,13 @@ last_line true images ls = first_line images (first_lines ls)
 abbrev pub findings_text : Bool → ℕ → List FailingLine → List ℕ
 findings_text first images ls = flat_map line_text (shown_lines first ls) ++ last_line first images ls
 
+-- the options and the programs
+abbrev pub options_text : HeadValue → List ℕ
+options_text h = options_line h ++ program_lines 0 h.programs
+
 -- what stands before the failing lines
 abbrev pub head_text : HeadValue → List ℕ
-head_text h = codes "crash report 2\n" ++ options_line h ++ program_lines 0 h.programs
+head_text h = codes "crash report 2\n" ++ options_text h
 
 unfoldable pub report_bytes : HeadValue → List FailingLine → List ℕ
 report_bytes h ls =

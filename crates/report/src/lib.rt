@@ -15,6 +15,7 @@
 //! |---|---|
 //! | `Head`, `ProgramHead` | what stands before the lines, and the number of images |
 //! | `write_report(alloc, head, lines)` | the bytes of the report |
+//! | `put_options(out, head)`, `put_totals(out, images, lines)` | append its options and programs, and its last line |
 //!
 //! # Place
 //!
@@ -26,7 +27,8 @@
 //! `write_report` gives exactly `report_bytes` of what head and lines say (`specs/Report.antt`,
 //! `specs/Text.antt`), byte by byte, where the lines stand in the order of their images; its one error
 //! is want of memory. Where the first failing image alone was asked for, these are its lines, and then a
-//! last line with its number, or with `none`.
+//! last line with its number, or with `none`. `put_options` and `put_totals` append exactly their parts of it,
+//! for texts that begin and end as the report does.
 //!
 //! # How it is written
 //!
@@ -39,4 +41,4 @@ mod head;
 mod writer;
 
 pub use head::{Head, ProgramHead};
-pub use writer::write_report;
+pub use writer::{put_options, put_totals, write_report};

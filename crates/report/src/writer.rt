@@ -6,7 +6,7 @@ ghost use Rattle.std.specs.List.Sorted.{IsNonDecreasing};
 ghost use Rattle.lines.specs.Line.{first_lines};
 ghost use Rattle.lines.specs.Text.{line_text};
 ghost use Rattle.report.specs.Text.{yes_or_no, cuts_word, by_words};
-ghost use Rattle.report.specs.Report.{device_text, choices_text, steps_word, program_line, program_lines, totals_line, image_text, first_line, last_line, shown_lines, head_text, report_bytes};
+ghost use Rattle.report.specs.Report.{device_text, choices_text, steps_word, program_line, program_lines, totals_line, image_text, first_line, last_line, shown_lines, options_text, head_text, report_bytes};
 
 use crate::head::{Head, ProgramHead};
 use epochs::{By, Cuts};
@@ -96,7 +96,7 @@ fn put_programs(out: &mut String, programs: &[ProgramHead]) -> Result<(), AllocE
 
 /// Appends the totals.
 #[tactic(auto, unfolding(crate::specs::Report::totals_line))]
-fn put_totals(out: &mut String, images: u64, lines: &Lines) -> Result<(), AllocError>
+pub fn put_totals(out: &mut String, images: u64, lines: &Lines) -> Result<(), AllocError>
     requires { IsNonDecreasing (map (λ l. l.image) lines.now) }
     ensures { OnOk result (string_bytes out.new ≡ string_bytes out.old ++ totals_line images lines.now) }
 {
@@ -162,15 +162,22 @@ fn put_lines(out: &mut Vec<u8>, head: &Head, lines: &Lines) -> Result<(), AllocE
     }
 }
 
+/// Appends the options and the programs.
+pub fn put_options(out: &mut String, head: &Head) -> Result<(), AllocError>
+    ensures { OnOk result (string_bytes out.new ≡ string_bytes out.old ++ options_text head.now) }
+{
+    put_device(out, head)?;
+    put_choices(out, head)?;
+    put_programs(out, head.programs.as_slice())
+}
+
 /// What stands before the lines.
 fn head_text(alloc: Global, head: &Head) -> Result<String, AllocError>
     ensures { IfOk result (λ out. string_bytes out ≡ head_text head.now) }
 {
     let mut out = String::new(alloc);
     write!(out, "crash report 2\n")?;
-    put_device(&mut out, head)?;
-    put_choices(&mut out, head)?;
-    put_programs(&mut out, head.programs.as_slice())?;
+    put_options(&mut out, head)?;
     Ok(out)
 }
 

@@ -22,17 +22,13 @@ use Rattle.verifier.specs.Good.{IsGood}
 use Rattle.verifier.specs.Breaches.{FirstRule, FirstBreach, KeepsRules, at_slot}
 use Rattle.verifier.specs.Least.{IsLeast, HasNoGood}
 use Rattle.verifier.specs.Rounds.{joined, receive, passed_by, passed, round_of, first_table, rounds, IsSettled}
-use Rattle.verifier.specs.Passing.{Arrive, IsRound}
+use Rattle.verifier.specs.Passing.{Arrive, IsRound, Below}
 use Rattle.verifier.proofs.Arriving.{here, elsewhere, receive_fits, still}
 use Rattle.verifier.proofs.Reaching.{in_range}
 use Rattle.verifier.proofs.Settled.{each_in_range, passed_fits, each_round, settled_covers, slot_covers, settled_is_good}
 
--- what is known of each slot in the first table is under what is known there in the second
-abbrev pub Below : List (Option Abstract) → List (Option Abstract) → Type 0
-Below t g = (slot : ℕ) → EdgeUnder (state_at t slot) (state_at g slot)
-
 -- what arrives is under what is known where it arrives
-abbrev AllBelow : List (Option Abstract) → List (ℕ × Abstract) → Type 0
+abbrev pub AllBelow : List (Option Abstract) → List (ℕ × Abstract) → Type 0
 AllBelow g ps = Each (λ p. EdgeUnder (Some p.1) (state_at g p.0)) ps
 
 -- covering and being under are the same, of states
@@ -40,7 +36,7 @@ pub covered_is_under : (m : Option Abstract) (s : Abstract) → Holds IsState m 
 covered_is_under None s h a c = absurd c
 covered_is_under (Some t) s h a c = state_under t s h a c
 
-under_is_covered : (m n : Option Abstract) → Holds IsState m → Holds IsState n → EdgeUnder m n → Holds (Covers n) m
+pub under_is_covered : (m n : Option Abstract) → Holds IsState m → Holds IsState n → EdgeUnder m n → Holds (Covers n) m
 under_is_covered None n h g u = tt
 under_is_covered (Some s) None h g u = absurd u
 under_is_covered (Some s) (Some t) h g u = state_same t s g h u
@@ -60,7 +56,7 @@ receive_below table g p inside h a k below arrives slot =
       | inr other ↦ rw (elsewhere table p slot other) (below slot)
     ]
 
-all_below : (table g : List (Option Abstract)) (ps : List (ℕ × Abstract)) → AreStates table → Arrive (length table) ps → AreStates g
+pub all_below : (table g : List (Option Abstract)) (ps : List (ℕ × Abstract)) → AreStates table → Arrive (length table) ps → AreStates g
     → Below table g → AllBelow g ps → Below (fold receive table ps) g
 all_below table g [] h a k below arrive = below
 all_below table g (p ∷ ps) h a k below arrive =
@@ -108,11 +104,19 @@ keeps_below program sectors table g slot p h good below =
     by_state (Some i) (Some s) None e a b u f = absurd u
     by_state (Some i) (Some s) (Some t) e a b u f = rules_mono s t i (in_range program slot i p e) a b u f
 
-slot_below : (program : List (Option Instr)) (sectors : ℕ) (table g : List (Option Abstract)) (slot : ℕ) → sectors < 2 ^ 64 → IsProgram program → AreStates table
-    → IsGood program sectors g → Below table g → AllBelow g (passed_by program sectors table slot)
-unfolding rule_at sent_from
-slot_below program sectors table g slot few p h good below = by_rule (is_some (rule_at program table slot))
+rule_of : (program : List (Option Instr)) (g : List (Option Abstract)) (slot : ℕ) → rule_at program g slot ≡ None → broken_rule (at program slot) (state_at g slot) ≡ None
+unfolding rule_at
+rule_of program g slot e = e
+
+pub sent_all_below : (program : List (Option Instr)) (sectors : ℕ) (table g : List (Option Abstract)) (slot : ℕ) → sectors < 2 ^ 64 → IsProgram program → AreStates table
+    → IsGood program sectors g → Below table g → AllBelow g (sent_from program sectors table slot)
+unfolding sent_from
+sent_all_below program sectors table g slot few p h good below =
+    sent (at program slot) (state_at table slot) (state_at g slot) refl (h slot) (good.states slot) (below slot) rules (good.slots slot).edges
   where
+    rules : broken_rule (at program slot) (state_at g slot) ≡ None
+    rules = rule_of program g slot (good.slots slot).rules
+
     sent : (i : Option Instr) (m n : Option Abstract) → at program slot ≡ i → Holds IsState m → Holds IsState n → EdgeUnder m n → broken_rule i n ≡ None
         → CoversAll g (passed_on (heads program) sectors slot i n) → AllBelow g (passed_on (heads program) sectors slot i m)
     sent None m n e a b u f c = tt
@@ -124,9 +128,13 @@ slot_below program sectors table g slot few p h good below = by_rule (is_some (r
         (passes_fit sectors slot s i few r a) (passes_fit sectors slot t i few r b)
         (passes_mono sectors slot s t i r a b u f) c
 
+slot_below : (program : List (Option Instr)) (sectors : ℕ) (table g : List (Option Abstract)) (slot : ℕ) → sectors < 2 ^ 64 → IsProgram program → AreStates table
+    → IsGood program sectors g → Below table g → AllBelow g (passed_by program sectors table slot)
+slot_below program sectors table g slot few p h good below = by_rule (is_some (rule_at program table slot))
+  where
     by_rule : (b : Bool) → AllBelow g (if b then [] else sent_from program sectors table slot)
     by_rule true = tt
-    by_rule false = sent (at program slot) (state_at table slot) (state_at g slot) refl (h slot) (good.states slot) (below slot) (good.slots slot).rules (good.slots slot).edges
+    by_rule false = sent_all_below program sectors table g slot few p h good below
 
 -- rounds
 
@@ -144,7 +152,7 @@ no_states zero slot = refl
 no_states (suc n) zero = refl
 no_states (suc n) (suc slot) = no_states n slot
 
-first_below : (n : ℕ) (g : List (Option Abstract)) → AreStates g → Covers (state_at g 0) start → Below (first_table n) g
+pub first_below : (n : ℕ) (g : List (Option Abstract)) → AreStates g → Covers (state_at g 0) start → Below (first_table n) g
 unfolding first_table
 first_below zero g k s slot = tt
 first_below (suc n) g k s zero = covered_is_under (state_at g 0) start (k 0) start_fits s

@@ -1,5 +1,5 @@
 -- Acceptance is exact: the least good table.
-use Rattle.std.proofs.Common.{◌≡◌, ◌<◌, ◌≤◌, ◌+◌, ◌^◌, ℕ, zero, suc, Bool, true, false, List, [], ◌∷◌, length, Option, Some, None, refl, sym, ◌∙◌, if◌then◌else◌, ap, inl, inr, arith}
+use Rattle.std.proofs.Common.{◌≡◌, ◌<◌, ◌≤◌, ◌+◌, ◌^◌, ℕ, zero, suc, Bool, true, false, List, [], ◌∷◌, length, Option, Some, None, refl, sym, ◌∙◌, if◌then◌else◌, ap, subst, inl, inr, arith}
 use Rattle.std.proofs.lemmas.Bool.{cases_eq}
 use Rattle.base.specs.Check.{Check, first_failing}
 use Rattle.base.specs.declared.causes.VerifierCause.{VerifierCause}
@@ -93,6 +93,16 @@ least_exists program sectors g few p h good =
       settled_is_least program sectors found.0 few p h found.1
           (λ slot. keeps_below program sectors found.0 g slot p round.states good (settled_below program sectors found.0 g few p h found.1 good)),
     )
+
+-- the rounds end at the least good table, where there is one
+pub least_is_settled : (program : List (Option Instr)) (sectors : ℕ) (t : List (Option Abstract)) → sectors < 2 ^ 64 → IsProgram program → IsShaped program
+    → IsLeast program sectors t → IsSettled program sectors t
+least_is_settled program sectors t few p h least =
+    let found = table_ends program sectors (ends program sectors few p h (2 ^ 96) refl) in
+    let round = settled_round program sectors found.0 few p h found.1 in
+    let there : IsLeast program sectors found.0 = settled_is_least program sectors found.0 few p h found.1
+    (λ slot. keeps_below program sectors found.0 t slot p round.states least.good (settled_below program sectors found.0 t few p h found.1 least.good)) in
+    subst (λ u. IsSettled program sectors u) (one_least program sectors found.0 t there least) found.1
 
 -- no refusal is for a table that isn't settled
 

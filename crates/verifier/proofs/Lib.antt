@@ -14,3 +14,4 @@ pub mod Below
 pub mod Weights
 pub mod Rising
 pub mod Exact
+pub mod Ascending

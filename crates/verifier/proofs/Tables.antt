@@ -1,5 +1,5 @@
 -- Tables of states as contracts see them.
-use Rattle.std.proofs.Common.{◌≡◌, ℕ, zero, suc, List, [], ◌∷◌, replicate, Option, Some, None, refl, ◌∙◌, ap}
+use Rattle.std.proofs.Common.{◌≡◌, ◌<◌, ℕ, zero, suc, arith, get_or, length, List, [], ◌∷◌, replicate, Option, Some, None, refl, ◌∙◌, ap}
 use Rattle.std.specs.Prelude.{set}
 use Rattle.std.specs.Option.{option_map}
 use Rattle.ranges.specs.declared.state.State.{State}
@@ -34,3 +34,17 @@ first_is slots states e = rw (e, nothing_known slots) refl
 pub received : (states : List (Option State)) (table : List (Option Abstract)) (slot : ℕ) (s known : State) → table_of states ≡ table
     → state_of known ≡ joined (state_at table slot) (state_of s) → table_of (set states slot (Some known)) ≡ receive table (slot, state_of s)
 received states table slot s known e k = table_set states slot known ∙ rw (e, k) refl
+
+known_at : (states : List (Option State)) (slot : ℕ) (d : Option State) → slot < length states → option_map state_of (get_or states slot d) ≡ state_at (table_of states) slot
+known_at [] slot d small = absurd (let bad : slot < 0 = small in omega (arith, bad))
+known_at (x ∷ xs) zero d small = refl
+known_at (x ∷ xs) (suc n) d small = known_at xs n d (omega (arith, small))
+
+-- what is known at a slot is changed in its place
+pub received_at : (states : List (Option State)) (table : List (Option Abstract)) (slot : ℕ) (old new d : Option State) (s : State) → slot < length states
+    → table_of states ≡ table → old ≡ get_or states slot d → option_map state_of new ≡ Some (joined (option_map state_of old) (state_of s))
+    → table_of (set states slot new) ≡ receive table (slot, state_of s)
+received_at states table slot old new d s small e o k =
+    let known : option_map state_of old ≡ state_at table slot =
+    ap (λ m. option_map state_of m) o ∙ known_at states slot d small ∙ ap (λ t. state_at t slot) e in
+    mapped_set (option_map state_of) states slot new ∙ rw (k, known, e) refl

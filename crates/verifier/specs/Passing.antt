@@ -8,9 +8,10 @@ use Rattle.bpf_shape.specs.Calls.{callee_of}
 use Rattle.ranges.specs.States.{Abstract, start}
 use Rattle.ranges.specs.After.{after_of}
 use Rattle.ranges.specs.Passing.{edge_of, entry_state}
-use Rattle.ranges.specs.Order.{IsState, Each}
+use Rattle.ranges.specs.Order.{IsState, Each, EdgeUnder}
 use Rattle.std.specs.List.{fold, flat_map, range_with_len}
 use Rattle.verifier.specs.Tables.{state_at, Covers, CoversAll, AreStates, arriving}
+use Rattle.verifier.specs.Good.{IsGood}
 use Rattle.verifier.specs.Rounds.{receive, passed_by, round_of, IsSame}
 
 -- the state on the edge to the next slot
@@ -105,3 +106,16 @@ pub record MadeRound (program : List (Option Instr)) (sectors : ℕ) (old : List
   pub marks : IsMarked program sectors new after
   pub changes : changed ≡ true → IsSame program sectors old → ⊥
   pub same : changed ≡ false → IsSame program sectors old
+
+-- what is known of each slot in the first table is under what is known there in the second
+abbrev pub Below : List (Option Abstract) → List (Option Abstract) → Type 0
+Below t g = (slot : ℕ) → EdgeUnder (state_at t slot) (state_at g slot)
+
+-- From one table to another that is as long: where the first is below a good table, the second is.
+pub record StaysBelow (program : List (Option Instr)) (sectors : ℕ) (old : List (Option Abstract)) (new : List (Option Abstract)) : Type 0 where
+  pub long : length new ≡ length old
+  pub below : (g : List (Option Abstract)) → IsGood program sectors g → Below old g → Below new g
+
+-- a table that is below each good one
+pub record IsBelowGood (program : List (Option Instr)) (sectors : ℕ) (table : List (Option Abstract)) : Type 0 where
+  pub below : (g : List (Option Abstract)) → IsGood program sectors g → Below table g

@@ -4,9 +4,9 @@
 //! A `Table` says what is known at each slot of a program: an abstract state, or none. A table is good
 //! where the start is known at slot 0, no rule is broken at any slot, and what each slot passes on is
 //! known where it arrives: at the next slot, at the target of a jump, and at the entry of a function that
-//! is called. `check_table` tests that. `verify` finds such a table by rounds, each of
-//! which passes on what is known, and joins it to what is known where it arrives, until a round changes
-//! nothing.
+//! is called. `check_table` tests that. `verify` searches for such a table a slot at a time: what the slot
+//! knows is passed on, and joined to what is known where it arrives. Where no table is good it makes rounds,
+//! in each of which all slots pass on what they know, until a round changes nothing: they tell the refusal.
 //!
 //! | Call | Answer |
 //! |---|---|
@@ -58,6 +58,9 @@
 //! # How it is written
 //!
 //! - `table`: `Table`. `passing`: the rules and edges of one slot. `check`: `check_table`.
+//! - `climbing`: the search. Of it only is proved that each good table contains what it ends with; that this one is
+//!   good is tested by `check_table`, and then it is the least. So the order in which slots pass on, by `worklist`,
+//!   is free. `inferring`: the search, and the rounds where it finds nothing good.
 //! - `rounds`: a round lists all that is passed on by the table as it is, and then lets it arrive, so no
 //!   copy of the table is made. What is known already is not joined again. Each slot that learns something
 //!   gets a mark, and only the marked slots pass on in the next round: what the others pass on is contained
@@ -77,6 +80,7 @@
 #![tactic(auto)]
 
 mod check;
+mod climbing;
 mod inferring;
 pub mod laws;
 mod passing;
@@ -85,6 +89,7 @@ mod rounds;
 mod table;
 mod unsigned_state;
 mod verified;
+mod worklist;
 
 pub use check::check_table;
 pub use inferring::inferred;

@@ -153,7 +153,7 @@ fn make_round(
 }
 
 /// The table at which the rounds end: each that changes it raises its sum, which stays below 2^96.
-pub(crate) fn infer(
+pub(crate) fn make_rounds(
     alloc: Global,
     program: &Program,
     shape: &Shape,

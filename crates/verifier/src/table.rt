@@ -96,22 +96,22 @@ impl Table {
     }
 
     /// A state arrives at a slot: it is joined to what is known there.
+    #[tactic(auto, using(crate::proofs::Tables::received_at, crate::proofs::Tables::all_states))]
     pub(crate) fn receive(&mut self, slot: usize, state: &State)
         requires { slot < length self.old }
         ensures { self.new ≡ receive self.old (slot, state_of state.now) }
     {
-        let known = joined(self.state(slot), state);
-        self.states[slot] = Some(known);
+        join_to(&mut self.states[slot], state);
     }
 }
 
 /// What is known at a slot once a state has arrived.
-fn joined(known: Option<&State>, state: &State) -> State
-    ensures { state_of result ≡ joined (option_map (λ s. state_of s.now) known.entry) (state_of state.now) }
+fn join_to(known: &mut Option<State>, state: &State)
+    ensures { option_map state_of known.new ≡ Some (joined (option_map state_of known.old) (state_of state.now)) }
 {
     match known {
-        Some(known) => known.join(state),
-        None => *state,
+        Some(known) => known.take_in(state),
+        None => *known = Some(*state),
     }
 }
 

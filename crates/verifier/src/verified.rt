@@ -8,7 +8,7 @@ ghost use Rattle.verifier.specs.Rounds.{IsSettled};
 ghost use Rattle.verifier.specs.Verdicts.{IsVerified, Refused};
 
 use crate::check::check_rules;
-use crate::rounds::infer;
+use crate::inferring::infer;
 use crate::table::Table;
 use bpf_isa::program::Program;
 use bpf_shape::{Fault, shape};

@@ -1,5 +1,5 @@
 -- Numbers between two others, of numbers in their order.
-use Rattle.std.proofs.Common.{ℕ, None, if◌then◌else◌, zero, suc, ◌≡◌, ◌+◌, ◌-◌, ◌<◌, ◌≤◌, Bool, true, false, ◌&&◌, nat_le, nat_lt, List, [], ◌∷◌, length, filter, take, drop, slice_get, Some, refl, sym, ◌∙◌, ap, inl, inr, arith}
+use Rattle.std.proofs.Common.{ℕ, None, if◌then◌else◌, zero, suc, ◌≡◌, ◌+◌, ◌-◌, ◌<◌, ◌≤◌, Bool, true, false, List, [], ◌∷◌, length, filter, take, drop, slice_get, Some, refl, sym, ◌∙◌, ap, inl, inr, arith}
 use Rattle.std.specs.List.{slice_index_or}
 use Rattle.std.specs.List.Sorted.{IsNonDecreasing}
 use Rattle.std.proofs.lemmas.Bool.{cases_lt}
@@ -79,7 +79,7 @@ not_falling xs are h k d le lt =
     ]
 
 -- what a filter leaves stands in the list
-left_in : (p : ℕ → Bool) (xs : List ℕ) (i n : ℕ) → slice_get (filter p xs) i ≡ Some n → (k : ℕ) × (slice_get xs k ≡ Some n) × (p n ≡ true)
+pub left_in : (p : ℕ → Bool) (xs : List ℕ) (i n : ℕ) → slice_get (filter p xs) i ≡ Some n → (k : ℕ) × (slice_get xs k ≡ Some n) × (p n ≡ true)
 left_in p [] i n at = absurd (let bad : None ≡ Some n = at in cc)
 left_in p (x ∷ xs) i n at = by_test (λ j there. left_in p xs j n there) (p x) refl i at
   where

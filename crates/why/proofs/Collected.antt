@@ -1,5 +1,5 @@
 -- What fails at the first cuts.
-use Rattle.std.proofs.Common.{ℕ, zero, suc, ◌≡◌, ◌+◌, ◌<◌, ◌≤◌, List, [], ◌∷◌, ◌++◌, length, length-append, slice_get, None, Some, refl, sym, ◌∙◌, ap, subst, inl, inr, arith}
+use Rattle.std.proofs.Common.{ℕ, ◌≡◌, ◌+◌, List, [], ◌∷◌, ◌++◌, length, length-append, slice_get, None, Some, refl, sym, ◌∙◌, subst, inl, inr, arith}
 use Rattle.base.proofs.Lists.{slice_get_of_push}
 use Rattle.choices.specs.Sums.{StartsValue}
 use Rattle.why.specs.declared.cut.CutFailures.{CutFailures}

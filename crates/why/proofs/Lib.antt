@@ -4,3 +4,5 @@ pub mod Ordered
 pub mod Counting
 pub mod Collected
 pub mod Standing
+pub mod Shown
+pub mod Explained

@@ -1,6 +1,6 @@
 -- Each failing image stands once.
-use Rattle.std.proofs.Common.{ℕ, zero, suc, ◌≡◌, ◌+◌, ◌-◌, ◌<◌, ◌≤◌, ◌==◌, ◌&&◌, Bool, true, false, not, nat_le, nat_lt, cond, List, [], ◌∷◌, ◌++◌, length, map, filter, slice_get, None, Some, refl, sym, ◌∙◌, ap, subst, inl, inr, arith, add-one}
-use Rattle.std.specs.List.{slice_index_or, range_with_len, sum_by}
+use Rattle.std.proofs.Common.{ℕ, zero, suc, ◌≡◌, ◌+◌, ◌<◌, ◌≤◌, ◌==◌, Bool, true, false, not, nat_lt, cond, List, [], ◌∷◌, ◌++◌, length, map, filter, slice_get, None, Some, refl, sym, ◌∙◌, ap, subst, inl, inr, arith}
+use Rattle.std.specs.List.{range_with_len, sum_by}
 use Rattle.std.proofs.lemmas.Bool.{cases_lt}
 use Rattle.std.proofs.lemmas.Bool.Decides.{nat_tests}
 use Rattle.std.proofs.lemmas.List.{map-append}
@@ -8,16 +8,15 @@ use Rattle.std.proofs.lemmas.List.Sums.{sum_by-cons, sum_by-append}
 use Rattle.std.proofs.lemmas.Option.{slice_get_within, slice_get-get_or}
 use Rattle.base.proofs.Lists.{range_with_len-push}
 use Rattle.epochs.specs.Cuts.{cuts_of}
-use Rattle.choices.specs.Choices.{ranked, ranked_at}
 use Rattle.choices.specs.Sums.{StartsValue}
 use Rattle.choices.proofs.Plans.{before_none, before_more, before_all}
 use Rattle.groups.specs.Groups.{AreChoices, IsSmallest, IsGroup}
 use Rattle.groups.proofs.Parts.{group_is_smallest}
 use Rattle.why.specs.declared.group.Group.{Group}
 use Rattle.why.specs.declared.cut.CutFailures.{CutFailures}
-use Rattle.why.specs.Groups.{times, group_at, has_images, groups_of, AreGrouped}
-use Rattle.why.specs.Failures.{AreImages, is_between, first_at, failing_at, IsCut, AreCuts}
-use Rattle.why.specs.Laws.{StandOnce, EachStandsOnce, AllStand}
+use Rattle.why.specs.Groups.{times, group_at, has_images, groups_of}
+use Rattle.why.specs.Failures.{is_between, first_at, IsCut}
+use Rattle.why.specs.Laws.{EachStandsOnce, AllStand}
 
 -- how many numbers pass a test, with one more in front
 count_cons : (p : ℕ → Bool) (x : ℕ) (xs : List ℕ) → length (filter p (x ∷ xs)) ≡ cond (p x) 1 0 + length (filter p xs)
@@ -109,7 +108,7 @@ first_sum images places (suc n) =
     parts ∙ omega (arith, rest, more, both, own)
 
 -- what is left of groups stands among them
-left_of_groups : (gs : List Group) (i : ℕ) (g : Group) → slice_get (filter has_images gs) i ≡ Some g → (k : ℕ) × (slice_get gs k ≡ Some g) × (has_images g ≡ true)
+pub left_of_groups : (gs : List Group) (i : ℕ) (g : Group) → slice_get (filter has_images gs) i ≡ Some g → (k : ℕ) × (slice_get gs k ≡ Some g) × (has_images g ≡ true)
 left_of_groups [] i g at = absurd (let bad : None ≡ Some g = at in cc)
 left_of_groups (h ∷ gs) i g at = by_test (λ j there. left_of_groups gs j g there) (has_images h) refl i at
   where
@@ -120,7 +119,7 @@ left_of_groups (h ∷ gs) i g at = by_test (λ j there. left_of_groups gs j g th
     by_test inner false e i at = let was = inner i at in (suc was.0, was.1, was.2)
 
 -- an element of what is made of a range
-of_range : (f : ℕ → Group) (a n i : ℕ) (g : Group) → slice_get (map f (range_with_len a n)) i ≡ Some g → (k : ℕ) × (k < a + n) × (g ≡ f k)
+pub of_range : (f : ℕ → Group) (a n i : ℕ) (g : Group) → slice_get (map f (range_with_len a n)) i ≡ Some g → (k : ℕ) × (k < a + n) × (g ≡ f k)
 of_range f a zero i g at = absurd (let bad : None ≡ Some g = at in cc)
 of_range f a (suc n) zero g at = let same : Some (f a) ≡ Some g = at in (a, omega arith, cc)
 of_range f a (suc n) (suc i) g at = let was = of_range f (a + 1) n i g at in let lt = was.1 in (was.0, omega (arith, lt), was.2)

@@ -2,3 +2,6 @@
 pub mod Groups
 pub mod Failures
 pub mod Laws
+pub mod Text
+pub mod Pairs
+pub mod PairsText

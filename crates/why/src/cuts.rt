@@ -5,6 +5,7 @@ ghost use Rattle.std.specs.List.{slice_index_or};
 ghost use Rattle.std.specs.List.Sorted.{IsNonDecreasing};
 ghost use Rattle.epochs.specs.Cuts.{cuts_of};
 ghost use Rattle.why.specs.Failures.{AreImages, AreCuts, IsCut, is_between, AreInOrder};
+ghost use Rattle.why.specs.Text.{AreAllNumbered};
 
 use crate::cut::{CutFailures, grouped};
 use choices::Starts;
@@ -68,7 +69,8 @@ pub fn failures(
     failing: &[u64],
 ) -> Result<Vec<CutFailures>, AllocError>
     requires { AreImages starts.now failing.now }
-    ensures { IfOk result (λ cuts. AreCuts starts.now failing.now cuts.items) }
+    ensures cuts { IfOk result (λ cuts. AreCuts starts.now failing.now cuts.items) }
+    ensures numbered { IfOk result (λ cuts. AreAllNumbered starts.now cuts.items) }
 {
     let cuts = starts.plan().cuts();
     let mut found = Vec::with_capacity(alloc, cuts.len())?;

@@ -262,7 +262,7 @@ pub(crate) fn judge_taken<'a, J: Run, R: Wait>(
 {
     let first = BLOCK * u64::from(block);
     let end = input.image_count().min(first + BLOCK);
-    let mut lines = BlockLines::new(alloc);
+    let mut lines = BlockLines::new(alloc, input.marked());
     input.judge_row(rt, alloc, shards, changes, &mut lines, first, end)?;
     Ok(Piece::of(block, lines))
 }

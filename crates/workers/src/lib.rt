@@ -7,6 +7,7 @@
 //! | Type or call | What it is |
 //! |---|---|
 //! | `Input::new(plan, starts, history, checkers, by, bound, tears, workers, cache, first, images)` | what is judged, whose images are counted; by how many workers, with how large a cache |
+//! | `Input::with_marks` | the same, of whose failing lines marks are kept too (`Lines::marks`) |
 //! | `judge_block(rt, alloc, input, shards, block)` | the piece of a block: its lines, by image and then by checker |
 //! | `Piece::passed(block, image)` | the piece of a block that was passed over after a failing image |
 //! | `collect(alloc, pieces, blocks)` | all lines, of pieces in any order; refused where a block has two pieces or none |

@@ -1,6 +1,5 @@
-use Rattle.std.proofs.Common.{slice_get, Some, length, ◌<◌, ◌≡◌, ◌∙◌, sym, ap, subst, map, List, ℕ, arith}
+use Rattle.std.proofs.Common.{slice_get, Some, length, ◌<◌, ◌≡◌, ◌∙◌, sym, ap, subst, map, List, ℕ}
 use Rattle.groups.specs.Groups.{AreChoices}
-use Rattle.why.specs.Failures.{numbers_in}
 use Rattle.why.proofs.Ordered.{are_choices, place_within}
 use Rattle.why.proofs.cut.grouped.Goals as goal
 

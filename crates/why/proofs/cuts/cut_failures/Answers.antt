@@ -1,4 +1,4 @@
-use Rattle.std.proofs.Common.{ℕ, List, ◌≡◌, ◌+◌, ◌∙◌, length, map, filter, ap, subst, arith}
+use Rattle.std.proofs.Common.{ℕ, List, ◌≡◌, ◌∙◌, length, map, filter, ap, subst, arith}
 use Rattle.why.specs.Groups.{AreGrouped}
 use Rattle.why.specs.Failures.{numbers_in, is_between, first_at, failing_at}
 use Rattle.why.proofs.Between.{of_cut}

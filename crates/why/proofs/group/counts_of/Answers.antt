@@ -1,4 +1,4 @@
-use Rattle.std.proofs.Common.{ℕ, rules, ◌≡◌, ◌≤◌, ◌+◌, ◌<◌, ◌^◌, ◌∙◌, length, refl, arith}
+use Rattle.std.proofs.Common.{ℕ, rules, ◌+◌, ◌<◌, ◌^◌, ◌∙◌, length, refl, arith}
 use Rattle.std.specs.List.{slice_index_or}
 use Rattle.std.proofs.lemmas.Option.{slice_get-get_or}
 use Rattle.why.proofs.Counting.{times_before, count_more, none_counted, at_any_default}

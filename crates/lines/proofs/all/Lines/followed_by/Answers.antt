@@ -5,6 +5,7 @@ use Rattle.lines.specs.Line.{FailingLine}
 use Rattle.lines.specs.Lines.{said_by}
 use Rattle.lines.proofs.Changes.{few_of_both}
 use Rattle.lines.proofs.Keeping.{said-append, said-length, kept_both}
+use Rattle.lines.proofs.Marked.{marks_both}
 use Rattle.lines.proofs.all.Lines.followed_by.Goals as goal
 
 pub followed_by-requires : goal.followed_by-requires
@@ -13,7 +14,7 @@ followed_by-requires c =
     let few : c.len-count.result < 2 ^ 64 = search rules in
     let all : said_by c.append.new.self.items ≡ said_by c.self.inside.said.items ++ said_by c.part.inside.said.items =
     ap said_by c.in_ok-append.ensures.items ∙ said-append c.self.inside.said.items c.part.inside.said.items in
-    few_of_both _ _ _ _ _ _ _ _ c.len-count.result c.self.invariant.images c.part.invariant.images
+    few_of_both _ _ _ _ _ _ _ _ c.len-count.result c.self.invariant.0.images c.part.invariant.0.images
     (sym (ap (λ (ls : List FailingLine). length ls) all) ∙ said-length c.append.new.self.items ∙ sym count) few
 
 pub invariant_of-result : goal.invariant_of-result
@@ -21,6 +22,8 @@ invariant_of-result c =
     let all : said_by c.append.new.self.items ≡ said_by c.self.inside.said.items ++ said_by c.part.inside.said.items =
     ap said_by c.in_ok-append.ensures.items ∙ said-append c.self.inside.said.items c.part.inside.said.items in
     let texts : flat_map (λ t. t.items) c.push.new.self.items ≡ flat_map (λ t. t.items) c.self.inside.texts.items ++ c.part.inside.text.items =
-    ap (flat_map (λ t. t.items)) c.in_ok-push.ensures.items ∙ sym (flat_map_more (λ t. t.items) [] c.self.inside.texts.items c.part.inside.text) in
-    rw (all, texts, c.in_ok-add_leading.ensures, c.as_slice.ensures.value, c.leads_on-leads.ensures)
-    (kept_both _ _ _ _ _ _ _ _ _ _ _ _ c.self.invariant c.part.invariant _ _ _ (c.followed_by.ensures _ _ c.self.invariant.images c.part.invariant.images))
+    ap (flat_map (λ t. t.items)) c.in_ok-push.ensures.items ∙ sym (flat_map_more (λ t. t.items) [] c.self.inside.texts.items c.part.inside.text) in (
+      rw (all, texts, c.in_ok-add_leading.ensures, c.as_slice.ensures.value, c.leads_on-leads.ensures)
+          (kept_both _ _ _ _ _ _ _ _ _ _ _ _ c.self.invariant.0 c.part.invariant.0 _ _ _ (c.followed_by.ensures _ _ c.self.invariant.0.images c.part.invariant.0.images)),
+      rw all (marks_both _ _ _ (c.both_marks.ensures _ _ c.self.invariant.1 c.part.invariant.1)),
+    )

@@ -6,4 +6,4 @@ use Rattle.lines.proofs.all.Lines.image_count.Goals as goal
 
 pub returns : goal.returns
 returns c =
-    c.self.invariant.images.count_is ∙ ap (λ (ls : List FailingLine). changes_behind None ls) c.self.view_is ∙ changes_are_images c.args.self.now c.requires
+    c.self.invariant.0.images.count_is ∙ ap (λ (ls : List FailingLine). changes_behind None ls) c.self.view_is ∙ changes_are_images c.args.self.now c.requires

@@ -10,6 +10,6 @@ pub returns : goal.returns
 returns c =
     c.in_ok-extend_from_slice.ensures.items
     ∙ ap (λ (more : List ℕ). c.args.out.now.items ++ more) (c.as_slice.ensures.value
-    ∙ c.self.invariant.leading_is
+    ∙ c.self.invariant.0.leading_is
     ∙ ap (λ (ls : List FailingLine). flat_map line_text (leading ls)) c.self.view_is
     ∙ ap (λ (ls : List FailingLine). flat_map line_text ls) (sym (first_are_leading c.args.self.now c.requires)))

@@ -4,13 +4,14 @@ use Rattle.lines.specs.Lines.{line_value}
 use Rattle.lines.specs.Text.{line_text}
 use Rattle.lines.proofs.Changes.{few_of_both}
 use Rattle.lines.proofs.Keeping.{said-length, part_more}
+use Rattle.lines.proofs.Marked.{marks_both}
 use Rattle.lines.proofs.part.Part.push.Goals as goal
 
 pub followed_by-self-inside-requires : goal.followed_by-self-inside-requires
 followed_by-self-inside-requires c =
     let count : c.len-count.result ≡ length c.add.new.said.items = search rules in
     let few : c.len-count.result < 2 ^ 64 = search rules in
-    few_of_both _ _ _ _ _ _ _ _ c.len-count.result c.self.invariant.images (c.of-images.ensures (line_value c.args.line) refl)
+    few_of_both _ _ _ _ _ _ _ _ c.len-count.result c.self.invariant.0.images (c.of-images.ensures (line_value c.args.line) refl)
     (sym (ap (λ (ls : List FailingLine). length ls) c.in_ok-add.ensures.said) ∙ said-length c.add.new.said.items ∙ sym count) few
 
 pub invariant_of-self-2 : goal.invariant_of-self-2
@@ -18,6 +19,8 @@ invariant_of-self-2 c =
     let one = c.of-images.ensures (line_value c.args.line) refl in
     let printed : c.as_bytes.result.now ≡ line_text (line_value c.args.line) =
     c.as_bytes.ensures.value ∙ c.in_ok-put_line.ensures ∙ ap (λ (text : List ℕ). text ++ line_text (line_value c.args.line)) c.clear.ensures.bytes in
-    let place : c.len.result ≡ length c.add.new.text.items = search rules in
-    rw (c.end_of-self-inside.ensures, c.leads_on-leads.ensures, place, c.in_ok-add.ensures.said, c.in_ok-add.ensures.text)
-    (part_more _ _ _ _ _ _ _ _ _ _ _ c.self.invariant printed one _ _ _ (c.followed_by-self-inside.ensures _ _ c.self.invariant.images one))
+    let place : c.len.result ≡ length c.add.new.text.items = search rules in (
+      rw (c.end_of-self-inside.ensures, c.leads_on-leads.ensures, place, c.in_ok-add.ensures.said, c.in_ok-add.ensures.text)
+          (part_more _ _ _ _ _ _ _ _ _ _ _ c.self.invariant.0 printed one _ _ _ (c.followed_by-self-inside.ensures _ _ c.self.invariant.0.images one)),
+      rw c.in_ok-add.ensures.said (marks_both _ _ _ (c.keep_mark.ensures _ c.self.invariant.1)),
+    )

@@ -1,14 +1,14 @@
-use Rattle.std.proofs.Common.{◌≡◌, set, Some}
+use Rattle.std.proofs.Common.{rules, ◌≡◌, ◌<◌, ◌∙◌, sym, ap, arith, length, Option}
+use Rattle.std.proofs.lemmas.List.{length-map}
+use Rattle.std.specs.Option.{option_map}
 use Rattle.ranges.specs.SeenStates.{state_of}
-use Rattle.verifier.specs.Tables.{state_at}
-use Rattle.verifier.specs.Rounds.{joined}
-use Rattle.verifier.proofs.Tables.{all_states, received}
+use Rattle.verifier.proofs.Tables.{received_at}
 use Rattle.verifier.proofs.table.Table.receive.Goals as goal
 
 pub returns : goal.returns
 returns c =
-    let known : state_of c.joined-known.result ≡ joined (state_at c.args.self.now c.args.slot) (state_of c.args.state.now) = rw c.state.ensures at c.joined-known.ensures in
-    received c.self.inside.states.items c.args.self.now c.args.slot c.args.state.now c.joined-known.result c.self.view_is known
-
-pub invariant_of-self : goal.invariant_of-self
-invariant_of-self c = all_states (set c.self.inside.states.items c.args.slot (Some c.joined-known.result))
+    let same : length c.self.inside.states.items ≡ length c.args.self.now =
+    sym (length-map c.self.inside.states.items (option_map state_of)) ∙ ap (λ t. length t) c.self.view_is in
+    let small : c.args.slot < length c.self.inside.states.items = rw same c.requires in
+    received_at c.self.inside.states.items c.args.self.now c.args.slot c.index_mut.result.now c.join_to.new.known _ c.args.state.now small c.self.view_is
+    c.index_mut.ensures.value c.join_to.ensures

@@ -1,0 +1,21 @@
+use Rattle.std.proofs.lemmas.Result.{err_from_is_err_and}
+use Rattle.commands.specs.Acting.{for_words, for_settings, for_held}
+use Rattle.commands.proofs.Acts.{unread_file}
+use Rattle.commands.proofs.action.act_show.Goals as goal
+
+pub returns-in_err-options-clause-refused : goal.returns-in_err-options-clause-refused
+returns-in_err-options-clause-refused c =
+    let p = err_from_is_err_and c.from_residual.result c.from_residual.ensures.1 in
+    rw (p.1, p.2) (for_words c.in_err-options.field-0.0 c.in_err-options.ensures)
+
+pub returns-in_err-log-clause-refused : goal.returns-in_err-log-clause-refused
+returns-in_err-log-clause-refused c =
+    let p = err_from_is_err_and c.from_residual-in_err-log.result c.from_residual-in_err-log.ensures.1 in
+    rw (p.1, p.2) (for_settings c.in_ok-options.options c.in_err-log.field-0.0 c.in_ok-options.ensures (unread_file _ _ c.in_err-log.field-0.0 c.in_err-log.ensures))
+
+pub returns-in_err-bytes-clause-refused : goal.returns-in_err-bytes-clause-refused
+returns-in_err-bytes-clause-refused c =
+    let p = err_from_is_err_and c.from_residual-in_err-bytes.result c.from_residual-in_err-bytes.ensures.1 in
+    rw (p.1, p.2)
+    (for_settings c.in_ok-options.options c.in_err-bytes.field-0.0 c.in_ok-options.ensures
+    (for_held c.in_ok-log.log.now c.in_err-bytes.field-0.0 c.in_ok-log.ensures c.in_err-bytes.ensures.refused))

@@ -1,0 +1,90 @@
+-- Why programs fail on the crash images of a log, and what a run is to tell (docs/REPORT.md, The text of `why`).
+use Rattle.std.specs.Prelude.{ℕ, ◌≡◌, ◌≢◌, ◌+◌, ◌==◌, ◌↔◌, Bool, false, IsTrue, List, [], ◌∷◌, ◌++◌, codes, length, map, filter, None, slice_get, Some}
+use Rattle.logfmt.specs.Bounds.{LogValue}
+use Rattle.choices.specs.Sums.{StartsValue}
+use Rattle.interp.specs.Checker.{CheckerValue}
+use Rattle.lines.specs.Line.{FailingLine}
+use Rattle.report.specs.Report.{HeadValue, options_text, totals_line}
+use Rattle.why.specs.declared.cut.CutFailures.{CutFailures}
+use Rattle.why.specs.Failures.{AreCuts}
+use Rattle.why.specs.Text.{program_text}
+use Rattle.workers.specs.Failing.{failing_lines}
+use Rattle.commands.specs.declared.settings.Settings.{Settings}
+use Rattle.commands.specs.declared.settings.Telling.{Telling}
+use Rattle.commands.specs.declared.settings.Telling.TheVariants as telling
+use Rattle.commands.specs.Source.{plan_of, HasImages}
+use Rattle.commands.specs.Explore.{IsProgramCount, AreCheckersOf, IsFaultless, IsReport, subject_of, head_of, report_of}
+
+-- the images on which a program fails, by the failing lines
+abbrev pub images_failing : ℕ → List FailingLine → List ℕ
+images_failing program ls = map (λ (l : FailingLine). l.image) (filter (λ (l : FailingLine). l.program == program) ls)
+
+-- the choices of a log, which number its images
+abbrev pub starts_of : Settings → LogValue → StartsValue
+starts_of s value = record { plan = plan_of s value; bound = s.bound; tears = s.tears }
+
+-- what fails at each wanted cut, of each program, where these are the images on which each fails
+abbrev pub AreCauses : StartsValue → (ℕ → List ℕ) → List (List CutFailures) → Type 0
+AreCauses s failing causes = (program : ℕ) (cuts : List CutFailures) → slice_get causes program ≡ Some cuts → AreCuts s (failing program) cuts
+
+-- the text of the programs from that number on
+abbrev pub causes_from : StartsValue → (ℕ → List ℕ) → ℕ → List (List CutFailures) → List ℕ
+causes_from s failing number [] = []
+causes_from s failing number (cuts ∷ causes) =
+    program_text s.plan.by s number (length (failing number)) cuts ++ causes_from s failing (number + 1) causes
+
+-- the whole text: the options and the programs as in the report, what fails of each program, and the totals of the report
+unfoldable pub why_text : HeadValue → StartsValue → (ℕ → List ℕ) → List FailingLine → List (List CutFailures) → List ℕ
+why_text h s failing ls causes = codes "crash causes 1\n" ++ options_text h ++ causes_from s failing 0 causes ++ totals_line h.images ls
+
+-- the bytes say of each program what fails at each cut
+pub record TellsCauses (h : HeadValue) (s : StartsValue) (failing : ℕ → List ℕ) (ls : List FailingLine) (bytes : List ℕ) : Type 0 where
+  pub causes : List (List CutFailures)
+  pub all : length causes ≡ length h.programs
+  pub each : AreCauses s failing causes
+  pub text : bytes ≡ why_text h s failing ls causes
+
+-- the same settings, with the first failing image alone or all of them
+abbrev pub with_first : Bool → Settings → Settings
+with_first first s = record {
+  sectors = s.sectors;
+  cuts = s.cuts;
+  bound = s.bound;
+  tears = s.tears;
+  by = s.by;
+  workers = s.workers;
+  cache = s.cache;
+  checked = s.checked;
+  first = first;
+}
+
+-- the bytes say why the programs fail on the images of the log, by the failing lines
+abbrev pub TellsOfLines : Settings → LogValue → List CheckerValue → List FailingLine → List ℕ → Type 0
+TellsOfLines s value checkers ls bytes =
+    TellsCauses (head_of (with_first false s) value checkers) (starts_of s value) (λ program. images_failing program ls) ls bytes
+
+-- what the bytes of a run are: the report, or why programs fail
+abbrev pub Tells : Telling → Settings → LogValue → List CheckerValue → List ℕ → Type 0
+Tells telling.Report s value checkers bytes = bytes ≡ report_of s value checkers
+Tells telling.Causes s value checkers bytes = TellsOfLines s value checkers (failing_lines (subject_of s value checkers)) bytes
+
+-- the bytes say why the programs fail on the crash images of the log: what the report says of them, image by image
+pub record IsExplained (text : List ℕ) (files : List (List ℕ)) (s : Settings) (bytes : List ℕ) (failing : Bool) : Type 0 where
+  pub count : IsProgramCount (length files)
+  pub value : LogValue
+  pub source : HasImages text s value
+  pub checkers : List CheckerValue
+  pub made : AreCheckersOf s files checkers
+  pub causes : TellsOfLines s value checkers (failing_lines (subject_of s value checkers)) bytes
+  pub fails : IsTrue failing ↔ (failing_lines (subject_of s value checkers) ≢ [])
+  pub faultless : s.checked ≡ None → IsFaultless (subject_of s value checkers)
+
+-- what a run answers
+abbrev pub IsTold : Telling → List ℕ → List (List ℕ) → Settings → List ℕ → Bool → Type 0
+IsTold telling.Report text files s bytes failing = IsReport text files s bytes failing
+IsTold telling.Causes text files s bytes failing = IsExplained text files s bytes failing
+
+-- whether the first failing image alone is asked for: of why programs fail all images are told
+abbrev pub first_asked : Telling → Bool → Bool
+first_asked telling.Report first = first
+first_asked telling.Causes first = false

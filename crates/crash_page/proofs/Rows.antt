@@ -1,0 +1,88 @@
+-- Texts of a list, element after element: what is written, before what is still to come.
+use Rattle.std.proofs.Common.{ℕ, zero, suc, ◌≡◌, ◌+◌, ◌-◌, ◌<◌, ◌≤◌, List, [], ◌∷◌, ◌++◌, length, length-append, append_assoc, filter, take, drop, get_or, slice_get, Some, None, refl, sym, ap, ◌∙◌, arith}
+use Rattle.std.proofs.lemmas.Option.{same_Some, slice_get_read}
+use Rattle.std.proofs.lemmas.List.{take_more}
+use Rattle.std.proofs.lemmas.List.Elements.{filter-append}
+use Rattle.std.proofs.lemmas.List.{append-nil}
+use Rattle.logfmt.specs.declared.entry.Entry.{Entry}
+use Rattle.logfmt.specs.Bounds.{LogValue}
+use Rattle.choices.specs.Sums.{StartsValue}
+use Rattle.why.specs.declared.cut.CutFailures.{CutFailures}
+use Rattle.crash_page.specs.declared.program.ProgramFailures.{ProgramFailures}
+use Rattle.crash_page.specs.Cells.{cut_cell, strip_from}
+use Rattle.crash_page.specs.Entries.{cells_text}
+use Rattle.crash_page.specs.Groups.{shown_of, cut_text, cuts_text}
+use Rattle.crash_page.specs.Page.{fails, program_text, programs_text, IsOfRun}
+
+drop_next : {A : Type 0} → (xs : List A) (n : ℕ) (x : A) → slice_get xs n ≡ Some x → drop n xs ≡ x ∷ drop (n + 1) xs
+drop_next {A = A} [] n x there = absurd (let bad : None ≡ Some x = there in cc)
+drop_next {A = A} (y ∷ xs) zero x there = let same : y ≡ x = same_Some y x there in ap (λ (z : A). z ∷ xs) same
+drop_next {A = A} (y ∷ xs) (suc n) x there = let e : suc n + 1 ≡ suc (n + 1) = omega arith in rw e (drop_next xs n x there)
+
+drop_all : {A : Type 0} → (xs : List A) (n : ℕ) → length xs ≤ n → drop n xs ≡ []
+drop_all [] zero past = refl
+drop_all [] (suc n) past = refl
+drop_all (x ∷ xs) zero past = absurd (omega (arith, past))
+drop_all (x ∷ xs) (suc n) past = drop_all xs n (omega (arith, past))
+
+-- a cut of a run is one of its log
+pub cut_within : (s : StartsValue) (l : LogValue) (c : CutFailures) → s.plan.log ≡ l → IsOfRun s c → c.cut ≤ length l.entries
+cut_within s l c same is = let cut = is.cut in let long = ap (λ (x : LogValue). length x.entries) same in omega (arith, cut, long)
+
+-- what is written and what is to come are the whole text, with one piece more written
+next_piece : (start before piece now rest all : List ℕ) → before ++ (piece ++ rest) ≡ start ++ all → now ≡ before ++ piece → now ++ rest ≡ start ++ all
+next_piece start before piece now rest all so_far is = ap (λ (text : List ℕ). text ++ rest) is ∙ append_assoc before piece rest ∙ so_far
+
+pub strip_more : (es : List Entry) (program from n : ℕ) (cs : List CutFailures) (c : CutFailures) (start before cells now : List ℕ) → n < length cs → c ≡ get_or cs n c
+    → before ++ strip_from es program from (drop n cs) ≡ start ++ strip_from es program 0 cs → cells ≡ before ++ cells_text es from c.cut → now ≡ cells ++ cut_cell es program c
+    → now ++ strip_from es program c.cut (drop (n + 1) cs) ≡ start ++ strip_from es program 0 cs
+strip_more es program from n cs c start before cells now within is so_far first second =
+    let split : drop n cs ≡ c ∷ drop (n + 1) cs = drop_next cs n c (slice_get_read cs (length cs) n c refl within is) in
+    let opened : before ++ (cells_text es from c.cut ++ cut_cell es program c ++ strip_from es program c.cut (drop (n + 1) cs)) ≡ start ++ strip_from es program 0 cs =
+    ap (λ (rest : List CutFailures). before ++ strip_from es program from rest) (sym split) ∙ so_far in
+    next_piece start before (cells_text es from c.cut ++ cut_cell es program c) now _ _ opened
+    (second ∙ ap (λ (text : List ℕ). text ++ cut_cell es program c) first ∙ append_assoc before (cells_text es from c.cut) (cut_cell es program c))
+
+pub strip_end : (es : List Entry) (program from n : ℕ) (cs : List CutFailures) (start before now : List ℕ) → length cs ≤ n
+    → before ++ strip_from es program from (drop n cs) ≡ start ++ strip_from es program 0 cs → now ≡ before ++ cells_text es from (length es) → now ≡ start ++ strip_from es program 0 cs
+strip_end es program from n cs start before now past so_far is =
+    is ∙ ap (λ (rest : List CutFailures). before ++ strip_from es program from rest) (sym (drop_all cs n past)) ∙ so_far
+
+pub cuts_more : (s : StartsValue) (program left shown less n : ℕ) (cs : List CutFailures) (c : CutFailures) (start before now : List ℕ) → n < length cs → c ≡ get_or cs n c
+    → shown ≡ shown_of left c → less ≡ left - shown
+    → before ++ cuts_text s program left (drop n cs) ≡ start ++ cuts_text s program 500 cs → now ≡ before ++ cut_text s program shown c
+    → now ++ cuts_text s program less (drop (n + 1) cs) ≡ start ++ cuts_text s program 500 cs
+cuts_more s program left shown less n cs c start before now within is told lower so_far written =
+    let split : drop n cs ≡ c ∷ drop (n + 1) cs = drop_next cs n c (slice_get_read cs (length cs) n c refl within is) in
+    let opened : before ++ (cut_text s program (shown_of left c) c ++ cuts_text s program (left - shown_of left c) (drop (n + 1) cs)) ≡ start ++ cuts_text s program 500 cs =
+    ap (λ (rest : List CutFailures). before ++ cuts_text s program left rest) (sym split) ∙ so_far in
+    rw (lower ∙ ap (λ (k : ℕ). left - k) told) (next_piece start before (cut_text s program (shown_of left c) c) now _ _ opened (written ∙ ap (λ (k : ℕ). before ++ cut_text s program k c) told))
+
+pub cuts_end : (s : StartsValue) (program left n : ℕ) (cs : List CutFailures) (start before : List ℕ) → length cs ≤ n
+    → before ++ cuts_text s program left (drop n cs) ≡ start ++ cuts_text s program 500 cs → before ≡ start ++ cuts_text s program 500 cs
+cuts_end s program left n cs start before past so_far =
+    sym (ap (λ (rest : List CutFailures). before ++ cuts_text s program left rest) (drop_all cs n past) ∙ append-nil before) ∙ so_far
+
+pub programs_more : (s : StartsValue) (n : ℕ) (fs : List ProgramFailures) (f : ProgramFailures) (start before now : List ℕ) → n < length fs → f ≡ get_or fs n f
+    → before ++ programs_text s n (drop n fs) ≡ start ++ programs_text s 0 fs → now ≡ before ++ program_text s n f
+    → now ++ programs_text s (n + 1) (drop (n + 1) fs) ≡ start ++ programs_text s 0 fs
+programs_more s n fs f start before now within is so_far written =
+    let split : drop n fs ≡ f ∷ drop (n + 1) fs = drop_next fs n f (slice_get_read fs (length fs) n f refl within is) in
+    let opened : before ++ (program_text s n f ++ programs_text s (n + 1) (drop (n + 1) fs)) ≡ start ++ programs_text s 0 fs =
+    ap (λ (rest : List ProgramFailures). before ++ programs_text s n rest) (sym split) ∙ so_far in
+    next_piece start before (program_text s n f) now _ _ opened written
+
+pub programs_end : (s : StartsValue) (n : ℕ) (fs : List ProgramFailures) (start before : List ℕ) → length fs ≤ n
+    → before ++ programs_text s n (drop n fs) ≡ start ++ programs_text s 0 fs → before ≡ start ++ programs_text s 0 fs
+programs_end s n fs start before past so_far =
+    sym (ap (λ (rest : List ProgramFailures). before ++ programs_text s n rest) (drop_all fs n past) ∙ append-nil before) ∙ so_far
+
+-- at how many cuts images fail, with one more
+pub failing_more : (cs : List CutFailures) (n count one now : ℕ) (c : CutFailures) → n < length cs → c ≡ get_or cs n c
+    → (count ≡ length (filter fails (take n cs))) × (count ≤ n) → one ≡ length (filter fails (c ∷ [])) → one ≤ 1 → now ≡ count + one
+    → (now ≡ length (filter fails (take (n + 1) cs))) × (now ≤ n + 1)
+failing_more cs n count one now c within is so_far more few sum =
+    let taken : take (n + 1) cs ≡ take n cs ++ c ∷ [] = take_more cs n c within ∙ ap (λ (x : CutFailures). take n cs ++ x ∷ []) (sym is) in
+    let whole : length (filter fails (take (n + 1) cs)) ≡ length (filter fails (take n cs)) + length (filter fails (c ∷ [])) =
+    ap (λ (xs : List CutFailures). length (filter fails xs)) taken ∙ ap length (filter-append fails (take n cs) (c ∷ [])) ∙ length-append (filter fails (take n cs)) (filter fails (c ∷ [])) in
+    (omega (arith, whole, so_far.0, more, sum), omega (arith, so_far.1, few, sum))

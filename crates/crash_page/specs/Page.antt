@@ -1,0 +1,79 @@
+-- The page of a run (docs/REPORT.md, The page of `page`).
+use Rattle.std.specs.Prelude.{ℕ, ◌+◌, ◌≡◌, ◌<◌, ◌≤◌, ◌==◌, not, nat_lt, Bool, if◌then◌else◌, List, [], ◌∷◌, ◌++◌, All, codes, length, filter}
+use Rattle.std.specs.Fmt.{decimal}
+use Rattle.logfmt.specs.declared.entry.Entry.{Entry}
+use Rattle.logfmt.specs.Bounds.{LogValue}
+use Rattle.epochs.specs.Plan.{PlanValue}
+use Rattle.notes.specs.LogTable.{word_text}
+use Rattle.crash_text.specs.declared.shown.Numbering.{Numbering}
+use Rattle.choices.specs.Choices.{ranked}
+use Rattle.choices.specs.Sums.{StartsValue}
+use Rattle.why.specs.declared.cut.CutFailures.{CutFailures}
+use Rattle.why.specs.declared.group.Group.{Group}
+use Rattle.crash_page.specs.declared.pieces.Piece.TheVariants as piece
+use Rattle.crash_page.specs.Pieces.{piece_text}
+use Rattle.crash_page.specs.declared.program.ProgramFailures.{ProgramFailures}
+use Rattle.crash_page.specs.Html.{html}
+use Rattle.crash_page.specs.Entries.{rows_text}
+use Rattle.crash_page.specs.Cells.{strip_from}
+use Rattle.crash_page.specs.Groups.{cuts_text}
+
+-- images fail at a cut
+abbrev pub fails : CutFailures → Bool
+fails c = not (c.failing == 0)
+
+-- on how many images a program fails, at how many of so many cuts
+unfoldable pub bad_text : ProgramFailures → List ℕ
+bad_text f = piece_text piece.BadOpen ++ decimal f.failing ++ piece_text piece.BadCuts ++ decimal (length (filter fails f.cuts.items)) ++ piece_text piece.Of
+
+unfoldable pub verdict_text : ProgramFailures → List ℕ
+verdict_text f =
+    (if f.failing == 0 then piece_text piece.GoodOpen else bad_text f) ++ decimal (length f.cuts.items) ++ piece_text piece.GoodClose
+
+-- the row of entries and cuts, narrow where there are many entries
+unfoldable pub strip_text : List Entry → ℕ → List CutFailures → List ℕ
+strip_text es program cs = piece_text piece.StripOpen ++ word_text (nat_lt 400 (length es)) (codes "many") ++ piece_text piece.OpenEnd ++ strip_from es program 0 cs ++ piece_text piece.StripClose
+
+-- how many groups of a program are shown
+abbrev pub most_of_program : ℕ
+most_of_program = 500
+
+unfoldable pub title_text : ℕ → List ℕ
+title_text program = piece_text piece.ProgramOpen ++ decimal program ++ piece_text piece.ProgramClose
+
+-- a program: what it comes to, the log with its cuts, and what is said of the cuts at which it fails
+unfoldable pub program_text : StartsValue → ℕ → ProgramFailures → List ℕ
+program_text s program f =
+    title_text program ++ verdict_text f ++ strip_text s.plan.log.entries program f.cuts.items ++ piece_text piece.Legend ++ cuts_text s program most_of_program f.cuts.items
+
+-- programs, of which the first has that number
+abbrev pub programs_text : StartsValue → ℕ → List ProgramFailures → List ℕ
+programs_text s program [] = []
+programs_text s program (f ∷ fs) = program_text s program f ++ programs_text s (program + 1) fs
+
+unfoldable pub about_text : List ℕ → List ℕ
+about_text about = piece_text piece.AboutOpen ++ html about ++ piece_text piece.TextClose
+
+unfoldable pub list_text : List Entry → List ℕ
+list_text es = piece_text piece.ListOpen ++ rows_text es ++ piece_text piece.ListClose
+
+-- the page, with a text about the run at its head
+unfoldable pub page_text : List ℕ → StartsValue → List ProgramFailures → List ℕ
+page_text about s fs = piece_text piece.Opening ++ about_text about ++ programs_text s 0 fs ++ list_text s.plan.log.entries ++ piece_text piece.Closing
+
+-- what a page is made of belongs together: the log, its images, and what they are numbered by
+pub record IsRun (s : StartsValue) (l : LogValue) (h : PlanValue) (n : Numbering) : Type 0 where
+  pub log : s.plan.log ≡ l
+  pub history : h ≡ s.plan
+  pub cuts : s.plan.kind ≡ n.cuts
+  pub by : s.plan.by ≡ n.by
+  pub bound : s.bound ≡ n.bound
+  pub tears : s.tears ≡ n.tears
+
+-- what fails at a cut is of the images of a run
+pub record IsOfRun (s : StartsValue) (c : CutFailures) : Type 0 where
+  pub cut : c.cut ≤ length s.plan.log.entries
+  pub images : All (λ (g : Group). g.image < length (ranked s.plan s.bound s.tears)) c.groups.items
+
+abbrev pub AreOfRun : StartsValue → ProgramFailures → Type 0
+AreOfRun s f = All (IsOfRun s) f.cuts.items

@@ -1,0 +1,217 @@
+//! What is said of a cut at which images fail.
+
+ghost use Rattle.std.specs.Prelude.{◌≡◌, ◌<◌, ◌≤◌, ◌++◌, ◌-◌, All, length, take, OnOk, string_bytes};
+ghost use Rattle.std.specs.List.{flat_map};
+ghost use Rattle.choices.specs.Choices.{ranked};
+ghost use Rattle.why.specs.declared.group.Group.{Group};
+ghost use Rattle.crash_page.specs.Groups.{group_text, first_text, stand_text, bar_text, cut_open, cut_body, cut_head, rest_text, most_of_cut, shown_of, cut_shown, cut_text};
+ghost use Rattle.crash_page.specs.Page.{IsRun, IsOfRun};
+
+use crate::group::{put_choice_at, put_group};
+use crate::pieces::{Piece, put, put_number};
+use crate::strip::{put_count, put_place_name, share_of};
+use choices::Starts;
+use crash_text::Numbering;
+use epochs::By;
+use images::History;
+use logfmt::Log;
+use std::alloc::{AllocError, Global};
+use why::{CutFailures, Group};
+
+/// How many groups of a cut are shown.
+const MOST: usize = 8;
+
+/// Appends the first of the choices of a cut, and how many there are.
+#[tactic(auto, unfolding(crate::specs::Groups::first_text))]
+fn put_first(
+    out: &mut String,
+    by: By,
+    starts: &Starts<'_>,
+    groups: &[Group],
+) -> Result<(), AllocError>
+    requires by { starts.now.plan.by ≡ by }
+    requires images { All (λ (g : Group). g.image < length (ranked starts.now.plan starts.now.bound starts.now.tears)) groups.now }
+    ensures { OnOk result (string_bytes out.new ≡ string_bytes out.old ++ first_text starts.now groups.now) }
+{
+    match groups {
+        [] => Ok(()),
+        [group, ..] => {
+            put(out, Piece::FirstOpen)?;
+            put_choice_at(out, by, starts, group.image)?;
+            put(out, Piece::FirstOf)?;
+            put_number(out, groups.len() as u64)?;
+            put(out, Piece::FirstClose)
+        }
+    }
+}
+
+/// Appends where a cut stands.
+#[tactic(auto, unfolding(crate::specs::Groups::stand_text))]
+fn put_stand(out: &mut String, starts: &Starts<'_>, cut: &CutFailures) -> Result<(), AllocError>
+    requires { cut.now.cut ≤ length starts.now.plan.log.entries }
+    ensures { OnOk result (string_bytes out.new ≡ string_bytes out.old ++ stand_text starts.now cut.now) }
+{
+    let plan = starts.plan();
+    put(out, Piece::CutNumber)?;
+    put_number(out, u64::from(cut.cut))?;
+    put(out, Piece::CutEpoch)?;
+    put_number(out, u64::from(plan.epoch(cut.cut)))?;
+    put(out, Piece::CutMarks)?;
+    put_number(out, u64::from(plan.marks(cut.cut)))?;
+    put(out, Piece::CutMarksEnd)
+}
+
+/// Appends how many images of a cut fail, in words and as a bar.
+#[tactic(auto, unfolding(crate::specs::Groups::bar_text))]
+fn put_bar(out: &mut String, cut: &CutFailures) -> Result<(), AllocError>
+    ensures { OnOk result (string_bytes out.new ≡ string_bytes out.old ++ bar_text cut.now) }
+{
+    put(out, Piece::BarOpen)?;
+    put_count(out, cut)?;
+    put(out, Piece::BarMost)?;
+    put_number(out, cut.images)?;
+    put(out, Piece::BarValue)?;
+    put_number(out, cut.failing as u64)?;
+    put(out, Piece::BarClose)
+}
+
+/// Appends what begins a cut.
+#[tactic(auto, unfolding(crate::specs::Groups::cut_open))]
+fn put_open(out: &mut String, cut: &CutFailures) -> Result<(), AllocError>
+    ensures { OnOk result (string_bytes out.new ≡ string_bytes out.old ++ cut_open cut.now) }
+{
+    let share = share_of(cut.images, cut.failing as u64);
+    put(out, Piece::CutOpen)?;
+    put_number(out, u64::from(share))?;
+    put(out, Piece::CutLine)
+}
+
+/// Appends what stands between the line of a cut and its groups.
+#[tactic(auto, unfolding(crate::specs::Groups::cut_body))]
+fn put_body(out: &mut String, program: usize, cut: &CutFailures) -> Result<(), AllocError>
+    ensures { OnOk result (string_bytes out.new ≡ string_bytes out.old ++ cut_body program cut.now) }
+{
+    put(out, Piece::CutBody)?;
+    put_place_name(out, program, cut.cut)?;
+    put(out, Piece::OpenEnd)
+}
+
+/// Appends the line of a cut.
+#[tactic(auto, unfolding(crate::specs::Groups::cut_head))]
+fn put_head(
+    out: &mut String,
+    by: By,
+    starts: &Starts<'_>,
+    program: usize,
+    cut: &CutFailures,
+) -> Result<(), AllocError>
+    requires by { starts.now.plan.by ≡ by }
+    requires cut { IsOfRun starts.now cut.now }
+    ensures { OnOk result (string_bytes out.new ≡ string_bytes out.old ++ cut_head starts.now program cut.now) }
+{
+    put_open(out, cut)?;
+    put_stand(out, starts, cut)?;
+    put_bar(out, cut)?;
+    put_first(out, by, starts, cut.groups.as_slice())?;
+    put_body(out, program, cut)
+}
+
+/// Appends how many groups aren't shown.
+#[tactic(auto, unfolding(crate::specs::Groups::rest_text))]
+fn put_rest(out: &mut String, count: usize) -> Result<(), AllocError>
+    ensures { OnOk result (string_bytes out.new ≡ string_bytes out.old ++ rest_text count) }
+{
+    if count == 0 {
+        return Ok(());
+    }
+    put(out, Piece::RestOpen)?;
+    put_number(out, count as u64)?;
+    put(out, Piece::RestClose)
+}
+
+/// Appends groups.
+fn put_groups(
+    alloc: Global,
+    out: &mut String,
+    log: &Log,
+    numbering: Numbering,
+    starts: &Starts<'_>,
+    history: &History<'_>,
+    groups: &[Group],
+) -> Result<(), AllocError>
+    requires run { IsRun starts.now log.now history.now numbering }
+    requires images { All (λ (g : Group). g.image < length (ranked starts.now.plan starts.now.bound starts.now.tears)) groups.now }
+    ensures { OnOk result (string_bytes out.new ≡ string_bytes out.old ++ flat_map (group_text starts.now) groups.now) }
+{
+    for group in groups {
+        put_group(alloc, out, log, numbering, starts, history, *group)?;
+    }
+    Ok(())
+}
+
+/// How many groups of a cut are shown, where so many may still be.
+pub(crate) fn shown_of(left: usize, cut: &CutFailures) -> usize
+    ensures value { result ≡ shown_of left cut.now }
+    ensures left { result ≤ left }
+    ensures there { result ≤ length cut.now.groups.items }
+{
+    cut.groups.len().min(MOST).min(left)
+}
+
+/// Appends a cut, with so many of its groups.
+#[tactic(auto, unfolding(crate::specs::Groups::cut_shown))]
+fn put_shown_cut(
+    alloc: Global,
+    out: &mut String,
+    log: &Log,
+    numbering: Numbering,
+    starts: &Starts<'_>,
+    history: &History<'_>,
+    program: usize,
+    shown: usize,
+    cut: &CutFailures,
+) -> Result<(), AllocError>
+    requires run { IsRun starts.now log.now history.now numbering }
+    requires shown { shown ≤ length cut.now.groups.items }
+    requires cut { IsOfRun starts.now cut.now }
+    ensures { OnOk result (string_bytes out.new ≡ string_bytes out.old ++ cut_shown starts.now program shown cut.now) }
+{
+    let groups = cut.groups.as_slice();
+    put_head(out, numbering.by, starts, program, cut)?;
+    put_groups(
+        alloc,
+        out,
+        log,
+        numbering,
+        starts,
+        history,
+        &groups[..shown],
+    )?;
+    put_rest(out, groups.len() - shown)?;
+    put(out, Piece::CutClose)
+}
+
+/// Appends a cut with so many of its groups, where images fail.
+pub(crate) fn put_cut(
+    alloc: Global,
+    out: &mut String,
+    log: &Log,
+    numbering: Numbering,
+    starts: &Starts<'_>,
+    history: &History<'_>,
+    program: usize,
+    shown: usize,
+    cut: &CutFailures,
+) -> Result<(), AllocError>
+    requires run { IsRun starts.now log.now history.now numbering }
+    requires shown { shown ≤ length cut.now.groups.items }
+    requires cut { IsOfRun starts.now cut.now }
+    ensures { OnOk result (string_bytes out.new ≡ string_bytes out.old ++ cut_text starts.now program shown cut.now) }
+{
+    if cut.failing == 0 {
+        return Ok(());
+    }
+    put_shown_cut(
+        alloc, out, log, numbering, starts, history, program, shown, cut,
+    )
+}

@@ -1,0 +1,154 @@
+//! A smallest failing choice of a cut, with its image in words.
+
+ghost use Rattle.std.specs.Prelude.{◌≡◌, ◌<◌, ◌++◌, [], length, IfOk, OnOk, string_bytes};
+ghost use Rattle.choices.specs.Choices.{ranked};
+ghost use Rattle.images.specs.Views.{IsMember};
+ghost use Rattle.crash_page.specs.Groups.{image_text, block_text, choice_at, group_choice, group_size, group_text};
+ghost use Rattle.crash_page.specs.Page.{IsRun};
+
+use crate::html::put_html;
+use crate::pieces::{Piece, put, put_number};
+use choice_text::put_departures;
+use choices::{Choice, Starts, choice_named};
+use crash_text::{Numbering, put_shown};
+use epochs::By;
+use images::{History, images_are_devices};
+use logfmt::Log;
+use std::alloc::{AllocError, Global};
+use why::Group;
+
+/// How long a text is that stands on the page.
+const LONGEST: usize = 16384;
+
+/// The choice at the same cut where nothing departs.
+#[tactic(auto, using(crate::proofs::Departing::nothing_there, crate::proofs::Departing::no_names, crate::proofs::Departing::named_member))]
+fn nothing_departs(starts: &Starts<'_>, choice: &Choice) -> Choice
+    requires { IsMember starts.now.plan choice.now }
+    ensures member { IsMember starts.now.plan result }
+    ensures cut { result.cut ≡ choice.now.cut }
+    ensures none { result.departures ≡ [] }
+{
+    match choice_named(
+        starts.plan(),
+        starts.bound(),
+        starts.tears(),
+        u64::from(choice.cut()),
+        &[],
+    ) {
+        Some(whole) => whole,
+        None => unreachable!(),
+    }
+}
+
+/// The image of a choice in words.
+#[tactic(auto, using(crate::proofs::Departing::member_cut))]
+fn image_text(
+    alloc: Global,
+    log: &Log,
+    numbering: Numbering,
+    starts: &Starts<'_>,
+    history: &History<'_>,
+    choice: &Choice,
+) -> Result<String, AllocError>
+    requires run { IsRun starts.now log.now history.now numbering }
+    requires member { IsMember starts.now.plan choice.now }
+    ensures { IfOk result (λ text. string_bytes text ≡ image_text starts.now choice.now) }
+{
+    // A law of crash images, which does nothing: they are devices of the log's size.
+    images_are_devices();
+    let _sectors = log.sectors();
+    let whole = history.view(alloc, &nothing_departs(starts, choice))?;
+    let image = history.view(alloc, choice)?;
+    let mut text = String::new(alloc);
+    put_shown(
+        &mut text,
+        starts.plan(),
+        log,
+        numbering,
+        choice,
+        &whole,
+        &image,
+    )?;
+    Ok(text)
+}
+
+/// Appends a text, or how long it is where it is too long.
+#[tactic(auto, unfolding(crate::specs::Groups::block_text))]
+fn put_block(out: &mut String, text: &str) -> Result<(), AllocError>
+    ensures { OnOk result (string_bytes out.new ≡ string_bytes out.old ++ block_text text.now) }
+{
+    if text.len() <= LONGEST {
+        put(out, Piece::TextOpen)?;
+        put_html(out, text.as_bytes())?;
+        return put(out, Piece::TextClose);
+    }
+    put(out, Piece::LongOpen)?;
+    put_number(out, text.len() as u64)?;
+    put(out, Piece::LongClose)
+}
+
+/// Appends the choice of an image.
+pub(crate) fn put_choice_at(
+    out: &mut String,
+    by: By,
+    starts: &Starts<'_>,
+    image: u64,
+) -> Result<(), AllocError>
+    requires by { starts.now.plan.by ≡ by }
+    requires image { image < length (ranked starts.now.plan starts.now.bound starts.now.tears) }
+    ensures { OnOk result (string_bytes out.new ≡ string_bytes out.old ++ choice_at starts.now image) }
+{
+    let choice = starts.nth(image);
+    put_departures(out, by, choice.departures())
+}
+
+/// Appends the choice of a group.
+#[tactic(auto, unfolding(crate::specs::Groups::group_choice))]
+fn put_group_choice(
+    out: &mut String,
+    by: By,
+    starts: &Starts<'_>,
+    choice: &Choice,
+) -> Result<(), AllocError>
+    requires by { starts.now.plan.by ≡ by }
+    ensures { OnOk result (string_bytes out.new ≡ string_bytes out.old ++ group_choice starts.now choice.now) }
+{
+    let _starts = starts;
+    put(out, Piece::GroupOpen)?;
+    put_departures(out, by, choice.departures())
+}
+
+/// Appends the image of a group, and how many failing images stand in it.
+#[tactic(auto, unfolding(crate::specs::Groups::group_size))]
+fn put_group_size(out: &mut String, group: Group) -> Result<(), AllocError>
+    ensures { OnOk result (string_bytes out.new ≡ string_bytes out.old ++ group_size group) }
+{
+    put(out, Piece::GroupImage)?;
+    put_number(out, group.image)?;
+    put(out, Piece::GroupSize)?;
+    put_number(out, group.failing as u64)?;
+    put(out, Piece::GroupLineEnd)
+}
+
+/// Appends a group.
+#[tactic(auto, using(crate::proofs::Departing::member_of), unfolding(crate::specs::Groups::chosen_text))]
+pub(crate) fn put_group(
+    alloc: Global,
+    out: &mut String,
+    log: &Log,
+    numbering: Numbering,
+    starts: &Starts<'_>,
+    history: &History<'_>,
+    group: Group,
+) -> Result<(), AllocError>
+    requires run { IsRun starts.now log.now history.now numbering }
+    requires image { group.image < length (ranked starts.now.plan starts.now.bound starts.now.tears) }
+    ensures { OnOk result (string_bytes out.new ≡ string_bytes out.old ++ group_text starts.now group) }
+{
+    let choice = starts.nth(group.image);
+    let text = image_text(alloc, log, numbering, starts, history, &choice)?;
+    put_group_choice(out, numbering.by, starts, &choice)?;
+    put_group_size(out, group)?;
+    put_block(out, text.as_str())?;
+    put(out, Piece::GroupClose)
+}

@@ -1,0 +1,39 @@
+//! crash_page, a run as a page for a browser: the log as a row of entries with the cuts between them, and of each cut at which
+//! images fail its smallest failing choices, each with its image in words (docs/REPORT.md, The page of `page`).
+//!
+//! # Place
+//!
+//! On `why`, whose groups it shows, on `crash_text` for the text of an image, on `images`, which forms the two images that this
+//! text compares, and on `notes` for the lines of entries. It judges nothing: `commands` hands it what fails.
+//!
+//! | Call | Appends |
+//! |---|---|
+//! | `put_page(alloc, out, about, log, .., programs)` | the page, of programs that fail on so many images at these cuts |
+//!
+//! # What is proved
+//!
+//! `put_page` appends exactly the text of its definition (`page_text` in `specs/Page.antt`) over the log, the plan and what fails
+//! at each cut. The parts that are the same on each page are constants of `dress`, of which nothing is claimed. Text that comes
+//! from a log stands on the page by `html` alone: no byte of it is `<`, `>`, `"` or `'` (`text_is_no_markup`). What `put_page` asks of
+//! the failures that it is given holds of what `why::failures` answers (`failures_are_of_run`).
+//!
+//! # How it is written
+//!
+//! Each call appends to the page, piece after piece, as its definition is composed. `entry` has the cells and lines of entries,
+//! `strip` the cells of cuts between them, `cut` and `group` what stands behind a click on a cut.
+#![tactic(auto)]
+
+mod cut;
+mod dress;
+mod entry;
+mod group;
+mod html;
+mod laws;
+mod page;
+mod pieces;
+mod program;
+mod strip;
+
+pub use laws::{failures_are_of_run, text_is_no_markup};
+pub use page::put_page;
+pub use program::ProgramFailures;

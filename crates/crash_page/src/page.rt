@@ -1,0 +1,90 @@
+//! A page.
+
+ghost use Rattle.std.specs.Prelude.{◌≡◌, ◌++◌, All, OnOk, string_bytes};
+ghost use Rattle.crash_page.specs.Html.{html};
+ghost use Rattle.crash_page.specs.Page.{programs_text, about_text, list_text, page_text, IsRun, AreOfRun};
+
+use crate::entry::put_rows;
+use crate::html::put_html;
+use crate::pieces::{Piece, put};
+use crate::program::{ProgramFailures, put_program};
+use choices::Starts;
+use crash_text::Numbering;
+use epochs::Plan;
+use images::History;
+use logfmt::Log;
+use std::alloc::{AllocError, Global};
+
+/// Appends the text about the run.
+#[tactic(auto, unfolding(crate::specs::Page::about_text))]
+fn put_about(out: &mut String, about: &str) -> Result<(), AllocError>
+    ensures { OnOk result (string_bytes out.new ≡ string_bytes out.old ++ about_text about.now) }
+{
+    put(out, Piece::AboutOpen)?;
+    put_html(out, about.as_bytes())?;
+    put(out, Piece::TextClose)
+}
+
+/// Appends the list of entries.
+#[tactic(auto, unfolding(crate::specs::Page::list_text))]
+fn put_list(alloc: Global, out: &mut String, plan: &Plan<'_>, log: &Log) -> Result<(), AllocError>
+    requires log { plan.now.log ≡ log.now }
+    ensures { OnOk result (string_bytes out.new ≡ string_bytes out.old ++ list_text log.now.entries) }
+{
+    put(out, Piece::ListOpen)?;
+    put_rows(alloc, out, plan, log)?;
+    put(out, Piece::ListClose)
+}
+
+/// Appends programs, by their numbers from 0 on.
+#[tactic(auto, using(crate::proofs::Rows::programs_more, crate::proofs::Rows::programs_end))]
+fn put_programs(
+    alloc: Global,
+    out: &mut String,
+    log: &Log,
+    numbering: Numbering,
+    starts: &Starts<'_>,
+    history: &History<'_>,
+    programs: &[ProgramFailures],
+) -> Result<(), AllocError>
+    requires run { IsRun starts.now log.now history.now numbering }
+    requires programs { All (AreOfRun starts.now) programs.now }
+    ensures { OnOk result (string_bytes out.new ≡ string_bytes out.old ++ programs_text starts.now 0 programs.now) }
+{
+    for (program, failures) in programs.iter().enumerate() {
+        put_program(
+            alloc, out, log, numbering, starts, history, program, failures,
+        )?;
+    }
+    Ok(())
+}
+
+/// Appends the page of a run: a text about it, what fails of each program, and the entries of the log.
+///
+/// It takes time and memory for each entry and each wanted cut of each program, and forms two images for each group that it
+/// shows.
+///
+/// # Errors
+///
+/// Memory was refused.
+#[tactic(auto, unfolding(crate::specs::Page::page_text))]
+pub fn put_page(
+    alloc: Global,
+    out: &mut String,
+    about: &str,
+    log: &Log,
+    numbering: Numbering,
+    starts: &Starts<'_>,
+    history: &History<'_>,
+    programs: &[ProgramFailures],
+) -> Result<(), AllocError>
+    requires run { IsRun starts.now log.now history.now numbering }
+    requires programs { All (AreOfRun starts.now) programs.now }
+    ensures { OnOk result (string_bytes out.new ≡ string_bytes out.old ++ page_text about.now starts.now programs.now) }
+{
+    put(out, Piece::Opening)?;
+    put_about(out, about)?;
+    put_programs(alloc, out, log, numbering, starts, history, programs)?;
+    put_list(alloc, out, starts.plan(), log)?;
+    put(out, Piece::Closing)
+}

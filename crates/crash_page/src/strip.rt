@@ -1,0 +1,155 @@
+//! The log as a row of entries, with a cell for each wanted cut.
+
+ghost use Rattle.std.specs.Prelude.{◌≡◌, ◌≤◌, ◌++◌, All, length, OnOk, string_bytes};
+ghost use Rattle.crash_page.specs.Cells.{share_of, place_name, count_text, passing_text, failing_class, failing_link, failing_title, failing_text, cut_cell, strip_from};
+ghost use Rattle.crash_page.specs.Page.{IsOfRun};
+
+use crate::entry::{put_cells, put_shade};
+use crate::pieces::{Piece, put, put_number};
+use choices::Starts;
+use epochs::Plan;
+use logfmt::Log;
+use std::alloc::{AllocError, Global};
+use why::CutFailures;
+
+/// Which share of the images of a cut fails: 0 for none, then 1 to 3 for at most a hundredth, a tenth and half of them, 4 for
+/// more, and 5 for all.
+pub(crate) fn share_of(images: u64, failing: u64) -> u8
+    ensures { result ≡ share_of images failing }
+{
+    if failing == 0 {
+        0
+    } else if images <= failing {
+        5
+    } else if failing <= images / 100 {
+        1
+    } else if failing <= images / 10 {
+        2
+    } else if failing <= images / 2 {
+        3
+    } else {
+        4
+    }
+}
+
+/// Appends the name of a cut's place on the page.
+#[tactic(auto, unfolding(crate::specs::Cells::place_name))]
+pub(crate) fn put_place_name(out: &mut String, program: usize, cut: u32) -> Result<(), AllocError>
+    ensures { OnOk result (string_bytes out.new ≡ string_bytes out.old ++ place_name program cut) }
+{
+    write!(out, "p{program}c{cut}")
+}
+
+/// Appends how many images of a cut fail.
+#[tactic(auto, unfolding(crate::specs::Cells::count_text))]
+pub(crate) fn put_count(out: &mut String, cut: &CutFailures) -> Result<(), AllocError>
+    ensures { OnOk result (string_bytes out.new ≡ string_bytes out.old ++ count_text cut.now) }
+{
+    put_number(out, cut.failing as u64)?;
+    put(out, Piece::Of)?;
+    put_number(out, cut.images)?;
+    put(out, Piece::ImagesFail)
+}
+
+/// Appends the cell of a cut of that epoch at which no image fails.
+#[tactic(auto, unfolding(crate::specs::Cells::passing_text))]
+fn put_passing(out: &mut String, epoch: u32) -> Result<(), AllocError>
+    ensures { OnOk result (string_bytes out.new ≡ string_bytes out.old ++ passing_text epoch) }
+{
+    put(out, Piece::PassingOpen)?;
+    put_shade(out, epoch)?;
+    put(out, Piece::PassingClose)
+}
+
+/// Appends the classes of the cell of a cut at which images fail.
+#[tactic(auto, unfolding(crate::specs::Cells::failing_class))]
+fn put_failing_class(out: &mut String, epoch: u32, cut: &CutFailures) -> Result<(), AllocError>
+    ensures { OnOk result (string_bytes out.new ≡ string_bytes out.old ++ failing_class epoch cut.now) }
+{
+    let share = share_of(cut.images, cut.failing as u64);
+    put(out, Piece::FailingOpen)?;
+    put_number(out, u64::from(share))?;
+    put_shade(out, epoch)
+}
+
+/// Appends to where the cell of a cut leads.
+#[tactic(auto, unfolding(crate::specs::Cells::failing_link))]
+fn put_failing_link(out: &mut String, program: usize, cut: &CutFailures) -> Result<(), AllocError>
+    ensures { OnOk result (string_bytes out.new ≡ string_bytes out.old ++ failing_link program cut.now) }
+{
+    put(out, Piece::FailingLink)?;
+    put_place_name(out, program, cut.cut)
+}
+
+/// Appends what stands beside the pointer at the cell of a cut.
+#[tactic(auto, unfolding(crate::specs::Cells::failing_title))]
+fn put_failing_title(out: &mut String, cut: &CutFailures) -> Result<(), AllocError>
+    ensures { OnOk result (string_bytes out.new ≡ string_bytes out.old ++ failing_title cut.now) }
+{
+    put(out, Piece::FailingTitle)?;
+    put_number(out, u64::from(cut.cut))?;
+    out.push_str(": ")?;
+    put_count(out, cut)
+}
+
+/// Appends the cell of a cut of that epoch at which images fail.
+#[tactic(auto, unfolding(crate::specs::Cells::failing_text))]
+fn put_failing(
+    out: &mut String,
+    program: usize,
+    epoch: u32,
+    cut: &CutFailures,
+) -> Result<(), AllocError>
+    ensures { OnOk result (string_bytes out.new ≡ string_bytes out.old ++ failing_text program epoch cut.now) }
+{
+    put_failing_class(out, epoch, cut)?;
+    put_failing_link(out, program, cut)?;
+    put_failing_title(out, cut)?;
+    put(out, Piece::FailingClose)
+}
+
+/// Appends the cell of a cut.
+fn put_cut_cell(
+    out: &mut String,
+    plan: &Plan<'_>,
+    log: &Log,
+    program: usize,
+    cut: &CutFailures,
+) -> Result<(), AllocError>
+    requires log { plan.now.log ≡ log.now }
+    requires cut { cut.now.cut ≤ length log.now.entries }
+    ensures { OnOk result (string_bytes out.new ≡ string_bytes out.old ++ cut_cell log.now.entries program cut.now) }
+{
+    let _log = log;
+    let epoch = plan.epoch(cut.cut);
+    if cut.failing == 0 {
+        put_passing(out, epoch)
+    } else {
+        put_failing(out, program, epoch, cut)
+    }
+}
+
+/// Appends the entries of a log, and each of the cuts before the entry of its number.
+#[tactic(auto, using(crate::proofs::Rows::cut_within, crate::proofs::Rows::strip_more, crate::proofs::Rows::strip_end))]
+pub(crate) fn put_strip(
+    alloc: Global,
+    out: &mut String,
+    starts: &Starts<'_>,
+    log: &Log,
+    program: usize,
+    cuts: &[CutFailures],
+) -> Result<(), AllocError>
+    requires log { starts.now.plan.log ≡ log.now }
+    requires cuts { All (IsOfRun starts.now) cuts.now }
+    ensures { OnOk result (string_bytes out.new ≡ string_bytes out.old ++ strip_from log.now.entries program 0 cuts.now) }
+{
+    let plan = starts.plan();
+    let mut from = 0;
+    for cut in cuts {
+        put_cells(alloc, out, plan, log, from, cut.cut)?;
+        put_cut_cell(out, plan, log, program, cut)?;
+        from = cut.cut;
+    }
+    let end = log.entries().len() as u32;
+    put_cells(alloc, out, plan, log, from, end)
+}

@@ -1,0 +1,14 @@
+use Rattle.std.proofs.Common.{rules, ◌≡◌, length}
+use Rattle.verifier.specs.Rounds.{first_table}
+use Rattle.verifier.proofs.Ascending.{first_climbed, more_climbed}
+use Rattle.verifier.proofs.climbing.climb.Goals as goal
+
+pub loop-step-init : goal.loop-step-init
+loop-step-init c =
+    let table : c.in_ok-table.table ≡ first_table (length c.args.program.now) = search rules in
+    first_climbed c.args.program.now c.args.sectors c.in_ok-table.table table
+
+pub returns-then-not-branch-clause-below : goal.returns-then-not-branch-clause-below
+returns-then-not-branch-clause-below c =
+    let more = more_climbed c.args.program.now c.args.sectors c.loop-step.table c.make_step.new.table c.loop-step.invariant c.in_ok-make_step.ensures in
+    more.below

@@ -1,0 +1,35 @@
+-- What the text says of a group, and of which images it speaks.
+use Rattle.std.proofs.Common.{ℕ, ◌≡◌, ◌+◌, ◌<◌, List, [], length, map, slice_get, Some, ap, sym, ◌∙◌, arith}
+use Rattle.std.specs.List.{range_with_len}
+use Rattle.std.specs.Option.{option_map_or}
+use Rattle.std.proofs.lemmas.Option.{slice_get-get_or}
+use Rattle.epochs.specs.declared.part.By.{By}
+use Rattle.choices.specs.Choices.{ChoiceValue, ranked}
+use Rattle.choices.specs.Sums.{StartsValue}
+use Rattle.choice_text.specs.Text.{departures_text}
+use Rattle.why.specs.declared.group.Group.{Group}
+use Rattle.why.specs.declared.cut.CutFailures.{CutFailures}
+use Rattle.why.specs.Groups.{group_at}
+use Rattle.why.specs.Failures.{AreImages, first_at, is_between, failing_at}
+use Rattle.why.specs.Text.{choice_at, AreAllNumbered}
+use Rattle.why.proofs.Between.{left_in}
+use Rattle.why.proofs.Collected.{AreFirstCuts}
+use Rattle.why.proofs.Standing.{left_of_groups, of_range}
+
+-- the choice of an image that there is
+pub choice_shown : (way : By) (s : StartsValue) (image : ℕ) (c : ChoiceValue) → slice_get (ranked s.plan s.bound s.tears) image ≡ Some c
+    → choice_at way s image ≡ departures_text way c.departures
+unfolding choice_at
+choice_shown way s image c at = ap (λ o. option_map_or (λ (d : ChoiceValue). departures_text way d.departures) o []) at
+
+-- the images of the groups are among those that fail
+pub first_numbered : (s : StartsValue) (failing : List ℕ) (count : ℕ) (cs : List CutFailures) → AreImages s failing → AreFirstCuts s failing count cs → AreAllNumbered s cs
+first_numbered s failing count cs are of_cuts place c there i g at =
+    let is = (of_cuts.each place c there).grouped in
+    let images : List ℕ = failing_at s failing place in
+    let left = left_of_groups (map (group_at images is.places) (range_with_len 0 (length images))) i g (ap (λ gs. slice_get gs i) (sym is.listed) ∙ at) in
+    let made = of_range (group_at images is.places) 0 (length images) left.0 g left.1 in
+    let within : made.0 < length images = let lt = made.1 in omega (arith, lt) in
+    let image = slice_get-get_or images made.0 0 within ∙ ap (λ n. Some n) (sym (ap (λ (h : Group). h.image) made.2)) in
+    let own = left_in (is_between (first_at s place) (first_at s (place + 1))) failing made.0 g.image image in
+    are.within own.0 g.image own.1
