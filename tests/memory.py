@@ -2,6 +2,9 @@
 """Refuses each allocation of the built programs in turn, and looks at what they make of that; and how much many lines take.
 
     python3 tests/memory.py [PROGRAM [CALLS]]
+    python3 tests/memory.py --counts [PROGRAM [CALLS]]
+
+The second form refuses nothing, and prints how many allocations each row makes, as the lines of ROWS and CALLS.
 
 PROGRAM is as in run.py, CALLS crates/refused_calls/out/refused_calls in the same way. A C compiler (`cc`, `gcc` or `clang`) builds `refuse.c` beside this script, which is loaded before
 the program and refuses its Nth call of `malloc`, `calloc` or `realloc`. Each row below is run with N = 1, 2, .. until a run
@@ -21,6 +24,7 @@ line is known. What is printed is as in run.py: a line for each row that failed,
 `N passed, M failed`.
 """
 import filecmp
+import json
 import os
 import re
 import shutil
@@ -40,56 +44,56 @@ WANT_OF_MEMORY = re.compile(rb"refused (11|26|35|60|72) at 0( of program [0-7])?
 
 ROWS = {
     "no word at all: the stored run": 46,
-    "empty_log_bad": 231,
-    "empty_log_bad, first": 235,
-    "torn_sector": 273,
-    "torn_sector, first": 277,
-    "torn_sector, within 9 steps": 239,
-    "pairs_of_drops": 156,
-    "pairs_of_drops, each choice": 322,
-    "sixteen_codes": 1510,
-    "sixteen_codes, first": 1459,
-    "eight programs": 487,
+    "empty_log_bad": 259,
+    "empty_log_bad, first": 263,
+    "torn_sector": 283,
+    "torn_sector, first": 287,
+    "torn_sector, within 9 steps": 269,
+    "pairs_of_drops": 186,
+    "pairs_of_drops, each choice": 350,
+    "sixteen_codes": 360,
+    "sixteen_codes, first": 309,
+    "eight programs": 501,
     "torn_sector, 2 workers, cache 16": None,
     "marks, 2 workers, cache 16": None,
     "sixteen_codes, 2 workers, cache 16": None,
     "sixteen_codes, 4 workers, with progress": None,
-    "two_epochs": 152,
-    "a mark after a write": 144,
-    "two_epochs, image 20": 150,
-    "overwritten_sector, bound 1, image 34": 157,
-    "two_slots, wrong, survey": 176,
-    "journal, image 17": 168,
-    "journal/wrong, image 17 in words": 0,
-    "pages/wrong, --cut 10 --choice 8:drop in words": 0,
-    "image: a tear without --tears": 0,
-    "why: two_slots/wrong": 0,
-    "why: journal/wrong": 0,
+    "two_epochs": 182,
+    "a mark after a write": 174,
+    "two_epochs, image 20": 180,
+    "overwritten_sector, bound 1, image 34": 187,
+    "two_slots, wrong, survey": 206,
+    "journal, image 17": 198,
+    "journal/wrong, image 17 in words": 211,
+    "pages/wrong, --cut 10 --choice 8:drop in words": 250,
+    "image: a tear without --tears": 197,
+    "why: two_slots/wrong": 422,
+    "why: journal/wrong": 344,
     "why: journal, wrong, two lost or torn, by 4 workers": None,
-    "asm report_codes, with labels": 120,
-    "asm masked_index": 122,
-    "two_slots/checker, assembled": 134,
-    "text: 'ja x\\nlddw r0, 0\\nx:\\nexit'": 109,
-    "list": 106,
-    "list masked_index": 115,
-    "asm and list: every instruction in one program": 127,
-    "verify first_byte": 154,
-    "verify byte_64": 154,
-    "verify ends_agree": 168,
-    "verify marks_passed": 140,
-    "verify report_codes": 1328,
-    "verify sum_words": 378,
-    "verify nested_loops": 168,
-    "verify masked_index": 204,
-    "verify two_slots/checker_c": 4706,
-    "verify journal/checker": 342,
-    "verify checkers/type_counts": 5128,
-    "verify checkers/journal_scan": 740,
+    "asm report_codes, with labels": 150,
+    "asm masked_index": 152,
+    "two_slots/checker, assembled": 164,
+    "text: 'ja x\\nlddw r0, 0\\nx:\\nexit'": 139,
+    "list": 136,
+    "list masked_index": 145,
+    "asm and list: every instruction in one program": 157,
+    "verify first_byte": 174,
+    "verify byte_64": 174,
+    "verify ends_agree": 178,
+    "verify marks_passed": 168,
+    "verify report_codes": 178,
+    "verify sum_words": 182,
+    "verify nested_loops": 178,
+    "verify masked_index": 182,
+    "verify two_slots/checker_c": 186,
+    "verify journal/checker": 186,
+    "verify checkers/type_counts": 186,
+    "verify checkers/journal_scan": 186,
 }
 
 
 # How many allocations the calls by themselves make.
-CALLS = 813
+CALLS = 577
 
 # Runs with some 600,000 lines and more. Of n writes in one epoch, of which up to three are lost, there are as many images as
 # ways to pick them, over all cuts.
@@ -222,11 +226,33 @@ def swept_runs(run, wanted, is_right, is_answer):
     return found
 
 
+def count(program, library, row, assembler):
+    """How many allocations a row makes, or what is wrong with its answer."""
+    with tempfile.TemporaryDirectory() as folder:
+        put_files(row, folder, assembler)
+        done, asked = run_refusing(program, library, ["crashbpf", *row.words.split()], folder, 0)
+        return asked if is_right(done, row) else f"not right: {shortened(done.stderr)}"
+
+
+def print_counts(program, calls, library, rows, assembler):
+    """Prints the lines of ROWS and CALLS, as they are to be."""
+    for name, wanted in ROWS.items():
+        asked = None if wanted is None else count(program, library, rows[name], assembler)
+        print(f"    {json.dumps(name)}: {asked},")
+    with tempfile.TemporaryDirectory() as folder:
+        print(f"CALLS = {run_refusing(calls, library, ['refused_calls'], folder, 0)[1]}")
+
+
+def put_files(row, folder, assembler):
+    """The files of a row, in the folder it is run in."""
+    for name, content in row.files.items():
+        put(folder, name, content, assembler)
+
+
 def swept(program, library, row, wanted, assembler):
     """What went wrong with a row."""
     with tempfile.TemporaryDirectory() as folder:
-        for name, content in row.files.items():
-            put(folder, name, content, assembler)
+        put_files(row, folder, assembler)
         return swept_runs(
             lambda number: run_refusing(program, library, ["crashbpf", *row.words.split()], folder, number),
             wanted,
@@ -255,6 +281,8 @@ def built_program(words, place, name):
 
 
 def main(words):
+    only_counts = words[:1] == ["--counts"]
+    words = words[only_counts:]
     program = built_program(words, 0, "crashbpf")
     calls = built_program(words, 1, "refused_calls")
     rows = {row.name: row for row in all_rows()}
@@ -264,6 +292,9 @@ def main(words):
     assembler = Assembler(program)
     with tempfile.TemporaryDirectory() as folder, ThreadPoolExecutor(os.cpu_count()) as pool:
         library = built(folder)
+        if only_counts:
+            print_counts(program, calls, library, rows, assembler)
+            return 0
         by_themselves = pool.submit(swept_calls, calls, library)
         results = list(pool.map(lambda name: swept(program, library, rows[name], ROWS[name], assembler), ROWS))
         large = list(pool.map(lambda name: overfull(program, name, assembler), LARGE))
