@@ -233,6 +233,20 @@ def cut_causes(run, cut, failing):
     return text
 
 
+def explaining_pairs(run, failing):
+    """The lines of the pairs of entries of which the earlier one didn't arrive whole and the later one did: the first 16, by how
+    many of the failing images this is so, then by their entries."""
+    count = {}
+    for image in failing:
+        departed = {part.entry for part, _fate in image.departures}
+        for earlier in departed:
+            for later in range(earlier + 1, image.cut):
+                if run.entries[later].count and later not in departed:
+                    count[earlier, later] = count.get((earlier, later), 0) + 1
+    first = sorted(count.items(), key=lambda it: (-it[1], it[0]))[:16]
+    return "".join(f"pair {earlier} {later} failing {number}\n" for (earlier, later), number in first)
+
+
 def causes(run, checkers):
     """What `why` prints."""
     images = list(run.images())
@@ -242,6 +256,7 @@ def causes(run, checkers):
         text += f"program {number} failing {len(own)}\n"
         for cut in sorted({it.cut for it in own}):
             text += cut_causes(run, cut, [it for it in own if it.cut == cut])
+        text += explaining_pairs(run, own)
     failed = {it.number for own in failing for it in own}
     return text + f"images {len(images)} failing {len(failed)} lines {sum(len(own) for own in failing)}\n"
 

@@ -13,34 +13,37 @@ use Rattle.interp.specs.Checker.{CheckerValue}
 use Rattle.lines.specs.declared.marks.Mark.{Mark}
 use Rattle.lines.specs.Line.{FailingLine}
 use Rattle.lines.specs.Marks.{mark_of, marks_of}
+use Rattle.pairs.specs.declared.pair.Pair.{Pair}
+use Rattle.pairs.specs.Pairs.{ArePairs}
 use Rattle.report.specs.Report.{HeadValue, options_text, totals_line}
 use Rattle.why.specs.declared.cut.CutFailures.{CutFailures}
 use Rattle.why.specs.Failures.{AreInOrder, AreImages, AreCuts}
+use Rattle.why.specs.Pairs.{is_write, failure_at}
+use Rattle.why.specs.PairsText.{pair_line}
 use Rattle.why.specs.Text.{program_text}
 use Rattle.workers.specs.Failing.{Subject, failing_lines}
 use Rattle.workers.specs.Laws.{Precedes, LinesAreSet, ListsFailing}
 use Rattle.commands.specs.declared.settings.Settings.{Settings}
 use Rattle.commands.specs.Source.{plan_of}
 use Rattle.commands.specs.Explore.{subject_of, head_of}
-use Rattle.commands.specs.Why.{images_failing, starts_of, AreCauses, causes_from, why_text, TellsCauses, TellsOfLines, with_first}
-use Rattle.commands.specs.Marked.{own_image, images_marked, TellsProgram, TellsPrograms}
+use Rattle.commands.specs.Why.{images_failing, starts_of, Cause, IsCause, AreCauses, cause_text, causes_from, why_text, TellsCauses, TellsOfLines, with_first}
+use Rattle.commands.specs.Marked.{own_image, images_marked, TellsCuts, TellsPairs, TellsProgram, TellsPrograms}
 
 -- the text of one program more
-causes_more : (s : StartsValue) (failing : ℕ → List ℕ) (n : ℕ) (causes : List (List CutFailures)) (cuts : List CutFailures)
-    → causes_from s failing n (causes ++ cuts ∷ []) ≡ causes_from s failing n causes ++ program_text s.plan.by s (n + length causes) (length (failing (n + length causes))) cuts
-causes_more s failing n [] cuts =
+causes_more : (s : StartsValue) (failing : ℕ → List ℕ) (n : ℕ) (causes : List Cause) (last : Cause)
+    → causes_from s failing n (causes ++ last ∷ []) ≡ causes_from s failing n causes ++ cause_text s (n + length causes) (length (failing (n + length causes))) last
+causes_more s failing n [] last =
     let here : n + 0 ≡ n = omega arith in
-    append-nil (program_text s.plan.by s n (length (failing n)) cuts) ∙ sym (ap (λ k. program_text s.plan.by s k (length (failing k)) cuts) here)
-causes_more s failing n (c ∷ causes) cuts =
+    append-nil (cause_text s n (length (failing n)) last) ∙ sym (ap (λ k. cause_text s k (length (failing k)) last) here)
+causes_more s failing n (c ∷ causes) last =
     let on : n + 1 + length causes ≡ n + length (c ∷ causes) = omega arith in
-    ap (λ (bs : List ℕ). program_text s.plan.by s n (length (failing n)) c ++ bs)
-    (causes_more s failing (n + 1) causes cuts
-    ∙ ap (λ k. causes_from s failing (n + 1) causes ++ program_text s.plan.by s k (length (failing k)) cuts) on)
+    ap (λ (bs : List ℕ). cause_text s n (length (failing n)) c ++ bs)
+    (causes_more s failing (n + 1) causes last ∙ ap (λ k. causes_from s failing (n + 1) causes ++ cause_text s k (length (failing k)) last) on)
     ∙ simp append_assoc
 
 pub tells_none : (s : StartsValue) (failing : ℕ → List ℕ) (old : List ℕ) → TellsPrograms s failing 0 old old
 tells_none s failing old =
-    record { causes = []; all = refl; each = λ program cuts at. absurd (let bad : None ≡ Some cuts = at in cc); text = sym (append-nil old) }
+    record { causes = []; all = refl; each = λ program cause at. absurd (let bad : None ≡ Some cause = at in cc); text = sym (append-nil old) }
 
 pub tells_more : (s : StartsValue) (failing : ℕ → List ℕ) (count : ℕ) (old mid new : List ℕ) → TellsPrograms s failing count old mid
     → TellsProgram s count (failing count) mid new → TellsPrograms s failing (count + 1) old new
@@ -48,33 +51,57 @@ tells_more s failing count old mid new was is =
     let all = was.all in
     let last : 0 + length was.causes ≡ count = omega (arith, all) in
     record {
-      causes = was.causes ++ is.cuts ∷ [];
-      all = omega (arith, all, length-append was.causes (is.cuts ∷ []));
-      each = λ program cuts at. elim (slice_get_of_push was.causes is.cuts program cuts at) [
-        | inl there ↦ was.each program cuts there
+      causes = was.causes ++ is.cause ∷ [];
+      all = omega (arith, all, length-append was.causes (is.cause ∷ []));
+      each = λ program cause at. elim (slice_get_of_push was.causes is.cause program cause at) [
+        | inl there ↦ was.each program cause there
         | inr here ↦
             let same : program ≡ count = here.0 ∙ all in
-            subst (λ p. AreCuts s (failing p) cuts) (sym same) (subst (λ (cs : List CutFailures). AreCuts s (failing count) cs) (sym here.1) is.are)
+            subst (λ p. IsCause s (failing p) cause) (sym same) (subst (λ (c : Cause). IsCause s (failing count) c) (sym here.1) is.is)
       ];
       text = is.text
-          ∙ ap (λ (bs : List ℕ). bs ++ program_text s.plan.by s count (length (failing count)) is.cuts) was.text
-          ∙ append_assoc old (causes_from s failing 0 was.causes) (program_text s.plan.by s count (length (failing count)) is.cuts)
+          ∙ ap (λ (bs : List ℕ). bs ++ cause_text s count (length (failing count)) is.cause) was.text
+          ∙ append_assoc old (causes_from s failing 0 was.causes) (cause_text s count (length (failing count)) is.cause)
           ∙ ap (λ (bs : List ℕ). old ++ bs)
-            (sym (causes_more s failing 0 was.causes is.cuts ∙ ap (λ k. causes_from s failing 0 was.causes ++ program_text s.plan.by s k (length (failing k)) is.cuts) last));
+          (sym (causes_more s failing 0 was.causes is.cause ∙ ap (λ k. causes_from s failing 0 was.causes ++ cause_text s k (length (failing k)) is.cause) last));
     }
 
--- what was appended of one program
-pub tells_program : (s : StartsValue) (way : By) (program count : ℕ) (images own : List ℕ) (cuts now : List CutFailures) (old new : List ℕ) → way ≡ s.plan.by → own ≡ images
-    → count ≡ length own → now ≡ cuts → AreCuts s own cuts → new ≡ old ++ program_text way s program count now → TellsProgram s program images old new
-tells_program s way program count images own cuts now old new kind is many same are text =
+-- what was appended of the cuts of a program
+pub tells_cuts : (s : StartsValue) (way : By) (program count : ℕ) (images : List ℕ) (cuts now : List CutFailures) (old new : List ℕ) → way ≡ s.plan.by
+    → count ≡ length images → now ≡ cuts → AreCuts s images cuts → new ≡ old ++ program_text way s program count now → TellsCuts s program images old new
+tells_cuts s way program count images cuts now old new kind many same are text =
     record {
       cuts = cuts;
-      are = subst (λ (ns : List ℕ). AreCuts s ns cuts) is are;
+      are = are;
       text = text
           ∙ ap (λ w. old ++ program_text w s program count now) kind
-          ∙ ap (λ k. old ++ program_text s.plan.by s program k now) (many ∙ ap (λ (ns : List ℕ). length ns) is)
+          ∙ ap (λ k. old ++ program_text s.plan.by s program k now) many
           ∙ ap (λ (cs : List CutFailures). old ++ program_text s.plan.by s program (length images) cs) same;
     }
+
+-- and of its pairs, by the log of the plan
+pub tells_pairs : (s : StartsValue) (log : LogValue) (images : List ℕ) (pairs now : List Pair) (old new : List ℕ) → s.plan.log ≡ log → now ≡ pairs
+    → ArePairs (map is_write log.entries) (map (failure_at s) images) pairs → new ≡ old ++ flat_map pair_line now → TellsPairs s images old new
+tells_pairs s log images pairs now old new own same are text =
+    record {
+      pairs = pairs;
+      are = subst (λ (l : LogValue). ArePairs (map is_write l.entries) (map (failure_at s) images) pairs) (sym own) are;
+      text = text ∙ ap (λ (ps : List Pair). old ++ flat_map pair_line ps) same;
+    }
+
+-- and of both, where the images are those of the program
+pub tells_program : (s : StartsValue) (program : ℕ) (images own now : List ℕ) (old mid new : List ℕ) → own ≡ images → now ≡ own
+    → TellsCuts s program now old mid → TellsPairs s now mid new → TellsProgram s program images old new
+unfolding cause_text
+tells_program s program images own now old mid new is same cuts pairs =
+    subst (λ (ns : List ℕ). TellsProgram s program ns old new) (same ∙ is)
+    (record {
+      cause = record { cuts = cuts.cuts; pairs = pairs.pairs };
+      is = record { cuts = cuts.are; pairs = pairs.are };
+      text = pairs.text
+          ∙ ap (λ (bs : List ℕ). bs ++ flat_map pair_line pairs.pairs) cuts.text
+          ∙ append_assoc old (program_text s.plan.by s program (length now) cuts.cuts) (flat_map pair_line pairs.pairs);
+    })
 
 -- the marks of a program are of the images of its lines
 marked_are_failing : (program : ℕ) (ls : List FailingLine) → images_marked (marks_of ls) program ≡ images_failing program ls
@@ -194,7 +221,7 @@ causes_told h s failing ls count images none title options programs all bytes em
           ∙ ends
           ∙ ap (λ (i : ℕ). programs ++ totals_line i ls) same
           ∙ ap (λ (bs : List ℕ). bs ++ totals_line h.images ls)
-            (tells.text ∙ ap (λ (bs : List ℕ). bs ++ causes_from s failing 0 tells.causes)
-            (goes_on ∙ ap (λ (bs : List ℕ). bs ++ options_text h) (begins ∙ ap (λ (bs : List ℕ). bs ++ codes "crash causes 1\n") empty)))
+          (tells.text ∙ ap (λ (bs : List ℕ). bs ++ causes_from s failing 0 tells.causes)
+          (goes_on ∙ ap (λ (bs : List ℕ). bs ++ options_text h) (begins ∙ ap (λ (bs : List ℕ). bs ++ codes "crash causes 1\n") empty)))
           ∙ simp append_assoc;
     }

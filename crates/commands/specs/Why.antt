@@ -1,12 +1,17 @@
 -- Why programs fail on the crash images of a log, and what a run is to tell (docs/REPORT.md, The text of `why`).
 use Rattle.std.specs.Prelude.{ℕ, ◌≡◌, ◌≢◌, ◌+◌, ◌==◌, ◌↔◌, Bool, false, IsTrue, List, [], ◌∷◌, ◌++◌, codes, length, map, filter, None, slice_get, Some}
+use Rattle.std.specs.List.{flat_map}
 use Rattle.logfmt.specs.Bounds.{LogValue}
 use Rattle.choices.specs.Sums.{StartsValue}
 use Rattle.interp.specs.Checker.{CheckerValue}
 use Rattle.lines.specs.Line.{FailingLine}
+use Rattle.pairs.specs.declared.pair.Pair.{Pair}
+use Rattle.pairs.specs.Pairs.{ArePairs}
 use Rattle.report.specs.Report.{HeadValue, options_text, totals_line}
 use Rattle.why.specs.declared.cut.CutFailures.{CutFailures}
 use Rattle.why.specs.Failures.{AreCuts}
+use Rattle.why.specs.Pairs.{is_write, failure_at}
+use Rattle.why.specs.PairsText.{pair_line}
 use Rattle.why.specs.Text.{program_text}
 use Rattle.workers.specs.Failing.{failing_lines}
 use Rattle.commands.specs.declared.settings.Settings.{Settings}
@@ -23,23 +28,40 @@ images_failing program ls = map (λ (l : FailingLine). l.image) (filter (λ (l :
 abbrev pub starts_of : Settings → LogValue → StartsValue
 starts_of s value = record { plan = plan_of s value; bound = s.bound; tears = s.tears }
 
--- what fails at each wanted cut, of each program, where these are the images on which each fails
-abbrev pub AreCauses : StartsValue → (ℕ → List ℕ) → List (List CutFailures) → Type 0
-AreCauses s failing causes = (program : ℕ) (cuts : List CutFailures) → slice_get causes program ≡ Some cuts → AreCuts s (failing program) cuts
+-- what is said of a program: what fails at each wanted cut, and the pairs of entries that explain the most of it
+pub record Cause : Type 0 where
+  pub cuts : List CutFailures
+  pub pairs : List Pair
+
+-- the pairs of entries that explain these images, by the entries of the log
+abbrev pub ArePairsOf : StartsValue → List ℕ → List Pair → Type 0
+ArePairsOf s images ps = ArePairs (map is_write s.plan.log.entries) (map (failure_at s) images) ps
+
+-- of a program that fails on these images
+pub record IsCause (s : StartsValue) (images : List ℕ) (c : Cause) : Type 0 where
+  pub cuts : AreCuts s images c.cuts
+  pub pairs : ArePairsOf s images c.pairs
+
+-- of each program, where these are the images on which each fails
+abbrev pub AreCauses : StartsValue → (ℕ → List ℕ) → List Cause → Type 0
+AreCauses s failing causes = (program : ℕ) (c : Cause) → slice_get causes program ≡ Some c → IsCause s (failing program) c
+
+-- the text of the program of that number, which fails on so many images: the lines of its cuts, and those of its pairs
+unfoldable pub cause_text : StartsValue → ℕ → ℕ → Cause → List ℕ
+cause_text s number failing c = program_text s.plan.by s number failing c.cuts ++ flat_map pair_line c.pairs
 
 -- the text of the programs from that number on
-abbrev pub causes_from : StartsValue → (ℕ → List ℕ) → ℕ → List (List CutFailures) → List ℕ
+abbrev pub causes_from : StartsValue → (ℕ → List ℕ) → ℕ → List Cause → List ℕ
 causes_from s failing number [] = []
-causes_from s failing number (cuts ∷ causes) =
-    program_text s.plan.by s number (length (failing number)) cuts ++ causes_from s failing (number + 1) causes
+causes_from s failing number (c ∷ causes) = cause_text s number (length (failing number)) c ++ causes_from s failing (number + 1) causes
 
--- the whole text: the options and the programs as in the report, what fails of each program, and the totals of the report
-unfoldable pub why_text : HeadValue → StartsValue → (ℕ → List ℕ) → List FailingLine → List (List CutFailures) → List ℕ
+-- the whole text: the options and the programs as in the report, what is said of each program, and the totals of the report
+unfoldable pub why_text : HeadValue → StartsValue → (ℕ → List ℕ) → List FailingLine → List Cause → List ℕ
 why_text h s failing ls causes = codes "crash causes 1\n" ++ options_text h ++ causes_from s failing 0 causes ++ totals_line h.images ls
 
--- the bytes say of each program what fails at each cut
+-- the bytes say of each program what fails at each cut, and which pairs of entries explain it
 pub record TellsCauses (h : HeadValue) (s : StartsValue) (failing : ℕ → List ℕ) (ls : List FailingLine) (bytes : List ℕ) : Type 0 where
-  pub causes : List (List CutFailures)
+  pub causes : List Cause
   pub all : length causes ≡ length h.programs
   pub each : AreCauses s failing causes
   pub text : bytes ≡ why_text h s failing ls causes

@@ -272,7 +272,7 @@ fn explained(
     let head = head_of_run(alloc, log, checkers, options, images, false)?;
     // A law of the failing lines, which does nothing: they are in their order, and so are those of each program.
     lines_are_set();
-    causes_text(alloc, &head, starts, &work.lines, marks)
+    causes_text(alloc, &head, starts, log, &work.lines, marks)
 }
 
 /// What is to be told of the work.

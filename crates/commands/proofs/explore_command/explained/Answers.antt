@@ -1,3 +1,5 @@
+use Rattle.std.proofs.Common.{ap}
+use Rattle.choices.specs.Sums.{StartsValue}
 use Rattle.commands.proofs.Runs.{both_ok}
 use Rattle.commands.proofs.Explained.{are_images, causes_of_lines, same_kind}
 use Rattle.commands.proofs.explore_command.explained.Goals as goal
@@ -5,6 +7,9 @@ use Rattle.commands.proofs.explore_command.explained.Goals as goal
 pub causes_text-requires-clause-kind : goal.causes_text-requires-clause-kind
 causes_text-requires-clause-kind c =
     same_kind c.args.options.now c.args.log.now c.args.checkers.now c.in_ok-head.head c.args.starts.now c.in_ok-head.ensures c.requires.starts
+
+pub causes_text-requires-clause-log : goal.causes_text-requires-clause-log
+causes_text-requires-clause-log c = ap (λ (t : StartsValue). t.plan.log) c.requires.starts
 
 pub causes_text-requires-clause-images : goal.causes_text-requires-clause-images
 causes_text-requires-clause-images c =
