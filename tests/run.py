@@ -36,10 +36,12 @@ Where the rows stand
     rows/modelled.py    whole reports of many logs, against the model
     rows/shown.py       images in words, by number and by cut and choice, against the model
     rows/why.py         why checkers fail, of many logs and of the designs, against the model
+    rows/browser.py     runs as a page for a browser, of many logs and of the designs, against the model
     rows/workers.py     runs by many workers, with and without a cache
     rows/limits.py      sizes near each limit
 
     notation.py         how rows, logs and programs are written down
+    page_model.py       the page, written from docs/REPORT.md alone but for its style and script
     model.py            the crash model and the report, written from docs/CRASH-MODEL.md and docs/REPORT.md alone
     programs/           programs as assembly texts
 
@@ -66,6 +68,7 @@ from notation import SECONDS, TOP, Assembly, Folder, Long, Something
 from rows import (
     answers,
     arithmetic,
+    browser,
     checkers,
     commands,
     encodings,
@@ -101,6 +104,7 @@ TABLES = [
     modelled,
     shown,
     why,
+    browser,
     workers,
     limits,
 ]

@@ -104,7 +104,7 @@ tells_program s program images own now old mid new is same cuts pairs =
     })
 
 -- the marks of a program are of the images of its lines
-marked_are_failing : (program : ℕ) (ls : List FailingLine) → images_marked (marks_of ls) program ≡ images_failing program ls
+pub marked_are_failing : (program : ℕ) (ls : List FailingLine) → images_marked (marks_of ls) program ≡ images_failing program ls
 marked_are_failing program [] = refl
 marked_are_failing program (l ∷ ls) = by_test (l.program == program) (marked_are_failing program ls)
   where

@@ -7,6 +7,7 @@ pub mod Ranges
 pub mod RefusalLemmas
 pub mod Runs
 pub mod Explained
+pub mod Pages
 pub mod Texts
 pub mod Faultless
 pub mod Fitting

@@ -64,6 +64,17 @@ pub told_of : (t : Telling) → AcceptedCheckersRunSafely → (text : List ℕ) 
     → IsTrue failing ↔ (failing_lines (subject_of s log now) ≢ []) → IsTold t text files s bytes failing
 told_of telling.Report sound text files s log checkers now bytes failing count source made same tells fails =
     reported sound text files s log checkers now bytes failing count source made same tells fails
+told_of telling.Page sound text files s log checkers now bytes failing count source made same tells fails =
+    record {
+      count = count;
+      value = log;
+      source = source;
+      checkers = now;
+      made = subst (AreCheckersOf s files) (sym same) made;
+      page = tells;
+      fails = fails;
+      faultless = faultless sound text s files log now source (subst (AreCheckersOf s files) (sym same) made);
+    }
 told_of telling.Causes sound text files s log checkers now bytes failing count source made same tells fails =
     record {
       count = count;

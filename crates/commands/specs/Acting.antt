@@ -117,6 +117,7 @@ abbrev pub Answers : Request → Files → List ℕ → ℕ → Type 0
 Answers request.StoredRun files bytes status = AnswersRun telling.Report STORED_SETTINGS stored_log stored_programs bytes status
 Answers (request.Explore w) files bytes status = AnswersExplore telling.Report w files bytes status
 Answers (request.Why w) files bytes status = AnswersExplore telling.Causes w files bytes status
+Answers (request.Page w) files bytes status = AnswersExplore telling.Page w files bytes status
 Answers (request.Images w) files bytes status = AnswersWith w (λ s text. IsSurvey text s) files bytes status
 Answers (request.Log w) files bytes status = AnswersWith w (λ s text. IsTable text s) files bytes status
 Answers (request.Image w which) files bytes status = AnswersWith w (λ s text. IsImage text s which) files bytes status
@@ -147,6 +148,7 @@ abbrev pub RefusesToAct : Request → Files → Refusal → Type 0
 RefusesToAct request.StoredRun files r = (r ≡ memory_refusal) ⊎ Refuses stored_log stored_programs STORED_SETTINGS r
 RefusesToAct (request.Explore w) files r = RefusesWith w (RefusesFiles files) r
 RefusesToAct (request.Why w) files r = RefusesWith w (RefusesFiles files) r
+RefusesToAct (request.Page w) files r = RefusesWith w (RefusesFiles files) r
 RefusesToAct (request.Images w) files r = RefusesWith w (λ s. RefusesFile files (λ text. RefusesSurvey text s)) r
 RefusesToAct (request.Log w) files r = RefusesWith w (λ s. RefusesFile files (λ text. RefusesTable text s)) r
 RefusesToAct (request.Image w which) files r = RefusesWith w (λ s. RefusesFile files (λ text. RefusesImage text s which)) r

@@ -4,6 +4,7 @@ pub mod Settings
 pub mod Source
 pub mod Programs
 pub mod Explore
+pub mod Paged
 pub mod Why
 pub mod Marked
 pub mod Found

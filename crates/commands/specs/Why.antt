@@ -14,6 +14,7 @@ use Rattle.why.specs.Pairs.{is_write, failure_at}
 use Rattle.why.specs.PairsText.{pair_line}
 use Rattle.why.specs.Text.{program_text}
 use Rattle.workers.specs.Failing.{failing_lines}
+use Rattle.commands.specs.Paged.{IsPageOf}
 use Rattle.commands.specs.declared.settings.Settings.{Settings}
 use Rattle.commands.specs.declared.settings.Telling.{Telling}
 use Rattle.commands.specs.declared.settings.Telling.TheVariants as telling
@@ -85,10 +86,16 @@ abbrev pub TellsOfLines : Settings → LogValue → List CheckerValue → List F
 TellsOfLines s value checkers ls bytes =
     TellsCauses (head_of (with_first false s) value checkers) (starts_of s value) (λ program. images_failing program ls) ls bytes
 
--- what the bytes of a run are: the report, or why programs fail
+-- the bytes are the page of where the programs fail on the images of the log, by the failing lines
+abbrev pub PageOfLines : Settings → LogValue → List CheckerValue → List FailingLine → List ℕ → Type 0
+PageOfLines s value checkers ls bytes =
+    IsPageOf (head_of (with_first false s) value checkers) (starts_of s value) (λ program. images_failing program ls) ls bytes
+
+-- what the bytes of a run are: the report, why programs fail, or the page of where they fail
 abbrev pub Tells : Telling → Settings → LogValue → List CheckerValue → List ℕ → Type 0
 Tells telling.Report s value checkers bytes = bytes ≡ report_of s value checkers
 Tells telling.Causes s value checkers bytes = TellsOfLines s value checkers (failing_lines (subject_of s value checkers)) bytes
+Tells telling.Page s value checkers bytes = PageOfLines s value checkers (failing_lines (subject_of s value checkers)) bytes
 
 -- the bytes say why the programs fail on the crash images of the log: what the report says of them, image by image
 pub record IsExplained (text : List ℕ) (files : List (List ℕ)) (s : Settings) (bytes : List ℕ) (failing : Bool) : Type 0 where
@@ -101,12 +108,25 @@ pub record IsExplained (text : List ℕ) (files : List (List ℕ)) (s : Settings
   pub fails : IsTrue failing ↔ (failing_lines (subject_of s value checkers) ≢ [])
   pub faultless : s.checked ≡ None → IsFaultless (subject_of s value checkers)
 
+-- the bytes are the page of running the programs on the crash images of the log
+pub record IsPaged (text : List ℕ) (files : List (List ℕ)) (s : Settings) (bytes : List ℕ) (failing : Bool) : Type 0 where
+  pub count : IsProgramCount (length files)
+  pub value : LogValue
+  pub source : HasImages text s value
+  pub checkers : List CheckerValue
+  pub made : AreCheckersOf s files checkers
+  pub page : PageOfLines s value checkers (failing_lines (subject_of s value checkers)) bytes
+  pub fails : IsTrue failing ↔ (failing_lines (subject_of s value checkers) ≢ [])
+  pub faultless : s.checked ≡ None → IsFaultless (subject_of s value checkers)
+
 -- what a run answers
 abbrev pub IsTold : Telling → List ℕ → List (List ℕ) → Settings → List ℕ → Bool → Type 0
 IsTold telling.Report text files s bytes failing = IsReport text files s bytes failing
 IsTold telling.Causes text files s bytes failing = IsExplained text files s bytes failing
+IsTold telling.Page text files s bytes failing = IsPaged text files s bytes failing
 
 -- whether the first failing image alone is asked for: of why programs fail all images are told
 abbrev pub first_asked : Telling → Bool → Bool
 first_asked telling.Report first = first
 first_asked telling.Causes first = false
+first_asked telling.Page first = false

@@ -349,6 +349,7 @@ pub fn act<G: Gate + Sync, R: Threads + Wait + Sync>(
             act_explore(rt, alloc, gate, Telling::Report, options, files)
         }
         Request::Why(options) => act_explore(rt, alloc, gate, Telling::Causes, options, files),
+        Request::Page(options) => act_explore(rt, alloc, gate, Telling::Page, options, files),
         Request::Images(options) => act_images(alloc, options, files),
         Request::Log(options) => act_log(alloc, options, files),
         Request::Image(options, which) => act_image(alloc, options, which, files),

@@ -25,7 +25,11 @@ fn push_image(images: &mut Vec<u64>, program: usize, mark: Mark) -> Result<(), A
 }
 
 /// The images on which the program of that number fails.
-fn images_of_program(alloc: Global, marks: &[Mark], program: usize) -> Result<Vec<u64>, AllocError>
+pub(crate) fn images_of_program(
+    alloc: Global,
+    marks: &[Mark],
+    program: usize,
+) -> Result<Vec<u64>, AllocError>
     ensures { IfOk result (λ images. images.items ≡ images_marked marks.now program) }
 {
     let mut images = Vec::new(alloc);

@@ -11,12 +11,13 @@ ghost use Rattle.base.specs.Refusals.{memory_refusal};
 ghost use Rattle.commands.specs.Source.{plan_of, images_of, RefusesPlan};
 ghost use Rattle.commands.specs.Explore.{HasReport, IsReport, IsProgramCount, Refuses, program_head, subject_of, head_of, report_of};
 ghost use Rattle.commands.specs.declared.settings.Telling.TheVariants as tells;
-ghost use Rattle.commands.specs.Why.{starts_of, with_first, first_asked, Tells, IsExplained, IsTold};
+ghost use Rattle.commands.specs.Why.{starts_of, with_first, first_asked, Tells, IsExplained, IsPaged, IsTold};
 ghost use Rattle.commands.specs.Found.{AreFound};
 ghost use Rattle.commands.specs.Programs.{IsRunWithin, IsCodeFault, IsUnaccepted, code_refusal, verifier_refusal, AreDecoded, AreFirstMade, RefusesOneOf};
 
 use crate::causes::causes_text;
 use crate::options::Options;
+use crate::paging::page_bytes;
 use crate::refusals::option_refusal_of;
 use crate::settings::{OptionPlace, Telling};
 use crate::source::{planned, read_log};
@@ -275,6 +276,34 @@ fn explained(
     causes_text(alloc, &head, starts, log, &work.lines, marks)
 }
 
+/// Where the programs fail, as a page, by the work, of which the marks are kept.
+fn paged(
+    alloc: Global,
+    log: &Log,
+    checkers: &[Checker<'_>],
+    options: &Options,
+    images: u64,
+    starts: &Starts<'_>,
+    history: &History<'_>,
+    work: &Work,
+) -> Result<Vec<u8>, AllocError>
+    requires images { images ≡ length (images_of options.now log.now) }
+    requires device { log.now.sectors ≡ options.now.sectors }
+    requires order { IsNonDecreasing (map (λ l. l.image) work.now.lines) }
+    requires starts { starts.now ≡ starts_of options.now log.now }
+    requires history { history.now ≡ plan_of options.now log.now }
+    requires lines { work.now.lines ≡ failing_lines (subject_of options.now log.now checkers.now) }
+    ensures { IfOk result (λ bytes. Tells tells.Page options.now log.now checkers.now bytes.items) }
+{
+    let Some(marks) = work.lines.marks() else {
+        return Err(AllocError);
+    };
+    let head = head_of_run(alloc, log, checkers, options, images, false)?;
+    // A law of the failing lines, which does nothing: they are in their order, and so are those of each program.
+    lines_are_set();
+    page_bytes(alloc, log, &head, starts, history, &work.lines, marks)
+}
+
 /// What is to be told of the work.
 fn told(
     alloc: Global,
@@ -284,18 +313,21 @@ fn told(
     options: &Options,
     images: u64,
     starts: &Starts<'_>,
+    history: &History<'_>,
     work: &Work,
 ) -> Result<Vec<u8>, AllocError>
     requires images { images ≡ length (images_of options.now log.now) }
     requires device { log.now.sectors ≡ options.now.sectors }
     requires order { IsNonDecreasing (map (λ l. l.image) work.now.lines) }
     requires starts { starts.now ≡ starts_of options.now log.now }
+    requires history { history.now ≡ plan_of options.now log.now }
     requires lines { AreFound (first_asked telling options.now.first) (failing_lines (subject_of options.now log.now checkers.now)) work.now.lines }
     ensures { IfOk result (λ bytes. Tells telling options.now log.now checkers.now bytes.items) }
 {
     match telling {
         Telling::Report => reported(alloc, log, checkers, options, images, work),
         Telling::Causes => explained(alloc, log, checkers, options, images, starts, work),
+        Telling::Page => paged(alloc, log, checkers, options, images, starts, history, work),
     }
 }
 
@@ -305,7 +337,7 @@ fn is_first_asked(telling: Telling, options: &Options) -> bool
 {
     match telling {
         Telling::Report => options.first(),
-        Telling::Causes => false,
+        Telling::Causes | Telling::Page => false,
     }
 }
 
@@ -315,7 +347,7 @@ fn marked<'a>(telling: Telling, input: Input<'a>) -> Input<'a>
 {
     match telling {
         Telling::Report => input,
-        Telling::Causes => input.with_marks(),
+        Telling::Causes | Telling::Page => input.with_marks(),
     }
 }
 
@@ -367,7 +399,7 @@ fn judged<'x, G: Gate + Sync, R: Threads + Wait + Sync>(
     let input = marked(telling, unmarked);
     let work = explore_all(rt, alloc, gate, &input)?;
     match told(
-        alloc, telling, log, checkers, options, images, &starts, &work,
+        alloc, telling, log, checkers, options, images, &starts, &history, &work,
     ) {
         Ok(bytes) => Ok(Explored {
             bytes,
@@ -459,6 +491,26 @@ pub fn why<G: Gate + Sync, R: Threads + Wait + Sync>(
     ensures refused { IfErr result (Refuses log.now (map (λ f. f.items) programs.now) options.now) }
 {
     run_with(rt, alloc, gate, Telling::Causes, log, programs, options)
+}
+
+/// Shows where programs fail on the crash images of a log, as a page for a browser (docs/REPORT.md, The page of `page`). It
+/// judges each image once, as `explore_with` does, whether or not the first failing image alone is asked for.
+///
+/// # Errors
+///
+/// Those of `explore_with`.
+pub fn page<G: Gate + Sync, R: Threads + Wait + Sync>(
+    rt: &R,
+    alloc: Global,
+    gate: &G,
+    log: &[u8],
+    programs: &[Vec<u8>],
+    options: &Options,
+) -> Result<Explored, Refusal>
+    ensures paged { IfOk result (λ e. IsPaged log.now (map (λ f. f.items) programs.now) options.now e.bytes.items e.failing) }
+    ensures refused { IfErr result (Refuses log.now (map (λ f. f.items) programs.now) options.now) }
+{
+    run_with(rt, alloc, gate, Telling::Page, log, programs, options)
 }
 
 /// The bytes of `explore_with`, with a gate that does nothing.

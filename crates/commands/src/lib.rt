@@ -15,7 +15,7 @@
 //! - `settings` and `options`: what a run is asked, and `Options`, tested in their order.
 //! - `source`: what each command reads of a log, with the refusals in their order.
 //! - `explore_command`: `explore_with` and `explore`, from bytes to the bytes of the report, and `why`, the same run told
-//!   by its causes; `causes` has their text.
+//!   by its causes; `causes` has their text, `paging` their page.
 //! - `images_command`, `image_command`, `show_command`: the number of images cut by cut, the bytes of one image, and one
 //!   image in words.
 //! - `which`: the choice of the image that is meant, by its number, or by its cut and its choice as the report prints it.
@@ -39,7 +39,7 @@
 //! the device; what it doesn't accept is refused (`specs/Programs.antt`). Without a limit that is asked for no
 //! run has a fault or spends its budget, and no line says so (`IsFaultless` in `specs/Explore.antt`), by the
 //! soundness of the verifier. `why` answers, of the same failing lines, what fails of each program at each cut
-//! (`IsExplained` in `specs/Why.antt`). `image` answers the bytes of
+//! (`IsExplained` in `specs/Why.antt`), and `page` the page of it (`IsPaged`). `image` answers the bytes of
 //! the image that is meant, of which there is one (`specs/Which.antt`), `show` its text, beside the image of the same cut
 //! where nothing departs (`specs/Show.antt`), and `survey` the text of `specs/Survey.antt`. Where one of them answers `Err`,
 //! the refusal is the first in the order of docs/REPORT.md (`specs/Explore.antt`, `specs/Image.antt`,
@@ -77,6 +77,7 @@ mod list_command;
 mod log_command;
 mod noting;
 mod options;
+mod paging;
 mod progress;
 mod refusals;
 mod settings;
@@ -90,7 +91,7 @@ mod writing;
 
 pub use action::act;
 pub use epochs::{By, Cuts};
-pub use explore_command::{Explored, explore, explore_with, why};
+pub use explore_command::{Explored, explore, explore_with, page, why};
 pub use image_command::image;
 pub use images_command::survey;
 pub use laws::{choices_are_short, one_report, report_or_refusal, report_prints_choices};

@@ -160,7 +160,8 @@ fn names_instruction(cause: VerifierCause) -> bool {
 /// The options that a command takes, where it takes some of a log.
 fn log_options(request: Request) -> Option<OptionWords> {
     match request {
-        Request::Explore(words) | Request::Why(words) | Request::Images(words) => Some(words),
+        Request::Explore(words) | Request::Why(words) | Request::Page(words) => Some(words),
+        Request::Images(words) => Some(words),
         Request::Image(words, _) | Request::Show(words, _) => Some(words),
         _ => None,
     }
@@ -169,7 +170,8 @@ fn log_options(request: Request) -> Option<OptionWords> {
 /// The options that a command takes, where it verifies programs.
 fn verifier_options(request: Request) -> Option<OptionWords> {
     match request {
-        Request::Explore(words) | Request::Why(words) | Request::Verify(words) => Some(words),
+        Request::Explore(words) | Request::Why(words) | Request::Page(words) => Some(words),
+        Request::Verify(words) => Some(words),
         _ => None,
     }
 }
@@ -481,9 +483,8 @@ pub fn notes_beside(
         (Request::Verify(options), Some(bytes)) => {
             put_verified_notes(alloc, &mut out, options, bytes)?
         }
-        (Request::Explore(options) | Request::Why(options), _) => put_explored_notes(
-            alloc, &mut out, options, files,
-        )?,
+        (Request::Explore(options) | Request::Why(options) | Request::Page(options), _) =>
+            put_explored_notes(alloc, &mut out, options, files)?,
         (Request::Images(options), Some(bytes)) => {
             put_survey_notes(alloc, &mut out, options, bytes)?
         }

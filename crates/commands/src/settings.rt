@@ -35,6 +35,8 @@ pub(crate) enum Telling {
     Report,
     /// Why the programs fail on them.
     Causes,
+    /// Where the programs fail, as a page.
+    Page,
 }
 
 /// What a refusal of the command line names, each by the number of its place (docs/REPORT.md, Options).

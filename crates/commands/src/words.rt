@@ -47,6 +47,8 @@ pub(crate) enum Request {
     Explore(OptionWords),
     /// `why LOG PROGRAM..`
     Why(OptionWords),
+    /// `page LOG PROGRAM..`
+    Page(OptionWords),
     /// `images LOG`
     Images(OptionWords),
     /// `log LOG`, of which the number of sectors counts.
@@ -114,6 +116,16 @@ const AFTER_WHY: &str =
 no part fails. Each failing image is counted under the first of them that is a part of its own choice.
 
 Example: crashbpf why disk.log check.bpf --sectors 64 --cuts flush --bound 2 --tears
+
+Exit status: 0 where no image fails, 1 where one does, 2 for a refusal.";
+
+/// What stands behind the help of `page`.
+const AFTER_PAGE: &str =
+    "One HTML file, for any browser, which fetches nothing: the log as a row of entries, the cuts between them
+coloured by the share of their images that fail, and behind a click on a cut its first eight smallest
+failing choices, each as 'show' tells its image.
+
+Example: crashbpf page disk.log check.bpf --sectors 64 --cuts flush --bound 2 > page.html
 
 Exit status: 0 where no image fails, 1 where one does, 2 for a refusal.";
 
@@ -267,6 +279,14 @@ fn why_command<'a>(alloc: Global) -> Result<Command<'a>, AllocError> {
     with_run_options(alloc, command)?.arg(program_files(alloc))
 }
 
+/// The command `page`.
+fn page_command<'a>(alloc: Global) -> Result<Command<'a>, AllocError> {
+    let command = log_command(alloc, "page")?
+        .about("Shows the log and the failing cuts as a page for a browser")
+        .after_help(AFTER_PAGE);
+    with_run_options(alloc, command)?.arg(program_files(alloc))
+}
+
 /// The command `explore`.
 fn explore_command<'a>(alloc: Global) -> Result<Command<'a>, AllocError> {
     let first = Arg::new(alloc, "first")
@@ -400,6 +420,7 @@ fn commands<'a>(alloc: Global) -> Result<Command<'a>, AllocError> {
         .subcommand_required(true)
         .subcommand(explore_command(alloc)?)?
         .subcommand(why_command(alloc)?)?
+        .subcommand(page_command(alloc)?)?
         .subcommand(images_command(alloc)?)?
         .subcommand(image_command(alloc)?)?
         .subcommand(show_command(alloc)?)?
@@ -497,6 +518,7 @@ fn which_of(matches: &ArgMatches<'_>) -> Which {
 fn request_of(name: &str, matches: &ArgMatches<'_>) -> Request {
     match name {
         "why" => Request::Why(run_words(matches)),
+        "page" => Request::Page(run_words(matches)),
         "images" => Request::Images(log_words(matches)),
         "image" => Request::Image(log_words(matches), which_of(matches)),
         "show" => Request::Show(log_words(matches), which_of(matches)),
@@ -510,7 +532,12 @@ fn request_of(name: &str, matches: &ArgMatches<'_>) -> Request {
     }
 }
 
-/// The files that a command names: its log, source or program, then the programs of `explore` and `why`.
+/// Whether a command runs programs on the images of a log.
+fn is_run(name: &str) -> bool {
+    name == "explore" || name == "why" || name == "page"
+}
+
+/// The files that a command names: its log, source or program, then the programs of a run.
 fn file_words(
     alloc: Global,
     name: &str,
@@ -520,7 +547,7 @@ fn file_words(
     if let Some(first) = matches.get_str("file") {
         files.push(first.to_string(alloc)?)?;
     }
-    if name != "explore" && name != "why" {
+    if !is_run(name) {
         return Ok(files);
     }
     if let Some(programs) = matches.get_strs("programs") {
@@ -552,7 +579,7 @@ impl Words {
             Some((name, inner)) => Ok(Words {
                 request: request_of(name, inner),
                 files: file_words(alloc, name, inner)?,
-                progress: (name == "explore" || name == "why") && inner.get_flag("progress"),
+                progress: is_run(name) && inner.get_flag("progress"),
             }),
             None => Ok(Words {
                 request: Request::StoredRun,

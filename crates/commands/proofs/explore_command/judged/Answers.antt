@@ -52,3 +52,6 @@ returns-in-Ok-told-clause-failing g c =
     (found_of c.args.options.now c.args.log.now c.args.checkers.now _ _ _ _ c.marked-input.result c.new-unmarked.result c.in_ok-work.work.lines
     c.requires.plan c.bound-bound.ensures.value c.tears-tears.ensures c.new-unmarked.ensures c.marked-input.ensures c.in_ok-work.ensures.whole c.in_ok-work.ensures.first)
     c.is_empty.ensures
+
+pub told-requires-clause-history : goal.told-requires-clause-history
+told-requires-clause-history g c = c.in-Ok.ensures ∙ c.requires.plan

@@ -1,0 +1,46 @@
+"""Runs as a page for a browser, compared with the model (page_model.py), and of the designs of examples/."""
+from dataclasses import replace
+
+from model import Checker, Run
+from notation import FLUSH, Long, M, W, explore
+from page_model import page
+
+from rows.examples import EXAMPLES, JOURNAL_RIGHT, JOURNAL_WRONG, data, two_slots
+from rows.modelled import CHECKERS, PROGRAMS, any_fails, runs
+from rows.why import FEW, RECORDS, SLOTS, TWO_TORN
+
+# A mark whose text would be markup, and a write of which the text of an image is too long.
+MARKUP = [W(0, 1, 1), M("</a><script>alert('1')</script> & more"), W(0, 60, 2), M("behind")]
+
+
+# Each so many of the runs are looked at.
+STEP = 7
+
+
+def paged(name, options, entries, programs, out, status):
+    """A row of `page`."""
+    row = explore(name, options, entries, programs, out, status)
+    return replace(row, words=row.words.replace("explore ", "page ", 1))
+
+
+def modelled(name, run):
+    status = 1 if any_fails(run) else 0
+    return paged(f"page: {name}", run.options(), run.entries, PROGRAMS[:2], Long(lambda: page(run, CHECKERS[:2])), status)
+
+
+def design(which, run, about, judge, status):
+    """The page of a design: what is stored, which is the model's."""
+    wanted = page(run, [Checker(about, judge)]).encode()
+    assert wanted == data(EXAMPLES / f"{which}.page.html"), f"{which}.page.html isn't the model's"
+    folder = which.split("/")[0]
+    return paged(f"page: {which}", run.options(), run.entries, data(EXAMPLES / f"{folder}/checker.bpf"), wanted, status)
+
+
+ROWS = [
+    design("two_slots/right", Run(two_slots(FLUSH), 4, **TWO_TORN), *SLOTS, 0),
+    design("two_slots/wrong", Run(two_slots(0), 4, **TWO_TORN), *SLOTS, 1),
+    design("journal/wrong", Run(JOURNAL_WRONG, 8), *RECORDS, 1),
+    modelled("markup in a mark", Run(MARKUP, 64)),
+    modelled("markup in a mark, by write", Run(MARKUP, 64, by="write")),
+    *(modelled(name, run) for name, run in list(runs())[::STEP] if sum(1 for _image in run.images()) <= FEW),
+]
