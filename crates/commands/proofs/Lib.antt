@@ -8,6 +8,7 @@ pub mod RefusalLemmas
 pub mod Runs
 pub mod Explained
 pub mod Pages
+pub mod Once
 pub mod Texts
 pub mod Faultless
 pub mod Fitting

@@ -6,6 +6,7 @@ pub mod Programs
 pub mod Explore
 pub mod Paged
 pub mod Why
+pub mod Once
 pub mod Marked
 pub mod Found
 pub mod Which

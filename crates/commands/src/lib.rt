@@ -94,7 +94,9 @@ pub use epochs::{By, Cuts};
 pub use explore_command::{Explored, explore, explore_with, page, why};
 pub use image_command::image;
 pub use images_command::survey;
-pub use laws::{choices_are_short, one_report, report_or_refusal, report_prints_choices};
+pub use laws::{
+    choices_are_short, each_image_stands_once, one_report, report_or_refusal, report_prints_choices,
+};
 pub use noting::{notes_behind, notes_beside};
 pub use options::Options;
 pub use progress::Progress;
