@@ -26,7 +26,7 @@ use Rattle.workers.specs.Laws.{Precedes, LinesAreSet, ListsFailing}
 use Rattle.commands.specs.declared.settings.Settings.{Settings}
 use Rattle.commands.specs.Source.{plan_of}
 use Rattle.commands.specs.Explore.{subject_of, head_of}
-use Rattle.commands.specs.Why.{images_failing, starts_of, Cause, IsCause, AreCauses, cause_text, causes_from, why_text, TellsCauses, TellsOfLines, with_first}
+use Rattle.commands.specs.Why.{images_failing, starts_of, Cause, IsCause, ArePairsOf, AreCauses, cause_text, causes_from, why_text, TellsCauses, TellsOfLines, with_first}
 use Rattle.commands.specs.Marked.{own_image, images_marked, TellsCuts, TellsPairs, TellsProgram, TellsPrograms}
 
 -- the text of one program more
@@ -90,14 +90,14 @@ tells_pairs s log images pairs now old new own same are text =
     }
 
 -- and of both, where the images are those of the program
-pub tells_program : (s : StartsValue) (program : ℕ) (images own now : List ℕ) (old mid new : List ℕ) → own ≡ images → now ≡ own
-    → TellsCuts s program now old mid → TellsPairs s now mid new → TellsProgram s program images old new
+pub tells_program : (s : StartsValue) (program : ℕ) (images own now again : List ℕ) (old mid new : List ℕ) → own ≡ images → now ≡ own → again ≡ own
+    → TellsCuts s program now old mid → TellsPairs s again mid new → TellsProgram s program images old new
 unfolding cause_text
-tells_program s program images own now old mid new is same cuts pairs =
+tells_program s program images own now again old mid new is same alike cuts pairs =
     subst (λ (ns : List ℕ). TellsProgram s program ns old new) (same ∙ is)
     (record {
       cause = record { cuts = cuts.cuts; pairs = pairs.pairs };
-      is = record { cuts = cuts.are; pairs = pairs.are };
+      is = record { cuts = cuts.are; pairs = subst (λ (ns : List ℕ). ArePairsOf s ns pairs.pairs) (alike ∙ sym same) pairs.are };
       text = pairs.text
           ∙ ap (λ (bs : List ℕ). bs ++ flat_map pair_line pairs.pairs) cuts.text
           ∙ append_assoc old (program_text s.plan.by s program (length now) cuts.cuts) (flat_map pair_line pairs.pairs);

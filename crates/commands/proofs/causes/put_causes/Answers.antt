@@ -17,6 +17,6 @@ pub returns : goal.returns
 returns c =
     on_ok_weaker c.put_pairs_of.result
     (λ said.
-    tells_program c.args.starts.now c.args.program _ c.in_ok-images.images.items c.as_slice.result.now _ _ _ c.in_ok-images.ensures c.as_slice.ensures.value c.in_ok-put_cuts.ensures
-    (subst (λ (ns : List ℕ). TellsPairs c.args.starts.now ns _ _) (c.as_slice-2.ensures.value ∙ sym c.as_slice.ensures.value) said))
+    tells_program c.args.starts.now c.args.program _ c.in_ok-images.images.items c.as_slice.result.now c.as_slice-2.result.now _ _ _ c.in_ok-images.ensures c.as_slice.ensures.value
+    c.as_slice-2.ensures.value c.in_ok-put_cuts.ensures said)
     c.put_pairs_of.ensures

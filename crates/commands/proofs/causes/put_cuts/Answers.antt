@@ -1,13 +1,12 @@
-use Rattle.std.proofs.Common.{◌≡◌, length, rules}
+use Rattle.std.proofs.Common.{length, refl}
 use Rattle.std.proofs.lemmas.Result.{on_ok_weaker}
 use Rattle.commands.proofs.Explained.{tells_cuts}
 use Rattle.commands.proofs.causes.put_cuts.Goals as goal
 
 pub returns : goal.returns
 returns c =
-    let many : c.len.result ≡ length c.args.images.now = search rules in
     on_ok_weaker c.put_program.result
     (λ said.
-    tells_cuts c.args.starts.now c.args.by c.args.program c.len.result c.args.images.now c.in_ok-cuts.cuts.items c.as_slice.result.now _ _ c.requires.kind many
+    tells_cuts c.args.starts.now c.args.by c.args.program (length c.args.images.now) c.args.images.now c.in_ok-cuts.cuts.items c.as_slice.result.now _ _ c.requires.kind refl
     c.as_slice.ensures.value c.in_ok-cuts.ensures.cuts said)
     c.put_program.ensures

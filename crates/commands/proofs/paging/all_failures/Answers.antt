@@ -13,5 +13,5 @@ loop-program-preserved c =
     rw c.in_ok-push_failures.ensures
     (failing_more c.args.starts.now (images_marked c.args.marks.now) c.loop-program.program _ _ c.loop-program.invariant c.in_ok-failing.ensures)
 
-pub failures_of-failing-requires : goal.failures_of-failing-requires
-failures_of-failing-requires c = c.requires.images c.loop-program.program
+pub failures_of-requires : goal.failures_of-requires
+failures_of-requires c = c.requires.images c.loop-program.program

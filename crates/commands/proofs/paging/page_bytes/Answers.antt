@@ -26,6 +26,6 @@ pub returns : goal.returns
 returns c =
     let none : string_bytes c.new-page.result ≡ [] = search rules in
     let many : c.len.result ≡ length c.head.inside.programs.items = search rules in
-    page_told c.args.head.now c.args.starts.now (images_marked c.args.marks.now) c.args.lines.now c.len.result _ _ _ _ c.in_ok-programs.programs.items _ c.into_bytes.result.items
+    page_told c.args.head.now c.args.starts.now (images_marked c.args.marks.now) c.args.lines.now c.len.result _ _ _ _ c.in_ok-programs.programs.items c.into_bytes.result.items
     none (c.as_str.ensures.value ∙ c.in_ok-text.ensures) c.in_ok-programs.ensures (many ∙ ap (λ (h : HeadValue). length h.programs) c.head.view_is)
     c.as_slice.ensures.value c.in_ok-put_page.ensures (ap (λ (v : Vec ℕ Global). v.items) c.into_bytes.ensures.value)
