@@ -14,4 +14,4 @@ loop-program-preserved c =
     (failing_more c.args.starts.now (images_marked c.args.marks.now) c.loop-program.program _ _ c.loop-program.invariant c.in_ok-failing.ensures)
 
 pub failures_of-requires : goal.failures_of-requires
-failures_of-requires c = c.requires.images c.loop-program.program
+failures_of-requires c = record { images = c.requires.images c.loop-program.program }
