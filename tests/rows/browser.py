@@ -5,9 +5,9 @@ from model import Checker, Run
 from notation import FLUSH, Long, M, W, explore
 from page_model import page
 
-from rows.examples import EXAMPLES, JOURNAL_RIGHT, JOURNAL_WRONG, data, two_slots
+from rows.examples import EXAMPLES, JOURNAL_RIGHT, JOURNAL_WRONG, data, pages, two_slots
 from rows.modelled import CHECKERS, PROGRAMS, any_fails, runs
-from rows.why import FEW, RECORDS, SLOTS, TWO_TORN
+from rows.why import FEW, PAGES, RECORDS, SLOTS, TWO_TORN
 
 # A mark whose text would be markup, and a write of which the text of an image is too long.
 MARKUP = [W(0, 1, 1), M("</a><script>alert('1')</script> & more"), W(0, 60, 2), M("behind")]
@@ -39,7 +39,10 @@ def design(which, run, about, judge, status):
 ROWS = [
     design("two_slots/right", Run(two_slots(FLUSH), 4, **TWO_TORN), *SLOTS, 0),
     design("two_slots/wrong", Run(two_slots(0), 4, **TWO_TORN), *SLOTS, 1),
+    design("journal/right", Run(JOURNAL_RIGHT, 8, **TWO_TORN), *RECORDS, 0),
     design("journal/wrong", Run(JOURNAL_WRONG, 8), *RECORDS, 1),
+    design("pages/right", Run(pages(FLUSH), 24, by="write", **TWO_TORN), *PAGES, 0),
+    design("pages/wrong", Run(pages(0), 24, by="write", **TWO_TORN), *PAGES, 1),
     modelled("markup in a mark", Run(MARKUP, 64)),
     modelled("markup in a mark, by write", Run(MARKUP, 64, by="write")),
     *(modelled(name, run) for name, run in list(runs())[::STEP] if sum(1 for _image in run.images()) <= FEW),
