@@ -2,19 +2,16 @@
 
 ghost use Rattle.std.specs.Prelude.{◌≡◌, IsTrue};
 ghost use Rattle.std.specs.Option.{option_map};
-ghost use Rattle.intervals.specs.SeenBounds.{limits_of, both_limits};
-ghost use Rattle.intervals.specs.Edges.{is_branch};
-ghost use Rattle.ranges.specs.Passing.{is_equal_edge, tested_kind, with_second, with_both, edge_of, given, entry_state};
+ghost use Rattle.ranges.specs.Passing.{is_equal_edge, tested_kind, edge_of, given, entry_state};
 ghost use Rattle.ranges.specs.Seen.{kind_of};
 ghost use Rattle.ranges.specs.SeenStates.{state_of};
 
 use crate::group::UNSET;
-use crate::rules::is_null_test;
+use crate::moving::follow;
 use crate::state::State;
 use crate::value::{SectorOffsets, StackOffset, Value};
-use bpf_isa::instr::{Condition, Instr, Source};
-use bpf_isa::register::Register;
-use intervals::{Bounds, refine_bounds};
+use bpf_isa::instr::{Condition, Instr};
+use intervals::Bounds;
 
 /// Whether an edge of a null test says that the register is 0.
 pub(crate) fn is_equal_edge(condition: Condition, taken: bool) -> bool
@@ -37,65 +34,17 @@ pub(crate) fn tested_value(is_zero: bool) -> Value
     }
 }
 
-/// The state with other bounds in the second operand. An immediate has none of its own.
-fn with_second(state: &State, source: &Source, bounds: Bounds) -> State
-    ensures { state_of result ≡ with_second (state_of state.now) source.now (limits_of bounds) }
-{
-    match source {
-        Source::Immediate(_) => *state,
-        Source::Register(register) => state.with_value(*register, Value::Num(bounds)),
-    }
-}
-
-/// The state with other bounds in both operands.
-fn with_both(state: &State, dst: Register, source: &Source, bounds: (Bounds, Bounds)) -> State
-    ensures { state_of result ≡ with_both (state_of state.now) dst source.now (both_limits bounds) }
-{
-    with_second(
-        &state.with_value(dst, Value::Num(bounds.0)),
-        source,
-        bounds.1,
-    )
-}
-
 /// The state on an edge of a conditional jump at whose state no rule is broken, the edge that is taken
 /// where the condition holds or the other; None where no machine goes that way. An instruction that is
 /// no conditional jump leaves the state as it is.
-#[tactic(auto, unfolding(crate::specs::Passing::edge_of))]
 pub fn branch(instr: &Instr, taken: bool, state: &State) -> Option<State>
     ensures { option_map state_of result ≡ edge_of (state_of state.now) instr.now taken }
 {
-    match instr {
-        Instr::Branch {
-            width,
-            condition,
-            dst,
-            source,
-            ..
-        } => {
-            let (first, other) = (state.value(*dst), state.second(source));
-            if is_null_test(*width, *condition, source, first) {
-                let value = tested_value(is_equal_edge(*condition, taken));
-                Some(state.with_value(*dst, value))
-            } else {
-                let bounds = refine_bounds(instr, taken, first.words(), other.words())?;
-                Some(with_both(state, *dst, source, bounds))
-            }
-        }
-        Instr::Arithmetic { .. }
-        | Instr::Negate { .. }
-        | Instr::SignExtend { .. }
-        | Instr::ByteOrder { .. }
-        | Instr::Jump { .. }
-        | Instr::LongJump { .. }
-        | Instr::CallHelper { .. }
-        | Instr::CallLocal { .. }
-        | Instr::Exit
-        | Instr::Load { .. }
-        | Instr::LoadSigned { .. }
-        | Instr::StoreImmediate { .. }
-        | Instr::Store { .. }
-        | Instr::LoadImmediate { .. } => Some(*state),
+    let mut next = *state;
+    if follow(instr, taken, &mut next) {
+        Some(next)
+    } else {
+        None
     }
 }
 

@@ -9,20 +9,19 @@ ghost use Rattle.intervals.specs.Results.{is_arithmetic};
 ghost use Rattle.ranges.specs.Places.{Fits};
 ghost use Rattle.ranges.specs.Kinds.{Num};
 ghost use Rattle.ranges.specs.Reading.{any_word};
-ghost use Rattle.ranges.specs.After.{computed, result_kind, context_word, any_of, group_value, loaded_kind, answer_kind, answered, copied_state, call_after, load_after, store_after, after_of};
+ghost use Rattle.ranges.specs.After.{computed, result_kind, context_word, any_of, group_value, loaded_kind, answer_kind, after_of};
 ghost use Rattle.ranges.specs.Seen.{kind_of};
 ghost use Rattle.ranges.specs.SeenStates.{group_of, state_of};
 
 use crate::bytes::is_group;
 use crate::group::Group;
-use crate::place::{Place, place_of};
+use crate::moving::advance;
+use crate::place::Place;
 use crate::pointers::moved;
 use crate::state::State;
 use crate::value::Value;
-use crate::writes::{with_stored, with_written};
 use arithmetic::byte_count;
 use bpf_isa::instr::{Instr, Operator, Size, Width};
-use bpf_isa::register::Register;
 use helpers::Helper;
 use intervals::{Bounds, Range, result_bounds};
 
@@ -143,117 +142,16 @@ pub(crate) fn answer_value(helper: Helper) -> Value
     }
 }
 
-/// The state behind a call that answers: r1 to r5 are unset.
-fn answered(state: &State, value: Value) -> State
-    ensures { state_of result ≡ answered (state_of state.now) (kind_of value) }
-{
-    state
-        .with_at(0, value)
-        .with_at(1, Value::Unset)
-        .with_at(2, Value::Unset)
-        .with_at(3, Value::Unset)
-        .with_at(4, Value::Unset)
-        .with_at(5, Value::Unset)
-}
-
-/// The state where helper 2 has written.
-fn copied(state: &State) -> State
-    ensures { state_of result ≡ copied_state (state_of state.now) }
-{
-    let length = state.at(3).words().unsigned.low;
-    with_written(state, place_of(state.at(2), 0, length), length)
-}
-
-/// The state behind a call of a helper.
-#[tactic(auto, unfolding(crate::specs::After::call_after))]
-fn call_after(state: &State, helper: Helper) -> State
-    ensures { state_of result ≡ call_after (state_of state.now) helper }
-{
-    match helper {
-        Helper::Copy => answered(&copied(state), answer_value(Helper::Copy)),
-        _ => answered(state, answer_value(helper)),
-    }
-}
-
-/// The state behind a load.
-fn load_after(
-    state: &State,
-    sectors: u32,
-    dst: Register,
-    size: Size,
-    base: Register,
-    offset: i16,
-) -> State
-    ensures { state_of result ≡ load_after sectors (state_of state.now) dst size base offset }
-{
-    let place = place_of(state.value(base), offset, byte_count(size));
-    state.with_value(dst, loaded(state, sectors, place, size))
-}
-
-/// The state behind a store.
-fn store_after(state: &State, stored: Value, size: Size, base: Register, offset: i16) -> State
-    ensures { state_of result ≡ store_after (state_of state.now) (kind_of stored) size base offset }
-{
-    let n = byte_count(size);
-    with_stored(state, stored, place_of(state.value(base), offset, n), n)
-}
-
 /// The state behind an instruction at whose state no rule is broken, on a device of so many sectors.
 /// None where arithmetic leaves no word, so that no machine gets there. Behind a local call r0 is any
 /// word. A jump leaves the state as it is, and so does the end of a function.
-#[tactic(auto, unfolding(crate::specs::After::after_of))]
 pub fn after(instr: &Instr, state: &State, sectors: u32) -> Option<State>
     ensures { option_map state_of result ≡ after_of sectors (state_of state.now) instr.now }
 {
-    match instr {
-        Instr::Arithmetic { dst, source, .. } => {
-            let value = result_value(instr, state.value(*dst), state.second(source))?;
-            Some(state.with_value(*dst, value))
-        }
-        Instr::Negate { dst, .. } | Instr::ByteOrder { dst, .. } => {
-            let value = computed(instr, state.value(*dst), Value::Unset)?;
-            Some(state.with_value(*dst, value))
-        }
-        Instr::SignExtend { dst, src, .. } => {
-            let value = computed(instr, Value::Unset, state.value(*src))?;
-            Some(state.with_value(*dst, value))
-        }
-        Instr::Load {
-            size,
-            dst,
-            base,
-            offset,
-        } => Some(load_after(state, sectors, *dst, *size, *base, *offset)),
-        Instr::LoadSigned { dst, .. } => Some(state.with_value(*dst, Value::Num(Bounds::full()))),
-        Instr::StoreImmediate {
-            size,
-            base,
-            offset,
-            immediate,
-        } => Some(store_after(
-            state,
-            Value::Num(Bounds::immediate(*immediate)),
-            *size,
-            *base,
-            *offset,
-        )),
-        Instr::Store {
-            size,
-            base,
-            offset,
-            src,
-        } => Some(store_after(state, state.value(*src), *size, *base, *offset)),
-        Instr::LoadImmediate { dst, value } => Some(state.with_value(
-            *dst,
-            Value::Num(Bounds::constant(*value)),
-        )),
-        Instr::CallHelper { number } => match Helper::of(number.cast_unsigned()) {
-            Some(helper) => Some(call_after(state, helper)),
-            None => Some(answered(state, Value::Num(Bounds::full()))),
-        },
-        Instr::CallLocal { .. } => Some(answered(state, Value::Num(Bounds::full()))),
-        Instr::Jump { .. } | Instr::LongJump { .. } | Instr::Branch { .. } | Instr::Exit => Some(
-            *state,
-        ),
+    let mut next = *state;
+    if advance(instr, &mut next, sectors) {
+        Some(next)
+    } else {
+        None
     }
 }

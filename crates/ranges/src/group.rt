@@ -127,6 +127,25 @@ impl Group {
         }
     }
 
+    /// As `contains`, and quick where both are known by the same marks, as most are.
+    #[inline(always)]
+    pub(crate) fn covers(&self, other: &Group) -> bool
+        ensures { IsTrue result ↔ GroupContains (group_of self.now) (group_of other.now) }
+    {
+        self.has_same_marks(other) || self.contains(*other)
+    }
+
+    /// Rounds it in place, as `round` does.
+    #[inline(always)]
+    #[tactic(auto, unfolding(crate::specs::Groups::round_group))]
+    pub(crate) fn widen(&mut self)
+        ensures { group_of self.new ≡ round_group (group_of self.old) }
+    {
+        if let Group::Spilled(_) = self {
+            *self = self.round();
+        }
+    }
+
     /// What is known of byte k.
     pub(crate) fn mark(self, k: usize) -> Mark
         requires { k < 8 }

@@ -13,28 +13,18 @@ use bpf_isa::instr::Source;
 use bpf_isa::register::Register;
 use intervals::Bounds;
 
-fn join_values(x: &[Value; 11], y: &[Value; 11]) -> [Value; 11]
-    ensures { map kind_of result ≡ zip_with join (map kind_of x.now) (map kind_of y.now) }
+/// Joins other values to these.
+fn join_values_into(x: &mut [Value; 11], y: &[Value; 11])
+    ensures values { map kind_of x.new ≡ zip_with join (map kind_of x.old) (map kind_of y.now) }
+    ensures long { length x.new ≡ length x.old }
 {
-    let mut values = [Value::Unset; 11];
     for k in 0..11 {
-        values[k] = x[k].join(y[k]);
+        x[k] = x[k].join(y[k]);
     }
-    values
-}
-
-fn join_groups(x: &[Group; 64], y: &[Group; 64]) -> [Group; 64]
-    ensures { map group_of result ≡ zip_with join_group (map group_of x.now) (map group_of y.now) }
-{
-    let mut groups = [UNSET; 64];
-    for k in 0..64 {
-        groups[k] = x[k].join(y[k]);
-    }
-    groups
 }
 
 /// Joins the groups of another stack to those of one. Most are bytes with the same marks.
-fn join_into(x: &mut [Group; 64], y: &[Group; 64])
+fn join_groups_into(x: &mut [Group; 64], y: &[Group; 64])
     ensures groups { map group_of x.new ≡ zip_with join_group (map group_of x.old) (map group_of y.now) }
     ensures long { length x.new ≡ length x.old }
 {
@@ -45,24 +35,24 @@ fn join_into(x: &mut [Group; 64], y: &[Group; 64])
     }
 }
 
-fn round_values(x: &[Value; 11]) -> [Value; 11]
-    ensures { map kind_of result ≡ map round (map kind_of x.now) }
+/// Rounds these values.
+fn widen_values(x: &mut [Value; 11])
+    ensures values { map kind_of x.new ≡ map round (map kind_of x.old) }
+    ensures long { length x.new ≡ length x.old }
 {
-    let mut values = [Value::Unset; 11];
     for k in 0..11 {
-        values[k] = x[k].round();
+        x[k] = x[k].round();
     }
-    values
 }
 
-fn round_groups(x: &[Group; 64]) -> [Group; 64]
-    ensures { map group_of result ≡ map round_group (map group_of x.now) }
+/// Rounds what is kept in these groups.
+fn widen_groups(x: &mut [Group; 64])
+    ensures groups { map group_of x.new ≡ map round_group (map group_of x.old) }
+    ensures long { length x.new ≡ length x.old }
 {
-    let mut groups = [UNSET; 64];
     for k in 0..64 {
-        groups[k] = x[k].round();
+        x[k].widen();
     }
-    groups
 }
 
 fn contains_values(x: &[Value; 11], y: &[Value; 11]) -> bool
@@ -80,7 +70,7 @@ fn contains_groups(x: &[Group; 64], y: &[Group; 64]) -> bool
     ensures { IsTrue result ↔ (zip_with join_group (map group_of x.now) (map group_of y.now) ≡ map group_of x.now) }
 {
     for k in 0..64 {
-        if !x[k].contains(y[k]) {
+        if !x[k].covers(&y[k]) {
             return false;
         }
     }
@@ -111,25 +101,21 @@ impl State {
     }
 
     /// What is known where either state is (docs/VERIFIER.md, Abstract states).
-    #[tactic(auto, unfolding(crate::specs::States::join_state))]
     pub fn join(&self, other: &State) -> State
         ensures { state_of result ≡ join_state (state_of self.now) (state_of other.now) }
     {
-        State {
-            values: join_values(&self.values, &other.values),
-            groups: join_groups(&self.groups, &other.groups),
-        }
+        let mut both = *self;
+        both.take_in(other);
+        both
     }
 
     /// The state with all ranges rounded, those of spilled values too.
-    #[tactic(auto, unfolding(crate::specs::States::round_state))]
     pub fn round(&self) -> State
         ensures { state_of result ≡ round_state (state_of self.now) }
     {
-        State {
-            values: round_values(&self.values),
-            groups: round_groups(&self.groups),
-        }
+        let mut wide = *self;
+        wide.widen();
+        wide
     }
 
     /// Joins another state to it, as `join` does.
@@ -137,8 +123,8 @@ impl State {
     pub fn take_in(&mut self, other: &State)
         ensures { state_of self.new ≡ join_state (state_of self.old) (state_of other.now) }
     {
-        self.values = join_values(&self.values, &other.values);
-        join_into(&mut self.groups, &other.groups);
+        join_values_into(&mut self.values, &other.values);
+        join_groups_into(&mut self.groups, &other.groups);
     }
 
     /// Rounds it, as `round` does.
@@ -146,8 +132,8 @@ impl State {
     pub fn widen(&mut self)
         ensures { state_of self.new ≡ round_state (state_of self.old) }
     {
-        self.values = round_values(&self.values);
-        self.groups = round_groups(&self.groups);
+        widen_values(&mut self.values);
+        widen_groups(&mut self.groups);
     }
 
     /// Whether it covers all that the other does: the join of both is itself.
@@ -191,23 +177,6 @@ impl State {
         self.groups[n]
     }
 
-    /// The state with another value in register n.
-    pub(crate) fn with_at(&self, n: usize, value: Value) -> State
-        requires { n < 11 }
-        ensures { state_of result ≡ with_value (state_of self.now) n (kind_of value) }
-    {
-        let mut state = *self;
-        state.values[n] = value;
-        state
-    }
-
-    /// The state with another value in a register.
-    pub(crate) fn with_value(&self, register: Register, value: Value) -> State
-        ensures { state_of result ≡ with_value (state_of self.now) register (kind_of value) }
-    {
-        self.with_at(register.number(), value)
-    }
-
     /// Puts another value into register n.
     pub(crate) fn set_at(&mut self, n: usize, value: Value)
         requires { n < 11 }
@@ -236,24 +205,5 @@ impl State {
         ensures { state_of self.new ≡ with_groups (state_of self.old) (slice_set (state_of self.old).groups n (group_of group)) }
     {
         self.groups[n] = group;
-    }
-
-    /// The state with other groups.
-    pub(crate) fn with_groups(&self, groups: [Group; 64]) -> State
-        ensures { state_of result ≡ with_groups (state_of self.now) (map group_of groups) }
-    {
-        let mut state = *self;
-        state.groups = groups;
-        state
-    }
-
-    /// The state with another group n.
-    pub(crate) fn with_group(&self, n: usize, group: Group) -> State
-        requires { n < 64 }
-        ensures { state_of result ≡ with_groups (state_of self.now) (slice_set (state_of self.now).groups n (group_of group)) }
-    {
-        let mut state = *self;
-        state.groups[n] = group;
-        state
     }
 }

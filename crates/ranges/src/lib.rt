@@ -16,6 +16,7 @@
 //! | `after(&instr, &state, sectors)` | the state behind an instruction that is no conditional jump, None where no machine gets there |
 //! | `branch(&instr, taken, &state)` | the state on an edge of a conditional jump, None where no machine goes that way |
 //! | `entry(&state)` | the state at the entry of a local function that is called there |
+//! | `s.take_in(&t)`, `s.widen()`, `advance(..)`, `follow(..)`, `enter(..)` | `join`, `round`, `after`, `branch` and `entry`, in place |
 //!
 //! No call takes memory, and none refuses but by its answer. `after` and `branch` are meant for an
 //! instruction that breaks no rule at the state; at another they answer what their definition says,
@@ -64,7 +65,9 @@
 //! - `pointers`: what an addition makes of a pointer. `place`: where an access falls. `bytes`: what is
 //!   known of the bytes there. `writes`: stores.
 //! - `reads`, `rules`: the rules, one function a form. Their causes are those of `base`.
-//! - `effects` and `edges`: `after`, `branch` and `entry`.
+//! - `moving`: what an instruction, an edge and a local call make of a state, in place; `effects` and
+//!   `edges` have the values for it. `after` and `branch` copy a state and then do that.
+//! - `knowing`: what is known of a state, and joining and rounding it.
 //! - `laws`: the laws, contracts of functions that do nothing.
 //!
 //! # Example

@@ -64,33 +64,6 @@ fn written(x: &[Group; 64], at: u64, n: u64) -> [Group; 64]
     groups
 }
 
-/// The state where the bytes of an access are written.
-pub(crate) fn with_written(state: &State, place: Place, n: u64) -> State
-    requires { Fits place n }
-    ensures { state_of result ≡ with_groups (state_of state.now) (written_at (state_of state.now).groups place n) }
-{
-    match place {
-        Place::Stack(at) => state.with_groups(written(&state.groups, at, n)),
-        _ => *state,
-    }
-}
-
-/// The state where a value is stored.
-#[tactic(auto, unfolding(crate::specs::After::stored_groups))]
-pub(crate) fn with_stored(state: &State, value: Value, place: Place, n: u64) -> State
-    requires { Fits place n }
-    ensures { state_of result ≡ with_groups (state_of state.now) (stored_groups (kind_of value) (state_of state.now).groups place n) }
-{
-    match place {
-        Place::Stack(at) => if value.is_set() && is_group(at, n) {
-            state.with_group((at / 8) as usize, Group::Spilled(Spill { value }))
-        } else {
-            with_written(state, place, n)
-        },
-        _ => *state,
-    }
-}
-
 /// Writes n bytes from a place on.
 // The new groups make its frame large.
 #[inline(never)]

@@ -3,7 +3,7 @@ use Rattle.ranges.proofs.Arrays.{joined_none, joined_more, joined_same, joined_a
 use Rattle.ranges.specs.Groups.{join_group}
 use Rattle.ranges.specs.SeenStates.{group_of}
 use Rattle.ranges.proofs.Nothing.{no_marks}
-use Rattle.ranges.proofs.knowing.join_into.Goals as goal
+use Rattle.ranges.proofs.knowing.join_groups_into.Goals as goal
 
 pub loop-k-init : goal.loop-k-init
 loop-k-init c = joined_none group_of join_group c.args.x.now c.args.y.now no_marks
