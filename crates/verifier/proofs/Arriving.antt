@@ -95,25 +95,17 @@ covered_same table p c = by_known (state_at table p.0) refl c
 
 -- all that arrived, and one more
 
-covers_init : (table : List (Option Abstract)) (ps qs : List (ℕ × Abstract)) → CoversAll table (ps ++ qs) → CoversAll table ps
+pub covers_init : (table : List (Option Abstract)) (ps qs : List (ℕ × Abstract)) → CoversAll table (ps ++ qs) → CoversAll table ps
 covers_init table [] qs h = tt
 covers_init table (p ∷ ps) qs h = (h.0, covers_init table ps qs h.1)
 
-covers_last : (table : List (Option Abstract)) (ps qs : List (ℕ × Abstract)) → CoversAll table (ps ++ qs) → CoversAll table qs
+pub covers_last : (table : List (Option Abstract)) (ps qs : List (ℕ × Abstract)) → CoversAll table (ps ++ qs) → CoversAll table qs
 covers_last table [] qs h = h
 covers_last table (p ∷ ps) qs h = covers_last table ps qs h.1
 
-covers_both : (table : List (Option Abstract)) (ps qs : List (ℕ × Abstract)) → CoversAll table ps → CoversAll table qs → CoversAll table (ps ++ qs)
+pub covers_both : (table : List (Option Abstract)) (ps qs : List (ℕ × Abstract)) → CoversAll table ps → CoversAll table qs → CoversAll table (ps ++ qs)
 covers_both table [] qs g h = h
 covers_both table (p ∷ ps) qs g h = (g.0, covers_both table ps qs g.1 h)
-
-pub nothing_arrived : (table : List (Option Abstract)) → Arrived table [] table false
-nothing_arrived table = record {
-  table = refl;
-  left_out = λ t. absurd (let bad : false ≡ true = t in cc);
-  same = λ _. refl;
-  covered = λ _. tt;
-}
 
 arrived_table : (old now new : List (Option Abstract)) (ps : List (ℕ × Abstract)) (p : ℕ × Abstract) → now ≡ fold receive old ps → new ≡ receive now p
     → new ≡ fold receive old (ps ++ p ∷ [])

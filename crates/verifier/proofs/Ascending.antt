@@ -1,34 +1,19 @@
 -- The search for the least good table stays below each good one.
 use Rattle.std.proofs.Common.{◌≡◌, ◌<◌, ◌^◌, ℕ, List, length, Option, refl, ◌∙◌}
-use Rattle.std.specs.List.{fold}
 use Rattle.bpf_isa.specs.declared.instr.Instr.{Instr}
 use Rattle.bpf_isa.specs.Program.{IsProgram}
 use Rattle.bpf_shape.specs.Rules.{IsShaped}
 use Rattle.ranges.specs.States.{Abstract}
-use Rattle.verifier.specs.Tables.{state_at, AreStates, sent_from}
+use Rattle.verifier.specs.Tables.{state_at}
 use Rattle.verifier.specs.Good.{IsGood}
-use Rattle.verifier.specs.Least.{IsLeast}
-use Rattle.verifier.specs.Rounds.{receive, first_table, IsSettled}
-use Rattle.verifier.specs.Passing.{Arrive, Below, StaysBelow, IsBelowGood}
-use Rattle.verifier.proofs.Arriving.{all_long}
-use Rattle.verifier.proofs.Reaching.{sent_fits}
+use Rattle.verifier.specs.Rounds.{first_table, IsSettled}
+use Rattle.verifier.specs.Passing.{StaysBelow, IsBelowGood}
 use Rattle.verifier.proofs.Settled.{first_long}
-use Rattle.verifier.proofs.Below.{all_below, sent_all_below, first_below, under_is_covered}
+use Rattle.verifier.proofs.Below.{first_below, under_is_covered}
 use Rattle.verifier.proofs.Exact.{least_is_settled}
 
 pub stays_self : (program : List (Option Instr)) (sectors : ℕ) (table : List (Option Abstract)) → StaysBelow program sectors table table
 stays_self program sectors table = record { long = refl; below = λ g good below. below }
-
--- what a slot passes on arrives
-pub stays_passed : (program : List (Option Instr)) (sectors : ℕ) (table new : List (Option Abstract)) (slot : ℕ) → sectors < 2 ^ 64 → IsProgram program → IsShaped program
-    → AreStates table → length table ≡ length program → new ≡ fold receive table (sent_from program sectors table slot) → StaysBelow program sectors table new
-stays_passed program sectors table new slot few p h states long is =
-    let arrive : Arrive (length table) (sent_from program sectors table slot) = rw long (sent_fits program sectors table slot few p h states) in
-    record {
-      long = rw is (all_long table (sent_from program sectors table slot));
-      below = λ g good below. rw is
-          (all_below table g (sent_from program sectors table slot) states arrive good.states below (sent_all_below program sectors table g slot few p states good below));
-    }
 
 -- a table of the search: as long as the program, and below each good one
 pub record Climbed (program : List (Option Instr)) (sectors : ℕ) (table : List (Option Abstract)) : Type 0 where

@@ -1,4 +1,5 @@
 pub mod Edges
+pub mod Covering
 pub mod Tables
 pub mod Breaches
 pub mod Chains
@@ -15,3 +16,4 @@ pub mod Weights
 pub mod Rising
 pub mod Exact
 pub mod Ascending
+pub mod Stepping

@@ -19,9 +19,6 @@ all_states (Some s ∷ rest) zero = each_state_fits s
 all_states (None ∷ rest) (suc n) = all_states rest n
 all_states (Some s ∷ rest) (suc n) = all_states rest n
 
-pub table_set : (states : List (Option State)) (slot : ℕ) (s : State) → table_of (set states slot (Some s)) ≡ set (table_of states) slot (Some (state_of s))
-table_set states slot s = mapped_set (option_map state_of) states slot (Some s)
-
 nothing_known : (slots : ℕ) → table_of (replicate {A = Option State} slots None) ≡ replicate {A = Option Abstract} slots None
 nothing_known zero = refl
 nothing_known (suc n) = ap (λ t. None ∷ t) (nothing_known n)
@@ -29,11 +26,6 @@ nothing_known (suc n) = ap (λ t. None ∷ t) (nothing_known n)
 pub first_is : (slots : ℕ) (states : List (Option State)) → states ≡ replicate {A = Option State} slots None → set (table_of states) 0 (Some start) ≡ first_table slots
 unfolding first_table
 first_is slots states e = rw (e, nothing_known slots) refl
-
--- a state arrives at a slot
-pub received : (states : List (Option State)) (table : List (Option Abstract)) (slot : ℕ) (s known : State) → table_of states ≡ table
-    → state_of known ≡ joined (state_at table slot) (state_of s) → table_of (set states slot (Some known)) ≡ receive table (slot, state_of s)
-received states table slot s known e k = table_set states slot known ∙ rw (e, k) refl
 
 known_at : (states : List (Option State)) (slot : ℕ) (d : Option State) → slot < length states → option_map state_of (get_or states slot d) ≡ state_at (table_of states) slot
 known_at [] slot d small = absurd (let bad : slot < 0 = small in omega (arith, bad))

@@ -1,36 +1,109 @@
 //! Whether a table is good.
 
-ghost use Rattle.std.specs.Prelude.{◌≡◌, ◌<◌, ◌↔◌, ℕ, IsTrue, OnOk, IfErr, IfSome, IfNone};
-ghost use Rattle.std.specs.Option.{option_map, option_to_list};
+ghost use Rattle.std.specs.Prelude.{◌≡◌, ◌<◌, ◌↔◌, ℕ, IsTrue, OnOk, IfErr, IfSome, IfNone, Some};
+ghost use Rattle.std.specs.Option.{option_to_list};
+ghost use Rattle.bpf_shape.specs.Again.{heads};
 ghost use Rattle.bpf_shape.specs.Shape.{IsShapeOf};
+ghost use Rattle.ranges.specs.SeenStates.{state_of};
 ghost use Rattle.ranges.specs.States.{start};
-ghost use Rattle.verifier.specs.Tables.{CoversAll, Covers, state_at, rule_at, sent_from};
-ghost use Rattle.verifier.specs.Seen.{arrival_of, arrivals_of};
+ghost use Rattle.verifier.specs.Passing.{along, next_state, target_state};
+ghost use Rattle.verifier.specs.Tables.{CoversAll, Covers, state_at, rule_at, sent_from, passed_on};
 ghost use Rattle.verifier.specs.Good.{IsGood, IsGoodAt};
 ghost use Rattle.verifier.specs.Breaches.{BreaksAt, FirstSlot, FirstBreach, FirstRule, KeepsRules};
 
-use crate::passing::{Arrival, Arrivals, rule_at, sent_from};
+use crate::passing::{arrive_next, arrive_target, rule_at, target_of};
 use crate::table::Table;
 use base::causes::VerifierCause;
+use bpf_isa::instr::Instr;
 use bpf_isa::program::Program;
-use bpf_shape::{Fault, Shape};
+use bpf_shape::{Fault, Shape, edges_of};
 use ranges::State;
 
-/// Whether what arrives, if something does, is contained in what a table knows there.
-fn covers(table: &Table, arrival: Option<Arrival>) -> bool
-    ensures { IsTrue result ↔ CoversAll table.now (option_to_list (option_map arrival_of arrival)) }
+/// Whether what is passed to the next slot, if there is one, is contained in what is known there. A state is changed in
+/// place in the room that is given, whatever stands there.
+fn covers_next(
+    shape: &Shape,
+    sectors: u32,
+    table: &Table,
+    edge: Option<usize>,
+    instr: &Instr,
+    state: &State,
+    room: &mut State,
+) -> bool
+    ensures { IsTrue result ↔ CoversAll table.now (option_to_list (along shape.now.heads edge (next_state sectors (state_of state.now) instr.now))) }
 {
-    match arrival {
-        Some(arrival) => table.covers(arrival.slot, &arrival.state),
+    match edge {
+        Some(slot) => {
+            *room = *state;
+            !arrive_next(shape, slot, sectors, instr, room) || table.covers(slot, room)
+        }
         None => true,
     }
 }
 
-/// Whether all that a slot passes on is contained in what a table knows where it arrives.
-fn covers_all(table: &Table, arrivals: Arrivals) -> bool
-    ensures { IsTrue result ↔ CoversAll table.now (arrivals_of arrivals) }
+/// The same of the other edge.
+fn covers_target(
+    shape: &Shape,
+    table: &Table,
+    edge: Option<usize>,
+    instr: &Instr,
+    state: &State,
+    room: &mut State,
+) -> bool
+    ensures { IsTrue result ↔ CoversAll table.now (option_to_list (along shape.now.heads edge (target_state (state_of state.now) instr.now))) }
 {
-    covers(table, arrivals.next) && covers(table, arrivals.target)
+    match edge {
+        Some(slot) => {
+            *room = *state;
+            !arrive_target(shape, slot, instr, room) || table.covers(slot, room)
+        }
+        None => true,
+    }
+}
+
+/// Whether all that an instruction passes on is contained in what is known where it arrives.
+fn covers_edges(
+    shape: &Shape,
+    sectors: u32,
+    table: &Table,
+    slot: usize,
+    instr: &Instr,
+    state: &State,
+    room: &mut State,
+) -> bool
+    requires { slot < 4096 }
+    ensures { IsTrue result ↔ CoversAll table.now (passed_on shape.now.heads sectors slot (Some instr.now) (Some (state_of state.now))) }
+{
+    covers_next(
+        shape,
+        sectors,
+        table,
+        edges_of(slot, instr).next,
+        instr,
+        state,
+        room,
+    ) && covers_target(shape, table, target_of(slot, instr), instr, state, room)
+}
+
+/// Whether all that a slot passes on is contained in what a table knows where it arrives.
+#[tactic(auto, unfolding(crate::specs::Tables::sent_from))]
+fn covers_sent(
+    program: &Program,
+    shape: &Shape,
+    sectors: u32,
+    table: &Table,
+    slot: usize,
+    room: &mut State,
+) -> bool
+    requires { shape.now.heads ≡ heads program.now }
+    ensures { IsTrue result ↔ CoversAll table.now (sent_from program.now sectors table.now slot) }
+{
+    match (program.at(slot), table.state(slot)) {
+        (Some(instr), Some(state)) => covers_edges(
+            shape, sectors, table, slot, &instr, state, room,
+        ),
+        _ => true,
+    }
 }
 
 /// What a slot breaks first: a rule, or an edge.
@@ -40,6 +113,7 @@ fn breach_at(
     sectors: u32,
     table: &Table,
     slot: usize,
+    room: &mut State,
 ) -> Option<VerifierCause>
     requires { IsShapeOf program.now shape.now }
     ensures good { IfNone result (IsGoodAt program.now sectors table.now slot) }
@@ -48,7 +122,7 @@ fn breach_at(
     if let Some(cause) = rule_at(program, table, slot) {
         return Some(cause);
     }
-    if covers_all(table, sent_from(program, shape, sectors, table, slot)) {
+    if covers_sent(program, shape, sectors, table, slot, room) {
         None
     } else {
         Some(VerifierCause::Unsettled)
@@ -61,8 +135,9 @@ fn check_slots(program: &Program, shape: &Shape, sectors: u32, table: &Table) ->
     ensures good { OnOk result ((slot : ℕ) → IsGoodAt program.now sectors table.now slot) }
     ensures breach { IfErr result (λ f. FirstSlot program.now sectors table.now f.code f.slot) }
 {
+    let mut room = State::start();
     for slot in 0..program.slots() {
-        if let Some(cause) = breach_at(program, shape, sectors, table, slot) {
+        if let Some(cause) = breach_at(program, shape, sectors, table, slot, &mut room) {
             return Err(refused(cause, slot));
         }
     }

@@ -58,9 +58,10 @@
 //! # How it is written
 //!
 //! - `table`: `Table`. `passing`: the rules and edges of one slot. `check`: `check_table`.
-//! - `climbing`: the search. Of it only is proved that each good table contains what it ends with; that this one is
-//!   good is tested by `check_table`, and then it is the least. So the order in which slots pass on, by `worklist`,
-//!   is free. `inferring`: the search, and the rounds where it finds nothing good.
+//! - `climbing`: the search. Like the test, it leads states along edges in place, in one room for all slots. Of it only
+//!   is proved that each good table contains what it ends with; that this one is good is tested by `check_table`, and
+//!   then it is the least. So the order in which slots pass on, by `worklist`, is free. `inferring`: the search, and the
+//!   rounds where it finds nothing good.
 //! - `rounds`: a round lists all that is passed on by the table as it is, and then lets it arrive, so no
 //!   copy of the table is made. What is known already is not joined again. Each slot that learns something
 //!   gets a mark, and only the marked slots pass on in the next round: what the others pass on is contained

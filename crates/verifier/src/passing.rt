@@ -9,7 +9,7 @@ ghost use Rattle.ranges.specs.Rules.{rules};
 ghost use Rattle.ranges.specs.Moving.{reached};
 ghost use Rattle.verifier.specs.Tables.{arriving, arrival, rule_at, sent_from, passed_on};
 ghost use Rattle.verifier.specs.Passing.{next_state, target_of, target_state, along};
-ghost use Rattle.verifier.specs.Seen.{arrival_of, arrivals_of};
+ghost use Rattle.verifier.specs.Seen.{arrival_of};
 
 use crate::table::Table;
 use base::causes::VerifierCause;
@@ -24,14 +24,6 @@ use std::alloc::AllocError;
 pub(crate) struct Arrival {
     pub slot: usize,
     pub state: State,
-}
-
-/// What an instruction passes on: to the next slot, and to the target of a jump or the entry of a local
-/// function.
-#[derive(Clone, Copy)]
-pub(crate) struct Arrivals {
-    pub next: Option<Arrival>,
-    pub target: Option<Arrival>,
 }
 
 /// The first rule of an instruction that is broken at a state.
@@ -83,7 +75,7 @@ fn go_next(instr: &Instr, state: &mut State, sectors: u32) -> bool
 /// Where an instruction passes a state besides the next slot: the entry of a local function, or the
 /// target of a jump.
 #[tactic(auto, unfolding(crate::specs::Passing::target_of))]
-fn target_of(slot: usize, instr: &Instr) -> Option<usize>
+pub(crate) fn target_of(slot: usize, instr: &Instr) -> Option<usize>
     requires { slot < 4096 }
     ensures { result ≡ target_of slot instr.now }
 {
@@ -129,78 +121,32 @@ fn arrive_at(shape: &Shape, slot: usize, state: &mut State)
     }
 }
 
-/// What arrives at the next slot, if something is passed there.
-fn at_next(
+/// Leads a state to the next slot, as it arrives there. Whether something is passed.
+pub(crate) fn arrive_next(
     shape: &Shape,
     slot: usize,
     sectors: u32,
     instr: &Instr,
-    state: &State,
-) -> Option<Arrival>
-    ensures { option_map arrival_of result ≡ along shape.now.heads (Some slot) (next_state sectors (state_of state.now) instr.now) }
+    state: &mut State,
+) -> bool
+    ensures { along shape.now.heads (Some slot) (next_state sectors (state_of state.old) instr.now) ≡ option_map (λ s. (slot, s)) (reached result (state_of state.new)) }
 {
-    let mut arrived = *state;
-    if !go_next(instr, &mut arrived, sectors) {
-        return None;
+    if !go_next(instr, state, sectors) {
+        return false;
     }
-    arrive_at(shape, slot, &mut arrived);
-    Some(Arrival {
-        slot,
-        state: arrived,
-    })
+    arrive_at(shape, slot, state);
+    true
 }
 
-/// What arrives at the target, if something is passed there.
-fn at_target(shape: &Shape, slot: usize, instr: &Instr, state: &State) -> Option<Arrival>
-    ensures { option_map arrival_of result ≡ along shape.now.heads (Some slot) (target_state (state_of state.now) instr.now) }
+/// Leads a state to the target, as it arrives there. Whether something is passed.
+pub(crate) fn arrive_target(shape: &Shape, slot: usize, instr: &Instr, state: &mut State) -> bool
+    ensures { along shape.now.heads (Some slot) (target_state (state_of state.old) instr.now) ≡ option_map (λ s. (slot, s)) (reached result (state_of state.new)) }
 {
-    let mut arrived = *state;
-    if !go_to_target(instr, &mut arrived) {
-        return None;
+    if !go_to_target(instr, state) {
+        return false;
     }
-    arrive_at(shape, slot, &mut arrived);
-    Some(Arrival {
-        slot,
-        state: arrived,
-    })
-}
-
-/// What arrives along the edge to the next slot, if there is one and something is passed.
-fn along_next(
-    shape: &Shape,
-    edge: Option<usize>,
-    sectors: u32,
-    instr: &Instr,
-    state: &State,
-) -> Option<Arrival>
-    ensures { option_map arrival_of result ≡ along shape.now.heads edge (next_state sectors (state_of state.now) instr.now) }
-{
-    match edge {
-        Some(slot) => at_next(shape, slot, sectors, instr, state),
-        None => None,
-    }
-}
-
-/// What arrives along the other edge, if there is one and something is passed.
-fn along_target(shape: &Shape, edge: Option<usize>, instr: &Instr, state: &State) -> Option<Arrival>
-    ensures { option_map arrival_of result ≡ along shape.now.heads edge (target_state (state_of state.now) instr.now) }
-{
-    match edge {
-        Some(slot) => at_target(shape, slot, instr, state),
-        None => None,
-    }
-}
-
-/// What an instruction passes on, as it arrives.
-fn passed_on(shape: &Shape, sectors: u32, slot: usize, instr: &Instr, state: &State) -> Arrivals
-    requires { slot < 4096 }
-    ensures { arrivals_of result ≡ passed_on shape.now.heads sectors slot (Some instr.now) (Some (state_of state.now)) }
-{
-    let next = edges_of(slot, instr).next;
-    Arrivals {
-        next: along_next(shape, next, sectors, instr, state),
-        target: along_target(shape, target_of(slot, instr), instr, state),
-    }
+    arrive_at(shape, slot, state);
+    true
 }
 
 /// Appends what arrives at the next slot, if something is passed there.
@@ -318,26 +264,5 @@ pub(crate) fn push_sent(
     match (program.at(slot), table.state(slot)) {
         (Some(instr), Some(state)) => push_passed_on(waiting, shape, sectors, slot, &instr, state),
         _ => Ok(()),
-    }
-}
-
-/// What a slot passes on, as it arrives; nothing, where it has no state, or no instruction begins.
-#[tactic(auto, unfolding(crate::specs::Tables::sent_from))]
-pub(crate) fn sent_from(
-    program: &Program,
-    shape: &Shape,
-    sectors: u32,
-    table: &Table,
-    slot: usize,
-) -> Arrivals
-    requires { shape.now.heads ≡ heads program.now }
-    ensures { arrivals_of result ≡ sent_from program.now sectors table.now slot }
-{
-    match (program.at(slot), table.state(slot)) {
-        (Some(instr), Some(state)) => passed_on(shape, sectors, slot, &instr, state),
-        _ => Arrivals {
-            next: None,
-            target: None,
-        },
     }
 }

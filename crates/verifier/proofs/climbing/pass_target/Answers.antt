@@ -1,0 +1,33 @@
+use Rattle.std.proofs.Common.{◌≡◌, arith, Some}
+use Rattle.ranges.specs.SeenStates.{state_of}
+use Rattle.verifier.specs.Tables.{state_at}
+use Rattle.verifier.proofs.Stepping.{target_fits, stays_target}
+use Rattle.verifier.proofs.climbing.pass_target.Goals as goal
+
+pub lead_target-requires-clause-fits : goal.lead_target-requires-clause-fits
+lead_target-requires-clause-fits c =
+    let known : state_at c.args.table.now c.args.slot ≡ Some (state_of c.copy_state.new.room) = rw c.if-copy_state.true at c.copy_state.ensures in
+    rw (c.target_of-edge.ensures, c.requires.shape.heads)
+    (target_fits c.args.program.now c.args.sectors c.args.table.now c.args.slot (state_of c.copy_state.new.room) c.args.instr.now (record {
+      few = omega (arith, c.ranges.sectors.fits);
+      made = c.slots-slots.ensures.program;
+      shape = c.requires.shape.rules;
+      states = c.slots-states.ensures.states;
+      long = c.requires.long;
+      there = c.requires.instr;
+      known = known;
+    }))
+
+pub returns-then-copy_state : goal.returns-then-copy_state
+returns-then-copy_state c =
+    let known : state_at c.args.table.now c.args.slot ≡ Some (state_of c.copy_state.new.room) = rw c.if-copy_state.true at c.copy_state.ensures in
+    stays_target c.args.program.now c.args.sectors c.args.table.now c.lead_target.new.table c.args.slot (state_of c.copy_state.new.room) c.args.instr.now (record {
+      few = omega (arith, c.ranges.sectors.fits);
+      made = c.slots-slots.ensures.program;
+      shape = c.requires.shape.rules;
+      states = c.slots-states.ensures.states;
+      long = c.requires.long;
+      there = c.requires.instr;
+      known = known;
+    })
+    (rw (c.target_of-edge.ensures, c.requires.shape.heads) at c.lead_target.ensures)
