@@ -130,14 +130,19 @@ fn breach_at(
 }
 
 /// Tests all slots, in rising order.
-fn check_slots(program: &Program, shape: &Shape, sectors: u32, table: &Table) -> Result<(), Fault>
+fn check_slots(
+    program: &Program,
+    shape: &Shape,
+    sectors: u32,
+    table: &Table,
+    room: &mut State,
+) -> Result<(), Fault>
     requires { IsShapeOf program.now shape.now }
     ensures good { OnOk result ((slot : ℕ) → IsGoodAt program.now sectors table.now slot) }
     ensures breach { IfErr result (λ f. FirstSlot program.now sectors table.now f.code f.slot) }
 {
-    let mut room = State::start();
     for slot in 0..program.slots() {
-        if let Some(cause) = breach_at(program, shape, sectors, table, slot, &mut room) {
+        if let Some(cause) = breach_at(program, shape, sectors, table, slot, room) {
             return Err(refused(cause, slot));
         }
     }
@@ -159,10 +164,11 @@ pub fn check_table(
     if table.slots() != program.slots() {
         return Err(refused(VerifierCause::Unsettled, 0));
     }
-    if !table.covers(0, &State::start()) {
+    let mut room = State::start();
+    if !table.covers(0, &room) {
         return Err(refused(VerifierCause::Unsettled, 0));
     }
-    check_slots(program, shape, sectors, table)
+    check_slots(program, shape, sectors, table, &mut room)
 }
 
 /// Whether each slot of a table keeps its rules, edges aside; else the lowest that doesn't.

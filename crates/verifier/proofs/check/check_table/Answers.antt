@@ -13,7 +13,7 @@ pub returns-then-not-covers-clause-breach : goal.returns-then-not-covers-clause-
 returns-then-not-covers-clause-breach c =
     let long : length c.args.table.now ≡ length c.args.program.now = search rules in
     rw c.refused-then-not-covers.ensures (no_start long (λ h.
-    let there : Covers (state_at c.args.table.now 0) (state_of c.start.result) = rw c.start.ensures h in
+    let there : Covers (state_at c.args.table.now 0) (state_of c.start-room.result) = rw c.start-room.ensures h in
     let bad : false ≡ true = sym c.if-not-covers.true ∙ c.covers.ensures.1 there in
     cc))
 
