@@ -7,3 +7,4 @@ pub mod Reading
 pub mod Frames
 pub mod Stopping
 pub mod Accesses
+pub mod Reaching
