@@ -83,7 +83,7 @@ impl Model for Words {
 }
 
 /// The version of the program, and the kit that it is proved with.
-const VERSION: &str = "0.1.0 (proved with rattle-kit-13b logic dac8208d650f15bf)";
+const VERSION: &str = "0.1.0 (proved with rattle-kit-13f logic dac8208d650f15bf)";
 
 /// What the program is for.
 const ABOUT: &str =
