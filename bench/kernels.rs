@@ -1,5 +1,5 @@
 //! The sector kernels in plain Rust, beside which those of the crate `lanes` are timed (README.md).
-//! The pairs of sectors, the passes and the way of timing are those of `crates/bench/src/kernels.rs`.
+//! The pairs of sectors, the passes and the way of timing are those of `crate/src/kernels.rt.txt`.
 use std::hint::black_box;
 use std::time::Instant;
 

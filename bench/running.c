@@ -1,4 +1,4 @@
-/* The programs of crates/bench (argument `running`) on DPDK's BPF interpreter: rte_bpf_exec, without
+/* The programs of bench/crate (argument `running`) on DPDK's BPF interpreter: rte_bpf_exec, without
  * its compiler. Prints the steps a second in millions, the best of five rounds.
  *
  * build: gcc -O2 bench/running.c -o bench/out/running $(pkg-config --cflags libdpdk) -march=corei7 -lrte_bpf -lrte_eal

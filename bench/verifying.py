@@ -107,7 +107,7 @@ def slot(opcode, dst=0, src=0, offset=0, immediate=0):
 
 
 def programs():
-    """Returns the programs of the benchmark (crates/bench, `running`), their loops ended by `again`, and some with more loops."""
+    """Returns the programs of the benchmark (bench/crate, `running`), their loops ended by `again`, and some with more loops."""
     put, copy, end = (lambda r, n: slot(0xB7, r, 0, 0, n)), (lambda r, s: slot(0xBF, r, s)), slot(0x95)
     again = lambda turns, back: [put(1, turns), slot(0x85, 0, 0, 0, 3), slot(0x55, 0, 0, back)]
     add, turn = (lambda r, n: slot(0x07, r, 0, 0, n)), slot(0x17, 7, 0, 0, 1)

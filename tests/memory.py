@@ -1,101 +1,138 @@
 #!/usr/bin/env python3
-"""Refuses each allocation of the built programs in turn, and looks at what they make of that; and how much many lines take.
+"""Gives the built programs too little: each allocation refused in turn, little room, no threads, a small stack.
 
     python3 tests/memory.py [PROGRAM [CALLS]]
     python3 tests/memory.py --counts [PROGRAM [CALLS]]
 
-The second form refuses nothing, and prints how many allocations each row makes, as the lines of ROWS and CALLS.
+The second form prints how many allocations each row makes and how it is refused, as the lines of ROWS and CALLS.
 
-PROGRAM is as in run.py, CALLS crates/refused_calls/out/refused_calls in the same way. A C compiler (`cc`, `gcc` or `clang`) builds `refuse.c` beside this script, which is loaded before
-the program and refuses its Nth call of `malloc`, `calloc` or `realloc`. Each row below is run with N = 1, 2, .. until a run
-asks for fewer than N. The answer is then either what the row says, byte by byte, or want of memory: nothing on standard
-output, status 2, and on standard error one line, a refusal with a cause for memory at 0 or `error: out of memory`. Notes
-below a refusal are left out where there is no memory for them.
+PROGRAM is as in run.py, CALLS crates/aside/out/aside in the same way. A C compiler (`cc`, `gcc` or `clang`)
+builds `refuse.c` beside this script, which is loaded before the program. It makes all runs of a row from one process, so
+that thousands of them take seconds; rows are made side by side, one a processor.
 
-Rows are those of run.py, by name, with the number of allocations that a run makes, so that a new allocation is noticed;
-None where workers side by side make it vary.
+ROWS are rows of run.py, by name. Each is run with its Nth allocation refused, for N = 1, 2, .. until a run asks for fewer
+than N; and then with all from the Nth on refused. A run either answers what the row says, byte by byte, with notes left
+out or not, or it is refused for want of memory: nothing on standard output, status 2, and one line on standard error. A row
+says how many allocations its run makes, so that a new one is noticed, and the refusals as they come with rising N where one
+is refused: `72 11` stands for some that are `refused 72 at 0` and then some that are `refused 11 at 0`, `26.0` for
+`refused 26 at 0 of program 0`, and a dot for right answers. Where all from the Nth on are refused each refusal has to be
+one of these. Where workers side by side make both vary, the number is None, and the refusals come in any order; and of a
+run with more than MOST allocations each STEPth is refused, and all from it on.
 
-CALLS makes public calls by themselves, those too that the program doesn't make, and makes each again that is refused for
-want of memory. Its allocations are refused in the same way: it has to print what it always prints, whichever is refused.
+`CALLS calls` makes public calls by themselves, those too that the program doesn't make, and makes each again that is refused for
+want of memory. Its allocations are refused one by one in the same way: it has to print what it always prints.
 
 Then each run of LARGE, in which every image fails, is given no more room than twice its report, twice its log, and 64 MiB,
 as the system counts a process's addresses (`ulimit -v`): it has to print the same report as without that limit, whose last
-line is known. What is printed is as in run.py: a line for each row that failed, and last
-`N passed, M failed`.
+line is known. Runs by many workers have to print the same bytes where no thread can be started, as a user who may have no
+more processes, and in a room in which no thread's stack finds a place; and where there is room for some of them alone, the
+same bytes or a refusal for want of memory. And a run by one worker has to end within STACK KiB of stack, where the words and
+the surroundings take little of it.
+What is printed is as in run.py: a line for each row that failed, and last `N passed, M failed`.
 """
 import filecmp
 import json
 import os
 import re
+import resource
 import shutil
 import subprocess
 import sys
 import tempfile
 from concurrent.futures import ThreadPoolExecutor
+from dataclasses import dataclass
 from math import comb
 from pathlib import Path
 
 sys.dont_write_bytecode = True
 
-from notation import SECONDS, TESTS, TOP, F, W, log, named, program
+from model import Checker, Run, explored, one
+from notation import SECONDS, TESTS, TOP, F, Long, W, explore, log, named, program
 from run import Assembler, all_rows, made, put, shortened, split_notes, split_progress
 
-WANT_OF_MEMORY = re.compile(rb"refused (11|26|35|60|72) at 0( of program [0-7])?\n|error: out of memory\n")
+WANT_OF_MEMORY = re.compile(rb"refused (11|26|35|60|72) at 0(?: of program ([0-7]))?\n")
+
+# Of runs with more allocations than MOST each STEPth is refused.
+MOST = 1200
+STEP = 7
+
+# The stack of a run by one worker, in KiB.
+STACK = 128
+
+# The notes behind want of memory for the work, the second of them in a run by several workers alone.
+NO_MEMORY = b"note: there is no memory for the work\n"
+FEWER_WORKERS = b"note: fewer workers take less memory, and --workers 1 the least\n"
+
+# How runs by workers side by side are refused.
+MANY = ". 11 26.0 60.0 72"
 
 ROWS = {
-    "no word at all: the stored run": 46,
-    "empty_log_bad": 267,
-    "empty_log_bad, first": 271,
-    "torn_sector": 289,
-    "torn_sector, first": 293,
-    "torn_sector, within 9 steps": 279,
-    "pairs_of_drops": 196,
-    "pairs_of_drops, each choice": 358,
-    "sixteen_codes": 366,
-    "sixteen_codes, first": 315,
-    "eight programs": 495,
-    "torn_sector, 2 workers, cache 16": None,
-    "marks, 2 workers, cache 16": None,
-    "sixteen_codes, 2 workers, cache 16": None,
-    "sixteen_codes, 4 workers, with progress": None,
-    "two_epochs": 192,
-    "a mark after a write": 184,
-    "two_epochs, image 20": 190,
-    "overwritten_sector, bound 1, image 34": 197,
-    "two_slots, wrong, survey": 216,
-    "journal, image 17": 208,
-    "journal/wrong, image 17 in words": 221,
-    "pages/wrong, --cut 10 --choice 8:drop in words": 260,
-    "image: a tear without --tears": 207,
-    "why: two_slots/wrong": 448,
-    "why: journal/wrong": 360,
-    "why: journal, wrong, two lost or torn, by 4 workers": None,
-    "page: journal/wrong": 440,
-    "page: markup in a mark": 590,
-    "asm report_codes, with labels": 160,
-    "asm masked_index": 162,
-    "two_slots/checker, assembled": 174,
-    "text: 'ja x\\nlddw r0, 0\\nx:\\nexit'": 149,
-    "list": 146,
-    "list masked_index": 155,
-    "asm and list: every instruction in one program": 167,
-    "verify first_byte": 180,
-    "verify byte_64": 180,
-    "verify ends_agree": 184,
-    "verify marks_passed": 176,
-    "verify report_codes": 184,
-    "verify sum_words": 188,
-    "verify nested_loops": 184,
-    "verify masked_index": 188,
-    "verify two_slots/checker_c": 192,
-    "verify journal/checker": 192,
-    "verify checkers/type_counts": 192,
-    "verify checkers/journal_scan": 192,
+    "no word at all: the stored run": (46, "72 . 72 26.0 72 ."),
+    "empty_log_bad": (267, "72 . 72 11 72 26.0 72 26.0 72 60.0 72 ."),
+    "empty_log_bad, first": (271, "72 . 72 11 72 26.0 72 26.0 72 60.0 72 ."),
+    "torn_sector": (288, "72 . 72 11 72 26.0 72 11 72 26.0 72 60.0 72 . 72 ."),
+    "torn_sector, first": (292, "72 . 72 11 72 26.0 72 11 72 26.0 72 60.0 72 . 72 ."),
+    "torn_sector, within 9 steps": (278, "72 . 72 11 72 26.0 72 11 72 26.0 72 . 72 ."),
+    "pairs_of_drops": (194, "72 . 72 11 72 11 72 ."),
+    "pairs_of_drops, each choice": (356, "72 . 72 11 72 26.0 72 11 72 26.0 72 60.0 72 . 72 . 72 . 72 . 72 ."),
+    "sixteen_codes": (364, "72 . 72 11 72 26.0 72 11 72 26.0 72 60.0 72 . 72 . 72 . 72 . 72 ."),
+    "sixteen_codes, first": (313, "72 . 72 11 72 26.0 72 11 72 26.0 72 60.0 72 . 72 ."),
+    "eight programs": (497, "72 . 72 11 72 26.0 26.1 26.2 26.3 72 26.4 26.5 26.6 26.7 72 26.0 72 26.1 26.2 26.3 26.4 72 26.5 26.6 26.7 60.0 72 60.1 60.2 60.3 60.4 72 60.5 60.6 60.7 72 . 72 ."),
+    "torn_sector, 2 workers, cache 16": (None, MANY),
+    "marks, 2 workers, cache 16": (None, MANY),
+    "sixteen_codes, 2 workers, cache 16": (None, MANY),
+    "sixteen_codes, 4 workers, with progress": (None, MANY),
+    "two_epochs": (190, "72 . 72 11 72 11 72 ."),
+    "a mark after a write": (182, "72 . 72 11 72 11 72 ."),
+    "two_epochs, image 20": (188, "72 . 72 11 72 11 72 ."),
+    "overwritten_sector, bound 1, image 34": (195, "72 . 72 11 72 11 72 ."),
+    "two_slots, wrong, survey": (212, "72 . 72 11 72 11 72 ."),
+    "journal, image 17": (204, "72 . 72 11 72 11 72 ."),
+    "journal/wrong, image 17 in words": (217, "72 . 72 11 72 11 72 ."),
+    "pages/wrong, --cut 10 --choice 8:drop in words": (255, "72 . 72 11 72 11 72 ."),
+    "image: a tear without --tears": (204, "72 . 72 11 72 11 72 ."),
+    "why: two_slots/wrong": (444, "72 . 72 11 72 26.0 72 11 72 26.0 72 60.0 72 . 72 . 72 . 72 . 72 . 72 . 72 ."),
+    "why: journal/wrong": (356, "72 . 72 11 72 26.0 72 11 72 26.0 72 60.0 72 . 72 ."),
+    "why: journal, wrong, two lost or torn, by 4 workers": (None, MANY),
+    "page: journal/wrong": (436, "72 . 72 11 72 26.0 72 11 72 26.0 72 60.0 72 . 72 ."),
+    "page: markup in a mark": (584, "72 . 72 11 72 26.0 26.1 72 11 72 26.0 72 26.1 60.0 72 60.1 72 . 72 . 72 . 72 ."),
+    "asm report_codes, with labels": (161, "72 . 72 35 72 35 72 ."),
+    "asm masked_index": (163, "72 . 72 35 72 35 72 ."),
+    "two_slots/checker, assembled": (173, "72 . 72 35 72 35 72 ."),
+    "text: 'ja x\\nlddw r0, 0\\nx:\\nexit'": (150, "72 . 72 35 72 35 72 ."),
+    "list": (147, "72 . 72 26 72 26 72 ."),
+    "list masked_index": (156, "72 . 72 26 72 26 72 ."),
+    "asm and list: every instruction in one program": (166, "72 . 72 26 72 26 72 ."),
+    "verify first_byte": (181, "72 . 72 26 72 26 60 72 ."),
+    "verify byte_64": (181, "72 . 72 26 72 26 60 72 ."),
+    "verify ends_agree": (185, "72 . 72 26 72 26 60 72 ."),
+    "verify marks_passed": (177, "72 . 72 26 72 26 60 72 ."),
+    "verify report_codes": (185, "72 . 72 26 72 26 60 72 ."),
+    "verify sum_words": (189, "72 . 72 26 72 26 60 72 ."),
+    "verify nested_loops": (185, "72 . 72 26 72 26 60 72 ."),
+    "verify masked_index": (189, "72 . 72 26 72 26 60 72 ."),
+    "verify two_slots/checker_c": (193, "72 . 72 26 72 26 60 72 ."),
+    "verify journal/checker": (193, "72 . 72 26 72 26 60 72 ."),
+    "verify checkers/type_counts": (193, "72 . 72 26 72 26 60 72 ."),
+    "verify checkers/journal_scan": (193, "72 . 72 26 72 26 60 72 ."),
+    "every image of sixteen writes fails, 16 workers": (None, MANY),
 }
 
+# A run by sixteen workers, which all have blocks of images to judge: 3,213 images in 51 blocks.
+SIXTEEN = Run([W(place, 1, place) for place in range(16)], sectors=16, bound=3)
+EXTRA = [
+    explore(
+        "every image of sixteen writes fails, 16 workers",
+        f"{SIXTEEN.options()} --workers 16",
+        SIXTEEN.entries,
+        program("mov64 r0, 1; exit"),
+        Long(lambda: explored(SIXTEEN, [Checker("slots 2 budget 2", one)])),
+        1,
+    )
+]
 
 # How many allocations the calls by themselves make.
-CALLS = 571
+CALLS = 574
 
 # Runs with some 600,000 lines and more. Of n writes in one epoch, of which up to three are lost, there are as many images as
 # ways to pick them, over all cuts.
@@ -175,21 +212,35 @@ def built(folder):
     return library
 
 
-def run_refusing(program, library, words, folder, number):
-    """A run in which the allocation of that number is refused, and how many it asked for."""
-    counted = Path(folder, "counted")
-    counted.unlink(missing_ok=True)
-    surroundings = {**os.environ, "LD_PRELOAD": str(library), "REFUSED": str(number), "COUNTED": str(counted)}
-    done = subprocess.run(
-        words,
-        executable=program,
-        cwd=folder,
-        stdin=subprocess.DEVNULL,
-        capture_output=True,
-        timeout=SECONDS,
-        env=surroundings,
-    )
-    return done, int(counted.read_text()) if counted.exists() else None
+@dataclass(frozen=True)
+class Refused:
+    """A run in which allocations were refused: the number of the first, how many it asked for, and how it ended."""
+
+    number: int
+    asked: int
+    returncode: int
+    stdout: bytes
+    stderr: bytes
+
+
+def read_runs(path):
+    """The runs that the library wrote down."""
+    text, at = path.read_bytes(), 0
+    while at < len(text):
+        end = text.index(b"\n", at)
+        number, asked, status, out, error = map(int, text[at:end].split())
+        at = end + 1 + out + error
+        yield Refused(number, asked, os.waitstatus_to_exitcode(status), text[end + 1 : at - error], text[at - error : at])
+
+
+def sweep(program, library, words, folder, first, last, step=1, onwards=False):
+    """The runs with the numbers from `first` to `last`, as far as they ask for so many allocations."""
+    swept = Path(folder, "swept")
+    surroundings = {**os.environ, "LD_PRELOAD": str(library), "SWEEP": f"{first} {last} {step} {int(onwards)}", "SWEPT": str(swept)}
+    subprocess.run(words, executable=program, cwd=folder, stdin=subprocess.DEVNULL, check=True, env=surroundings)
+    runs = list(read_runs(swept))
+    swept.unlink()
+    return runs
 
 
 def error_of(done, row):
@@ -203,46 +254,89 @@ def is_right(done, row):
     return (done.returncode, done.stdout, error) == (row.status, made(row.out), made(f"{row.error}\n" if row.error else ""))
 
 
-def is_want_of_memory(done, row):
+def cause_of(done, row):
+    """How a run ended, in short: a dot where it is right, else its refusal for want of memory, or None."""
     error, _notes = split_notes(error_of(done, row))
-    return done.returncode == 2 and not done.stdout and WANT_OF_MEMORY.fullmatch(error) is not None
+    refusal = WANT_OF_MEMORY.fullmatch(error)
+    if refusal and done.returncode == 2 and not done.stdout:
+        return ".".join(part.decode() for part in refusal.groups() if part)
+    return "." if is_right(done, row) else None
 
 
-def swept_runs(run, wanted, is_right, is_answer):
-    """What went wrong with runs, `run(N)` the one in which allocation N is refused: a sentence for each that did, and for a
-    wrong count. The run in which none is refused has to be right, and each other an answer."""
-    found = []
-    done, asked = run(0)
-    if not is_right(done):
-        found.append("it isn't right where nothing is refused")
-    if wanted not in (None, asked):
-        found.append(f"{asked} allocations, {wanted} were wanted")
-    number = 1
-    while asked is not None and asked >= number - 1:
-        done, asked = run(number)
-        if not is_answer(done):
-            found.append(f"allocation {number}: status {done.returncode}, standard error '{shortened(done.stderr)}'")
-        number += 1
-    if asked is None:
-        found.append(f"allocation {number - 1}: no regular end")
+def in_short(causes):
+    """Causes in a row, those that follow their like left out."""
+    return [cause for place, cause in enumerate(causes) if place == 0 or causes[place - 1] != cause]
+
+
+def broken(runs, row):
+    """Sentences on the runs that are neither right nor refused for want of memory."""
+    return [
+        f"allocation {done.number}: status {done.returncode}, standard error '{shortened(done.stderr)}'"
+        for done in runs
+        if cause_of(done, row) is None
+    ]
+
+
+def row_runs(program, library, row, folder):
+    """The run of a row in which nothing is refused, those in which one allocation is, and those in which all from one on."""
+    words = ["crashbpf", *row.words.split()]
+    whole = sweep(program, library, words, folder, 0, 0)[0]
+    step = STEP if whole.asked > MOST else 1
+    last = 2 * whole.asked + 100
+    each = sweep(program, library, words, folder, 1, last, step)
+    return whole, each, sweep(program, library, words, folder, 1, last, step, onwards=True)
+
+
+def causes_in_short(each, row, varies):
+    """How the runs are refused, as a row of ROWS has it."""
+    causes = [cause_of(done, row) or "?" for done in each]
+    return " ".join(sorted(set(causes)) if varies else in_short(causes))
+
+
+def swept(program, library, row, wanted, assembler):
+    """What went wrong with a row."""
+    count, causes = wanted
+    with tempfile.TemporaryDirectory() as folder:
+        put_files(row, folder, assembler)
+        whole, each, onwards = row_runs(program, library, row, folder)
+    found = [] if is_right(whole, row) else ["it isn't right where nothing is refused"]
+    if count not in (None, whole.asked):
+        found.append(f"{whole.asked} allocations, {count} were wanted")
+    found += broken(each, row) + broken(onwards, row)
+    told = causes_in_short(each, row, count is None)
+    unknown = set(told.split()) - set(causes.split()) if count is None else told != causes
+    if unknown:
+        found.append(f"refused '{told}', '{causes}' was wanted")
+    others = {cause_of(done, row) for done in onwards} - {*causes.split(), None}
+    if others:
+        found.append(f"with all from one on refused also {', '.join(sorted(others))}")
+    if re.search(r"--workers (?!1\b)\d", row.words):
+        behind = {split_notes(error_of(done, row))[1] for done in each if cause_of(done, row) == "72"}
+        if not behind <= {b"", NO_MEMORY, NO_MEMORY + FEWER_WORKERS}:
+            found.append("other notes behind 72")
+        if NO_MEMORY + FEWER_WORKERS not in behind:
+            found.append("no note behind 72 says that fewer workers take less")
+    if each[-1].asked >= each[-1].number or onwards[-1].asked >= onwards[-1].number:
+        found.append("no end of the allocations")
     return found
 
 
-def count(program, library, row, assembler):
-    """How many allocations a row makes, or what is wrong with its answer."""
-    with tempfile.TemporaryDirectory() as folder:
-        put_files(row, folder, assembler)
-        done, asked = run_refusing(program, library, ["crashbpf", *row.words.split()], folder, 0)
-        return asked if is_right(done, row) else f"not right: {shortened(done.stderr)}"
-
-
-def print_counts(program, calls, library, rows, assembler):
+def print_counts(program, calls, library, rows, assembler, pool):
     """Prints the lines of ROWS and CALLS, as they are to be."""
-    for name, wanted in ROWS.items():
-        asked = None if wanted is None else count(program, library, rows[name], assembler)
-        print(f"    {json.dumps(name)}: {asked},")
+
+    def line(name):
+        row, varies = rows[name], ROWS[name][0] is None
+        with tempfile.TemporaryDirectory() as folder:
+            put_files(row, folder, assembler)
+            whole, each, _onwards = row_runs(program, library, row, folder)
+        if not is_right(whole, row):
+            return f"    {json.dumps(name)}: not right: {shortened(whole.stderr)}"
+        wanted = "None, MANY" if varies else f"{whole.asked}, {json.dumps(causes_in_short(each, row, varies))}"
+        return f"    {json.dumps(name)}: ({wanted}),"
+
+    print(*pool.map(line, ROWS), sep="\n")
     with tempfile.TemporaryDirectory() as folder:
-        print(f"CALLS = {run_refusing(calls, library, ['refused_calls'], folder, 0)[1]}")
+        print(f"CALLS = {sweep(calls, library, ['aside', 'calls'], folder, 0, 0)[0].asked}")
 
 
 def put_files(row, folder, assembler):
@@ -251,27 +345,85 @@ def put_files(row, folder, assembler):
         put(folder, name, content, assembler)
 
 
-def swept(program, library, row, wanted, assembler):
-    """What went wrong with a row."""
-    with tempfile.TemporaryDirectory() as folder:
-        put_files(row, folder, assembler)
-        return swept_runs(
-            lambda number: run_refusing(program, library, ["crashbpf", *row.words.split()], folder, number),
-            wanted,
-            lambda done: is_right(done, row),
-            lambda done: is_right(done, row) or is_want_of_memory(done, row),
-        )
-
-
 def swept_calls(calls, library):
     """What went wrong with the calls by themselves."""
-    printed = Path(TOP, "crates/refused_calls/stdout").read_bytes()
-
-    def is_same(done):
-        return (done.returncode, done.stdout, done.stderr) == (0, printed, b"")
-
+    stored = Path(TOP, "crates/aside/stdout").read_bytes().splitlines(keepends=True)
+    printed = b"".join(line for line in stored if line.endswith(b" right\n"))
     with tempfile.TemporaryDirectory() as folder:
-        return swept_runs(lambda number: run_refusing(calls, library, ["refused_calls"], folder, number), CALLS, is_same, is_same)
+        runs = sweep(calls, library, ["aside", "calls"], folder, 0, 2 * CALLS)
+    found = [] if runs[0].asked == CALLS else [f"{runs[0].asked} allocations, {CALLS} were wanted"]
+    if runs[-1].asked >= runs[-1].number:
+        found.append("no end of the allocations")
+    return found + [
+        f"allocation {done.number}: status {done.returncode}, standard error '{shortened(done.stderr)}'"
+        for done in runs
+        if (done.returncode, done.stdout, done.stderr) != (0, printed, b"")
+    ]
+
+
+# Runs by many workers of which no thread can be started, or only some: in NARROW bytes of addresses the program has room,
+# and no thread's stack of THREAD bytes; in each of ROOMS there is one for some, and may be none for their work.
+STARVED = ["every image of sixteen writes fails, 16 workers", "workers: many failing blocks, 64 workers, cache 16"]
+THREAD = 8 << 20
+NARROW = 9 << 20
+ROOMS = [12 << 20, 20 << 20, 32 << 20, 64 << 20, 128 << 20]
+
+# Runs with a small stack.
+SMALL_STACKS = ["sixteen_codes", "torn_sector", "page: markup in a mark", "verify nested_loops", "why: journal/wrong"]
+
+# The first of the users who have no process, one for each run.
+LONELY = 3_000_000
+
+
+def as_lonely(user):
+    """Makes the process one of a user who may have no other, nor a thread."""
+    resource.setrlimit(resource.RLIMIT_NPROC, (1, 1))
+    if os.getuid() == 0:
+        os.setgroups([])
+        os.setgid(user)
+        os.setuid(user)
+
+
+def in_room(room):
+    """The process may have so many bytes of addresses, of which each thread takes THREAD."""
+    resource.setrlimit(resource.RLIMIT_STACK, (THREAD, THREAD))
+    resource.setrlimit(resource.RLIMIT_AS, (room, room))
+
+
+def with_stack(size):
+    """The process may have so many bytes of stack."""
+    resource.setrlimit(resource.RLIMIT_STACK, (size, size))
+
+
+def starved_run(program, row, assembler, begin, answers):
+    """What went wrong with a run of a row in a process that begins so. It ends in one of the answers, as `cause_of` has them."""
+    with tempfile.TemporaryDirectory() as folder:
+        os.chmod(folder, 0o755)
+        copy = Path(folder, "program")
+        shutil.copy(program, copy)
+        os.chmod(copy, 0o755)
+        put_files(row, folder, assembler)
+        done = subprocess.run(
+            [copy, *row.words.split()],
+            cwd=folder,
+            stdin=subprocess.DEVNULL,
+            capture_output=True,
+            timeout=SECONDS,
+            preexec_fn=begin,
+            env={},
+        )
+    return [] if cause_of(done, row) in answers else [f"status {done.returncode}, standard error '{shortened(done.stderr)}'"]
+
+
+def starved(rows):
+    """The runs with few processes, little room or a small stack: names, rows, what begins their process, and their answers."""
+    for place, name in enumerate(STARVED):
+        yield f"{name}, no further process", rows[name], lambda user=LONELY + place: as_lonely(user), ["."]
+        yield f"{name}, no room for a thread", rows[name], lambda: in_room(NARROW), ["."]
+        for room in ROOMS:
+            yield f"{name}, in {room >> 20} MiB", rows[name], lambda room=room: in_room(room), [".", "72"]
+    for name in SMALL_STACKS:
+        yield f"{name}, with {STACK} KiB of stack", rows[name], lambda: with_stack(STACK << 10), ["."]
 
 
 def built_program(words, place, name):
@@ -286,34 +438,31 @@ def main(words):
     only_counts = words[:1] == ["--counts"]
     words = words[only_counts:]
     program = built_program(words, 0, "crashbpf")
-    calls = built_program(words, 1, "refused_calls")
-    rows = {row.name: row for row in all_rows()}
-    missing = [name for name in ROWS if name not in rows]
+    calls = built_program(words, 1, "aside")
+    rows = {row.name: row for row in [*all_rows(), *EXTRA]}
+    missing = [name for name in [*ROWS, *STARVED, *SMALL_STACKS] if name not in rows]
     if missing:
         sys.exit(f"no such rows: {', '.join(missing)}")
     assembler = Assembler(program)
     with tempfile.TemporaryDirectory() as folder, ThreadPoolExecutor(os.cpu_count()) as pool:
         library = built(folder)
         if only_counts:
-            print_counts(program, calls, library, rows, assembler)
+            print_counts(program, calls, library, rows, assembler, pool)
             return 0
-        by_themselves = pool.submit(swept_calls, calls, library)
-        results = list(pool.map(lambda name: swept(program, library, rows[name], ROWS[name], assembler), ROWS))
-        large = list(pool.map(lambda name: overfull(program, name, assembler), LARGE))
-        found_in_calls = by_themselves.result()
-    failed = 0
-    if found_in_calls:
-        failed += 1
-        print(f"FAILED calls by themselves with memory refused: {'; '.join(found_in_calls)}")
-    for name, found in zip(ROWS, results):
-        if found:
-            failed += 1
-            print(f"FAILED {name} with memory refused: {'; '.join(found)}")
-    for name, found in zip(LARGE, large):
-        if found:
-            failed += 1
-            print(f"FAILED many lines, {name}: {'; '.join(found)}")
-    print(f"{1 + len(ROWS) + len(LARGE) - failed} passed, {failed} failed")
+        checks = {"calls by themselves with memory refused": pool.submit(swept_calls, calls, library)}
+        for name in sorted(ROWS, key=lambda name: ROWS[name][0] is not None):
+            checks[f"{name} with memory refused"] = pool.submit(swept, program, library, rows[name], ROWS[name], assembler)
+        for name in LARGE:
+            checks[f"many lines, {name}"] = pool.submit(overfull, program, name, assembler)
+        for name, row, begin, answers in starved(rows):
+            checks[name] = pool.submit(starved_run, program, row, assembler, begin, answers)
+        found = {name: check.result() for name, check in checks.items()}
+    for name, sentences in found.items():
+        if sentences:
+            more = [f"and {len(sentences) - 5} more"] if len(sentences) > 5 else []
+            print(f"FAILED {name}: {'; '.join(sentences[:5] + more)}")
+    failed = sum(1 for sentences in found.values() if sentences)
+    print(f"{len(found) - failed} passed, {failed} failed")
     return 1 if failed else 0
 
 

@@ -123,6 +123,14 @@ class Folder:
     """Stands for a folder where a file is meant."""
 
 
+@dataclass(frozen=True)
+class Hole:
+    """Stands for a file of so many zeros that take no room on a disk, and `end` behind them."""
+
+    zeros: int
+    end: bytes = b""
+
+
 class Something:
     """Stands for an output that is there and isn't compared."""
 
@@ -140,14 +148,16 @@ class Row:
 
     name    what the row is about; no two rows have the same
     words   the words behind the program's name, separated by spaces
-    files   the files that lie in the folder of the run, by name: bytes, a text, an Assembly, a Folder, a Long
+    files   the files that lie in the folder of the run, by name: bytes, a text, an Assembly, a Folder, a Hole, a Long
     out     standard output, as bytes, text or Long, or Something
     status  the status
     error   standard error without its notes: its one line without the newline; "" for nothing; Something; None where
             nothing is asked of it
     to      where standard output goes: "pipe", "closed", "full" (a full disk), "unread" (a pipe that nobody reads),
             "limited" (a file that may have LIMITED bytes; `out` is then what the file holds), or "silent" (a pipe, but
-            standard error is closed)
+            standard error is closed). Or a pipe with other surroundings: "narrow" (a second of processor time and 200 MB),
+            "endless" (the same, and the file `pipe` is a pipe that is written without end), "piped" (the same, and the
+            file `pipe` is a pipe of what `whole` holds)
     seconds how long the run may take
     notes   the notes on standard error, each without `note: ` and the newline; None where nothing is asked of them
     images  how many images the line of `--progress` ends with, judged and in all; standard error begins with it, and

@@ -25,6 +25,7 @@ Where the rows stand
     rows/checkers.py    the checkers in C of examples/: what the verifier says of them, and what they answer
     rows/commands.py    each command, faults of the command line, the order of refusals
     rows/process.py     files that can't be read, a standard output that can't be written
+    rows/surroundings.py    files without end, and pipes
     rows/logs.py        logs that lie: cut ones, each cause of a refusal
     rows/encodings.py   each instruction as bytes and as text, and bytes that are no program
     rows/texts.py       assembly texts, and texts that are refused
@@ -34,6 +35,7 @@ Where the rows stand
     rows/notes.py       the notes behind each refusal, and beside answers
     rows/tables.py      logs as tables, and listings with slots
     rows/modelled.py    whole reports of many logs, against the model
+    rows/small_logs.py  every image of small logs, what their cuts leave open, accepted programs with and without checks
     rows/shown.py       images in words, by number and by cut and choice, against the model
     rows/why.py         why checkers fail, of many logs and of the designs, against the model
     rows/browser.py     runs as a page for a browser, of many logs and of the designs, against the model
@@ -64,7 +66,7 @@ from pathlib import Path
 
 sys.dont_write_bytecode = True
 
-from notation import SECONDS, TOP, Assembly, Folder, Long, Something
+from notation import SECONDS, TOP, Assembly, Folder, Hole, Long, Something
 from rows import (
     answers,
     arithmetic,
@@ -80,6 +82,8 @@ from rows import (
     process,
     refusals,
     shown,
+    small_logs,
+    surroundings,
     tables,
     texts,
     why,
@@ -93,6 +97,7 @@ TABLES = [
     checkers,
     commands,
     process,
+    surroundings,
     logs,
     encodings,
     texts,
@@ -102,6 +107,7 @@ TABLES = [
     notes,
     tables,
     modelled,
+    small_logs,
     shown,
     why,
     browser,
@@ -112,13 +118,16 @@ TABLES = [
 SHORTENED = 100
 
 # How a shell starts the program where its outputs aren't plain pipes (`to` of notation.py). A pipe that nobody reads is
-# one whose only reader was closed before; `ulimit -f` counts in 512 bytes.
+# one whose only reader was closed before; `ulimit -f` counts in 512 bytes, `ulimit -v` in KiB, `ulimit -t` in seconds.
 SHELL = {
     "closed": 'exec "$0" "$@" >&-',
     "full": 'exec "$0" "$@" >/dev/full',
     "unread": 'mkfifo pipe; exec 3<>pipe 4>pipe 3>&-; exec "$0" "$@" >&4',
     "silent": 'exec "$0" "$@" 2>&-',
     "limited": 'ulimit -f 8; exec "$0" "$@" >out',
+    "narrow": 'ulimit -t 1; ulimit -v 195312; exec "$0" "$@"',
+    "endless": 'mkfifo pipe; yes >pipe 2>&1 & ulimit -t 1; ulimit -v 195312; exec "$0" "$@"',
+    "piped": 'mkfifo pipe; cat whole >pipe 2>&1 & ulimit -t 1; ulimit -v 195312; exec "$0" "$@"',
 }
 
 
@@ -150,6 +159,11 @@ def put(folder, name, content, assembler):
     path = Path(folder, name)
     if isinstance(content, Folder):
         path.mkdir()
+    elif isinstance(content, Hole):
+        with open(path, "wb") as file:
+            file.seek(content.zeros)
+            file.write(content.end)
+            file.truncate()
     elif isinstance(content, Assembly):
         path.write_bytes(assembler.assemble(content))
     else:

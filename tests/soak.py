@@ -7,10 +7,12 @@ PROGRAM is as in run.py; N is 100,000 where it isn't given, S is 1. Each run tak
 examples/ or of a row of rows/, changes some of it (bits, bytes, fields of headers and slots, pieces cut out, put in twice
 or appended), and gives it to a command with options of which some are out of range. It is expected that
 
-    the status is 0, 1 or 2; 1 only of `explore`;
+    the status is 0, 1 or 2; 1 only of `explore`, `why` and `page`;
     there is nothing on standard output where the status is 2, and one line at least on standard error there, and else
     nothing on standard error but notes;
     no run takes longer than LIMIT seconds, or more memory than its log, 128 MiB, and 4 KiB for each entry of its cache.
+
+Every command is called, each with all options that it takes.
 
 Each run is made of its own number and the seed alone, and a run that isn't as expected is printed with it, so that it can
 be made again: `--only NUMBER` makes that run and leaves its files in the folder soak. The last line is as in run.py.
@@ -55,7 +57,7 @@ class Stock:
                 elif isinstance(content, (bytes, str)) and len(content) <= GREATEST:
                     kind = self.logs if name == "log" else self.texts if command == ["asm"] else self.programs
                     kind.append(made(content))
-        self.logs += [path.read_bytes() for path in sorted(TOP.glob("crates/example_logs/data/*/*.log"))]
+        self.logs += [path.read_bytes() for path in sorted(TOP.glob("crates/aside/data/*/*.log"))]
 
 
 def damaged_field(chance, content):
@@ -107,6 +109,46 @@ def damaged(chance, whole):
     return content
 
 
+IMAGES = ["sectors", "cuts", "bound", "by"]
+RUN = [*IMAGES, "checked", "workers", "cache"]
+
+# The options with a value that each command takes, and how often those without one are given.
+TAKEN = {
+    "explore": RUN,
+    "why": RUN,
+    "page": RUN,
+    "images": IMAGES,
+    "image": IMAGES,
+    "show": IMAGES,
+    "log": ["sectors"],
+    "verify": ["sectors"],
+    "asm": [],
+    "list": [],
+}
+FLAGS = {
+    "explore": {"tears": 0.4, "first": 0.3, "progress": 0.1},
+    "why": {"tears": 0.4, "progress": 0.1},
+    "page": {"tears": 0.4, "progress": 0.1},
+    "images": {"tears": 0.4},
+    "image": {"tears": 0.4},
+    "show": {"tears": 0.4},
+    "log": {},
+    "verify": {},
+    "asm": {},
+    "list": {"slots": 0.5},
+}
+
+# The commands that run programs, and those that tell one image.
+RUNS = ["explore", "why", "page"]
+TELL = ["image", "show"]
+
+# How often each command is called, in all COMMANDS.
+COMMANDS = [*["explore"] * 3, *["why"] * 2, *["page"] * 2, "images", "image", "show", "show", "log", *["verify"] * 2, "asm", "list"]
+
+# Choices as `--choice` takes them, good ones and others.
+CHOICES = ["-", "0.0:drop", "0:drop", "1.0:head3", "1.0:tail7", "0.0:drop,1.0:drop", "2.1:head9", "x", "", "4294967296.0:drop"]
+
+
 def options_of(chance, command):
     """Some options of a command, each mostly within its range."""
     picked = {
@@ -118,38 +160,28 @@ def options_of(chance, command):
         "cache": chance.choice([0, 1, 16, 65536, 65537]),
         "by": chance.choice(["sector", "write", "write", "page"]),
     }
-    taken = {
-        "explore": ["sectors", "cuts", "bound", "checked", "workers", "cache", "by"],
-        "images": ["sectors", "cuts", "bound", "by"],
-        "image": ["sectors", "cuts", "bound", "by"],
-        "verify": ["sectors"],
-    }.get(command, [])
     words = []
-    for name in taken:
+    for name in TAKEN[command]:
         if name == "sectors" or chance.random() < 0.5:
             words += [f"--{name}", str(picked[name])]
-    if command in ("explore", "images", "image") and chance.random() < 0.4:
-        words.append("--tears")
-    if command == "explore" and chance.random() < 0.3:
-        words.append("--first")
-    if command == "explore" and chance.random() < 0.1:
-        words.append("--progress")
-    return words
+    return words + [f"--{name}" for name, often in FLAGS[command].items() if chance.random() < often]
 
 
 def made_run(stock, seed, number):
     """The words and the files of the run of that number."""
     chance = random.Random(f"{seed} {number}")
-    command = chance.choice(["explore", "explore", "explore", "images", "image", "verify", "verify", "asm", "list"])
+    command = chance.choice(COMMANDS)
     if command == "asm":
         return [command, "source"], {"source": damaged(chance, stock.texts)}
     if command in ("verify", "list"):
         return [command, "p0", *options_of(chance, command)], {"p0": damaged(chance, stock.programs)}
     files = {"log": damaged(chance, stock.logs)}
     words = [command, "log"]
-    if command == "image":
+    if command in TELL and chance.random() < 0.5:
         words.append(str(chance.choice([0, 1, 2, 5, 20, 1000, (1 << 64) - 1])))
-    if command == "explore":
+    elif command in TELL:
+        words += ["--cut", str(chance.choice([0, 1, 2, 5, 20, 65536, (1 << 64) - 1])), "--choice", chance.choice(CHOICES)]
+    if command in RUNS:
         for place in range(chance.choice([1, 1, 1, 2, 8, 9])):
             files[f"p{place}"] = damaged(chance, stock.programs)
             words.append(f"p{place}")
@@ -166,7 +198,7 @@ def wrong(words, done, most):
         return "not enough memory"
     if done.memory > most:
         return f"{done.memory >> 20} MiB of memory"
-    if done.returncode not in (0, 1, 2) or done.returncode == 1 and words[0] != "explore":
+    if done.returncode not in (0, 1, 2) or done.returncode == 1 and words[0] not in RUNS:
         return f"status {done.returncode}"
     if done.returncode == 2 and (done.stdout or not error.endswith(b"\n")):
         return f"status 2 with {len(done.stdout)} bytes, standard error '{shortened(done.stderr)}'"

@@ -33,7 +33,7 @@ CLAUSES = re.compile(r"`([\w:]+)` \((`\w+`(?:, `\w+`)*)\)")
 def sources(top):
     """Returns the crates' files of code and definitions; proofs cite both and are left out."""
     for folder, folders, files in os.walk(top / "crates"):
-        folders[:] = sorted(set(folders) - {"out", "proofs", "must-fail", "data"})
+        folders[:] = sorted(set(folders) - {"out", "proofs", "must-fail", "wrong", "data"})
         yield from (Path(folder) / name for name in sorted(files) if name.endswith((".rt", ".antt")))
 
 

@@ -72,6 +72,7 @@ HELPERS = {
     "mov64 r1, -1; call 5": 2,
     "lddw r1, 4294967296; call 5": 2,
     "mov64 r1, 4; call 6": 0,
+    "mov64 r1, 4; call 4": 0,
     "mov64 r1, 0; call 6": 0,
     "mov64 r1, 0; mov64 r2, 4; call 7": 2,
     "mov64 r1, 4; mov64 r2, 0; call 7": 2,
@@ -112,6 +113,7 @@ FAULTS = {
     "stxb [r10-1], r0": "81 slot 0",
     "mov64 r0, 1; mov64 r1, 3; call 5; mov64 r0, r1": "81 slot 3",
     "mov64 r5, 1; mov64 r1, 3; call 5; mov64 r0, r5": "81 slot 3",
+    "mov64 r1, 3; call 1; mov64 r0, r1": "81 slot 2",
     "call 7": "81 slot 0",
     "call 2": "81 slot 0",
     # 82: a stack byte that is read is unset
@@ -121,6 +123,8 @@ FAULTS = {
     "ldxdw r0, [r10-4]": "83 slot 0",
     "stdw [r10-4], 1": "83 slot 0",
     "stdw [r10-513], 1": "83 slot 0",
+    "stdw [r10-513], -1": "83 slot 0",
+    "stdw [r10-4], 0": "83 slot 0",
     "ldxb r0, [r10-513]": "83 slot 0",
     "ldxdw r0, [r1+25]": "83 slot 0",
     "ldxb r0, [r1-1]": "83 slot 0",
@@ -165,6 +169,14 @@ LIMITS = [
     ("lddw r0, 5; exit", 2, "answer 5 codes -"),
     ("lddw r0, 5; exit", 1, "out of steps"),
     ("lddw r0, 5", 1, "fault 80 slot 0"),
+    ("lddw r0, 4294967296", 10, "fault 80 slot 0"),
+    # no instruction behind the last step is a fault, and not out of steps; of no step nothing is seen
+    ("mov64 r0, 1", 10, "fault 80 slot 0"),
+    ("mov64 r0, 1", 1, "fault 80 slot 0"),
+    ("mov64 r0, 1", 0, "out of steps"),
+    ("exit", 10, "fault 81 slot 0"),
+    ("exit", 0, "out of steps"),
+    ("add64 r0, r1", 10, "fault 81 slot 0"),
     ("add64 r0, r1", 1, "fault 81 slot 0"),
     ("mov64 r1, 3; call 1; exit", 2, "out of steps"),
     ("mov64 r1, 3; call 1; exit", 3, f"answer {0x300000C00} codes -"),
@@ -203,9 +215,18 @@ LOCAL_CALL = "mov64 r1, 20; callf +1; exit; mov64 r0, r1; add64 r0, 1; exit"
 FOUR_FRAMES = "callf +1; exit; " * 3 + "mov64 r0, 7; exit"
 FIVE_FRAMES = "callf +1; exit; " * 4 + "mov64 r0, 7; exit"
 TWICE_CALLED = "mov64 r1, 1; callf +3; mov64 r1, 0; callf +1; exit; jeq r1, 0, +3; stb [r10-1], 3; mov64 r0, 0; exit; ldxb r0, [r10-1]; exit"
+REPORT_CODES = "mov64 r6, 0; mov64 r1, 17; call 3; jeq r0, 0, +4; mov64 r1, r6; call 4; add64 r6, 1; ja -7; mov64 r0, 1; exit"
+NESTED_LOOPS = "mov64 r1, 2; call 3; jeq r0, 0, +4; mov64 r1, 3; call 3; jeq r0, 0, -6; ja -4; mov64 r0, 0; exit"
 COUNTED_CALLS = (
     "callf +7; mov64 r6, r0; callf +5; add64 r6, r0; callf +3; add64 r6, r0; mov64 r0, r6; exit; mov64 r1, 2; call 3; exit"
 )
+
+# Counts and codes of whole programs: seventeen codes are reported, and two calls of `again` count apart.
+COUNTS = [
+    (REPORT_CODES, 162, f"answer 1 codes {','.join(map(str, range(16)))}"),
+    (NESTED_LOOPS, 29, None),
+    (NESTED_LOOPS, 28, "out of steps"),
+]
 
 CALLS = [
     # local_call
@@ -435,7 +456,7 @@ ANEW = [
 ROWS = [
     *(answered(text, answer) for table in [ARITHMETIC, MEMORY, HELPERS] for text, answer in table.items()),
     *(outcome(f"{text}; exit", 10, f"fault {fault}") for text, fault in FAULTS.items()),
-    *(outcome(*about) for table in [LIMITS, AGAIN, CODES, CALLS] for about in table),
+    *(outcome(*about) for table in [LIMITS, AGAIN, CODES, COUNTS, CALLS] for about in table),
     *MIXED,
     *ON_EE,
     *CONTEXT,

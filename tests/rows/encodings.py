@@ -78,10 +78,12 @@ def jumps():
         yield f"{name}32 r1, 2147483647, +32767", slot(imm32, 1, 0, 32767, 2147483647)
         yield f"{name}32 r1, r2, +0", slot(register32, 1, 2)
     yield "ja -4", slot(0x05, offset=-4)
+    yield "ja +1", "0500010000000000"
     yield "ja32 -2147483648", slot(0x06, imm=-(2**31))
     yield "call 1", slot(0x85, imm=1)
     yield "call -1", slot(0x85, imm=-1)
     yield "callf +0", slot(0x85, 0, 1)
+    yield "callf -2", "85100000feffffff"
     yield "callf +2147483647", slot(0x85, 0, 1, 0, 2**31 - 1)
     yield "callf -2147483648", slot(0x85, 0, 1, 0, -(2**31))
     yield "exit", slot(0x95)
@@ -91,6 +93,7 @@ def memory():
     for name, opcode in LOADS.items():
         yield f"{name} r0, [r1+16]", slot(opcode, 0, 1, 16)
         yield f"{name} r9, [r10-512]", slot(opcode, 9, 10, -512)
+    yield "ldxsb r0, [r1-1]", "9110ffff00000000"
     for name, opcode in STORES.items():
         yield f"{name} [r10-8], -1", slot(opcode, 10, 0, -8, -1)
         yield f"{name} [r3+32767], 7", slot(opcode, 3, 0, 32767, 7)
@@ -263,6 +266,12 @@ NO_PROGRAMS = {
     "one byte": ("95", "20 at 0"),
     "7 bytes": ("b7000000000000", "20 at 0"),
     "9 bytes": (f"{EXIT} b7", "20 at 1"),
+    "7 zeros": ("00000000000000", "20 at 0"),
+    "9 zeros": ("000000000000000000", "20 at 1"),
+    "a wide one behind ja +0": ("0500000000000000 1800000000000000", "25 at 1"),
+    "mov64 r11, 0 before ja +0": ("b70b000000000000 0500000000000000", "23 at 0"),
+    "a call of kind 2 behind ja +0": ("0500000000000000 8520000000000000", "23 at 1"),
+    "exit with a destination behind ja +0": ("0500000000000000 9501000000000000", "24 at 1"),
     "15 bytes": (f"{EXIT} b7000000000000", "20 at 1"),
     "7 bytes of no instruction": ("ffffffffffffff", "20 at 0"),
     "an opcode behind a good slot": (f"{EXIT} ff00000000000000", "22 at 1"),

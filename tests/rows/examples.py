@@ -6,7 +6,7 @@ from model import Checker, Run, explored, shown
 from notation import FLUSH, TOP, F, M, Row, S, W, explore, verified
 
 EXAMPLES = TOP / "examples"
-LOGS = TOP / "crates/example_logs/data"
+LOGS = TOP / "crates/aside/data"
 
 
 def data(path):

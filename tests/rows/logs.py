@@ -134,6 +134,9 @@ CUT = [
     *accepted_log("two_epochs, a header more", log(TWO_EPOCHS) + header(9, 9, 99, 9), TWO_EPOCHS_SURVEY),
     *cut_logs("mixed", MIXED, MIXED_CUT),
     *accepted_log("mixed, all 4,096 bytes", log(MIXED)[:4096], MIXED_SURVEY),
+    *refused_log("one write, its first 511 bytes", log([W(0, 1, 0xAA)])[:511], "refused 1 at 0"),
+    *refused_log("one write, its first 1,535 bytes", log([W(0, 1, 0xAA)])[:1535], "refused 5 at 0"),
+    *accepted_log("one write, all 1,536 bytes", log([W(0, 1, 0xAA)])[:1536], survey(NOTHING, (0, 0, 1))),
 ]
 
 
@@ -258,6 +261,12 @@ ORDER = [
 ]
 
 UNITS = [
+    *accepted_log(
+        "16 discards of the largest device",
+        [D(0, 16384)] * 16,
+        survey(*((0, 0, 16384 * cut) for cut in range(17))),
+        16384,
+    ),
     *refused_log("17 discards of the largest device", [D(0, 16384)] * 17, "refused 10 at 16", 16384),
     *refused_log("place before units", [D(0, 16384)] * 16 + [D(16384, 1)], "refused 9 at 16", 16384),
     *refused_log("one unit too many", [D(0, 16384)] * 16 + [D(0, 1)], "refused 10 at 16", 16384),

@@ -116,6 +116,21 @@ BUDGETS = {
     "mov64 r0, 0; exit; mov64 r1, 9; call 3; jeq r0, 0, +0; exit": "accepted budget 20",
     "mov64 r0, 0; jeq r0, 0, +1; mov64 r0, 0; exit": "accepted budget 4",
     "mov64 r0, 0; ja +1; mov64 r0, 0; exit": "accepted budget 3",
+    "ldxdw r0, [r1+16]; exit": "accepted budget 2",
+}
+
+# Local calls: nested at most four deep, not recursive, each entry an instruction.
+LOCAL_CALLS = {
+    "exit; callf +1; exit; callf -3; exit": "refused 44 at 1",
+    # a loop and recursion
+    "callf -1; mov64 r0, 0; ja -2": "refused 42 at 1",
+    "callf +1; exit": "refused 40 at 0",
+    "exit; callf -2": "refused 41 at 1",
+    # (1 + 2) * (2 + 4)
+    "callf +1; exit; mov64 r1, 2; call 3; jne r0, 0, -3; exit": "accepted budget 18",
+    "callf +2; exit; mov64 r1, 2; call 3; jne r0, 0, -3; exit": "refused 43 at 3",
+    # both calls weigh 3
+    "callf +2; callf +1; exit; mov64 r0, 0; exit": "accepted budget 7",
 }
 
 # Values
@@ -488,6 +503,7 @@ TABLES = [
     AGAIN,
     LOOPS,
     BUDGETS,
+    LOCAL_CALLS,
     UNSET,
     BYTES,
     PLACES,

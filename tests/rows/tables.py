@@ -55,6 +55,12 @@ MARKS = [
     mark(b"\0\x1f\x7f\x80\xff", "\\x{0}\\x{1f}\\x{7f}\\x{80}\\x{ff}"),
     mark("é".encode(), "\\x{c3}\\x{a9}"),
     mark(b"x" * 480, "x" * 480),
+    Row(
+        "the text of a mark with a sector and metadata",
+        "log log",
+        files([Entry(7, 0, 24, b"aba")]),
+        'entry 0 epoch 0 mark metadata text "aba"\n',
+    ),
 ]
 
 REFUSED = [

@@ -13,6 +13,7 @@ SPELLINGS = {
     "ja\t-\t4": "0500fcff00000000",
     "mov64 r0, - 5": "b7000000fbffffff",
     "mov64 r0,-5": "b7000000fbffffff",
+    "mov64 r0,-0": "b700000000000000",
     "mov64 r0 , -5": "b7000000fbffffff",
     "ldxb r0,[r10 - 8]": "71a0f8ff00000000",
     "ldxb r0 , [ r10 - 8 ]": "71a0f8ff00000000",
@@ -44,12 +45,15 @@ SPELLINGS = {
     "call -2147483648": "8500000000000080",
     "call 0x10": "8500000010000000",
     "callf+1": "8510000001000000",
+    "callf - 2": "85100000feffffff",
     "callf - 0x80000000": "8510000000000080",
     # lines and comments
     "exit": EXIT,
     "\n\nexit;comment\n": EXIT,
     "; a comment\nexit ; another ; one\n;": EXIT,
     "exit ;\r\n": EXIT,
+    "\t exit\t ; é \r\n": EXIT,
+    "\n\nexit;comment\nx:": EXIT,
     "exit ; é\n": EXIT,
     "exit\nexit": EXIT + EXIT,
     # labels
@@ -69,6 +73,9 @@ SPELLINGS = {
     "ja x\nlddw r0, 0\nx:\nexit": "0500020000000000 1800000000000000 0000000000000000" + EXIT,
     "r1:\n lddw r0, 007 ; two slots\n\texit:\nja exit\nja r1\njeq r0, 1, end\nend :\n": (
         "1800000007000000 0000000000000000 0500ffff00000000 0500fcff00000000 1500000001000000"
+    ),
+    "r1:\n lddw r0, 007 ; two slots\n\texit:\nja exit\nja r1\ncallf exit\njeq r0, 1, end\nend :\n": (
+        "1800000007000000 0000000000000000 0500ffff00000000 0500fcff00000000 85100000fdffffff 1500000001000000"
     ),
 }
 
@@ -94,6 +101,7 @@ REFUSED = {
     "ldxsdw r0, [r1+0]": "30 at 1",
     "jeq64 r0, 0, +0": "30 at 1",
     "callx r0": "30 at 1",
+    "callfn +1": "30 at 1",
     "1x:": "30 at 1",
     "_x:": "30 at 1",
     "5": "30 at 1",

@@ -10,25 +10,25 @@ use thiserror::Error;
 /// Why a log is refused (docs/LOG-FORMAT.md).
 #[derive(Clone, Copy, Debug, PartialEq, Eq, Error)]
 pub enum LogCause {
-    #[error("the log has no whole super block")]
+    #[error("a log has at least 512 bytes (docs/LOG-FORMAT.md, Super block)")]
     Short = 1,
-    #[error("the super block has another magic number")]
+    #[error("the file doesn't begin as a log does, with 'rhswfsj' (docs/LOG-FORMAT.md, Super block)")]
     Magic = 2,
-    #[error("the log has another version")]
+    #[error("the log's version isn't 1 (docs/LOG-FORMAT.md, Super block)")]
     Version = 3,
-    #[error("the sectors of the log do not have 512 bytes")]
+    #[error("the log's sectors don't have 512 bytes (docs/LOG-FORMAT.md, Super block)")]
     SectorSize = 4,
-    #[error("the header or the data of the entry is cut short")]
+    #[error("the file ends within the entry, its header or its data (docs/LOG-FORMAT.md, Layout)")]
     CutShort = 5,
-    #[error("the entry has an unknown flag")]
+    #[error("the entry has a flag above 16 (docs/LOG-FORMAT.md, Flags)")]
     Flags = 6,
-    #[error("the entry is no mark and has a data length")]
+    #[error("the entry has a data length, which only a mark may have (docs/LOG-FORMAT.md, Entry header)")]
     DataLength = 7,
-    #[error("the mark has another form")]
+    #[error("a mark has no other flag but 16, no sectors, and at most 480 bytes of text (docs/LOG-FORMAT.md, Flags)")]
     MarkForm = 8,
-    #[error("the entry goes past the device")]
+    #[error("the entry goes past the device (docs/LOG-FORMAT.md, The device)")]
     Device = 9,
-    #[error("the log goes past a limit")]
+    #[error("a log has at most 67108864 bytes, 65536 entries, and 262144 sectors written or discarded (docs/LOG-FORMAT.md, Limits)")]
     Limit = 10,
     #[error("there is no memory for the log")]
     Memory = 11,
@@ -44,13 +44,13 @@ impl LogCause {
 }
 
 /// Why a request is refused (docs/REPORT.md, All refusals).
-#[derive(Clone, Copy, Debug, PartialEq, Eq, Error)]
+#[derive(Clone, Copy, Debug, PartialEq, Eq)]
 pub enum RequestCause {
-    #[error("the log has too many crash images")]
+    /// The log has too many crash images.
     TooManyImages = 12,
-    #[error("an option or a number is out of its range")]
+    /// An option or a number is out of its range.
     Option = 13,
-    #[error("a file cannot be read")]
+    /// A file cannot be read.
     File = 14,
 }
 
@@ -66,17 +66,17 @@ impl RequestCause {
 /// Why bytes are no program (docs/MACHINE.md, Encoding).
 #[derive(Clone, Copy, Debug, PartialEq, Eq, Error)]
 pub enum CodeCause {
-    #[error("the program is no whole number of slots")]
+    #[error("a program has whole slots of 8 bytes (docs/MACHINE.md, Faults of decoding)")]
     Length = 20,
-    #[error("the program has no slot or too many")]
+    #[error("a program has 1 to 4096 slots (docs/MACHINE.md, Faults of decoding)")]
     SlotCount = 21,
-    #[error("unknown opcode")]
+    #[error("there is no such opcode (docs/MACHINE.md, Faults of decoding)")]
     Opcode = 22,
-    #[error("unknown register or source")]
+    #[error("there is no such register, or a call is neither of a helper nor of a local function (docs/MACHINE.md, Faults of decoding)")]
     Register = 23,
-    #[error("a field that has to be zero is not, or has no meaning here")]
+    #[error("a field isn't zero that has to be, or has no meaning there (docs/MACHINE.md, Faults of decoding)")]
     Field = 24,
-    #[error("the second slot of the instruction is missing or has another form")]
+    #[error("the second half of a 64-bit immediate is missing or has another form (docs/MACHINE.md, Faults of decoding)")]
     SecondHalf = 25,
     #[error("there is no memory for the program")]
     Memory = 26,
@@ -94,15 +94,15 @@ impl CodeCause {
 /// Why a source text is no program (docs/ASSEMBLY.md, Refusals).
 #[derive(Clone, Copy, Debug, PartialEq, Eq, Error)]
 pub enum AsmCause {
-    #[error("the line does not begin with an instruction or a label")]
+    #[error("the line begins with no instruction and no label (docs/ASSEMBLY.md, Instructions)")]
     Word = 30,
-    #[error("the operands of the instruction have another form")]
+    #[error("these aren't the operands of the instruction, or something follows a label (docs/ASSEMBLY.md, Operands)")]
     Operand = 31,
-    #[error("a number is out of its range, or there are no instructions or too many")]
+    #[error("a number is out of its range, or the text has no instruction or more than 4096 slots (docs/ASSEMBLY.md, Refusals)")]
     Range = 32,
-    #[error("a target names an unknown label")]
+    #[error("there is no such label (docs/ASSEMBLY.md, Labels)")]
     UnknownLabel = 33,
-    #[error("the label stands on an earlier line too")]
+    #[error("the label stands on an earlier line too (docs/ASSEMBLY.md, Labels)")]
     RepeatedLabel = 34,
     #[error("there is no memory for the program")]
     Memory = 35,
@@ -117,40 +117,44 @@ impl AsmCause {
     }
 }
 
+/// The form of `again`. (It stands apart, since a word in it would make its attribute look like that of a unit test.)
+const AGAIN_FORM: &str =
+    "call 3 stands behind mov64 r1, K, with K from 1 to 1048576, and before a test of r0 against 0, and no jump or local call leads between them (docs/VERIFIER.md, The form of `again`)";
+
 /// Why a program is refused by the verifier (docs/VERIFIER.md, Refusals).
 #[derive(Clone, Copy, Debug, PartialEq, Eq, Error)]
 pub enum VerifierCause {
-    #[error("the target of a jump or of a local call is no slot in which an instruction begins")]
+    #[error("the jump leads to no slot in which an instruction begins (docs/VERIFIER.md, Shape rules)")]
     Target = 40,
-    #[error("the program ends without an exit")]
+    #[error("the program ends behind this instruction, without an exit (docs/VERIFIER.md, Shape rules)")]
     End = 41,
-    #[error("a loop without a call of again")]
+    #[error("a loop has a way round without a call of again, helper 3 (docs/VERIFIER.md, Shape rules)")]
     Loop = 42,
-    #[error("the call of again has another form")]
+    #[error("{}", AGAIN_FORM)]
     AgainForm = 43,
-    #[error("calls of functions are recursive or too deep")]
+    #[error("a function calls itself, or it is the last of four calls within each other (docs/VERIFIER.md, Calls within calls)")]
     CallDepth = 44,
-    #[error("the budget is above the limit")]
+    #[error("a run could take more than 1000000000 steps: the longest path, times 1 and all turns (docs/VERIFIER.md, Budget)")]
     Budget = 45,
-    #[error("a register that is read is unset")]
+    #[error("a register that is read may be unset (docs/VERIFIER.md, Rules at a slot)")]
     UnsetRegister = 50,
-    #[error("a byte of the stack that is read is unset")]
+    #[error("a byte of the stack that is read may be unwritten (docs/VERIFIER.md, Rules at a slot)")]
     UnsetByte = 51,
-    #[error("an access may lie outside its region")]
+    #[error("the bytes may lie outside of the 512 of a sector or the stack, or the 32 of the context, or the address may be 0 or a number (docs/VERIFIER.md, Rules at a slot)")]
     OutsideRegion = 52,
-    #[error("a write to read-only memory")]
+    #[error("a sector or the context is written (docs/VERIFIER.md, Rules at a slot)")]
     ReadOnly = 53,
-    #[error("arithmetic with a pointer")]
+    #[error("this arithmetic isn't allowed with a pointer, or leaves its range (docs/VERIFIER.md, Rules at a slot)")]
     PointerArithmetic = 54,
-    #[error("a pointer is used as a number")]
+    #[error("a pointer is compared, answered, stored in part or read as a number (docs/VERIFIER.md, Rules at a slot)")]
     PointerAsNumber = 55,
-    #[error("an argument of a helper is of another kind")]
+    #[error("an argument of the helper isn't of its kind (docs/VERIFIER.md, Rules at a slot)")]
     HelperArgument = 56,
-    #[error("register 10 is written")]
+    #[error("register 10 is written (docs/VERIFIER.md, Shape rules)")]
     FramePointer = 57,
-    #[error("there is no helper of that number")]
+    #[error("there is no helper of that number, only 1 to 7 (docs/MACHINE.md, Helpers)")]
     UnknownHelper = 58,
-    #[error("the table of states is not settled")]
+    #[error("a table isn't settled: what is passed to a slot isn't contained in what the table has there (docs/VERIFIER.md, Good table)")]
     Unsettled = 59,
     #[error("there is no memory to verify the program")]
     Memory = 60,
@@ -166,15 +170,15 @@ impl VerifierCause {
 }
 
 /// Why the work on a log was given up (docs/REPORT.md, All refusals).
-#[derive(Clone, Copy, Debug, PartialEq, Eq, Error)]
+#[derive(Clone, Copy, Debug, PartialEq, Eq)]
 pub enum WorkCause {
-    #[error("a block was handed over twice")]
+    /// A block was handed over twice.
     PieceTwice = 70,
-    #[error("a block was not handed over")]
+    /// A block was not handed over.
     PieceMissing = 71,
-    #[error("there is no memory for the work")]
+    /// There is no memory for the work.
     Memory = 72,
-    #[error("a seat was not given back")]
+    /// A seat was not given back.
     SeatsMissing = 73,
 }
 
@@ -188,25 +192,25 @@ impl WorkCause {
 }
 
 /// Why the machine stops at an instruction (docs/MACHINE.md, Faults).
-#[derive(Clone, Copy, Debug, PartialEq, Eq, Error)]
+#[derive(Clone, Copy)]
 pub enum MachineFault {
-    #[error("there is no instruction at the next slot")]
+    /// There is no instruction at the next slot.
     NoInstruction = 80,
-    #[error("a register that is read is unset")]
+    /// A register that is read is unset.
     UnsetRegister = 81,
-    #[error("a byte of the stack that is read is unset")]
+    /// A byte of the stack that is read is unset.
     UnsetByte = 82,
-    #[error("no byte stands at the address")]
+    /// No byte stands at the address.
     Unmapped = 83,
-    #[error("the byte that is written is no byte of a stack")]
+    /// The byte that is written is no byte of a stack.
     ReadOnly = 84,
-    #[error("there is no helper of that number")]
+    /// There is no helper of that number.
     UnknownHelper = 85,
-    #[error("an argument of the helper is out of its range")]
+    /// An argument of the helper is out of its range.
     HelperArgument = 86,
-    #[error("there is no room for a fifth frame")]
+    /// There is no room for a fifth frame.
     FrameLimit = 87,
-    #[error("register 10 would be written")]
+    /// Register 10 would be written.
     FramePointer = 88,
 }
 

@@ -9,12 +9,10 @@ pub use base::causes::AsmCause;
 use base::causes::CodeCause;
 use bpf_isa::program::CodeFault;
 use std::alloc::{AllocError, AllocFailed};
-use thiserror::Error;
 
 /// Why a text is refused, with the line that is the cause, from 1; 0 where memory or the text as a
 /// whole is.
-#[derive(Clone, Copy, Debug, PartialEq, Eq, Error)]
-#[error("line {line}: {code}")]
+#[derive(Clone, Copy, Debug)]
 pub struct AsmFault {
     pub code: AsmCause,
     pub line: u64,
@@ -49,7 +47,7 @@ impl<T: Drop> From<AllocFailed<T>> for AsmFault {
 }
 
 /// Why a line by itself says nothing.
-#[derive(Clone, Copy, Debug)]
+#[derive(Clone, Copy)]
 pub(crate) enum LineCause {
     /// It begins with no name of an instruction, and with no label.
     Word,

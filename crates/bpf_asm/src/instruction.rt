@@ -24,7 +24,7 @@ use bpf_isa::instr::{
 };
 
 /// An instruction as a line says it. Where a label is to tell its distance, the distance is 0.
-#[derive(Clone, Copy, Debug)]
+#[derive(Clone, Copy)]
 pub(crate) struct Draft<'t> {
     pub instr: Instr,
     pub label: Option<&'t [u8]>,

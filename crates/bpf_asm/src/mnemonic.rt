@@ -11,7 +11,7 @@ use bpf_isa::instr::{
 };
 
 /// What the name of an instruction tells: its form, and what is done in which width.
-#[derive(Clone, Copy, Debug, PartialEq, Eq)]
+#[derive(Clone, Copy)]
 pub(crate) enum Mnemonic {
     Arithmetic(Width, Operator),
     Negate(Width),

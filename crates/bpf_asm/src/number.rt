@@ -4,7 +4,7 @@ ghost use Rattle.std.specs.Prelude.{ℕ, ◌≡◌, ◌<◌, ◌≤◌, ◌^◌,
 ghost use Rattle.bpf_asm.specs.Words.{digit, numeral, number_of, held, is_hexadecimal, in_range, in_wide_range};
 
 /// A number with its sign, before it is known which range it has to keep.
-#[derive(Clone, Copy, Debug, PartialEq, Eq)]
+#[derive(Clone, Copy)]
 pub(crate) struct Number {
     pub negative: bool,
     /// None from 2^64 on, which is in no range.

@@ -13,7 +13,7 @@ use bpf_isa::instr::Source;
 use bpf_isa::register::Register;
 
 /// A register, or else a number.
-#[derive(Clone, Copy, Debug)]
+#[derive(Clone, Copy)]
 pub(crate) enum Operand {
     Register(Register),
     Number(Number),
@@ -32,7 +32,7 @@ impl Operand {
 }
 
 /// Where a jump or a local call goes: at a distance, or to a label.
-#[derive(Clone, Copy, Debug)]
+#[derive(Clone, Copy)]
 pub(crate) enum Target<'t> {
     Distance(Number),
     Label(&'t [u8]),

@@ -15,7 +15,7 @@ use indexmap::IndexMap;
 use std::alloc::Global;
 
 /// The label that is to tell the distance of an instruction, and the line of the instruction.
-#[derive(Clone, Copy, Debug)]
+#[derive(Clone, Copy)]
 pub(crate) struct Wanted<'t> {
     pub label: Option<&'t [u8]>,
     pub line: u64,

@@ -13,7 +13,7 @@ use crate::operand::{is_name, mark};
 use crate::part::{is_end, word};
 
 /// What a line says: nothing, a label or an instruction.
-#[derive(Clone, Copy, Debug)]
+#[derive(Clone, Copy)]
 pub(crate) enum Statement<'t> {
     Empty,
     Label(&'t [u8]),

@@ -7,7 +7,7 @@ use base::numbers::{put_u16, put_u32, u16_at, u32_at};
 use std::alloc::AllocError;
 
 /// The fields of a slot (RFC 9669, section 3.1); the offset and the immediate as their bits.
-#[derive(Clone, Copy, Debug, PartialEq, Eq)]
+#[derive(Clone, Copy)]
 pub struct Fields {
     pub opcode: u8,
     pub dst: u8,

@@ -7,7 +7,7 @@ use crate::instr::{Condition, Operator, Order, SignedSize, Size, Width};
 
 /// What the opcode byte says: the form of the instruction and whether its source is a register.
 /// Signed division and modulo share the opcode of the unsigned ones, and are not met here.
-#[derive(Clone, Copy, Debug, PartialEq, Eq)]
+#[derive(Clone, Copy)]
 pub enum Form {
     Arithmetic {
         width: Width,

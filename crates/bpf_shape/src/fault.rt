@@ -4,12 +4,10 @@ ghost use Rattle.std.specs.Prelude.{◌≡◌};
 
 use base::causes::VerifierCause;
 use std::alloc::AllocError;
-use thiserror::Error;
 
 /// Why a program is refused, with the slot that is the cause, which is 0 for the budget and for
 /// want of memory.
-#[derive(Clone, Copy, Debug, PartialEq, Eq, Error)]
-#[error("slot {slot}: {code}")]
+#[derive(Clone, Copy, Debug)]
 pub struct Fault {
     pub code: VerifierCause,
     pub slot: u64,

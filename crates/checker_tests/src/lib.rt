@@ -1,5 +1,6 @@
-//! Tests of the public calls that a checker goes through, from its text to its verdict: worked values,
-//! outside vectors, happy paths near limits.
+//! Tests of the public calls that a checker goes through, from its text to its verdict: what no command of the
+//! program shows, and each call that takes memory once on its happy path. What the program shows is tested by
+//! tests/run.py.
 //!
 //! A crate with tests of its own is proved twice, so they stand here, over the finished work of the
 //! others. Each file has the tests of one crate. This crate has no code but tests.
@@ -13,10 +14,6 @@ mod bpf_asm_tests;
 mod bpf_isa_tests;
 #[cfg(test)]
 mod bpf_shape_tests;
-#[cfg(test)]
-mod helpers_tests;
-#[cfg(test)]
-mod interp_tests;
 #[cfg(test)]
 mod intervals_tests;
 #[cfg(test)]

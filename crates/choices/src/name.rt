@@ -4,7 +4,7 @@ use crate::fate::Fate;
 
 /// A departure as the report names it: the part by its entry and its place there, and its fate. The device's sector isn't
 /// part of it, since the log has that.
-#[derive(Clone, Copy, Debug, PartialEq, Eq)]
+#[derive(Clone, Copy)]
 pub struct Name {
     /// The number of the part's entry in the log.
     pub entry: u32,

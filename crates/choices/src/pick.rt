@@ -1,7 +1,7 @@
 //! Departures by their numbers.
 
 /// A departure by its numbers.
-#[derive(Clone, Copy, Debug, Default, PartialEq, Eq)]
+#[derive(Clone, Copy, Default)]
 pub(crate) struct Pick {
     /// Which of the volatile parts of its cut, from 0 in their order.
     pub part: u32,

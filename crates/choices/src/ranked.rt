@@ -10,14 +10,12 @@ use crate::step::step;
 use crate::ways::ways_within;
 use arrayvec::ArrayVec;
 use epochs::Plan;
-use thiserror::Error;
 
 /// The greatest number of choices, and so of crash images, of a run (docs/CRASH-MODEL.md, Limits).
 const MOST_CHOICES: u64 = 16_777_216;
 
 /// There are more choices than a run may have.
-#[derive(Clone, Copy, Debug, PartialEq, Eq, Error)]
-#[error("cut {at}: too many choices")]
+#[derive(Clone, Copy, Debug, PartialEq, Eq)]
 pub struct TooMany {
     /// The cut with which their number passes the limit.
     pub at: u32,

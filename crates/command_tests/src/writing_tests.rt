@@ -1,6 +1,6 @@
 //! `emit` over writers that take few bytes at a time, fail, take none, or are interrupted.
 
-use commands::emit;
+use commands::{Output, emit};
 use std::alloc::Global;
 use std::io::{self, ErrorKind, Write};
 use std::test::Fail;
@@ -79,15 +79,15 @@ const CASES: [Case; 11] = [
 /// Whether so many of the bytes go out, and whether the answer is that number or, for all of them, Ok.
 fn goes_out(alloc: Global, case: &Case) -> bool {
     let (most, calls, at_end, count) = *case;
-    let mut writer = Slow {
+    let mut out = Output::new(Slow {
         got: Vec::new(alloc),
         most,
         calls,
         at_end,
-    };
+    });
     let wanted = if count == 23 { Ok(()) } else { Err(count) };
-    let answered = emit(&mut writer, &BYTES);
-    answered == wanted && BYTES.get(..count as usize) == Some(writer.got.as_slice())
+    let answered = emit(&mut out, &BYTES);
+    answered == wanted && BYTES.get(..count as usize) == Some(out.into_writer().got.as_slice())
 }
 
 #[test]

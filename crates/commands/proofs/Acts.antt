@@ -6,9 +6,9 @@ use Rattle.std.specs.Option.{option_map, option_to_list}
 use Rattle.std.specs.List.{filter_map, position_or_len}
 use Rattle.base.specs.declared.refusal.Refusal.{Refusal}
 use Rattle.base.specs.Refusals.{memory_refusal}
-use Rattle.commands.specs.declared.settings.Settings.{Settings}
-use Rattle.commands.specs.Assembly.{file_refusal}
-use Rattle.commands.specs.Explore.{Refuses}
+use Rattle.request.specs.declared.settings.Settings.{Settings}
+use Rattle.request.specs.Refusals.{file_refusal}
+use Rattle.runs.specs.Explore.{Refuses}
 use Rattle.commands.specs.Acting.{Files, first_held, unread, RefusesFile, for_file, RefusesFiles, for_unread, for_run, for_memory, AnswersFiles, AnswersRun}
 
 -- the first file can't be read

@@ -1,17 +1,5 @@
+-- Lemmas of the crate.
 pub mod Acts
 pub mod Appending
-pub mod Findings
 pub mod OneReport
-pub mod Plans
-pub mod Ranges
-pub mod RefusalLemmas
-pub mod Runs
-pub mod Explained
-pub mod Pages
 pub mod Once
-pub mod Texts
-pub mod Faultless
-pub mod Fitting
-pub mod Printed
-pub mod Short
-pub mod Meant

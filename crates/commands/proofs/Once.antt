@@ -4,7 +4,7 @@ use Rattle.std.proofs.lemmas.List.{length-map}
 use Rattle.choices.specs.Laws.{ListIsSet}
 use Rattle.choices.specs.Sums.{StartsValue}
 use Rattle.choices.proofs.Plans.{before_more}
-use Rattle.interp.specs.Checker.{CheckerValue}
+use Rattle.checker.specs.Checker.{CheckerValue}
 use Rattle.logfmt.specs.Bounds.{LogValue}
 use Rattle.lines.specs.Line.{FailingLine}
 use Rattle.lines.specs.Marks.{marks_of}
@@ -15,11 +15,11 @@ use Rattle.why.proofs.Between.{of_cut}
 use Rattle.why.proofs.Ordered.{are_choices}
 use Rattle.workers.specs.Failing.{failing_lines}
 use Rattle.workers.specs.Laws.{LinesAreSet}
-use Rattle.commands.specs.declared.settings.Settings.{Settings}
-use Rattle.commands.specs.Explore.{subject_of}
-use Rattle.commands.specs.Why.{images_failing, starts_of}
+use Rattle.request.specs.declared.settings.Settings.{Settings}
+use Rattle.runs.specs.Explore.{subject_of}
+use Rattle.runs.specs.Why.{images_failing, starts_of}
 use Rattle.commands.specs.Once.{StandAtCut, StandAtCuts, EachImageStandsOnce}
-use Rattle.commands.proofs.Explained.{are_images, marked_are_failing}
+use Rattle.runs.proofs.Explained.{are_images, marked_are_failing}
 
 -- the images on which a program fails are images of the run
 run_images : LinesAreSet → (s : Settings) (value : LogValue) (checkers : List CheckerValue) (program : ℕ)

@@ -16,14 +16,14 @@ use Rattle.bpf_isa.specs.Program.{IsSpelledBy}
 use Rattle.bpf_isa.specs.Laws.{OneProgram, NoFaultInSpelled}
 use Rattle.verifier.specs.Verdicts.{Refused}
 use Rattle.verifier.specs.Laws.{OneVerdict}
-use Rattle.interp.specs.Checker.{CheckerValue}
+use Rattle.checker.specs.Checker.{CheckerValue}
 use Rattle.lines.specs.Line.{FailingLine}
 use Rattle.workers.specs.Failing.{failing_lines}
-use Rattle.commands.specs.declared.settings.Settings.{Settings}
-use Rattle.commands.specs.Source.{plan_of, images_of, HasImages, IsLogOf, RefusesLog, with_fault, no_memory, RefusesPlan, too_many, no_plan_memory, RefusesSource, for_log, for_plan}
-use Rattle.commands.specs.Programs.{IsRunWithin, IsCodeFault, IsVerifierFault}
-use Rattle.commands.specs.Explore as explore
-use Rattle.commands.specs.Explore.{IsCheckerOf, AreCheckersOf, subject_of, report_of, IsReport, RefusesProgram, with_code_fault, with_verifier_fault, no_code_memory, no_verifier_memory, no_list_memory, Refuses, for_count, for_program}
+use Rattle.request.specs.declared.settings.Settings.{Settings}
+use Rattle.request.specs.Source.{plan_of, images_of, HasImages, IsLogOf, RefusesLog, with_fault, no_memory, RefusesPlan, too_many, no_plan_memory, RefusesSource, for_log, for_plan}
+use Rattle.runs.specs.Programs.{IsRunWithin, IsCodeFault, IsVerifierFault}
+use Rattle.runs.specs.Explore as explore
+use Rattle.runs.specs.Explore.{IsCheckerOf, AreCheckersOf, subject_of, report_of, IsReport, RefusesProgram, with_code_fault, with_verifier_fault, no_code_memory, no_verifier_memory, no_list_memory, Refuses, for_count, for_program}
 use Rattle.commands.specs.Laws.{IsOfMemory}
 
 same_log : TextOfOneLog → (text : List ℕ) (s : Settings) (v w : LogValue) → HasImages text s v → HasImages text s w → v ≡ w

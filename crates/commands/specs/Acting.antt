@@ -1,63 +1,29 @@
 -- What a command answers on what its files hold, and when it is refused (docs/REPORT.md, Commands and Refusals
 -- in their order).
-use Rattle.std.specs.Prelude.{ℕ, ◌≡◌, ◌⊎◌, ◌++◌, Bool, if◌then◌else◌, List, [], ◌∷◌, map, replicate, position, is_none, Option, None, Some, option_map}
-use Rattle.epochs.specs.declared.cuts.Cuts.{Cuts}
-use Rattle.epochs.specs.declared.part.By.{By}
-use Rattle.std.specs.Option.{option_map_or, option_and_then}
+use Rattle.std.specs.Prelude.{ℕ, ◌≡◌, ◌⊎◌, ◌++◌, Bool, if◌then◌else◌, List, [], ◌∷◌, map, replicate, position, is_none, Option, None, Some}
 use Rattle.base.specs.declared.refusal.Refusal.{Refusal}
 use Rattle.base.specs.Refusals.{memory_refusal}
 use Rattle.commands.specs.declared.action.TheConstants.{STORED_SUPER, STORED_PROGRAM, STORED_SETTINGS}
-use Rattle.commands.specs.declared.settings.OptionPlace.TheVariants as place
-use Rattle.commands.specs.declared.settings.Settings.{Settings}
-use Rattle.commands.specs.declared.words.OptionWords.{OptionWords}
-use Rattle.commands.specs.declared.words.Request.{Request}
-use Rattle.commands.specs.declared.words.Request.TheVariants as request
-use Rattle.commands.specs.Settings.{option_refusal, settings_refusal}
-use Rattle.commands.specs.declared.settings.Telling.{Telling}
-use Rattle.commands.specs.declared.settings.Telling.TheVariants as telling
-use Rattle.commands.specs.Explore.{Refuses}
-use Rattle.commands.specs.Why.{IsTold}
-use Rattle.commands.specs.Image.{IsImage, RefusesImage}
-use Rattle.commands.specs.Show.{IsShown}
-use Rattle.commands.specs.Survey.{IsSurvey, RefusesSurvey}
-use Rattle.commands.specs.Table.{IsTable, RefusesTable}
-use Rattle.commands.specs.Verifying.{IsAcceptedText, RefusesVerified}
-use Rattle.commands.specs.Assembly.{file_refusal, IsAssembled, RefusesText, IsListed, RefusesBytes}
+use Rattle.request.specs.declared.settings.Settings.{Settings}
+use Rattle.request.specs.declared.command.OptionWords.{OptionWords}
+use Rattle.request.specs.declared.command.Request.{Request}
+use Rattle.request.specs.declared.command.Request.TheVariants as request
+use Rattle.request.specs.OptionWords.{AskFor, words_refusal}
+use Rattle.request.specs.Refusals.{file_refusal}
+use Rattle.request.specs.declared.settings.Telling.{Telling}
+use Rattle.request.specs.declared.settings.Telling.TheVariants as telling
+use Rattle.runs.specs.Explore.{Refuses}
+use Rattle.runs.specs.Why.{IsTold}
+use Rattle.looks.specs.Image.{IsImage, RefusesImage}
+use Rattle.looks.specs.Show.{IsShown}
+use Rattle.looks.specs.Survey.{IsSurvey, RefusesSurvey}
+use Rattle.looks.specs.Table.{IsTable, RefusesTable}
+use Rattle.looks.specs.Verifying.{IsAcceptedText, RefusesVerified}
+use Rattle.looks.specs.Assembly.{IsAssembled, RefusesText, IsListed, RefusesBytes}
 
 -- what each file of a command holds, none where it can't be read
 abbrev pub Files : Type 0
 Files = List (Option (List ℕ))
-
--- what the words ask for, with cuts of that kind, and parts of that
-abbrev pub settings_with : OptionWords → Cuts → By → Settings
-settings_with w cuts way = record {
-  sectors = w.sectors;
-  cuts = cuts;
-  bound = w.bound;
-  tears = w.tears;
-  by = way;
-  workers = w.workers;
-  cache = w.cache;
-  checked = w.checked;
-  first = w.first;
-}
-
--- what the words ask for, none where the word for the cuts names no kind of cut, or that behind --by no kind of part
-abbrev pub settings_of : OptionWords → Option Settings
-settings_of w = option_and_then (λ cuts. option_map (settings_with w cuts) w.by) w.cuts
-
--- the refusal of the words, of which that for the cuts names a kind of cut: the kind of the parts is tested first
-abbrev pub parts_refusal : OptionWords → Cuts → Option Refusal
-parts_refusal w cuts = option_map_or (λ way. settings_refusal (settings_with w cuts way)) w.by (Some (option_refusal place.By))
-
--- the refusal of the words of a command line: the kind of the cuts is tested first
-abbrev pub words_refusal : OptionWords → Option Refusal
-words_refusal w = option_map_or (parts_refusal w) w.cuts (Some (option_refusal place.Cuts))
-
--- the words ask for this, and no check of the options refuses it
-pub record AskFor (w : OptionWords) (s : Settings) : Type 0 where
-  pub asked : settings_of w ≡ Some s
-  pub good : settings_refusal s ≡ None
 
 -- the place of the first file that can't be read; without any file the first can't be read
 abbrev pub unread : Files → Option ℕ

@@ -8,8 +8,8 @@ use Rattle.base.specs.declared.causes.WorkCause.TheVariants as work
 use Rattle.base.specs.declared.refusal.Cause.{Cause}
 use Rattle.base.specs.declared.refusal.Cause.TheVariants.{Log, Request, Code, Asm, Verifier, Work}
 use Rattle.base.specs.declared.refusal.Refusal.{Refusal}
-use Rattle.commands.specs.declared.settings.Settings.{Settings}
-use Rattle.commands.specs.Explore.{IsReport, Refuses}
+use Rattle.request.specs.declared.settings.Settings.{Settings}
+use Rattle.runs.specs.Explore.{IsReport, Refuses}
 
 -- for given bytes and options there is at most one report, and it tells whether an image fails
 abbrev pub OneReport : Type 0

@@ -1,23 +1,4 @@
--- What a run explores, what it finds, and how it is told.
-pub mod Places
-pub mod Settings
-pub mod Source
-pub mod Programs
-pub mod Explore
-pub mod Paged
-pub mod Why
-pub mod Once
-pub mod Marked
-pub mod Found
-pub mod Which
-pub mod Image
-pub mod Show
-pub mod Survey
-pub mod Table
-pub mod Assembly
-pub mod Verifying
-pub mod Unreached
-pub mod FaultLine
-pub mod Words
+-- What a command answers, and what holds of reports.
 pub mod Acting
+pub mod Once
 pub mod Laws

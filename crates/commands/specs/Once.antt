@@ -7,9 +7,9 @@ use Rattle.why.specs.declared.cut.CutFailures.{CutFailures}
 use Rattle.why.specs.Failures.{numbers_in, first_at, failing_at}
 use Rattle.why.specs.Laws.{StandOnce}
 use Rattle.workers.specs.Failing.{failing_lines}
-use Rattle.commands.specs.declared.settings.Settings.{Settings}
-use Rattle.commands.specs.Explore.{subject_of}
-use Rattle.commands.specs.Why.{images_failing, starts_of, Cause, IsExplained}
+use Rattle.request.specs.declared.settings.Settings.{Settings}
+use Rattle.runs.specs.Explore.{subject_of}
+use Rattle.runs.specs.Why.{images_failing, starts_of, Cause, IsExplained}
 
 -- The failing images of the wanted cut of a place stand once in its groups: their numbers add up to that of the cut, and the
 -- choice of each group is that of a failing image, of which no other failing choice of the cut is a part.

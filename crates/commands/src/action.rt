@@ -3,27 +3,18 @@
 ghost use Rattle.std.specs.Prelude.{◌≡◌, ◌⊎◌, ◌∷◌, map, option_map, position, is_none, Some, None, MatchResult, IfOk, IfErr, OnOk};
 ghost use Rattle.std.specs.List.{filter_map};
 ghost use Rattle.base.specs.Refusals.{memory_refusal};
-ghost use Rattle.commands.specs.declared.words.Request.TheVariants as request;
-ghost use Rattle.commands.specs.Explore.{Refuses};
-ghost use Rattle.commands.specs.Settings.{settings_refusal};
-ghost use Rattle.commands.specs.Assembly.{file_refusal};
-ghost use Rattle.commands.specs.Acting.{settings_of, words_refusal, AskFor, first_held, unread, stored_log, stored_programs, status_of, AnswersRun, AnswersFiles, AnswersExplore, Answers, RefusesWith, RefusesToAct, RefusesFiles};
-ghost use Rattle.commands.specs.declared.settings.Telling.TheVariants as tells;
+ghost use Rattle.request.specs.declared.command.Request.TheVariants as asks;
+ghost use Rattle.runs.specs.Explore.{Refuses};
+ghost use Rattle.request.specs.Refusals.{file_refusal};
+ghost use Rattle.commands.specs.Acting.{first_held, unread, stored_log, stored_programs, status_of, AnswersRun, AnswersFiles, AnswersExplore, Answers, RefusesWith, RefusesToAct, RefusesFiles};
+ghost use Rattle.request.specs.declared.settings.Telling.TheVariants as tells;
 
-use crate::asm_command::assembled;
-use crate::explore_command::run_with;
-use crate::image_command::image;
-use crate::images_command::survey;
-use crate::list_command::listed;
-use crate::log_command::shown_log;
-use crate::options::Options;
-use crate::refusals::{option_refusal_of, unreadable};
-use crate::settings::{OptionPlace, Settings, Telling};
-use crate::show_command::show;
-use crate::verify_command::verified;
-use crate::words::{OptionWords, Request, Which, Words};
 use base::refusal::Refusal;
+use command_line::Words;
 use epochs::{By, Cuts};
+use looks::{assembled, image, listed, show, shown_log, survey, verified};
+use request::{OptionWords, Options, Request, Settings, Telling, Which, options_of, unreadable};
+use runs::run_with;
 use std::alloc::{AllocError, Global};
 use std::sync::Wait;
 use std::thread::Threads;
@@ -50,29 +41,6 @@ pub(crate) const STORED_SETTINGS: Settings = Settings {
     checked: Some(2),
     first: false,
 };
-
-/// The options that these words ask for.
-pub(crate) fn options_of(words: OptionWords) -> Result<Options, Refusal>
-    ensures { MatchResult result (λ o. AskFor words o) (λ r. words_refusal words ≡ Some r) }
-{
-    match words.cuts {
-        Some(cuts) => match words.by {
-            Some(by) => Options::new(&Settings {
-                sectors: words.sectors,
-                cuts,
-                bound: words.bound,
-                tears: words.tears,
-                by,
-                workers: words.workers,
-                cache: words.cache,
-                checked: words.checked,
-                first: words.first,
-            }),
-            None => Err(option_refusal_of(OptionPlace::By)),
-        },
-        None => Err(option_refusal_of(OptionPlace::Cuts)),
-    }
-}
 
 /// The place of the first file that cannot be read.
 fn first_unreadable(files: &[Option<Vec<u8>>]) -> Option<usize>
@@ -187,7 +155,7 @@ fn explore_readable<G: Gate + Sync, R: Threads + Wait + Sync>(
 }
 
 /// The options of the stored run, which no check refuses.
-#[tactic(auto, unfolding(crate::specs::Settings::option_checks))]
+#[tactic(auto, unfolding(request::specs::Settings::option_checks))]
 fn stored_options() -> Options
     ensures { result ≡ STORED_SETTINGS }
 {
@@ -229,8 +197,8 @@ fn act_images(
     words: OptionWords,
     files: &[Option<Vec<u8>>],
 ) -> Result<(Vec<u8>, u8), Refusal>
-    ensures answers { IfOk result (λ answer. Answers (request.Images words) (map (option_map (λ f. f.items)) files.now) answer.0.items answer.1) }
-    ensures refused { IfErr result (RefusesToAct (request.Images words) (map (option_map (λ f. f.items)) files.now)) }
+    ensures answers { IfOk result (λ answer. Answers (asks.Images words) (map (option_map (λ f. f.items)) files.now) answer.0.items answer.1) }
+    ensures refused { IfErr result (RefusesToAct (asks.Images words) (map (option_map (λ f. f.items)) files.now)) }
 {
     let options = options_of(words)?;
     let log = first_of(files)?;
@@ -244,8 +212,8 @@ fn act_log(
     words: OptionWords,
     files: &[Option<Vec<u8>>],
 ) -> Result<(Vec<u8>, u8), Refusal>
-    ensures answers { IfOk result (λ answer. Answers (request.Log words) (map (option_map (λ f. f.items)) files.now) answer.0.items answer.1) }
-    ensures refused { IfErr result (RefusesToAct (request.Log words) (map (option_map (λ f. f.items)) files.now)) }
+    ensures answers { IfOk result (λ answer. Answers (asks.Log words) (map (option_map (λ f. f.items)) files.now) answer.0.items answer.1) }
+    ensures refused { IfErr result (RefusesToAct (asks.Log words) (map (option_map (λ f. f.items)) files.now)) }
 {
     let options = options_of(words)?;
     let log = first_of(files)?;
@@ -260,8 +228,8 @@ fn act_image(
     which: Which,
     files: &[Option<Vec<u8>>],
 ) -> Result<(Vec<u8>, u8), Refusal>
-    ensures answers { IfOk result (λ answer. Answers (request.Image words which) (map (option_map (λ f. f.items)) files.now) answer.0.items answer.1) }
-    ensures refused { IfErr result (RefusesToAct (request.Image words which) (map (option_map (λ f. f.items)) files.now)) }
+    ensures answers { IfOk result (λ answer. Answers (asks.Image words which) (map (option_map (λ f. f.items)) files.now) answer.0.items answer.1) }
+    ensures refused { IfErr result (RefusesToAct (asks.Image words which) (map (option_map (λ f. f.items)) files.now)) }
 {
     let options = options_of(words)?;
     let log = first_of(files)?;
@@ -276,8 +244,8 @@ fn act_show(
     which: Which,
     files: &[Option<Vec<u8>>],
 ) -> Result<(Vec<u8>, u8), Refusal>
-    ensures answers { IfOk result (λ answer. Answers (request.Show words which) (map (option_map (λ f. f.items)) files.now) answer.0.items answer.1) }
-    ensures refused { IfErr result (RefusesToAct (request.Show words which) (map (option_map (λ f. f.items)) files.now)) }
+    ensures answers { IfOk result (λ answer. Answers (asks.Show words which) (map (option_map (λ f. f.items)) files.now) answer.0.items answer.1) }
+    ensures refused { IfErr result (RefusesToAct (asks.Show words which) (map (option_map (λ f. f.items)) files.now)) }
 {
     let options = options_of(words)?;
     let log = first_of(files)?;
@@ -291,8 +259,8 @@ fn act_verify(
     words: OptionWords,
     files: &[Option<Vec<u8>>],
 ) -> Result<(Vec<u8>, u8), Refusal>
-    ensures answers { IfOk result (λ answer. Answers (request.Verify words) (map (option_map (λ f. f.items)) files.now) answer.0.items answer.1) }
-    ensures refused { IfErr result (RefusesToAct (request.Verify words) (map (option_map (λ f. f.items)) files.now)) }
+    ensures answers { IfOk result (λ answer. Answers (asks.Verify words) (map (option_map (λ f. f.items)) files.now) answer.0.items answer.1) }
+    ensures refused { IfErr result (RefusesToAct (asks.Verify words) (map (option_map (λ f. f.items)) files.now)) }
 {
     let options = options_of(words)?;
     let code = first_of(files)?;
@@ -302,8 +270,8 @@ fn act_verify(
 
 /// The program of a source text, as bytes.
 fn act_asm(alloc: Global, files: &[Option<Vec<u8>>]) -> Result<(Vec<u8>, u8), Refusal>
-    ensures answers { IfOk result (λ answer. Answers request.Asm (map (option_map (λ f. f.items)) files.now) answer.0.items answer.1) }
-    ensures refused { IfErr result (RefusesToAct request.Asm (map (option_map (λ f. f.items)) files.now)) }
+    ensures answers { IfOk result (λ answer. Answers asks.Asm (map (option_map (λ f. f.items)) files.now) answer.0.items answer.1) }
+    ensures refused { IfErr result (RefusesToAct asks.Asm (map (option_map (λ f. f.items)) files.now)) }
 {
     let source = first_of(files)?;
     let bytes = assembled(alloc, source)?;
@@ -316,8 +284,8 @@ fn act_list(
     numbered: bool,
     files: &[Option<Vec<u8>>],
 ) -> Result<(Vec<u8>, u8), Refusal>
-    ensures answers { IfOk result (λ answer. Answers (request.List numbered) (map (option_map (λ f. f.items)) files.now) answer.0.items answer.1) }
-    ensures refused { IfErr result (RefusesToAct (request.List numbered) (map (option_map (λ f. f.items)) files.now)) }
+    ensures answers { IfOk result (λ answer. Answers (asks.List numbered) (map (option_map (λ f. f.items)) files.now) answer.0.items answer.1) }
+    ensures refused { IfErr result (RefusesToAct (asks.List numbered) (map (option_map (λ f. f.items)) files.now)) }
 {
     let code = first_of(files)?;
     let text = listed(alloc, code, numbered)?;

@@ -3,7 +3,6 @@
 
 ghost use Rattle.commands.specs.Laws.{OneReport, ReportOrRefusal};
 ghost use Rattle.commands.specs.Once.{EachImageStandsOnce};
-ghost use Rattle.commands.specs.Which.{ChoicesAreShort, PrintsChoices};
 
 use bpf_isa::laws::{no_fault_in_spelled, one_program};
 use choices::list_is_set;
@@ -31,18 +30,6 @@ pub fn report_or_refusal()
     no_fault_in_spelled();
     one_verdict();
 }
-
-/// The report prints of a choice what `show` prints of it: the same bytes.
-#[tactic(auto, using(crate::proofs::Printed::prints_choices))]
-pub fn report_prints_choices()
-    ensures { PrintsChoices }
-{}
-
-/// No choice of a plan has a text of more than 96 bytes, so none is missed where a longer text means none.
-#[tactic(auto, using(crate::proofs::Short::choices_are_short))]
-pub fn choices_are_short()
-    ensures { ChoicesAreShort }
-{}
 
 /// Each image on which a program fails, by the lines of the report, stands once in what `why` says of it: at one cut, and there
 /// in one group, of whose choice no other failing choice of the cut is a part.

@@ -19,7 +19,7 @@ use std::alloc::{AllocError, Global};
 use why::{CutFailures, Group};
 
 /// How many groups of a cut are shown.
-const MOST: usize = 8;
+const MOST_GROUPS_OF_CUT: usize = 8;
 
 /// Appends the first of the choices of a cut, and how many there are.
 #[tactic(auto, unfolding(crate::specs::Groups::first_text))]
@@ -155,7 +155,7 @@ pub(crate) fn shown_of(left: usize, cut: &CutFailures) -> usize
     ensures left { result ≤ left }
     ensures there { result ≤ length cut.now.groups.items }
 {
-    cut.groups.len().min(MOST).min(left)
+    cut.groups.len().min(MOST_GROUPS_OF_CUT).min(left)
 }
 
 /// Appends a cut, with so many of its groups.

@@ -18,7 +18,7 @@ use std::alloc::{AllocError, Global};
 use why::CutFailures;
 
 /// How many groups of a program are shown.
-const MOST: usize = 500;
+const MOST_GROUPS_OF_PROGRAM: usize = 500;
 
 /// Above how many entries their cells are narrow.
 const MANY: usize = 400;
@@ -122,7 +122,7 @@ fn put_cuts(
     requires cuts { All (IsOfRun starts.now) cuts.now }
     ensures { OnOk result (string_bytes out.new ≡ string_bytes out.old ++ cuts_text starts.now program most_of_program cuts.now) }
 {
-    let mut left = MOST;
+    let mut left = MOST_GROUPS_OF_PROGRAM;
     for cut in cuts {
         let shown = shown_of(left, cut);
         put_cut(

@@ -136,7 +136,7 @@ pub fn put_choice(
 }
 
 /// What images are numbered by, beside the device and the log.
-#[derive(Clone, Copy, Debug)]
+#[derive(Clone, Copy)]
 pub struct Numbering {
     /// The kind of the cuts.
     pub cuts: Cuts,

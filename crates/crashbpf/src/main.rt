@@ -9,16 +9,20 @@
 //! # Place
 //!
 //! The top. What a command answers, with which status, and when it is refused, is all decided by
-//! `commands`, whose `act` takes what the files hold and gives the bytes. Here files are read, and the
+//! `commands`, whose `act` takes what the files hold and gives the bytes. `input_files` reads them. Here the
 //! answer is written: to standard output, or a refusal's line to standard error with status 2. Notes stand on
 //! standard error in both cases, and change neither the status nor standard output; nor does the line that
-//! says how far an exploration is, which comes before them.
+//! says how far an exploration is, which comes before them. Want of memory is a refusal wherever it is met, and
+//! its line is written also where there is no memory for a text.
 //!
 //! No contract can say what a file holds or what standard output takes: this crate is kept as short as
 //! it can be, and its behaviour is shown by runs of the built program.
 #![tactic(auto)]
 
-use commands::{Progress, Words, act, emit, fault_line, notes_behind, notes_beside};
+use base::refusal::Refusal;
+use clap::error::ErrorKind as WordsFault;
+use commands::{Output, Progress, Words, act, emit, fault_line, notes_behind, notes_beside};
+use input_files::Inputs;
 use std::alloc::AllocError;
 use std::io::ErrorKind;
 use std::process::ExitCode;
@@ -26,7 +30,7 @@ use std::rt::{Env, Files};
 use std::sync::Wait;
 use std::thread::Threads;
 use std::time::Clock;
-use std::{env, fs, io};
+use std::{env, io};
 
 /// The status of a run that was refused or could not be written.
 const REFUSED: u8 = 2;
@@ -34,14 +38,8 @@ const REFUSED: u8 = 2;
 /// The line of a standard output that takes no more.
 const UNWRITTEN: &str = "crashbpf: standard output can't be written\n";
 
-/// The line of what stops the program outside a command.
-fn line_of(kind: ErrorKind) -> &'static str {
-    match kind {
-        ErrorKind::OutOfMemory => "error: out of memory\n",
-        ErrorKind::InvalidData => "error: the command line is not UTF-8\n",
-        _ => UNWRITTEN,
-    }
-}
+/// The line of words that are no text.
+const NO_TEXT: &str = "error: the command line is not UTF-8\n";
 
 /// Prints a line on standard error, if it takes it, and answers the status.
 fn stopped<R: Eprint>(rt: &R, line: &str) -> u8 {
@@ -49,25 +47,18 @@ fn stopped<R: Eprint>(rt: &R, line: &str) -> u8 {
     REFUSED
 }
 
-/// What the files hold, none for one that cannot be read.
-///
-/// # Errors
-///
-/// There is not enough memory for them.
-fn read_files<R: Files + AllocGlobal>(
-    rt: &R,
-    names: &[String],
-) -> Result<Vec<Option<Vec<u8>>>, AllocError> {
-    let mut files = Vec::new(rt.alloc());
-    for name in names {
-        let file = match fs::read(rt, name.as_str()) {
-            Ok(bytes) => Some(bytes),
-            Err(error) if error.kind() == ErrorKind::OutOfMemory => return Err(AllocError),
-            Err(_error) => None,
-        };
-        files.push(file)?;
-    }
-    Ok(files)
+/// Prints the line of a refusal on standard error, if it takes it, also where there is no memory for its text.
+fn refused<R: AllocGlobal + Eprint>(rt: &R, refusal: &Refusal) -> u8 {
+    let (number, at) = (refusal.code.number(), refusal.at);
+    let printed = match (fault_line(rt.alloc(), refusal), refusal.program) {
+        (Ok(line), _) => rt.eprint(str::from_utf8(line.as_slice()).unwrap_or("")),
+        (Err(_error), Some(program)) => eprint!(rt;
+            "refused {number} at {at} of program {program}\n"
+        ),
+        (Err(_error), None) => eprint!(rt; "refused {number} at {at}\n"),
+    };
+    printed.ok();
+    REFUSED
 }
 
 /// Prints notes on standard error. Where that fails they are left out, and the status stays what it is.
@@ -77,57 +68,86 @@ fn print_notes<R: Eprint>(rt: &R, notes: Result<String, AllocError>) {
     }
 }
 
-/// Performs a command, and prints its answer or its refusal, with the notes on it.
-fn run<R: Files + AllocGlobal + Print + Eprint + Clock + Threads + Wait + Sync>(
+/// Performs a command on the files that were read for it, and prints its answer or its refusal, with the notes on it.
+fn run<R: AllocGlobal + Print + Eprint + Clock + Threads + Wait + Sync>(
     rt: &R,
     words: &Words,
-) -> io::Result<u8> {
-    let files = read_files(rt, words.files())?;
+    inputs: &Inputs,
+) -> u8 {
+    let files = inputs.held();
     let progress = Progress::new(rt, words.progress());
-    let acted = act(rt, rt.alloc(), &progress, words, files.as_slice());
+    let acted = act(rt, rt.alloc(), &progress, words, files);
     progress.end();
     match acted {
         Ok((bytes, status)) => {
-            if emit(&mut io::writer(rt), bytes.as_slice()).is_err() {
-                return Ok(stopped(rt, UNWRITTEN));
+            if emit(&mut Output::new(io::writer(rt)), bytes.as_slice()).is_err() {
+                return stopped(rt, UNWRITTEN);
             }
-            print_notes(rt, notes_beside(rt.alloc(), words, files.as_slice()));
-            Ok(status)
+            print_notes(rt, notes_beside(rt.alloc(), words, files));
+            status
         }
         Err(refusal) => {
-            let line = fault_line(rt.alloc(), &refusal)?;
-            if let Ok(text) = str::from_utf8(line.as_slice()) {
-                rt.eprint(text)?;
-            }
-            print_notes(
-                rt,
-                notes_behind(rt.alloc(), words, files.as_slice(), &refusal),
-            );
-            Ok(REFUSED)
+            let refusal = inputs.refusal(refusal);
+            let status = refused(rt, &refusal);
+            print_notes(rt, notes_behind(rt.alloc(), words, files, &refusal));
+            rt.eprint(inputs.note(&refusal)).ok();
+            status
         }
     }
 }
 
-/// Reads the command line, and performs what it asks for.
-fn start<R: Env + Files + AllocGlobal + Print + Eprint + Clock + Threads + Wait + Sync>(
+/// Reads the files of a command, and performs it.
+fn read_and_run<R: Files + AllocGlobal + Print + Eprint + Clock + Threads + Wait + Sync>(
     rt: &R,
-) -> io::Result<u8> {
+    command: &str,
+    words: &Words,
+) -> u8 {
+    match Inputs::read(rt, command, words.files()) {
+        Ok(inputs) => run(rt, words, &inputs),
+        Err(refusal) => {
+            let status = refused(rt, &refusal);
+            print_notes(rt, notes_behind(rt.alloc(), words, &[], &refusal));
+            status
+        }
+    }
+}
+
+/// The words behind the program's name.
+fn words_of<R: Env + AllocGlobal>(rt: &R) -> io::Result<Vec<String>> {
     let mut words: Vec<String> = env::args(rt)?.collect(rt.alloc())?;
     if !words.is_empty() {
         words.remove(0);
     }
+    Ok(words)
+}
+
+/// Prints what is wrong with the words, or the help that they ask for.
+fn print_fault<R: AllocGlobal + Print + Eprint>(rt: &R, fault: &clap::Error) -> u8 {
+    if fault.kind() == WordsFault::OutOfMemory {
+        return refused(rt, &Refusal::of_memory());
+    }
+    match fault.print(rt) {
+        Ok(()) => fault.exit_code() as u8,
+        Err(_error) => stopped(rt, UNWRITTEN),
+    }
+}
+
+/// Performs what the command line asks for.
+fn start<R: Env + Files + AllocGlobal + Print + Eprint + Clock + Threads + Wait + Sync>(
+    rt: &R,
+) -> u8 {
+    let words = match words_of(rt) {
+        Ok(words) => words,
+        Err(error) if error.kind() == ErrorKind::InvalidData => return stopped(rt, NO_TEXT),
+        Err(_error) => return refused(rt, &Refusal::of_memory()),
+    };
+    let command = words.first().map(|word| word.as_str()).unwrap_or("");
     match Words::of(rt.alloc(), words.as_slice()) {
-        Ok(words) => run(rt, &words),
-        Err(error) => {
-            error.print(rt)?;
-            Ok(error.exit_code() as u8)
-        }
+        Ok(words) => read_and_run(rt, command, &words),
+        Err(fault) => print_fault(rt, &fault),
     }
 }
 
 fn main(rt: HostRuntime) -> ExitCode {
-    match start(&rt) {
-        Ok(status) => ExitCode::from(status),
-        Err(error) => ExitCode::from(stopped(&rt, line_of(error.kind()))),
-    }
+    ExitCode::from(start(&rt))
 }

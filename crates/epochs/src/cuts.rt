@@ -8,7 +8,7 @@ use std::alloc::{AllocError, Global};
 
 /// Which cuts of a log are wanted (docs/CRASH-MODEL.md, Which cuts are explored). Cut k of a log is
 /// the moment at which its first k entries have been logged.
-#[derive(Clone, Copy, Debug, PartialEq, Eq)]
+#[derive(Clone, Copy)]
 pub enum Cuts {
     /// Each cut, from 0 to the number of entries.
     All,

@@ -6,7 +6,7 @@ ghost use Rattle.epochs.specs.Parts.{part_size, part_count};
 use logfmt::Entry;
 
 /// What departs as one (docs/CRASH-MODEL.md, Terms).
-#[derive(Clone, Copy, Debug, PartialEq, Eq)]
+#[derive(Clone, Copy)]
 pub enum By {
     /// Each sector of a write or a discard.
     Sector,

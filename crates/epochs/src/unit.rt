@@ -1,7 +1,7 @@
 //! The units of a log.
 
 /// A unit of a log: one sector of a write or a discard (docs/CRASH-MODEL.md, Terms).
-#[derive(Clone, Copy, Debug, PartialEq, Eq)]
+#[derive(Clone, Copy)]
 pub struct Unit {
     /// The number of its entry in the log.
     pub entry: u32,

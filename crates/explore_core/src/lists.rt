@@ -4,7 +4,7 @@ ghost use Rattle.std.specs.Prelude.{◌≡◌, not};
 ghost use Rattle.explore_core.specs.Lists.{is_under, listed_under, unlisted};
 
 /// A drawn block that nobody has in hand, and the worker in whose list it is.
-#[derive(Clone, Copy, Debug, PartialEq, Eq)]
+#[derive(Clone, Copy)]
 pub struct Drawn {
     pub worker: usize,
     pub block: usize,

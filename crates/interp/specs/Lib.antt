@@ -1,6 +1,5 @@
 -- How the interpreter's values say what the machine did.
 pub mod Ending
-pub mod Checker
 pub mod Going
 pub mod Cells
 pub mod Reading

@@ -1,5 +1,6 @@
-//! Tests of the public calls that a run goes through, from a log to its failing lines: worked values,
-//! happy paths near limits.
+//! Tests of the public calls that a run goes through, from a log to its failing lines: what no run of the
+//! program shows, and each call that takes memory once on its happy path. What the program shows is tested by
+//! tests/run.py.
 //!
 //! A crate with tests of its own is proved twice, so they stand here, over the finished work of the
 //! others. Each file has the tests of one crate; `log_text` builds the texts of logs that several of them
@@ -7,15 +8,9 @@
 #![tactic(auto)]
 
 #[cfg(test)]
-mod choices_tests;
-#[cfg(test)]
-mod epochs_tests;
-#[cfg(test)]
 mod explore_core_tests;
 #[cfg(test)]
 mod images_tests;
-#[cfg(test)]
-mod lanes_tests;
 #[cfg(test)]
 mod log_text;
 #[cfg(test)]
@@ -28,7 +23,5 @@ mod shares_tests;
 mod stealing_tests;
 #[cfg(test)]
 mod verdict_cache_tests;
-#[cfg(test)]
-mod verified_tests;
 #[cfg(test)]
 mod workers_tests;

@@ -61,16 +61,3 @@ pub(crate) fn text_of(alloc: Global, items: &[Item]) -> Result<Vec<u8>, AllocErr
     }
     Ok(out)
 }
-
-/// The same of entries whose data does not matter: the first sector, how many sectors, the flags.
-pub(crate) fn text_without_data(
-    alloc: Global,
-    items: &[(u64, u64, u64)],
-) -> Result<Vec<u8>, AllocError> {
-    let mut out = Vec::new(alloc);
-    put_super(&mut out, items.len() as u64)?;
-    for (sector, count, flags) in items {
-        put_item(&mut out, (*sector, *count, *flags, 0))?;
-    }
-    Ok(out)
-}

@@ -2,11 +2,11 @@
 
 use crate::log_text::{FLUSH, text_of};
 use bpf_isa::codec::decode;
+use checker::Checker;
 use choices::{Starts, count};
 use epochs::{By, Cuts, Plan};
 use explore_core::{Event, Explore, Found, Job, Jobs, run};
 use images::History;
-use interp::Checker;
 use lines::Lines;
 use logfmt::read;
 use std::alloc::{AllocError, Global};

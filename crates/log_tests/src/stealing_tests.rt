@@ -4,10 +4,10 @@ ghost use Rattle.std.specs.Prelude.{◌≤◌};
 
 use crate::log_text::{FLUSH, text_of};
 use bpf_isa::codec::decode;
+use checker::Checker;
 use choices::{Starts, count};
 use epochs::{By, Cuts, Plan};
 use images::History;
-use interp::Checker;
 use logfmt::read;
 use std::alloc::Global;
 use std::sync::Wait;

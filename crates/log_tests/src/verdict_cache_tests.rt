@@ -2,16 +2,17 @@
 
 ghost use Rattle.std.specs.Prelude.{◌≡◌, ◌≤◌, false, is_some, IfOk};
 ghost use Rattle.images.specs.Views.{context_at, sectors_of};
-ghost use Rattle.interp.specs.Checker.{judged};
+ghost use Rattle.checker.specs.Checker.{judged};
 ghost use Rattle.interp.specs.Ending.{ending_of};
 ghost use Rattle.verdict_cache.specs.Endings.{IsEndingOf};
 
 use crate::log_text::text_of;
 use bpf_isa::codec::decode;
+use checker::Checker;
 use choices::{count, nth};
 use epochs::{By, Cuts, Plan};
 use images::{History, Key, View};
-use interp::{Checker, Outcome};
+use interp::Outcome;
 use logfmt::{Log, read};
 use std::alloc::Global;
 use std::marker::Brand;

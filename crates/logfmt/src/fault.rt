@@ -4,11 +4,9 @@ ghost use Rattle.std.specs.Prelude.{◌≡◌};
 
 use base::causes::LogCause;
 use std::alloc::{AllocError, AllocFailed};
-use thiserror::Error;
 
 /// The first fault of a text: its cause, and the entry where it is, 0 for the super block.
-#[derive(Clone, Copy, Debug, PartialEq, Eq, Error)]
-#[error("entry {at}: {code}")]
+#[derive(Clone, Copy, Debug, PartialEq, Eq)]
 pub struct LogFault {
     /// The first check that fails.
     pub code: LogCause,

@@ -5,7 +5,7 @@ ghost use Rattle.logfmt.specs.Flags.{flag_word, has_bit};
 
 /// What an entry asks of the device, or says of itself (docs/LOG-FORMAT.md, Flags; the flags of
 /// Linux's `dm-log-writes`).
-#[derive(Clone, Copy, Debug, PartialEq, Eq)]
+#[derive(Clone, Copy)]
 pub struct Flags {
     /// The device makes durable what was written before.
     pub flush: bool,

@@ -43,7 +43,7 @@ mod laws;
 pub use laws::{checks_in_order, one_judgement, worked_arithmetic, worked_bytes};
 
 /// What stands at an address of a program's memory (docs/MACHINE.md, Address space).
-#[derive(Clone, Copy, Debug, PartialEq, Eq)]
+#[derive(Clone, Copy)]
 pub enum ByteAt {
     /// No byte.
     Unmapped,

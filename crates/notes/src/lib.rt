@@ -19,12 +19,12 @@
 //! | `put_entry_line(out, number, epoch, entry)` | a line of the table |
 //! | `put_least(out, log)` | the size of the least device that holds a log |
 //! | `put_escaped(out, bytes)` | bytes of a foreign text, so that they stay on their line |
-//! | `log_rule`, `code_rule`, `asm_rule`, `verifier_rule`; `log_cure` .. | what a refusal's number means; what most likely helps |
+//! | `log_cure`, `code_cure`, `asm_cure`, `verifier_cure` | what most likely helps against a refusal; what it means is the text of its cause |
 //!
 //! # What is proved
 //!
 //! Each call answers or appends exactly the text of its definition over the value that it is given (`specs/`), and
-//! `put_least` the least size on which each entry lies. The sentences of `rules` have no clause: tests of the program have
+//! `put_least` the least size on which each entry lies. The sentences of `cures` have no clause: tests of the program have
 //! a row for each.
 //!
 //! # Example
@@ -35,22 +35,20 @@
 //! ```
 #![tactic(auto)]
 
+mod cures;
 mod device;
 mod escaped;
 mod known;
 mod large;
 mod line;
 mod listing;
-mod rules;
 mod table;
 
+pub use cures::{asm_cure, code_cure, log_cure, verifier_cure};
 pub use device::put_least;
 pub use escaped::put_escaped;
 pub use known::put_known;
 pub use large::put_large;
 pub use line::{put_note, put_refused};
 pub use listing::{numbered_listing, put_slot};
-pub use rules::{
-    asm_cure, asm_rule, code_cure, code_rule, log_cure, log_rule, verifier_cure, verifier_rule,
-};
 pub use table::{log_table, put_entry, put_entry_line};

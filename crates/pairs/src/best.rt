@@ -7,7 +7,7 @@ use crate::pair::Pair;
 use std::alloc::AllocError;
 
 /// How many pairs are listed at most.
-const MOST: usize = 16;
+const MOST_PAIRS: usize = 16;
 
 /// The place in a list of the first pair that explains fewer failing images.
 fn place_of(best: &[Pair], failing: usize) -> usize
@@ -26,10 +26,10 @@ fn put(best: &mut Vec<Pair>, pair: Pair) -> Result<(), AllocError>
     ensures { OnOk result (best.new.items ≡ kept_with best.old.items pair) }
 {
     let place = place_of(best.as_slice(), pair.failing);
-    if place < MOST {
+    if place < MOST_PAIRS {
         best.insert(place, pair)?;
     }
-    best.truncate(MOST);
+    best.truncate(MOST_PAIRS);
     Ok(())
 }
 

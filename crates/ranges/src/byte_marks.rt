@@ -3,7 +3,7 @@
 ghost use Rattle.std.specs.Prelude.{◌≡◌, length};
 
 /// For each of eight bytes whether it is written.
-#[derive(Clone, Copy, Debug, PartialEq, Eq)]
+#[derive(Clone, Copy)]
 pub struct ByteMarks {
     pub written: [bool; 8],
     pub ghost all: { length written ≡ 8 },

@@ -11,7 +11,7 @@ use crate::spill::Spill;
 use crate::value::Value;
 
 /// Eight bytes of a stack, from an offset that is a multiple of 8 (docs/VERIFIER.md, Abstract states).
-#[derive(Clone, Copy, Debug, PartialEq, Eq)]
+#[derive(Clone, Copy)]
 pub enum Group {
     /// For each byte whether it is written. One that is not may be unset.
     Marked(ByteMarks),

@@ -8,7 +8,7 @@ use crate::pointers::offset_in;
 use crate::value::Value;
 
 /// Where the bytes of an access lie (docs/VERIFIER.md, Rules at a slot).
-#[derive(Clone, Copy, Debug, PartialEq, Eq)]
+#[derive(Clone, Copy)]
 pub enum Place {
     /// In no region, or not for each offset that the base may have.
     Outside,
@@ -21,7 +21,7 @@ pub enum Place {
 }
 
 /// What is known of a byte of the stack.
-#[derive(Clone, Copy, Debug, PartialEq, Eq)]
+#[derive(Clone, Copy)]
 pub enum Mark {
     /// It may be unset.
     Unset,

@@ -7,7 +7,7 @@ ghost use Rattle.ranges.specs.Seen.{kind_of};
 use crate::value::Value;
 
 /// A number or a pointer that is kept on the stack.
-#[derive(Clone, Copy, Debug, PartialEq, Eq)]
+#[derive(Clone, Copy)]
 pub struct Spill {
     pub value: Value,
     pub ghost known: { IsTrue (not (is_unset (kind_of value))) },

@@ -6,7 +6,7 @@ use crate::group::Group;
 use crate::value::Value;
 
 /// What is known of a machine's state at a slot (docs/VERIFIER.md, Abstract states).
-#[derive(Clone, Copy, Debug, PartialEq, Eq)]
+#[derive(Clone, Copy)]
 pub struct State {
     /// What r0 to r10 hold.
     pub values: [Value; 11],

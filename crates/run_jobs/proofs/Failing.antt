@@ -9,7 +9,7 @@ use Rattle.std.proofs.lemmas.List.Elements.{filter-append}
 use Rattle.base.proofs.Lists.{range_with_len-more, range_with_len-append}
 use Rattle.epochs.specs.declared.part.By.{By}
 use Rattle.choices.specs.Choices.{ChoiceValue}
-use Rattle.interp.specs.Checker.{CheckerValue}
+use Rattle.checker.specs.Checker.{CheckerValue}
 use Rattle.machine.specs.Outcome.{Ending}
 use Rattle.lines.specs.Line.{FailingLine, fails}
 use Rattle.workers.specs.Failing.{Subject, choices_of, image_count, ending_at, line_if, line_at, line_of, image_lines, lines_from, failing_lines, part}

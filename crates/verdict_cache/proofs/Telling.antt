@@ -1,7 +1,7 @@
 -- One image tells what a key ends in.
 use Rattle.std.proofs.Common.{◌≡◌, slice_get, refl, sym, ap, ◌∙◌}
 use Rattle.std.proofs.lemmas.Option.{same_Some}
-use Rattle.interp.specs.Checker.{judged}
+use Rattle.checker.specs.Checker.{judged}
 use Rattle.images.specs.Views.{view_of, sectors_of, context_at}
 use Rattle.images.specs.Laws.{KeysTell}
 use Rattle.verdict_cache.specs.Laws.{OneImageTells}

@@ -5,7 +5,7 @@ use Rattle.choices.specs.Choices.{ChoiceValue}
 use Rattle.machine.specs.Outcome.{Ending}
 use Rattle.interp.specs.declared.outcome.Outcome.{Outcome}
 use Rattle.interp.specs.Ending.{ending_of}
-use Rattle.interp.specs.Checker.{CheckerValue, judged}
+use Rattle.checker.specs.Checker.{CheckerValue, judged}
 use Rattle.images.specs.Views.{view_of, sectors_of, context_at}
 use Rattle.images.specs.Keys.{KeyValue, key_of}
 

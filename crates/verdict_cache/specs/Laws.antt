@@ -2,7 +2,7 @@
 use Rattle.std.specs.Prelude.{ℕ, ◌≡◌, List, Some, slice_get}
 use Rattle.epochs.specs.Plan.{PlanValue}
 use Rattle.choices.specs.Choices.{ChoiceValue}
-use Rattle.interp.specs.Checker.{CheckerValue}
+use Rattle.checker.specs.Checker.{CheckerValue}
 use Rattle.images.specs.Views.{view_of}
 use Rattle.images.specs.Keys.{KeyValue, key_of}
 use Rattle.verdict_cache.specs.Endings.{ending_on, IsEndingOf}

@@ -1,7 +1,7 @@
 //! What became of an entry that was put into a shard.
 
 /// What became of an entry that was put into a shard (docs/PROVED.md, Verdict cache).
-#[derive(Clone, Copy, Debug, PartialEq, Eq)]
+#[derive(Clone, Copy, Debug)]
 pub enum Kept {
     /// Its key is new, and there was room.
     New,

@@ -5,8 +5,8 @@ ghost use Rattle.verdict_cache.specs.Sizes.{first_shards};
 
 use crate::run::Run;
 use crate::shard::{SHARDS, Shard};
+use checker::Checker;
 use images::History;
-use interp::Checker;
 use std::alloc::{AllocError, Global};
 use std::sync::Mutex;
 

@@ -10,7 +10,7 @@ use std::marker::Brand;
 pub trait Run {
     ghost use Rattle.std.specs.Prelude.{ℕ, List};
     ghost use Rattle.epochs.specs.Plan.{PlanValue};
-    ghost use Rattle.interp.specs.Checker.{CheckerValue};
+    ghost use Rattle.checker.specs.Checker.{CheckerValue};
 
     ghost plan: { PlanValue };
 

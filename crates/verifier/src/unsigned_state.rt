@@ -6,7 +6,7 @@ use intervals::Range;
 use ranges::{ByteMarks, ContextOffset, SectorOffsets, StackOffset};
 
 /// A pointer, as `Value` has them.
-#[derive(Clone, Copy, Debug, PartialEq, Eq)]
+#[derive(Clone, Copy)]
 pub enum Pointer {
     Ctx(ContextOffset),
     Stack(StackOffset),
@@ -15,7 +15,7 @@ pub enum Pointer {
 }
 
 /// What a register may hold.
-#[derive(Clone, Copy, Debug, PartialEq, Eq)]
+#[derive(Clone, Copy)]
 pub enum UnsignedValue {
     /// Anything, unset too.
     Unset,
@@ -25,7 +25,7 @@ pub enum UnsignedValue {
 }
 
 /// Eight bytes of a stack.
-#[derive(Clone, Copy, Debug, PartialEq, Eq)]
+#[derive(Clone, Copy)]
 pub enum UnsignedGroup {
     /// For each byte whether it is written.
     Marked(ByteMarks),
@@ -34,7 +34,7 @@ pub enum UnsignedGroup {
 }
 
 /// What is known of a machine's state at a slot.
-#[derive(Clone, Copy, Debug, PartialEq, Eq)]
+#[derive(Clone, Copy)]
 pub struct UnsignedState {
     /// What r0 to r10 hold.
     pub values: [UnsignedValue; 11],

@@ -8,7 +8,7 @@ use Rattle.base.proofs.Lists.{range_with_len-more, range_with_len-append}
 use Rattle.epochs.specs.declared.part.By.{By}
 use Rattle.epochs.specs.Plan.{PlanValue}
 use Rattle.choices.specs.Choices.{ChoiceValue}
-use Rattle.interp.specs.Checker.{CheckerValue}
+use Rattle.checker.specs.Checker.{CheckerValue}
 use Rattle.lines.specs.Line.{FailingLine}
 use Rattle.workers.specs.Failing.{Subject, choices_of, image_count, ending_at, line_if, line_of, image_lines, lines_from, failing_lines, part}
 use Rattle.verdict_cache.specs.Endings.{ending_on}

@@ -6,8 +6,8 @@ use Rattle.choices.specs.Choices.{ChoiceValue}
 use Rattle.images.specs.Views.{ViewValue, view_of, sectors_of, context_at}
 use Rattle.images.proofs.Devices.{images_are_devices}
 use Rattle.helpers.specs.declared.device.Context.{Context}
-use Rattle.interp.specs.Checker.{CheckerValue, Suits, IsFor, AreFor, judged}
-use Rattle.interp.proofs.Suiting.{suits_image, for_each}
+use Rattle.checker.specs.Checker.{CheckerValue, Suits, IsFor, AreFor, judged}
+use Rattle.checker.proofs.Suiting.{suits_image, for_each}
 use Rattle.lines.specs.Line.{FailingLine}
 use Rattle.soundness.specs.Accepted.{IsImage, IsSafeRun, AcceptedRunsSafely}
 use Rattle.workers.specs.Failing.{Subject, ending_at}

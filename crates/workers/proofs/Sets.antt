@@ -7,7 +7,7 @@ use Rattle.std.proofs.lemmas.Bool.Decides.{eqb_tells}
 use Rattle.std.proofs.lemmas.Option.{slice_get_within}
 use Rattle.base.proofs.Lists.{slice_get-append_left, slice_get-append_right}
 use Rattle.choices.specs.Choices.{ChoiceValue}
-use Rattle.interp.specs.Checker.{CheckerValue}
+use Rattle.checker.specs.Checker.{CheckerValue}
 use Rattle.machine.specs.Outcome.{Ending}
 use Rattle.lines.specs.Line.{FailingLine, fails}
 use Rattle.workers.specs.Failing.{Subject, choices_of, image_count, ending_at, line_if, line_at, line_of, image_lines, lines_from, failing_lines}

@@ -7,7 +7,7 @@ use Rattle.epochs.specs.declared.part.By.{By}
 use Rattle.epochs.specs.Plan.{PlanValue}
 use Rattle.choices.specs.Choices.{ChoiceValue, ranked}
 use Rattle.machine.specs.Outcome.{Ending}
-use Rattle.interp.specs.Checker.{CheckerValue, judged}
+use Rattle.checker.specs.Checker.{CheckerValue, judged}
 use Rattle.images.specs.Views.{view_of, sectors_of, context_at}
 use Rattle.lines.specs.Line.{FailingLine, fails}
 

@@ -2,7 +2,7 @@
 use Rattle.std.specs.Prelude.{ℕ, ◌≡◌, ◌≤◌, List, [], ◌∷◌, length, Option, None, Some}
 use Rattle.epochs.specs.declared.part.By.{By}
 use Rattle.epochs.specs.Plan.{PlanValue}
-use Rattle.interp.specs.Checker.{CheckerValue, AreFor}
+use Rattle.checker.specs.Checker.{CheckerValue, AreFor}
 use Rattle.choices.specs.Choices.{limit}
 use Rattle.choices.specs.Sums.{StartsValue}
 use Rattle.lines.specs.Line.{FailingLine}

@@ -1,7 +1,7 @@
 -- The failing lines are the set of those that fail, in their order.
 use Rattle.std.specs.Prelude.{ℕ, ◌≡◌, ◌<◌, ◌⊎◌, IsTrue, List, [], ◌∷◌, ◌++◌, slice_get, Some}
 use Rattle.choices.specs.Choices.{ChoiceValue}
-use Rattle.interp.specs.Checker.{CheckerValue}
+use Rattle.checker.specs.Checker.{CheckerValue}
 use Rattle.lines.specs.Line.{FailingLine, fails, first_lines}
 use Rattle.workers.specs.Failing.{Subject, choices_of, ending_at, failing_lines}
 use Rattle.workers.specs.Pieces.{PieceValue, ArePieces, AreFull, AreWhole, block_count, collected}

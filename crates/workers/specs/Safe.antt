@@ -4,7 +4,7 @@ use Rattle.logfmt.specs.Bounds.{IsLog}
 use Rattle.choices.specs.Choices.{ChoiceValue}
 use Rattle.images.specs.Views.{view_of, sectors_of, context_at}
 use Rattle.machine.specs.Outcome.{Ending, Verdict}
-use Rattle.interp.specs.Checker.{CheckerValue}
+use Rattle.checker.specs.Checker.{CheckerValue}
 use Rattle.lines.specs.Line.{FailingLine}
 use Rattle.verifier.specs.Verdicts.{IsAccepted}
 use Rattle.soundness.specs.Accepted.{IsSafeRun}

@@ -2,16 +2,16 @@
 
 ghost use Rattle.std.specs.Prelude.{◌≡◌, ◌≤◌, ◌<◌, length, slice_get, Some};
 ghost use Rattle.choices.specs.Choices.{limit, ranked};
-ghost use Rattle.interp.specs.Checker.{AreFor};
+ghost use Rattle.checker.specs.Checker.{AreFor};
 ghost use Rattle.workers.specs.Failing.{choices_of, image_count};
 ghost use Rattle.workers.specs.Pieces.{block_count};
 ghost use Rattle.workers.specs.Exploring.{passes_over};
 
 use crate::piece::BLOCK;
+use checker::Checker;
 use choices::{Choice, Starts};
 use epochs::{By, Plan};
 use images::History;
-use interp::Checker;
 use std::marker::Model;
 
 /// What is judged: the crash images of a plan with at most `bound` departures, torn writes or none,

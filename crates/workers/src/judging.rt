@@ -1,7 +1,7 @@
 //! The judging of one block.
 
 ghost use Rattle.std.specs.Prelude.{◌≡◌, ◌<◌, ◌≤◌, ◌-◌, ◌++◌, length, IfOk, OnOk, Some, slice_get};
-ghost use Rattle.interp.specs.Checker.{IsFor, judged};
+ghost use Rattle.checker.specs.Checker.{IsFor, judged};
 ghost use Rattle.interp.specs.Ending.{ending_of};
 ghost use Rattle.images.specs.Views.{context_at, sectors_of, view_of};
 ghost use Rattle.images.specs.Keys.{key_of};
@@ -14,10 +14,11 @@ ghost use Rattle.workers.specs.Input.{line_list, IsRunOf};
 use crate::block_lines::BlockLines;
 use crate::input::Input;
 use crate::piece::{BLOCK, Piece};
+use checker::Checker;
 use choices::{Choice, next};
 use epochs::By;
 use images::{Changes, Key, View};
-use interp::{Checker, Outcome};
+use interp::Outcome;
 use lines::Line;
 use std::alloc::{AllocError, Global};
 use std::sync::{Mutex, Wait};

@@ -1,6 +1,6 @@
 use Rattle.std.proofs.lemmas.Result.{err_from_is_err_and}
 use Rattle.commands.specs.Acting.{for_words, for_settings}
-use Rattle.commands.proofs.Runs.{one_err}
+use Rattle.request.proofs.Results.{one_err}
 use Rattle.commands.proofs.action.act_explore.Goals as goal
 
 pub returns-in_err-options-clause-refused : goal.returns-in_err-options-clause-refused

@@ -1,7 +1,7 @@
 use Rattle.std.proofs.Common.{◌≡◌, ◌∙◌, ap, sym, map, position, is_none, None}
 use Rattle.commands.specs.Acting.{for_run}
 use Rattle.commands.proofs.Acts.{no_file, no_log, no_program, files_read, memory_wanting}
-use Rattle.commands.proofs.Runs.{both_ok, one_err}
+use Rattle.request.proofs.Results.{both_ok, one_err}
 use Rattle.commands.proofs.action.explore_readable.Goals as goal
 
 pub returns-in_default-clause-refused : goal.returns-in_default-clause-refused

@@ -1,4 +1,4 @@
-use Rattle.interp.proofs.Suiting.{suits_all}
+use Rattle.checker.proofs.Suiting.{suits_all}
 use Rattle.log_tests.proofs.verdict_cache_tests.ended_on.Goals as goal
 
 pub judge-requires : goal.judge-requires

@@ -1,0 +1,94 @@
+//! The calls on failing lines.
+
+use crate::calls::refused::OfMemory;
+use arrayvec::ArrayVec;
+use epochs::By;
+use interp::Outcome;
+use lines::{Line, Lines, Mark, Part};
+use std::alloc::{AllocError, Global};
+
+/// The line of an image whose run was out of steps.
+fn line(image: u64) -> Line {
+    Line {
+        image,
+        cut: 1,
+        program: 0,
+        outcome: Outcome::OutOfSteps,
+        by: By::Sector,
+        departures: ArrayVec::new(),
+    }
+}
+
+/// A part with the lines of two images.
+fn part(alloc: Global, first: u64, second: u64) -> Result<Part, AllocError> {
+    let mut part = Part::new(alloc);
+    part.push(line(first))?;
+    part.push(line(second))?;
+    Ok(part)
+}
+
+/// The lines of two parts.
+fn gathered(alloc: Global) -> Result<Lines, AllocError> {
+    Lines::new(alloc)
+        .followed_by(part(alloc, 3, 4)?)?
+        .followed_by(part(alloc, 9, 10)?)
+}
+
+/// The lines of a part that keeps their marks.
+fn marked(alloc: Global) -> Result<Lines, AllocError> {
+    let mut part = Part::with_marks(alloc, true);
+    part.push(line(3))?;
+    part.push(line(9))?;
+    part.trim();
+    Lines::new(alloc).followed_by(part)
+}
+
+/// Whether these are the marks of two lines.
+fn are_marks(marks: Option<&[Mark]>) -> bool {
+    match marks {
+        Some([first, second]) => {
+            first.image == 3 && first.program == 0 && second.image == 9 && second.program == 0
+        }
+        _ => false,
+    }
+}
+
+/// Whether marks are there where they were asked for. Where memory is wanting for them alone, the lines are
+/// there without any.
+fn marks_are_right(alloc: Global) -> bool {
+    let lines = settled!(marked(alloc));
+    if lines.marks().is_some() {
+        return are_marks(lines.marks());
+    }
+    let again = settled!(marked(alloc));
+    lines.len() == 2 && are_marks(again.marks())
+}
+
+/// What lines print, and what those of the first image do.
+fn printed(alloc: Global, lines: &Lines) -> Result<Vec<u8>, AllocError> {
+    let mut out = Vec::new(alloc);
+    lines.put(&mut out)?;
+    Ok(out)
+}
+
+const PRINTED: &[u8] =
+    b"image 3 cut 1 program 0 out of steps choice -\nimage 4 cut 1 program 0 out of steps choice -\nimage 9 cut 1 program 0 out of steps choice -\nimage 10 cut 1 program 0 out of steps choice -\n";
+
+/// Whether a part that memory kept a line from takes it when it comes again.
+fn part_is_right(alloc: Global) -> bool {
+    let mut part = Part::new(alloc);
+    settled!(part.push(line(3)));
+    settled!(part.push(line(4)));
+    part.trim();
+    match Lines::new(alloc).followed_by(part) {
+        Ok(lines) => lines.len() == 2 && lines.first_image() == Some(3),
+        Err(error) => error.is_of_memory(),
+    }
+}
+
+/// Whether lines are kept and printed.
+pub fn are_right(alloc: Global) -> bool {
+    let lines = settled!(gathered(alloc));
+    let out = settled!(printed(alloc, &lines));
+    part_is_right(alloc) && marks_are_right(alloc) && lines.len() == 4 && out.as_slice() == PRINTED
+}

@@ -1,0 +1,81 @@
+//! From the entries of a log to its bytes (docs/LOG-FORMAT.md).
+
+use crate::logs::content::{PAGE, page_sector};
+use crate::logs::entries::{Item, Which};
+use base::numbers::{put_u32, put_u64, put_zeros};
+use logfmt::{LogFault, read, write};
+use std::alloc::{AllocError, Global};
+
+/// The bytes `rhswfsj` and a zero.
+const MAGIC: u64 = 0x006a_7366_7773_6872;
+
+/// The flag of an entry that flushes.
+const FLUSH: u64 = 1;
+
+/// The flag of a mark.
+const MARK: u64 = 8;
+
+/// The canonical text of a log: what `logfmt` writes of the log that it reads from these entries.
+pub fn canonical(alloc: Global, which: Which) -> Result<Vec<u8>, LogFault> {
+    let text = text_of(alloc, which.entries())?;
+    let log = read(alloc, text.as_slice(), which.sectors())?;
+    Ok(write(alloc, &log)?)
+}
+
+/// The super block and the entries.
+fn text_of(alloc: Global, entries: &[Item]) -> Result<Vec<u8>, AllocError> {
+    let mut out = Vec::new(alloc);
+    put_u64(&mut out, MAGIC)?;
+    put_u64(&mut out, 1)?;
+    put_u64(&mut out, entries.len() as u64)?;
+    put_u32(&mut out, 512)?;
+    put_zeros(&mut out, 484)?;
+    for entry in entries {
+        put_item(&mut out, *entry)?;
+    }
+    Ok(out)
+}
+
+/// The sectors of the page of the commit with that number.
+fn put_page(out: &mut Vec<u8>, number: u8) -> Result<(), AllocError> {
+    for place in 0..PAGE {
+        out.extend_from_slice(&page_sector(number, place))?;
+    }
+    Ok(())
+}
+
+/// The header of an entry, and the sectors that it writes.
+fn put_item(out: &mut Vec<u8>, item: Item) -> Result<(), AllocError> {
+    match item {
+        Item::Write(sector, content) => {
+            put_header(out, sector, 1, 0, "")?;
+            out.extend_from_slice(&content.sector())
+        }
+        Item::WritePage(sector, number) => {
+            put_header(out, sector, PAGE, 0, "")?;
+            put_page(out, number)
+        }
+        Item::FlushAndWrite(sector, content) => {
+            put_header(out, sector, 1, FLUSH, "")?;
+            out.extend_from_slice(&content.sector())
+        }
+        Item::Flush => put_header(out, 0, 0, FLUSH, ""),
+        Item::Mark(text) => put_header(out, 0, 0, MARK, text),
+    }
+}
+
+/// The header of an entry: its numbers, and the text of a mark.
+fn put_header(
+    out: &mut Vec<u8>,
+    sector: u64,
+    count: u64,
+    flags: u64,
+    text: &str,
+) -> Result<(), AllocError> {
+    put_u64(out, sector)?;
+    put_u64(out, count)?;
+    put_u64(out, flags)?;
+    put_u64(out, text.len() as u64)?;
+    out.extend_from_slice(text.as_bytes())?;
+    put_zeros(out, 480usize.saturating_sub(text.len()))
+}

@@ -1,0 +1,2 @@
+-- What a checker is, and what it answers.
+pub mod Checker

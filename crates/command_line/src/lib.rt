@@ -1,0 +1,38 @@
+//! The words of the command line: the commands of the program with their help, read by `clap`.
+//!
+//! # Place
+//!
+//! On `request`, whose `Request` says what is asked for, and on `clap`. Nothing else is known of a command here than its
+//! name, its options, the names of its files and its help: `commands` performs it. No option is tested for its range, since
+//! that is the work of `options_of` in `request`, which refuses the words by the numbers of docs/REPORT.md.
+//!
+//! | Call | Answers |
+//! |---|---|
+//! | `Words::of(alloc, words)` | the command line that these words behind the program's name are |
+//! | `words.files()` | the names of its files: the log, source or program, then the programs of a run |
+//! | `words.request()` | what it asks for |
+//! | `words.progress()` | whether it is to be said how far an exploration is |
+//!
+//! Without a word, the run that the program holds itself is asked for. A word that names no kind of cut or part is kept as
+//! none, and the text of a choice that is longer than any choice's likewise: these are refusals of the command, with a number
+//! and notes, and no faults of the command line.
+//!
+//! The texts of the help stand in `words.rt`. `tools/man_page.py` makes `docs/crashbpf.1` of what the built program prints of
+//! them.
+//!
+//! # What is proved
+//!
+//! That no word asks for the stored run (`stored` of `Words::of`), and that `files` and `request` answer what `Words` holds
+//! (`specs/Words.antt`). How words are read is `clap`'s: runs of the built program show it.
+//!
+//! # Example
+//!
+//! ```text
+//! let words = Words::of(alloc, &["show", "disk.log", "7", "--sectors", "64"])?;
+//! // request: Request::Show(.., Which::Number(7)); files: "disk.log"
+//! ```
+#![tactic(auto)]
+
+mod words;
+
+pub use words::Words;

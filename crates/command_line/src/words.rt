@@ -1,0 +1,555 @@
+//! The words of the command line, and what they ask for.
+
+ghost use Rattle.std.specs.Prelude.{◌≡◌, ◌<◌, [], length, IsOkAnd, MatchOption, map, string_bytes};
+ghost use Rattle.request.specs.declared.command.Request.TheVariants as asks;
+
+use arrayvec::ArrayString;
+use clap::{Arg, ArgAction, ArgMatches, Command, Error};
+use epochs::{By, Cuts};
+use request::{OptionWords, Request, Which};
+use std::alloc::{AllocError, Global};
+use std::marker::Model;
+
+/// The words behind the program's name (docs/REPORT.md, Commands).
+#[derive(Drop)]
+pub struct Words {
+    request: Request,
+    files: Vec<String>,
+    progress: bool,
+}
+
+impl Model for Words {
+    ghost use Rattle.std.specs.Prelude.{map, string_bytes};
+    ghost use Rattle.command_line.specs.Words.{WordsValue};
+
+    ghost Value = { WordsValue };
+
+    ghost view = { λ w. record { request = w.request; files = map string_bytes w.files.items } };
+}
+
+/// The version of the program, and the kit that it is proved with.
+const VERSION: &str = "0.1.0 (proved with rattle-kit-13f logic dac8208d650f15bf)";
+
+/// What the program is for.
+const ABOUT: &str =
+    "Judges every disk image that a power cut may leave behind a log of block writes.";
+
+/// What stands behind the help of the program.
+const AFTER: &str = "Without a word the program explores an empty log with a program of its own.
+
+A log has at most 64 MiB, 65,536 entries and 262,144 written or discarded sectors; a device 16,384
+sectors of 512 bytes; a program 4,096 slots; a run 8 programs and 16,777,216 images.
+
+Exit status: 0 where the command succeeded and no image fails, 1 where an image fails, 2 for a
+refusal (a line on standard error, as 'refused 12 at 3'), a fault of the command line, or a standard
+output that can't be written.";
+
+/// What stands behind the help of `explore`.
+const AFTER_EXPLORE: &str =
+    "Each line of the report names an image, its cut, a program, what that answered, and the sectors
+that were lost or torn: 'choice 8.0:head7' is sector 0 of entry 8, of which the first seven eighths
+arrived; 'choice 8.0:tail1' is the same sector, of which the last eighth arrived. With --by write
+'choice 8:drop' is all of entry 8.
+
+Example: crashbpf explore disk.log check.bpf --sectors 64 --cuts flush --bound 2 --tears
+
+Exit status: 0 where no image fails, 1 where one does, 2 for a refusal.";
+
+/// What stands behind the help of `why`.
+const AFTER_WHY: &str =
+    "For each program the cuts at which it fails, and of each the smallest failing choices: those of which
+no part fails. Each failing image is counted under the first of them that is a part of its own choice.
+
+Example: crashbpf why disk.log check.bpf --sectors 64 --cuts flush --bound 2 --tears
+
+Exit status: 0 where no image fails, 1 where one does, 2 for a refusal.";
+
+/// What stands behind the help of `page`.
+const AFTER_PAGE: &str =
+    "One HTML file, for any browser, which fetches nothing: the log as a row of entries, the cuts between them
+coloured by the share of their images that fail, and behind a click on a cut its first eight smallest
+failing choices, each as 'show' tells its image.
+
+Example: crashbpf page disk.log check.bpf --sectors 64 --cuts flush --bound 2 > page.html
+
+Exit status: 0 where no image fails, 1 where one does, 2 for a refusal.";
+
+/// What stands behind the help of `images`.
+const AFTER_IMAGES: &str =
+    "A cut with v sectors on their way, or with --by write v writes, has the sum over i up to the bound of
+C(v, i) * m^i images, where m is 15 with --tears and else 1.
+
+Example: crashbpf images disk.log --sectors 64 --tears
+
+Exit status: 0, or 2 for a refusal.";
+
+/// What stands behind the help of `log`.
+const AFTER_LOG: &str =
+    "An entry a line, with the number that the report names: sector j of 'sector S count N' is unit j, which
+is S + j on the device. Bytes of a mark's text that aren't printed are shown as '\\x{7f}'.
+
+Example: crashbpf log disk.log
+
+Exit status: 0, or 2 for a refusal: 1 to 10 at the entry.";
+
+/// What stands behind the help of `image`.
+const AFTER_IMAGE: &str =
+    "The number is that of a line of the report, with the same options. With --cut and --choice, as a line
+of the report has them, it can be left out.
+
+Examples: crashbpf image disk.log 202 --sectors 64 --tears > broken.img
+          crashbpf image disk.log --cut 19 --choice 17.0:drop --sectors 64 > broken.img
+
+Exit status: 0, or 2 for a refusal.";
+
+/// What stands behind the help of `show`.
+const AFTER_SHOW: &str =
+    "The image is named as for 'image'. Rows of bytes behind '<' are those of the image of the same cut where
+nothing is lost, those behind '>' of this image; of each sector the first rows that differ are shown.
+
+Example: crashbpf show disk.log --cut 19 --choice 17.0:drop --sectors 64
+
+Exit status: 0, or 2 for a refusal.";
+
+/// What stands behind the help of `verify`.
+const AFTER_VERIFY: &str =
+    "Prints 'accepted budget N': on each image of a device of that size a run takes at most N steps.
+
+Example: crashbpf verify check.bpf --sectors 64
+
+Exit status: 0 where the program is accepted, 2 for a refusal: 20 to 26 for its bytes, 40 to 60 for
+the rule that it breaks, each at its slot.";
+
+/// What stands behind the help of `asm`.
+const AFTER_ASM: &str = "Example: crashbpf asm check.s > check.bpf
+
+Exit status: 0, or 2 for a refusal: 30 to 35 at the line.";
+
+/// What stands behind the help of `list`.
+const AFTER_LIST: &str = "Example: crashbpf list check.bpf
+
+Exit status: 0, or 2 for a refusal: 20 to 26 at the slot.";
+
+/// An option that takes a number.
+fn number_option<'a>(alloc: Global, name: &'a str, default: &'a str, help: &'a str) -> Arg<'a> {
+    Arg::new(alloc, name)
+        .long(name)
+        .value_name("N")
+        .value_parser(clap::value_parser!(u64))
+        .default_value(default)
+        .help(help)
+}
+
+/// The option that says the size of the device.
+fn sectors_option<'a>(alloc: Global) -> Arg<'a> {
+    Arg::new(alloc, "sectors")
+        .long("sectors")
+        .value_name("N")
+        .required(true)
+        .value_parser(clap::value_parser!(u64))
+        .help("Sectors of the device, 1 to 16384")
+}
+
+/// The log of a command.
+fn log_file<'a>(alloc: Global) -> Arg<'a> {
+    Arg::new(alloc, "file")
+        .required(true)
+        .value_name("LOG")
+        .help("A log of writes, as Linux's dm-log-writes target makes it")
+}
+
+/// A command on a log, with the options that say which of its crash images are meant.
+fn log_command<'a>(alloc: Global, name: &'a str) -> Result<Command<'a>, AllocError> {
+    let cuts = Arg::new(alloc, "cuts")
+        .long("cuts")
+        .value_name("WHICH")
+        .default_value("all")
+        .help("Cuts: all; flush, before each flush and at the end; mark, behind each mark");
+    let tears = Arg::new(alloc, "tears")
+        .long("tears")
+        .action(ArgAction::SetTrue)
+        .help("Sectors may also be torn: of the new content only the first or last eighths arrive");
+    let by = Arg::new(alloc, "by")
+        .long("by")
+        .value_name("WHAT")
+        .default_value("sector")
+        .help("What is lost or torn as one: sector; write, all sectors of a write or discard");
+    let bound = number_option(
+        alloc,
+        "bound",
+        "1",
+        "How many sectors, or by write how many writes, may be lost or torn, 0 to 3",
+    );
+    Command::new(alloc, name)
+        .arg(sectors_option(alloc))?
+        .arg(cuts)?
+        .arg(bound)?
+        .arg(tears)?
+        .arg(by)?
+        .arg(log_file(alloc))
+}
+
+/// The options of a run behind those of a log.
+fn with_run_options<'a>(alloc: Global, command: Command<'a>) -> Result<Command<'a>, AllocError> {
+    let checked = Arg::new(alloc, "checked")
+        .long("checked")
+        .value_name("N")
+        .value_parser(clap::value_parser!(u64))
+        .help("Ask no verifier, and run each program for at most N steps, 0 to 1000000000");
+    let progress = Arg::new(alloc, "progress")
+        .long("progress")
+        .action(ArgAction::SetTrue)
+        .help("Say on standard error how many images are judged");
+    command
+        .arg(number_option(alloc, "workers", "1", "Threads, 1 to 64"))?
+        .arg(number_option(alloc, "cache", "0", "Verdicts to keep, up to 65536"))?
+        .arg(checked)?
+        .arg(progress)
+}
+
+/// The programs of a run.
+fn program_files<'a>(alloc: Global) -> Arg<'a> {
+    Arg::new(alloc, "programs")
+        .num_args(1..)
+        .required(true)
+        .value_name("PROGRAM")
+        .help("Checkers, one to eight: BPF programs that answer 0 for a good image")
+}
+
+/// The command `why`.
+fn why_command<'a>(alloc: Global) -> Result<Command<'a>, AllocError> {
+    let command = log_command(alloc, "why")?
+        .about("Tells which losses make a checker fail, cut by cut")
+        .after_help(AFTER_WHY);
+    with_run_options(alloc, command)?.arg(program_files(alloc))
+}
+
+/// The command `page`.
+fn page_command<'a>(alloc: Global) -> Result<Command<'a>, AllocError> {
+    let command = log_command(alloc, "page")?
+        .about("Shows the log and the failing cuts as a page for a browser")
+        .after_help(AFTER_PAGE);
+    with_run_options(alloc, command)?.arg(program_files(alloc))
+}
+
+/// The command `explore`.
+fn explore_command<'a>(alloc: Global) -> Result<Command<'a>, AllocError> {
+    let first = Arg::new(alloc, "first")
+        .long("first")
+        .action(ArgAction::SetTrue)
+        .help("Report the first failing image alone");
+    let command = log_command(alloc, "explore")?
+        .about("Reports the crash images on which a checker doesn't answer 0")
+        .after_help(AFTER_EXPLORE);
+    with_run_options(alloc, command)?
+        .arg(first)?
+        .arg(program_files(alloc))
+}
+
+/// The command `images`.
+fn images_command<'a>(alloc: Global) -> Result<Command<'a>, AllocError> {
+    Ok(
+        log_command(alloc, "images")?
+            .about("Tells how many crash images each cut of a log has")
+            .after_help(AFTER_IMAGES),
+    )
+}
+
+/// A command on one crash image of a log.
+fn named_command<'a>(alloc: Global, name: &'a str) -> Result<Command<'a>, AllocError> {
+    let number = Arg::new(alloc, "number")
+        .required_unless_present("cut")?
+        .conflicts_with("cut")?
+        .value_parser(clap::value_parser!(u64))
+        .value_name("N")
+        .help("The number of the image, from 0");
+    let cut = Arg::new(alloc, "cut")
+        .long("cut")
+        .value_name("K")
+        .requires_arg("choice")?
+        .value_parser(clap::value_parser!(u64))
+        .help("The cut of the image, in place of its number");
+    let choice = Arg::new(alloc, "choice")
+        .long("choice")
+        .value_name("CHOICE")
+        .requires_arg("cut")?
+        .allow_hyphen_values(true)
+        .help("What was lost or torn, as a line of the report says it: 17.0:drop,18.1:head3, or -");
+    log_command(alloc, name)?.arg(cut)?.arg(choice)?.arg(number)
+}
+
+/// The command `image`.
+fn image_command<'a>(alloc: Global) -> Result<Command<'a>, AllocError> {
+    Ok(
+        named_command(alloc, "image")?
+            .about("Writes the bytes of one crash image, sector after sector")
+            .after_help(AFTER_IMAGE),
+    )
+}
+
+/// The command `show`.
+fn show_command<'a>(alloc: Global) -> Result<Command<'a>, AllocError> {
+    Ok(
+        named_command(alloc, "show")?
+            .about("Tells one crash image in words: its cut, what departed, and which bytes differ")
+            .after_help(AFTER_SHOW),
+    )
+}
+
+/// The command `log`.
+fn table_command<'a>(alloc: Global) -> Result<Command<'a>, AllocError> {
+    let sectors = number_option(
+        alloc,
+        "sectors",
+        "16384",
+        "Sectors of the device, 1 to 16384",
+    );
+    Command::new(alloc, "log")
+        .about("Prints the entries of a log")
+        .after_help(AFTER_LOG)
+        .arg(sectors)?
+        .arg(log_file(alloc))
+}
+
+/// A command on one file and without options.
+fn file_command<'a>(
+    alloc: Global,
+    name: &'a str,
+    file: &'a str,
+    help: &'a str,
+) -> Result<Command<'a>, AllocError> {
+    let file = Arg::new(alloc, "file")
+        .required(true)
+        .value_name(file)
+        .help(help);
+    Command::new(alloc, name).arg(file)
+}
+
+/// The command `verify`.
+fn verify_command<'a>(alloc: Global) -> Result<Command<'a>, AllocError> {
+    file_command(alloc, "verify", "PROGRAM", "A BPF program, as bytes")?
+        .about("Says with which budget of steps the verifier accepts a program")
+        .after_help(AFTER_VERIFY)
+        .arg(sectors_option(alloc))
+}
+
+/// The command `asm`.
+fn asm_command<'a>(alloc: Global) -> Result<Command<'a>, AllocError> {
+    Ok(
+        file_command(alloc, "asm", "SOURCE", "An assembly text")?
+            .about("Writes the program that an assembly text says")
+            .after_help(AFTER_ASM),
+    )
+}
+
+/// The command `list`.
+fn list_command<'a>(alloc: Global) -> Result<Command<'a>, AllocError> {
+    let slots = Arg::new(alloc, "slots")
+        .long("slots")
+        .action(ArgAction::SetTrue)
+        .help("Begin each line with the slot of its instruction");
+    file_command(alloc, "list", "PROGRAM", "A BPF program, as bytes")?
+        .about("Prints the listing of a program, which assembles to it again")
+        .after_help(AFTER_LIST)
+        .arg(slots)
+}
+
+/// All commands.
+fn commands<'a>(alloc: Global) -> Result<Command<'a>, AllocError> {
+    Command::new(alloc, "crashbpf")
+        .bin_name("crashbpf")?
+        .about(ABOUT)
+        .after_help(AFTER)
+        .version(VERSION)
+        .no_binary_name(true)
+        .subcommand_required(true)
+        .subcommand(explore_command(alloc)?)?
+        .subcommand(why_command(alloc)?)?
+        .subcommand(page_command(alloc)?)?
+        .subcommand(images_command(alloc)?)?
+        .subcommand(image_command(alloc)?)?
+        .subcommand(show_command(alloc)?)?
+        .subcommand(table_command(alloc)?)?
+        .subcommand(verify_command(alloc)?)?
+        .subcommand(asm_command(alloc)?)?
+        .subcommand(list_command(alloc)?)
+}
+
+/// The kind of cut that a word names.
+fn cuts_of(word: Option<&str>) -> Option<Cuts> {
+    match word {
+        Some("all") => Some(Cuts::All),
+        Some("flush") => Some(Cuts::BeforeFlush),
+        Some("mark") => Some(Cuts::AfterMark),
+        _ => None,
+    }
+}
+
+/// The kind of part that a word names.
+fn by_of(word: Option<&str>) -> Option<By> {
+    match word {
+        Some("sector") => Some(By::Sector),
+        Some("write") => Some(By::Write),
+        _ => None,
+    }
+}
+
+/// The options of `verify` and `log`: the number of sectors, and what stands for the others.
+fn device_words(matches: &ArgMatches<'_>) -> OptionWords {
+    OptionWords {
+        sectors: matches.get_one::<u64>("sectors").unwrap_or(0),
+        cuts: Some(Cuts::All),
+        bound: 1,
+        tears: false,
+        by: Some(By::Sector),
+        workers: 1,
+        cache: 0,
+        checked: None,
+        first: false,
+    }
+}
+
+/// The options of a command on a log.
+fn log_words(matches: &ArgMatches<'_>) -> OptionWords {
+    OptionWords {
+        cuts: cuts_of(matches.get_str("cuts")),
+        bound: matches.get_one::<u64>("bound").unwrap_or(1),
+        tears: matches.get_flag("tears"),
+        by: by_of(matches.get_str("by")),
+        ..device_words(matches)
+    }
+}
+
+/// The options of a run.
+fn run_words(matches: &ArgMatches<'_>) -> OptionWords {
+    OptionWords {
+        workers: matches.get_one::<u64>("workers").unwrap_or(1),
+        cache: matches.get_one::<u64>("cache").unwrap_or(0),
+        checked: matches.get_one::<u64>("checked"),
+        ..log_words(matches)
+    }
+}
+
+/// The options of `explore`.
+fn explore_words(matches: &ArgMatches<'_>) -> OptionWords {
+    OptionWords {
+        first: matches.get_flag("first"),
+        ..run_words(matches)
+    }
+}
+
+/// The text of a choice, if it isn't longer than any choice's.
+fn choice_word(word: &str) -> Option<ArrayString<96>>
+    ensures { MatchOption result (96 < length word.now) (λ text. text.bytes ≡ word.now) }
+{
+    match ArrayString::from(word) {
+        Ok(choice) => Some(choice),
+        Err(_error) => None,
+    }
+}
+
+/// Which image is meant.
+fn which_of(matches: &ArgMatches<'_>) -> Which {
+    match matches.get_one::<u64>("cut") {
+        Some(cut) => Which::Printed {
+            cut,
+            choice: choice_word(matches.get_str("choice").unwrap_or("")),
+        },
+        None => Which::Number(matches.get_one::<u64>("number").unwrap_or(0)),
+    }
+}
+
+/// What a command with that name asks for.
+fn request_of(name: &str, matches: &ArgMatches<'_>) -> Request {
+    match name {
+        "why" => Request::Why(run_words(matches)),
+        "page" => Request::Page(run_words(matches)),
+        "images" => Request::Images(log_words(matches)),
+        "image" => Request::Image(log_words(matches), which_of(matches)),
+        "show" => Request::Show(log_words(matches), which_of(matches)),
+        "log" => Request::Log(device_words(matches)),
+        "verify" => Request::Verify(device_words(matches)),
+        "asm" => Request::Asm,
+        "list" => Request::List {
+            numbered: matches.get_flag("slots"),
+        },
+        _ => Request::Explore(explore_words(matches)),
+    }
+}
+
+/// Whether a command runs programs on the images of a log.
+fn is_run(name: &str) -> bool {
+    name == "explore" || name == "why" || name == "page"
+}
+
+/// The files that a command names: its log, source or program, then the programs of a run.
+fn file_words(
+    alloc: Global,
+    name: &str,
+    matches: &ArgMatches<'_>,
+) -> Result<Vec<String>, AllocError> {
+    let mut files = Vec::new(alloc);
+    if let Some(first) = matches.get_str("file") {
+        files.push(first.to_string(alloc)?)?;
+    }
+    if !is_run(name) {
+        return Ok(files);
+    }
+    if let Some(programs) = matches.get_strs("programs") {
+        for program in programs {
+            files.push(program.to_string(alloc)?)?;
+        }
+    }
+    Ok(files)
+}
+
+impl Words {
+    /// Reads the words behind the program's name. No word at all asks for the stored run.
+    ///
+    /// # Errors
+    ///
+    /// A fault of the command line, or its help, in `clap`'s own text.
+    pub fn of(alloc: Global, words: &[String]) -> Result<Words, Error>
+        ensures stored { words.now ≡ [] → IsOkAnd result (λ w. w ≡ record { request = asks.StoredRun; files = [] }) }
+    {
+        if words.is_empty() {
+            return Ok(Words {
+                request: Request::StoredRun,
+                files: Vec::new(alloc),
+                progress: false,
+            });
+        }
+        let matches = commands(alloc)?.try_get_matches_from(words)?;
+        match matches.subcommand() {
+            Some((name, inner)) => Ok(Words {
+                request: request_of(name, inner),
+                files: file_words(alloc, name, inner)?,
+                progress: is_run(name) && inner.get_flag("progress"),
+            }),
+            None => Ok(Words {
+                request: Request::StoredRun,
+                files: Vec::new(alloc),
+                progress: false,
+            }),
+        }
+    }
+
+    /// The files of the command, in order: the log, then the programs.
+    pub fn files(&self) -> &[String]
+        ensures { map string_bytes result.now ≡ self.now.files }
+    {
+        self.files.as_slice()
+    }
+
+    /// Whether an exploration is to say how far it is.
+    pub fn progress(&self) -> bool {
+        self.progress
+    }
+
+    /// What is asked for.
+    pub fn request(&self) -> Request
+        ensures { result ≡ self.now.request }
+    {
+        self.request
+    }
+}

@@ -1,0 +1,2 @@
+-- What notes say of an accepted program.
+pub mod Unreached

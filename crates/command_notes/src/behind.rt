@@ -1,0 +1,421 @@
+//! The notes behind a refusal.
+
+ghost use Rattle.std.specs.Prelude.{◌≤◌};
+
+use crate::headers::{put_end, put_header};
+use base::causes::{CodeCause, LogCause, RequestCause, VerifierCause};
+use base::refusal::{Cause, Refusal};
+use bpf_isa::codec::decode;
+use bpf_isa::program::Program;
+use choices::count;
+use command_line::Words;
+use epochs::{By, Cuts, Plan};
+use logfmt::{Log, read};
+use notes::{
+    asm_cure, code_cure, log_cure, put_entry, put_escaped, put_known, put_least, put_note,
+    put_refused, put_slot, verifier_cure,
+};
+use request::{MOST_SECTORS, OptionWords, Options, Request, options_of, read_log};
+use std::alloc::{AllocError, Global};
+use std::fmt::Display;
+use verifier::inferred;
+
+/// With what a log begins.
+const LOG_MAGIC: &[u8] = b"rhswfsj\0";
+
+/// With what an object file begins.
+const OBJECT_MAGIC: &[u8] = b"\x7fELF";
+
+/// What a file holds, where it could be read.
+pub(crate) fn bytes_of(files: &[Option<Vec<u8>>], place: usize) -> Option<&[u8]> {
+    match files.get(place) {
+        Some(Some(bytes)) => Some(bytes.as_slice()),
+        _ => None,
+    }
+}
+
+/// Appends what a cause means, and what most likely helps, where that isn't empty.
+fn put_cause<C: Display>(
+    alloc: Global,
+    out: &mut String,
+    cause: &C,
+    cure: &str,
+) -> Result<(), AllocError> {
+    let rule = format!(in alloc; "{cause}")?;
+    put_refused(out, rule.as_str(), cure)
+}
+
+/// Appends a note with the name of a file.
+fn put_name(out: &mut String, words: &Words, place: usize, what: &str) -> Result<(), AllocError> {
+    out.push_str("note: ")?;
+    if let Some(name) = words.files().get(place) {
+        put_escaped(out, name.as_bytes())?;
+    }
+    write!(out, " {what}\n")
+}
+
+/// Appends a note where a file that is meant to hold a program is of another kind.
+fn put_kind(
+    out: &mut String,
+    words: &Words,
+    files: &[Option<Vec<u8>>],
+    place: usize,
+) -> Result<(), AllocError> {
+    let Some(bytes) = bytes_of(files, place) else {
+        return Ok(());
+    };
+    if bytes.starts_with(LOG_MAGIC) {
+        return put_name(out, words, place, "begins as a log does");
+    }
+    if bytes.starts_with(OBJECT_MAGIC) {
+        return put_name(
+            out,
+            words,
+            place,
+            "is an object file: examples/cc takes a program out of it",
+        );
+    }
+    Ok(())
+}
+
+/// Appends the entry that goes past the device, and the size of a device that holds the log, where one does.
+fn put_device(alloc: Global, out: &mut String, bytes: &[u8], at: usize) -> Result<(), AllocError> {
+    match read(alloc, bytes, MOST_SECTORS) {
+        Ok(log) => {
+            put_entry(alloc, out, &log, at)?;
+            put_least(out, &log)
+        }
+        Err(fault) if matches!(fault.code, LogCause::Device) => {
+            put_note(out, "no device of at most 16384 sectors holds this log")
+        }
+        Err(_fault) => Ok(()),
+    }
+}
+
+/// Appends the header of an entry that is refused for it, and where it ends, if the file ends before.
+fn put_broken_entry(
+    out: &mut String,
+    files: &[Option<Vec<u8>>],
+    cause: LogCause,
+    at: usize,
+) -> Result<(), AllocError> {
+    let Some(bytes) = bytes_of(files, 0) else {
+        return Ok(());
+    };
+    match cause {
+        LogCause::Flags | LogCause::DataLength | LogCause::MarkForm => put_header(out, bytes, at),
+        LogCause::CutShort => {
+            put_header(out, bytes, at)?;
+            put_end(out, bytes, at)
+        }
+        _ => Ok(()),
+    }
+}
+
+/// Appends what is wrong with a log.
+fn put_log_notes(
+    alloc: Global,
+    out: &mut String,
+    words: &Words,
+    files: &[Option<Vec<u8>>],
+    cause: LogCause,
+    at: usize,
+) -> Result<(), AllocError> {
+    put_cause(alloc, out, &cause, log_cure(cause))?;
+    match cause {
+        LogCause::Device => match bytes_of(files, 0) {
+            Some(bytes) => put_device(alloc, out, bytes, at),
+            None => Ok(()),
+        },
+        LogCause::Short | LogCause::Magic => put_kind(out, words, files, 1),
+        _ => put_broken_entry(out, files, cause, at),
+    }
+}
+
+/// The place among the files of a refused program.
+fn place_of(program: Option<u8>) -> usize {
+    match program {
+        Some(number) => usize::from(number) + 1,
+        None => 0,
+    }
+}
+
+/// Appends what is wrong with the bytes of a program.
+fn put_code_notes(
+    alloc: Global,
+    out: &mut String,
+    words: &Words,
+    files: &[Option<Vec<u8>>],
+    cause: CodeCause,
+    program: Option<u8>,
+) -> Result<(), AllocError> {
+    put_cause(alloc, out, &cause, code_cure(cause))?;
+    put_kind(out, words, files, place_of(program))
+}
+
+/// Whether the place of a refusal is that of an instruction.
+fn names_instruction(cause: VerifierCause) -> bool {
+    !matches!(
+        cause,
+        VerifierCause::Budget | VerifierCause::Unsettled | VerifierCause::Memory
+    )
+}
+
+/// The options that a command takes, where it takes some of a log.
+fn log_options(request: Request) -> Option<OptionWords> {
+    match request {
+        Request::Explore(words) | Request::Why(words) | Request::Page(words) => Some(words),
+        Request::Images(words) => Some(words),
+        Request::Image(words, _) | Request::Show(words, _) => Some(words),
+        _ => None,
+    }
+}
+
+/// The options that a command takes, where it runs programs on crash images.
+fn run_options(request: Request) -> Option<OptionWords> {
+    match request {
+        Request::Explore(words) | Request::Why(words) | Request::Page(words) => Some(words),
+        _ => None,
+    }
+}
+
+/// The options that a command takes, where it verifies programs.
+fn verifier_options(request: Request) -> Option<OptionWords> {
+    match request {
+        Request::Verify(words) => Some(words),
+        _ => run_options(request),
+    }
+}
+
+/// Appends what is known of the registers that the instruction at a slot reads, in a program of right shape.
+fn put_known_at(
+    alloc: Global,
+    out: &mut String,
+    program: &Program,
+    sectors: u32,
+    slot: usize,
+) -> Result<(), AllocError> {
+    let Ok(table) = inferred(alloc, program, sectors) else {
+        return Ok(());
+    };
+    match (program.at(slot), table.state(slot)) {
+        (Some(instr), Some(state)) => put_known(out, &instr, state),
+        _ => Ok(()),
+    }
+}
+
+/// Appends the instruction at which a program is refused, and what is known there.
+fn put_refused_slot(
+    alloc: Global,
+    out: &mut String,
+    words: &Words,
+    files: &[Option<Vec<u8>>],
+    refusal: &Refusal,
+) -> Result<(), AllocError> {
+    let Some(bytes) = bytes_of(files, place_of(refusal.program)) else {
+        return Ok(());
+    };
+    let Ok(program) = decode(alloc, bytes) else {
+        return Ok(());
+    };
+    let slot = refusal.at as usize;
+    put_slot(out, &program, slot)?;
+    let Some(options) = verifier_options(words.request()) else {
+        return Ok(());
+    };
+    match options_of(options) {
+        Ok(options) => put_known_at(alloc, out, &program, options.sectors(), slot),
+        Err(_refusal) => Ok(()),
+    }
+}
+
+/// Appends which rule a program breaks, the instruction that does, and what is known there.
+fn put_verifier_notes(
+    alloc: Global,
+    out: &mut String,
+    words: &Words,
+    files: &[Option<Vec<u8>>],
+    cause: VerifierCause,
+    refusal: &Refusal,
+) -> Result<(), AllocError> {
+    if names_instruction(cause) {
+        put_refused_slot(alloc, out, words, files, refusal)?;
+    }
+    put_cause(alloc, out, &cause, verifier_cure(cause))
+}
+
+/// Appends the greatest smaller bound with which a plan hasn't too many images, and how many it has then.
+fn put_smaller_bound(
+    out: &mut String,
+    plan: &Plan<'_>,
+    bound: u8,
+    tears: bool,
+) -> Result<(), AllocError>
+    requires { bound ≤ 3 }
+{
+    for smaller in (0..bound).rev() {
+        if let Ok(images) = count(plan, smaller, tears) {
+            return write!(out, "note: with --bound {smaller} there are {images}\n");
+        }
+    }
+    put_note(out, "there are too many with --bound 0 as well")
+}
+
+/// Appends how many images a log has with other cuts, where it has some, and not too many.
+fn put_cuts(
+    alloc: Global,
+    out: &mut String,
+    log: &Log,
+    options: &Options,
+    cuts: Cuts,
+    name: &str,
+) -> Result<(), AllocError> {
+    let plan = Plan::new(alloc, log, cuts, options.by())?;
+    match count(&plan, options.bound(), options.tears()) {
+        Ok(images) if images > 0 => write!(out, "note: with --cuts {name} there are {images}\n"),
+        _ => Ok(()),
+    }
+}
+
+/// Appends with which cuts in place of all a log hasn't too many images.
+fn put_fewer_cuts(
+    alloc: Global,
+    out: &mut String,
+    log: &Log,
+    options: &Options,
+) -> Result<(), AllocError> {
+    if options.cuts() != Cuts::All {
+        return Ok(());
+    }
+    put_cuts(alloc, out, log, options, Cuts::BeforeFlush, "flush")?;
+    put_cuts(alloc, out, log, options, Cuts::AfterMark, "mark")
+}
+
+/// Appends with which cuts, and with how small a bound, a log hasn't too many images.
+fn put_fewer(
+    alloc: Global,
+    out: &mut String,
+    bytes: &[u8],
+    words: OptionWords,
+) -> Result<(), AllocError> {
+    let Ok(options) = options_of(words) else {
+        return Ok(());
+    };
+    let Ok(log) = read_log(alloc, bytes, options.sectors()) else {
+        return Ok(());
+    };
+    put_fewer_cuts(alloc, out, &log, &options)?;
+    let plan = Plan::new(alloc, &log, options.cuts(), options.by())?;
+    put_smaller_bound(out, &plan, options.bound(), options.tears())
+}
+
+/// With which options there are fewer images than with parts of that kind.
+fn fewer_images(by: Option<By>) -> &'static str {
+    match by {
+        Some(By::Write) => "take fewer cuts (--cuts flush), a smaller --bound, or no --tears",
+        _ => "take fewer cuts (--cuts flush), a smaller --bound, --by write, or no --tears",
+    }
+}
+
+/// The kind of parts that a command takes, where it takes some.
+fn parts_of(request: Request) -> Option<By> {
+    match log_options(request) {
+        Some(words) => words.by,
+        None => None,
+    }
+}
+
+/// Appends that there are too many images, and with what there are fewer.
+fn put_images_notes(
+    alloc: Global,
+    out: &mut String,
+    words: &Words,
+    files: &[Option<Vec<u8>>],
+) -> Result<(), AllocError> {
+    put_refused(
+        out,
+        "with this cut there are more than 16777216 images (docs/CRASH-MODEL.md, Limits)",
+        fewer_images(parts_of(words.request())),
+    )?;
+    match (bytes_of(files, 0), log_options(words.request())) {
+        (Some(bytes), Some(options)) => put_fewer(alloc, out, bytes, options),
+        _ => Ok(()),
+    }
+}
+
+/// What the option or the number at a place has to be.
+fn option_rule(place: u64) -> &'static str {
+    match place {
+        1 => "--sectors is 1 to 16384",
+        2 => "--bound is 0 to 3",
+        3 => "--workers is 1 to 64",
+        4 => "--cache is 0 to 65536",
+        5 => "--checked is 0 to 1000000000",
+        6 => "a run has 1 to 8 programs",
+        7 => "--cuts is all, flush or mark",
+        10 => "--by is sector or write",
+        11 => "no image of that cut has that choice, as the report prints it with the same options",
+        _ => "the log has no image of that number; 'crashbpf images' tells how many it has",
+    }
+}
+
+/// Appends which file can't be read, or is no text.
+fn put_file_notes(
+    out: &mut String,
+    words: &Words,
+    files: &[Option<Vec<u8>>],
+    place: usize,
+) -> Result<(), AllocError> {
+    match bytes_of(files, place) {
+        Some(_bytes) => put_name(out, words, place, "is no text in UTF-8"),
+        None => put_name(out, words, place, "can't be read"),
+    }
+}
+
+/// Appends that there is no memory for the work, and of a run by several workers what takes less.
+fn put_work_notes(out: &mut String, words: &Words) -> Result<(), AllocError> {
+    put_note(out, "there is no memory for the work")?;
+    match run_options(words.request()) {
+        Some(options) if options.workers > 1 => {
+            put_note(
+                out,
+                "fewer workers take less memory, and --workers 1 the least",
+            )
+        }
+        _ => Ok(()),
+    }
+}
+
+/// The notes behind the line of a refusal: what its number means there, the instruction, entry, option or file that is
+/// meant, and what most likely helps, where that is known. Each line begins with `note: ` (docs/REPORT.md, Notes).
+pub fn notes_behind(
+    alloc: Global,
+    words: &Words,
+    files: &[Option<Vec<u8>>],
+    refusal: &Refusal,
+) -> Result<String, AllocError> {
+    let mut out = String::new(alloc);
+    let place = refusal.at as usize;
+    match refusal.code {
+        Cause::Log(cause) => put_log_notes(alloc, &mut out, words, files, cause, place)?,
+        Cause::Code(cause) => put_code_notes(
+            alloc,
+            &mut out,
+            words,
+            files,
+            cause,
+            refusal.program,
+        )?,
+        Cause::Asm(cause) => put_cause(alloc, &mut out, &cause, asm_cure(cause))?,
+        Cause::Verifier(cause) => put_verifier_notes(
+            alloc, &mut out, words, files, cause, refusal,
+        )?,
+        Cause::Request(RequestCause::TooManyImages) => {
+            put_images_notes(alloc, &mut out, words, files)?
+        }
+        Cause::Request(RequestCause::Option) => put_note(&mut out, option_rule(refusal.at))?,
+        Cause::Request(RequestCause::File) => put_file_notes(&mut out, words, files, place)?,
+        Cause::Work(_cause) => put_work_notes(&mut out, words)?,
+    }
+    Ok(out)
+}

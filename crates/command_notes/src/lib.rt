@@ -1,0 +1,38 @@
+//! The notes of a command: what stands on standard error behind a refusal, or beside an answer (docs/REPORT.md, Notes).
+//!
+//! # Place
+//!
+//! On `notes`, which has the parts: sentences, entries, instructions and what is known of registers. Here it is chosen which of
+//! them are said of a command, of its `Words` (`command_line`), its options (`request`) and what its files hold. A file is read
+//! and a program verified once more for that, after the answer. `commands` hands both calls to the program, whose status and
+//! standard output they don't touch.
+//!
+//! | Call | Answers |
+//! |---|---|
+//! | `notes_behind(alloc, words, files, refusal)` | what the number of a refusal means there, the instruction, entry, option or file that is meant, and what most likely helps |
+//! | `notes_beside(alloc, words, files)` | beside an answer: what no run of a program reaches, and how many writes never depart as a whole |
+//!
+//! `behind.rt` and `beside.rt` have the two, `headers.rt` the header of an entry that is refused for it, and `unreached.rt` the
+//! instructions that no path reaches.
+//!
+//! # What is proved
+//!
+//! Which notes are said is no part of a contract; their parts are those of `notes`, whose texts are proved. The note of what no
+//! run reaches is exactly that of `specs/Unreached.antt`: how many instructions of an accepted program have no state in its
+//! table, and the slot of the first. Runs of the built program have a row for each note.
+//!
+//! # Example
+//!
+//! ```text
+//! notes_behind(alloc, &words, files, &refusal)?
+//! // note: --bound is 0 to 3
+//! ```
+#![tactic(auto)]
+
+mod behind;
+mod beside;
+mod headers;
+mod unreached;
+
+pub use behind::notes_behind;
+pub use beside::notes_beside;

@@ -1,6 +1,0 @@
-use Rattle.std.proofs.Common.{string_bytes}
-use Rattle.commands.specs.Marked.{images_marked, TellsPrograms}
-use Rattle.commands.proofs.causes.put_all.Given as goal
-
-abbrev pub invariant-loop-program : goal.invariant-loop-program
-invariant-loop-program l = TellsPrograms l.starts (images_marked l.marks) l.program (string_bytes l.initial.out) (string_bytes l.out)

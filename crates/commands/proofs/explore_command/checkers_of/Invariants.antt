@@ -1,6 +1,0 @@
-use Rattle.std.proofs.Common.{◌≡◌, length}
-use Rattle.commands.specs.Programs.{AreFirstMade}
-use Rattle.commands.proofs.explore_command.checkers_of.Given as goal
-
-abbrev pub invariant-loop-number : goal.invariant-loop-number
-invariant-loop-number l = AreFirstMade l.options l.programs l.checkers.items × (length l.checkers.items ≡ l.number)

@@ -1,8 +1,0 @@
--- What the words of the command line ask for (docs/REPORT.md, Commands).
-use Rattle.std.specs.Prelude.{ℕ, List}
-use Rattle.commands.specs.declared.words.Request.{Request}
-
--- the request, and the names of its files in order
-pub record WordsValue : Type 0 where
-  pub request : Request
-  pub files : List (List ℕ)

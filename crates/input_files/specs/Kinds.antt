@@ -1,0 +1,38 @@
+-- What a command takes a file for, and how much of it is read (docs/REPORT.md, Files).
+use Rattle.std.specs.Prelude.{ℕ, ◌==◌, ◌+◌, ◌-◌, ◌*◌, nat_le, ◌&&◌, ◌||◌, if◌then◌else◌, List, bytes_eq, codes, Option, None, Some}
+use Rattle.base.specs.declared.causes.AsmCause.TheVariants as asm
+use Rattle.base.specs.declared.causes.CodeCause.TheVariants as code
+use Rattle.base.specs.declared.causes.LogCause.TheVariants as log
+use Rattle.base.specs.declared.refusal.Refusal.{Refusal}
+use Rattle.base.specs.declared.refusal.Cause.TheVariants.{Asm, Code, Log}
+use Rattle.input_files.specs.declared.kind.FileKind.{FileKind}
+use Rattle.input_files.specs.declared.kind.FileKind.TheVariants as kind
+
+-- what the command of that name takes the file at that place for
+abbrev pub kind_of : List ℕ → ℕ → FileKind
+kind_of command place =
+    if bytes_eq command (codes "asm") then kind.Text
+    else if bytes_eq command (codes "verify") || bytes_eq command (codes "list") then kind.Program
+    else if place == 0 then kind.Log
+    else kind.Program
+
+-- how many bytes a file has at most
+abbrev pub most_of : FileKind → ℕ
+most_of kind.Log = 64 * 1024 * 1024
+most_of kind.Program = 8 * 4096
+most_of kind.Text = 16 * 1024 * 1024
+
+-- how many bytes are read at most: one more, or of a program a slot more
+abbrev pub read_of : FileKind → ℕ
+read_of kind.Program = most_of kind.Program + 8
+read_of k = most_of k + 1
+
+-- the number of the program at a place behind a log
+abbrev pub number_of : ℕ → Option ℕ
+number_of place = if nat_le 1 place && nat_le place 256 then Some (place - 1) else None
+
+-- want of memory for the file at a place
+abbrev pub memory_of : FileKind → ℕ → Refusal
+memory_of kind.Log place = record { code = Log log.Memory; at = 0; program = None }
+memory_of kind.Program place = record { code = Code code.Memory; at = 0; program = number_of place }
+memory_of kind.Text place = record { code = Asm asm.Memory; at = 0; program = None }

@@ -1,0 +1,110 @@
+//! The files of a command, as far as they were read.
+
+use crate::cut::refusal_of_whole;
+use crate::kind::FileKind;
+use crate::reading::{Piece, read_file};
+use base::causes::RequestCause;
+use base::refusal::{Cause, Refusal};
+use std::alloc::AllocError;
+use std::io::ErrorKind;
+use std::rt::Files;
+
+/// What is said of an assembly text that is too long.
+const TOO_LONG: &str =
+    "note: an assembly text has at most 16777216 bytes (docs/REPORT.md, How files are read)\n";
+
+/// What the files of a command hold, in order.
+#[derive(Drop)]
+pub struct Inputs {
+    held: Vec<Option<Vec<u8>>>,
+    lengths: Vec<u64>,
+}
+
+/// What a file holds; nothing, of no length, where it can't be read.
+///
+/// # Errors
+///
+/// There is no memory for it.
+fn read_one<R: Files + AllocGlobal>(
+    rt: &R,
+    name: &str,
+    kind: FileKind,
+) -> Result<Piece, AllocError> {
+    match read_file(rt, name, kind) {
+        Ok(piece) => Ok(piece),
+        Err(error) if error.kind() == ErrorKind::OutOfMemory => Err(AllocError),
+        Err(_error) => Ok(Piece {
+            bytes: None,
+            length: 0,
+        }),
+    }
+}
+
+impl Inputs {
+    /// Reads the files that the command of that name names, no more of each than it can use.
+    ///
+    /// # Errors
+    ///
+    /// There is no memory for one of them: 11, 26 or 35 at 0; or for the list of them: 72 at 0.
+    pub fn read<R: Files + AllocGlobal>(
+        rt: &R,
+        command: &str,
+        names: &[String],
+    ) -> Result<Inputs, Refusal> {
+        let mut inputs = Inputs {
+            held: Vec::new(rt.alloc()),
+            lengths: Vec::new(rt.alloc()),
+        };
+        for (place, name) in names.iter().enumerate() {
+            let kind = FileKind::of(command, place);
+            let Ok(piece) = read_one(rt, name.as_str(), kind) else {
+                return Err(kind.of_memory(place));
+            };
+            if inputs.push(piece).is_err() {
+                return Err(Refusal::of_memory());
+            }
+        }
+        Ok(inputs)
+    }
+
+    /// Appends what was read of one more file.
+    fn push(&mut self, piece: Piece) -> Result<(), AllocError> {
+        self.lengths.push(piece.length)?;
+        self.held.push(piece.bytes)?;
+        Ok(())
+    }
+
+    /// What each file holds, or what stands for it; none where it can't be read.
+    pub fn held(&self) -> &[Option<Vec<u8>>] {
+        self.held.as_slice()
+    }
+
+    /// The refusal of the files, made of that of what stands for them.
+    pub fn refusal(&self, refusal: Refusal) -> Refusal {
+        let place = match refusal.program {
+            Some(number) => usize::from(number) + 1,
+            None => 0,
+        };
+        match self.lengths.get(place) {
+            Some(length) => refusal_of_whole(refusal, *length),
+            None => refusal,
+        }
+    }
+
+    /// The note on a refusal that this crate has, which is empty where it has none.
+    pub fn note(&self, refusal: &Refusal) -> &'static str {
+        let place = refusal.at as usize;
+        match refusal.code {
+            Cause::Request(RequestCause::File) if self.is_too_long(place) => TOO_LONG,
+            _ => "",
+        }
+    }
+
+    /// Whether the file at a place was read, and has too many bytes to be one of its kind.
+    fn is_too_long(&self, place: usize) -> bool {
+        match (self.held.get(place), self.lengths.get(place)) {
+            (Some(None), Some(length)) => *length > 0,
+            _ => false,
+        }
+    }
+}

@@ -1,0 +1,87 @@
+//! What a command takes a file for, and how much of it is read.
+
+ghost use Rattle.std.specs.Prelude.{◌≡◌};
+ghost use Rattle.input_files.specs.Kinds.{kind_of, most_of, read_of, number_of, memory_of};
+
+use base::causes::{AsmCause, CodeCause, LogCause};
+use base::refusal::{Cause, Refusal};
+
+/// What a command takes a file for (docs/REPORT.md, Commands).
+#[derive(Clone, Copy, Debug, PartialEq, Eq)]
+pub enum FileKind {
+    Log,
+    Program,
+    /// An assembly text.
+    Text,
+}
+
+impl FileKind {
+    /// What the command of that name takes the file at that place for.
+    pub fn of(command: &str, place: usize) -> FileKind
+        ensures { result ≡ kind_of command.now place }
+    {
+        match command {
+            "asm" => FileKind::Text,
+            "verify" | "list" => FileKind::Program,
+            _ if place == 0 => FileKind::Log,
+            _ => FileKind::Program,
+        }
+    }
+
+    /// How many bytes a file of this kind has at most: 64 MiB, 4,096 slots, 16 MiB.
+    pub fn most(self) -> usize
+        ensures { result ≡ most_of self }
+    {
+        match self {
+            FileKind::Log => 67_108_864,
+            FileKind::Program => 32_768,
+            FileKind::Text => 16_777_216,
+        }
+    }
+
+    /// How many bytes are read of a file of this kind at most: as many as show that there are too many. Of a program that is
+    /// a slot more, so that a text of each length modulo 8 can stand for a longer one.
+    pub fn most_read(self) -> usize
+        ensures { result ≡ read_of self }
+    {
+        match self {
+            FileKind::Log => 67_108_865,
+            FileKind::Program => 32_776,
+            FileKind::Text => 16_777_217,
+        }
+    }
+
+    /// The refusal of the file at that place for want of memory: 11, 26 or 35 at 0, with the number of the program where
+    /// a log stands before it.
+    pub fn of_memory(self, place: usize) -> Refusal
+        ensures { result ≡ memory_of self place }
+    {
+        match self {
+            FileKind::Log => refusal_of(Cause::Log(LogCause::Memory), None),
+            FileKind::Program => refusal_of(Cause::Code(CodeCause::Memory), program_at(place)),
+            FileKind::Text => refusal_of(Cause::Asm(AsmCause::Memory), None),
+        }
+    }
+}
+
+/// The refusal at 0 for that cause.
+fn refusal_of(code: Cause, program: Option<u8>) -> Refusal
+    ensures { result ≡ record { code = code; at = 0; program = program } }
+{
+    Refusal {
+        code,
+        at: 0,
+        program,
+    }
+}
+
+/// The number of the program at a place among the files, where a log stands before it.
+fn program_at(place: usize) -> Option<u8>
+    ensures { result ≡ number_of place }
+{
+    if 1 <= place && place <= 256 {
+        Some((place - 1) as u8)
+    } else {
+        None
+    }
+}

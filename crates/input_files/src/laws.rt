@@ -1,0 +1,31 @@
+//! What holds of the bytes that are read of a log, and of those that stand for a long program. The functions do nothing;
+//! each contract is a theorem.
+
+ghost use Rattle.input_files.specs.Logs.{ShortLogIsRead, LongLogIsRefusedAlike};
+ghost use Rattle.input_files.specs.Standing.{ShortStandsForItself, LongIsRefusedAlike, LongIsRefused};
+
+/// A log of at most 64 MiB is read whole.
+pub fn short_log_is_read()
+    ensures { ShortLogIsRead }
+{}
+
+/// A longer one is refused for its length, and so is what is read of it.
+pub fn long_log_is_refused_alike()
+    ensures { LongLogIsRefusedAlike }
+{}
+
+/// A program of at most 4,096 slots stands for itself.
+pub fn short_stands_for_itself()
+    ensures { ShortStandsForItself }
+{}
+
+/// Each fault of what stands for a longer one is the first fault of that one too, at the place that `refusal_of_whole` makes
+/// of it.
+pub fn long_is_refused_alike()
+    ensures { LongIsRefusedAlike }
+{}
+
+/// What stands for a longer one has a fault.
+pub fn long_is_refused()
+    ensures { LongIsRefused }
+{}

@@ -1,0 +1,56 @@
+//! input_files, the files of a command: which is what, and no more of each than a command can use.
+//!
+//! A file may have no end, as a device or a pipe that is written for ever, and a regular file may be larger than all
+//! memory. What a command answers depends on a few of the bytes of such a file, and so no more of them are kept.
+//!
+//! # Place
+//!
+//! On `base`, and on the definitions of `logfmt` and `bpf_isa`, below the program. `commands` says what a command answers on what its files hold; this crate reads them.
+//!
+//! # What is read
+//!
+//! | File | Is read to | What is longer |
+//! |---|---|---|
+//! | a log | 64 MiB and a byte | has the refusal of its first 64 MiB and a byte, 10 at 0, whatever it holds |
+//! | a program | 4,097 slots, 32,776 bytes | stands for itself by a prefix of more than 4,096 slots which cuts a slot as it does |
+//! | an assembly text | 16 MiB and a byte | can't be read |
+//!
+//! How long a program is tells a regular file's length; of any other file what is behind the first 32,776 bytes is read and
+//! counted, but not kept, and one that doesn't end within 64 MiB counts as one of too many whole slots.
+//!
+//! # What is proved
+//!
+//! `FileKind::of` says what a file is taken for, `standing_length` how many bytes stand for a program, and
+//! `refusal_of_whole` what the refusal of these bytes says of the whole file. Laws (`laws`) tie them to what `logfmt` and
+//! `bpf_isa` say of a first fault. A log that isn't too long is read whole, and a longer one is refused for its length, as is
+//! what is read of it. A program that isn't too long stands for itself; what stands for a longer one has a fault; and that is
+//! the first fault of the longer one, at the place that `refusal_of_whole` makes of it.
+//!
+//! Of a reader whose bytes are known, what is kept are its first bytes, as many as that, and the length of one that isn't
+//! too long is told (`read_piece`). What a file of the system holds, and how long it says it is, no contract can say: runs of
+//! the built program show that it is read so (tests/rows/surroundings.py).
+//!
+//! # Example
+//!
+//! ```text
+//! let inputs = Inputs::read(rt, "explore", words.files())?;
+//! match act(rt, alloc, gate, words, inputs.held()) {
+//!     Ok((bytes, status)) => ..
+//!     Err(refusal) => inputs.refusal(refusal)
+//! }
+//! ```
+#![tactic(auto)]
+
+mod cut;
+mod inputs;
+mod kind;
+mod laws;
+mod reading;
+
+pub use cut::{refusal_of_whole, standing_length};
+pub use inputs::Inputs;
+pub use kind::FileKind;
+pub use laws::{
+    long_is_refused, long_is_refused_alike, long_log_is_refused_alike, short_log_is_read,
+    short_stands_for_itself,
+};

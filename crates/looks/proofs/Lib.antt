@@ -1,0 +1,6 @@
+-- Lemmas of the crate.
+pub mod Counts
+pub mod Texts
+pub mod Printed
+pub mod Short
+pub mod Meant

@@ -1,0 +1,41 @@
+-- How logs, texts and single programs are refused.
+use Rattle.std.proofs.Common.{ℕ, ◌≡◌, ◌⊎◌, inl, inr, List, Option, subst}
+use Rattle.std.specs.Str.{IsUtf8}
+use Rattle.base.specs.declared.refusal.Refusal.{Refusal}
+use Rattle.bpf_isa.specs.declared.program.CodeFault.{CodeFault}
+use Rattle.bpf_isa.specs.Decoding as code
+use Rattle.bpf_asm.specs.declared.fault.AsmFault.{AsmFault}
+use Rattle.bpf_asm.specs.Says as asm
+use Rattle.bpf_isa.specs.declared.instr.Instr.{Instr}
+use Rattle.bpf_isa.specs.Program.{IsSpelledBy, FirstFault}
+use Rattle.bpf_shape.specs.declared.fault.Fault.{Fault}
+use Rattle.bpf_shape.specs.Fault as shape
+use Rattle.verifier.specs.Verdicts.{Refused}
+use Rattle.request.specs.declared.settings.Settings.{Settings}
+use Rattle.request.specs.Source.{RefusesLog}
+use Rattle.request.specs.Refusals.{bytes_refusal}
+use Rattle.looks.specs.Table as table
+use Rattle.looks.specs.Verifying as verifying
+use Rattle.looks.specs.Assembly.{text_refusal, RefusesText, says_none, no_text_memory, RefusesBytes, with_bytes_fault, no_program_memory}
+
+pub table_refused : (text : List ℕ) (s : Settings) (sectors : ℕ) (r : Refusal) → sectors ≡ s.sectors → RefusesLog text sectors r → table.RefusesTable text s r
+table_refused text s sectors r e h = table.for_log r (rw (← e) h)
+
+pub bytes_refused : (bytes : List ℕ) (f : CodeFault) → (f ≡ code.memory_fault) ⊎ FirstFault bytes f.code f.slot → RefusesBytes bytes (bytes_refusal f.code f.slot)
+bytes_refused bytes f (inl e) = rw e no_program_memory
+bytes_refused bytes f (inr h) = with_bytes_fault f.code f.slot h
+
+pub text_refused : (text now : List ℕ) (f : AsmFault) → now ≡ text → IsUtf8 text → (f ≡ asm.memory_fault) ⊎ asm.SaysNone now → RefusesText text (text_refusal f.code f.line)
+text_refused text now f same characters (inl e) = rw e no_text_memory
+text_refused text now f same characters (inr h) = says_none f.code f.line characters (rw (← same) h)
+
+pub bytes_unverified : (bytes : List ℕ) (sectors : ℕ) (f : CodeFault) → (f ≡ code.memory_fault) ⊎ FirstFault bytes f.code f.slot
+    → verifying.RefusesVerified bytes sectors (bytes_refusal f.code f.slot)
+bytes_unverified bytes sectors f (inl e) = rw e verifying.no_code_memory
+bytes_unverified bytes sectors f (inr h) = verifying.with_code_fault f.code f.slot h
+
+pub unverified : (bytes : List ℕ) (sectors found : ℕ) (slots : List (Option Instr)) (f : Fault) → found ≡ sectors → IsSpelledBy bytes slots
+    → (f ≡ shape.memory_fault) ⊎ Refused slots found f.code f.slot → verifying.RefusesVerified bytes sectors (verifying.unaccepted_refusal f.code f.slot)
+unverified bytes sectors found slots f same spelled (inl e) = rw e verifying.no_verifier_memory
+unverified bytes sectors found slots f same spelled (inr h) =
+    verifying.with_verifier_fault slots f.code f.slot spelled (subst (λ n. Refused slots n f.code f.slot) same h)

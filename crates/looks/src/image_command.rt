@@ -1,0 +1,75 @@
+//! One crash image as bytes.
+
+ghost use Rattle.std.specs.Prelude.{◌≡◌, ◌<◌, ◌++◌, length, map, IfOk, IfErr, OnOk, Some, slice_get, slice_index_or, []};
+ghost use Rattle.choices.specs.Choices.{ranked};
+ghost use Rattle.images.specs.Views.{view_of, sectors_of, IsMember};
+ghost use Rattle.request.specs.Source.{plan_of, images_of};
+ghost use Rattle.looks.specs.Image.{joined, IsImage, RefusesImage};
+
+use crate::which::choice_meant;
+use base::refusal::Refusal;
+use choices::Choice;
+use epochs::Plan;
+use helpers::Device;
+use images::History;
+use logfmt::Log;
+use request::{Options, Which, planned, read_log};
+use std::alloc::{AllocError, Global};
+
+/// Appends a sector of a device.
+fn put_sector<D: Device>(bytes: &mut Vec<u8>, device: &D, number: u32) -> Result<(), AllocError>
+    requires { number < length (D.content device.now) }
+    ensures { OnOk result (bytes.new.items ≡ bytes.old.items ++ slice_index_or (D.content device.now) number []) }
+{
+    match device.sector(number) {
+        Some(sector) => bytes.extend_from_slice(sector.as_slice()),
+        None => Ok(()),
+    }
+}
+
+/// The sectors of a device one after the other.
+fn bytes_of<D: Device>(alloc: Global, device: &D) -> Result<Vec<u8>, AllocError>
+    ensures { IfOk result (λ bytes. bytes.items ≡ joined (D.content device.now)) }
+{
+    let mut bytes = Vec::new(alloc);
+    for number in 0..device.sectors() {
+        put_sector(&mut bytes, device, number)?;
+    }
+    Ok(bytes)
+}
+
+/// The bytes of the crash image of a choice of a plan.
+fn shown<'x>(
+    alloc: Global,
+    log: &'x Log,
+    plan: &'x Plan<'x>,
+    choice: &Choice,
+) -> Result<Vec<u8>, AllocError>
+    requires plan { plan.now.log ≡ log.now }
+    requires member { IsMember plan.now choice.now }
+    ensures { IfOk result (λ bytes. bytes.items ≡ joined (sectors_of (view_of plan.now choice.now))) }
+{
+    let history = History::new(alloc, plan, log)?;
+    let view = history.view(alloc, choice)?;
+    bytes_of(alloc, &view)
+}
+
+/// The bytes of the crash image that is meant: its sectors one after the other (docs/REPORT.md, Commands). The
+/// programs' options are not asked for.
+///
+/// # Errors
+///
+/// The first refusal in the order of docs/REPORT.md: the log, the number of its images, then a number that no
+/// image has, 13 at 9, or a cut and a choice that none has, 13 at 11; or want of memory.
+pub fn image(alloc: Global, log: &[u8], which: Which, options: &Options) -> Result<Vec<u8>, Refusal>
+    ensures shown { IfOk result (λ bytes. IsImage log.now options.now which bytes.items) }
+    ensures refused { IfErr result (RefusesImage log.now options.now which) }
+{
+    let log = read_log(alloc, log, options.sectors())?;
+    let (plan, images) = planned(alloc, &log, options)?;
+    let choice = choice_meant(alloc, &plan, images, options, which)?;
+    match shown(alloc, &log, &plan, &choice) {
+        Ok(bytes) => Ok(bytes),
+        Err(_error) => Err(Refusal::of_memory()),
+    }
+}

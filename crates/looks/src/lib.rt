@@ -1,0 +1,65 @@
+//! Looks at logs, images and programs by themselves: the answers of the commands that run no program, each from bytes to bytes.
+//!
+//! # Place
+//!
+//! Below `commands`, which performs these commands. `request` reads the log and counts its images, `choices` and `images` find
+//! and form an image, `choice_text` reads a choice, `crash_text` puts an image into words, `notes` has tables and listings,
+//! `bpf_isa`, `bpf_asm` and `verifier` decode, assemble, list and verify a program.
+//!
+//! | Call | Command | Answers |
+//! |---|---|---|
+//! | `survey(alloc, log, options)` | `images` | the number of crash images, cut by cut |
+//! | `image(alloc, log, which, options)` | `image` | the bytes of one crash image |
+//! | `show(alloc, log, which, options)` | `show` | one crash image in words |
+//! | `shown_log(alloc, log, options)` | `log` | the log as a table |
+//! | `verified(alloc, code, options)` | `verify` | the budget with which a program is accepted |
+//! | `assembled(alloc, source)` | `asm` | the program of a source text, as bytes |
+//! | `listed(alloc, code, numbered)` | `list` | the listing of a program, with its slots or without |
+//!
+//! `which.rt` finds the choice of the image that is meant, by its number, or by its cut and its choice as the report prints it;
+//! `laws.rt` has what holds of the texts of choices.
+//!
+//! # What is proved
+//!
+//! `image` answers the bytes of the image that is meant, of which there is one (`specs/Which.antt`), and `show` its text, beside
+//! the image of the same cut where nothing departs (`specs/Show.antt`). What the report prints of a choice, by which an image
+//! may be named, is what `show` prints of it, and no choice's text has more than 96 bytes (`report_prints_choices`,
+//! `choices_are_short`). `survey` answers the text of `specs/Survey.antt`, and `shown_log` the table of the log
+//! (`specs/Table.antt`).
+//!
+//! What `verified` answers is the budget of an accepted program (`specs/Verifying.antt`). What `assembled` answers spells the
+//! program that the source text says, and what `listed` answers is the listing of the program that the bytes spell
+//! (`specs/Assembly.antt`).
+//!
+//! Where one of them answers `Err`, the refusal is the first in the order of docs/REPORT.md, as these files say it, or memory
+//! ran out; of a source text only that it says no program.
+//!
+//! # Example
+//!
+//! ```text
+//! survey(alloc, log, &options)?
+//! // cut 0 epoch 0 marks 0 volatile 0 images 1
+//! // total 1
+//! image(alloc, log, Which::Number(0), &options)?
+//! // the sectors of that image, one after the other
+//! ```
+#![tactic(auto)]
+
+mod asm_command;
+mod image_command;
+mod images_command;
+mod laws;
+mod list_command;
+mod log_command;
+mod show_command;
+mod verify_command;
+mod which;
+
+pub use asm_command::assembled;
+pub use image_command::image;
+pub use images_command::survey;
+pub use laws::{choices_are_short, report_prints_choices};
+pub use list_command::listed;
+pub use log_command::shown_log;
+pub use show_command::show;
+pub use verify_command::verified;

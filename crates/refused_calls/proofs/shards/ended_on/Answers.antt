@@ -1,5 +1,0 @@
-use Rattle.interp.proofs.Suiting.{suits_all}
-use Rattle.refused_calls.proofs.shards.ended_on.Goals as goal
-
-pub judge-requires : goal.judge-requires
-judge-requires c = record { image = suits_all c.args.checker.now.verified _ _ c.requires.limited }

@@ -1,0 +1,4 @@
+-- Lemmas of the crate.
+pub mod Logs
+pub mod Plans
+pub mod Results

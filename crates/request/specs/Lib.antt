@@ -1,0 +1,7 @@
+-- What is asked of a run or of a log, and what is read of it.
+pub mod Places
+pub mod Settings
+pub mod OptionWords
+pub mod Source
+pub mod Refusals
+pub mod FaultLine

@@ -1,0 +1,41 @@
+-- The options that words ask for, and when the words are refused (docs/REPORT.md, Options).
+use Rattle.std.specs.Prelude.{◌≡◌, Option, None, Some, option_map}
+use Rattle.std.specs.Option.{option_map_or, option_and_then}
+use Rattle.epochs.specs.declared.cuts.Cuts.{Cuts}
+use Rattle.epochs.specs.declared.part.By.{By}
+use Rattle.base.specs.declared.refusal.Refusal.{Refusal}
+use Rattle.request.specs.declared.command.OptionWords.{OptionWords}
+use Rattle.request.specs.declared.settings.OptionPlace.TheVariants as place
+use Rattle.request.specs.declared.settings.Settings.{Settings}
+use Rattle.request.specs.Settings.{option_refusal, settings_refusal}
+
+-- what the words ask for, with cuts of that kind, and parts of that
+abbrev pub settings_with : OptionWords → Cuts → By → Settings
+settings_with w cuts way = record {
+  sectors = w.sectors;
+  cuts = cuts;
+  bound = w.bound;
+  tears = w.tears;
+  by = way;
+  workers = w.workers;
+  cache = w.cache;
+  checked = w.checked;
+  first = w.first;
+}
+
+-- what the words ask for, none where the word for the cuts names no kind of cut, or that behind --by no kind of part
+abbrev pub settings_of : OptionWords → Option Settings
+settings_of w = option_and_then (λ cuts. option_map (settings_with w cuts) w.by) w.cuts
+
+-- the refusal of the words, of which that for the cuts names a kind of cut: the kind of the parts is tested first
+abbrev pub parts_refusal : OptionWords → Cuts → Option Refusal
+parts_refusal w cuts = option_map_or (λ way. settings_refusal (settings_with w cuts way)) w.by (Some (option_refusal place.By))
+
+-- the refusal of the words of a command line: the kind of the cuts is tested first
+abbrev pub words_refusal : OptionWords → Option Refusal
+words_refusal w = option_map_or (parts_refusal w) w.cuts (Some (option_refusal place.Cuts))
+
+-- the words ask for this, and no check of the options refuses it
+pub record AskFor (w : OptionWords) (s : Settings) : Type 0 where
+  pub asked : settings_of w ≡ Some s
+  pub good : settings_refusal s ≡ None

@@ -1,0 +1,16 @@
+-- The place of each option, as a refusal prints it (docs/REPORT.md, Options).
+use Rattle.std.specs.Prelude.{ℕ}
+use Rattle.request.specs.declared.settings.OptionPlace.{OptionPlace}
+use Rattle.request.specs.declared.settings.OptionPlace.TheVariants as place
+
+abbrev pub place_number : OptionPlace → ℕ
+place_number place.Sectors = 1
+place_number place.Bound = 2
+place_number place.Workers = 3
+place_number place.Cache = 4
+place_number place.Checked = 5
+place_number place.Programs = 6
+place_number place.Cuts = 7
+place_number place.Image = 9
+place_number place.By = 10
+place_number place.Choice = 11

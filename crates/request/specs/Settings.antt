@@ -1,0 +1,39 @@
+-- The options of a run, and which are refused (docs/REPORT.md, Options).
+use Rattle.std.specs.Prelude.{ℕ, ◌≡◌, ◌≤◌, true, ◌&&◌, nat_le, List, [], ◌∷◌, Option, None}
+use Rattle.std.specs.Option.{option_map, option_map_or}
+use Rattle.base.specs.Check.{Check, check, first_failing}
+use Rattle.base.specs.declared.causes.RequestCause.TheVariants as request
+use Rattle.base.specs.declared.refusal.Refusal.{Refusal}
+use Rattle.base.specs.declared.refusal.Cause.TheVariants.{Request}
+use Rattle.request.specs.declared.settings.Settings.{Settings}
+use Rattle.request.specs.declared.settings.OptionPlace.{OptionPlace}
+use Rattle.request.specs.declared.settings.OptionPlace.TheVariants as place
+use Rattle.request.specs.Places.{place_number}
+
+-- the refusal of the option at that place
+abbrev pub option_refusal : OptionPlace → Refusal
+option_refusal at = record { code = Request request.Option; at = place_number at; program = None }
+
+-- the checks of the options, each with its place
+unfoldable pub option_checks : Settings → List (Check OptionPlace)
+option_checks s =
+    check place.Sectors (nat_le 1 s.sectors && nat_le s.sectors 16384)
+    ∷ check place.Bound (nat_le s.bound 3)
+    ∷ check place.Workers (nat_le 1 s.workers && nat_le s.workers 64)
+    ∷ check place.Cache (nat_le s.cache 65536)
+    ∷ check place.Checked (option_map_or (λ limit. nat_le limit 1000000000) s.checked true)
+    ∷ []
+
+-- the refusal of the first option that a check refuses, if one does
+abbrev pub settings_refusal : Settings → Option Refusal
+settings_refusal s = option_map option_refusal (first_failing (option_checks s))
+
+-- options that no check refuses
+pub record IsAsked (s : Settings) : Type 0 where
+  pub some : 1 ≤ s.sectors
+  pub device : s.sectors ≤ 16384
+  pub bound : s.bound ≤ 3
+  pub some_worker : 1 ≤ s.workers
+  pub few_workers : s.workers ≤ 64
+  pub cache : s.cache ≤ 65536
+  pub passed : first_failing (option_checks s) ≡ None

@@ -1,0 +1,102 @@
+//! What a command line asks for, and the options that its words stand for.
+
+ghost use Rattle.std.specs.Prelude.{◌≡◌, Some, MatchResult};
+ghost use Rattle.request.specs.OptionWords.{AskFor, words_refusal};
+
+use crate::options::Options;
+use crate::refusals::option_refusal_of;
+use crate::settings::{OptionPlace, Settings};
+use arrayvec::ArrayString;
+use base::refusal::Refusal;
+use epochs::{By, Cuts};
+
+/// The options as they were written; no check was made of them (docs/REPORT.md, Options).
+#[derive(Clone, Copy)]
+pub struct OptionWords {
+    /// The number behind `--sectors`.
+    pub sectors: u64,
+    /// The kind of cut behind `--cuts`; none where the word is no kind of cut.
+    pub cuts: Option<Cuts>,
+    /// The number behind `--bound`.
+    pub bound: u64,
+    /// Whether `--tears` stands there.
+    pub tears: bool,
+    /// The kind of part behind `--by`; none where the word is no kind of part.
+    pub by: Option<By>,
+    /// The number behind `--workers`.
+    pub workers: u64,
+    /// The number behind `--cache`.
+    pub cache: u64,
+    /// The number behind `--checked`, where that stands there.
+    pub checked: Option<u64>,
+    /// Whether `--first` stands there.
+    pub first: bool,
+}
+
+/// Which image is meant.
+#[derive(Clone, Copy)]
+pub enum Which {
+    /// The image of that number.
+    Number(u64),
+    /// The image of that cut and of the choice that the report prints so; none where the text has more than 96 bytes, as
+    /// no choice's has.
+    Printed {
+        cut: u64,
+        choice: Option<ArrayString<96>>,
+    },
+}
+
+/// What the command line asks for.
+#[derive(Clone, Copy)]
+pub enum Request {
+    /// No word: the run that the program holds itself.
+    StoredRun,
+    /// `explore LOG PROGRAM..`
+    Explore(OptionWords),
+    /// `why LOG PROGRAM..`
+    Why(OptionWords),
+    /// `page LOG PROGRAM..`
+    Page(OptionWords),
+    /// `images LOG`
+    Images(OptionWords),
+    /// `log LOG`, of which the number of sectors counts.
+    Log(OptionWords),
+    /// `image LOG N`, or with `--cut` and `--choice` in place of the number.
+    Image(OptionWords, Which),
+    /// `show LOG N`, or the same.
+    Show(OptionWords, Which),
+    /// `verify PROGRAM`, of which the number of sectors counts.
+    Verify(OptionWords),
+    /// `asm SOURCE`
+    Asm,
+    /// `list PROGRAM`, with the slots or without.
+    List { numbered: bool },
+}
+
+/// The options that these words ask for.
+///
+/// # Errors
+///
+/// 13 at 7 where the word behind `--cuts` is no kind of cut, 13 at 10 where that behind `--by` is no kind of part, then those
+/// of `Options::new`.
+pub fn options_of(words: OptionWords) -> Result<Options, Refusal>
+    ensures { MatchResult result (λ o. AskFor words o) (λ r. words_refusal words ≡ Some r) }
+{
+    match words.cuts {
+        Some(cuts) => match words.by {
+            Some(by) => Options::new(&Settings {
+                sectors: words.sectors,
+                cuts,
+                bound: words.bound,
+                tears: words.tears,
+                by,
+                workers: words.workers,
+                cache: words.cache,
+                checked: words.checked,
+                first: words.first,
+            }),
+            None => Err(option_refusal_of(OptionPlace::By)),
+        },
+        None => Err(option_refusal_of(OptionPlace::Cuts)),
+    }
+}

@@ -1,0 +1,57 @@
+//! What is asked: the options of a run, what a command line asks for, and what every command reads of its log.
+//!
+//! # Place
+//!
+//! Above `logfmt`, `epochs` and `choices`, by which a log is read, its cuts are found and its crash images counted. Below the
+//! crates that answer: `runs` and `looks` take `Options`, `command_line` makes a `Request`, `command_notes` asks again for
+//! what a note needs, and `commands` puts all of them together. No program is decoded or judged here.
+//!
+//! | Call | Does |
+//! |---|---|
+//! | `Options::new(settings)` | tests what a run is asked, option by option, and keeps it |
+//! | `options_of(words)` | the same, of options as the words of a command line have them |
+//! | `read_log(alloc, bytes, sectors)` | the log that bytes are, for a device of that size |
+//! | `planned(alloc, log, options)` | the plan of a log by the options, with how many crash images it has |
+//! | `option_refusal_of(place)`, `unreadable(place)`, `bytes_refusal_of(fault)` | the refusal of an option, of a file, and of a program's bytes |
+//! | `fault_line(alloc, refusal)` | the line that a refusal prints |
+//!
+//! `Request` has a variant for each command, with the options that the command takes, and `Which` says which crash image is
+//! meant. `MOST_SECTORS` and `MOST_PROGRAMS` are the limits that more crates than this one need.
+//!
+//! # What is proved
+//!
+//! `Options::new` answers what it was asked, and refuses exactly the first option that is out of its range, by its place
+//! (`specs/Settings.antt`, docs/REPORT.md, Options). So whoever has `Options` has numbers in their ranges: 1 to 16,384 sectors,
+//! at most 3 parts that depart, 1 to 64 workers, a cache of at most 65,536 outcomes, a limit of at most 10^9 steps.
+//! `options_of` refuses first a word that names no kind of cut, then one that names no kind of part
+//! (`specs/OptionWords.antt`).
+//!
+//! Where `read_log` answers a log, the bytes are a text of that log for that device, and where it refuses them, it names their
+//! first fault. `planned` answers the plan of the log with the kinds of cuts and parts that are asked for, and the number of
+//! its crash images, at most 16,777,216; it refuses a log that has more, by the first cut with which there are more
+//! (`specs/Source.antt`). Memory may run out in both. `fault_line` is `refused`, the number of the cause, its place and, if one
+//! is at fault, the program (`specs/FaultLine.antt`).
+//!
+//! # Example
+//!
+//! ```text
+//! let options = Options::new(&Settings { sectors: 1, cuts: Cuts::All, bound: 0, .. })?;
+//! let log = read_log(alloc, bytes, options.sectors())?;
+//! let (plan, images) = planned(alloc, &log, &options)?;
+//! // a log without entries has one cut, and of it one image
+//! let refusal = Options::new(&Settings { sectors: 0, .. });
+//! // Err: fault_line says "refused 13 at 1"
+//! ```
+#![tactic(auto)]
+
+mod command;
+mod options;
+mod refusals;
+mod settings;
+mod source;
+
+pub use command::{OptionWords, Request, Which, options_of};
+pub use options::{MOST_PROGRAMS, MOST_SECTORS, Options};
+pub use refusals::{bytes_refusal_of, fault_line, option_refusal_of, unreadable};
+pub use settings::{OptionPlace, Settings, Telling};
+pub use source::{planned, read_log};

@@ -1,0 +1,169 @@
+//! The options of a run.
+
+ghost use Rattle.std.specs.Prelude.{◌≡◌, ◌≤◌, MatchResult, IfOk, None, Some, not, nat_le, true};
+ghost use Rattle.std.specs.Option.{option_map_or};
+ghost use Rattle.request.specs.Settings.{settings_refusal, IsAsked};
+
+use crate::refusals::option_refusal_of;
+use crate::settings::{OptionPlace, Settings};
+use base::refusal::Refusal;
+use epochs::{By, Cuts};
+use std::marker::Model;
+
+/// The most sectors of a device.
+pub const MOST_SECTORS: u32 = 16_384;
+
+/// The most programs of a run.
+pub const MOST_PROGRAMS: u8 = 8;
+
+/// The most parts that may depart.
+const MOST_PARTS: u64 = 3;
+
+/// The most workers.
+const MOST_WORKERS: u64 = 64;
+
+/// The most entries of the cache.
+const MOST_KEPT: u64 = 65_536;
+
+/// The greatest limit of steps.
+const MOST_CHECKED_STEPS: u64 = 1_000_000_000;
+
+/// The options of a run that were found good (docs/REPORT.md, Options).
+#[derive(Drop)]
+pub struct Options {
+    sectors: u32,
+    cuts: Cuts,
+    bound: u8,
+    tears: bool,
+    by: By,
+    workers: u8,
+    cache: u32,
+    checked: Option<u64>,
+    first: bool,
+}
+
+impl Model for Options {
+    ghost use Rattle.request.specs.declared.settings.Settings.{Settings};
+    ghost use Rattle.request.specs.Settings.{IsAsked};
+
+    ghost Value = { Settings };
+
+    ghost view = { λ o. record { sectors = o.sectors; cuts = o.cuts; bound = o.bound; tears = o.tears; by = o.by; workers = o.workers; cache = o.cache; checked = o.checked; first = o.first } };
+
+    ghost invariant = { λ o. IsAsked (record { sectors = o.sectors; cuts = o.cuts; bound = o.bound; tears = o.tears; by = o.by; workers = o.workers; cache = o.cache; checked = o.checked; first = o.first }) };
+}
+
+/// Whether there is a limit of steps that is too great.
+fn is_too_long(checked: Option<u64>) -> bool
+    ensures { result ≡ not (option_map_or (λ limit. nat_le limit 1000000000) checked true) }
+{
+    match checked {
+        Some(limit) => limit > MOST_CHECKED_STEPS,
+        None => false,
+    }
+}
+
+impl Options {
+    /// The options of a run that is asked this.
+    ///
+    /// # Errors
+    ///
+    /// The first option that is out of its range, by its place.
+    #[tactic(auto, unfolding(crate::specs::Settings::option_checks))]
+    pub fn new(settings: &Settings) -> Result<Options, Refusal>
+        ensures made { IfOk result (λ o. o ≡ settings.now) }
+        ensures refused { MatchResult result (λ o. settings_refusal settings.now ≡ None) (λ r. settings_refusal settings.now ≡ Some r) }
+    {
+        if settings.sectors < 1 || settings.sectors > u64::from(MOST_SECTORS) {
+            return Err(option_refusal_of(OptionPlace::Sectors));
+        }
+        if settings.bound > MOST_PARTS {
+            return Err(option_refusal_of(OptionPlace::Bound));
+        }
+        if settings.workers < 1 || settings.workers > MOST_WORKERS {
+            return Err(option_refusal_of(OptionPlace::Workers));
+        }
+        if settings.cache > MOST_KEPT {
+            return Err(option_refusal_of(OptionPlace::Cache));
+        }
+        if is_too_long(settings.checked) {
+            return Err(option_refusal_of(OptionPlace::Checked));
+        }
+        Ok(Options {
+            sectors: settings.sectors as u32,
+            cuts: settings.cuts,
+            bound: settings.bound as u8,
+            tears: settings.tears,
+            by: settings.by,
+            workers: settings.workers as u8,
+            cache: settings.cache as u32,
+            checked: settings.checked,
+            first: settings.first,
+        })
+    }
+
+    /// The number of sectors of the device, 1 to 16,384.
+    pub fn sectors(&self) -> u32
+        ensures value { result ≡ self.now.sectors }
+        ensures asked { IsAsked self.now }
+    {
+        self.sectors
+    }
+
+    /// The kind of the cuts.
+    pub fn cuts(&self) -> Cuts
+        ensures { result ≡ self.now.cuts }
+    {
+        self.cuts
+    }
+
+    /// How many parts may depart, 0 to 3.
+    pub fn bound(&self) -> u8
+        ensures value { result ≡ self.now.bound }
+        ensures few { result ≤ 3 }
+    {
+        self.bound
+    }
+
+    /// Whether parts may be torn.
+    pub fn tears(&self) -> bool
+        ensures { result ≡ self.now.tears }
+    {
+        self.tears
+    }
+
+    /// What departs as one.
+    pub fn by(&self) -> By
+        ensures { result ≡ self.now.by }
+    {
+        self.by
+    }
+
+    /// How many workers judge, 1 to 64.
+    pub fn workers(&self) -> u8
+        ensures { (1 ≤ result) × (result ≤ 64) }
+    {
+        self.workers
+    }
+
+    /// How many entries the cache has at most, up to 65,536.
+    pub fn cache(&self) -> u32
+        ensures { result ≤ 65536 }
+    {
+        self.cache
+    }
+
+    /// Whether the report is to hold the first failing image alone.
+    pub fn first(&self) -> bool
+        ensures { result ≡ self.now.first }
+    {
+        self.first
+    }
+
+    /// The limit of steps of a program, where there is one.
+    pub fn checked(&self) -> Option<u64>
+        ensures { result ≡ self.now.checked }
+    {
+        self.checked
+    }
+}

@@ -1,0 +1,68 @@
+//! What a run is asked, and the places by which a refusal names it.
+
+ghost use Rattle.std.specs.Prelude.{◌≡◌};
+ghost use Rattle.request.specs.Places.{place_number};
+
+use epochs::{By, Cuts};
+
+/// What a run is asked (docs/REPORT.md, Options).
+#[derive(Clone, Copy)]
+pub struct Settings {
+    /// The number of sectors of the device.
+    pub sectors: u64,
+    /// Which cuts are wanted.
+    pub cuts: Cuts,
+    /// How many parts may depart.
+    pub bound: u64,
+    /// Whether parts may be torn.
+    pub tears: bool,
+    /// What departs as one.
+    pub by: By,
+    /// The number of workers.
+    pub workers: u64,
+    /// How many judgements may be kept.
+    pub cache: u64,
+    /// The limit of steps, for programs that no verifier is asked about.
+    pub checked: Option<u64>,
+    /// Whether the first failing image is all that is asked for.
+    pub first: bool,
+}
+
+/// What a run is to tell of the failing images.
+#[derive(Clone, Copy)]
+pub enum Telling {
+    /// Each of them: the report.
+    Report,
+    /// Why the programs fail on them.
+    Causes,
+    /// Where the programs fail, as a page.
+    Page,
+}
+
+/// What a refusal of the command line names, each by the number of its place (docs/REPORT.md, Options).
+#[derive(Clone, Copy)]
+pub enum OptionPlace {
+    Sectors = 1,
+    Bound = 2,
+    Workers = 3,
+    Cache = 4,
+    Checked = 5,
+    /// The number of programs.
+    Programs = 6,
+    Cuts = 7,
+    /// The number of an image.
+    Image = 9,
+    /// What departs as one.
+    By = 10,
+    /// The cut and the choice of an image.
+    Choice = 11,
+}
+
+impl OptionPlace {
+    /// The place that a refusal prints.
+    pub fn number(self) -> u64
+        ensures { result ≡ place_number self }
+    {
+        self as u64
+    }
+}

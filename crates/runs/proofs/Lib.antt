@@ -1,0 +1,8 @@
+-- Lemmas of the crate.
+pub mod Findings
+pub mod RefusalLemmas
+pub mod Faultless
+pub mod Fitting
+pub mod Runs
+pub mod Explained
+pub mod Pages

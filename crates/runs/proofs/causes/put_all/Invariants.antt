@@ -1,0 +1,6 @@
+use Rattle.std.proofs.Common.{string_bytes}
+use Rattle.runs.specs.Marked.{images_marked, TellsPrograms}
+use Rattle.runs.proofs.causes.put_all.Given as goal
+
+abbrev pub invariant-loop-program : goal.invariant-loop-program
+invariant-loop-program l = TellsPrograms l.starts (images_marked l.marks) l.program (string_bytes l.initial.out) (string_bytes l.out)

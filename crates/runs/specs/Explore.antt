@@ -1,0 +1,106 @@
+-- What a run answers, and when it refuses (docs/REPORT.md).
+use Rattle.std.specs.Prelude.{ℕ, ◌≡◌, ◌≢◌, ◌≤◌, Bool, IsTrue, ◌↔◌, List, [], ◌∷◌, length, map, take, Option, None, Some, is_some, slice_get}
+use Rattle.base.specs.declared.causes.CodeCause.TheVariants as code
+use Rattle.base.specs.declared.causes.VerifierCause.TheVariants as verifier
+use Rattle.base.specs.declared.refusal.Refusal.{Refusal}
+use Rattle.base.specs.Refusals.{memory_refusal}
+use Rattle.logfmt.specs.Bounds.{LogValue}
+use Rattle.bpf_isa.specs.declared.instr.Instr.{Instr}
+use Rattle.bpf_isa.specs.Program as code_fault
+use Rattle.checker.specs.Checker.{CheckerValue}
+use Rattle.report.specs.declared.head.ProgramHead.{ProgramHead}
+use Rattle.report.specs.Report.{HeadValue, report_bytes}
+use Rattle.lines.specs.Line.{FailingLine}
+use Rattle.workers.specs.Failing.{Subject, failing_lines}
+use Rattle.workers.specs.Safe.{IsVerdict, RunsSafely}
+use Rattle.request.specs.declared.settings.OptionPlace.TheVariants as place
+use Rattle.request.specs.declared.settings.Settings.{Settings}
+use Rattle.request.specs.Settings.{option_refusal}
+use Rattle.runs.specs.Programs.{IsRunWithin, code_refusal, IsCodeFault, verifier_refusal, IsVerifierFault}
+use Rattle.request.specs.Source.{plan_of, images_of, HasImages, RefusesSource}
+
+-- a run has one program to eight
+pub record IsProgramCount (n : ℕ) : Type 0 where
+  pub some : 1 ≤ n
+  pub few : n ≤ 8
+
+-- the checker that a run makes of the bytes of a program
+pub record IsCheckerOf (s : Settings) (bytes : List ℕ) (c : CheckerValue) : Type 0 where
+  pub spelled : code_fault.IsSpelledBy bytes c.program
+  pub clean : code_fault.HasNoFault bytes
+  pub within : IsRunWithin s.checked s.sectors c
+
+-- the checkers that a run makes of its files
+abbrev pub AreCheckersOf : Settings → List (List ℕ) → List CheckerValue → Type 0
+AreCheckersOf s [] [] = Unit {0}
+AreCheckersOf s [] (c ∷ checkers) = ⊥
+AreCheckersOf s (bytes ∷ files) [] = ⊥
+AreCheckersOf s (bytes ∷ files) (c ∷ checkers) = IsCheckerOf s bytes c × AreCheckersOf s files checkers
+
+-- what is judged, and what stands at the head of the report
+abbrev pub subject_of : Settings → LogValue → List CheckerValue → Subject
+subject_of s value checkers = record { plan = plan_of s value; checkers = checkers; bound = s.bound; tears = s.tears; first = s.first }
+
+abbrev pub program_head : CheckerValue → ProgramHead
+program_head checker = record { slots = length checker.program; limit = checker.limit; verified = is_some checker.verified }
+
+unfoldable pub head_of : Settings → LogValue → List CheckerValue → HeadValue
+head_of s value checkers = record {
+  sectors = s.sectors;
+  entries = length value.entries;
+  cuts = s.cuts;
+  bound = s.bound;
+  tears = s.tears;
+  by = s.by;
+  first = s.first;
+  programs = map program_head checkers;
+  images = length (images_of s value);
+}
+
+-- the report of a log and of checkers: of all failing lines, or of the first failing image alone
+abbrev pub report_of : Settings → LogValue → List CheckerValue → List ℕ
+report_of s value checkers = report_bytes (head_of s value checkers) (failing_lines (subject_of s value checkers))
+
+-- No program has a fault or spends its limit: on each image each ends in the machine's verdict within the limit
+-- that the report prints, and each line is that of a verdict.
+pub record IsFaultless (subject : Subject) : Type 0 where
+  pub runs : (program : ℕ) (checker : CheckerValue) → slice_get subject.checkers program ≡ Some checker → RunsSafely subject checker
+  pub lines : (i : ℕ) (l : FailingLine) → slice_get (failing_lines subject) i ≡ Some l → IsVerdict l.ending
+
+-- the bytes report every failing image of the log and no other, or the first alone where that is asked for;
+-- where no limit of steps is asked for, nothing has a fault or spends a limit
+pub record IsReport (text : List ℕ) (files : List (List ℕ)) (s : Settings) (bytes : List ℕ) (failing : Bool) : Type 0 where
+  pub count : IsProgramCount (length files)
+  pub value : LogValue
+  pub source : HasImages text s value
+  pub checkers : List CheckerValue
+  pub made : AreCheckersOf s files checkers
+  pub report : bytes ≡ report_of s value checkers
+  pub fails : IsTrue failing ↔ (failing_lines (subject_of s value checkers) ≢ [])
+  pub faultless : s.checked ≡ None → IsFaultless (subject_of s value checkers)
+
+-- the same, whether or not there is a failing image
+abbrev pub HasReport : List ℕ → List (List ℕ) → Settings → List ℕ → Type 0
+HasReport text files s bytes = (failing : Bool) × IsReport text files s bytes failing
+
+-- the refusals of the programs: of the first that can't be decoded or isn't accepted, or for which memory is wanting; or
+-- want of memory for their list
+pub data RefusesProgram (s : Settings) (files : List (List ℕ)) : Refusal → Type 0 where
+  with_code_fault : (r : Refusal) (program : ℕ) (bytes : List ℕ) (before : List CheckerValue)
+      → AreCheckersOf s (take program files) before → slice_get files program ≡ Some bytes → IsCodeFault program bytes r → RefusesProgram s files r
+  with_verifier_fault : (r : Refusal) (program : ℕ) (bytes : List ℕ) (slots : List (Option Instr)) (before : List CheckerValue)
+      → AreCheckersOf s (take program files) before → slice_get files program ≡ Some bytes → code_fault.IsSpelledBy bytes slots
+      → s.checked ≡ None → IsVerifierFault s.sectors program slots r → RefusesProgram s files r
+  no_code_memory : (program : ℕ) (bytes : List ℕ) (before : List CheckerValue)
+      → AreCheckersOf s (take program files) before → slice_get files program ≡ Some bytes → RefusesProgram s files (code_refusal program code.Memory 0)
+  no_verifier_memory : (program : ℕ) (bytes : List ℕ) (slots : List (Option Instr)) (before : List CheckerValue)
+      → AreCheckersOf s (take program files) before → slice_get files program ≡ Some bytes → code_fault.IsSpelledBy bytes slots
+      → s.checked ≡ None → RefusesProgram s files (verifier_refusal program verifier.Memory 0)
+  no_list_memory : RefusesProgram s files memory_refusal
+
+-- the refusals in their order: the number of programs, the log, the number of its images, then each
+-- program. Want of memory may come wherever a list has to grow.
+pub data Refuses (text : List ℕ) (files : List (List ℕ)) (s : Settings) : Refusal → Type 0 where
+  for_count : (IsProgramCount (length files) → ⊥) → Refuses text files s (option_refusal place.Programs)
+  for_source : (r : Refusal) → IsProgramCount (length files) → RefusesSource text s r → Refuses text files s r
+  for_program : (r : Refusal) (value : LogValue) → IsProgramCount (length files) → HasImages text s value → RefusesProgram s files r → Refuses text files s r

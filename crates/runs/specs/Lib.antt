@@ -1,0 +1,7 @@
+-- What a run explores, what it finds, and how it is told.
+pub mod Programs
+pub mod Explore
+pub mod Paged
+pub mod Why
+pub mod Marked
+pub mod Found

@@ -1,0 +1,528 @@
+//! From the bytes of a log and of programs to the bytes of the report, or to why the programs fail.
+
+ghost use Rattle.std.specs.Prelude.{◌≡◌, ◌≢◌, ◌≤◌, ◌<◌, ◌+◌, ◌⊎◌, ◌↔◌, IsTrue, ◌++◌, ◌∷◌, [], length, map, false, IfOk, IfErr, OnOk, Some};
+ghost use Rattle.base.specs.declared.causes.CodeCause.TheVariants as code;
+ghost use Rattle.bpf_isa.specs.Program.{IsSpelledBy, HasNoFault};
+ghost use Rattle.std.specs.List.Sorted.{IsNonDecreasing};
+ghost use Rattle.choices.specs.Choices.{limit};
+ghost use Rattle.checker.specs.Checker.{AreFor};
+ghost use Rattle.workers.specs.Failing.{failing_lines};
+ghost use Rattle.base.specs.Refusals.{memory_refusal};
+ghost use Rattle.request.specs.Source.{plan_of, images_of, RefusesPlan};
+ghost use Rattle.runs.specs.Explore.{HasReport, IsReport, IsProgramCount, Refuses, program_head, subject_of, head_of, report_of};
+ghost use Rattle.request.specs.declared.settings.Telling.TheVariants as tells;
+ghost use Rattle.runs.specs.Why.{starts_of, with_first, first_asked, Tells, IsExplained, IsPaged, IsTold};
+ghost use Rattle.runs.specs.Found.{AreFound};
+ghost use Rattle.runs.specs.Programs.{IsRunWithin, IsCodeFault, IsUnaccepted, code_refusal, verifier_refusal, AreDecoded, AreFirstMade, RefusesOneOf};
+
+use crate::causes::causes_text;
+use crate::paging::page_bytes;
+use base::refusal::{Cause, Refusal};
+use bpf_isa::codec::decode;
+use bpf_isa::program::{CodeFault, Program};
+use bpf_shape::Fault;
+use checker::Checker;
+use choices::Starts;
+use epochs::Plan;
+use images::History;
+use logfmt::Log;
+use report::{Head, ProgramHead, write_report};
+use request::{MOST_PROGRAMS, OptionPlace, Options, Telling, option_refusal_of, planned, read_log};
+use std::alloc::{AllocError, Global};
+use std::sync::Wait;
+use std::thread::Threads;
+use verifier::verify;
+use workers::{
+    Gate, Input, OpenGate, Work, accepted_checkers_run_safely, explore_all, lines_are_set,
+};
+
+/// What a run answers.
+#[derive(Drop)]
+pub struct Explored {
+    /// The report, of the first failing image alone where that was asked for; or why programs fail.
+    pub bytes: Vec<u8>,
+    /// How many judgements were taken from the cache, at most 2^64 - 1.
+    pub hits: u64,
+    /// Whether there is a failing image.
+    pub failing: bool,
+}
+
+/// Whether a run may have so many programs.
+fn is_program_count(count: usize) -> bool
+    ensures { IsTrue result ↔ IsProgramCount count }
+{
+    count >= 1 && count <= usize::from(MOST_PROGRAMS)
+}
+
+/// The refusal of a program, at one of its slots.
+fn program_refusal(number: u8, code: Cause, slot: u64) -> Refusal
+    ensures { result ≡ record { code = code; at = slot; program = Some number } }
+{
+    Refusal {
+        code,
+        at: slot,
+        program: Some(number),
+    }
+}
+
+/// The refusal that says a fault of a program's bytes.
+fn code_refusal_of(number: u8, fault: CodeFault) -> Refusal
+    ensures { result ≡ code_refusal number fault.code fault.slot }
+{
+    program_refusal(number, Cause::Code(fault.code), fault.slot)
+}
+
+/// The program that these bytes spell.
+fn decode_one(alloc: Global, number: u8, file: &[u8]) -> Result<Program, Refusal>
+    ensures spelled { IfOk result (IsSpelledBy file.now) }
+    ensures clean { OnOk result (HasNoFault file.now) }
+    ensures refused { IfErr result (λ r. (r ≡ code_refusal number code.Memory 0) ⊎ IsCodeFault number file.now r) }
+{
+    match decode(alloc, file) {
+        Ok(program) => Ok(program),
+        Err(fault) => Err(code_refusal_of(number, fault)),
+    }
+}
+
+/// Appends a program.
+fn push_program(programs: &mut Vec<Program>, program: Program) -> Result<(), Refusal>
+    ensures pushed { OnOk result (programs.new.items ≡ programs.old.items ++ program ∷ []) }
+    ensures refused { IfErr result (λ r. r ≡ memory_refusal) }
+{
+    match programs.push(program) {
+        Ok(()) => Ok(()),
+        Err(_failed) => Err(Refusal::of_memory()),
+    }
+}
+
+/// The programs that were decoded, up to the first that can't be, and its refusal.
+#[derive(Drop)]
+struct Decoded {
+    programs: Vec<Program>,
+    refusal: Option<Refusal>,
+}
+
+/// Decodes the programs in their order, up to the first that can't be decoded.
+fn decode_all(alloc: Global, files: &[Vec<u8>]) -> Result<Decoded, Refusal>
+    requires { length files.now ≤ 8 }
+    ensures decoded { IfOk result (λ d. AreDecoded (map (λ f. f.items) files.now) d.programs.items d.refusal) }
+    ensures refused { IfErr result (λ r. r ≡ memory_refusal) }
+{
+    let mut programs = Vec::new(alloc);
+    for (number, file) in files.iter().enumerate() {
+        match decode_one(alloc, number as u8, file.as_slice()) {
+            Ok(program) => push_program(&mut programs, program)?,
+            Err(refusal) => {
+                return Ok(Decoded {
+                    programs,
+                    refusal: Some(refusal),
+                });
+            }
+        }
+    }
+    Ok(Decoded {
+        programs,
+        refusal: None,
+    })
+}
+
+/// The refusal that says why the verifier refuses a program.
+fn verifier_refusal_of(number: u8, fault: Fault) -> Refusal
+    ensures { result ≡ verifier_refusal number fault.code fault.slot }
+{
+    program_refusal(number, Cause::Verifier(fault.code), fault.slot)
+}
+
+/// A program as a checker: with the limit of steps that is asked for, or verified.
+fn checker_of<'p>(
+    alloc: Global,
+    number: u8,
+    program: &'p Program,
+    options: &Options,
+) -> Result<Checker<'p>, Refusal>
+    ensures program { IfOk result (λ c. c.program ≡ program.now) }
+    ensures within { IfOk result (λ c. IsRunWithin options.now.checked options.now.sectors c) }
+    ensures refused { IfErr result (IsUnaccepted options.now number program.now) }
+{
+    match options.checked() {
+        Some(limit) => Ok(Checker::limited(program, limit)),
+        None => match verify(alloc, program, options.sectors()) {
+            Ok(verified) => Ok(Checker::verified(&verified)),
+            Err(fault) => Err(verifier_refusal_of(number, fault)),
+        },
+    }
+}
+
+/// Appends a checker.
+fn push_checker<'p>(checkers: &mut Vec<Checker<'p>>, checker: Checker<'p>) -> Result<(), Refusal>
+    ensures pushed { OnOk result (checkers.new.items ≡ checkers.old.items ++ checker.entry ∷ []) }
+    ensures refused { IfErr result (λ r. r ≡ memory_refusal) }
+{
+    match checkers.push(checker) {
+        Ok(()) => Ok(()),
+        Err(_failed) => Err(Refusal::of_memory()),
+    }
+}
+
+/// The programs as checkers.
+fn checkers_of<'p>(
+    alloc: Global,
+    programs: &'p [Program],
+    options: &Options,
+) -> Result<Vec<Checker<'p>>, Refusal>
+    requires few { length programs.now ≤ 8 }
+    ensures made { IfOk result (λ checkers. AreFirstMade options.now programs.now checkers.items) }
+    ensures all { IfOk result (λ checkers. length checkers.items ≡ length programs.now) }
+    ensures refused { IfErr result (RefusesOneOf options.now programs.now) }
+{
+    let mut checkers = Vec::new(alloc);
+    for (number, program) in programs.iter().enumerate() {
+        let checker = checker_of(alloc, number as u8, program, options)?;
+        push_checker(&mut checkers, checker)?;
+    }
+    Ok(checkers)
+}
+
+/// What the report says of each checker at its head.
+fn program_heads(alloc: Global, checkers: &[Checker<'_>]) -> Result<Vec<ProgramHead>, AllocError>
+    ensures { IfOk result (λ heads. heads.items ≡ map program_head checkers.now) }
+{
+    let mut heads = Vec::new(alloc);
+    for checker in checkers {
+        heads.push(ProgramHead {
+            slots: checker.slots(),
+            limit: checker.limit(),
+            verified: checker.is_verified(),
+        })?;
+    }
+    Ok(heads)
+}
+
+/// What stands at the head of a text, of which it is said whether it is of the first failing image alone.
+#[tactic(auto, unfolding(crate::specs::Explore::head_of))]
+fn head_of_run(
+    alloc: Global,
+    log: &Log,
+    checkers: &[Checker<'_>],
+    options: &Options,
+    images: u64,
+    first: bool,
+) -> Result<Head, AllocError>
+    requires images { images ≡ length (images_of options.now log.now) }
+    requires device { log.now.sectors ≡ options.now.sectors }
+    ensures { IfOk result (λ head. head ≡ head_of (with_first first options.now) log.now checkers.now) }
+{
+    Ok(Head {
+        sectors: options.sectors(),
+        entries: log.entries().len() as u32,
+        cuts: options.cuts(),
+        bound: options.bound(),
+        tears: options.tears(),
+        by: options.by(),
+        first,
+        programs: program_heads(alloc, checkers)?,
+        images,
+    })
+}
+
+/// The report of the work.
+fn reported(
+    alloc: Global,
+    log: &Log,
+    checkers: &[Checker<'_>],
+    options: &Options,
+    images: u64,
+    work: &Work,
+) -> Result<Vec<u8>, AllocError>
+    requires images { images ≡ length (images_of options.now log.now) }
+    requires device { log.now.sectors ≡ options.now.sectors }
+    requires order { IsNonDecreasing (map (λ l. l.image) work.now.lines) }
+    requires lines { AreFound options.now.first (failing_lines (subject_of options.now log.now checkers.now)) work.now.lines }
+    ensures { IfOk result (λ bytes. bytes.items ≡ report_of options.now log.now checkers.now) }
+{
+    let head = head_of_run(alloc, log, checkers, options, images, options.first())?;
+    write_report(alloc, &head, &work.lines)
+}
+
+/// Why the programs fail, by the work, of which the marks are kept.
+fn explained(
+    alloc: Global,
+    log: &Log,
+    checkers: &[Checker<'_>],
+    options: &Options,
+    images: u64,
+    starts: &Starts<'_>,
+    work: &Work,
+) -> Result<Vec<u8>, AllocError>
+    requires images { images ≡ length (images_of options.now log.now) }
+    requires device { log.now.sectors ≡ options.now.sectors }
+    requires order { IsNonDecreasing (map (λ l. l.image) work.now.lines) }
+    requires starts { starts.now ≡ starts_of options.now log.now }
+    requires lines { work.now.lines ≡ failing_lines (subject_of options.now log.now checkers.now) }
+    ensures { IfOk result (λ bytes. Tells tells.Causes options.now log.now checkers.now bytes.items) }
+{
+    let Some(marks) = work.lines.marks() else {
+        return Err(AllocError);
+    };
+    let head = head_of_run(alloc, log, checkers, options, images, false)?;
+    // A law of the failing lines, which does nothing: they are in their order, and so are those of each program.
+    lines_are_set();
+    causes_text(alloc, &head, starts, log, &work.lines, marks)
+}
+
+/// Where the programs fail, as a page, by the work, of which the marks are kept.
+fn paged(
+    alloc: Global,
+    log: &Log,
+    checkers: &[Checker<'_>],
+    options: &Options,
+    images: u64,
+    starts: &Starts<'_>,
+    history: &History<'_>,
+    work: &Work,
+) -> Result<Vec<u8>, AllocError>
+    requires images { images ≡ length (images_of options.now log.now) }
+    requires device { log.now.sectors ≡ options.now.sectors }
+    requires order { IsNonDecreasing (map (λ l. l.image) work.now.lines) }
+    requires starts { starts.now ≡ starts_of options.now log.now }
+    requires history { history.now ≡ plan_of options.now log.now }
+    requires lines { work.now.lines ≡ failing_lines (subject_of options.now log.now checkers.now) }
+    ensures { IfOk result (λ bytes. Tells tells.Page options.now log.now checkers.now bytes.items) }
+{
+    let Some(marks) = work.lines.marks() else {
+        return Err(AllocError);
+    };
+    let head = head_of_run(alloc, log, checkers, options, images, false)?;
+    // A law of the failing lines, which does nothing: they are in their order, and so are those of each program.
+    lines_are_set();
+    page_bytes(alloc, log, &head, starts, history, &work.lines, marks)
+}
+
+/// What is to be told of the work.
+fn told(
+    alloc: Global,
+    telling: Telling,
+    log: &Log,
+    checkers: &[Checker<'_>],
+    options: &Options,
+    images: u64,
+    starts: &Starts<'_>,
+    history: &History<'_>,
+    work: &Work,
+) -> Result<Vec<u8>, AllocError>
+    requires images { images ≡ length (images_of options.now log.now) }
+    requires device { log.now.sectors ≡ options.now.sectors }
+    requires order { IsNonDecreasing (map (λ l. l.image) work.now.lines) }
+    requires starts { starts.now ≡ starts_of options.now log.now }
+    requires history { history.now ≡ plan_of options.now log.now }
+    requires lines { AreFound (first_asked telling options.now.first) (failing_lines (subject_of options.now log.now checkers.now)) work.now.lines }
+    ensures { IfOk result (λ bytes. Tells telling options.now log.now checkers.now bytes.items) }
+{
+    match telling {
+        Telling::Report => reported(alloc, log, checkers, options, images, work),
+        Telling::Causes => explained(alloc, log, checkers, options, images, starts, work),
+        Telling::Page => paged(alloc, log, checkers, options, images, starts, history, work),
+    }
+}
+
+/// Whether blocks behind the first failing image may be passed over.
+fn is_first_asked(telling: Telling, options: &Options) -> bool
+    ensures { result ≡ first_asked telling options.now.first }
+{
+    match telling {
+        Telling::Report => options.first(),
+        Telling::Causes | Telling::Page => false,
+    }
+}
+
+/// The input of a run, which keeps marks of the failing lines where why programs fail is to be told.
+fn marked<'a>(telling: Telling, input: Input<'a>) -> Input<'a>
+    ensures { result ≡ input.entry }
+{
+    match telling {
+        Telling::Report => input,
+        Telling::Causes | Telling::Page => input.with_marks(),
+    }
+}
+
+/// Judges the crash images of a plan by checkers, and tells of those that fail.
+fn judged<'x, G: Gate + Sync, R: Threads + Wait + Sync>(
+    rt: &R,
+    alloc: Global,
+    gate: &G,
+    telling: Telling,
+    log: &'x Log,
+    plan: &'x Plan<'x>,
+    checkers: &'x [Checker<'x>],
+    options: &Options,
+    images: u64,
+) -> Result<Explored, Refusal>
+    requires plan { plan.now ≡ plan_of options.now log.now }
+    requires device { log.now.sectors ≡ options.now.sectors }
+    requires checkers { length checkers.now ≤ 8 }
+    requires verified { AreFor options.now.sectors checkers.now }
+    requires images { images ≡ length (images_of options.now log.now) }
+    requires few { images ≤ limit }
+    ensures bytes { IfOk result (λ e. Tells telling options.now log.now checkers.now e.bytes.items) }
+    ensures failing { IfOk result (λ e. IsTrue e.failing ↔ (failing_lines (subject_of options.now log.now checkers.now) ≢ [])) }
+    ensures refused { IfErr result (RefusesPlan options.now log.now) }
+{
+    let history = match History::new(alloc, &*plan, &*log) {
+        Ok(history) => history,
+        Err(_error) => return Err(Refusal::of_memory()),
+    };
+    let (bound, tears) = (options.bound(), options.tears());
+    let starts = match Starts::new(alloc, &*plan, bound, tears) {
+        Ok(starts) => starts,
+        Err(_error) => return Err(Refusal::of_memory()),
+    };
+    let first = is_first_asked(telling, options);
+    let unmarked = Input::new(
+        &*plan,
+        &starts,
+        &history,
+        &*checkers,
+        options.by(),
+        bound,
+        tears,
+        options.workers(),
+        options.cache(),
+        first,
+        images,
+    );
+    let input = marked(telling, unmarked);
+    let work = explore_all(rt, alloc, gate, &input)?;
+    match told(
+        alloc, telling, log, checkers, options, images, &starts, &history, &work,
+    ) {
+        Ok(bytes) => Ok(Explored {
+            bytes,
+            hits: work.hits,
+            failing: !work.lines.is_empty(),
+        }),
+        Err(_error) => Err(Refusal::of_memory()),
+    }
+}
+
+/// Judges the crash images of a log by one to eight programs, and tells of those that fail what is asked for: what
+/// `explore_with`, `why` or `page` answers.
+///
+/// # Errors
+///
+/// Those of `explore_with`.
+pub fn run_with<G: Gate + Sync, R: Threads + Wait + Sync>(
+    rt: &R,
+    alloc: Global,
+    gate: &G,
+    telling: Telling,
+    log: &[u8],
+    programs: &[Vec<u8>],
+    options: &Options,
+) -> Result<Explored, Refusal>
+    ensures told { IfOk result (λ e. IsTold telling log.now (map (λ f. f.items) programs.now) options.now e.bytes.items e.failing) }
+    ensures refused { IfErr result (Refuses log.now (map (λ f. f.items) programs.now) options.now) }
+{
+    if !is_program_count(programs.len()) {
+        return Err(option_refusal_of(OptionPlace::Programs));
+    }
+    let log = read_log(alloc, log, options.sectors())?;
+    let (plan, images) = planned(alloc, &log, options)?;
+    let decoded = decode_all(alloc, programs)?;
+    let checkers = checkers_of(alloc, decoded.programs.as_slice(), options)?;
+    if let Some(refusal) = decoded.refusal {
+        return Err(refusal);
+    }
+    // A law of the machine, which does nothing: an accepted program meets no fault.
+    accepted_checkers_run_safely();
+    judged(
+        rt,
+        alloc,
+        gate,
+        telling,
+        &log,
+        &plan,
+        checkers.as_slice(),
+        options,
+        images,
+    )
+}
+
+/// Explores the crash images of a log: judges each by the one to eight programs, and reports those that
+/// fail, or the first of them alone (docs/REPORT.md). Without a limit of steps each program has to be
+/// accepted by the verifier. `gate` is told the number of images, then of each block before and after it
+/// is judged. The number of workers and the size of the cache change nothing but `hits`. It waits until
+/// all workers are back.
+///
+/// # Errors
+///
+/// The first refusal in the order of docs/REPORT.md: the number of programs, the log, the number of its
+/// images, then each program; or want of memory.
+pub fn explore_with<G: Gate + Sync, R: Threads + Wait + Sync>(
+    rt: &R,
+    alloc: Global,
+    gate: &G,
+    log: &[u8],
+    programs: &[Vec<u8>],
+    options: &Options,
+) -> Result<Explored, Refusal>
+    ensures report { IfOk result (λ e. IsReport log.now (map (λ f. f.items) programs.now) options.now e.bytes.items e.failing) }
+    ensures refused { IfErr result (Refuses log.now (map (λ f. f.items) programs.now) options.now) }
+{
+    run_with(rt, alloc, gate, Telling::Report, log, programs, options)
+}
+
+/// Says why programs fail on the crash images of a log: of each program how many images of each cut fail, and under which
+/// smallest failing choices they stand (docs/REPORT.md, The text of `why`). It judges each image once, as `explore_with` does,
+/// whether or not the first failing image alone is asked for.
+///
+/// # Errors
+///
+/// Those of `explore_with`.
+pub fn why<G: Gate + Sync, R: Threads + Wait + Sync>(
+    rt: &R,
+    alloc: Global,
+    gate: &G,
+    log: &[u8],
+    programs: &[Vec<u8>],
+    options: &Options,
+) -> Result<Explored, Refusal>
+    ensures explained { IfOk result (λ e. IsExplained log.now (map (λ f. f.items) programs.now) options.now e.bytes.items e.failing) }
+    ensures refused { IfErr result (Refuses log.now (map (λ f. f.items) programs.now) options.now) }
+{
+    run_with(rt, alloc, gate, Telling::Causes, log, programs, options)
+}
+
+/// Shows where programs fail on the crash images of a log, as a page for a browser (docs/REPORT.md, The page of `page`). It
+/// judges each image once, as `explore_with` does, whether or not the first failing image alone is asked for.
+///
+/// # Errors
+///
+/// Those of `explore_with`.
+pub fn page<G: Gate + Sync, R: Threads + Wait + Sync>(
+    rt: &R,
+    alloc: Global,
+    gate: &G,
+    log: &[u8],
+    programs: &[Vec<u8>],
+    options: &Options,
+) -> Result<Explored, Refusal>
+    ensures paged { IfOk result (λ e. IsPaged log.now (map (λ f. f.items) programs.now) options.now e.bytes.items e.failing) }
+    ensures refused { IfErr result (Refuses log.now (map (λ f. f.items) programs.now) options.now) }
+{
+    run_with(rt, alloc, gate, Telling::Page, log, programs, options)
+}
+
+/// The bytes of `explore_with`, with a gate that does nothing.
+pub fn explore<R: Threads + Wait + Sync>(
+    rt: &R,
+    alloc: Global,
+    log: &[u8],
+    programs: &[Vec<u8>],
+    options: &Options,
+) -> Result<Vec<u8>, Refusal>
+    ensures report { IfOk result (λ bytes. HasReport log.now (map (λ f. f.items) programs.now) options.now bytes.items) }
+    ensures refused { IfErr result (Refuses log.now (map (λ f. f.items) programs.now) options.now) }
+{
+    let explored = explore_with(rt, alloc, &OpenGate, log, programs, options)?;
+    Ok(explored.bytes)
+}

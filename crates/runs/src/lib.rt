@@ -1,0 +1,53 @@
+//! The runs of programs on the crash images of a log: from the bytes of a log and of programs to the bytes of the report, of
+//! why programs fail, or of the page that shows where.
+//!
+//! # Place
+//!
+//! Below `commands`, which performs `explore`, `why` and `page` by `run_with`. `request` reads the log and counts its images,
+//! `bpf_isa` decodes the programs, `verifier` accepts them, `workers` judges the images by `checker`, `report` writes the lines
+//! and what stands at the head of each text, `why` tells what fails of a program at each cut, and `crash_page` writes the page.
+//!
+//! | Call | Answers |
+//! |---|---|
+//! | `explore_with(rt, alloc, gate, log, programs, options)` | the report, how often the cache was hit, and whether an image fails; `gate` is told of each block |
+//! | `explore(rt, alloc, log, programs, options)` | the bytes of the report |
+//! | `why(rt, alloc, gate, log, programs, options)` | the same run told by its causes (`causes.rt`) |
+//! | `page(rt, alloc, gate, log, programs, options)` | the same run as a page for a browser (`paging.rt`) |
+//! | `run_with(.., telling, ..)` | one of the three, by what is to be told |
+//!
+//! # What is proved
+//!
+//! Where `explore` answers `Ok`, its bytes are `report_bytes` of the log's failing lines
+//! (`workers/specs/Failing.antt`): of all images and programs whose outcome, by the definition of the
+//! machine on the definition of the image, is not a verdict with answer 0. With the option `first` they
+//! are the report of the first failing image alone. A program runs within the limit
+//! of steps that is asked for, or, without one, within the budget with which the verifier accepts it for
+//! the device; what it doesn't accept is refused (`specs/Programs.antt`). Without a limit that is asked for no
+//! run has a fault or spends its budget, and no line says so (`IsFaultless` in `specs/Explore.antt`), by the
+//! soundness of the verifier.
+//!
+//! `why` answers, of the same failing lines, what fails of each program at each cut (`IsExplained` in `specs/Why.antt`), and
+//! `page` the page of it (`IsPaged`). Where one of them answers `Err`, the refusal is the first in the order of docs/REPORT.md
+//! (`Refuses` in `specs/Explore.antt`): the number of programs, the log, the number of its images, then each program; or memory
+//! ran out.
+//!
+//! A run has one program to eight, one worker to 64, and a cache of up to 65,536 outcomes. The bytes and
+//! the refusals are the same for every number of workers and every size of the cache.
+//!
+//! # Example
+//!
+//! ```text
+//! let options = Options::new(&Settings { sectors: 1, cuts: Cuts::All, bound: 0, .. })?;
+//! let report = explore(rt, alloc, log, programs, &options)?;
+//! // crash report 2
+//! // sectors 1 entries 0 cuts all bound 0 tears no first no
+//! // program 0 slots 2 limit 2
+//! // images 1 failing 0 lines 0
+//! ```
+#![tactic(auto)]
+
+mod causes;
+mod explore_command;
+mod paging;
+
+pub use explore_command::{Explored, explore, explore_with, page, run_with, why};

@@ -1,0 +1,130 @@
+//! Where programs fail, as a page for a browser (docs/REPORT.md, The page of `page`).
+
+ghost use Rattle.std.specs.Prelude.{◌≡◌, ◌++◌, ◌∷◌, [], ℕ, All, map, length, IfOk, OnOk, string_bytes};
+ghost use Rattle.std.specs.List.Sorted.{IsNonDecreasing};
+ghost use Rattle.crash_page.specs.Page.{AreOfRun};
+ghost use Rattle.why.specs.Failures.{AreImages};
+ghost use Rattle.runs.specs.Marked.{images_marked};
+ghost use Rattle.runs.specs.Paged.{IsFailing, AreFailing, IsPageOf, about_run};
+
+use crate::causes::images_of_program;
+use choices::Starts;
+use crash_page::{ProgramFailures, failures_are_of_run, put_page};
+use crash_text::Numbering;
+use images::History;
+use lines::{Lines, Mark};
+use logfmt::Log;
+use report::{Head, put_options, put_totals};
+use std::alloc::{AllocError, Global};
+use why::failures;
+
+/// What fails of the program of that number.
+fn failures_of(
+    alloc: Global,
+    starts: &Starts<'_>,
+    marks: &[Mark],
+    program: usize,
+) -> Result<ProgramFailures, AllocError>
+    requires images { AreImages starts.now (images_marked marks.now program) }
+    ensures { IfOk result (λ f. IsFailing starts.now (images_marked marks.now program) f) }
+{
+    let images = images_of_program(alloc, marks, program)?;
+    let cuts = failures(alloc, starts, images.as_slice())?;
+    Ok(ProgramFailures {
+        failing: images.len(),
+        cuts,
+    })
+}
+
+/// Appends what fails of a program.
+fn push_failures(
+    found: &mut Vec<ProgramFailures>,
+    failures: ProgramFailures,
+) -> Result<(), AllocError>
+    ensures { OnOk result (found.new.items ≡ found.old.items ++ failures ∷ []) }
+{
+    found.push(failures)?;
+    Ok(())
+}
+
+/// What fails of each of so many programs.
+fn all_failures(
+    alloc: Global,
+    starts: &Starts<'_>,
+    marks: &[Mark],
+    programs: usize,
+) -> Result<Vec<ProgramFailures>, AllocError>
+    requires images { (program : ℕ) → AreImages starts.now (images_marked marks.now program) }
+    ensures { IfOk result (λ found. AreFailing starts.now (images_marked marks.now) programs found.items) }
+{
+    let mut found = Vec::new(alloc);
+    for program in 0..programs {
+        let failing = failures_of(alloc, starts, marks, program)?;
+        push_failures(&mut found, failing)?;
+    }
+    Ok(found)
+}
+
+/// The text at the head of a page: the options, the programs and the totals.
+fn about(alloc: Global, head: &Head, lines: &Lines) -> Result<String, AllocError>
+    requires order { IsNonDecreasing (map (λ l. l.image) lines.now) }
+    ensures { IfOk result (λ text. string_bytes text ≡ about_run head.now lines.now) }
+{
+    let mut text = String::new(alloc);
+    put_options(&mut text, head)?;
+    put_totals(&mut text, head.images, lines)?;
+    Ok(text)
+}
+
+/// By what the images of a run are numbered.
+fn numbering(head: &Head) -> Numbering
+    ensures cuts { result.cuts ≡ head.now.cuts }
+    ensures by { result.by ≡ head.now.by }
+    ensures bound { result.bound ≡ head.now.bound }
+    ensures tears { result.tears ≡ head.now.tears }
+{
+    Numbering {
+        cuts: head.cuts,
+        by: head.by,
+        bound: head.bound,
+        tears: head.tears,
+    }
+}
+
+/// The page of a run, by the marks of all failing lines.
+pub(crate) fn page_bytes(
+    alloc: Global,
+    log: &Log,
+    head: &Head,
+    starts: &Starts<'_>,
+    history: &History<'_>,
+    lines: &Lines,
+    marks: &[Mark],
+) -> Result<Vec<u8>, AllocError>
+    requires log { starts.now.plan.log ≡ log.now }
+    requires history { history.now ≡ starts.now.plan }
+    requires cuts { starts.now.plan.kind ≡ head.now.cuts }
+    requires kind { starts.now.plan.by ≡ head.now.by }
+    requires bound { starts.now.bound ≡ head.now.bound }
+    requires tears { starts.now.tears ≡ head.now.tears }
+    requires order { IsNonDecreasing (map (λ l. l.image) lines.now) }
+    requires images { (program : ℕ) → AreImages starts.now (images_marked marks.now program) }
+    ensures { IfOk result (λ bytes. IsPageOf head.now starts.now (images_marked marks.now) lines.now bytes.items) }
+{
+    let text = about(alloc, head, lines)?;
+    let programs = all_failures(alloc, starts, marks, head.programs.len())?;
+    // A law of pages, which does nothing: what fails of the images of a run is what a page takes.
+    failures_are_of_run();
+    let mut page = String::new(alloc);
+    put_page(
+        alloc,
+        &mut page,
+        text.as_str(),
+        log,
+        numbering(head),
+        starts,
+        history,
+        programs.as_slice(),
+    )?;
+    Ok(page.into_bytes())
+}
