@@ -1,6 +1,6 @@
 //! The keys of images. Their bytes and contexts are shown by the program (tests/rows/small_logs.py).
 
-ghost use Rattle.std.specs.Prelude.{◌≡◌, ◌<◌, ◌≤◌, length};
+ghost use Rattle.std.specs.Prelude.{◌≡◌, ◌<◌, ◌≤◌, length, true};
 ghost use Rattle.choices.specs.Choices.{ranked};
 
 use crate::log_text::{FLUSH, FUA, Item, MARK, text_of};
