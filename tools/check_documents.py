@@ -18,6 +18,8 @@ In README.md and docs/PROVED.md, moreover, for what stands in backticks and has 
   word of the crates' sources or definitions, of their file names, or of crates.txt.
 - Names in parentheses behind a name of a function, as in `read` (`found`, `clean`), are clauses of that function.
 
+docs/PROVED.md lists each definition to which those of ROOTS lead by their `use` lines.
+
 Blocks of code, fenced or indented by four spaces, aren't looked at.
 """
 import os
@@ -27,6 +29,8 @@ from pathlib import Path
 
 LIMIT = 160
 NAME = re.compile(r"(--)?[A-Za-z_]\w*((::|\.)[A-Za-z_]\w*)*(\(\))?")
+ROOTS = ("commands", "command_line")
+USE = re.compile(r"(?m)^\s*(?:pub )?use Rattle\.(\w+)\.specs\.(\w+)")
 CLAUSES = re.compile(r"`([\w:]+)` \((`\w+`(?:, `\w+`)*)\)")
 
 
@@ -105,6 +109,16 @@ def unknown_names(top, line, words, clauses):
             yield from (f"{function} has no clause {name}" for name in re.findall(r"\w+", names) if name not in known)
 
 
+def believed(top):
+    """Returns the files of definitions to which those of ROOTS lead by their `use` lines."""
+    found, last = set(), [it for root in ROOTS for it in (top / "crates" / root / "specs").glob("*.antt") if it.stem != "Lib"]
+    while last:
+        found.update(last)
+        named = {top / "crates" / crate / "specs" / f"{module}.antt" for file in last for crate, module in USE.findall(file.read_text())}
+        last = sorted(it for it in named - found if it.exists())
+    return found
+
+
 def findings(top):
     """Returns all findings, each with its file and line."""
     files = list(sources(top))
@@ -121,6 +135,10 @@ def findings(top):
         if path == top / "README.md" and len(lines) > LIMIT:
             yield path, LIMIT + 1, f"{len(lines)} lines, and at most {LIMIT} are allowed"
         yield from ((path, number, "table rows without a head") for number in cut_tables(lines))
+        if path == top / "docs" / "PROVED.md":
+            text = "\n".join(lines)
+            names = sorted(str(it.relative_to(top)) for it in believed(top))
+            yield from ((path, 1, f"{it} isn't listed, and what is promised rests on it") for it in names if f"`{it}`" not in text)
         strict = path in (top / "README.md", top / "docs" / "PROVED.md")
         for number, line in enumerate(lines, 1):
             yield from ((path, number, it) for it in bad_links(path, line))

@@ -1,2 +1,3 @@
 -- What the words of a command line ask for.
+pub mod Parsed
 pub mod Words

@@ -1,8 +1,46 @@
 -- What the words of the command line ask for (docs/REPORT.md, Commands).
-use Rattle.std.specs.Prelude.{ℕ, List}
+use Rattle.std.specs.Prelude.{ℕ, ◌≡◌, ◌⊎◌, Bool, false, List, [], None, Some, option_map}
+use Rattle.clap.specs.Words.{app_of, found_of, subcommand_name_of, subcommand_rows_of, HasMatchesOf}
+use Rattle.clap.specs.Walk.{rows_of}
+use Rattle.clap.specs.declared.builder.command.Command.{Command}
+use Rattle.clap.specs.declared.parser.matches.ArgMatches.{ArgMatches}
 use Rattle.request.specs.declared.command.Request.{Request}
+use Rattle.request.specs.declared.command.Request.TheVariants as asks
+use Rattle.command_line.specs.declared.parsed.Parsed.{Parsed}
+use Rattle.command_line.specs.Parsed.{Asks, command_named, files_named, IsRead}
 
--- the request, and the names of its files in order
+-- the request, the names of its files in order, and whether it is to be said how far an exploration is
 pub record WordsValue : Type 0 where
   pub request : Request
   pub files : List (List ℕ)
+  pub progress : Bool
+
+-- without a command the stored run is asked for
+abbrev pub stored_run : WordsValue
+stored_run = record { request = asks.StoredRun; files = []; progress = false }
+
+-- what was read of the words asks for this
+pub record AreAsked (p : Parsed) (w : WordsValue) : Type 0 where
+  pub request : Asks p (command_named p.command.now) w.request
+  pub files : w.files ≡ files_named p
+  pub progress : w.progress ≡ p.progress
+
+-- what `clap` found behind the name of a command, each word and option under its own name, asks for this
+pub record AreFoundBehind (matches : ArgMatches) (w : WordsValue) : Type 0 where
+  pub behind : ArgMatches
+  pub parsed : Parsed
+  pub command : subcommand_name_of matches ≡ Some parsed.command.now
+  pub rows : option_map (λ row. row.1) (subcommand_rows_of matches) ≡ Some (rows_of (found_of behind))
+  pub read : IsRead (found_of behind) parsed
+  pub asked : AreAsked parsed w
+
+-- what `clap` found asks for this; without a command for the stored run
+abbrev pub AreFound : ArgMatches → WordsValue → Type 0
+AreFound matches w = AreFoundBehind matches w ⊎ ((subcommand_name_of matches ≡ None) × (w ≡ stored_run))
+
+-- `clap` takes the words by some command, and what it found asks for this
+pub record AreTaken (words : List (List ℕ)) (w : WordsValue) : Type 0 where
+  pub command : Command
+  pub matches : ArgMatches
+  pub taken : HasMatchesOf (app_of command) words matches
+  pub found : AreFound matches w

@@ -8,6 +8,7 @@
 //!
 //! | Call | Answers |
 //! |---|---|
+//! | `parsed.request()`, `parsed.files(alloc)` | what a command asks for of which `clap` read this, and the files that it names |
 //! | `Words::of(alloc, words)` | the command line that these words behind the program's name are |
 //! | `words.files()` | the names of its files: the log, source or program, then the programs of a run |
 //! | `words.request()` | what it asks for |
@@ -22,8 +23,11 @@
 //!
 //! # What is proved
 //!
-//! That no word asks for the stored run (`stored` of `Words::of`), and that `files` and `request` answer what `Words` holds
-//! (`specs/Words.antt`). How words are read is `clap`'s: runs of the built program show it.
+//! That no word asks for the stored run (`stored` of `Words::of`). Of any others `clap` finds a command and texts behind its
+//! options; each of these is read under its own name, with its default where it is absent, and what is asked for is what
+//! docs/REPORT.md says of them: the command, its options, the image that is meant, the files, and whether `--progress` stands
+//! there (`asked`; `specs/Parsed.antt`, `specs/Words.antt`). What `clap` takes, and what it finds, is `clap`'s: runs of the
+//! built program show it.
 //!
 //! # Example
 //!
@@ -33,6 +37,8 @@
 //! ```
 #![tactic(auto)]
 
+mod parsed;
 mod words;
 
+pub use parsed::Parsed;
 pub use words::Words;

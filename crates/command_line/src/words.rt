@@ -1,12 +1,11 @@
 //! The words of the command line, and what they ask for.
 
-ghost use Rattle.std.specs.Prelude.{◌≡◌, ◌<◌, [], length, IsOkAnd, MatchOption, map, string_bytes};
-ghost use Rattle.request.specs.declared.command.Request.TheVariants as asks;
+ghost use Rattle.std.specs.Prelude.{◌≡◌, ◌≢◌, [], IfOk, IsOkAnd, map, string_bytes};
+ghost use Rattle.command_line.specs.Words.{stored_run, AreAsked, AreFound, AreTaken};
 
-use arrayvec::ArrayString;
+use crate::parsed::Parsed;
 use clap::{Arg, ArgAction, ArgMatches, Command, Error};
-use epochs::{By, Cuts};
-use request::{OptionWords, Request, Which};
+use request::Request;
 use std::alloc::{AllocError, Global};
 use std::marker::Model;
 
@@ -24,7 +23,7 @@ impl Model for Words {
 
     ghost Value = { WordsValue };
 
-    ghost view = { λ w. record { request = w.request; files = map string_bytes w.files.items } };
+    ghost view = { λ w. record { request = w.request; files = map string_bytes w.files.items; progress = w.progress } };
 }
 
 /// The version of the program, and the kit that it is proved with.
@@ -131,12 +130,11 @@ const AFTER_LIST: &str = "Example: crashbpf list check.bpf
 Exit status: 0, or 2 for a refusal: 20 to 26 at the slot.";
 
 /// An option that takes a number.
-fn number_option<'a>(alloc: Global, name: &'a str, default: &'a str, help: &'a str) -> Arg<'a> {
+fn number_option<'a>(alloc: Global, name: &'a str, help: &'a str) -> Arg<'a> {
     Arg::new(alloc, name)
         .long(name)
         .value_name("N")
         .value_parser(clap::value_parser!(u64))
-        .default_value(default)
         .help(help)
 }
 
@@ -163,22 +161,20 @@ fn log_command<'a>(alloc: Global, name: &'a str) -> Result<Command<'a>, AllocErr
     let cuts = Arg::new(alloc, "cuts")
         .long("cuts")
         .value_name("WHICH")
-        .default_value("all")
-        .help("Cuts: all; flush, before each flush and at the end; mark, behind each mark");
+        .help(
+            "Cuts: all; flush, before each flush and at the end; mark, behind each mark [default: all]",
+        );
     let tears = Arg::new(alloc, "tears")
         .long("tears")
         .action(ArgAction::SetTrue)
         .help("Sectors may also be torn: of the new content only the first or last eighths arrive");
-    let by = Arg::new(alloc, "by")
-        .long("by")
-        .value_name("WHAT")
-        .default_value("sector")
-        .help("What is lost or torn as one: sector; write, all sectors of a write or discard");
+    let by = Arg::new(alloc, "by").long("by").value_name("WHAT").help(
+        "What is lost or torn as one: sector; write, all sectors of a write or discard [default: sector]",
+    );
     let bound = number_option(
         alloc,
         "bound",
-        "1",
-        "How many sectors, or by write how many writes, may be lost or torn, 0 to 3",
+        "How many sectors, or by write how many writes, may be lost or torn, 0 to 3 [default: 1]",
     );
     Command::new(alloc, name)
         .arg(sectors_option(alloc))?
@@ -201,8 +197,8 @@ fn with_run_options<'a>(alloc: Global, command: Command<'a>) -> Result<Command<'
         .action(ArgAction::SetTrue)
         .help("Say on standard error how many images are judged");
     command
-        .arg(number_option(alloc, "workers", "1", "Threads, 1 to 64"))?
-        .arg(number_option(alloc, "cache", "0", "Verdicts to keep, up to 65536"))?
+        .arg(number_option(alloc, "workers", "Threads, 1 to 64 [default: 1]"))?
+        .arg(number_option(alloc, "cache", "Verdicts to keep, up to 65536 [default: 0]"))?
         .arg(checked)?
         .arg(progress)
 }
@@ -301,8 +297,7 @@ fn table_command<'a>(alloc: Global) -> Result<Command<'a>, AllocError> {
     let sectors = number_option(
         alloc,
         "sectors",
-        "16384",
-        "Sectors of the device, 1 to 16384",
+        "Sectors of the device, 1 to 16384 [default: 16384]",
     );
     Command::new(alloc, "log")
         .about("Prints the entries of a log")
@@ -375,163 +370,53 @@ fn commands<'a>(alloc: Global) -> Result<Command<'a>, AllocError> {
         .subcommand(list_command(alloc)?)
 }
 
-/// The kind of cut that a word names.
-fn cuts_of(word: Option<&str>) -> Option<Cuts> {
-    match word {
-        Some("all") => Some(Cuts::All),
-        Some("flush") => Some(Cuts::BeforeFlush),
-        Some("mark") => Some(Cuts::AfterMark),
-        _ => None,
-    }
-}
-
-/// The kind of part that a word names.
-fn by_of(word: Option<&str>) -> Option<By> {
-    match word {
-        Some("sector") => Some(By::Sector),
-        Some("write") => Some(By::Write),
-        _ => None,
-    }
-}
-
-/// The options of `verify` and `log`: the number of sectors, and what stands for the others.
-fn device_words(matches: &ArgMatches<'_>) -> OptionWords {
-    OptionWords {
-        sectors: matches.get_one::<u64>("sectors").unwrap_or(0),
-        cuts: Some(Cuts::All),
-        bound: 1,
-        tears: false,
-        by: Some(By::Sector),
-        workers: 1,
-        cache: 0,
-        checked: None,
-        first: false,
-    }
-}
-
-/// The options of a command on a log.
-fn log_words(matches: &ArgMatches<'_>) -> OptionWords {
-    OptionWords {
-        cuts: cuts_of(matches.get_str("cuts")),
-        bound: matches.get_one::<u64>("bound").unwrap_or(1),
-        tears: matches.get_flag("tears"),
-        by: by_of(matches.get_str("by")),
-        ..device_words(matches)
-    }
-}
-
-/// The options of a run.
-fn run_words(matches: &ArgMatches<'_>) -> OptionWords {
-    OptionWords {
-        workers: matches.get_one::<u64>("workers").unwrap_or(1),
-        cache: matches.get_one::<u64>("cache").unwrap_or(0),
-        checked: matches.get_one::<u64>("checked"),
-        ..log_words(matches)
-    }
-}
-
-/// The options of `explore`.
-fn explore_words(matches: &ArgMatches<'_>) -> OptionWords {
-    OptionWords {
-        first: matches.get_flag("first"),
-        ..run_words(matches)
-    }
-}
-
-/// The text of a choice, if it isn't longer than any choice's.
-fn choice_word(word: &str) -> Option<ArrayString<96>>
-    ensures { MatchOption result (96 < length word.now) (λ text. text.bytes ≡ word.now) }
-{
-    match ArrayString::from(word) {
-        Ok(choice) => Some(choice),
-        Err(_error) => None,
-    }
-}
-
-/// Which image is meant.
-fn which_of(matches: &ArgMatches<'_>) -> Which {
-    match matches.get_one::<u64>("cut") {
-        Some(cut) => Which::Printed {
-            cut,
-            choice: choice_word(matches.get_str("choice").unwrap_or("")),
-        },
-        None => Which::Number(matches.get_one::<u64>("number").unwrap_or(0)),
-    }
-}
-
-/// What a command with that name asks for.
-fn request_of(name: &str, matches: &ArgMatches<'_>) -> Request {
-    match name {
-        "why" => Request::Why(run_words(matches)),
-        "page" => Request::Page(run_words(matches)),
-        "images" => Request::Images(log_words(matches)),
-        "image" => Request::Image(log_words(matches), which_of(matches)),
-        "show" => Request::Show(log_words(matches), which_of(matches)),
-        "log" => Request::Log(device_words(matches)),
-        "verify" => Request::Verify(device_words(matches)),
-        "asm" => Request::Asm,
-        "list" => Request::List {
-            numbered: matches.get_flag("slots"),
-        },
-        _ => Request::Explore(explore_words(matches)),
-    }
-}
-
-/// Whether a command runs programs on the images of a log.
-fn is_run(name: &str) -> bool {
-    name == "explore" || name == "why" || name == "page"
-}
-
-/// The files that a command names: its log, source or program, then the programs of a run.
-fn file_words(
-    alloc: Global,
-    name: &str,
-    matches: &ArgMatches<'_>,
-) -> Result<Vec<String>, AllocError> {
-    let mut files = Vec::new(alloc);
-    if let Some(first) = matches.get_str("file") {
-        files.push(first.to_string(alloc)?)?;
-    }
-    if !is_run(name) {
-        return Ok(files);
-    }
-    if let Some(programs) = matches.get_strs("programs") {
-        for program in programs {
-            files.push(program.to_string(alloc)?)?;
+impl Words {
+    /// The stored run.
+    fn stored(alloc: Global) -> Words
+        ensures { result ≡ stored_run }
+    {
+        Words {
+            request: Request::StoredRun,
+            files: Vec::new(alloc),
+            progress: false,
         }
     }
-    Ok(files)
-}
 
-impl Words {
+    /// What `clap` read, as what is asked for.
+    fn asked(alloc: Global, parsed: &Parsed<'_>) -> Result<Words, AllocError>
+        ensures { IfOk result (AreAsked parsed.now) }
+    {
+        Ok(Words {
+            request: parsed.request(),
+            files: parsed.files(alloc)?,
+            progress: parsed.progress,
+        })
+    }
+
+    /// What `clap` found, as what is asked for.
+    fn found(alloc: Global, matches: &ArgMatches<'_>) -> Result<Words, AllocError>
+        ensures { IfOk result (AreFound matches.now) }
+    {
+        match matches.subcommand() {
+            Some((name, behind)) => Words::asked(alloc, &Parsed::of(name, behind)),
+            None => Ok(Words::stored(alloc)),
+        }
+    }
+
     /// Reads the words behind the program's name. No word at all asks for the stored run.
     ///
     /// # Errors
     ///
     /// A fault of the command line, or its help, in `clap`'s own text.
     pub fn of(alloc: Global, words: &[String]) -> Result<Words, Error>
-        ensures stored { words.now ≡ [] → IsOkAnd result (λ w. w ≡ record { request = asks.StoredRun; files = [] }) }
+        ensures stored { words.now ≡ [] → IsOkAnd result (λ w. w ≡ stored_run) }
+        ensures asked { words.now ≢ [] → IfOk result (AreTaken (map string_bytes words.now)) }
     {
         if words.is_empty() {
-            return Ok(Words {
-                request: Request::StoredRun,
-                files: Vec::new(alloc),
-                progress: false,
-            });
+            return Ok(Words::stored(alloc));
         }
         let matches = commands(alloc)?.try_get_matches_from(words)?;
-        match matches.subcommand() {
-            Some((name, inner)) => Ok(Words {
-                request: request_of(name, inner),
-                files: file_words(alloc, name, inner)?,
-                progress: is_run(name) && inner.get_flag("progress"),
-            }),
-            None => Ok(Words {
-                request: Request::StoredRun,
-                files: Vec::new(alloc),
-                progress: false,
-            }),
-        }
+        Ok(Words::found(alloc, &matches)?)
     }
 
     /// The files of the command, in order: the log, then the programs.
@@ -542,7 +427,9 @@ impl Words {
     }
 
     /// Whether an exploration is to say how far it is.
-    pub fn progress(&self) -> bool {
+    pub fn progress(&self) -> bool
+        ensures { result ≡ self.now.progress }
+    {
         self.progress
     }
 

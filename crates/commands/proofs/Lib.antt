@@ -2,4 +2,5 @@
 pub mod Acts
 pub mod Appending
 pub mod OneReport
+pub mod OwnRun
 pub mod Once

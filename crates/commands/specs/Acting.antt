@@ -1,9 +1,9 @@
 -- What a command answers on what its files hold, and when it is refused (docs/REPORT.md, Commands and Refusals
 -- in their order).
-use Rattle.std.specs.Prelude.{ℕ, ◌≡◌, ◌⊎◌, ◌++◌, Bool, if◌then◌else◌, List, [], ◌∷◌, map, replicate, position, is_none, Option, None, Some}
+use Rattle.std.specs.Prelude.{ℕ, ◌≡◌, ◌⊎◌, Bool, if◌then◌else◌, List, [], ◌∷◌, map, position, is_none, Option, None, Some}
 use Rattle.base.specs.declared.refusal.Refusal.{Refusal}
 use Rattle.base.specs.Refusals.{memory_refusal}
-use Rattle.commands.specs.declared.action.TheConstants.{STORED_SUPER, STORED_PROGRAM, STORED_SETTINGS}
+use Rattle.commands.specs.Stored.{stored_log, stored_programs, stored_settings}
 use Rattle.request.specs.declared.settings.Settings.{Settings}
 use Rattle.request.specs.declared.command.OptionWords.{OptionWords}
 use Rattle.request.specs.declared.command.Request.{Request}
@@ -34,13 +34,6 @@ unread (file ∷ files) = position is_none (file ∷ files)
 abbrev pub first_held : Files → Option (List ℕ)
 first_held [] = None
 first_held (file ∷ files) = file
-
--- the log and the program that the product holds itself: no entry, and `mov64 r0, 0; exit`
-abbrev pub stored_log : List ℕ
-stored_log = STORED_SUPER ++ replicate 480 0
-
-abbrev pub stored_programs : List (List ℕ)
-stored_programs = STORED_PROGRAM ∷ []
 
 -- the status of a run is 1 exactly where it found a failing image
 abbrev pub status_of : Bool → ℕ
@@ -80,7 +73,7 @@ pub record AnswersWith (w : OptionWords) (Is : Settings → List ℕ → List �
 
 -- the bytes for standard output, and the status, of what the command line asks for
 abbrev pub Answers : Request → Files → List ℕ → ℕ → Type 0
-Answers request.StoredRun files bytes status = AnswersRun telling.Report STORED_SETTINGS stored_log stored_programs bytes status
+Answers request.StoredRun files bytes status = AnswersRun telling.Report stored_settings stored_log stored_programs bytes status
 Answers (request.Explore w) files bytes status = AnswersExplore telling.Report w files bytes status
 Answers (request.Why w) files bytes status = AnswersExplore telling.Causes w files bytes status
 Answers (request.Page w) files bytes status = AnswersExplore telling.Page w files bytes status
@@ -111,7 +104,7 @@ pub data RefusesFiles (files : Files) (s : Settings) : Refusal → Type 0 where
 
 -- when what the command line asks for is refused
 abbrev pub RefusesToAct : Request → Files → Refusal → Type 0
-RefusesToAct request.StoredRun files r = (r ≡ memory_refusal) ⊎ Refuses stored_log stored_programs STORED_SETTINGS r
+RefusesToAct request.StoredRun files r = (r ≡ memory_refusal) ⊎ Refuses stored_log stored_programs stored_settings r
 RefusesToAct (request.Explore w) files r = RefusesWith w (RefusesFiles files) r
 RefusesToAct (request.Why w) files r = RefusesWith w (RefusesFiles files) r
 RefusesToAct (request.Page w) files r = RefusesWith w (RefusesFiles files) r

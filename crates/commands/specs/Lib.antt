@@ -1,4 +1,6 @@
 -- What a command answers, and what holds of reports.
+pub mod Stored
 pub mod Acting
+pub mod Exits
 pub mod Once
 pub mod Laws

@@ -6,41 +6,20 @@ ghost use Rattle.base.specs.Refusals.{memory_refusal};
 ghost use Rattle.request.specs.declared.command.Request.TheVariants as asks;
 ghost use Rattle.runs.specs.Explore.{Refuses};
 ghost use Rattle.request.specs.Refusals.{file_refusal};
-ghost use Rattle.commands.specs.Acting.{first_held, unread, stored_log, stored_programs, status_of, AnswersRun, AnswersFiles, AnswersExplore, Answers, RefusesWith, RefusesToAct, RefusesFiles};
+ghost use Rattle.commands.specs.Acting.{first_held, unread, status_of, AnswersRun, AnswersFiles, AnswersExplore, Answers, RefusesWith, RefusesToAct, RefusesFiles};
+ghost use Rattle.commands.specs.Stored.{stored_log, stored_programs, stored_settings};
 ghost use Rattle.request.specs.declared.settings.Telling.TheVariants as tells;
 
+use crate::stored::{stored_files, stored_options};
 use base::refusal::Refusal;
 use command_line::Words;
-use epochs::{By, Cuts};
 use looks::{assembled, image, listed, show, shown_log, survey, verified};
-use request::{OptionWords, Options, Request, Settings, Telling, Which, options_of, unreadable};
+use request::{OptionWords, Options, Request, Telling, Which, options_of, unreadable};
 use runs::run_with;
 use std::alloc::{AllocError, Global};
 use std::sync::Wait;
 use std::thread::Threads;
 use workers::Gate;
-
-/// The first bytes of the log of the stored run, a super block without entries; zeros follow.
-pub(crate) const STORED_SUPER: [u8; 32] = [
-    0x72, 0x68, 0x73, 0x77, 0x66, 0x73, 0x6a, 0, 1, 0, 0, 0, 0, 0, 0, 0, 0, 0, 0, 0, 0, 0, 0, 0, 0,
-    2, 0, 0, 0, 0, 0, 0,
-];
-
-/// The program of the stored run, `mov64 r0, 0; exit`.
-pub(crate) const STORED_PROGRAM: [u8; 16] = [0xb7, 0, 0, 0, 0, 0, 0, 0, 0x95, 0, 0, 0, 0, 0, 0, 0];
-
-/// What the stored run is asked, `--sectors 1 --bound 0 --checked 2`.
-pub(crate) const STORED_SETTINGS: Settings = Settings {
-    sectors: 1,
-    cuts: Cuts::All,
-    bound: 0,
-    tears: false,
-    by: By::Sector,
-    workers: 1,
-    cache: 0,
-    checked: Some(2),
-    first: false,
-};
 
 /// The place of the first file that cannot be read.
 fn first_unreadable(files: &[Option<Vec<u8>>]) -> Option<usize>
@@ -78,18 +57,6 @@ fn explore_files<G: Gate + Sync, R: Threads + Wait + Sync>(
     let explored = run_with(rt, alloc, gate, telling, log, programs, options)?;
     let status = if explored.failing { 1 } else { 0 };
     Ok((explored.bytes, status))
-}
-
-/// The log and the program that the product holds itself.
-fn stored_files(alloc: Global) -> Result<(Vec<u8>, Vec<Vec<u8>>), AllocError>
-    ensures log { IfOk result (λ files. files.0.items ≡ stored_log) }
-    ensures programs { IfOk result (λ files. map (λ f. f.items) files.1.items ≡ stored_programs) }
-{
-    let mut log = STORED_SUPER.to_vec(alloc)?;
-    log.resize(512, 0)?;
-    let mut programs = Vec::new(alloc);
-    programs.push(STORED_PROGRAM.to_vec(alloc)?)?;
-    Ok((log, programs))
 }
 
 /// What the first file holds: a log, a source text or a program.
@@ -154,25 +121,14 @@ fn explore_readable<G: Gate + Sync, R: Threads + Wait + Sync>(
     }
 }
 
-/// The options of the stored run, which no check refuses.
-#[tactic(auto, unfolding(request::specs::Settings::option_checks))]
-fn stored_options() -> Options
-    ensures { result ≡ STORED_SETTINGS }
-{
-    match Options::new(&STORED_SETTINGS) {
-        Ok(options) => options,
-        Err(_refusal) => unreachable!(),
-    }
-}
-
 /// The run that the program holds itself.
 fn act_stored<G: Gate + Sync, R: Threads + Wait + Sync>(
     rt: &R,
     alloc: Global,
     gate: &G,
 ) -> Result<(Vec<u8>, u8), Refusal>
-    ensures answers { IfOk result (λ answer. AnswersRun tells.Report STORED_SETTINGS stored_log stored_programs answer.0.items answer.1) }
-    ensures refused { IfErr result (λ r. (r ≡ memory_refusal) ⊎ Refuses stored_log stored_programs STORED_SETTINGS r) }
+    ensures answers { IfOk result (λ answer. AnswersRun tells.Report stored_settings stored_log stored_programs answer.0.items answer.1) }
+    ensures refused { IfErr result (λ r. (r ≡ memory_refusal) ⊎ Refuses stored_log stored_programs stored_settings r) }
 {
     let options = stored_options();
     match stored_files(alloc) {

@@ -21,6 +21,8 @@
 //! What stands here:
 //!
 //! - `action`: `act`, what a command answers on what its files hold, and with which status.
+//! - `exit`: `perform`, which does the same and says how the process ends: its standard output, its refusal and its status.
+//! - `stored`: the run that the program holds itself.
 //! - `laws`: that there is one report at most, and no refusal beside it but for memory; that each failing image stands once in
 //!   what `why` says.
 //! - `writing`: `emit`, which writes all of an answer to an `Output`, a writer that is asked no more once a write has failed.
@@ -31,7 +33,8 @@
 //! `act` answers for each command exactly the bytes that the contract of its call says, over the options that the words ask for
 //! and what the files hold, with status 1 where a run found a failing image, and 0 else. Its refusals come in the order of
 //! docs/REPORT.md: of the words, of a file that can't be read, then those of the call (`specs/Acting.antt`). Without a word it
-//! explores the log and the program that it holds itself.
+//! explores the log and the program that it holds itself (`specs/Stored.antt`). `perform` gives the status 2 and an empty
+//! standard output where `act` refuses, and else `act`'s own (`specs/Exits.antt`).
 //!
 //! For given bytes of a log and of programs and given options there is at most one report, and a report and a refusal for
 //! another cause than memory exclude each other (`one_report`, `report_or_refusal`). Each image on which a program fails, by the
@@ -49,14 +52,17 @@
 #![tactic(auto)]
 
 mod action;
+mod exit;
 mod laws;
 mod progress;
+mod stored;
 mod writing;
 
 pub use action::act;
 pub use command_line::Words;
 pub use command_notes::{notes_behind, notes_beside};
 pub use epochs::{By, Cuts};
+pub use exit::{Exit, perform};
 pub use laws::{each_image_stands_once, one_report, report_or_refusal};
 pub use looks::{choices_are_short, image, report_prints_choices, show, survey};
 pub use progress::Progress;

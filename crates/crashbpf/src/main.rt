@@ -9,9 +9,10 @@
 //! # Place
 //!
 //! The top. What a command answers, with which status, and when it is refused, is all decided by
-//! `commands`, whose `act` takes what the files hold and gives the bytes. `input_files` reads them. Here the
-//! answer is written: to standard output, or a refusal's line to standard error with status 2. Notes stand on
-//! standard error in both cases, and change neither the status nor standard output; nor does the line that
+//! `commands`, whose `perform` takes what the files hold and tells how the process ends. `input_files` reads
+//! them. Here that is carried out: the answer is written to standard output, or a refusal's line to standard
+//! error, and the status is the one that `perform` tells, or 2 where standard output takes no more. Notes stand
+//! on standard error in both cases, and change neither the status nor standard output; nor does the line that
 //! says how far an exploration is, which comes before them. Want of memory is a refusal wherever it is met, and
 //! its line is written also where there is no memory for a text.
 //!
@@ -21,7 +22,7 @@
 
 use base::refusal::Refusal;
 use clap::error::ErrorKind as WordsFault;
-use commands::{Output, Progress, Words, act, emit, fault_line, notes_behind, notes_beside};
+use commands::{Output, Progress, Words, emit, fault_line, notes_behind, notes_beside, perform};
 use input_files::Inputs;
 use std::alloc::AllocError;
 use std::io::ErrorKind;
@@ -68,7 +69,8 @@ fn print_notes<R: Eprint>(rt: &R, notes: Result<String, AllocError>) {
     }
 }
 
-/// Performs a command on the files that were read for it, and prints its answer or its refusal, with the notes on it.
+/// Performs a command on the files that were read for it, and ends as it says: with its answer on standard output, or with
+/// the line of its refusal on standard error, and with the notes on it there.
 fn run<R: AllocGlobal + Print + Eprint + Clock + Threads + Wait + Sync>(
     rt: &R,
     words: &Words,
@@ -76,24 +78,24 @@ fn run<R: AllocGlobal + Print + Eprint + Clock + Threads + Wait + Sync>(
 ) -> u8 {
     let files = inputs.held();
     let progress = Progress::new(rt, words.progress());
-    let acted = act(rt, rt.alloc(), &progress, words, files);
+    let exit = perform(rt, rt.alloc(), &progress, words, files);
     progress.end();
-    match acted {
-        Ok((bytes, status)) => {
-            if emit(&mut Output::new(io::writer(rt)), bytes.as_slice()).is_err() {
+    match exit.refusal {
+        None => {
+            let mut output = Output::new(io::writer(rt));
+            if emit(&mut output, exit.output.as_slice()).is_err() {
                 return stopped(rt, UNWRITTEN);
             }
             print_notes(rt, notes_beside(rt.alloc(), words, files));
-            status
         }
-        Err(refusal) => {
+        Some(refusal) => {
             let refusal = inputs.refusal(refusal);
-            let status = refused(rt, &refusal);
+            refused(rt, &refusal);
             print_notes(rt, notes_behind(rt.alloc(), words, files, &refusal));
             rt.eprint(inputs.note(&refusal)).ok();
-            status
         }
     }
+    exit.status
 }
 
 /// Reads the files of a command, and performs it.

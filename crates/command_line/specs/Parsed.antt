@@ -1,0 +1,133 @@
+-- What the words of a command ask for (docs/REPORT.md, Commands and Options).
+use Rattle.std.specs.Prelude.{ℕ, ◌≡◌, ◌<◌, ◌^◌, ◌++◌, Bool, true, false, List, [], ◌∷◌, length, map, Option, None, Some, option_map, unwrap_or, MatchOption, codes, bytes_eq, if◌then◌else◌}
+use Rattle.std.specs.Borrow.{Bor}
+use Rattle.std.specs.Str.Parse.{IsNumeral, digits_value, without_leading_plus}
+use Rattle.epochs.specs.declared.cuts.Cuts.{Cuts}
+use Rattle.epochs.specs.declared.cuts.Cuts.TheVariants as cuts
+use Rattle.epochs.specs.declared.part.By.{By}
+use Rattle.epochs.specs.declared.part.By.TheVariants as by
+use Rattle.request.specs.declared.command.OptionWords.{OptionWords}
+use Rattle.request.specs.declared.command.Request.{Request}
+use Rattle.request.specs.declared.command.Request.TheVariants as asks
+use Rattle.request.specs.declared.command.Which.{Which}
+use Rattle.request.specs.declared.command.Which.TheVariants as which
+use Rattle.clap.specs.Words.{first_value, matched_of, one_text, raw_values}
+use Rattle.clap.specs.declared.parser.matches.Found.{Found}
+use Rattle.command_line.specs.declared.parsed.Parsed.{Parsed}
+use Rattle.command_line.specs.declared.parsed.Verb.{Verb}
+use Rattle.command_line.specs.declared.parsed.Verb.TheVariants as verb
+
+-- the bytes of a word, if it was written
+abbrev pub written : Option (Bor (List ℕ)) → Option (List ℕ)
+written = option_map (λ w. w.now)
+
+-- the command that a name names
+abbrev pub command_named : List ℕ → Option Verb
+command_named name =
+    if bytes_eq name (codes "explore") then Some verb.Explore
+    else if bytes_eq name (codes "why") then Some verb.Why
+    else if bytes_eq name (codes "page") then Some verb.Page
+    else if bytes_eq name (codes "images") then Some verb.Images
+    else if bytes_eq name (codes "image") then Some verb.Image
+    else if bytes_eq name (codes "show") then Some verb.Show
+    else if bytes_eq name (codes "log") then Some verb.Log
+    else if bytes_eq name (codes "verify") then Some verb.Verify
+    else if bytes_eq name (codes "asm") then Some verb.Asm
+    else if bytes_eq name (codes "list") then Some verb.List
+    else None
+
+-- the kind of cut behind --cuts, all cuts where nothing is; none where the word is no kind of cut
+abbrev pub cuts_named : Option (List ℕ) → Option Cuts
+cuts_named None = Some cuts.All
+cuts_named (Some word) =
+    if bytes_eq word (codes "all") then Some cuts.All
+    else if bytes_eq word (codes "flush") then Some cuts.BeforeFlush
+    else if bytes_eq word (codes "mark") then Some cuts.AfterMark
+    else None
+
+-- the kind of part behind --by, sectors where nothing is; none where the word is no kind of part
+abbrev pub parts_named : Option (List ℕ) → Option By
+parts_named None = Some by.Sector
+parts_named (Some word) =
+    if bytes_eq word (codes "sector") then Some by.Sector
+    else if bytes_eq word (codes "write") then Some by.Write
+    else None
+
+-- the options, each that isn't written by its default. All commands on a device but `log` want --sectors.
+abbrev pub options_named : Parsed → OptionWords
+options_named p = record {
+  sectors = unwrap_or p.sectors 16384;
+  cuts = cuts_named (written p.cuts);
+  bound = unwrap_or p.bound 1;
+  tears = p.tears;
+  by = parts_named (written p.by);
+  workers = unwrap_or p.workers 1;
+  cache = unwrap_or p.cache 0;
+  checked = p.checked;
+  first = p.first;
+}
+
+-- the text of a choice, kept if it has at most 96 bytes
+abbrev pub choice_named : Parsed → List ℕ
+choice_named p = unwrap_or (written p.choice) []
+
+-- which image is meant: with --cut that of this cut and of the choice, else that of the number
+abbrev pub IsWhich : Parsed → Which → Type 0
+IsWhich p (which.Number number) = (p.cut ≡ None) × (number ≡ unwrap_or p.number 0)
+IsWhich p (which.Printed cut choice) = (p.cut ≡ Some cut) × MatchOption choice (96 < length (choice_named p)) (λ text. text.bytes ≡ choice_named p)
+
+-- what a command asks for: its options, and the image that it means
+abbrev pub Asks : Parsed → Option Verb → Request → Type 0
+Asks p (Some verb.Explore) r = r ≡ asks.Explore (options_named p)
+Asks p (Some verb.Why) r = r ≡ asks.Why (options_named p)
+Asks p (Some verb.Page) r = r ≡ asks.Page (options_named p)
+Asks p (Some verb.Images) r = r ≡ asks.Images (options_named p)
+Asks p (Some verb.Image) r = (meant : Which) × IsWhich p meant × (r ≡ asks.Image (options_named p) meant)
+Asks p (Some verb.Show) r = (meant : Which) × IsWhich p meant × (r ≡ asks.Show (options_named p) meant)
+Asks p (Some verb.Log) r = r ≡ asks.Log (options_named p)
+Asks p (Some verb.Verify) r = r ≡ asks.Verify (options_named p)
+Asks p (Some verb.Asm) r = r ≡ asks.Asm
+Asks p (Some verb.List) r = r ≡ asks.List p.slots
+Asks p None r = r ≡ asks.StoredRun
+
+-- the files that are named: a log, a source text or a program, then the programs of a run
+abbrev pub first_file : Option (List ℕ) → List (List ℕ)
+first_file None = []
+first_file (Some file) = file ∷ []
+
+abbrev pub program_files : Option (Bor (List (Bor (List ℕ)))) → List (List ℕ)
+program_files None = []
+program_files (Some programs) = map (λ w. w.now) programs.now
+
+abbrev pub files_named : Parsed → List (List ℕ)
+files_named p = first_file (written p.file) ++ program_files p.programs
+
+-- the number behind an option: none where nothing stands there, and else that of its decimal digits, if 64 bits hold it
+pub record IsNumberOf (found : Found) (option : List ℕ) (number : Option ℕ) : Type 0 where
+  pub absent : one_text found option ≡ None → number ≡ None
+  pub given : (text : List ℕ) → one_text found option ≡ Some text → IsNumeral 10 (without_leading_plus text) → digits_value 10 (without_leading_plus text) < 2 ^ 64 → number ≡ Some (digits_value 10 (without_leading_plus text))
+
+-- whether a flag was found
+pub record IsFlagOf (found : Found) (option : List ℕ) (flag : Bool) : Type 0 where
+  pub absent : one_text found option ≡ None → flag ≡ false
+  pub given : one_text found option ≡ Some (codes "true") → flag ≡ true
+  pub denied : one_text found option ≡ Some (codes "false") → flag ≡ false
+
+-- what was read is what `clap` found, each word and option under its own name
+pub record IsRead (found : Found) (p : Parsed) : Type 0 where
+  pub file : written p.file ≡ first_value found (codes "file")
+  pub programs : option_map (λ ws. map (λ w. w.now) ws.now) p.programs ≡ option_map raw_values (matched_of found (codes "programs"))
+  pub sectors : IsNumberOf found (codes "sectors") p.sectors
+  pub cuts : written p.cuts ≡ first_value found (codes "cuts")
+  pub bound : IsNumberOf found (codes "bound") p.bound
+  pub tears : IsFlagOf found (codes "tears") p.tears
+  pub parts : written p.by ≡ first_value found (codes "by")
+  pub workers : IsNumberOf found (codes "workers") p.workers
+  pub cache : IsNumberOf found (codes "cache") p.cache
+  pub checked : IsNumberOf found (codes "checked") p.checked
+  pub first : IsFlagOf found (codes "first") p.first
+  pub progress : IsFlagOf found (codes "progress") p.progress
+  pub number : IsNumberOf found (codes "number") p.number
+  pub cut : IsNumberOf found (codes "cut") p.cut
+  pub choice : written p.choice ≡ first_value found (codes "choice")
+  pub slots : IsFlagOf found (codes "slots") p.slots

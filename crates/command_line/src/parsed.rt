@@ -1,0 +1,239 @@
+//! What `clap` read of the words, and what that asks for.
+
+ghost use Rattle.std.specs.Prelude.{◌≡◌, ◌<◌, ◌++◌, length, map, option_map, string_bytes, IfOk, MatchOption, OnOk};
+ghost use Rattle.clap.specs.Words.{found_of};
+ghost use Rattle.command_line.specs.Parsed.{Asks, command_named, cuts_named, files_named, options_named, parts_named, IsFlagOf, IsNumberOf, IsRead, IsWhich};
+
+use arrayvec::ArrayString;
+use clap::ArgMatches;
+use epochs::{By, Cuts};
+use request::{OptionWords, Request, Which};
+use std::alloc::{AllocError, Global};
+
+/// What `clap` read behind the program's name: the name of the command, and what stands behind each of its words and options,
+/// none where nothing does (docs/REPORT.md, Commands and Options).
+#[derive(Clone, Copy)]
+pub struct Parsed<'a> {
+    /// The name of the command.
+    pub command: &'a str,
+    /// Its first file: a log, a source text or a program.
+    pub file: Option<&'a str>,
+    /// The programs of a run.
+    pub programs: Option<&'a [&'a str]>,
+    /// The number behind `--sectors`.
+    pub sectors: Option<u64>,
+    /// The word behind `--cuts`.
+    pub cuts: Option<&'a str>,
+    /// The number behind `--bound`.
+    pub bound: Option<u64>,
+    /// Whether `--tears` stands there.
+    pub tears: bool,
+    /// The word behind `--by`.
+    pub by: Option<&'a str>,
+    /// The number behind `--workers`.
+    pub workers: Option<u64>,
+    /// The number behind `--cache`.
+    pub cache: Option<u64>,
+    /// The number behind `--checked`.
+    pub checked: Option<u64>,
+    /// Whether `--first` stands there.
+    pub first: bool,
+    /// Whether `--progress` stands there.
+    pub progress: bool,
+    /// The number of an image.
+    pub number: Option<u64>,
+    /// The number behind `--cut`.
+    pub cut: Option<u64>,
+    /// The text behind `--choice`.
+    pub choice: Option<&'a str>,
+    /// Whether `--slots` stands there.
+    pub slots: bool,
+}
+
+/// The commands of the program (docs/REPORT.md, Commands).
+#[derive(Clone, Copy)]
+pub(crate) enum Verb {
+    Explore,
+    Why,
+    Page,
+    Images,
+    Image,
+    Show,
+    Log,
+    Verify,
+    Asm,
+    List,
+}
+
+/// The command of that name.
+fn verb_of(name: &str) -> Option<Verb>
+    ensures { result ≡ command_named name.now }
+{
+    match name {
+        "explore" => Some(Verb::Explore),
+        "why" => Some(Verb::Why),
+        "page" => Some(Verb::Page),
+        "images" => Some(Verb::Images),
+        "image" => Some(Verb::Image),
+        "show" => Some(Verb::Show),
+        "log" => Some(Verb::Log),
+        "verify" => Some(Verb::Verify),
+        "asm" => Some(Verb::Asm),
+        "list" => Some(Verb::List),
+        _ => None,
+    }
+}
+
+/// The kind of cut that a word names: all cuts where there is no word.
+fn cuts_of(word: Option<&str>) -> Option<Cuts>
+    ensures { result ≡ cuts_named (option_map (λ w. w.now) word.entry) }
+{
+    match word {
+        None | Some("all") => Some(Cuts::All),
+        Some("flush") => Some(Cuts::BeforeFlush),
+        Some("mark") => Some(Cuts::AfterMark),
+        Some(_) => None,
+    }
+}
+
+/// The kind of part that a word names: sectors where there is no word.
+fn by_of(word: Option<&str>) -> Option<By>
+    ensures { result ≡ parts_named (option_map (λ w. w.now) word.entry) }
+{
+    match word {
+        None | Some("sector") => Some(By::Sector),
+        Some("write") => Some(By::Write),
+        Some(_) => None,
+    }
+}
+
+/// The text of a choice, if it isn't longer than any choice's.
+fn choice_word(word: &str) -> Option<ArrayString<96>>
+    ensures { MatchOption result (96 < length word.now) (λ text. text.bytes ≡ word.now) }
+{
+    match ArrayString::from(word) {
+        Ok(choice) => Some(choice),
+        Err(_error) => None,
+    }
+}
+
+/// Appends the names of files.
+fn put_names(alloc: Global, files: &mut Vec<String>, names: &[&str]) -> Result<(), AllocError>
+    ensures { OnOk result (map string_bytes files.new.items ≡ map string_bytes files.old.items ++ map (λ w. w.now) names.now) }
+{
+    for name in names {
+        files.push(name.to_string(alloc)?)?;
+    }
+    Ok(())
+}
+
+/// The number behind an option, if there is one.
+fn number_of(matches: &ArgMatches<'_>, option: &str) -> Option<u64>
+    ensures { IsNumberOf (found_of matches.now) option.now result }
+{
+    matches.get_one::<u64>(option)
+}
+
+/// Whether a flag stands there.
+fn flag_of(matches: &ArgMatches<'_>, option: &str) -> bool
+    ensures { IsFlagOf (found_of matches.now) option.now result }
+{
+    matches.get_flag(option)
+}
+
+impl<'a> Parsed<'a> {
+    /// What `clap` read of the command of that name.
+    pub(crate) fn of(command: &'a str, matches: &'a ArgMatches<'_>) -> Parsed<'a>
+        ensures command { result.command ≡ command.entry }
+        ensures read { IsRead (found_of matches.now) result }
+    {
+        Parsed {
+            command,
+            file: matches.get_str("file"),
+            programs: matches.get_strs("programs"),
+            sectors: number_of(matches, "sectors"),
+            cuts: matches.get_str("cuts"),
+            bound: number_of(matches, "bound"),
+            tears: flag_of(matches, "tears"),
+            by: matches.get_str("by"),
+            workers: number_of(matches, "workers"),
+            cache: number_of(matches, "cache"),
+            checked: number_of(matches, "checked"),
+            first: flag_of(matches, "first"),
+            progress: flag_of(matches, "progress"),
+            number: number_of(matches, "number"),
+            cut: number_of(matches, "cut"),
+            choice: matches.get_str("choice"),
+            slots: flag_of(matches, "slots"),
+        }
+    }
+
+    /// The options that were written, each that wasn't by its default.
+    fn options(&self) -> OptionWords
+        ensures { result ≡ options_named self.now }
+    {
+        OptionWords {
+            sectors: self.sectors.unwrap_or(16_384),
+            cuts: cuts_of(self.cuts),
+            bound: self.bound.unwrap_or(1),
+            tears: self.tears,
+            by: by_of(self.by),
+            workers: self.workers.unwrap_or(1),
+            cache: self.cache.unwrap_or(0),
+            checked: self.checked,
+            first: self.first,
+        }
+    }
+
+    /// Which image is meant: by its cut and its choice, or else by its number.
+    fn which(&self) -> Which
+        ensures { IsWhich self.now result }
+    {
+        match self.cut {
+            Some(cut) => Which::Printed {
+                cut,
+                choice: choice_word(self.choice.unwrap_or("")),
+            },
+            None => Which::Number(self.number.unwrap_or(0)),
+        }
+    }
+
+    /// What is asked for. A name that is no command's asks for nothing, and so for the stored run; `clap` takes no such name.
+    pub fn request(&self) -> Request
+        ensures { Asks self.now (command_named self.now.command.now) result }
+    {
+        match verb_of(self.command) {
+            Some(Verb::Explore) => Request::Explore(self.options()),
+            Some(Verb::Why) => Request::Why(self.options()),
+            Some(Verb::Page) => Request::Page(self.options()),
+            Some(Verb::Images) => Request::Images(self.options()),
+            Some(Verb::Image) => Request::Image(self.options(), self.which()),
+            Some(Verb::Show) => Request::Show(self.options(), self.which()),
+            Some(Verb::Log) => Request::Log(self.options()),
+            Some(Verb::Verify) => Request::Verify(self.options()),
+            Some(Verb::Asm) => Request::Asm,
+            Some(Verb::List) => Request::List {
+                numbered: self.slots,
+            },
+            None => Request::StoredRun,
+        }
+    }
+
+    /// The files that are named: a log, a source text or a program, then the programs of a run.
+    ///
+    /// # Errors
+    ///
+    /// Want of memory.
+    pub fn files(&self, alloc: Global) -> Result<Vec<String>, AllocError>
+        ensures { IfOk result (λ files. map string_bytes files.items ≡ files_named self.now) }
+    {
+        let mut files = Vec::new(alloc);
+        if let Some(file) = self.file {
+            files.push(file.to_string(alloc)?)?;
+        }
+        if let Some(programs) = self.programs {
+            put_names(alloc, &mut files, programs)?;
+        }
+        Ok(files)
+    }
+}
