@@ -453,6 +453,8 @@ fn equal_images_hit_the_cache(rt: HostRuntime) -> Result<(), Fail> {
     assert_eq!(rt; hits_of(&rt, alloc, &forced_write, false, 0)?, 0);
     let zeros = [(0, 0)];
     assert_eq!(rt; hits_of(&rt, alloc, &zeros, false, 65_536)?, 2);
+    // One entry for each shard is enough: the keys of two programs lie in two of them.
+    assert_eq!(rt; hits_of(&rt, alloc, &zeros, true, 16)?, 4);
     // The images of flush_with_data are of two epochs.
     let flush_with_data = [(1, 0x33)];
     assert_eq!(rt; hits_of(&rt, alloc, &flush_with_data, true, 65_536)?, 0);
