@@ -3,4 +3,7 @@ pub mod Leads
 pub mod Order
 pub mod Keeping
 pub mod Crossing
-pub mod Marked
+pub mod Back
+pub mod Parted
+pub mod Lined
+pub mod Texts

@@ -1,5 +1,5 @@
 -- What is kept of lines.
-use Rattle.std.specs.Prelude.{ℕ, ◌≡◌, ◌≤◌, ◌==◌, ◌&&◌, ◌||◌, Bool, if◌then◌else◌, List, Option, None, Some, take, length}
+use Rattle.std.specs.Prelude.{ℕ, ◌≡◌, ◌≤◌, ◌<◌, ◌^◌, ◌==◌, ◌&&◌, ◌||◌, Bool, if◌then◌else◌, List, [], ◌∷◌, ◌++◌, Option, None, Some, take, length}
 use Rattle.std.specs.List.{flat_map}
 use Rattle.lines.specs.Line.{FailingLine}
 use Rattle.lines.specs.Images.{first_image, last_behind, changes_behind, is_same, leading}
@@ -32,3 +32,16 @@ pub record AreKept (ls : List FailingLine) (text leading_text : List ℕ) (first
 -- of the image with which those that follow begin
 abbrev pub leads_on : ℕ → Option ℕ → Option ℕ → Bool
 leads_on count last first = count == 0 || count == 1 && is_same last first
+
+-- the numbers of a line's image and program are a u64 and a u8
+abbrev pub IsSmall : FailingLine → Type 0
+IsSmall l = (l.image < 2 ^ 64) × (l.program < 2 ^ 8)
+
+abbrev pub AreSmall : List FailingLine → Type 0
+AreSmall [] = Unit {0}
+AreSmall (l ∷ ls) = IsSmall l × AreSmall ls
+
+-- each text is that of some of the lines, one after the other
+abbrev pub AreTextsOf : List (List ℕ) → List FailingLine → Type 0
+AreTextsOf [] ls = ls ≡ []
+AreTextsOf (text ∷ texts) ls = (own : List FailingLine) × (more : List FailingLine) × (ls ≡ own ++ more) × AreSmall own × (text ≡ flat_map line_text own) × AreTextsOf texts more

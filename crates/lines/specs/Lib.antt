@@ -5,3 +5,4 @@ pub mod Images
 pub mod Text
 pub mod Kept
 pub mod Marks
+pub mod Reading

@@ -1,6 +1,6 @@
 //! Lines in parts.
 
-ghost use Rattle.std.specs.Prelude.{◌≡◌, ◌≤◌, ◌↔◌, ◌++◌, [], if◌then◌else◌, length, take, IsTrue, IfOk, IfSome, OnOk};
+ghost use Rattle.std.specs.Prelude.{◌≡◌, ◌≤◌, ◌↔◌, ◌++◌, [], if◌then◌else◌, length, take, IsTrue, IfOk, OnOk, string_bytes};
 ghost use Rattle.std.specs.List.{flat_map};
 ghost use Rattle.std.specs.List.Sorted.{IsNonDecreasing};
 ghost use Rattle.lines.specs.Line.{first_lines};
@@ -10,8 +10,9 @@ ghost use Rattle.lines.specs.Marks.{marks_of};
 
 use crate::images::Images;
 use crate::line::Line;
-use crate::marks::{Mark, both_marks};
+use crate::marks::Mark;
 use crate::part::Part;
+use crate::reading::read_marks;
 use std::alloc::{AllocError, Global};
 use std::marker::Model;
 use std::snapshot::Snapshot;
@@ -20,30 +21,27 @@ use std::snapshot::Snapshot;
 #[derive(Drop)]
 pub struct Lines {
     /// The texts of the parts.
-    texts: Vec<Vec<u8>>,
+    texts: Vec<String>,
     /// The text of the first line and of those behind it of the same image, once more.
     leading: Vec<u8>,
     images: Images,
-    /// Of which image and which program each line is, where that is kept of all parts.
-    marks: Option<Vec<Mark>>,
     /// What the lines say, for contracts alone: it takes no room.
     said: Vec<Snapshot<Line>>,
 }
 
 impl Model for Lines {
-    ghost use Rattle.std.specs.Prelude.{List, option_map};
+    ghost use Rattle.std.specs.Prelude.{List, map, string_bytes};
     ghost use Rattle.std.specs.List.{flat_map};
     ghost use Rattle.lines.specs.Line.{FailingLine};
-    ghost use Rattle.lines.specs.Marks.{AreMarksOf, marks_of};
 
     ghost Value = { List FailingLine };
 
     ghost use Rattle.lines.specs.Lines.{said_by};
-    ghost use Rattle.lines.specs.Kept.{AreKept, if_any};
+    ghost use Rattle.lines.specs.Kept.{AreKept, AreTextsOf, if_any};
 
     ghost view = { λ l. said_by l.said.items };
 
-    ghost invariant = { λ l. AreKept (said_by l.said.items) (flat_map (λ t. t.items) l.texts.items) l.leading.items (if_any l.images.count l.images.first) (if_any l.images.count l.images.last) l.images.count × AreMarksOf (option_map (λ v. v.items) l.marks) (marks_of (said_by l.said.items)) };
+    ghost invariant = { λ l. AreKept (said_by l.said.items) (flat_map (λ t. string_bytes t) l.texts.items) l.leading.items (if_any l.images.count l.images.first) (if_any l.images.count l.images.last) l.images.count × AreTextsOf (map (λ t. string_bytes t) l.texts.items) (said_by l.said.items) };
 }
 
 impl Lines {
@@ -55,7 +53,6 @@ impl Lines {
             texts: Vec::new(alloc),
             leading: Vec::new(alloc),
             images: Images::none(),
-            marks: Some(Vec::new(alloc)),
             said: Vec::new(alloc),
         }
     }
@@ -71,7 +68,6 @@ impl Lines {
             mut texts,
             mut leading,
             images,
-            marks,
             mut said,
         } = self;
         let Part {
@@ -79,11 +75,10 @@ impl Lines {
             leading_end,
             images: own,
             printed: _,
-            marks: own_marks,
             said: mut more,
         } = part;
         let leads = images.leads_on(own);
-        add_leading(&mut leading, leads, text.as_slice(), leading_end)?;
+        add_leading(&mut leading, leads, text.as_bytes(), leading_end)?;
         texts.push(text)?;
         said.append(&mut more)?;
         let _count = said.len();
@@ -91,7 +86,6 @@ impl Lines {
             texts,
             leading,
             images: images.followed_by(own),
-            marks: both_marks(marks, own_marks),
             said,
         })
     }
@@ -121,14 +115,20 @@ impl Lines {
         bytes
     }
 
-    /// Of which image and which program each line is, where that was kept of all parts (`Part::with_marks`).
-    pub fn marks(&self) -> Option<&[Mark]>
-        ensures { IfSome result (λ marks. marks.now ≡ marks_of self.now) }
+    /// Of which image and which program each line is, read back from the text.
+    ///
+    /// # Errors
+    ///
+    /// Want of memory.
+    pub fn marks(&self, alloc: Global) -> Result<Vec<Mark>, AllocError>
+        ensures { IfOk result (λ marks. marks.items ≡ marks_of self.now) }
     {
-        match &self.marks {
-            Some(marks) => Some(marks.as_slice()),
-            None => None,
+        let mut marks = Vec::new(alloc);
+        marks.reserve_exact(self.said.len())?;
+        for text in self.texts.as_slice() {
+            read_marks(&mut marks, text.as_str())?;
         }
+        Ok(marks)
     }
 
     /// How many lines there are.
@@ -179,11 +179,11 @@ fn add_leading(
 }
 
 /// Appends the texts one after the other.
-fn put_texts(out: &mut Vec<u8>, texts: &[Vec<u8>]) -> Result<(), AllocError>
-    ensures { OnOk result (out.new.items ≡ out.old.items ++ flat_map (λ t. t.items) texts.now) }
+fn put_texts(out: &mut Vec<u8>, texts: &[String]) -> Result<(), AllocError>
+    ensures { OnOk result (out.new.items ≡ out.old.items ++ flat_map (λ t. string_bytes t) texts.now) }
 {
     for text in texts {
-        out.extend_from_slice(text.as_slice())?;
+        out.extend_from_slice(text.as_bytes())?;
     }
     Ok(())
 }

@@ -9,7 +9,7 @@
 //! | `Line` | one image with one program on which it fails |
 //! | `Part` | lines in a row, as they are printed |
 //! | `Lines` | lines in their order, made of parts |
-//! | `Mark` | of which image and which program a line is, kept beside the text where that is asked for |
+//! | `Mark` | of which image and which program a line is |
 //!
 //! # Place
 //!
@@ -22,7 +22,7 @@
 //! `Part::push` adds to its end, and keeps the lines where memory is wanting; `followed_by` puts a part
 //! behind all lines so far. `put` appends exactly `line_text` of each line (`specs/Text.antt`), and where
 //! the lines are in the order of their images, `put_first` that of the lines of the first image, and
-//! `image_count` counts their images. `marks` answers the marks of all lines, or none.
+//! `image_count` counts their images. `marks` answers the mark of each line, in their order.
 //!
 //! # How it is written
 //!
@@ -36,9 +36,9 @@
 //! of it changes no text. A part gives back by `trim` what its text doesn't take, and parts are put together
 //! without a copy.
 //!
-//! Where it is asked for, a part keeps a mark of each line too, of which image and which program it is. Marks
-//! stand in a box: a run has a part for each block of images, and one without marks has room for no more than
-//! a pointer to them. Where memory is wanting for marks, they are given up, and the lines are kept.
+//! Of which image and which program a line is, its text says: `reading` reads the marks of all lines back where
+//! they are asked for, so nothing more is kept of a line. Its words stand between blanks, and its one newline
+//! ends it (`proofs/Back.antt`). Each text is that of whole lines.
 //!
 //! # Example
 //!
@@ -56,6 +56,7 @@ mod images;
 mod line;
 mod marks;
 mod part;
+mod reading;
 mod text;
 
 pub use all::Lines;

@@ -1,11 +1,10 @@
 //! Lines in a row, as they are printed.
 
-ghost use Rattle.std.specs.Prelude.{◌≡◌, ◌↔◌, ◌++◌, ◌∷◌, [], if◌then◌else◌, IsTrue, OnOk, OnErr};
+ghost use Rattle.std.specs.Prelude.{◌≡◌, ◌↔◌, ◌++◌, ◌∷◌, [], if◌then◌else◌, IsTrue, OnOk, OnErr, string_bytes};
 ghost use Rattle.lines.specs.Lines.{line_value, said_by};
 
 use crate::images::Images;
 use crate::line::Line;
-use crate::marks::{Mark, keep_mark, no_marks, trim_marks};
 use crate::text::put_line;
 use std::alloc::{AllocError, Global};
 use std::marker::Model;
@@ -16,47 +15,44 @@ use std::snapshot::Snapshot;
 #[derive(Drop)]
 pub struct Part {
     /// The lines as they are printed.
-    pub(crate) text: Vec<u8>,
+    pub(crate) text: String,
     /// How many bytes of the text are of the first line and those behind it of the same image.
     pub(crate) leading_end: usize,
     pub(crate) images: Images,
     /// Where a line is printed before it is added, so that want of memory in the midst of it changes no text.
     pub(crate) printed: String,
-    /// Of which image and which program each line is, where that is kept.
-    pub(crate) marks: Option<Box<Vec<Mark>>>,
     /// What the lines say, for contracts alone: it takes no room.
     pub(crate) said: Vec<Snapshot<Line>>,
 }
 
 impl Model for Part {
-    ghost use Rattle.std.specs.Prelude.{List, option_map};
+    ghost use Rattle.std.specs.Prelude.{List, string_bytes};
     ghost use Rattle.lines.specs.Line.{FailingLine};
-    ghost use Rattle.lines.specs.Marks.{AreMarksOf, marks_of};
 
     ghost Value = { List FailingLine };
 
     ghost use Rattle.lines.specs.Lines.{said_by};
-    ghost use Rattle.lines.specs.Kept.{IsPart, if_any};
+    ghost use Rattle.lines.specs.Kept.{IsPart, AreSmall, if_any};
 
     ghost view = { λ p. said_by p.said.items };
 
-    ghost invariant = { λ p. IsPart (said_by p.said.items) p.text.items p.leading_end (if_any p.images.count p.images.first) (if_any p.images.count p.images.last) p.images.count × AreMarksOf (option_map (λ b. b.value.items) p.marks) (marks_of (said_by p.said.items)) };
+    ghost invariant = { λ p. IsPart (said_by p.said.items) (string_bytes p.text) p.leading_end (if_any p.images.count p.images.first) (if_any p.images.count p.images.last) p.images.count × AreSmall (said_by p.said.items) };
 }
 
 /// Adds a line to what is said and to the text. Where memory is wanting, both stay as they were.
 fn add(
-    text: &mut Vec<u8>,
+    text: &mut String,
     said: &mut Vec<Snapshot<Line>>,
     line: &Line,
-    printed: &[u8],
+    printed: &str,
 ) -> Result<(), AllocError>
-    ensures text { OnOk result (text.new.items ≡ text.old.items ++ printed.now) }
+    ensures text { OnOk result (string_bytes text.new ≡ string_bytes text.old ++ printed.now) }
     ensures said { OnOk result (said_by said.new.items ≡ said_by said.old.items ++ line_value line.now ∷ []) }
-    ensures text_kept { OnErr result (text.new.items ≡ text.old.items) }
+    ensures text_kept { OnErr result (string_bytes text.new ≡ string_bytes text.old) }
     ensures said_kept { OnErr result (said.new.items ≡ said.old.items) }
 {
     said.reserve(1)?;
-    text.extend_from_slice(printed)?;
+    text.push_str(printed)?;
     said.push(Snapshot::of(line))?;
     Ok(())
 }
@@ -73,19 +69,11 @@ impl Part {
     pub fn new(alloc: Global) -> Part
         ensures { result ≡ [] }
     {
-        Part::with_marks(alloc, false)
-    }
-
-    /// No line; of those that are added the marks are kept too, if that is asked for, as long as there is memory for them.
-    pub fn with_marks(alloc: Global, kept: bool) -> Part
-        ensures { result ≡ [] }
-    {
         Part {
-            text: Vec::new(alloc),
+            text: String::new(alloc),
             leading_end: 0,
             images: Images::none(),
             printed: String::new(alloc),
-            marks: no_marks(alloc, kept),
             said: Vec::new(alloc),
         }
     }
@@ -97,19 +85,7 @@ impl Part {
     {
         self.printed.clear();
         put_line(&mut self.printed, &line)?;
-        add(
-            &mut self.text,
-            &mut self.said,
-            &line,
-            self.printed.as_bytes(),
-        )?;
-        keep_mark(
-            &mut self.marks,
-            Mark {
-                image: line.image,
-                program: line.program,
-            },
-        );
+        add(&mut self.text, &mut self.said, &line, self.printed.as_str())?;
         let images = Images::of(line.image);
         let leads = self.images.leads_on(images);
         let _count = self.said.len();
@@ -125,7 +101,6 @@ impl Part {
         self.text.shrink_to_fit();
         self.printed.clear();
         self.printed.shrink_to_fit();
-        trim_marks(&mut self.marks);
     }
 
     /// Whether there is no line.

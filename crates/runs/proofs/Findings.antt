@@ -61,13 +61,12 @@ same_lines s value checkers plan bound tears first e f g =
     ∙ ap failing_lines (same_subject s value checkers plan bound tears s.first e f g refl)
 
 -- what the work found of them
-pub found_of : (s : Settings) (value : LogValue) (checkers : List CheckerValue) (plan : PlanValue) (bound : ℕ) (tears first : Bool) (input made : Subject) (ls : List FailingLine)
-    → plan ≡ plan_of s value → bound ≡ s.bound → tears ≡ s.tears → made ≡ record { plan = plan; checkers = checkers; bound = bound; tears = tears; first = first }
-    → input ≡ made → (input.first ≡ false → ls ≡ failing_lines input) → first_lines ls ≡ first_lines (failing_lines input)
+pub found_of : (s : Settings) (value : LogValue) (checkers : List CheckerValue) (plan : PlanValue) (bound : ℕ) (tears first : Bool) (input : Subject) (ls : List FailingLine)
+    → plan ≡ plan_of s value → bound ≡ s.bound → tears ≡ s.tears → input ≡ record { plan = plan; checkers = checkers; bound = bound; tears = tears; first = first }
+    → (input.first ≡ false → ls ≡ failing_lines input) → first_lines ls ≡ first_lines (failing_lines input)
     → AreFound first (failing_lines (subject_of s value checkers)) ls
-found_of s value checkers plan bound tears first input made ls e f g is same whole firsts =
+found_of s value checkers plan bound tears first input ls e f g path whole firsts =
     let all = same_lines s value checkers plan bound tears first e f g in
-    let path = same ∙ is in
     record {
       whole = λ none. subst (λ (x : Subject). x.first ≡ false → ls ≡ failing_lines x) path whole none ∙ all;
       firsts = subst (λ (x : Subject). first_lines ls ≡ first_lines (failing_lines x)) path firsts ∙ ap first_lines all;

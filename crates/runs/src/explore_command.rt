@@ -244,7 +244,7 @@ fn reported(
     write_report(alloc, &head, &work.lines)
 }
 
-/// Why the programs fail, by the work, of which the marks are kept.
+/// Why the programs fail, by the work.
 fn explained(
     alloc: Global,
     log: &Log,
@@ -261,16 +261,14 @@ fn explained(
     requires lines { work.now.lines ≡ failing_lines (subject_of options.now log.now checkers.now) }
     ensures { IfOk result (λ bytes. Tells tells.Causes options.now log.now checkers.now bytes.items) }
 {
-    let Some(marks) = work.lines.marks() else {
-        return Err(AllocError);
-    };
+    let marks = work.lines.marks(alloc)?;
     let head = head_of_run(alloc, log, checkers, options, images, false)?;
     // A law of the failing lines, which does nothing: they are in their order, and so are those of each program.
     lines_are_set();
-    causes_text(alloc, &head, starts, log, &work.lines, marks)
+    causes_text(alloc, &head, starts, log, &work.lines, marks.as_slice())
 }
 
-/// Where the programs fail, as a page, by the work, of which the marks are kept.
+/// Where the programs fail, as a page, by the work.
 fn paged(
     alloc: Global,
     log: &Log,
@@ -289,13 +287,19 @@ fn paged(
     requires lines { work.now.lines ≡ failing_lines (subject_of options.now log.now checkers.now) }
     ensures { IfOk result (λ bytes. Tells tells.Page options.now log.now checkers.now bytes.items) }
 {
-    let Some(marks) = work.lines.marks() else {
-        return Err(AllocError);
-    };
+    let marks = work.lines.marks(alloc)?;
     let head = head_of_run(alloc, log, checkers, options, images, false)?;
     // A law of the failing lines, which does nothing: they are in their order, and so are those of each program.
     lines_are_set();
-    page_bytes(alloc, log, &head, starts, history, &work.lines, marks)
+    page_bytes(
+        alloc,
+        log,
+        &head,
+        starts,
+        history,
+        &work.lines,
+        marks.as_slice(),
+    )
 }
 
 /// What is to be told of the work.
@@ -335,16 +339,6 @@ fn is_first_asked(telling: Telling, options: &Options) -> bool
     }
 }
 
-/// The input of a run, which keeps marks of the failing lines where why programs fail is to be told.
-fn marked<'a>(telling: Telling, input: Input<'a>) -> Input<'a>
-    ensures { result ≡ input.entry }
-{
-    match telling {
-        Telling::Report => input,
-        Telling::Causes | Telling::Page => input.with_marks(),
-    }
-}
-
 /// Judges the crash images of a plan by checkers, and tells of those that fail.
 fn judged<'x, G: Gate + Sync, R: Threads + Wait + Sync>(
     rt: &R,
@@ -377,7 +371,7 @@ fn judged<'x, G: Gate + Sync, R: Threads + Wait + Sync>(
         Err(_error) => return Err(Refusal::of_memory()),
     };
     let first = is_first_asked(telling, options);
-    let unmarked = Input::new(
+    let input = Input::new(
         &*plan,
         &starts,
         &history,
@@ -390,7 +384,6 @@ fn judged<'x, G: Gate + Sync, R: Threads + Wait + Sync>(
         first,
         images,
     );
-    let input = marked(telling, unmarked);
     let work = explore_all(rt, alloc, gate, &input)?;
     match told(
         alloc, telling, log, checkers, options, images, &starts, &history, &work,

@@ -39,12 +39,12 @@ pub(crate) fn lower(image: Option<u64>, other: Option<u64>) -> Option<u64>
 }
 
 impl BlockLines {
-    /// No line; of those that are added the marks are kept too, if that is asked for.
-    pub(crate) fn new(alloc: Global, marked: bool) -> BlockLines
+    /// No line.
+    pub(crate) fn new(alloc: Global) -> BlockLines
         ensures { result ≡ [] }
     {
         BlockLines {
-            lines: Part::with_marks(alloc, marked),
+            lines: Part::new(alloc),
             least: None,
         }
     }

@@ -7,16 +7,17 @@ ghost use Rattle.workers.specs.Input.{IsRunOf};
 ghost use Rattle.workers.specs.Pieces.{block_count};
 ghost use Rattle.workers.specs.Crew.{AreBack, AreParted, IsDone};
 
+use crate::cache::Shards;
 use crate::gate::Gate;
 use crate::input::Input;
 use crate::piece::Piece;
 use crate::taking::pieces_taken;
 use shares::{Board, Deal, Hand, Seat, hands};
 use std::alloc::{AllocError, Global};
-use std::sync::{Mutex, Wait};
+use std::sync::Wait;
 use std::thread;
 use std::thread::Threads;
-use verdict_cache::{Run, Shard};
+use verdict_cache::Run;
 
 /// What a worker begins with: its number, its seat at the board, and its hand.
 #[derive(Drop)]
@@ -65,11 +66,10 @@ impl<H: Deal> Job<H> {
         alloc: Global,
         gate: &G,
         input: &Input<'a>,
-        shards: &[Mutex<Shard<'a, J>>],
+        shards: &Shards<'_, 'a, J>,
         board: &Board,
     ) -> Done
         requires run { IsRunOf J.plan J.checkers input.now }
-        requires shards { length shards.now ≡ 16 }
         requires board { self.seat.board ≡ board.now.name }
         requires blocks { (board.now.name.blocks ≡ block_count input.now) × (H.blocks ≡ block_count input.now) }
         requires fresh { (self.seat.steps ≡ []) × (self.hand ≡ hand_value [] [] []) }
@@ -99,12 +99,11 @@ fn all_done<
     alloc: Global,
     gate: &G,
     input: &Input<'a>,
-    shards: &[Mutex<Shard<'a, J>>],
+    shards: &Shards<'_, 'a, J>,
     board: &Board,
     jobs: Vec<Job<H>>,
 ) -> Result<Vec<Done>, AllocError>
     requires run { IsRunOf J.plan J.checkers input.now }
-    requires shards { length shards.now ≡ 16 }
     requires blocks { (board.now.name.blocks ≡ block_count input.now) × (H.blocks ≡ block_count input.now) }
     requires fresh { All (λ j. (j.seat.board ≡ board.now.name) × (j.seat.steps ≡ []) × (j.hand ≡ hand_value [] [] [])) jobs.items }
     ensures count { IfOk result (λ done. length done.items ≡ length jobs.items) }
@@ -114,7 +113,7 @@ fn all_done<
         rt,
         jobs,
         &|job: Job<H>| -> Done
-            requires { IsRunOf J.plan J.checkers input.now × (length shards.now ≡ 16) × (board.now.name.blocks ≡ block_count input.now) × (H.blocks ≡ block_count input.now)
+            requires { IsRunOf J.plan J.checkers input.now × (board.now.name.blocks ≡ block_count input.now) × (H.blocks ≡ block_count input.now)
                 × (job.seat.board ≡ board.now.name) × (job.seat.steps ≡ []) × (job.hand ≡ hand_value [] [] []) }
             ensures { IsDone input.entry.now board.entry.now.name result }
         { job.done(rt, alloc, gate, input, shards, board) },
@@ -164,10 +163,9 @@ pub(crate) fn crew_back<
     alloc: Global,
     gate: &G,
     input: &Input<'a>,
-    shards: &[Mutex<Shard<'a, J>>],
+    shards: &Shards<'_, 'a, J>,
 ) -> Result<Back, AllocError>
     requires run { IsRunOf J.plan J.checkers input.now }
-    requires shards { length shards.now ≡ 16 }
     requires blocks { H.blocks ≡ block_count input.now }
     ensures { IfOk result (λ back. AreBack input.now back.board back.seats.items back.pieces.items) }
 {

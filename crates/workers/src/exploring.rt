@@ -1,6 +1,6 @@
 //! All the work of a run.
 
-ghost use Rattle.std.specs.Prelude.{◌≡◌, ◌≤◌, false, map, length, IfOk, IfErr};
+ghost use Rattle.std.specs.Prelude.{◌≡◌, ◌≤◌, false, map, IfOk, IfErr};
 ghost use Rattle.std.specs.List.Sorted.{IsNonDecreasing};
 ghost use Rattle.base.specs.Refusals.{memory_refusal};
 ghost use Rattle.workers.specs.Failing.{failing_lines};
@@ -10,6 +10,7 @@ ghost use Rattle.workers.specs.Input.{IsRunOf};
 ghost use Rattle.workers.specs.Laws.{BeginsWithFirst};
 ghost use Rattle.workers.specs.Pieces.{RefusesPieces};
 
+use crate::cache::Shards;
 use crate::collecting::collect;
 use crate::crew::{Back, crew_back};
 use crate::gate::Gate;
@@ -20,9 +21,9 @@ use base::refusal::Refusal;
 use lines::Lines;
 use std::alloc::Global;
 use std::marker::Brand;
-use std::sync::{Mutex, Wait};
+use std::sync::Wait;
 use std::thread::Threads;
-use verdict_cache::{Run, Shard, shards};
+use verdict_cache::{Run, shards};
 
 /// What the work comes to.
 #[derive(Drop)]
@@ -39,10 +40,9 @@ fn all_pieces<'a, J: Run + Send + Sync, G: Gate + Sync, R: Threads + Wait + Sync
     alloc: Global,
     gate: &G,
     input: &Input<'a>,
-    shards: &[Mutex<Shard<'a, J>>],
+    shards: &Shards<'_, 'a, J>,
 ) -> Result<Vec<Piece>, Refusal>
     requires run { IsRunOf J.plan J.checkers input.now }
-    requires shards { length shards.now ≡ 16 }
     ensures pieces { IfOk result (λ pieces. ArePiecesOf input.now pieces.items) }
     ensures refused { IfErr result (λ r. r ≡ memory_refusal) }
 {
@@ -64,15 +64,6 @@ fn all_pieces<'a, J: Run + Send + Sync, G: Gate + Sync, R: Threads + Wait + Sync
     }
 }
 
-/// How many looks have found an entry, in all shards.
-fn hits_of<J: Run, R: Wait>(rt: &R, shards: &[Mutex<Shard<'_, J>>]) -> u64 {
-    let mut hits = 0u64;
-    for shard in shards {
-        hits = hits.saturating_add(shard.lock(rt).hits());
-    }
-    hits
-}
-
 /// The work of the run that `J` names.
 fn explored<J: Run + Send + Sync, G: Gate + Sync, R: Threads + Wait + Sync>(
     rt: &R,
@@ -89,18 +80,19 @@ fn explored<J: Run + Send + Sync, G: Gate + Sync, R: Threads + Wait + Sync>(
     ensures order { IfOk result (λ work. IsNonDecreasing (map (λ l. l.image) work.lines)) }
     ensures refused { IfErr result (λ r. r ≡ memory_refusal) }
 {
-    let shards = match shards::<J>(alloc, input.history(), input.checkers(), cache) {
-        Ok(shards) => shards,
+    let locks = match shards::<J>(alloc, input.history(), input.checkers(), cache) {
+        Ok(locks) => locks,
         Err(_error) => return Err(Refusal::of_memory()),
     };
-    let pieces = match all_pieces(rt, alloc, gate, input, shards.as_slice()) {
+    let shards = Shards::new(locks.as_slice());
+    let pieces = match all_pieces(rt, alloc, gate, input, &shards) {
         Ok(pieces) => pieces,
         Err(refusal) => return Err(refusal),
     };
     match collect(alloc, pieces, input.block_count()) {
         Ok(lines) => Ok(Work {
             lines,
-            hits: hits_of(rt, shards.as_slice()),
+            hits: shards.hits(rt),
         }),
         Err(refusal) => Err(refusal),
     }

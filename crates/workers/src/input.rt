@@ -30,8 +30,6 @@ pub struct Input<'a> {
     workers: u8,
     cache: u32,
     images: u64,
-    /// Whether marks of the failing lines are kept (`Lines::marks`).
-    marked: bool,
 }
 
 impl<'a> Model for Input<'a> {
@@ -87,22 +85,7 @@ impl<'a> Input<'a> {
             workers,
             cache,
             images,
-            marked: false,
         }
-    }
-
-    /// The same, judged in the same way; of the failing lines the marks are kept too (`Lines::marks`), as long as there is
-    /// memory for them.
-    pub fn with_marks(mut self) -> Input<'a>
-        ensures { result ≡ self.entry }
-    {
-        self.marked = true;
-        self
-    }
-
-    /// Whether the marks of the failing lines are kept.
-    pub(crate) fn marked(&self) -> bool {
-        self.marked
     }
 
     /// How many images there are.

@@ -12,6 +12,7 @@ ghost use Rattle.workers.specs.Pieces.{block_count, piece_of};
 ghost use Rattle.workers.specs.Input.{line_list, IsRunOf};
 
 use crate::block_lines::BlockLines;
+use crate::cache::Shards;
 use crate::input::Input;
 use crate::piece::{BLOCK, Piece};
 use checker::Checker;
@@ -91,28 +92,26 @@ fn judge_checker(
 fn outcome_of<'a, J: Run, R: Wait>(
     rt: &R,
     alloc: Global,
-    shards: &[Mutex<Shard<'a, J>>],
+    shards: &Shards<'_, 'a, J>,
     choice: &Choice,
     view: &View<'a>,
     key: &Key<'a>,
     checker: &Checker<'_>,
 ) -> Outcome
-    requires shards { length shards.now ≡ 16 }
     requires image { view.now ≡ view_of J.plan choice.now }
     requires key { key_of view.now key.now.program ≡ Some key.now }
     requires checker { slice_get J.checkers key.now.program ≡ Some checker.now }
     requires device { IsFor view.now.log.sectors checker.now.verified }
     ensures { ending_of result ≡ ending_on J.plan choice.now checker.now }
 {
-    let shard = &shards[usize::from(key.shard())];
-    let known = shard.lock(rt).look(key);
-    if let Some(outcome) = known {
+    let shard = shards.of_key(key);
+    if let Some(outcome) = shard.look(rt, key) {
         return outcome;
     }
     let outcome = outcome_on(view, checker);
     one_image_tells();
     if let Ok(own) = key.copy(alloc) {
-        let _kept = shard.lock(rt).put(own, copy_of(&outcome));
+        shard.put(rt, own, copy_of(&outcome));
     }
     outcome
 }
@@ -141,7 +140,7 @@ impl<'a> Input<'a> {
         &self,
         rt: &R,
         alloc: Global,
-        shards: &[Mutex<Shard<'a, J>>],
+        shards: &Shards<'_, 'a, J>,
         lines: &mut BlockLines,
         image: u64,
         choice: &Choice,
@@ -149,7 +148,6 @@ impl<'a> Input<'a> {
         mut key: Key<'a>,
     ) -> Result<(), AllocError>
         requires run { IsRunOf J.plan J.checkers self.now }
-        requires shards { length shards.now ≡ 16 }
         requires choice { slice_get (choices_of self.now) image ≡ Some choice.now }
         requires view { view.now ≡ view_of self.now.plan choice.now }
         requires key { key_of view.now 0 ≡ Some key }
@@ -169,7 +167,7 @@ impl<'a> Input<'a> {
         &self,
         rt: &R,
         alloc: Global,
-        shards: &[Mutex<Shard<'a, J>>],
+        shards: &Shards<'_, 'a, J>,
         changes: &mut Changes<'a>,
         lines: &mut BlockLines,
         image: u64,
@@ -177,7 +175,6 @@ impl<'a> Input<'a> {
         view: &View<'a>,
     ) -> Result<(), AllocError>
         requires run { IsRunOf J.plan J.checkers self.now }
-        requires shards { length shards.now ≡ 16 }
         requires changes { changes.old ≡ self.now.plan.log }
         requires choice { slice_get (choices_of self.now) image ≡ Some choice.now }
         requires view { view.now ≡ view_of self.now.plan choice.now }
@@ -195,14 +192,13 @@ impl<'a> Input<'a> {
         &self,
         rt: &R,
         alloc: Global,
-        shards: &[Mutex<Shard<'a, J>>],
+        shards: &Shards<'_, 'a, J>,
         changes: &mut Changes<'a>,
         lines: &mut BlockLines,
         image: u64,
         choice: &Choice,
     ) -> Result<(), AllocError>
         requires run { IsRunOf J.plan J.checkers self.now }
-        requires shards { length shards.now ≡ 16 }
         requires changes { changes.old ≡ self.now.plan.log }
         requires choice { slice_get (choices_of self.now) image ≡ Some choice.now }
         ensures lines { OnOk result (lines.new ≡ lines.old ++ image_lines self.now image) }
@@ -221,14 +217,13 @@ impl<'a> Input<'a> {
         &self,
         rt: &R,
         alloc: Global,
-        shards: &[Mutex<Shard<'a, J>>],
+        shards: &Shards<'_, 'a, J>,
         changes: &mut Changes<'a>,
         lines: &mut BlockLines,
         first: u64,
         end: u64,
     ) -> Result<(), AllocError>
         requires run { IsRunOf J.plan J.checkers self.now }
-        requires shards { length shards.now ≡ 16 }
         requires changes { changes.old ≡ self.now.plan.log }
         requires some { first < end }
         requires end { end ≤ image_count self.now }
@@ -250,12 +245,11 @@ pub(crate) fn judge_taken<'a, J: Run, R: Wait>(
     rt: &R,
     alloc: Global,
     input: &Input<'a>,
-    shards: &[Mutex<Shard<'a, J>>],
+    shards: &Shards<'_, 'a, J>,
     changes: &mut Changes<'a>,
     block: u32,
 ) -> Result<Piece, AllocError>
     requires run { IsRunOf J.plan J.checkers input.now }
-    requires shards { length shards.now ≡ 16 }
     requires changes { changes.old ≡ input.now.plan.log }
     requires block { block < block_count input.now }
     ensures piece { IfOk result (λ piece. piece ≡ piece_of input.now block) }
@@ -263,7 +257,7 @@ pub(crate) fn judge_taken<'a, J: Run, R: Wait>(
 {
     let first = BLOCK * u64::from(block);
     let end = input.image_count().min(first + BLOCK);
-    let mut lines = BlockLines::new(alloc, input.marked());
+    let mut lines = BlockLines::new(alloc);
     input.judge_row(rt, alloc, shards, changes, &mut lines, first, end)?;
     Ok(Piece::of(block, lines))
 }
@@ -286,5 +280,5 @@ pub fn judge_block<'a, J: Run, R: Wait>(
     ensures { IfOk result (λ piece. piece ≡ piece_of input.now block) }
 {
     let mut changes = Changes::new(alloc, input.history());
-    judge_taken(rt, alloc, input, shards, &mut changes, block)
+    judge_taken(rt, alloc, input, &Shards::new(shards), &mut changes, block)
 }

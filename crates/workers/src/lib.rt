@@ -7,7 +7,6 @@
 //! | Type or call | What it is |
 //! |---|---|
 //! | `Input::new(plan, starts, history, checkers, by, bound, tears, workers, cache, first, images)` | what is judged, whose images are counted; by how many workers, with how large a cache |
-//! | `Input::with_marks` | the same, of whose failing lines marks are kept too (`Lines::marks`) |
 //! | `judge_block(rt, alloc, input, shards, block)` | the piece of a block: its lines, by image and then by checker |
 //! | `Piece::passed(block, image)` | the piece of a block that was passed over after a failing image |
 //! | `collect(alloc, pieces, blocks)` | all lines, of pieces in any order; refused where a block has two pieces or none |
@@ -16,7 +15,7 @@
 //!
 //! Workers share the board of `shares`, from which each takes blocks by its hand until there is none left,
 //! and the shards of `verdict_cache`. The caller is worker 0, each other one has a thread of its own where one can
-//! be made. Before a checker is run, the shard of the image's key is asked for what it ends in; where it
+//! be made. Before a checker is run, the shard of the image's key (`cache.rt`) is asked for what it ends in; where it
 //! has nothing, the checker is run and the outcome put there. An image without a key is judged without
 //! the cache, and without a cache no key is made.
 //!
@@ -74,6 +73,7 @@
 #![tactic(auto)]
 
 mod block_lines;
+mod cache;
 mod collecting;
 mod crew;
 mod exploring;

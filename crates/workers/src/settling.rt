@@ -5,14 +5,15 @@ ghost use Rattle.workers.specs.Input.{IsRunOf};
 ghost use Rattle.workers.specs.Pieces.{PieceValue, block_count};
 ghost use Rattle.workers.specs.Settling.{AreRowsOf, AreSettled, has_full, piece_or_part};
 
+use crate::cache::Shards;
 use crate::gate::Gate;
 use crate::input::Input;
 use crate::judging::judge_taken;
 use crate::piece::Piece;
 use images::Changes;
 use std::alloc::{AllocError, Global};
-use std::sync::{Mutex, Wait};
-use verdict_cache::{Run, Shard};
+use std::sync::Wait;
+use verdict_cache::Run;
 
 /// Whether a row has a full piece.
 fn has_full(row: &Option<Piece>) -> bool
@@ -67,13 +68,12 @@ fn piece_of_row<'a, J: Run, G: Gate, R: Wait>(
     alloc: Global,
     gate: &G,
     input: &Input<'a>,
-    shards: &[Mutex<Shard<'a, J>>],
+    shards: &Shards<'_, 'a, J>,
     changes: &mut Changes<'a>,
     block: u32,
     row: Option<Piece>,
 ) -> Result<Piece, AllocError>
     requires run { IsRunOf J.plan J.checkers input.now }
-    requires shards { length shards.now ≡ 16 }
     requires changes { changes.old ≡ input.now.plan.log }
     requires block { block < block_count input.now }
     ensures piece { IfOk result (λ piece. piece ≡ piece_or_part input.now block row) }
@@ -89,18 +89,17 @@ fn piece_of_row<'a, J: Run, G: Gate, R: Wait>(
 }
 
 /// One piece of each block, by block, of the pieces of all workers. Where a block has several, a full one
-/// is kept: they are the same. A block that has none is judged by the caller. No run has either: a deque
-/// gives each block to one worker, and its owner leaves none in it.
+/// is kept: they are the same. A block that has none is judged by the caller. Tests of runs saw neither;
+/// that none has either isn't proved.
 pub(crate) fn settled<'a, J: Run, G: Gate, R: Wait>(
     rt: &R,
     alloc: Global,
     gate: &G,
     input: &Input<'a>,
-    shards: &[Mutex<Shard<'a, J>>],
+    shards: &Shards<'_, 'a, J>,
     pieces: Vec<Piece>,
 ) -> Result<Vec<Piece>, AllocError>
     requires run { IsRunOf J.plan J.checkers input.now }
-    requires shards { length shards.now ≡ 16 }
     requires pieces { All (λ piece. piece.block < block_count input.now) pieces.items }
     ensures { IfOk result (λ settled. AreSettled input.now pieces.items settled.items) }
 {

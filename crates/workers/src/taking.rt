@@ -10,6 +10,7 @@ ghost use Rattle.workers.specs.Least.{least_image};
 ghost use Rattle.workers.specs.Pieces.{block_count, lines_of, piece_of};
 ghost use Rattle.workers.specs.Taking.{KeepsPosts, AddsPiece, HasTaken};
 
+use crate::cache::Shards;
 use crate::gate::Gate;
 use crate::input::Input;
 use crate::judging::judge_taken;
@@ -17,8 +18,8 @@ use crate::piece::Piece;
 use images::Changes;
 use shares::{Board, Deal, Hand, Seat};
 use std::alloc::{AllocError, Global};
-use std::sync::{Mutex, Wait};
-use verdict_cache::{Run, Shard};
+use std::sync::Wait;
+use verdict_cache::Run;
 
 /// The failing image after which a block is passed over: one that was posted by now, where the first is
 /// all that is asked for, and all of the block lies after it.
@@ -59,14 +60,13 @@ fn piece_taken<'a, J: Run, R: Wait>(
     rt: &R,
     alloc: Global,
     input: &Input<'a>,
-    shards: &[Mutex<Shard<'a, J>>],
+    shards: &Shards<'_, 'a, J>,
     changes: &mut Changes<'a>,
     board: &Board,
     seat: &mut Seat,
     block: u32,
 ) -> Result<Piece, AllocError>
     requires run { IsRunOf J.plan J.checkers input.now }
-    requires shards { length shards.now ≡ 16 }
     requires board { seat.old.board ≡ board.now.name }
     requires changes { changes.old ≡ input.now.plan.log }
     requires block { block < block_count input.now }
@@ -92,7 +92,7 @@ fn piece_through<'a, J: Run, G: Gate, R: Wait>(
     alloc: Global,
     gate: &G,
     input: &Input<'a>,
-    shards: &[Mutex<Shard<'a, J>>],
+    shards: &Shards<'_, 'a, J>,
     changes: &mut Changes<'a>,
     board: &Board,
     worker: u8,
@@ -100,7 +100,6 @@ fn piece_through<'a, J: Run, G: Gate, R: Wait>(
     block: u32,
 ) -> Result<Piece, AllocError>
     requires run { IsRunOf J.plan J.checkers input.now }
-    requires shards { length shards.now ≡ 16 }
     requires board { seat.old.board ≡ board.now.name }
     requires changes { changes.old ≡ input.now.plan.log }
     requires block { block < block_count input.now }
@@ -122,7 +121,7 @@ fn take_blocks<'a, J: Run, H: Deal, G: Gate, R: Wait>(
     alloc: Global,
     gate: &G,
     input: &Input<'a>,
-    shards: &[Mutex<Shard<'a, J>>],
+    shards: &Shards<'_, 'a, J>,
     changes: &mut Changes<'a>,
     board: &Board,
     worker: u8,
@@ -131,7 +130,6 @@ fn take_blocks<'a, J: Run, H: Deal, G: Gate, R: Wait>(
     pieces: &mut Vec<Piece>,
 ) -> Result<(), AllocError>
     requires run { IsRunOf J.plan J.checkers input.now }
-    requires shards { length shards.now ≡ 16 }
     requires blocks { (board.now.name.blocks ≡ block_count input.now) × (H.blocks ≡ block_count input.now) }
     requires changes { changes.old ≡ input.now.plan.log }
     requires taken { HasTaken input.now board.now.name seat.old hand.old [] pieces.old.items }
@@ -156,7 +154,7 @@ fn draw_blocks<'a, J: Run, G: Gate, R: Wait>(
     alloc: Global,
     gate: &G,
     input: &Input<'a>,
-    shards: &[Mutex<Shard<'a, J>>],
+    shards: &Shards<'_, 'a, J>,
     changes: &mut Changes<'a>,
     board: &Board,
     worker: u8,
@@ -164,7 +162,6 @@ fn draw_blocks<'a, J: Run, G: Gate, R: Wait>(
     pieces: &mut Vec<Piece>,
 ) -> Result<(), AllocError>
     requires run { IsRunOf J.plan J.checkers input.now }
-    requires shards { length shards.now ≡ 16 }
     requires blocks { board.now.name.blocks ≡ block_count input.now }
     requires board { seat.old.board ≡ board.now.name }
     requires changes { changes.old ≡ input.now.plan.log }
@@ -188,14 +185,13 @@ pub(crate) fn pieces_taken<'a, J: Run, H: Deal, G: Gate, R: Wait>(
     alloc: Global,
     gate: &G,
     input: &Input<'a>,
-    shards: &[Mutex<Shard<'a, J>>],
+    shards: &Shards<'_, 'a, J>,
     board: &Board,
     worker: u8,
     seat: &mut Seat,
     hand: &mut Hand<H>,
 ) -> Result<Vec<Piece>, AllocError>
     requires run { IsRunOf J.plan J.checkers input.now }
-    requires shards { length shards.now ≡ 16 }
     requires board { seat.old.board ≡ board.now.name }
     requires blocks { (board.now.name.blocks ≡ block_count input.now) × (H.blocks ≡ block_count input.now) }
     requires fresh { (seat.old.steps ≡ []) × (hand.old ≡ hand_value [] [] []) }

@@ -34,34 +34,16 @@ fn gathered(alloc: Global) -> Result<Lines, AllocError> {
         .followed_by(part(alloc, 9, 10)?)
 }
 
-/// The lines of a part that keeps their marks.
-fn marked(alloc: Global) -> Result<Lines, AllocError> {
-    let mut part = Part::with_marks(alloc, true);
-    part.push(line(3))?;
-    part.push(line(9))?;
-    part.trim();
-    Lines::new(alloc).followed_by(part)
-}
-
-/// Whether these are the marks of two lines.
-fn are_marks(marks: Option<&[Mark]>) -> bool {
+/// Whether these are the marks of the lines of two parts.
+fn are_marks(marks: &[Mark]) -> bool {
     match marks {
-        Some([first, second]) => {
-            first.image == 3 && first.program == 0 && second.image == 9 && second.program == 0
+        [first, second, third, fourth] => {
+            let images = [first.image, second.image, third.image, fourth.image];
+            let programs = [first.program, second.program, third.program, fourth.program];
+            images == [3, 4, 9, 10] && programs == [0, 0, 0, 0]
         }
         _ => false,
     }
-}
-
-/// Whether marks are there where they were asked for. Where memory is wanting for them alone, the lines are
-/// there without any.
-fn marks_are_right(alloc: Global) -> bool {
-    let lines = settled!(marked(alloc));
-    if lines.marks().is_some() {
-        return are_marks(lines.marks());
-    }
-    let again = settled!(marked(alloc));
-    lines.len() == 2 && are_marks(again.marks())
 }
 
 /// What lines print, and what those of the first image do.
@@ -90,5 +72,9 @@ fn part_is_right(alloc: Global) -> bool {
 pub fn are_right(alloc: Global) -> bool {
     let lines = settled!(gathered(alloc));
     let out = settled!(printed(alloc, &lines));
-    part_is_right(alloc) && marks_are_right(alloc) && lines.len() == 4 && out.as_slice() == PRINTED
+    let marks = settled!(lines.marks(alloc));
+    part_is_right(alloc)
+        && are_marks(marks.as_slice())
+        && lines.len() == 4
+        && out.as_slice() == PRINTED
 }

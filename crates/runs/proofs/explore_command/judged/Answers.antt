@@ -17,14 +17,14 @@ returns-in-Err-clause-refused g c = rw c.of_memory.ensures no_plan_memory
 pub returns-in-Err-new-clause-refused : goal.returns-in-Err-new-clause-refused
 returns-in-Err-new-clause-refused g c = rw c.of_memory-in-Err-new.ensures no_plan_memory
 
-pub new-unmarked-requires-clause-by : goal.new-unmarked-requires-clause-by
-new-unmarked-requires-clause-by g c = c.by.ensures ∙ sym (ap (λ (p : PlanValue). p.by) c.requires.plan)
+pub new-input-requires-clause-by : goal.new-input-requires-clause-by
+new-input-requires-clause-by g c = c.by.ensures ∙ sym (ap (λ (p : PlanValue). p.by) c.requires.plan)
 
-pub new-unmarked-requires-clause-images : goal.new-unmarked-requires-clause-images
-new-unmarked-requires-clause-images g c = counted_of _ _ _ _ _ _ c.args.images c.requires.plan c.bound-bound.ensures.value c.tears-tears.ensures c.requires.images
+pub new-input-requires-clause-images : goal.new-input-requires-clause-images
+new-input-requires-clause-images g c = counted_of _ _ _ _ _ _ c.args.images c.requires.plan c.bound-bound.ensures.value c.tears-tears.ensures c.requires.images
 
-pub new-unmarked-requires-clause-device : goal.new-unmarked-requires-clause-device
-new-unmarked-requires-clause-device g c =
+pub new-input-requires-clause-device : goal.new-input-requires-clause-device
+new-input-requires-clause-device g c =
     fit_plan c.args.options.now c.args.log.now c.args.plan.now c.args.checkers.now c.requires.plan c.requires.device c.requires.verified
 
 pub returns-in_err-work-clause-refused : goal.returns-in_err-work-clause-refused
@@ -40,8 +40,8 @@ told-requires-clause-starts g c =
 pub told-requires-clause-lines : goal.told-requires-clause-lines
 told-requires-clause-lines g c =
     subst (λ (b : Bool). AreFound b (failing_lines (subject_of c.args.options.now c.args.log.now c.args.checkers.now)) c.in_ok-work.work.lines) c.is_first_asked-first.ensures
-    (found_of c.args.options.now c.args.log.now c.args.checkers.now _ _ _ _ c.marked-input.result c.new-unmarked.result c.in_ok-work.work.lines
-    c.requires.plan c.bound-bound.ensures.value c.tears-tears.ensures c.new-unmarked.ensures c.marked-input.ensures c.in_ok-work.ensures.whole c.in_ok-work.ensures.first)
+    (found_of c.args.options.now c.args.log.now c.args.checkers.now _ _ _ _ c.new-input.result c.in_ok-work.work.lines
+    c.requires.plan c.bound-bound.ensures.value c.tears-tears.ensures c.new-input.ensures c.in_ok-work.ensures.whole c.in_ok-work.ensures.first)
 
 pub returns-clause-refused : goal.returns-clause-refused
 returns-clause-refused g c = rw c.of_memory-in-Err-told.ensures no_plan_memory
@@ -49,8 +49,8 @@ returns-clause-refused g c = rw c.of_memory-in-Err-told.ensures no_plan_memory
 pub returns-in-Ok-told-clause-failing : goal.returns-in-Ok-told-clause-failing
 returns-in-Ok-told-clause-failing g c =
     fails_of_found c.args.options.now c.args.log.now c.args.checkers.now _ c.in_ok-work.work.lines c.is_empty.result
-    (found_of c.args.options.now c.args.log.now c.args.checkers.now _ _ _ _ c.marked-input.result c.new-unmarked.result c.in_ok-work.work.lines
-    c.requires.plan c.bound-bound.ensures.value c.tears-tears.ensures c.new-unmarked.ensures c.marked-input.ensures c.in_ok-work.ensures.whole c.in_ok-work.ensures.first)
+    (found_of c.args.options.now c.args.log.now c.args.checkers.now _ _ _ _ c.new-input.result c.in_ok-work.work.lines
+    c.requires.plan c.bound-bound.ensures.value c.tears-tears.ensures c.new-input.ensures c.in_ok-work.ensures.whole c.in_ok-work.ensures.first)
     c.is_empty.ensures
 
 pub told-requires-clause-history : goal.told-requires-clause-history

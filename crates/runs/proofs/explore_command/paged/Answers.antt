@@ -1,3 +1,4 @@
+use Rattle.std.proofs.Common.{◌∙◌}
 use Rattle.request.proofs.Results.{both_ok}
 use Rattle.runs.proofs.Explained.{are_images}
 use Rattle.runs.proofs.Pages.{same_log, same_history, same_cuts, same_by, same_bound, same_tears, page_of_lines}
@@ -28,12 +29,12 @@ page_bytes-requires-clause-tears c =
 pub page_bytes-requires-clause-images : goal.page_bytes-requires-clause-images
 page_bytes-requires-clause-images c =
     λ program.
-    are_images c.lines_are_set.ensures c.args.options.now c.args.log.now c.args.checkers.now c.args.starts.now c.args.work.now.lines c.in-Some.marks.now program
-    c.requires.starts c.requires.lines c.in-Some.ensures
+    are_images c.lines_are_set.ensures c.args.options.now c.args.log.now c.args.checkers.now c.args.starts.now c.args.work.now.lines c.as_slice.result.now program
+    c.requires.starts c.requires.lines (c.as_slice.ensures.value ∙ c.in_ok-marks.ensures)
 
 pub returns : goal.returns
 returns c =
     both_ok c.page_bytes.result _ _ _ c.page_bytes.ensures c.page_bytes.ensures
     (λ bytes tells again.
-    page_of_lines c.args.options.now c.args.log.now c.args.checkers.now c.in_ok-head.head c.args.starts.now c.args.work.now.lines c.in-Some.marks.now bytes.items
-    c.in_ok-head.ensures c.requires.starts c.requires.lines c.in-Some.ensures tells)
+    page_of_lines c.args.options.now c.args.log.now c.args.checkers.now c.in_ok-head.head c.args.starts.now c.args.work.now.lines c.as_slice.result.now bytes.items
+    c.in_ok-head.ensures c.requires.starts c.requires.lines (c.as_slice.ensures.value ∙ c.in_ok-marks.ensures) tells)

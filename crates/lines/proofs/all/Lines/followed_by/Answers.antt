@@ -1,11 +1,11 @@
-use Rattle.std.proofs.Common.{◌≡◌, ◌∙◌, ◌<◌, ◌^◌, ◌++◌, [], List, length, rules, ap, sym}
+use Rattle.std.proofs.Common.{◌≡◌, ◌∙◌, ◌<◌, ◌^◌, ◌++◌, [], ◌∷◌, List, length, map, string_bytes, rules, ap, sym}
 use Rattle.std.specs.List.{flat_map}
-use Rattle.std.proofs.lemmas.List.{flat_map_more}
+use Rattle.std.proofs.lemmas.List.{flat_map_more, map-append}
 use Rattle.lines.specs.Line.{FailingLine}
 use Rattle.lines.specs.Lines.{said_by}
 use Rattle.lines.proofs.Changes.{few_of_both}
 use Rattle.lines.proofs.Keeping.{said-append, said-length, kept_both}
-use Rattle.lines.proofs.Marked.{marks_both}
+use Rattle.lines.proofs.Texts.{texts_more}
 use Rattle.lines.proofs.all.Lines.followed_by.Goals as goal
 
 pub followed_by-requires : goal.followed_by-requires
@@ -21,9 +21,10 @@ pub invariant_of-result : goal.invariant_of-result
 invariant_of-result c =
     let all : said_by c.append.new.self.items ≡ said_by c.self.inside.said.items ++ said_by c.part.inside.said.items =
     ap said_by c.in_ok-append.ensures.items ∙ said-append c.self.inside.said.items c.part.inside.said.items in
-    let texts : flat_map (λ t. t.items) c.push.new.self.items ≡ flat_map (λ t. t.items) c.self.inside.texts.items ++ c.part.inside.text.items =
-    ap (flat_map (λ t. t.items)) c.in_ok-push.ensures.items ∙ sym (flat_map_more (λ t. t.items) [] c.self.inside.texts.items c.part.inside.text) in (
-      rw (all, texts, c.in_ok-add_leading.ensures, c.as_slice.ensures.value, c.leads_on-leads.ensures)
+    let texts : flat_map (λ t. string_bytes t) c.push.new.self.items ≡ flat_map (λ t. string_bytes t) c.self.inside.texts.items ++ string_bytes c.part.inside.text =
+    ap (flat_map (λ t. string_bytes t)) c.in_ok-push.ensures.items ∙ sym (flat_map_more (λ t. string_bytes t) [] c.self.inside.texts.items c.part.inside.text) in (
+      rw (all, texts, c.in_ok-add_leading.ensures, c.as_bytes.ensures.value, c.leads_on-leads.ensures)
           (kept_both _ _ _ _ _ _ _ _ _ _ _ _ c.self.invariant.0 c.part.invariant.0 _ _ _ (c.followed_by.ensures _ _ c.self.invariant.0.images c.part.invariant.0.images)),
-      rw all (marks_both _ _ _ (c.both_marks.ensures _ _ c.self.invariant.1 c.part.invariant.1)),
+      rw (all, ap (map (λ t. string_bytes t)) c.in_ok-push.ensures.items, map-append (λ t. string_bytes t) c.self.inside.texts.items (c.part.inside.text ∷ []))
+          (texts_more _ _ _ _ c.self.invariant.1 c.part.invariant.1 c.part.invariant.0.text_is),
     )

@@ -1,10 +1,10 @@
-use Rattle.std.proofs.Common.{ℕ, ◌≡◌, ◌∙◌, ◌<◌, ◌^◌, ◌++◌, List, length, rules, refl, ap, sym}
+use Rattle.std.proofs.Common.{ℕ, ◌≡◌, ◌∙◌, ◌<◌, ◌^◌, ◌++◌, List, [], ◌∷◌, length, string_bytes, rules, refl, ap, sym}
 use Rattle.lines.specs.Line.{FailingLine}
 use Rattle.lines.specs.Lines.{line_value}
 use Rattle.lines.specs.Text.{line_text}
 use Rattle.lines.proofs.Changes.{few_of_both}
 use Rattle.lines.proofs.Keeping.{said-length, part_more}
-use Rattle.lines.proofs.Marked.{marks_both}
+use Rattle.lines.proofs.Texts.{small_both}
 use Rattle.lines.proofs.part.Part.push.Goals as goal
 
 pub followed_by-self-inside-requires : goal.followed_by-self-inside-requires
@@ -17,10 +17,10 @@ followed_by-self-inside-requires c =
 pub invariant_of-self-2 : goal.invariant_of-self-2
 invariant_of-self-2 c =
     let one = c.of-images.ensures (line_value c.args.line) refl in
-    let printed : c.as_bytes.result.now ≡ line_text (line_value c.args.line) =
-    c.as_bytes.ensures.value ∙ c.in_ok-put_line.ensures ∙ ap (λ (text : List ℕ). text ++ line_text (line_value c.args.line)) c.clear.ensures.bytes in
-    let place : c.len.result ≡ length c.add.new.text.items = search rules in (
+    let printed : c.as_str.result.now ≡ line_text (line_value c.args.line) =
+    c.as_str.ensures.value ∙ c.in_ok-put_line.ensures ∙ ap (λ (text : List ℕ). text ++ line_text (line_value c.args.line)) c.clear.ensures.bytes in
+    let place : c.len.result ≡ length (string_bytes c.add.new.text) = search rules in (
       rw (c.end_of-self-inside.ensures, c.leads_on-leads.ensures, place, c.in_ok-add.ensures.said, c.in_ok-add.ensures.text)
           (part_more _ _ _ _ _ _ _ _ _ _ _ c.self.invariant.0 printed one _ _ _ (c.followed_by-self-inside.ensures _ _ c.self.invariant.0.images one)),
-      rw c.in_ok-add.ensures.said (marks_both _ _ _ (c.keep_mark.ensures _ c.self.invariant.1)),
+      rw c.in_ok-add.ensures.said (small_both _ (line_value c.args.line ∷ []) c.self.invariant.1 ((search rules, search rules), tt)),
     )
