@@ -4,3 +4,12 @@ pub mod Appending
 pub mod OneReport
 pub mod OwnRun
 pub mod Once
+pub mod Alike
+pub mod OneCause
+pub mod OnePairs
+pub mod OneText
+pub mod OnePage
+pub mod OneAnswer
+pub mod OneWork
+pub mod OneRefusal
+pub mod Differences

@@ -26,7 +26,7 @@ use Rattle.runs.specs.Explore as explore
 use Rattle.runs.specs.Explore.{IsCheckerOf, AreCheckersOf, subject_of, report_of, IsReport, RefusesProgram, with_code_fault, with_verifier_fault, no_code_memory, no_verifier_memory, no_list_memory, Refuses, for_count, for_program}
 use Rattle.commands.specs.Laws.{IsOfMemory}
 
-same_log : TextOfOneLog → (text : List ℕ) (s : Settings) (v w : LogValue) → HasImages text s v → HasImages text s w → v ≡ w
+pub same_log : TextOfOneLog → (text : List ℕ) (s : Settings) (v w : LogValue) → HasImages text s v → HasImages text s w → v ≡ w
 same_log texts text s v w h k = texts text v w h.reads.of_log k.reads.of_log (h.reads.device ∙ sym k.reads.device)
 
 -- a program runs within one limit
@@ -41,7 +41,7 @@ same_checker programs verdicts s bytes c d h k =
     let within = same_limit verdicts s.checked s.sectors c d program h.within k.within in
     λ i. record { program = program i; limit = within.0 i; verified = within.1 i }
 
-same_checkers : OneProgram → OneVerdict → (s : Settings) (files : List (List ℕ)) (cs ds : List CheckerValue) → AreCheckersOf s files cs → AreCheckersOf s files ds → cs ≡ ds
+pub same_checkers : OneProgram → OneVerdict → (s : Settings) (files : List (List ℕ)) (cs ds : List CheckerValue) → AreCheckersOf s files cs → AreCheckersOf s files ds → cs ≡ ds
 same_checkers programs verdicts s [] [] [] h k = refl
 same_checkers programs verdicts s [] [] (d ∷ ds) h k = absurd k
 same_checkers programs verdicts s [] (c ∷ cs) ds h k = absurd h
@@ -52,7 +52,7 @@ same_checkers programs verdicts s (bytes ∷ files) (c ∷ cs) (d ∷ ds) h k =
     let rest = same_checkers programs verdicts s files cs ds h.1 k.1 in
     λ i. one i ∷ rest i
 
-same_test : (a b : Bool) (ls ms : List FailingLine) → IsTrue a ↔ (ls ≢ []) → IsTrue b ↔ (ms ≢ []) → ls ≡ ms → a ≡ b
+pub same_test : (a b : Bool) (ls ms : List FailingLine) → IsTrue a ↔ (ls ≢ []) → IsTrue b ↔ (ms ≢ []) → ls ≡ ms → a ≡ b
 same_test true true ls ms h k same = refl
 same_test false false ls ms h k same = refl
 same_test true false ls ms h k same = absurd (false≢true (k.1 (λ none. h.0 refl (same ∙ none))))
@@ -104,17 +104,17 @@ pub record Below : Type 0 where
   pub spelled : NoFaultInSpelled
   pub verdicts : OneVerdict
 
-of_log : Below → (text : List ℕ) (s : Settings) (value : LogValue) (r : Refusal) → HasImages text s value → RefusesLog text s.sectors r → IsOfMemory r.code
+pub of_log : Below → (text : List ℕ) (s : Settings) (value : LogValue) (r : Refusal) → IsLogOf text s value → RefusesLog text s.sectors r → IsOfMemory r.code
 of_log below text s value r h (with_fault cause at fault) =
-    absurd (below.clean text value cause at h.reads.of_log (subst (λ n. log_fault.FirstFault text n cause at) (sym h.reads.device) fault))
+    absurd (below.clean text value cause at h.of_log (subst (λ n. log_fault.FirstFault text n cause at) (sym h.device) fault))
 of_log below text s value r h no_memory = refl
 
 of_plan : Below → (s : Settings) (value : LogValue) (r : Refusal) → length (images_of s value) ≤ limit → RefusesPlan s value r → IsOfMemory r.code
 of_plan below s value r few (too_many cut past) = absurd (not_past s value cut few past)
 of_plan below s value r few no_plan_memory = refl
 
-of_source : Below → (text : List ℕ) (s : Settings) (value : LogValue) (r : Refusal) → HasImages text s value → RefusesSource text s r → IsOfMemory r.code
-of_source below text s value _ h (for_log r why) = of_log below text s value r h why
+pub of_source : Below → (text : List ℕ) (s : Settings) (value : LogValue) (r : Refusal) → HasImages text s value → RefusesSource text s r → IsOfMemory r.code
+of_source below text s value _ h (for_log r why) = of_log below text s value r h.reads why
 of_source below text s value _ h (for_plan r other reads why) =
     let same : other ≡ value = below.texts text other value reads.of_log h.reads.of_log (reads.device ∙ sym h.reads.device) in
     of_plan below s value r h.few (subst (λ v. RefusesPlan s v r) same why)

@@ -4,3 +4,5 @@ pub mod Acting
 pub mod Exits
 pub mod Once
 pub mod Laws
+pub mod OneAnswer
+pub mod Differences

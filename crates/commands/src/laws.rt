@@ -1,7 +1,10 @@
 //! Laws of reports and refusals. The functions do nothing else than call the laws of lower layers; each
 //! contract is a theorem.
 
+ghost use Rattle.bpf_asm.specs.Laws as asm;
+ghost use Rattle.commands.specs.Differences.{ShowNamesDifferences};
 ghost use Rattle.commands.specs.Laws.{OneReport, ReportOrRefusal};
+ghost use Rattle.commands.specs.OneAnswer.{OneAnswer, AnswerOrRefusal, WorkChangesNothing};
 ghost use Rattle.commands.specs.Once.{EachImageStandsOnce};
 
 use bpf_isa::laws::{no_fault_in_spelled, one_program};
@@ -18,6 +21,50 @@ pub fn one_report()
     text_of_one_log();
     one_program();
     one_verdict();
+}
+
+/// A source text says one program at most.
+fn one_source()
+    ensures { asm.OneProgram }
+{
+    bpf_asm::laws::one_program();
+}
+
+/// For every request, given what the files hold, two answers have the same bytes and the same status.
+pub fn one_answer()
+    ensures { OneAnswer }
+{
+    text_of_one_log();
+    one_program();
+    one_verdict();
+    one_source();
+}
+
+/// Where there is an answer to a request, a refusal is for want of memory alone.
+pub fn answer_or_refusal()
+    ensures { AnswerOrRefusal }
+{
+    text_of_one_log();
+    text_has_no_fault();
+    one_program();
+    no_fault_in_spelled();
+    one_verdict();
+}
+
+/// Two command lines that differ in the number of workers, the size of the cache and the line of progress alone have the same
+/// answer.
+pub fn work_changes_nothing()
+    ensures { WorkChangesNothing }
+{
+    one_answer();
+}
+
+/// `show` names each sector in which an image differs from the image of the same cut where nothing departs. Where it names none,
+/// the image is that one. So two images of one cut of which it names none are the same.
+pub fn show_names_differences()
+    ensures { ShowNamesDifferences }
+{
+    text_of_one_log();
 }
 
 /// A report and a refusal for another cause than memory exclude each other.

@@ -23,8 +23,9 @@
 //! - `action`: `act`, what a command answers on what its files hold, and with which status.
 //! - `exit`: `perform`, which does the same and says how the process ends: its standard output, its refusal and its status.
 //! - `stored`: the run that the program holds itself.
-//! - `laws`: that there is one report at most, and no refusal beside it but for memory; that each failing image stands once in
-//!   what `why` says.
+//! - `laws`: that there is one answer at most to what is asked, and no refusal beside it but for memory; that workers, cache
+//!   and progress change nothing of it; that `show` names each sector that differs; that each failing image stands once in what
+//!   `why` says.
 //! - `writing`: `emit`, which writes all of an answer to an `Output`, a writer that is asked no more once a write has failed.
 //! - `progress`: the gate that says on standard error how far an exploration is.
 //!
@@ -36,11 +37,14 @@
 //! explores the log and the program that it holds itself (`specs/Stored.antt`). `perform` gives the status 2 and an empty
 //! standard output where `act` refuses, and else `act`'s own (`specs/Exits.antt`).
 //!
-//! For given bytes of a log and of programs and given options there is at most one report, and a report and a refusal for
-//! another cause than memory exclude each other (`one_report`, `report_or_refusal`). Each image on which a program fails, by the
-//! lines of the report, stands once in what `why` says (`each_image_stands_once`). `emit` writes all bytes, or says how many
-//! were written before the writer failed. What a run reports, and what the other commands show, stands on the pages of
-//! `runs` and `looks`.
+//! For what is asked and what the files hold there is at most one answer with one status, whatever the command, and an answer
+//! and a refusal for another cause than memory exclude each other (`one_answer`, `answer_or_refusal`; of reports alone
+//! `one_report`, `report_or_refusal`). Words that differ in the number of workers, the size of the cache and the line of
+//! progress alone have the same answer (`work_changes_nothing`). `show` names each sector in which an image differs from the
+//! image of its cut where nothing departs, and where it names none the two are the same (`show_names_differences`). Each image
+//! on which a program fails, by the lines of the report, stands once in what `why` says (`each_image_stands_once`). `emit`
+//! writes all bytes, or says how many were written before the writer failed. What a run reports, and what the other commands
+//! show, stands on the pages of `runs` and `looks`.
 //!
 //! # Example
 //!
@@ -63,7 +67,10 @@ pub use command_line::Words;
 pub use command_notes::{notes_behind, notes_beside};
 pub use epochs::{By, Cuts};
 pub use exit::{Exit, perform};
-pub use laws::{each_image_stands_once, one_report, report_or_refusal};
+pub use laws::{
+    answer_or_refusal, each_image_stands_once, one_answer, one_report, report_or_refusal,
+    show_names_differences, work_changes_nothing,
+};
 pub use looks::{choices_are_short, image, report_prints_choices, show, survey};
 pub use progress::Progress;
 pub use request::{OptionPlace, Options, Settings, Which, fault_line};

@@ -1,0 +1,189 @@
+-- Each command has one answer.
+use Rattle.std.proofs.Common.{ℕ, ◌≡◌, Bool, List, [], ◌∷◌, map, flat_map, Option, None, Some, refl, sym, ◌∙◌, ap, subst}
+use Rattle.logfmt.specs.Bounds.{LogValue}
+use Rattle.logfmt.specs.Laws.{TextOfOneLog}
+use Rattle.bpf_isa.specs.Laws.{OneProgram}
+use Rattle.bpf_isa.specs.Program.{slot_bytes}
+use Rattle.bpf_isa.specs.declared.instr.Instr.{Instr}
+use Rattle.bpf_asm.specs.Laws as asm
+use Rattle.verifier.specs.Laws.{OneVerdict}
+use Rattle.choices.specs.Choices.{ChoiceValue}
+use Rattle.checker.specs.Checker.{CheckerValue}
+use Rattle.images.specs.Views.{view_of, sectors_of}
+use Rattle.crash_text.specs.Shown.{shown_text}
+use Rattle.notes.specs.LogTable.{log_table}
+use Rattle.workers.specs.Failing.{failing_lines}
+use Rattle.request.specs.declared.settings.Settings.{Settings}
+use Rattle.request.specs.declared.settings.Telling.{Telling}
+use Rattle.request.specs.declared.settings.Telling.TheVariants as telling
+use Rattle.request.specs.declared.command.OptionWords.{OptionWords}
+use Rattle.request.specs.declared.command.Which.{Which}
+use Rattle.request.specs.declared.command.Request.{Request}
+use Rattle.request.specs.declared.command.Request.TheVariants as request
+use Rattle.request.specs.OptionWords.{AskFor}
+use Rattle.request.specs.Source.{plan_of}
+use Rattle.runs.specs.Explore.{subject_of}
+use Rattle.runs.specs.Why.{TellsOfLines, PageOfLines, IsExplained, IsPaged, IsTold}
+use Rattle.looks.specs.Which.{IsMeant, IsOnly}
+use Rattle.looks.specs.Image.{joined, IsImage}
+use Rattle.looks.specs.Show.{whole_view, IsShown}
+use Rattle.looks.specs.Survey.{survey_text, IsSurvey}
+use Rattle.looks.specs.Table.{IsTable}
+use Rattle.looks.specs.Verifying.{accepted_text, IsAcceptedText}
+use Rattle.looks.specs.Assembly.{listing_text, IsAssembled, IsListed}
+use Rattle.commands.specs.Acting.{Files, status_of, AnswersRun, AnswersFiles, AnswersExplore, AnswersFile, AnswersWith, Answers}
+use Rattle.commands.proofs.OneReport.{same_log, same_checkers, same_test, one_report}
+use Rattle.commands.proofs.OneText.{one_explanation}
+use Rattle.commands.proofs.OnePage.{one_page}
+
+-- what the laws of the lower layers say
+pub record Laws : Type 0 where
+  pub texts : TextOfOneLog
+  pub programs : OneProgram
+  pub verdicts : OneVerdict
+  pub sources : asm.OneProgram
+
+-- the same bytes and the same number
+abbrev pub Same : List ℕ → List ℕ → ℕ → ℕ → Type 0
+Same bytes others status ended = (bytes ≡ others) × (status ≡ ended)
+
+explained_once : Laws → (text : List ℕ) (files : List (List ℕ)) (s : Settings) (bytes others : List ℕ) (failing fails : Bool)
+    → IsExplained text files s bytes failing → IsExplained text files s others fails → (bytes ≡ others) × (failing ≡ fails)
+explained_once laws text files s bytes others failing fails h k =
+    let value = same_log laws.texts text s h.value k.value h.source k.source in
+    let checkers = same_checkers laws.programs laws.verdicts s files h.checkers k.checkers h.made k.made in
+    let lines : failing_lines (subject_of s h.value h.checkers) ≡ failing_lines (subject_of s k.value k.checkers) = λ i. failing_lines (subject_of s (value i) (checkers i)) in
+    let by_value = subst (λ (v : LogValue). TellsOfLines s v k.checkers (failing_lines (subject_of s v k.checkers)) others) (sym value) k.causes in
+    let causes = subst (λ (cs : List CheckerValue). TellsOfLines s h.value cs (failing_lines (subject_of s h.value cs)) others) (sym checkers) by_value in
+    (one_explanation _ _ _ _ bytes others h.causes causes, same_test failing fails _ _ h.fails k.fails lines)
+
+paged_once : Laws → (text : List ℕ) (files : List (List ℕ)) (s : Settings) (bytes others : List ℕ) (failing fails : Bool)
+    → IsPaged text files s bytes failing → IsPaged text files s others fails → (bytes ≡ others) × (failing ≡ fails)
+paged_once laws text files s bytes others failing fails h k =
+    let value = same_log laws.texts text s h.value k.value h.source k.source in
+    let checkers = same_checkers laws.programs laws.verdicts s files h.checkers k.checkers h.made k.made in
+    let lines : failing_lines (subject_of s h.value h.checkers) ≡ failing_lines (subject_of s k.value k.checkers) = λ i. failing_lines (subject_of s (value i) (checkers i)) in
+    let by_value = subst (λ (v : LogValue). PageOfLines s v k.checkers (failing_lines (subject_of s v k.checkers)) others) (sym value) k.page in
+    let page = subst (λ (cs : List CheckerValue). PageOfLines s h.value cs (failing_lines (subject_of s h.value cs)) others) (sym checkers) by_value in
+    (one_page _ _ _ _ bytes others h.page page, same_test failing fails _ _ h.fails k.fails lines)
+
+told_once : Laws → (t : Telling) (text : List ℕ) (files : List (List ℕ)) (s : Settings) (bytes others : List ℕ) (failing fails : Bool)
+    → IsTold t text files s bytes failing → IsTold t text files s others fails → (bytes ≡ others) × (failing ≡ fails)
+told_once laws telling.Report text files s bytes others failing fails h k = one_report laws.texts laws.programs laws.verdicts text files s bytes others failing fails h k
+told_once laws telling.Causes text files s bytes others failing fails h k = explained_once laws text files s bytes others failing fails h k
+told_once laws telling.Page text files s bytes others failing fails h k = paged_once laws text files s bytes others failing fails h k
+
+run_once : Laws → (t : Telling) (s : Settings) (log : List ℕ) (programs : List (List ℕ)) (bytes others : List ℕ) (status ended : ℕ)
+    → AnswersRun t s log programs bytes status → AnswersRun t s log programs others ended → Same bytes others status ended
+run_once laws t s log programs bytes others status ended a b =
+    let same = told_once laws t log programs s bytes others a.failing b.failing a.told b.told in
+    (same.0, a.ends ∙ ap status_of same.1 ∙ sym b.ends)
+
+-- what files that can be read hold
+abbrev contents : Files → List (List ℕ)
+contents [] = []
+contents (None ∷ files) = contents files
+contents (Some held ∷ files) = held ∷ contents files
+
+contents_are : (xs : List (List ℕ)) → contents (map Some xs) ≡ xs
+contents_are [] = refl
+contents_are (x ∷ xs) = ap (λ (ys : List (List ℕ)). x ∷ ys) (contents_are xs)
+
+pub same_files : (files : Files) (xs ys : List (List ℕ)) → files ≡ map Some xs → files ≡ map Some ys → xs ≡ ys
+same_files files xs ys a b = sym (contents_are xs) ∙ ap contents (sym a ∙ b) ∙ contents_are ys
+
+files_once : Laws → (t : Telling) (s : Settings) (files : Files) (bytes others : List ℕ) (status ended : ℕ)
+    → AnswersFiles t s files bytes status → AnswersFiles t s files others ended → Same bytes others status ended
+files_once laws t s files bytes others status ended a b =
+    let all : b.log ∷ b.programs ≡ a.log ∷ a.programs = same_files files (b.log ∷ b.programs) (a.log ∷ a.programs) b.read a.read in
+    let log : b.log ≡ a.log = cc in
+    let programs : b.programs ≡ a.programs = cc in
+    let by_log = subst (λ (text : List ℕ). AnswersRun t s text b.programs others ended) log b.answers in
+    run_once laws t s a.log a.programs bytes others status ended a.answers (subst (λ (ps : List (List ℕ)). AnswersRun t s a.log ps others ended) programs by_log)
+
+pub same_settings : (w : OptionWords) (s t : Settings) → AskFor w s → AskFor w t → s ≡ t
+same_settings w s t a b = let both : Some s ≡ Some t = sym a.asked ∙ b.asked in cc
+
+explore_once : Laws → (t : Telling) (w : OptionWords) (files : Files) (bytes others : List ℕ) (status ended : ℕ)
+    → AnswersExplore t w files bytes status → AnswersExplore t w files others ended → Same bytes others status ended
+explore_once laws t w files bytes others status ended a b =
+    let same = same_settings w b.settings a.settings b.asked a.asked in
+    files_once laws t a.settings files bytes others status ended a.answers (subst (λ (s : Settings). AnswersFiles t s files others ended) same b.answers)
+
+-- what is said of a file is one
+abbrev IsOne : (List ℕ → List ℕ → Type 0) → Type 0
+IsOne Is = (held bytes others : List ℕ) → Is held bytes → Is held others → bytes ≡ others
+
+file_once : (Is : List ℕ → List ℕ → Type 0) → IsOne Is → (files : Files) (bytes others : List ℕ) (status ended : ℕ)
+    → AnswersFile Is files bytes status → AnswersFile Is files others ended → Same bytes others status ended
+file_once Is one files bytes others status ended a b =
+    let both : Some b.held ≡ Some a.held = sym b.read ∙ a.read in
+    let held : b.held ≡ a.held = cc in
+    (one a.held bytes others a.is (subst (λ (h : List ℕ). Is h others) held b.is), a.ends ∙ sym b.ends)
+
+with_once : (w : OptionWords) (Is : Settings → List ℕ → List ℕ → Type 0) → ((s : Settings) → IsOne (Is s)) → (files : Files) (bytes others : List ℕ) (status ended : ℕ)
+    → AnswersWith w Is files bytes status → AnswersWith w Is files others ended → Same bytes others status ended
+with_once w Is one files bytes others status ended a b =
+    let same = same_settings w b.settings a.settings b.asked a.asked in
+    file_once (Is a.settings) (one a.settings) files bytes others status ended a.answers (subst (λ (s : Settings). AnswersFile (Is s) files others ended) same b.answers)
+
+one_survey : Laws → (s : Settings) → IsOne (λ text bytes. IsSurvey text s bytes)
+one_survey laws s text bytes others a b =
+    a.told ∙ ap (λ v. survey_text (plan_of s v) s.bound s.tears) (same_log laws.texts text s a.value b.value a.source b.source) ∙ sym b.told
+
+one_table : Laws → (s : Settings) → IsOne (λ text bytes. IsTable text s bytes)
+one_table laws s text bytes others a b =
+    let value = laws.texts text a.value b.value a.reads.of_log b.reads.of_log (a.reads.device ∙ sym b.reads.device) in
+    a.shown ∙ ap (λ (v : LogValue). log_table v.entries) value ∙ sym b.shown
+
+-- the choice that is meant is one
+same_choice : (s : Settings) (which : Which) (v w : LogValue) (c d : ChoiceValue) → v ≡ w → IsOnly (IsMeant (plan_of s v) s.bound s.tears which) c
+    → IsOnly (IsMeant (plan_of s w) s.bound s.tears which) d → c ≡ d
+same_choice s which v w c d same a b = sym (a.only d (subst (λ (x : LogValue). IsMeant (plan_of s x) s.bound s.tears which d) (sym same) b.is))
+
+one_image : Laws → (which : Which) (s : Settings) → IsOne (λ text bytes. IsImage text s which bytes)
+one_image laws which s text bytes others a b =
+    let value = same_log laws.texts text s a.value b.value a.source b.source in
+    let choice = same_choice s which a.value b.value a.choice b.choice value a.meant b.meant in
+    let same : joined (sectors_of (view_of (plan_of s a.value) a.choice)) ≡ joined (sectors_of (view_of (plan_of s b.value) b.choice)) =
+    λ i. joined (sectors_of (view_of (plan_of s (value i)) (choice i))) in
+    a.shown ∙ same ∙ sym b.shown
+
+-- the text of an image of a log
+abbrev text_shown : Settings → LogValue → ChoiceValue → List ℕ
+text_shown s v c = shown_text (plan_of s v) s.bound s.tears c (sectors_of (whole_view v c.cut)) (sectors_of (view_of (plan_of s v) c))
+
+one_show : Laws → (which : Which) (s : Settings) → IsOne (λ text bytes. IsShown text s which bytes)
+one_show laws which s text bytes others a b =
+    let value = same_log laws.texts text s a.value b.value a.source b.source in
+    let choice = same_choice s which a.value b.value a.choice b.choice value a.meant b.meant in
+    let same : text_shown s a.value a.choice ≡ text_shown s b.value b.choice = λ i. text_shown s (value i) (choice i) in
+    a.shown ∙ same ∙ sym b.shown
+
+one_verified : Laws → (s : Settings) → IsOne (λ code bytes. IsAcceptedText code s.sectors bytes)
+one_verified laws s code bytes others a b =
+    let slots = laws.programs code a.slots b.slots a.spelled b.spelled in
+    let budget : a.budget ≡ b.budget = (laws.verdicts.accepted _ _ a.accepted.1 b.accepted.1 slots refl).0 in
+    a.says ∙ ap accepted_text budget ∙ sym b.says
+
+one_assembled : Laws → IsOne IsAssembled
+one_assembled laws text bytes others a b =
+    let slots = laws.sources text a.slots b.slots a.says b.says in
+    a.spelled.spelled ∙ ap (λ (p : List (Option Instr)). flat_map slot_bytes p) slots ∙ sym b.spelled.spelled
+
+one_listed : Laws → (numbered : Bool) → IsOne (IsListed numbered)
+one_listed laws numbered code bytes others a b = a.listed ∙ ap (listing_text numbered) (laws.programs code a.slots b.slots a.spelled b.spelled) ∙ sym b.listed
+
+pub one_answer : Laws → (r : Request) (files : Files) (bytes others : List ℕ) (status ended : ℕ)
+    → Answers r files bytes status → Answers r files others ended → (bytes ≡ others) × (status ≡ ended)
+one_answer laws request.StoredRun files bytes others status ended a b = run_once laws telling.Report _ _ _ bytes others status ended a b
+one_answer laws (request.Explore w) files bytes others status ended a b = explore_once laws telling.Report w files bytes others status ended a b
+one_answer laws (request.Why w) files bytes others status ended a b = explore_once laws telling.Causes w files bytes others status ended a b
+one_answer laws (request.Page w) files bytes others status ended a b = explore_once laws telling.Page w files bytes others status ended a b
+one_answer laws (request.Images w) files bytes others status ended a b = with_once w (λ s text. IsSurvey text s) (one_survey laws) files bytes others status ended a b
+one_answer laws (request.Log w) files bytes others status ended a b = with_once w (λ s text. IsTable text s) (one_table laws) files bytes others status ended a b
+one_answer laws (request.Image w which) files bytes others status ended a b = with_once w (λ s text. IsImage text s which) (one_image laws which) files bytes others status ended a b
+one_answer laws (request.Show w which) files bytes others status ended a b = with_once w (λ s text. IsShown text s which) (one_show laws which) files bytes others status ended a b
+one_answer laws (request.Verify w) files bytes others status ended a b = with_once w (λ s code. IsAcceptedText code s.sectors) (one_verified laws) files bytes others status ended a b
+one_answer laws request.Asm files bytes others status ended a b = file_once IsAssembled (one_assembled laws) files bytes others status ended a b
+one_answer laws (request.List numbered) files bytes others status ended a b = file_once (IsListed numbered) (one_listed laws numbered) files bytes others status ended a b

@@ -1,0 +1,193 @@
+-- Where there is an answer, a command is refused for want of memory alone.
+use Rattle.std.proofs.Common.{ℕ, suc, ◌≡◌, ◌⊎◌, ◌+◌, ◌≤◌, nat_lt, Bool, true, false, cond, List, [], ◌∷◌, length, map, Option, None, Some, option_map, position, is_none, inl, inr, refl, sym, ◌∙◌, ap, subst, arith}
+use Rattle.std.specs.Option.{option_map_or, option_and_then}
+use Rattle.std.specs.List.{position_or_len}
+use Rattle.std.proofs.lemmas.Bool.Decides.{nat_tests}
+use Rattle.base.specs.declared.refusal.Refusal.{Refusal}
+use Rattle.base.specs.Refusals.{memory_refusal}
+use Rattle.logfmt.specs.Bounds.{LogValue}
+use Rattle.epochs.specs.declared.cuts.Cuts.{Cuts}
+use Rattle.epochs.specs.declared.part.By.{By}
+use Rattle.bpf_isa.specs.declared.instr.Instr.{Instr}
+use Rattle.choices.specs.Choices.{ChoiceValue}
+use Rattle.verifier.specs.Verdicts.{Refused}
+use Rattle.request.specs.declared.settings.OptionPlace.TheVariants as place
+use Rattle.request.specs.declared.settings.Settings.{Settings}
+use Rattle.request.specs.declared.settings.Telling.{Telling}
+use Rattle.request.specs.declared.settings.Telling.TheVariants as telling
+use Rattle.request.specs.declared.command.OptionWords.{OptionWords}
+use Rattle.request.specs.declared.command.Which.{Which}
+use Rattle.request.specs.declared.command.Request.{Request}
+use Rattle.request.specs.declared.command.Request.TheVariants as request
+use Rattle.request.specs.Settings.{option_refusal, settings_refusal}
+use Rattle.request.specs.OptionWords.{AskFor, settings_with, words_refusal}
+use Rattle.request.specs.Source.{plan_of, HasImages}
+use Rattle.runs.specs.Explore.{report_of, Refuses}
+use Rattle.runs.specs.Why.{IsTold}
+use Rattle.looks.specs.Which.{IsMeant}
+use Rattle.looks.specs.Image as image
+use Rattle.looks.specs.Image.{IsImage, RefusesImage}
+use Rattle.looks.specs.Show.{IsShown}
+use Rattle.looks.specs.Survey as survey
+use Rattle.looks.specs.Survey.{IsSurvey, RefusesSurvey}
+use Rattle.looks.specs.Table as table
+use Rattle.looks.specs.Table.{IsTable, RefusesTable}
+use Rattle.looks.specs.Verifying.{IsAcceptedText, RefusesVerified, with_code_fault, no_code_memory, with_verifier_fault, no_verifier_memory, no_text_memory}
+use Rattle.looks.specs.Assembly as assembly
+use Rattle.looks.specs.Assembly.{IsAssembled, IsListed, RefusesText, RefusesBytes}
+use Rattle.commands.specs.Acting.{Files, first_held, unread, AnswersRun, AnswersFiles, AnswersExplore, AnswersFile, AnswersWith, Answers, RefusesWith, for_words, for_settings, RefusesFile, for_file, for_held, RefusesFiles, for_unread, for_run, for_memory, RefusesToAct}
+use Rattle.commands.specs.Laws.{IsOfMemory}
+use Rattle.commands.proofs.OneReport.{Below, same_log, of_log, of_source, report_or_refusal}
+use Rattle.commands.proofs.OneAnswer.{same_files, same_settings}
+
+-- words that ask for settings are not refused
+asked_by : (w : OptionWords) (cuts : Option Cuts) (way : Option By) (s : Settings) (r : Refusal) → option_and_then (λ c. option_map (settings_with w c) way) cuts ≡ Some s
+    → settings_refusal s ≡ None
+    → option_map_or (λ c. option_map_or (λ b. settings_refusal (settings_with w c b)) way (Some (option_refusal place.By))) cuts (Some (option_refusal place.Cuts)) ≡ Some r → ⊥
+asked_by w None way s r asked good bad = let none : None ≡ Some s = asked in cc
+asked_by w (Some c) None s r asked good bad = let none : None ≡ Some s = asked in cc
+asked_by w (Some c) (Some way) s r asked good bad =
+    let both : Some (settings_with w c way) ≡ Some s = asked in
+    let same : settings_with w c way ≡ s = cc in
+    let none : None ≡ Some r = sym good ∙ sym (ap settings_refusal same) ∙ bad in
+    cc
+
+not_for_words : (w : OptionWords) (s : Settings) (r : Refusal) → AskFor w s → words_refusal w ≡ Some r → ⊥
+not_for_words w s r h bad = asked_by w w.cuts w.by s r h.asked h.good bad
+
+of_words : (w : OptionWords) (s : Settings) (Rest : Settings → Refusal → Type 0) (r : Refusal) → AskFor w s → ((q : Refusal) → Rest s q → IsOfMemory q.code)
+    → RefusesWith w Rest r → IsOfMemory r.code
+of_words w s Rest _ asked rest (for_words r bad) = absurd (not_for_words w s r asked bad)
+of_words w s Rest _ asked rest (for_settings t r other why) = rest r (subst (λ (x : Settings). Rest x r) (same_settings w t s other asked) why)
+
+of_file : (files : Files) (held : List ℕ) (Rest : List ℕ → Refusal → Type 0) (r : Refusal) → first_held files ≡ Some held → ((q : Refusal) → Rest held q → IsOfMemory q.code)
+    → RefusesFile files Rest r → IsOfMemory r.code
+of_file files held Rest _ read rest (for_file none) = absurd (let bad : None ≡ Some held = sym none ∙ read in cc)
+of_file files held Rest _ read rest (for_held other r there why) =
+    let both : Some other ≡ Some held = sym there ∙ read in
+    let same : other ≡ held = cc in
+    rest r (subst (λ (x : List ℕ). Rest x r) same why)
+
+of_with : (w : OptionWords) (Is : Settings → List ℕ → List ℕ → Type 0) (Rest : Settings → List ℕ → Refusal → Type 0)
+    → ((s : Settings) (held bytes : List ℕ) (r : Refusal) → Is s held bytes → Rest s held r → IsOfMemory r.code)
+    → (files : Files) (bytes : List ℕ) (status : ℕ) (r : Refusal) → AnswersWith w Is files bytes status → RefusesWith w (λ s. RefusesFile files (Rest s)) r → IsOfMemory r.code
+of_with w Is Rest one files bytes status r h why =
+    of_words w h.settings (λ s. RefusesFile files (Rest s)) r h.asked
+    (λ q. of_file files h.answers.held (Rest h.settings) q h.answers.read (λ p. one h.settings h.answers.held bytes p h.answers.is)) why
+
+of_alone : (Is : List ℕ → List ℕ → Type 0) (Rest : List ℕ → Refusal → Type 0) → ((held bytes : List ℕ) (r : Refusal) → Is held bytes → Rest held r → IsOfMemory r.code)
+    → (files : Files) (bytes : List ℕ) (status : ℕ) (r : Refusal) → AnswersFile Is files bytes status → RefusesFile files Rest r → IsOfMemory r.code
+of_alone Is Rest one files bytes status r h why = of_file files h.held Rest r h.read (λ q. one h.held bytes q h.is) why
+
+-- a run that is told has a report
+of_told : Below → (t : Telling) (text : List ℕ) (files : List (List ℕ)) (s : Settings) (bytes : List ℕ) (failing : Bool) (r : Refusal)
+    → IsTold t text files s bytes failing → Refuses text files s r → IsOfMemory r.code
+of_told below telling.Report text files s bytes failing r h why = report_or_refusal below text files s bytes failing r h why
+of_told below telling.Causes text files s bytes failing r h why =
+    report_or_refusal below text files s (report_of s h.value h.checkers) failing r
+    (record { count = h.count; value = h.value; source = h.source; checkers = h.checkers; made = h.made; report = refl; fails = h.fails; faultless = h.faultless }) why
+of_told below telling.Page text files s bytes failing r h why =
+    report_or_refusal below text files s (report_of s h.value h.checkers) failing r
+    (record { count = h.count; value = h.value; source = h.source; checkers = h.checkers; made = h.made; report = refl; fails = h.fails; faultless = h.faultless }) why
+
+-- each of the files can be read
+read_all : (xs : List (List ℕ)) → length xs ≤ position_or_len is_none (map Some xs)
+read_all [] = omega arith
+read_all (x ∷ xs) = let rest = read_all xs in let more : suc (length xs) ≤ 1 + position_or_len is_none (map Some xs) = omega (arith, rest) in more
+
+length_some : (xs : List (List ℕ)) → length (map Some xs) ≡ length xs
+length_some [] = refl
+length_some (x ∷ xs) = ap suc (length_some xs)
+
+none_by : (m n place : ℕ) (b : Bool) → nat_lt m n ≡ b → n ≤ m → cond b (Some m) None ≡ Some place → ⊥
+none_by m n place true less few h = grind (arith, nat_tests, less, few)
+none_by m n place false less few h = let bad : None ≡ Some place = h in cc
+
+none_unread : (x : List ℕ) (xs : List (List ℕ)) (place : ℕ) → position is_none (map Some (x ∷ xs)) ≡ Some place → ⊥
+none_unread x xs place h =
+    let all = read_all (x ∷ xs) in
+    let long = length_some (x ∷ xs) in
+    none_by (position_or_len is_none (map Some (x ∷ xs))) (length (map Some (x ∷ xs))) place
+    (nat_lt (position_or_len is_none (map Some (x ∷ xs))) (length (map Some (x ∷ xs)))) refl
+    (subst (λ (n : ℕ). n ≤ position_or_len is_none (map Some (x ∷ xs))) (sym long) all) h
+
+of_files : Below → (t : Telling) (files : Files) (s : Settings) (bytes : List ℕ) (status : ℕ) (r : Refusal) → AnswersFiles t s files bytes status → RefusesFiles files s r
+    → IsOfMemory r.code
+of_files below t files s bytes status _ h (for_unread place unreadable) =
+    absurd (none_unread h.log h.programs place (subst (λ (fs : Files). unread fs ≡ Some place) h.read unreadable))
+of_files below t files s bytes status _ h (for_run log programs r read why) =
+    let all : log ∷ programs ≡ h.log ∷ h.programs = same_files files (log ∷ programs) (h.log ∷ h.programs) read h.read in
+    let same : log ≡ h.log = cc in
+    let others : programs ≡ h.programs = cc in
+    let by_log = subst (λ (text : List ℕ). Refuses text programs s r) same why in
+    of_told below t h.log h.programs s bytes h.answers.failing r h.answers.told (subst (λ (ps : List (List ℕ)). Refuses h.log ps s r) others by_log)
+of_files below t files s bytes status _ h (for_memory readable) = refl
+
+of_explore : Below → (t : Telling) (w : OptionWords) (files : Files) (bytes : List ℕ) (status : ℕ) (r : Refusal) → AnswersExplore t w files bytes status
+    → RefusesWith w (RefusesFiles files) r → IsOfMemory r.code
+of_explore below t w files bytes status r h why =
+    of_words w h.settings (RefusesFiles files) r h.asked (λ q. of_files below t files h.settings bytes status q h.answers) why
+
+of_stored : Below → (t : Telling) (text : List ℕ) (files : List (List ℕ)) (s : Settings) (bytes : List ℕ) (status : ℕ) (r : Refusal) → AnswersRun t s text files bytes status
+    → (r ≡ memory_refusal) ⊎ Refuses text files s r → IsOfMemory r.code
+of_stored below t text files s bytes status r h (inl same) = subst (λ (q : Refusal). IsOfMemory q.code) (sym same) refl
+of_stored below t text files s bytes status r h (inr why) = of_told below t text files s bytes h.failing r h.told why
+
+of_survey : Below → (s : Settings) (text bytes : List ℕ) (r : Refusal) → IsSurvey text s bytes → RefusesSurvey text s r → IsOfMemory r.code
+of_survey below s text bytes _ h (survey.for_source r why) = of_source below text s h.value r h.source why
+of_survey below s text bytes _ h (survey.for_memory value source) = refl
+
+of_table : Below → (s : Settings) (text bytes : List ℕ) (r : Refusal) → IsTable text s bytes → RefusesTable text s r → IsOfMemory r.code
+of_table below s text bytes _ h (table.for_log r why) = of_log below text s h.value r h.reads why
+of_table below s text bytes _ h (table.for_memory value reads) = refl
+
+-- the image that is meant is there
+of_meant : Below → (which : Which) (s : Settings) (text : List ℕ) (value : LogValue) (choice : ChoiceValue) (r : Refusal) → HasImages text s value
+    → IsMeant (plan_of s value) s.bound s.tears which choice → RefusesImage text s which r → IsOfMemory r.code
+of_meant below which s text value choice _ source meant (image.for_source r why) = of_source below text s value r source why
+of_meant below which s text value choice _ source meant (image.for_number other images none) =
+    let same : value ≡ other = same_log below.texts text s value other source images in
+    absurd (none.none choice (subst (λ (v : LogValue). IsMeant (plan_of s v) s.bound s.tears which choice) same meant))
+of_meant below which s text value choice _ source meant (image.for_memory other images) = refl
+
+of_verified : Below → (s : Settings) (code bytes : List ℕ) (r : Refusal) → IsAcceptedText code s.sectors bytes → RefusesVerified code s.sectors r → IsOfMemory r.code
+of_verified below s code bytes _ h (with_code_fault cause slot fault) = absurd (below.spelled code h.slots h.spelled cause slot fault)
+of_verified below s code bytes _ h no_code_memory = refl
+of_verified below s code bytes _ h (with_verifier_fault slots cause slot spelled refused) =
+    let same = below.programs code slots h.slots spelled h.spelled in
+    absurd (below.verdicts.not_both _ cause slot h.accepted.1 (subst (λ (p : List (Option Instr)). Refused p s.sectors cause slot) same refused))
+of_verified below s code bytes _ h no_verifier_memory = refl
+of_verified below s code bytes _ h no_text_memory = refl
+
+of_assembled : (text bytes : List ℕ) (r : Refusal) → IsAssembled text bytes → RefusesText text r → IsOfMemory r.code
+of_assembled text bytes _ h (assembly.no_characters none) = absurd (none h.characters)
+of_assembled text bytes _ h (assembly.says_none cause line characters none) = absurd (none h.slots h.says)
+of_assembled text bytes _ h assembly.no_text_memory = refl
+of_assembled text bytes _ h assembly.no_bytes_memory = refl
+
+of_listed : Below → (numbered : Bool) (code bytes : List ℕ) (r : Refusal) → IsListed numbered code bytes → RefusesBytes code r → IsOfMemory r.code
+of_listed below numbered code bytes _ h (assembly.with_bytes_fault cause slot fault) = absurd (below.spelled code h.slots h.spelled cause slot fault)
+of_listed below numbered code bytes _ h assembly.no_program_memory = refl
+of_listed below numbered code bytes _ h assembly.no_listing_memory = refl
+
+pub answer_or_refusal : Below → (r : Request) (files : Files) (bytes : List ℕ) (status : ℕ) (refusal : Refusal) → Answers r files bytes status → RefusesToAct r files refusal
+    → IsOfMemory refusal.code
+answer_or_refusal below request.StoredRun files bytes status refusal h why = of_stored below telling.Report _ _ _ bytes status refusal h why
+answer_or_refusal below (request.Explore w) files bytes status refusal h why = of_explore below telling.Report w files bytes status refusal h why
+answer_or_refusal below (request.Why w) files bytes status refusal h why = of_explore below telling.Causes w files bytes status refusal h why
+answer_or_refusal below (request.Page w) files bytes status refusal h why = of_explore below telling.Page w files bytes status refusal h why
+answer_or_refusal below (request.Images w) files bytes status refusal h why =
+    of_with w (λ s text. IsSurvey text s) (λ s text. RefusesSurvey text s) (of_survey below) files bytes status refusal h why
+answer_or_refusal below (request.Log w) files bytes status refusal h why =
+    of_with w (λ s text. IsTable text s) (λ s text. RefusesTable text s) (of_table below) files bytes status refusal h why
+answer_or_refusal below (request.Image w which) files bytes status refusal h why =
+    of_with w (λ s text. IsImage text s which) (λ s text. RefusesImage text s which)
+    (λ s text shown r k. of_meant below which s text k.value k.choice r k.source k.meant.is) files bytes status refusal h why
+answer_or_refusal below (request.Show w which) files bytes status refusal h why =
+    of_with w (λ s text. IsShown text s which) (λ s text. RefusesImage text s which)
+    (λ s text shown r k. of_meant below which s text k.value k.choice r k.source k.meant.is) files bytes status refusal h why
+answer_or_refusal below (request.Verify w) files bytes status refusal h why =
+    of_with w (λ s code. IsAcceptedText code s.sectors) (λ s code. RefusesVerified code s.sectors) (of_verified below) files bytes status refusal h why
+answer_or_refusal below request.Asm files bytes status refusal h why = of_alone IsAssembled RefusesText of_assembled files bytes status refusal h why
+answer_or_refusal below (request.List numbered) files bytes status refusal h why =
+    of_alone (IsListed numbered) RefusesBytes (of_listed below numbered) files bytes status refusal h why

@@ -1,0 +1,171 @@
+-- Who does the work changes no answer.
+use Rattle.std.proofs.Common.{ℕ, ◌≡◌, nat_le, Bool, true, false, ◌&&◌, List, [], ◌∷◌, Option, None, Some, option_map, sym, ap, subst}
+use Rattle.std.specs.Option.{option_map_or, option_and_then}
+use Rattle.base.specs.Check.{check, first_failing}
+use Rattle.logfmt.specs.Bounds.{LogValue}
+use Rattle.epochs.specs.declared.cuts.Cuts.{Cuts}
+use Rattle.epochs.specs.declared.part.By.{By}
+use Rattle.request.specs.declared.settings.OptionPlace.TheVariants as place
+use Rattle.request.specs.declared.settings.Settings.{Settings}
+use Rattle.request.specs.declared.settings.Telling.{Telling}
+use Rattle.request.specs.declared.settings.Telling.TheVariants as telling
+use Rattle.request.specs.declared.command.OptionWords.{OptionWords}
+use Rattle.request.specs.declared.command.Request.{Request}
+use Rattle.request.specs.declared.command.Request.TheVariants as request
+use Rattle.request.specs.Settings.{option_refusal, option_checks, settings_refusal}
+use Rattle.request.specs.OptionWords.{settings_with, AskFor}
+use Rattle.request.specs.Source.{HasImages}
+use Rattle.runs.specs.Explore.{AreCheckersOf, head_of}
+use Rattle.checker.specs.Checker.{CheckerValue}
+use Rattle.runs.specs.Why.{IsTold}
+use Rattle.looks.specs.Image.{IsImage}
+use Rattle.looks.specs.Show.{IsShown}
+use Rattle.looks.specs.Survey.{IsSurvey}
+use Rattle.looks.specs.Table.{IsTable}
+use Rattle.looks.specs.Verifying.{IsAcceptedText}
+use Rattle.commands.specs.Acting.{Files, AnswersExplore, AnswersWith, Answers}
+use Rattle.commands.specs.OneAnswer.{OneAnswer, alone, asked_alone, WorkChangesNothing}
+
+-- the same settings for one worker without a cache
+abbrev set_alone : Settings → Settings
+set_alone s = record {
+  sectors = s.sectors;
+  cuts = s.cuts;
+  bound = s.bound;
+  tears = s.tears;
+  by = s.by;
+  workers = 1;
+  cache = 0;
+  checked = s.checked;
+  first = s.first;
+}
+
+-- words that ask for settings ask for these, for one worker without a cache
+alone_of : (w : OptionWords) (cuts : Option Cuts) (way : Option By) (s : Settings) → option_and_then (λ c. option_map (settings_with w c) way) cuts ≡ Some s
+    → option_and_then (λ c. option_map (settings_with (alone w) c) way) cuts ≡ Some (set_alone s)
+alone_of w None way s h = absurd (let bad : None ≡ Some s = h in cc)
+alone_of w (Some c) None s h = absurd (let bad : None ≡ Some s = h in cc)
+alone_of w (Some c) (Some way) s h =
+    let both : Some (settings_with w c way) ≡ Some s = h in
+    let same : settings_with w c way ≡ s = cc in
+    ap (λ (t : Settings). Some (set_alone t)) same
+
+-- where no check fails, none fails with one worker without a cache
+passed_alone : (sectors bound workers cache checked : Bool)
+    → option_map option_refusal (first_failing (check place.Sectors sectors ∷ check place.Bound bound ∷ check place.Workers workers ∷ check place.Cache cache ∷ check place.Checked checked ∷ [])) ≡ None
+    → option_map option_refusal (first_failing (check place.Sectors sectors ∷ check place.Bound bound ∷ check place.Workers true ∷ check place.Cache true ∷ check place.Checked checked ∷ [])) ≡ None
+passed_alone false bound workers cache checked h = h
+passed_alone true false workers cache checked h = h
+passed_alone true true false cache checked h = absurd (let bad : Some (option_refusal place.Workers) ≡ None = h in cc)
+passed_alone true true true false checked h = absurd (let bad : Some (option_refusal place.Cache) ≡ None = h in cc)
+passed_alone true true true true checked h = h
+
+good_alone : (s : Settings) → settings_refusal s ≡ None → settings_refusal (set_alone s) ≡ None
+unfolding option_checks
+good_alone s h =
+    passed_alone (nat_le 1 s.sectors && nat_le s.sectors 16384) (nat_le s.bound 3) (nat_le 1 s.workers && nat_le s.workers 64) (nat_le s.cache 65536)
+    (option_map_or (λ limit. nat_le limit 1000000000) s.checked true) h
+
+ask_alone : (w : OptionWords) (s : Settings) → AskFor w s → AskFor (alone w) (set_alone s)
+ask_alone w s h = record { asked = alone_of w w.cuts w.by s h.asked; good = good_alone s h.good }
+
+images_alone : {text : List ℕ} {s : Settings} {v : LogValue} → HasImages text s v → HasImages text (set_alone s) v
+images_alone h = record { reads = record { device = h.reads.device; of_log = h.reads.of_log }; few = h.few }
+
+checkers_alone : (s : Settings) (files : List (List ℕ)) (cs : List CheckerValue) → AreCheckersOf s files cs → AreCheckersOf (set_alone s) files cs
+checkers_alone s [] [] h = h
+checkers_alone s [] (c ∷ cs) h = h
+checkers_alone s (bytes ∷ files) [] h = h
+checkers_alone s (bytes ∷ files) (c ∷ cs) h =
+    (record { spelled = h.0.spelled; clean = h.0.clean; within = h.0.within }, checkers_alone s files cs h.1)
+
+told_alone : (t : Telling) (text : List ℕ) (files : List (List ℕ)) (s : Settings) (bytes : List ℕ) (failing : Bool)
+    → IsTold t text files s bytes failing → IsTold t text files (set_alone s) bytes failing
+unfolding head_of
+told_alone telling.Report text files s bytes failing h =
+    record {
+      count = h.count;
+      value = h.value;
+      source = images_alone h.source;
+      checkers = h.checkers;
+      made = checkers_alone s files h.checkers h.made;
+      report = h.report;
+      fails = h.fails;
+      faultless = h.faultless;
+    }
+told_alone telling.Causes text files s bytes failing h =
+    record {
+      count = h.count;
+      value = h.value;
+      source = images_alone h.source;
+      checkers = h.checkers;
+      made = checkers_alone s files h.checkers h.made;
+      causes = record { causes = h.causes.causes; all = h.causes.all; each = h.causes.each; text = h.causes.text };
+      fails = h.fails;
+      faultless = h.faultless;
+    }
+told_alone telling.Page text files s bytes failing h =
+    record {
+      count = h.count;
+      value = h.value;
+      source = images_alone h.source;
+      checkers = h.checkers;
+      made = checkers_alone s files h.checkers h.made;
+      page = record { programs = h.page.programs; are = record { all = h.page.are.all; each = h.page.are.each }; page = h.page.page };
+      fails = h.fails;
+      faultless = h.faultless;
+    }
+
+explore_alone : (t : Telling) (w : OptionWords) (files : Files) (bytes : List ℕ) (status : ℕ)
+    → AnswersExplore t w files bytes status → AnswersExplore t (alone w) files bytes status
+explore_alone t w files bytes status h =
+    let run = h.answers.answers in
+    record {
+      settings = set_alone h.settings;
+      asked = ask_alone w h.settings h.asked;
+      answers = record {
+        log = h.answers.log;
+        programs = h.answers.programs;
+        read = h.answers.read;
+        answers = record { failing = run.failing; told = told_alone t h.answers.log h.answers.programs h.settings bytes run.failing run.told; ends = run.ends };
+      };
+    }
+
+-- of a command on one file, where what it says is said for one worker without a cache too
+with_alone : (w : OptionWords) (Is : Settings → List ℕ → List ℕ → Type 0) → ((s : Settings) (held bytes : List ℕ) → Is s held bytes → Is (set_alone s) held bytes)
+    → (files : Files) (bytes : List ℕ) (status : ℕ) → AnswersWith w Is files bytes status → AnswersWith (alone w) Is files bytes status
+with_alone w Is keeps files bytes status h =
+    let own = h.answers in
+    record {
+      settings = set_alone h.settings;
+      asked = ask_alone w h.settings h.asked;
+      answers = record { held = own.held; read = own.read; is = keeps h.settings own.held bytes own.is; ends = own.ends };
+    }
+
+pub answers_alone : (r : Request) (files : Files) (bytes : List ℕ) (status : ℕ) → Answers r files bytes status → Answers (asked_alone r) files bytes status
+answers_alone request.StoredRun files bytes status h = h
+answers_alone (request.Explore w) files bytes status h = explore_alone telling.Report w files bytes status h
+answers_alone (request.Why w) files bytes status h = explore_alone telling.Causes w files bytes status h
+answers_alone (request.Page w) files bytes status h = explore_alone telling.Page w files bytes status h
+answers_alone (request.Images w) files bytes status h =
+    with_alone w (λ s text. IsSurvey text s)
+    (λ s held shown k. record { value = k.value; source = images_alone k.source; told = k.told }) files bytes status h
+answers_alone (request.Log w) files bytes status h =
+    with_alone w (λ s text. IsTable text s)
+    (λ s held shown k. record { value = k.value; reads = record { device = k.reads.device; of_log = k.reads.of_log }; shown = k.shown }) files bytes status h
+answers_alone (request.Image w which) files bytes status h =
+    with_alone w (λ s text. IsImage text s which)
+    (λ s held shown k. record { value = k.value; source = images_alone k.source; choice = k.choice; meant = k.meant; shown = k.shown }) files bytes status h
+answers_alone (request.Show w which) files bytes status h =
+    with_alone w (λ s text. IsShown text s which)
+    (λ s held shown k. record { value = k.value; source = images_alone k.source; choice = k.choice; meant = k.meant; shown = k.shown }) files bytes status h
+answers_alone (request.Verify w) files bytes status h =
+    with_alone w (λ s code. IsAcceptedText code s.sectors) (λ s held shown k. k) files bytes status h
+answers_alone request.Asm files bytes status h = h
+answers_alone (request.List numbered) files bytes status h = h
+
+pub work_changes_nothing : OneAnswer → WorkChangesNothing
+work_changes_nothing one v w files bytes others status ended same a b =
+    let given = answers_alone v.request files bytes status a in
+    let other = answers_alone w.request files others ended b in
+    one (asked_alone v.request) files bytes others status ended given (subst (λ (r : Request). Answers r files others ended) (sym same) other)
