@@ -6,4 +6,3 @@ pub mod Reading
 pub mod Frames
 pub mod Stopping
 pub mod Accesses
-pub mod Reaching
