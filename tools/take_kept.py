@@ -1,0 +1,43 @@
+#!/usr/bin/env python3
+"""Gives this checkout the proved libraries that `rt ci` kept on this machine.
+
+    tools/take_kept.py NAME ..
+
+takes, for the crates that are named, the libraries below them, where what was kept was proved of the same text. After that
+`rt check` in the crate's folder, `tools/wrong_bodies.py` and `tools/gate_times.py --functions` begin over them; `rt check` alone
+doesn't look there. It prints which libraries weren't kept; those are proved anew.
+"""
+import os
+import sys
+
+sys.dont_write_bytecode = True
+
+import kit
+
+
+def take(rt, crate, kept):
+    """Returns whether the library of a crate stands in its out/ now."""
+    os.makedirs(f"{crate.folder}/out", exist_ok=True)
+    is_there = crate.is_built() or kept.give(crate, False, kept.key(crate))
+    kept.is_built(crate)
+    if is_there:
+        with open(f"{crate.folder}/out/rlib/stamp", "w", encoding="utf-8") as file:
+            file.write(crate.stamp())
+    return is_there
+
+
+def main(names):
+    if not names or names[0].startswith("-"):
+        sys.exit(__doc__)
+    rt = kit.load()
+    rt.Crate.allowed = rt.handles_of(os.getcwd())
+    crates = {it.name: it for it in rt.crates_of(os.getcwd())}
+    wanted = {below for name in names for below in crates[name].below()}
+    order = [it for it in crates.values() if it in wanted]
+    kept = rt.Kept(order)
+    lacking = [it.name for it in order if not take(rt, it, kept)]
+    print(f"not kept: {' '.join(lacking) or 'none'}")
+
+
+if __name__ == "__main__":
+    main(sys.argv[1:])
