@@ -1,4 +1,5 @@
-//! The exploration of a run as a list of events, without threads.
+//! A model beside the product, on which no contract of the product rests: the exploration of a run as a list of events, without
+//! threads.
 //!
 //! Workers draw blocks of jobs into their lists, take them out of their own or another's, judge them by a
 //! shared cache of outcomes, and hand over what they found.

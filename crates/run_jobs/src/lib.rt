@@ -1,4 +1,5 @@
-//! The tie between a run and its exploration as a list of events.
+//! A model beside the product, on which no contract of the product rests: the tie between a run and its exploration as a list
+//! of events.
 //!
 //! `explore_core` speaks of any list of jobs, and `workers` of the images and checkers of a run. Here it is
 //! proved that the jobs of a run, each image with each checker, by image and then by checker, in the run's
