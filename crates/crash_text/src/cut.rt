@@ -6,9 +6,10 @@ ghost use Rattle.notes.specs.LogTable.{line_at};
 ghost use Rattle.crash_text.specs.Cut.{place_text, arrived_text, departed_line, volatile_line, parts_text, volatile_text, is_mark_at, last_before, last_line, flush_text, mark_text, before_line, before_text};
 ghost use Rattle.crash_text.specs.Shown.{cut_shown};
 
+use crate::numbering::Numbering;
 use choices::{Departure, Fate};
 use epochs::{Part, Plan};
-use logfmt::{Entry, Log};
+use logfmt::Entry;
 use notes::put_entry_line;
 use std::alloc::AllocError;
 
@@ -95,16 +96,15 @@ fn put_volatile(out: &mut String, plan: &Plan<'_>, cut: u32) -> Result<(), Alloc
 }
 
 /// Appends the line of an entry.
-fn put_entry(out: &mut String, plan: &Plan<'_>, log: &Log, entry: u32) -> Result<(), AllocError>
-    requires log { plan.now.log ≡ log.now }
-    requires there { entry < length log.now.entries }
-    ensures { OnOk result (string_bytes out.new ≡ string_bytes out.old ++ line_at log.now.entries entry) }
+fn put_entry(out: &mut String, numbering: &Numbering<'_>, entry: u32) -> Result<(), AllocError>
+    requires there { entry < length numbering.now.log.now.entries }
+    ensures { OnOk result (string_bytes out.new ≡ string_bytes out.old ++ line_at numbering.now.log.now.entries entry) }
 {
     put_entry_line(
         out,
         entry as usize,
-        plan.epoch(entry),
-        &log.entries()[entry as usize],
+        numbering.plan.epoch(entry),
+        &numbering.log.entries()[entry as usize],
     )
 }
 
@@ -161,80 +161,82 @@ fn last_mark(entries: &[Entry], cut: u32) -> Option<u32>
 /// Appends the line of the last entry of a kind, if there is one.
 fn put_last(
     out: &mut String,
-    plan: &Plan<'_>,
-    log: &Log,
+    numbering: &Numbering<'_>,
     what: &str,
     last: Option<u32>,
 ) -> Result<(), AllocError>
-    requires log { plan.now.log ≡ log.now }
-    requires there { IfSome last (λ entry. entry < length log.now.entries) }
-    ensures { OnOk result (string_bytes out.new ≡ string_bytes out.old ++ last_line what.now log.now.entries last) }
+    requires there { IfSome last (λ entry. entry < length numbering.now.log.now.entries) }
+    ensures { OnOk result (string_bytes out.new ≡ string_bytes out.old ++ last_line what.now numbering.now.log.now.entries last) }
 {
     write!(out, "last {what}: ")?;
     match last {
-        Some(entry) => put_entry(out, plan, log, entry),
+        Some(entry) => put_entry(out, numbering, entry),
         None => out.push_str("none\n"),
     }
 }
 
 /// Appends the last flush entry before a cut.
 #[tactic(auto, unfolding(crate::specs::Cut::flush_text))]
-fn put_flush(out: &mut String, plan: &Plan<'_>, log: &Log, cut: u32) -> Result<(), AllocError>
-    requires log { plan.now.log ≡ log.now }
-    requires cut { cut ≤ length log.now.entries }
-    ensures { OnOk result (string_bytes out.new ≡ string_bytes out.old ++ flush_text log.now.entries cut) }
+fn put_flush(out: &mut String, numbering: &Numbering<'_>, cut: u32) -> Result<(), AllocError>
+    requires cut { cut ≤ length numbering.now.log.now.entries }
+    ensures { OnOk result (string_bytes out.new ≡ string_bytes out.old ++ flush_text numbering.now.log.now.entries cut) }
 {
-    put_last(out, plan, log, "flush", last_flush(log.entries(), cut))
+    put_last(
+        out,
+        numbering,
+        "flush",
+        last_flush(numbering.log.entries(), cut),
+    )
 }
 
 /// Appends the last mark before a cut.
 #[tactic(auto, unfolding(crate::specs::Cut::mark_text))]
-fn put_mark(out: &mut String, plan: &Plan<'_>, log: &Log, cut: u32) -> Result<(), AllocError>
-    requires log { plan.now.log ≡ log.now }
-    requires cut { cut ≤ length log.now.entries }
-    ensures { OnOk result (string_bytes out.new ≡ string_bytes out.old ++ mark_text log.now.entries cut) }
+fn put_mark(out: &mut String, numbering: &Numbering<'_>, cut: u32) -> Result<(), AllocError>
+    requires cut { cut ≤ length numbering.now.log.now.entries }
+    ensures { OnOk result (string_bytes out.new ≡ string_bytes out.old ++ mark_text numbering.now.log.now.entries cut) }
 {
-    put_last(out, plan, log, "mark", last_mark(log.entries(), cut))
+    put_last(
+        out,
+        numbering,
+        "mark",
+        last_mark(numbering.log.entries(), cut),
+    )
 }
 
 /// Appends a line for an entry before a cut.
 fn put_before_line(
     out: &mut String,
-    plan: &Plan<'_>,
-    log: &Log,
+    numbering: &Numbering<'_>,
     entry: u32,
 ) -> Result<(), AllocError>
-    requires log { plan.now.log ≡ log.now }
-    requires there { entry < length log.now.entries }
-    ensures { OnOk result (string_bytes out.new ≡ string_bytes out.old ++ before_line log.now.entries entry) }
+    requires there { entry < length numbering.now.log.now.entries }
+    ensures { OnOk result (string_bytes out.new ≡ string_bytes out.old ++ before_line numbering.now.log.now.entries entry) }
 {
     out.push_str("before the cut: ")?;
-    put_entry(out, plan, log, entry)
+    put_entry(out, numbering, entry)
 }
 
 /// Appends the last entries before a cut, at most four.
 #[tactic(auto, using(crate::proofs::Steps::text_more), unfolding(crate::specs::Cut::before_text))]
-fn put_before(out: &mut String, plan: &Plan<'_>, log: &Log, cut: u32) -> Result<(), AllocError>
-    requires log { plan.now.log ≡ log.now }
-    requires cut { cut ≤ length log.now.entries }
-    ensures { OnOk result (string_bytes out.new ≡ string_bytes out.old ++ before_text log.now.entries cut) }
+fn put_before(out: &mut String, numbering: &Numbering<'_>, cut: u32) -> Result<(), AllocError>
+    requires cut { cut ≤ length numbering.now.log.now.entries }
+    ensures { OnOk result (string_bytes out.new ≡ string_bytes out.old ++ before_text numbering.now.log.now.entries cut) }
 {
     let first = cut.saturating_sub(4);
     for step in 0..cut - first {
-        put_before_line(out, plan, log, first + step)?;
+        put_before_line(out, numbering, first + step)?;
     }
     Ok(())
 }
 
 /// Appends what stands at a cut: what is volatile, the last entries before it, its last flush and its last mark.
 #[tactic(auto, unfolding(crate::specs::Shown::cut_shown))]
-pub fn put_cut(out: &mut String, plan: &Plan<'_>, log: &Log, cut: u32) -> Result<(), AllocError>
-    requires log { plan.now.log ≡ log.now }
-    requires cut { cut ≤ length plan.now.log.entries }
-    ensures { OnOk result (string_bytes out.new ≡ string_bytes out.old ++ cut_shown plan.now cut) }
+pub fn put_cut(out: &mut String, numbering: &Numbering<'_>, cut: u32) -> Result<(), AllocError>
+    requires cut { cut ≤ length numbering.now.plan.now.log.entries }
+    ensures { OnOk result (string_bytes out.new ≡ string_bytes out.old ++ cut_shown numbering.now.plan.now cut) }
 {
-    put_volatile(out, plan, cut)?;
-    put_before(out, plan, log, cut)?;
-    put_flush(out, plan, log, cut)?;
-    put_mark(out, plan, log, cut)
+    put_volatile(out, numbering.plan, cut)?;
+    put_before(out, numbering, cut)?;
+    put_flush(out, numbering, cut)?;
+    put_mark(out, numbering, cut)
 }

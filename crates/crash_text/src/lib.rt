@@ -9,9 +9,9 @@
 //!
 //! | Call | Appends |
 //! |---|---|
-//! | `put_shown(out, plan, log, options.., choice, whole, image)` | all of the below, behind a line of what images are numbered by |
-//! | `put_choice(out, plan, choice)` | the cut and the choice in a line, and a line for each departure |
-//! | `put_cut(out, plan, log, cut)` | what is volatile at a cut, the last entries before it, its last flush and its last mark |
+//! | `put_shown(out, numbering, choice, whole, image)` | all of the below, behind a line of what images are numbered by |
+//! | `put_choice(out, numbering, choice)` | the cut and the choice in a line, and a line for each departure |
+//! | `put_cut(out, numbering, cut)` | what is volatile at a cut, the last entries before it, its last flush and its last mark |
 //! | `put_differences(out, whole, image)` | each sector in which two devices differ: how many bytes, the first of them, and rows of both |
 //!
 //! # What is proved
@@ -41,10 +41,12 @@
 #![tactic(auto)]
 
 mod cut;
+mod numbering;
 mod row;
 mod sector;
 mod shown;
 
 pub use cut::put_cut;
+pub use numbering::Numbering;
 pub use sector::put_differences;
-pub use shown::{Numbering, put_choice, put_shown};
+pub use shown::{put_choice, put_shown};

@@ -4,12 +4,12 @@ ghost use Rattle.std.specs.Prelude.{ℕ, ◌≡◌, ◌<◌, ◌≤◌, ◌++◌
 ghost use Rattle.crash_text.specs.Shown.{cuts_word, by_word, numbered_text, chosen_text, cut_text, choice_line, departed_text, choice_shown, shown_text};
 
 use crate::cut::{put_cut, put_departed};
+use crate::numbering::Numbering;
 use crate::sector::put_differences;
 use choice_text::put_departures;
 use choices::Choice;
-use epochs::{By, Cuts, Plan};
+use epochs::{By, Cuts};
 use helpers::Device;
-use logfmt::Log;
 use std::alloc::AllocError;
 
 /// What the kinds of cuts are called.
@@ -42,47 +42,40 @@ fn yes_or_no(is_so: bool) -> &'static str
 
 /// Appends the device, the log and the wanted cuts.
 #[tactic(auto, unfolding(crate::specs::Shown::numbered_text))]
-fn put_numbered(out: &mut String, plan: &Plan<'_>, log: &Log, cuts: Cuts) -> Result<(), AllocError>
-    requires log { plan.now.log ≡ log.now }
-    requires cuts { plan.now.kind ≡ cuts }
-    ensures { OnOk result (string_bytes out.new ≡ string_bytes out.old ++ numbered_text plan.now) }
+fn put_numbered(out: &mut String, numbering: &Numbering<'_>) -> Result<(), AllocError>
+    ensures { OnOk result (string_bytes out.new ≡ string_bytes out.old ++ numbered_text numbering.now.plan.now) }
 {
-    let _plan = plan;
+    let log = numbering.log;
     write!(
         out,
         "sectors {} entries {}",
         log.sectors(),
         log.entries().len()
     )?;
-    let cuts = cuts_word(cuts);
+    let cuts = cuts_word(numbering.cuts);
     write!(out, " cuts {cuts}")
 }
 
 /// Appends the other options.
 #[tactic(auto, unfolding(crate::specs::Shown::chosen_text))]
-fn put_chosen(
-    out: &mut String,
-    plan: &Plan<'_>,
-    by: By,
-    bound: u8,
-    tears: bool,
-) -> Result<(), AllocError>
-    requires { plan.now.by ≡ by }
-    ensures { OnOk result (string_bytes out.new ≡ string_bytes out.old ++ chosen_text plan.now bound tears) }
+fn put_chosen(out: &mut String, numbering: &Numbering<'_>) -> Result<(), AllocError>
+    ensures { OnOk result (string_bytes out.new ≡ string_bytes out.old
+        ++ chosen_text numbering.now.plan.now numbering.now.bound numbering.now.tears) }
 {
-    let _plan = plan;
-    let tears = yes_or_no(tears);
+    let bound = numbering.bound;
+    let tears = yes_or_no(numbering.tears);
     write!(out, " bound {bound} tears {tears}")?;
-    let by = by_word(by);
+    let by = by_word(numbering.by);
     write!(out, " by {by}\n")
 }
 
 /// Appends where a cut stands.
 #[tactic(auto, unfolding(crate::specs::Shown::cut_text))]
-fn put_place(out: &mut String, plan: &Plan<'_>, cut: u32) -> Result<(), AllocError>
-    requires { cut ≤ length plan.now.log.entries }
-    ensures { OnOk result (string_bytes out.new ≡ string_bytes out.old ++ cut_text plan.now cut) }
+fn put_place(out: &mut String, numbering: &Numbering<'_>, cut: u32) -> Result<(), AllocError>
+    requires { cut ≤ length numbering.now.plan.now.log.entries }
+    ensures { OnOk result (string_bytes out.new ≡ string_bytes out.old ++ cut_text numbering.now.plan.now cut) }
 {
+    let plan = numbering.plan;
     write!(
         out,
         "cut {cut} epoch {} marks {}",
@@ -94,17 +87,15 @@ fn put_place(out: &mut String, plan: &Plan<'_>, cut: u32) -> Result<(), AllocErr
 /// Appends the cut of a choice and its text.
 fn put_choice_line(
     out: &mut String,
-    plan: &Plan<'_>,
-    by: By,
+    numbering: &Numbering<'_>,
     choice: &Choice,
 ) -> Result<(), AllocError>
-    requires by { plan.now.by ≡ by }
-    requires cut { choice.now.cut ≤ length plan.now.log.entries }
-    ensures { OnOk result (string_bytes out.new ≡ string_bytes out.old ++ choice_line plan.now choice.now) }
+    requires { choice.now.cut ≤ length numbering.now.plan.now.log.entries }
+    ensures { OnOk result (string_bytes out.new ≡ string_bytes out.old ++ choice_line numbering.now.plan.now choice.now) }
 {
-    put_place(out, plan, choice.cut())?;
+    put_place(out, numbering, choice.cut())?;
     out.push_str(" choice ")?;
-    put_departures(out, by, choice.departures())?;
+    put_departures(out, numbering.by, choice.departures())?;
     out.push_str("\n")
 }
 
@@ -123,45 +114,14 @@ fn put_departed_lines(out: &mut String, choice: &Choice) -> Result<(), AllocErro
 #[tactic(auto, unfolding(crate::specs::Shown::choice_shown))]
 pub fn put_choice(
     out: &mut String,
-    plan: &Plan<'_>,
-    by: By,
+    numbering: &Numbering<'_>,
     choice: &Choice,
 ) -> Result<(), AllocError>
-    requires by { plan.now.by ≡ by }
-    requires cut { choice.now.cut ≤ length plan.now.log.entries }
-    ensures { OnOk result (string_bytes out.new ≡ string_bytes out.old ++ choice_shown plan.now choice.now) }
+    requires { choice.now.cut ≤ length numbering.now.plan.now.log.entries }
+    ensures { OnOk result (string_bytes out.new ≡ string_bytes out.old ++ choice_shown numbering.now.plan.now choice.now) }
 {
-    put_choice_line(out, plan, by, choice)?;
+    put_choice_line(out, numbering, choice)?;
     put_departed_lines(out, choice)
-}
-
-/// What images are numbered by, beside the device and the log.
-#[derive(Clone, Copy)]
-pub struct Numbering {
-    /// The kind of the cuts.
-    pub cuts: Cuts,
-    /// What departs as one.
-    pub by: By,
-    /// How many parts may depart.
-    pub bound: u8,
-    /// Whether parts may be torn.
-    pub tears: bool,
-}
-
-/// Appends what images are numbered by, in a line.
-fn put_options(
-    out: &mut String,
-    plan: &Plan<'_>,
-    log: &Log,
-    numbering: Numbering,
-) -> Result<(), AllocError>
-    requires log { plan.now.log ≡ log.now }
-    requires cuts { plan.now.kind ≡ numbering.cuts }
-    requires by { plan.now.by ≡ numbering.by }
-    ensures { OnOk result (string_bytes out.new ≡ string_bytes out.old ++ (numbered_text plan.now ++ chosen_text plan.now numbering.bound numbering.tears)) }
-{
-    put_numbered(out, plan, log, numbering.cuts)?;
-    put_chosen(out, plan, numbering.by, numbering.bound, numbering.tears)
 }
 
 /// Appends a crash image in words: what images are numbered by, the choice, what stands at its cut, and what in the image
@@ -169,23 +129,19 @@ fn put_options(
 #[tactic(auto, unfolding(crate::specs::Shown::shown_text))]
 pub fn put_shown<W: Device, I: Device>(
     out: &mut String,
-    plan: &Plan<'_>,
-    log: &Log,
-    numbering: Numbering,
+    numbering: &Numbering<'_>,
     choice: &Choice,
     whole: &W,
     image: &I,
 ) -> Result<(), AllocError>
-    requires log { plan.now.log ≡ log.now }
-    requires cuts { plan.now.kind ≡ numbering.cuts }
-    requires by { plan.now.by ≡ numbering.by }
-    requires cut { choice.now.cut ≤ length plan.now.log.entries }
+    requires cut { choice.now.cut ≤ length numbering.now.plan.now.log.entries }
     requires device { length (I.content image.now) ≤ 16384 }
     ensures { OnOk result (string_bytes out.new ≡ string_bytes out.old
-        ++ shown_text plan.now numbering.bound numbering.tears choice.now (W.content whole.now) (I.content image.now)) }
+        ++ shown_text numbering.now.plan.now numbering.now.bound numbering.now.tears choice.now (W.content whole.now) (I.content image.now)) }
 {
-    put_options(out, plan, log, numbering)?;
-    put_choice(out, plan, numbering.by, choice)?;
-    put_cut(out, plan, log, choice.cut())?;
+    put_numbered(out, numbering)?;
+    put_chosen(out, numbering)?;
+    put_choice(out, numbering, choice)?;
+    put_cut(out, numbering, choice.cut())?;
     put_differences(out, whole, image)
 }
