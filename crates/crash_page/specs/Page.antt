@@ -2,10 +2,7 @@
 use Rattle.std.specs.Prelude.{ℕ, ◌+◌, ◌≡◌, ◌<◌, ◌≤◌, ◌==◌, not, nat_lt, Bool, if◌then◌else◌, List, [], ◌∷◌, ◌++◌, All, codes, length, filter}
 use Rattle.std.specs.Fmt.{decimal}
 use Rattle.logfmt.specs.declared.entry.Entry.{Entry}
-use Rattle.logfmt.specs.Bounds.{LogValue}
-use Rattle.epochs.specs.Plan.{PlanValue}
 use Rattle.notes.specs.LogTable.{word_text}
-use Rattle.crash_text.specs.declared.shown.Numbering.{Numbering}
 use Rattle.choices.specs.Choices.{ranked}
 use Rattle.choices.specs.Sums.{StartsValue}
 use Rattle.why.specs.declared.cut.CutFailures.{CutFailures}
@@ -60,15 +57,6 @@ list_text es = piece_text piece.ListOpen ++ rows_text es ++ piece_text piece.Lis
 -- the page, with a text about the run at its head
 unfoldable pub page_text : List ℕ → StartsValue → List ProgramFailures → List ℕ
 page_text about s fs = piece_text piece.Opening ++ about_text about ++ programs_text s 0 fs ++ list_text s.plan.log.entries ++ piece_text piece.Closing
-
--- what a page is made of belongs together: the log, its images, and what they are numbered by
-pub record IsRun (s : StartsValue) (l : LogValue) (h : PlanValue) (n : Numbering) : Type 0 where
-  pub log : s.plan.log ≡ l
-  pub history : h ≡ s.plan
-  pub cuts : s.plan.kind ≡ n.cuts
-  pub by : s.plan.by ≡ n.by
-  pub bound : s.bound ≡ n.bound
-  pub tears : s.tears ≡ n.tears
 
 -- what fails at a cut is of the images of a run
 pub record IsOfRun (s : StartsValue) (c : CutFailures) : Type 0 where

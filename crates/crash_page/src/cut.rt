@@ -5,16 +5,12 @@ ghost use Rattle.std.specs.List.{flat_map};
 ghost use Rattle.choices.specs.Choices.{ranked};
 ghost use Rattle.why.specs.declared.group.Group.{Group};
 ghost use Rattle.crash_page.specs.Groups.{group_text, first_text, stand_text, bar_text, cut_open, cut_body, cut_head, rest_text, most_of_cut, shown_of, cut_shown, cut_text};
-ghost use Rattle.crash_page.specs.Page.{IsRun, IsOfRun};
+ghost use Rattle.crash_page.specs.Page.{IsOfRun};
 
 use crate::group::{put_choice_at, put_group};
 use crate::pieces::{Piece, put, put_number};
+use crate::run::Run;
 use crate::strip::{put_count, put_place_name, share_of};
-use choices::Starts;
-use crash_text::Numbering;
-use epochs::By;
-use images::History;
-use logfmt::Log;
 use std::alloc::{AllocError, Global};
 use why::{CutFailures, Group};
 
@@ -23,21 +19,15 @@ const MOST_GROUPS_OF_CUT: usize = 8;
 
 /// Appends the first of the choices of a cut, and how many there are.
 #[tactic(auto, unfolding(crate::specs::Groups::first_text))]
-fn put_first(
-    out: &mut String,
-    by: By,
-    starts: &Starts<'_>,
-    groups: &[Group],
-) -> Result<(), AllocError>
-    requires by { starts.now.plan.by ≡ by }
-    requires images { All (λ (g : Group). g.image < length (ranked starts.now.plan starts.now.bound starts.now.tears)) groups.now }
-    ensures { OnOk result (string_bytes out.new ≡ string_bytes out.old ++ first_text starts.now groups.now) }
+fn put_first(out: &mut String, run: &Run<'_>, groups: &[Group]) -> Result<(), AllocError>
+    requires images { All (λ (g : Group). g.image < length (ranked run.now.starts.now.plan run.now.starts.now.bound run.now.starts.now.tears)) groups.now }
+    ensures { OnOk result (string_bytes out.new ≡ string_bytes out.old ++ first_text run.now.starts.now groups.now) }
 {
     match groups {
         [] => Ok(()),
         [group, ..] => {
             put(out, Piece::FirstOpen)?;
-            put_choice_at(out, by, starts, group.image)?;
+            put_choice_at(out, run, group.image)?;
             put(out, Piece::FirstOf)?;
             put_number(out, groups.len() as u64)?;
             put(out, Piece::FirstClose)
@@ -47,11 +37,11 @@ fn put_first(
 
 /// Appends where a cut stands.
 #[tactic(auto, unfolding(crate::specs::Groups::stand_text))]
-fn put_stand(out: &mut String, starts: &Starts<'_>, cut: &CutFailures) -> Result<(), AllocError>
-    requires { cut.now.cut ≤ length starts.now.plan.log.entries }
-    ensures { OnOk result (string_bytes out.new ≡ string_bytes out.old ++ stand_text starts.now cut.now) }
+fn put_stand(out: &mut String, run: &Run<'_>, cut: &CutFailures) -> Result<(), AllocError>
+    requires { cut.now.cut ≤ length run.now.starts.now.plan.log.entries }
+    ensures { OnOk result (string_bytes out.new ≡ string_bytes out.old ++ stand_text run.now.starts.now cut.now) }
 {
-    let plan = starts.plan();
+    let plan = run.starts.plan();
     put(out, Piece::CutNumber)?;
     put_number(out, u64::from(cut.cut))?;
     put(out, Piece::CutEpoch)?;
@@ -100,19 +90,17 @@ fn put_body(out: &mut String, program: usize, cut: &CutFailures) -> Result<(), A
 #[tactic(auto, unfolding(crate::specs::Groups::cut_head))]
 fn put_head(
     out: &mut String,
-    by: By,
-    starts: &Starts<'_>,
+    run: &Run<'_>,
     program: usize,
     cut: &CutFailures,
 ) -> Result<(), AllocError>
-    requires by { starts.now.plan.by ≡ by }
-    requires cut { IsOfRun starts.now cut.now }
-    ensures { OnOk result (string_bytes out.new ≡ string_bytes out.old ++ cut_head starts.now program cut.now) }
+    requires cut { IsOfRun run.now.starts.now cut.now }
+    ensures { OnOk result (string_bytes out.new ≡ string_bytes out.old ++ cut_head run.now.starts.now program cut.now) }
 {
     put_open(out, cut)?;
-    put_stand(out, starts, cut)?;
+    put_stand(out, run, cut)?;
     put_bar(out, cut)?;
-    put_first(out, by, starts, cut.groups.as_slice())?;
+    put_first(out, run, cut.groups.as_slice())?;
     put_body(out, program, cut)
 }
 
@@ -133,18 +121,14 @@ fn put_rest(out: &mut String, count: usize) -> Result<(), AllocError>
 fn put_groups(
     alloc: Global,
     out: &mut String,
-    log: &Log,
-    numbering: Numbering,
-    starts: &Starts<'_>,
-    history: &History<'_>,
+    run: &Run<'_>,
     groups: &[Group],
 ) -> Result<(), AllocError>
-    requires run { IsRun starts.now log.now history.now numbering }
-    requires images { All (λ (g : Group). g.image < length (ranked starts.now.plan starts.now.bound starts.now.tears)) groups.now }
-    ensures { OnOk result (string_bytes out.new ≡ string_bytes out.old ++ flat_map (group_text starts.now) groups.now) }
+    requires images { All (λ (g : Group). g.image < length (ranked run.now.starts.now.plan run.now.starts.now.bound run.now.starts.now.tears)) groups.now }
+    ensures { OnOk result (string_bytes out.new ≡ string_bytes out.old ++ flat_map (group_text run.now.starts.now) groups.now) }
 {
     for group in groups {
-        put_group(alloc, out, log, numbering, starts, history, *group)?;
+        put_group(alloc, out, run, *group)?;
     }
     Ok(())
 }
@@ -163,30 +147,18 @@ pub(crate) fn shown_of(left: usize, cut: &CutFailures) -> usize
 fn put_shown_cut(
     alloc: Global,
     out: &mut String,
-    log: &Log,
-    numbering: Numbering,
-    starts: &Starts<'_>,
-    history: &History<'_>,
+    run: &Run<'_>,
     program: usize,
     shown: usize,
     cut: &CutFailures,
 ) -> Result<(), AllocError>
-    requires run { IsRun starts.now log.now history.now numbering }
     requires shown { shown ≤ length cut.now.groups.items }
-    requires cut { IsOfRun starts.now cut.now }
-    ensures { OnOk result (string_bytes out.new ≡ string_bytes out.old ++ cut_shown starts.now program shown cut.now) }
+    requires cut { IsOfRun run.now.starts.now cut.now }
+    ensures { OnOk result (string_bytes out.new ≡ string_bytes out.old ++ cut_shown run.now.starts.now program shown cut.now) }
 {
     let groups = cut.groups.as_slice();
-    put_head(out, numbering.by, starts, program, cut)?;
-    put_groups(
-        alloc,
-        out,
-        log,
-        numbering,
-        starts,
-        history,
-        &groups[..shown],
-    )?;
+    put_head(out, run, program, cut)?;
+    put_groups(alloc, out, run, &groups[..shown])?;
     put_rest(out, groups.len() - shown)?;
     put(out, Piece::CutClose)
 }
@@ -195,23 +167,17 @@ fn put_shown_cut(
 pub(crate) fn put_cut(
     alloc: Global,
     out: &mut String,
-    log: &Log,
-    numbering: Numbering,
-    starts: &Starts<'_>,
-    history: &History<'_>,
+    run: &Run<'_>,
     program: usize,
     shown: usize,
     cut: &CutFailures,
 ) -> Result<(), AllocError>
-    requires run { IsRun starts.now log.now history.now numbering }
     requires shown { shown ≤ length cut.now.groups.items }
-    requires cut { IsOfRun starts.now cut.now }
-    ensures { OnOk result (string_bytes out.new ≡ string_bytes out.old ++ cut_text starts.now program shown cut.now) }
+    requires cut { IsOfRun run.now.starts.now cut.now }
+    ensures { OnOk result (string_bytes out.new ≡ string_bytes out.old ++ cut_text run.now.starts.now program shown cut.now) }
 {
     if cut.failing == 0 {
         return Ok(());
     }
-    put_shown_cut(
-        alloc, out, log, numbering, starts, history, program, shown, cut,
-    )
+    put_shown_cut(alloc, out, run, program, shown, cut)
 }

@@ -4,16 +4,14 @@ ghost use Rattle.std.specs.Prelude.{◌≡◌, ◌<◌, ◌++◌, [], length, If
 ghost use Rattle.choices.specs.Choices.{ranked};
 ghost use Rattle.images.specs.Views.{IsMember};
 ghost use Rattle.crash_page.specs.Groups.{image_text, block_text, choice_at, group_choice, group_size, group_text};
-ghost use Rattle.crash_page.specs.Page.{IsRun};
 
 use crate::html::put_html;
 use crate::pieces::{Piece, put, put_number};
+use crate::run::Run;
 use choice_text::put_departures;
 use choices::{Choice, Starts, choice_named};
-use crash_text::{Numbering, put_shown};
-use epochs::By;
-use images::{History, images_are_devices};
-use logfmt::Log;
+use crash_text::put_shown;
+use images::images_are_devices;
 use std::alloc::{AllocError, Global};
 use why::Group;
 
@@ -42,33 +40,19 @@ fn nothing_departs(starts: &Starts<'_>, choice: &Choice) -> Choice
 
 /// The image of a choice in words.
 #[tactic(auto, using(crate::proofs::Departing::member_cut))]
-fn image_text(
-    alloc: Global,
-    log: &Log,
-    numbering: Numbering,
-    starts: &Starts<'_>,
-    history: &History<'_>,
-    choice: &Choice,
-) -> Result<String, AllocError>
-    requires run { IsRun starts.now log.now history.now numbering }
-    requires member { IsMember starts.now.plan choice.now }
-    ensures { IfOk result (λ text. string_bytes text ≡ image_text starts.now choice.now) }
+fn image_text(alloc: Global, run: &Run<'_>, choice: &Choice) -> Result<String, AllocError>
+    requires member { IsMember run.now.starts.now.plan choice.now }
+    ensures { IfOk result (λ text. string_bytes text ≡ image_text run.now.starts.now choice.now) }
 {
     // A law of crash images, which does nothing: they are devices of the log's size.
     images_are_devices();
-    let _sectors = log.sectors();
-    let whole = history.view(alloc, &nothing_departs(starts, choice))?;
-    let image = history.view(alloc, choice)?;
+    let _sectors = run.numbering.log.sectors();
+    let whole = run
+        .history
+        .view(alloc, &nothing_departs(run.starts, choice))?;
+    let image = run.history.view(alloc, choice)?;
     let mut text = String::new(alloc);
-    put_shown(
-        &mut text,
-        starts.plan(),
-        log,
-        numbering,
-        choice,
-        &whole,
-        &image,
-    )?;
+    put_shown(&mut text, &run.numbering, choice, &whole, &image)?;
     Ok(text)
 }
 
@@ -88,34 +72,21 @@ fn put_block(out: &mut String, text: &str) -> Result<(), AllocError>
 }
 
 /// Appends the choice of an image.
-pub(crate) fn put_choice_at(
-    out: &mut String,
-    by: By,
-    starts: &Starts<'_>,
-    image: u64,
-) -> Result<(), AllocError>
-    requires by { starts.now.plan.by ≡ by }
-    requires image { image < length (ranked starts.now.plan starts.now.bound starts.now.tears) }
-    ensures { OnOk result (string_bytes out.new ≡ string_bytes out.old ++ choice_at starts.now image) }
+pub(crate) fn put_choice_at(out: &mut String, run: &Run<'_>, image: u64) -> Result<(), AllocError>
+    requires image { image < length (ranked run.now.starts.now.plan run.now.starts.now.bound run.now.starts.now.tears) }
+    ensures { OnOk result (string_bytes out.new ≡ string_bytes out.old ++ choice_at run.now.starts.now image) }
 {
-    let choice = starts.nth(image);
-    put_departures(out, by, choice.departures())
+    let choice = run.starts.nth(image);
+    put_departures(out, run.numbering.by, choice.departures())
 }
 
 /// Appends the choice of a group.
 #[tactic(auto, unfolding(crate::specs::Groups::group_choice))]
-fn put_group_choice(
-    out: &mut String,
-    by: By,
-    starts: &Starts<'_>,
-    choice: &Choice,
-) -> Result<(), AllocError>
-    requires by { starts.now.plan.by ≡ by }
-    ensures { OnOk result (string_bytes out.new ≡ string_bytes out.old ++ group_choice starts.now choice.now) }
+fn put_group_choice(out: &mut String, run: &Run<'_>, choice: &Choice) -> Result<(), AllocError>
+    ensures { OnOk result (string_bytes out.new ≡ string_bytes out.old ++ group_choice run.now.starts.now choice.now) }
 {
-    let _starts = starts;
     put(out, Piece::GroupOpen)?;
-    put_departures(out, by, choice.departures())
+    put_departures(out, run.numbering.by, choice.departures())
 }
 
 /// Appends the image of a group, and how many failing images stand in it.
@@ -135,19 +106,15 @@ fn put_group_size(out: &mut String, group: Group) -> Result<(), AllocError>
 pub(crate) fn put_group(
     alloc: Global,
     out: &mut String,
-    log: &Log,
-    numbering: Numbering,
-    starts: &Starts<'_>,
-    history: &History<'_>,
+    run: &Run<'_>,
     group: Group,
 ) -> Result<(), AllocError>
-    requires run { IsRun starts.now log.now history.now numbering }
-    requires image { group.image < length (ranked starts.now.plan starts.now.bound starts.now.tears) }
-    ensures { OnOk result (string_bytes out.new ≡ string_bytes out.old ++ group_text starts.now group) }
+    requires image { group.image < length (ranked run.now.starts.now.plan run.now.starts.now.bound run.now.starts.now.tears) }
+    ensures { OnOk result (string_bytes out.new ≡ string_bytes out.old ++ group_text run.now.starts.now group) }
 {
-    let choice = starts.nth(group.image);
-    let text = image_text(alloc, log, numbering, starts, history, &choice)?;
-    put_group_choice(out, numbering.by, starts, &choice)?;
+    let choice = run.starts.nth(group.image);
+    let text = image_text(alloc, run, &choice)?;
+    put_group_choice(out, run, &choice)?;
     put_group_size(out, group)?;
     put_block(out, text.as_str())?;
     put(out, Piece::GroupClose)

@@ -8,7 +8,7 @@
 //!
 //! | Call | Appends |
 //! |---|---|
-//! | `put_page(alloc, out, about, log, .., programs)` | the page, of programs that fail on so many images at these cuts |
+//! | `put_page(alloc, out, about, run, programs)` | the page, of programs that fail on so many images at these cuts |
 //!
 //! # What is proved
 //!
@@ -32,8 +32,10 @@ mod laws;
 mod page;
 mod pieces;
 mod program;
+mod run;
 mod strip;
 
 pub use laws::{failures_are_of_run, text_is_no_markup};
 pub use page::put_page;
 pub use program::ProgramFailures;
+pub use run::Run;

@@ -2,17 +2,13 @@
 
 ghost use Rattle.std.specs.Prelude.{◌≡◌, ◌++◌, All, OnOk, string_bytes};
 ghost use Rattle.crash_page.specs.Html.{html};
-ghost use Rattle.crash_page.specs.Page.{programs_text, about_text, list_text, page_text, IsRun, AreOfRun};
+ghost use Rattle.crash_page.specs.Page.{programs_text, about_text, list_text, page_text, AreOfRun};
 
 use crate::entry::put_rows;
 use crate::html::put_html;
 use crate::pieces::{Piece, put};
 use crate::program::{ProgramFailures, put_program};
-use choices::Starts;
-use crash_text::Numbering;
-use epochs::Plan;
-use images::History;
-use logfmt::Log;
+use crate::run::Run;
 use std::alloc::{AllocError, Global};
 
 /// Appends the text about the run.
@@ -27,12 +23,11 @@ fn put_about(out: &mut String, about: &str) -> Result<(), AllocError>
 
 /// Appends the list of entries.
 #[tactic(auto, unfolding(crate::specs::Page::list_text))]
-fn put_list(alloc: Global, out: &mut String, plan: &Plan<'_>, log: &Log) -> Result<(), AllocError>
-    requires log { plan.now.log ≡ log.now }
-    ensures { OnOk result (string_bytes out.new ≡ string_bytes out.old ++ list_text log.now.entries) }
+fn put_list(alloc: Global, out: &mut String, run: &Run<'_>) -> Result<(), AllocError>
+    ensures { OnOk result (string_bytes out.new ≡ string_bytes out.old ++ list_text run.now.numbering.log.now.entries) }
 {
     put(out, Piece::ListOpen)?;
-    put_rows(alloc, out, plan, log)?;
+    put_rows(alloc, out, run.starts.plan(), run.numbering.log)?;
     put(out, Piece::ListClose)
 }
 
@@ -41,20 +36,14 @@ fn put_list(alloc: Global, out: &mut String, plan: &Plan<'_>, log: &Log) -> Resu
 fn put_programs(
     alloc: Global,
     out: &mut String,
-    log: &Log,
-    numbering: Numbering,
-    starts: &Starts<'_>,
-    history: &History<'_>,
+    run: &Run<'_>,
     programs: &[ProgramFailures],
 ) -> Result<(), AllocError>
-    requires run { IsRun starts.now log.now history.now numbering }
-    requires programs { All (AreOfRun starts.now) programs.now }
-    ensures { OnOk result (string_bytes out.new ≡ string_bytes out.old ++ programs_text starts.now 0 programs.now) }
+    requires programs { All (AreOfRun run.now.starts.now) programs.now }
+    ensures { OnOk result (string_bytes out.new ≡ string_bytes out.old ++ programs_text run.now.starts.now 0 programs.now) }
 {
     for (program, failures) in programs.iter().enumerate() {
-        put_program(
-            alloc, out, log, numbering, starts, history, program, failures,
-        )?;
+        put_program(alloc, out, run, program, failures)?;
     }
     Ok(())
 }
@@ -72,19 +61,15 @@ pub fn put_page(
     alloc: Global,
     out: &mut String,
     about: &str,
-    log: &Log,
-    numbering: Numbering,
-    starts: &Starts<'_>,
-    history: &History<'_>,
+    run: &Run<'_>,
     programs: &[ProgramFailures],
 ) -> Result<(), AllocError>
-    requires run { IsRun starts.now log.now history.now numbering }
-    requires programs { All (AreOfRun starts.now) programs.now }
-    ensures { OnOk result (string_bytes out.new ≡ string_bytes out.old ++ page_text about.now starts.now programs.now) }
+    requires programs { All (AreOfRun run.now.starts.now) programs.now }
+    ensures { OnOk result (string_bytes out.new ≡ string_bytes out.old ++ page_text about.now run.now.starts.now programs.now) }
 {
     put(out, Piece::Opening)?;
     put_about(out, about)?;
-    put_programs(alloc, out, log, numbering, starts, history, programs)?;
-    put_list(alloc, out, starts.plan(), log)?;
+    put_programs(alloc, out, run, programs)?;
+    put_list(alloc, out, run)?;
     put(out, Piece::Closing)
 }

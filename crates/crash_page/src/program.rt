@@ -4,16 +4,13 @@ ghost use Rattle.std.specs.Prelude.{◌≡◌, ◌==◌, if◌then◌else◌, �
 ghost use Rattle.crash_page.specs.declared.pieces.Piece.TheVariants as piece;
 ghost use Rattle.crash_page.specs.Pieces.{piece_text};
 ghost use Rattle.crash_page.specs.Groups.{cuts_text};
-ghost use Rattle.crash_page.specs.Page.{fails, bad_text, verdict_text, strip_text, title_text, most_of_program, program_text, IsRun, IsOfRun, AreOfRun};
+ghost use Rattle.crash_page.specs.Page.{fails, bad_text, verdict_text, strip_text, title_text, most_of_program, program_text, IsOfRun, AreOfRun};
 
 use crate::cut::{put_cut, shown_of};
 use crate::entry::put_word;
 use crate::pieces::{Piece, put, put_number};
+use crate::run::Run;
 use crate::strip::put_strip;
-use choices::Starts;
-use crash_text::Numbering;
-use images::History;
-use logfmt::Log;
 use std::alloc::{AllocError, Global};
 use why::CutFailures;
 
@@ -90,19 +87,17 @@ fn put_verdict(out: &mut String, failures: &ProgramFailures) -> Result<(), Alloc
 fn put_row(
     alloc: Global,
     out: &mut String,
-    starts: &Starts<'_>,
-    log: &Log,
+    run: &Run<'_>,
     program: usize,
     cuts: &[CutFailures],
 ) -> Result<(), AllocError>
-    requires log { starts.now.plan.log ≡ log.now }
-    requires cuts { All (IsOfRun starts.now) cuts.now }
-    ensures { OnOk result (string_bytes out.new ≡ string_bytes out.old ++ strip_text log.now.entries program cuts.now) }
+    requires cuts { All (IsOfRun run.now.starts.now) cuts.now }
+    ensures { OnOk result (string_bytes out.new ≡ string_bytes out.old ++ strip_text run.now.numbering.log.now.entries program cuts.now) }
 {
     put(out, Piece::StripOpen)?;
-    put_word(out, log.entries().len() > MANY, "many")?;
+    put_word(out, run.numbering.log.entries().len() > MANY, "many")?;
     put(out, Piece::OpenEnd)?;
-    put_strip(alloc, out, starts, log, program, cuts)?;
+    put_strip(alloc, out, run, program, cuts)?;
     put(out, Piece::StripClose)
 }
 
@@ -111,23 +106,17 @@ fn put_row(
 fn put_cuts(
     alloc: Global,
     out: &mut String,
-    log: &Log,
-    numbering: Numbering,
-    starts: &Starts<'_>,
-    history: &History<'_>,
+    run: &Run<'_>,
     program: usize,
     cuts: &[CutFailures],
 ) -> Result<(), AllocError>
-    requires run { IsRun starts.now log.now history.now numbering }
-    requires cuts { All (IsOfRun starts.now) cuts.now }
-    ensures { OnOk result (string_bytes out.new ≡ string_bytes out.old ++ cuts_text starts.now program most_of_program cuts.now) }
+    requires cuts { All (IsOfRun run.now.starts.now) cuts.now }
+    ensures { OnOk result (string_bytes out.new ≡ string_bytes out.old ++ cuts_text run.now.starts.now program most_of_program cuts.now) }
 {
     let mut left = MOST_GROUPS_OF_PROGRAM;
     for cut in cuts {
         let shown = shown_of(left, cut);
-        put_cut(
-            alloc, out, log, numbering, starts, history, program, shown, cut,
-        )?;
+        put_cut(alloc, out, run, program, shown, cut)?;
         left -= shown;
     }
     Ok(())
@@ -148,21 +137,17 @@ fn put_title(out: &mut String, program: usize) -> Result<(), AllocError>
 pub(crate) fn put_program(
     alloc: Global,
     out: &mut String,
-    log: &Log,
-    numbering: Numbering,
-    starts: &Starts<'_>,
-    history: &History<'_>,
+    run: &Run<'_>,
     program: usize,
     failures: &ProgramFailures,
 ) -> Result<(), AllocError>
-    requires run { IsRun starts.now log.now history.now numbering }
-    requires cuts { AreOfRun starts.now failures.now }
-    ensures { OnOk result (string_bytes out.new ≡ string_bytes out.old ++ program_text starts.now program failures.now) }
+    requires cuts { AreOfRun run.now.starts.now failures.now }
+    ensures { OnOk result (string_bytes out.new ≡ string_bytes out.old ++ program_text run.now.starts.now program failures.now) }
 {
     let cuts = failures.cuts.as_slice();
     put_title(out, program)?;
     put_verdict(out, failures)?;
-    put_row(alloc, out, starts, log, program, cuts)?;
+    put_row(alloc, out, run, program, cuts)?;
     put(out, Piece::Legend)?;
-    put_cuts(alloc, out, log, numbering, starts, history, program, cuts)
+    put_cuts(alloc, out, run, program, cuts)
 }

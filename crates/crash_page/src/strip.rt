@@ -6,7 +6,7 @@ ghost use Rattle.crash_page.specs.Page.{IsOfRun};
 
 use crate::entry::{put_cells, put_shade};
 use crate::pieces::{Piece, put, put_number};
-use choices::Starts;
+use crate::run::Run;
 use epochs::Plan;
 use logfmt::Log;
 use std::alloc::{AllocError, Global};
@@ -134,16 +134,14 @@ fn put_cut_cell(
 pub(crate) fn put_strip(
     alloc: Global,
     out: &mut String,
-    starts: &Starts<'_>,
-    log: &Log,
+    run: &Run<'_>,
     program: usize,
     cuts: &[CutFailures],
 ) -> Result<(), AllocError>
-    requires log { starts.now.plan.log ≡ log.now }
-    requires cuts { All (IsOfRun starts.now) cuts.now }
-    ensures { OnOk result (string_bytes out.new ≡ string_bytes out.old ++ strip_from log.now.entries program 0 cuts.now) }
+    requires cuts { All (IsOfRun run.now.starts.now) cuts.now }
+    ensures { OnOk result (string_bytes out.new ≡ string_bytes out.old ++ strip_from run.now.numbering.log.now.entries program 0 cuts.now) }
 {
-    let plan = starts.plan();
+    let (plan, log) = (run.starts.plan(), run.numbering.log);
     let mut from = 0;
     for cut in cuts {
         put_cells(alloc, out, plan, log, from, cut.cut)?;

@@ -3,5 +3,5 @@ use Rattle.crash_page.proofs.group.image_text.Goals as goal
 
 pub put_shown-requires-clause-device : goal.put_shown-requires-clause-device
 put_shown-requires-clause-device c =
-    small c.args.starts.now.plan c.args.history.now c.args.log.now c.in_ok-image.image c.args.choice.now c.images_are_devices.ensures c.sectors-sectors.ensures.bounds c.requires.run.log c.requires.run.history
-    c.in_ok-image.ensures.value
+    small c.args.run.now.starts.now.plan c.args.run.now.history.now c.args.run.now.numbering.log.now c.in_ok-image.image c.args.choice.now c.images_are_devices.ensures
+    c.sectors-sectors.ensures.bounds c.args.run.now.log_is c.args.run.now.history_is c.in_ok-image.ensures.value
