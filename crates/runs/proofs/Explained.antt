@@ -196,12 +196,6 @@ causes_of_lines s value checkers head starts ls ms bytes heads is found marks te
     (subst (λ (h : HeadValue). TellsCauses h starts (λ program. images_failing program ls) ls bytes) heads
     (subst (λ (f : ℕ → List ℕ). TellsCauses head starts f ls bytes) failing tells)))
 
--- what departs as one is the same of the head and of the choices
-pub same_kind : (s : Settings) (value : LogValue) (checkers : List CheckerValue) (head : HeadValue) (starts : StartsValue)
-    → head ≡ head_of (with_first false s) value checkers → starts ≡ starts_of s value → head.by ≡ starts.plan.by
-unfolding head_of
-same_kind s value checkers head starts heads is = ap (λ (h : HeadValue). h.by) heads ∙ sym (ap (λ (t : StartsValue). t.plan.by) is)
-
 -- the table that a run makes
 pub starts_made : (s : Settings) (value : LogValue) (plan : PlanValue) (bound : ℕ) (tears : Bool) (starts : StartsValue) → plan ≡ plan_of s value → bound ≡ s.bound → tears ≡ s.tears
     → starts ≡ record { plan = plan; bound = bound; tears = tears } → starts ≡ starts_of s value

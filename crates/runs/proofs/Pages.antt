@@ -3,7 +3,6 @@ use Rattle.std.proofs.Common.{ℕ, ◌≡◌, ◌+◌, ◌<◌, Bool, false, Lis
 use Rattle.std.proofs.lemmas.Option.{slice_get-get_or}
 use Rattle.base.proofs.Lists.{slice_get_of_push}
 use Rattle.logfmt.specs.Bounds.{LogValue}
-use Rattle.epochs.specs.Plan.{PlanValue}
 use Rattle.choices.specs.Sums.{StartsValue}
 use Rattle.checker.specs.Checker.{CheckerValue}
 use Rattle.lines.specs.declared.marks.Mark.{Mark}
@@ -16,7 +15,6 @@ use Rattle.crash_page.specs.Laws.{FailuresAreOfRun}
 use Rattle.crash_page.specs.Page.{AreOfRun, page_text}
 use Rattle.workers.specs.Failing.{failing_lines}
 use Rattle.request.specs.declared.settings.Settings.{Settings}
-use Rattle.request.specs.Source.{plan_of}
 use Rattle.runs.specs.Explore.{subject_of, head_of}
 use Rattle.runs.specs.Why.{images_failing, starts_of, PageOfLines, with_first}
 use Rattle.runs.specs.Marked.{images_marked}
@@ -72,33 +70,6 @@ page_told h s failing ls count none about all now fs bytes empty head are many s
           ∙ ap (λ (bs : List ℕ). page_text bs s now) head
           ∙ ap (λ (gs : List ProgramFailures). page_text (about_run h ls) s gs) same;
     }
-
--- the log and what images are numbered by are the same of the head, of the choices and of the history
-pub same_log : (s : Settings) (value : LogValue) (starts : StartsValue) → starts ≡ starts_of s value → starts.plan.log ≡ value
-same_log s value starts is = ap (λ (t : StartsValue). t.plan.log) is
-
-pub same_history : (s : Settings) (value : LogValue) (starts : StartsValue) (history : PlanValue) → history ≡ plan_of s value → starts ≡ starts_of s value → history ≡ starts.plan
-same_history s value starts history made is = made ∙ sym (ap (λ (t : StartsValue). t.plan) is)
-
-pub same_cuts : (s : Settings) (value : LogValue) (checkers : List CheckerValue) (head : HeadValue) (starts : StartsValue)
-    → head ≡ head_of (with_first false s) value checkers → starts ≡ starts_of s value → starts.plan.kind ≡ head.cuts
-unfolding head_of
-same_cuts s value checkers head starts heads is = ap (λ (t : StartsValue). t.plan.kind) is ∙ sym (ap (λ (h : HeadValue). h.cuts) heads)
-
-pub same_by : (s : Settings) (value : LogValue) (checkers : List CheckerValue) (head : HeadValue) (starts : StartsValue)
-    → head ≡ head_of (with_first false s) value checkers → starts ≡ starts_of s value → starts.plan.by ≡ head.by
-unfolding head_of
-same_by s value checkers head starts heads is = ap (λ (t : StartsValue). t.plan.by) is ∙ sym (ap (λ (h : HeadValue). h.by) heads)
-
-pub same_bound : (s : Settings) (value : LogValue) (checkers : List CheckerValue) (head : HeadValue) (starts : StartsValue)
-    → head ≡ head_of (with_first false s) value checkers → starts ≡ starts_of s value → starts.bound ≡ head.bound
-unfolding head_of
-same_bound s value checkers head starts heads is = ap (λ (t : StartsValue). t.bound) is ∙ sym (ap (λ (h : HeadValue). h.bound) heads)
-
-pub same_tears : (s : Settings) (value : LogValue) (checkers : List CheckerValue) (head : HeadValue) (starts : StartsValue)
-    → head ≡ head_of (with_first false s) value checkers → starts ≡ starts_of s value → starts.tears ≡ head.tears
-unfolding head_of
-same_tears s value checkers head starts heads is = ap (λ (t : StartsValue). t.tears) is ∙ sym (ap (λ (h : HeadValue). h.tears) heads)
 
 -- the page by marks is that by the failing lines
 pub page_of_lines : (s : Settings) (value : LogValue) (checkers : List CheckerValue) (head : HeadValue) (starts : StartsValue) (ls : List FailingLine) (ms : List Mark) (bytes : List ℕ)

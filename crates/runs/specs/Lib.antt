@@ -5,3 +5,4 @@ pub mod Paged
 pub mod Why
 pub mod Marked
 pub mod Found
+pub mod Tasks

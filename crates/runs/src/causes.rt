@@ -6,10 +6,8 @@ ghost use Rattle.why.specs.Failures.{AreImages};
 ghost use Rattle.runs.specs.Why.{TellsCauses};
 ghost use Rattle.runs.specs.Marked.{own_image, images_marked, TellsCuts, TellsPairs, TellsProgram, TellsPrograms};
 
-use choices::Starts;
-use epochs::By;
-use lines::{Lines, Mark};
-use logfmt::Log;
+use crate::task::Findings;
+use lines::Mark;
 use report::{Head, put_options, put_totals};
 use std::alloc::{AllocError, Global};
 use why::{failures, pairs_of, put_pairs, put_program};
@@ -43,15 +41,14 @@ pub(crate) fn images_of_program(
 fn put_cuts(
     alloc: Global,
     out: &mut String,
-    by: By,
-    starts: &Starts<'_>,
+    findings: &Findings<'_>,
     program: usize,
     images: &[u64],
 ) -> Result<(), AllocError>
-    requires kind { by ≡ starts.now.plan.by }
-    requires images { AreImages starts.now images.now }
-    ensures { OnOk result (TellsCuts starts.now program images.now (string_bytes out.old) (string_bytes out.new)) }
+    requires { AreImages findings.now.starts.now images.now }
+    ensures { OnOk result (TellsCuts findings.now.starts.now program images.now (string_bytes out.old) (string_bytes out.new)) }
 {
+    let (by, starts) = (findings.task.options.by(), findings.starts);
     let cuts = failures(alloc, starts, images)?;
     put_program(out, by, starts, program, images.len(), cuts.as_slice())
 }
@@ -60,15 +57,13 @@ fn put_cuts(
 fn put_pairs_of(
     alloc: Global,
     out: &mut String,
-    starts: &Starts<'_>,
-    log: &Log,
+    findings: &Findings<'_>,
     images: &[u64],
 ) -> Result<(), AllocError>
-    requires log { starts.now.plan.log ≡ log.now }
-    requires images { AreImages starts.now images.now }
-    ensures { OnOk result (TellsPairs starts.now images.now (string_bytes out.old) (string_bytes out.new)) }
+    requires { AreImages findings.now.starts.now images.now }
+    ensures { OnOk result (TellsPairs findings.now.starts.now images.now (string_bytes out.old) (string_bytes out.new)) }
 {
-    let pairs = pairs_of(alloc, starts, log, images)?;
+    let pairs = pairs_of(alloc, findings.starts, findings.task.log, images)?;
     put_pairs(out, pairs.as_slice())
 }
 
@@ -76,39 +71,31 @@ fn put_pairs_of(
 fn put_causes(
     alloc: Global,
     out: &mut String,
-    by: By,
-    starts: &Starts<'_>,
-    log: &Log,
+    findings: &Findings<'_>,
     marks: &[Mark],
     program: usize,
 ) -> Result<(), AllocError>
-    requires kind { by ≡ starts.now.plan.by }
-    requires log { starts.now.plan.log ≡ log.now }
-    requires images { AreImages starts.now (images_marked marks.now program) }
-    ensures { OnOk result (TellsProgram starts.now program (images_marked marks.now program) (string_bytes out.old) (string_bytes out.new)) }
+    requires { AreImages findings.now.starts.now (images_marked marks.now program) }
+    ensures { OnOk result (TellsProgram findings.now.starts.now program (images_marked marks.now program) (string_bytes out.old) (string_bytes out.new)) }
 {
     let images = images_of_program(alloc, marks, program)?;
-    put_cuts(alloc, out, by, starts, program, images.as_slice())?;
-    put_pairs_of(alloc, out, starts, log, images.as_slice())
+    put_cuts(alloc, out, findings, program, images.as_slice())?;
+    put_pairs_of(alloc, out, findings, images.as_slice())
 }
 
 /// Appends what fails of each program.
 fn put_all(
     alloc: Global,
     out: &mut String,
-    by: By,
-    starts: &Starts<'_>,
-    log: &Log,
+    findings: &Findings<'_>,
     marks: &[Mark],
     programs: usize,
 ) -> Result<(), AllocError>
-    requires kind { by ≡ starts.now.plan.by }
-    requires log { starts.now.plan.log ≡ log.now }
-    requires images { (program : ℕ) → AreImages starts.now (images_marked marks.now program) }
-    ensures { OnOk result (TellsPrograms starts.now (images_marked marks.now) programs (string_bytes out.old) (string_bytes out.new)) }
+    requires images { (program : ℕ) → AreImages findings.now.starts.now (images_marked marks.now program) }
+    ensures { OnOk result (TellsPrograms findings.now.starts.now (images_marked marks.now) programs (string_bytes out.old) (string_bytes out.new)) }
 {
     for program in 0..programs {
-        put_causes(alloc, out, by, starts, log, marks, program)?;
+        put_causes(alloc, out, findings, marks, program)?;
     }
     Ok(())
 }
@@ -117,29 +104,17 @@ fn put_all(
 pub(crate) fn causes_text(
     alloc: Global,
     head: &Head,
-    starts: &Starts<'_>,
-    log: &Log,
-    lines: &Lines,
+    findings: &Findings<'_>,
     marks: &[Mark],
 ) -> Result<Vec<u8>, AllocError>
-    requires kind { head.now.by ≡ starts.now.plan.by }
-    requires log { starts.now.plan.log ≡ log.now }
-    requires order { IsNonDecreasing (map (λ l. l.image) lines.now) }
-    requires images { (program : ℕ) → AreImages starts.now (images_marked marks.now program) }
-    ensures { IfOk result (λ bytes. TellsCauses head.now starts.now (images_marked marks.now) lines.now bytes.items) }
+    requires order { IsNonDecreasing (map (λ l. l.image) findings.now.work.now.lines) }
+    requires images { (program : ℕ) → AreImages findings.now.starts.now (images_marked marks.now program) }
+    ensures { IfOk result (λ bytes. TellsCauses head.now findings.now.starts.now (images_marked marks.now) findings.now.work.now.lines bytes.items) }
 {
     let mut out = String::new(alloc);
     write!(out, "crash causes 1\n")?;
     put_options(&mut out, head)?;
-    put_all(
-        alloc,
-        &mut out,
-        head.by,
-        starts,
-        log,
-        marks,
-        head.programs.len(),
-    )?;
-    put_totals(&mut out, head.images, lines)?;
+    put_all(alloc, &mut out, findings, marks, head.programs.len())?;
+    put_totals(&mut out, head.images, &findings.work.lines)?;
     Ok(out.into_bytes())
 }

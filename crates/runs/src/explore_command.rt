@@ -4,37 +4,33 @@ ghost use Rattle.std.specs.Prelude.{◌≡◌, ◌≢◌, ◌≤◌, ◌<◌, �
 ghost use Rattle.base.specs.declared.causes.CodeCause.TheVariants as code;
 ghost use Rattle.bpf_isa.specs.Program.{IsSpelledBy, HasNoFault};
 ghost use Rattle.std.specs.List.Sorted.{IsNonDecreasing};
-ghost use Rattle.choices.specs.Choices.{limit};
 ghost use Rattle.checker.specs.Checker.{AreFor};
-ghost use Rattle.workers.specs.Failing.{failing_lines};
 ghost use Rattle.base.specs.Refusals.{memory_refusal};
-ghost use Rattle.request.specs.Source.{plan_of, images_of, RefusesPlan};
-ghost use Rattle.runs.specs.Explore.{HasReport, IsReport, IsProgramCount, Refuses, program_head, subject_of, head_of, report_of};
+ghost use Rattle.request.specs.Source.{RefusesPlan};
+ghost use Rattle.runs.specs.Explore.{HasReport, IsReport, IsProgramCount, Refuses, program_head, head_of};
 ghost use Rattle.request.specs.declared.settings.Telling.TheVariants as tells;
-ghost use Rattle.runs.specs.Why.{starts_of, with_first, first_asked, Tells, IsExplained, IsPaged, IsTold};
+ghost use Rattle.runs.specs.Why.{with_first, first_asked, IsExplained, IsPaged, IsTold};
+ghost use Rattle.runs.specs.Tasks.{lines_of, TellsTask};
 ghost use Rattle.runs.specs.Found.{AreFound};
 ghost use Rattle.runs.specs.Programs.{IsRunWithin, IsCodeFault, IsUnaccepted, code_refusal, verifier_refusal, AreDecoded, AreFirstMade, RefusesOneOf};
 
 use crate::causes::causes_text;
 use crate::paging::page_bytes;
+use crate::task::{Findings, Task};
 use base::refusal::{Cause, Refusal};
 use bpf_isa::codec::decode;
 use bpf_isa::program::{CodeFault, Program};
 use bpf_shape::Fault;
 use checker::Checker;
 use choices::Starts;
-use epochs::Plan;
 use images::History;
-use logfmt::Log;
 use report::{Head, ProgramHead, write_report};
 use request::{MOST_PROGRAMS, OptionPlace, Options, Telling, option_refusal_of, planned, read_log};
 use std::alloc::{AllocError, Global};
 use std::sync::Wait;
 use std::thread::Threads;
 use verifier::verify;
-use workers::{
-    Gate, Input, OpenGate, Work, accepted_checkers_run_safely, explore_all, lines_are_set,
-};
+use workers::{Gate, Input, OpenGate, accepted_checkers_run_safely, explore_all, lines_are_set};
 
 /// What a run answers.
 #[derive(Drop)]
@@ -200,132 +196,70 @@ fn program_heads(alloc: Global, checkers: &[Checker<'_>]) -> Result<Vec<ProgramH
 
 /// What stands at the head of a text, of which it is said whether it is of the first failing image alone.
 #[tactic(auto, unfolding(crate::specs::Explore::head_of))]
-fn head_of_run(
-    alloc: Global,
-    log: &Log,
-    checkers: &[Checker<'_>],
-    options: &Options,
-    images: u64,
-    first: bool,
-) -> Result<Head, AllocError>
-    requires images { images ≡ length (images_of options.now log.now) }
-    requires device { log.now.sectors ≡ options.now.sectors }
-    ensures { IfOk result (λ head. head ≡ head_of (with_first first options.now) log.now checkers.now) }
+fn head_of_run(alloc: Global, task: &Task<'_>, first: bool) -> Result<Head, AllocError>
+    ensures { IfOk result (λ head. head ≡ head_of (with_first first task.now.options.now) task.now.log.now task.now.checkers.now) }
 {
+    let options = task.options;
     Ok(Head {
         sectors: options.sectors(),
-        entries: log.entries().len() as u32,
+        entries: task.log.entries().len() as u32,
         cuts: options.cuts(),
         bound: options.bound(),
         tears: options.tears(),
         by: options.by(),
         first,
-        programs: program_heads(alloc, checkers)?,
-        images,
+        programs: program_heads(alloc, task.checkers)?,
+        images: task.images,
     })
 }
 
-/// The report of the work.
-fn reported(
-    alloc: Global,
-    log: &Log,
-    checkers: &[Checker<'_>],
-    options: &Options,
-    images: u64,
-    work: &Work,
-) -> Result<Vec<u8>, AllocError>
-    requires images { images ≡ length (images_of options.now log.now) }
-    requires device { log.now.sectors ≡ options.now.sectors }
-    requires order { IsNonDecreasing (map (λ l. l.image) work.now.lines) }
-    requires lines { AreFound options.now.first (failing_lines (subject_of options.now log.now checkers.now)) work.now.lines }
-    ensures { IfOk result (λ bytes. bytes.items ≡ report_of options.now log.now checkers.now) }
+/// The report of what was found.
+fn reported(alloc: Global, findings: &Findings<'_>) -> Result<Vec<u8>, AllocError>
+    requires order { IsNonDecreasing (map (λ l. l.image) findings.now.work.now.lines) }
+    requires lines { AreFound findings.now.task.now.options.now.first (lines_of findings.now.task.now) findings.now.work.now.lines }
+    ensures { IfOk result (λ bytes. TellsTask tells.Report findings.now.task.now bytes.items) }
 {
-    let head = head_of_run(alloc, log, checkers, options, images, options.first())?;
-    write_report(alloc, &head, &work.lines)
+    let task = findings.task;
+    let head = head_of_run(alloc, task, task.options.first())?;
+    write_report(alloc, &head, &findings.work.lines)
 }
 
-/// Why the programs fail, by the work.
-fn explained(
-    alloc: Global,
-    log: &Log,
-    checkers: &[Checker<'_>],
-    options: &Options,
-    images: u64,
-    starts: &Starts<'_>,
-    work: &Work,
-) -> Result<Vec<u8>, AllocError>
-    requires images { images ≡ length (images_of options.now log.now) }
-    requires device { log.now.sectors ≡ options.now.sectors }
-    requires order { IsNonDecreasing (map (λ l. l.image) work.now.lines) }
-    requires starts { starts.now ≡ starts_of options.now log.now }
-    requires lines { work.now.lines ≡ failing_lines (subject_of options.now log.now checkers.now) }
-    ensures { IfOk result (λ bytes. Tells tells.Causes options.now log.now checkers.now bytes.items) }
+/// Why the programs fail, by what was found.
+fn explained(alloc: Global, findings: &Findings<'_>) -> Result<Vec<u8>, AllocError>
+    requires order { IsNonDecreasing (map (λ l. l.image) findings.now.work.now.lines) }
+    requires lines { findings.now.work.now.lines ≡ lines_of findings.now.task.now }
+    ensures { IfOk result (λ bytes. TellsTask tells.Causes findings.now.task.now bytes.items) }
 {
-    let marks = work.lines.marks(alloc)?;
-    let head = head_of_run(alloc, log, checkers, options, images, false)?;
+    let marks = findings.work.lines.marks(alloc)?;
+    let head = head_of_run(alloc, findings.task, false)?;
     // A law of the failing lines, which does nothing: they are in their order, and so are those of each program.
     lines_are_set();
-    causes_text(alloc, &head, starts, log, &work.lines, marks.as_slice())
+    causes_text(alloc, &head, findings, marks.as_slice())
 }
 
-/// Where the programs fail, as a page, by the work.
-fn paged(
-    alloc: Global,
-    log: &Log,
-    checkers: &[Checker<'_>],
-    options: &Options,
-    images: u64,
-    starts: &Starts<'_>,
-    history: &History<'_>,
-    work: &Work,
-) -> Result<Vec<u8>, AllocError>
-    requires images { images ≡ length (images_of options.now log.now) }
-    requires device { log.now.sectors ≡ options.now.sectors }
-    requires order { IsNonDecreasing (map (λ l. l.image) work.now.lines) }
-    requires starts { starts.now ≡ starts_of options.now log.now }
-    requires history { history.now ≡ plan_of options.now log.now }
-    requires lines { work.now.lines ≡ failing_lines (subject_of options.now log.now checkers.now) }
-    ensures { IfOk result (λ bytes. Tells tells.Page options.now log.now checkers.now bytes.items) }
+/// Where the programs fail, as a page, by what was found.
+fn paged(alloc: Global, findings: &Findings<'_>) -> Result<Vec<u8>, AllocError>
+    requires order { IsNonDecreasing (map (λ l. l.image) findings.now.work.now.lines) }
+    requires lines { findings.now.work.now.lines ≡ lines_of findings.now.task.now }
+    ensures { IfOk result (λ bytes. TellsTask tells.Page findings.now.task.now bytes.items) }
 {
-    let marks = work.lines.marks(alloc)?;
-    let head = head_of_run(alloc, log, checkers, options, images, false)?;
+    let marks = findings.work.lines.marks(alloc)?;
+    let head = head_of_run(alloc, findings.task, false)?;
     // A law of the failing lines, which does nothing: they are in their order, and so are those of each program.
     lines_are_set();
-    page_bytes(
-        alloc,
-        log,
-        &head,
-        starts,
-        history,
-        &work.lines,
-        marks.as_slice(),
-    )
+    page_bytes(alloc, &head, findings, marks.as_slice())
 }
 
-/// What is to be told of the work.
-fn told(
-    alloc: Global,
-    telling: Telling,
-    log: &Log,
-    checkers: &[Checker<'_>],
-    options: &Options,
-    images: u64,
-    starts: &Starts<'_>,
-    history: &History<'_>,
-    work: &Work,
-) -> Result<Vec<u8>, AllocError>
-    requires images { images ≡ length (images_of options.now log.now) }
-    requires device { log.now.sectors ≡ options.now.sectors }
-    requires order { IsNonDecreasing (map (λ l. l.image) work.now.lines) }
-    requires starts { starts.now ≡ starts_of options.now log.now }
-    requires history { history.now ≡ plan_of options.now log.now }
-    requires lines { AreFound (first_asked telling options.now.first) (failing_lines (subject_of options.now log.now checkers.now)) work.now.lines }
-    ensures { IfOk result (λ bytes. Tells telling options.now log.now checkers.now bytes.items) }
+/// What is to be told of what was found.
+fn told(alloc: Global, telling: Telling, findings: &Findings<'_>) -> Result<Vec<u8>, AllocError>
+    requires order { IsNonDecreasing (map (λ l. l.image) findings.now.work.now.lines) }
+    requires lines { AreFound (first_asked telling findings.now.task.now.options.now.first) (lines_of findings.now.task.now) findings.now.work.now.lines }
+    ensures { IfOk result (λ bytes. TellsTask telling findings.now.task.now bytes.items) }
 {
     match telling {
-        Telling::Report => reported(alloc, log, checkers, options, images, work),
-        Telling::Causes => explained(alloc, log, checkers, options, images, starts, work),
-        Telling::Page => paged(alloc, log, checkers, options, images, starts, history, work),
+        Telling::Report => reported(alloc, findings),
+        Telling::Causes => explained(alloc, findings),
+        Telling::Page => paged(alloc, findings),
     }
 }
 
@@ -339,29 +273,22 @@ fn is_first_asked(telling: Telling, options: &Options) -> bool
     }
 }
 
-/// Judges the crash images of a plan by checkers, and tells of those that fail.
+/// Judges the crash images of a task, and tells of those that fail.
 fn judged<'x, G: Gate + Sync, R: Threads + Wait + Sync>(
     rt: &R,
     alloc: Global,
     gate: &G,
     telling: Telling,
-    log: &'x Log,
-    plan: &'x Plan<'x>,
-    checkers: &'x [Checker<'x>],
-    options: &Options,
-    images: u64,
+    task: &'x Task<'x>,
 ) -> Result<Explored, Refusal>
-    requires plan { plan.now ≡ plan_of options.now log.now }
-    requires device { log.now.sectors ≡ options.now.sectors }
-    requires checkers { length checkers.now ≤ 8 }
-    requires verified { AreFor options.now.sectors checkers.now }
-    requires images { images ≡ length (images_of options.now log.now) }
-    requires few { images ≤ limit }
-    ensures bytes { IfOk result (λ e. Tells telling options.now log.now checkers.now e.bytes.items) }
-    ensures failing { IfOk result (λ e. IsTrue e.failing ↔ (failing_lines (subject_of options.now log.now checkers.now) ≢ [])) }
-    ensures refused { IfErr result (RefusesPlan options.now log.now) }
+    requires checkers { length task.now.checkers.now ≤ 8 }
+    requires verified { AreFor task.now.options.now.sectors task.now.checkers.now }
+    ensures bytes { IfOk result (λ e. TellsTask telling task.now e.bytes.items) }
+    ensures failing { IfOk result (λ e. IsTrue e.failing ↔ (lines_of task.now ≢ [])) }
+    ensures refused { IfErr result (RefusesPlan task.now.options.now task.now.log.now) }
 {
-    let history = match History::new(alloc, &*plan, &*log) {
+    let (plan, checkers, options, images) = (task.plan, task.checkers, task.options, task.images);
+    let history = match History::new(alloc, &*plan, &*task.log) {
         Ok(history) => history,
         Err(_error) => return Err(Refusal::of_memory()),
     };
@@ -385,9 +312,13 @@ fn judged<'x, G: Gate + Sync, R: Threads + Wait + Sync>(
         images,
     );
     let work = explore_all(rt, alloc, gate, &input)?;
-    match told(
-        alloc, telling, log, checkers, options, images, &starts, &history, &work,
-    ) {
+    let findings = Findings {
+        task: &*task,
+        starts: &starts,
+        history: &history,
+        work: &work,
+    };
+    match told(alloc, telling, &findings) {
         Ok(bytes) => Ok(Explored {
             bytes,
             hits: work.hits,
@@ -395,6 +326,19 @@ fn judged<'x, G: Gate + Sync, R: Threads + Wait + Sync>(
         }),
         Err(_error) => Err(Refusal::of_memory()),
     }
+}
+
+/// What a run is asked: what it is to tell of the images of a log, as one to eight programs judge them.
+#[derive(Clone, Copy)]
+pub struct Question<'a> {
+    /// What is to be told.
+    pub telling: Telling,
+    /// The bytes of the log.
+    pub log: &'a [u8],
+    /// The bytes of each program.
+    pub programs: &'a [Vec<u8>],
+    /// The options.
+    pub options: &'a Options,
 }
 
 /// Judges the crash images of a log by one to eight programs, and tells of those that fail what is asked for: what
@@ -407,18 +351,16 @@ pub fn run_with<G: Gate + Sync, R: Threads + Wait + Sync>(
     rt: &R,
     alloc: Global,
     gate: &G,
-    telling: Telling,
-    log: &[u8],
-    programs: &[Vec<u8>],
-    options: &Options,
+    question: &Question<'_>,
 ) -> Result<Explored, Refusal>
-    ensures told { IfOk result (λ e. IsTold telling log.now (map (λ f. f.items) programs.now) options.now e.bytes.items e.failing) }
-    ensures refused { IfErr result (Refuses log.now (map (λ f. f.items) programs.now) options.now) }
+    ensures told { IfOk result (λ e. IsTold question.now.telling question.now.log.now (map (λ f. f.items) question.now.programs.now) question.now.options.now e.bytes.items e.failing) }
+    ensures refused { IfErr result (Refuses question.now.log.now (map (λ f. f.items) question.now.programs.now) question.now.options.now) }
 {
+    let (programs, options) = (question.programs, question.options);
     if !is_program_count(programs.len()) {
         return Err(option_refusal_of(OptionPlace::Programs));
     }
-    let log = read_log(alloc, log, options.sectors())?;
+    let log = read_log(alloc, question.log, options.sectors())?;
     let (plan, images) = planned(alloc, &log, options)?;
     let decoded = decode_all(alloc, programs)?;
     let checkers = checkers_of(alloc, decoded.programs.as_slice(), options)?;
@@ -427,17 +369,14 @@ pub fn run_with<G: Gate + Sync, R: Threads + Wait + Sync>(
     }
     // A law of the machine, which does nothing: an accepted program meets no fault.
     accepted_checkers_run_safely();
-    judged(
-        rt,
-        alloc,
-        gate,
-        telling,
-        &log,
-        &plan,
-        checkers.as_slice(),
+    let task = Task {
+        log: &log,
+        plan: &plan,
+        checkers: checkers.as_slice(),
         options,
         images,
-    )
+    };
+    judged(rt, alloc, gate, question.telling, &task)
 }
 
 /// Explores the crash images of a log: judges each by the one to eight programs, and reports those that
@@ -461,7 +400,14 @@ pub fn explore_with<G: Gate + Sync, R: Threads + Wait + Sync>(
     ensures report { IfOk result (λ e. IsReport log.now (map (λ f. f.items) programs.now) options.now e.bytes.items e.failing) }
     ensures refused { IfErr result (Refuses log.now (map (λ f. f.items) programs.now) options.now) }
 {
-    run_with(rt, alloc, gate, Telling::Report, log, programs, options)
+    let telling = Telling::Report;
+    let question = Question {
+        telling,
+        log,
+        programs,
+        options,
+    };
+    run_with(rt, alloc, gate, &question)
 }
 
 /// Says why programs fail on the crash images of a log: of each program how many images of each cut fail, and under which
@@ -482,7 +428,14 @@ pub fn why<G: Gate + Sync, R: Threads + Wait + Sync>(
     ensures explained { IfOk result (λ e. IsExplained log.now (map (λ f. f.items) programs.now) options.now e.bytes.items e.failing) }
     ensures refused { IfErr result (Refuses log.now (map (λ f. f.items) programs.now) options.now) }
 {
-    run_with(rt, alloc, gate, Telling::Causes, log, programs, options)
+    let telling = Telling::Causes;
+    let question = Question {
+        telling,
+        log,
+        programs,
+        options,
+    };
+    run_with(rt, alloc, gate, &question)
 }
 
 /// Shows where programs fail on the crash images of a log, as a page for a browser (docs/REPORT.md, The page of `page`). It
@@ -502,7 +455,14 @@ pub fn page<G: Gate + Sync, R: Threads + Wait + Sync>(
     ensures paged { IfOk result (λ e. IsPaged log.now (map (λ f. f.items) programs.now) options.now e.bytes.items e.failing) }
     ensures refused { IfErr result (Refuses log.now (map (λ f. f.items) programs.now) options.now) }
 {
-    run_with(rt, alloc, gate, Telling::Page, log, programs, options)
+    let telling = Telling::Page;
+    let question = Question {
+        telling,
+        log,
+        programs,
+        options,
+    };
+    run_with(rt, alloc, gate, &question)
 }
 
 /// The bytes of `explore_with`, with a gate that does nothing.

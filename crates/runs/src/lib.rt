@@ -13,7 +13,7 @@
 //! | `explore(rt, alloc, log, programs, options)` | the bytes of the report |
 //! | `why(rt, alloc, gate, log, programs, options)` | the same run told by its causes (`causes.rt`) |
 //! | `page(rt, alloc, gate, log, programs, options)` | the same run as a page for a browser (`paging.rt`) |
-//! | `run_with(.., telling, ..)` | one of the three, by what is to be told |
+//! | `run_with(rt, alloc, gate, question)` | one of the three, by what is to be told |
 //!
 //! # What is proved
 //!
@@ -49,5 +49,6 @@
 mod causes;
 mod explore_command;
 mod paging;
+mod task;
 
-pub use explore_command::{Explored, explore, explore_with, page, run_with, why};
+pub use explore_command::{Explored, Question, explore, explore_with, page, run_with, why};

@@ -8,12 +8,11 @@ ghost use Rattle.runs.specs.Marked.{images_marked};
 ghost use Rattle.runs.specs.Paged.{IsFailing, AreFailing, IsPageOf, about_run};
 
 use crate::causes::images_of_program;
+use crate::task::{Findings, Task};
 use choices::Starts;
-use crash_page::{ProgramFailures, failures_are_of_run, put_page};
+use crash_page::{ProgramFailures, Run, failures_are_of_run, put_page};
 use crash_text::Numbering;
-use images::History;
 use lines::{Lines, Mark};
-use logfmt::Log;
 use report::{Head, put_options, put_totals};
 use std::alloc::{AllocError, Global};
 use why::failures;
@@ -76,55 +75,46 @@ fn about(alloc: Global, head: &Head, lines: &Lines) -> Result<String, AllocError
     Ok(text)
 }
 
-/// By what the images of a run are numbered.
-fn numbering(head: &Head) -> Numbering
-    ensures cuts { result.cuts ≡ head.now.cuts }
-    ensures by { result.by ≡ head.now.by }
-    ensures bound { result.bound ≡ head.now.bound }
-    ensures tears { result.tears ≡ head.now.tears }
+/// What the images of a task are numbered by.
+fn numbering_of<'x>(task: &Task<'x>) -> Numbering<'x>
+    ensures plan { result.plan.now ≡ task.now.plan.now }
+    ensures log { result.log.now ≡ task.now.log.now }
+    ensures by { result.by ≡ task.now.options.now.by }
+    ensures bound { result.bound ≡ task.now.options.now.bound }
+    ensures tears { result.tears ≡ task.now.options.now.tears }
 {
+    let options = task.options;
     Numbering {
-        cuts: head.cuts,
-        by: head.by,
-        bound: head.bound,
-        tears: head.tears,
+        plan: task.plan,
+        log: task.log,
+        cuts: options.cuts(),
+        by: options.by(),
+        bound: options.bound(),
+        tears: options.tears(),
     }
 }
 
 /// The page of a run, by the marks of all failing lines.
 pub(crate) fn page_bytes(
     alloc: Global,
-    log: &Log,
     head: &Head,
-    starts: &Starts<'_>,
-    history: &History<'_>,
-    lines: &Lines,
+    findings: &Findings<'_>,
     marks: &[Mark],
 ) -> Result<Vec<u8>, AllocError>
-    requires log { starts.now.plan.log ≡ log.now }
-    requires history { history.now ≡ starts.now.plan }
-    requires cuts { starts.now.plan.kind ≡ head.now.cuts }
-    requires kind { starts.now.plan.by ≡ head.now.by }
-    requires bound { starts.now.bound ≡ head.now.bound }
-    requires tears { starts.now.tears ≡ head.now.tears }
-    requires order { IsNonDecreasing (map (λ l. l.image) lines.now) }
-    requires images { (program : ℕ) → AreImages starts.now (images_marked marks.now program) }
-    ensures { IfOk result (λ bytes. IsPageOf head.now starts.now (images_marked marks.now) lines.now bytes.items) }
+    requires order { IsNonDecreasing (map (λ l. l.image) findings.now.work.now.lines) }
+    requires images { (program : ℕ) → AreImages findings.now.starts.now (images_marked marks.now program) }
+    ensures { IfOk result (λ bytes. IsPageOf head.now findings.now.starts.now (images_marked marks.now) findings.now.work.now.lines bytes.items) }
 {
-    let text = about(alloc, head, lines)?;
-    let programs = all_failures(alloc, starts, marks, head.programs.len())?;
+    let text = about(alloc, head, &findings.work.lines)?;
+    let programs = all_failures(alloc, findings.starts, marks, head.programs.len())?;
     // A law of pages, which does nothing: what fails of the images of a run is what a page takes.
     failures_are_of_run();
     let mut page = String::new(alloc);
-    put_page(
-        alloc,
-        &mut page,
-        text.as_str(),
-        log,
-        numbering(head),
-        starts,
-        history,
-        programs.as_slice(),
-    )?;
+    let run = Run {
+        starts: findings.starts,
+        history: findings.history,
+        numbering: numbering_of(findings.task),
+    };
+    put_page(alloc, &mut page, text.as_str(), &run, programs.as_slice())?;
     Ok(page.into_bytes())
 }

@@ -8,6 +8,6 @@ pub returns : goal.returns
 returns c =
     let none : string_bytes c.new-out.result ≡ [] = search rules in
     let many : c.len.result ≡ length c.head.inside.programs.items = search rules in
-    causes_told c.args.head.now c.args.starts.now (images_marked c.args.marks.now) c.args.lines.now c.len.result c.head.inside.images _ _ _ _ _ c.into_bytes.result.items
+    causes_told c.args.head.now c.args.findings.now.starts.now (images_marked c.args.marks.now) c.args.findings.now.work.now.lines c.len.result c.head.inside.images _ _ _ _ _ c.into_bytes.result.items
     none c.in_ok-write.ensures.bytes c.in_ok-put_options.ensures c.in_ok-put_all.ensures (many ∙ ap (λ (h : HeadValue). length h.programs) c.head.view_is)
     (ap (λ (h : HeadValue). h.images) c.head.view_is) c.in_ok-put_totals.ensures (ap (λ (v : Vec ℕ Global). v.items) c.into_bytes.ensures.value)

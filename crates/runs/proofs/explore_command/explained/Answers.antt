@@ -1,25 +1,21 @@
-use Rattle.std.proofs.Common.{◌∙◌, ap}
-use Rattle.choices.specs.Sums.{StartsValue}
+use Rattle.std.proofs.Common.{◌∙◌}
 use Rattle.request.proofs.Results.{both_ok}
-use Rattle.runs.proofs.Explained.{are_images, causes_of_lines, same_kind}
+use Rattle.runs.proofs.Explained.{are_images, causes_of_lines}
 use Rattle.runs.proofs.explore_command.explained.Goals as goal
-
-pub causes_text-requires-clause-kind : goal.causes_text-requires-clause-kind
-causes_text-requires-clause-kind c =
-    same_kind c.args.options.now c.args.log.now c.args.checkers.now c.in_ok-head.head c.args.starts.now c.in_ok-head.ensures c.requires.starts
-
-pub causes_text-requires-clause-log : goal.causes_text-requires-clause-log
-causes_text-requires-clause-log c = ap (λ (t : StartsValue). t.plan.log) c.requires.starts
 
 pub causes_text-requires-clause-images : goal.causes_text-requires-clause-images
 causes_text-requires-clause-images c =
     λ program.
-    are_images c.lines_are_set.ensures c.args.options.now c.args.log.now c.args.checkers.now c.args.starts.now c.args.work.now.lines c.as_slice.result.now program
-    c.requires.starts c.requires.lines (c.as_slice.ensures.value ∙ c.in_ok-marks.ensures)
+    let found = c.args.findings.now in
+    let task = found.task.now in
+    are_images c.lines_are_set.ensures task.options.now task.log.now task.checkers.now found.starts.now found.work.now.lines c.as_slice.result.now program
+    found.starts_are c.requires.lines (c.as_slice.ensures.value ∙ c.in_ok-marks.ensures)
 
 pub returns : goal.returns
 returns c =
+    let found = c.args.findings.now in
+    let task = found.task.now in
     both_ok c.causes_text.result _ _ _ c.causes_text.ensures c.causes_text.ensures
     (λ bytes tells again.
-    causes_of_lines c.args.options.now c.args.log.now c.args.checkers.now c.in_ok-head.head c.args.starts.now c.args.work.now.lines c.as_slice.result.now bytes.items
-    c.in_ok-head.ensures c.requires.starts c.requires.lines (c.as_slice.ensures.value ∙ c.in_ok-marks.ensures) tells)
+    causes_of_lines task.options.now task.log.now task.checkers.now c.in_ok-head.head found.starts.now found.work.now.lines c.as_slice.result.now bytes.items
+    c.in_ok-head.ensures found.starts_are c.requires.lines (c.as_slice.ensures.value ∙ c.in_ok-marks.ensures) tells)
