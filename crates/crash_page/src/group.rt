@@ -47,10 +47,9 @@ fn image_text(alloc: Global, run: &Run<'_>, choice: &Choice) -> Result<String, A
     // A law of crash images, which does nothing: they are devices of the log's size.
     images_are_devices();
     let _sectors = run.numbering.log.sectors();
-    let whole = run
-        .history
-        .view(alloc, &nothing_departs(run.starts, choice))?;
-    let image = run.history.view(alloc, choice)?;
+    let (starts, history) = (run.starts, run.history);
+    let whole = history.view(alloc, &nothing_departs(starts, choice))?;
+    let image = history.view(alloc, choice)?;
     let mut text = String::new(alloc);
     put_shown(&mut text, &run.numbering, choice, &whole, &image)?;
     Ok(text)

@@ -29,11 +29,10 @@ numbered_meant plan bound tears n None past = record {
 numbered_meant plan bound tears n (Some c) there = record { is = there; only = λ other is. same_Some other c (sym is ∙ there) }
 
 -- and so is that of a text
-pub printed_meant : {E : Type 0} (plan : PlanValue) (bound b : ℕ) (tears t : Bool) (w : Which) (cut : ℕ) (said : ArrayString) (text : List ℕ) (r : Result (Option ChoiceValue) E)
-    → w ≡ which.Printed cut (Some said) → text ≡ said.bytes → b ≡ bound → t ≡ tears
-    → IfOk r (λ found. MatchOption found (NoneIs (IsPrinted plan b t cut text)) (IsOnly (IsPrinted plan b t cut text)))
+pub printed_meant : {E : Type 0} (plan : PlanValue) (bound : ℕ) (tears : Bool) (w : Which) (cut : ℕ) (said : ArrayString) (text : List ℕ) (r : Result (Option ChoiceValue) E)
+    → w ≡ which.Printed cut (Some said) → text ≡ said.bytes → IfOk r (λ found. MatchOption found (NoneIs (IsPrinted plan bound tears cut text)) (IsOnly (IsPrinted plan bound tears cut text)))
     → IfOk r (λ found. MatchOption found (NoneIs (IsMeant plan bound tears w)) (IsOnly (IsMeant plan bound tears w)))
-printed_meant plan bound b tears t w cut said text r e f g h is = rw (e, ← f, ← g, ← h) is
+printed_meant plan bound tears w cut said text r e f is = rw (e, ← f) is
 
 -- a choice that is meant is one of the plan
 pub meant_member : (plan : PlanValue) (bound : ℕ) (tears : Bool) (w : Which) (c : ChoiceValue) → IsMeant plan bound tears w c → IsMember plan c

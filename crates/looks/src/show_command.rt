@@ -56,13 +56,15 @@ fn text_of<'x>(
     let whole = history.view(alloc, &nothing_departs(plan, options, choice))?;
     let image = history.view(alloc, choice)?;
     let numbering = Numbering {
+        plan,
+        log,
         cuts: options.cuts(),
         by: options.by(),
         bound: options.bound(),
         tears: options.tears(),
     };
     let mut out = String::new(alloc);
-    put_shown(&mut out, plan, log, numbering, choice, &whole, &image)?;
+    put_shown(&mut out, &numbering, choice, &whole, &image)?;
     Ok(out.into_bytes())
 }
 

@@ -10,7 +10,7 @@ ghost use Rattle.looks.specs.Which.{IsMeant, IsOnly, IsPrinted, NoneIs, which_pl
 use base::refusal::Refusal;
 use choice_text::read_names;
 use choices::{Choice, choice_named, nth};
-use epochs::{By, Plan};
+use epochs::Plan;
 use request::{OptionPlace, Options, Which, option_refusal_of};
 use std::alloc::{AllocError, Global};
 
@@ -26,23 +26,21 @@ fn choice_numbered(plan: &Plan<'_>, images: u64, options: &Options, number: u64)
     Some(nth(plan, options.bound(), options.tears(), number))
 }
 
-/// The choice at a cut for which the report prints that text, with at most `bound` departures, torn or not.
+/// The choice at a cut for which the report prints that text.
 fn choice_printed(
     alloc: Global,
     plan: &Plan<'_>,
-    by: By,
-    bound: u8,
-    tears: bool,
+    options: &Options,
     cut: u64,
     text: &str,
 ) -> Result<Option<Choice>, AllocError>
-    requires by { plan.now.by ≡ by }
-    requires bound { bound ≤ 3 }
+    requires by { plan.now.by ≡ options.now.by }
     requires log { IsLog plan.now.log }
-    ensures { IfOk result (λ found. MatchOption found (NoneIs (IsPrinted plan.now bound tears cut text.now))
-        (IsOnly (IsPrinted plan.now bound tears cut text.now))) }
+    ensures { IfOk result (λ found. MatchOption found (NoneIs (IsPrinted plan.now options.now.bound options.now.tears cut text.now))
+        (IsOnly (IsPrinted plan.now options.now.bound options.now.tears cut text.now))) }
 {
-    match read_names(alloc, by, text)? {
+    let (bound, tears) = (options.bound(), options.tears());
+    match read_names(alloc, options.by(), text)? {
         Some(names) => Ok(choice_named(plan, bound, tears, cut, names.as_slice())),
         None => Ok(None),
     }
@@ -68,17 +66,7 @@ fn choice_of(
         Which::Printed {
             cut,
             choice: Some(text),
-        } => {
-            choice_printed(
-                alloc,
-                plan,
-                options.by(),
-                options.bound(),
-                options.tears(),
-                *cut,
-                text.as_str(),
-            )
-        }
+        } => choice_printed(alloc, plan, options, *cut, text.as_str()),
         Which::Printed {
             cut: _cut,
             choice: None,
