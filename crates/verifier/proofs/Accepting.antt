@@ -1,5 +1,5 @@
 -- What is accepted, and what is refused.
-use Rattle.std.proofs.Common.{◌≡◌, ◌≤◌, ◌<◌, ◌^◌, ℕ, List, Option}
+use Rattle.std.proofs.Common.{◌≡◌, ◌≤◌, ◌<◌, ◌^◌, ℕ, List, Option, Some, None, subst}
 use Rattle.bpf_isa.specs.declared.instr.Instr.{Instr}
 use Rattle.bpf_isa.specs.Program.{IsProgram}
 use Rattle.bpf_shape.specs.Shape.{ShapeValue, IsShapeOf}
@@ -8,7 +8,13 @@ use Rattle.base.specs.declared.causes.VerifierCause.{VerifierCause}
 use Rattle.bpf_shape.specs.Rules.{IsShaped}
 use Rattle.verifier.specs.Breaches.{KeepsRules, FirstRule}
 use Rattle.verifier.specs.Rounds.{IsSettled}
-use Rattle.verifier.specs.Verdicts.{IsVerified, Refused, no_table}
+use Rattle.verifier.specs.Verdicts.{IsVerified, Refused, no_table, sought}
+use Rattle.verifier.specs.Inferred.{IsFound, IsCutShort}
+use Rattle.verifier.specs.Tables.{rule_at}
+use Rattle.verifier.specs.Sought.{IsSought}
+use Rattle.verifier.specs.Visits.{NeedMore, most_visits}
+use Rattle.bpf_shape.specs.declared.fault.Fault.{Fault}
+use Rattle.verifier.proofs.Ascending.{met_has_no_good, good_is_settled}
 use Rattle.verifier.proofs.Below.{settled_is_least, broken_has_no_good, rule_is_breach}
 
 pub accepted : (program : List (Option Instr)) (sectors budget : ℕ) (table : List (Option Abstract)) (shape : ShapeValue) → 1 ≤ sectors → sectors ≤ 16384 → sectors < 2 ^ 64
@@ -30,3 +36,18 @@ pub refused : (program : List (Option Instr)) (sectors : ℕ) (table : List (Opt
 refused program sectors table c slot few p h settled first =
     no_table c slot table h (broken_has_no_good program sectors table c slot few p h settled first.breaks) settled
     (rule_is_breach program sectors table c slot few p h settled first)
+
+-- the rounds are cut short
+pub cut_short : (program : List (Option Instr)) (sectors : ℕ) (table : List (Option Abstract)) (met : Fault) → sectors < 2 ^ 64 → IsProgram program → IsShaped program
+    → IsFound program sectors table (Some met) → Refused program sectors met.code met.slot
+cut_short program sectors table met few p h found =
+    sought met.code met.slot table h (met_has_no_good program sectors table met.code met.slot few p found.sought found.broken) found.long found.sought found.broken
+
+-- what is found, by what the search met
+pub none_met : (program : List (Option Instr)) (sectors : ℕ) (table : List (Option Abstract)) (met : Option Fault) → met ≡ None → IsFound program sectors table met
+    → IsSettled program sectors table
+none_met program sectors table met e h = subst (λ m. IsFound program sectors table m) e h
+
+pub one_met : (program : List (Option Instr)) (sectors : ℕ) (table : List (Option Abstract)) (met : Option Fault) (fault : Fault) → met ≡ Some fault → IsFound program sectors table met
+    → IsFound program sectors table (Some fault)
+one_met program sectors table met fault e h = subst (λ m. IsFound program sectors table m) e h

@@ -22,14 +22,11 @@ use Rattle.verifier.specs.Good.{IsGood}
 use Rattle.verifier.specs.Breaches.{FirstRule, FirstBreach, KeepsRules, at_slot}
 use Rattle.verifier.specs.Least.{IsLeast, HasNoGood}
 use Rattle.verifier.specs.Rounds.{joined, receive, passed_by, passed, round_of, first_table, rounds, IsSettled}
-use Rattle.verifier.specs.Passing.{Arrive, IsRound, Below}
+use Rattle.verifier.specs.Passing.{Arrive, IsRound}
+use Rattle.verifier.specs.Sought.{Below, AllBelow}
 use Rattle.verifier.proofs.Arriving.{here, elsewhere, receive_fits, still}
 use Rattle.verifier.proofs.Reaching.{in_range}
 use Rattle.verifier.proofs.Settled.{each_in_range, passed_fits, each_round, settled_covers, slot_covers, settled_is_good}
-
--- what arrives is under what is known where it arrives
-abbrev pub AllBelow : List (Option Abstract) → List (ℕ × Abstract) → Type 0
-AllBelow g ps = Each (λ p. EdgeUnder (Some p.1) (state_at g p.0)) ps
 
 -- covering and being under are the same, of states
 pub covered_is_under : (m : Option Abstract) (s : Abstract) → Holds IsState m → IsState s → Covers m s → EdgeUnder (Some s) m

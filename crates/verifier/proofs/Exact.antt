@@ -25,7 +25,7 @@ use Rattle.verifier.specs.Least.{IsLeast}
 use Rattle.verifier.specs.Rounds.{passed_by, passed, rounds, IsSame, IsSettled}
 use Rattle.verifier.specs.Measure.{weight}
 use Rattle.verifier.specs.Passing.{IsRound}
-use Rattle.verifier.specs.Verdicts.{Refused, shape, no_table}
+use Rattle.verifier.specs.Verdicts.{Refused, shape, no_table, sought}
 use Rattle.verifier.specs.Laws.{AcceptanceIsExact, RoundsEnd}
 use Rattle.verifier.proofs.Settled.{each_round, settled_covers, slot_covers}
 use Rattle.verifier.proofs.Below.{covered_is_under, keeps_below, settled_below, settled_is_least, settled_round}
@@ -191,6 +191,7 @@ not_unsettled program sectors _ _ few p u (shape c s x) = no_shape program c s o
 not_unsettled program sectors _ _ few p u (no_table c s t h none k x) =
     let round = settled_round program sectors t few p h k in
     no_breach program sectors t c s u round (settled_covers program sectors t few p h round k.same) x
+not_unsettled program sectors _ _ few p u (sought c s t h none more k x) = no_rule program t s c u x
 
 pub acceptance_is_exact : AcceptanceIsExact
 acceptance_is_exact = record {

@@ -17,3 +17,4 @@ pub mod Rising
 pub mod Exact
 pub mod Ascending
 pub mod Stepping
+pub mod Learned

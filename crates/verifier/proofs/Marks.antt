@@ -2,19 +2,23 @@
 use Rattle.std.proofs.Common.{◌≡◌, ◌<◌, ◌^◌, ◌+◌, ℕ, zero, suc, Bool, true, false, if◌then◌else◌, List, [], ◌∷◌, length, replicate, get_or, flat_map, Option, refl, sym, ◌∙◌, ap, subst, inl, inr, arith}
 use Rattle.std.specs.Prelude.{set}
 use Rattle.std.specs.List.{fold, range_with_len}
-use Rattle.std.proofs.lemmas.Bool.{cases_lt}
+use Rattle.std.proofs.lemmas.Bool.{cases_lt, cases_eq, cases_Bool}
 use Rattle.std.proofs.lemmas.List.{length-set, length-replicate, get_or-set_same, get_or-set_other}
 use Rattle.std.proofs.lemmas.List.Concat.{flat_map-cons}
 use Rattle.std.proofs.lemmas.List.Sums.{fold-append}
 use Rattle.bpf_isa.specs.declared.instr.Instr.{Instr}
 use Rattle.bpf_isa.specs.Program.{IsProgram}
 use Rattle.bpf_shape.specs.Rules.{IsShaped}
-use Rattle.ranges.specs.States.{Abstract}
-use Rattle.ranges.specs.Order.{IsState}
+use Rattle.ranges.specs.States.{Abstract, StateContains}
+use Rattle.ranges.specs.Order.{IsState, Holds}
 use Rattle.verifier.specs.Tables.{state_at, Covers, CoversAll, AreStates, rule_at, sent_from}
 use Rattle.verifier.specs.Rounds.{receive, passed_by, passed, round_of}
+use Rattle.verifier.specs.Visits.{Learns, HaveLearned, count_set}
 use Rattle.verifier.specs.Passing.{Arrive, Arrived, IsRound, IsMarked, MadeRound, Kept, passed_if, passed_again}
-use Rattle.verifier.proofs.Arriving.{elsewhere, all_long, all_fit, all_keep, all_covered, covered_same}
+use Rattle.verifier.proofs.Arriving.{elsewhere, all_long, all_fit, all_keep, all_covered, covered_same, receive_covers, receive_keeps, receive_fits}
+use Rattle.verifier.proofs.Chains.{contains_self}
+use Rattle.ranges.proofs.Chains.{state_chain}
+use Rattle.ranges.proofs.Covering.{state_same, state_under}
 use Rattle.verifier.proofs.Settled.{each_in_range, slot_fits, passed_fits, passed_past, slot_covers, settled_covers}
 
 -- what is contained where it arrives changes nothing
@@ -97,9 +101,10 @@ round_covers program sectors table few p h r =
 -- a round by what arrived
 pub made_round : (program : List (Option Instr)) (sectors : ℕ) (table new : List (Option Abstract)) (marks before after : List Bool) (arrivals : List (ℕ × Abstract)) (more : Bool)
     → sectors < 2 ^ 64 → IsProgram program → IsShaped program → IsRound (length program) table → IsMarked program sectors table marks
-    → arrivals ≡ passed_again program sectors table marks → length before ≡ length program → Arrived table arrivals new more → Kept table before new after
+    → arrivals ≡ passed_again program sectors table marks → length before ≡ length program → ((slot : ℕ) → get_or before slot false ≡ false)
+    → Arrived table arrivals new more → Kept table before new after
     → MadeRound program sectors table new after more
-made_round program sectors table new marks before after arrivals more few p h r m e long a k =
+made_round program sectors table new marks before after arrivals more few p h r m e long cleared a k =
     let made : new ≡ round_of program sectors table = a.table ∙ ap (λ ps. fold receive table ps) e ∙ again_round program sectors table marks few p h r m in
     let covered : CoversAll new (passed program sectors table) = rw made (round_covers program sectors table few p h r) in
     record {
@@ -111,7 +116,22 @@ made_round program sectors table new marks before after arrivals more few p h r 
       };
       changes = λ t same. a.left_out t (rw e (again_covers program sectors table marks (settled_covers program sectors table few p h r same)));
       same = λ f. sym made ∙ a.same f;
+      learned = record {
+        marks = after;
+        long = k.long ∙ long ∙ sym (ap (λ t. length t) a.table ∙ all_long table arrivals ∙ r.long);
+        learned = λ slot set. elim (k.learned slot set) [
+          | inl was ↦ absurd (let bad : true ≡ false = sym was ∙ cleared slot in cc)
+          | inr new ↦ new
+        ];
+        others = k.same;
+        count = refl;
+      };
     }
+
+pub no_marks : (n slot : ℕ) → get_or (replicate n false) slot false ≡ false
+no_marks zero slot = refl
+no_marks (suc n) zero = refl
+no_marks (suc n) (suc slot) = no_marks n slot
 
 -- in the first round all slots are marked
 
@@ -135,20 +155,47 @@ first_marks program sectors table marks e = record {
 -- marks and states that arrive
 
 pub kept_self : (table : List (Option Abstract)) (marks : List Bool) → Kept table marks table marks
-kept_self table marks = record { long = refl; unmarked = λ _ e. e; same = λ _ _. refl }
+kept_self table marks = record { long = refl; unmarked = λ _ e. e; same = λ _ _. refl; learned = λ _ e. inl e; grows = λ _ x is c. c }
 
-pub kept_more : (s t u : List (Option Abstract)) (l m n : List Bool) → Kept s l t m → Kept t m u n → Kept s l u n
-kept_more s t u l m n a b = record {
+-- what was learned once is still new when more is known
+learns_still : (m n : Option Abstract) → ((x : Abstract) → IsState x → Covers m x → Covers n x) → Holds IsState m → Holds IsState n → (k : Option Abstract)
+    → Holds IsState k → Learns k m → Learns k n
+learns_still None n grows a b k c learns covered = learns tt
+learns_still (Some s) None grows a b k c learns covered = absurd (grows s a (contains_self s a))
+learns_still (Some s) (Some t) grows a b None c learns covered = covered
+learns_still (Some s) (Some t) grows a b (Some u) c learns covered =
+    let larger : StateContains t s = grows s a (contains_self s a) in
+    learns (state_same u s c a (state_chain s t u (state_under t s b a larger) (state_under u t c b covered)))
+
+pub kept_more : (s t u : List (Option Abstract)) (l m n : List Bool) → AreStates s → AreStates t → AreStates u → Kept s l t m → Kept t m u n → Kept s l u n
+kept_more s t u l m n x y z a b = record {
   long = b.long ∙ a.long;
   unmarked = λ slot e. a.unmarked slot (b.unmarked slot e);
   same = λ slot e. b.same slot e ∙ a.same slot (b.unmarked slot e);
+  learned = λ slot e. elim (cases_Bool (get_or m slot false)) [
+    | inl was ↦ elim (a.learned slot was) [
+        | inl first ↦ inl first
+        | inr learns ↦ inr (learns_still (state_at t slot) (state_at u slot) (b.grows slot) (y slot) (z slot) (state_at s slot) (x slot) learns)
+      ]
+    | inr was_not ↦ elim (b.learned slot e) [
+        | inl was ↦ absurd (let bad : true ≡ false = sym was ∙ was_not in cc)
+        | inr learns ↦ inr (subst (λ k. Learns k (state_at u slot)) (a.same slot was_not) learns)
+      ]
+  ];
+  grows = λ slot k is c. b.grows slot k is (a.grows slot k is c);
 }
 
-pub kept_marked : (table : List (Option Abstract)) (marks : List Bool) (p : ℕ × Abstract) → p.0 < length marks → Kept table marks (receive table p) (set marks p.0 true)
-kept_marked table marks p inside = record {
+pub kept_marked : (table : List (Option Abstract)) (marks : List Bool) (p : ℕ × Abstract) → p.0 < length marks → p.0 < length table → AreStates table → IsState p.1
+    → (Covers (state_at table p.0) p.1 → ⊥) → Kept table marks (receive table p) (set marks p.0 true)
+kept_marked table marks p inside there states is left_out = record {
   long = length-set marks p.0 true;
   unmarked = λ slot e. sym (get_or-set_other marks p.0 slot true false (other slot e)) ∙ e;
   same = λ slot e. elsewhere table p slot (other slot e);
+  learned = λ slot e. elim (cases_eq slot p.0) [
+    | inl here ↦ inr (rw here (by_known (state_at table p.0) (states p.0) left_out (receive_covers table p there states is)))
+    | inr elsewhere ↦ inl (sym (get_or-set_other marks p.0 slot true false elsewhere) ∙ e)
+  ];
+  grows = λ slot x a c. receive_keeps table p slot x there states is a c;
 }
   where
     other : (slot : ℕ) → get_or (set marks p.0 true) slot false ≡ false → slot ≡ p.0 → ⊥
@@ -156,3 +203,12 @@ kept_marked table marks p inside = record {
         let there : get_or (set marks p.0 true) p.0 false ≡ false = rw same at e in
         let bad : true ≡ false = sym (get_or-set_same marks p.0 true false inside) ∙ there in
         cc
+
+    known_new : (m n : Option Abstract) → Holds IsState m → Holds IsState n → (Covers m p.1 → ⊥) → Covers n p.1 → Learns m n
+    known_new m None a b out c covered = c
+    known_new None (Some t) a b out c covered = covered
+    known_new (Some s) (Some t) a b out c covered =
+        out (state_same s p.1 a is (state_chain p.1 t s (state_under t p.1 b is c) (state_under s t a b covered)))
+
+    by_known : (m : Option Abstract) → Holds IsState m → (Covers m p.1 → ⊥) → Covers (state_at (receive table p) p.0) p.1 → Learns m (state_at (receive table p) p.0)
+    by_known m a out c = known_new m (state_at (receive table p) p.0) a (receive_fits table p there states is p.0) out c

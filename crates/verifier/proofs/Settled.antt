@@ -74,7 +74,7 @@ no_state zero slot = refl
 no_state (suc n) zero = refl
 no_state (suc n) (suc slot) = no_state n slot
 
-first_fits : (n : ℕ) → AreStates (first_table n)
+pub first_fits : (n : ℕ) → AreStates (first_table n)
 unfolding first_table
 first_fits zero slot = tt
 first_fits (suc n) zero = start_fits

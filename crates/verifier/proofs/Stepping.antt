@@ -1,6 +1,5 @@
--- What a slot passes on arrives edge by edge, and the table stays below each good one.
+-- What a slot passes on arrives edge by edge, in part.
 use Rattle.std.proofs.Common.{◌≡◌, ◌<◌, ◌^◌, ℕ, List, ◌++◌, length, Option, Some}
-use Rattle.std.specs.List.{fold}
 use Rattle.std.specs.Option.{option_to_list}
 use Rattle.bpf_isa.specs.declared.instr.Instr.{Instr}
 use Rattle.bpf_isa.specs.Program.{IsProgram}
@@ -11,11 +10,8 @@ use Rattle.bpf_shape.specs.Rules.{IsShaped}
 use Rattle.ranges.specs.States.{Abstract}
 use Rattle.ranges.specs.Order.{EdgeUnder, IsState}
 use Rattle.verifier.specs.Tables.{state_at, AreStates, sent_from}
-use Rattle.verifier.specs.Good.{IsGood}
-use Rattle.verifier.specs.Rounds.{receive}
-use Rattle.verifier.specs.Passing.{Arrive, Below, StaysBelow, along, next_state, target_of, target_state}
-use Rattle.verifier.proofs.Arriving.{all_long}
-use Rattle.verifier.proofs.Below.{AllBelow, all_below, sent_all_below}
+use Rattle.verifier.specs.Sought.{AllBelow, TakesIn, IsSought, one_more}
+use Rattle.verifier.specs.Passing.{Arrive, StaysSought, along, next_state, target_of, target_state}
 use Rattle.verifier.proofs.Edges.{by_edges}
 use Rattle.verifier.proofs.Reaching.{each_left, each_right, sent_fits}
 
@@ -57,28 +53,32 @@ target_fits program sectors table slot s i h =
     each_right (λ p. (p.0 < length table) × IsState p.1) (ToNext program sectors slot s i) (ToTarget program slot s i) (all_fit program sectors table slot s i h)
 
 -- some of it arrives
-stays_part : (program : List (Option Instr)) (sectors : ℕ) (table new : List (Option Abstract)) (ps : List (ℕ × Abstract)) → AreStates table → Arrive (length table) ps
-    → ((g : List (Option Abstract)) → IsGood program sectors g → Below table g → AllBelow g ps) → new ≡ fold receive table ps → StaysBelow program sectors table new
-stays_part program sectors table new ps states arrive below is = record {
-  long = rw is (all_long table ps);
-  below = λ g good under. rw is (all_below table g ps states arrive good.states under (below g good under));
+stays_part : (program : List (Option Instr)) (sectors : ℕ) (table new : List (Option Abstract)) (slot : ℕ) (ps : List (ℕ × Abstract)) → TakesIn table ps new
+    → ((g : List (Option Abstract)) → AllBelow g (sent_from program sectors table slot) → AllBelow g ps) → StaysSought program sectors table new
+stays_part program sectors table new slot ps taken some = record {
+  long = taken.long;
+  sought = λ h. one_more table new slot h (record {
+    long = taken.long;
+    states = taken.states;
+    below = λ g states below arrive. taken.below g states below (some g arrive);
+  });
 }
 
-under_all : (program : List (Option Instr)) (sectors : ℕ) (table : List (Option Abstract)) (slot : ℕ) (s : Abstract) (i : Instr) → Passes program sectors table slot s i
-    → (g : List (Option Abstract)) → IsGood program sectors g → Below table g → AllBelow g (ToNext program sectors slot s i ++ ToTarget program slot s i)
-under_all program sectors table slot s i h g good under =
-    rw (parts program sectors table slot s i h.there h.known) (sent_all_below program sectors table g slot h.few h.made h.states good under)
+-- what goes along both edges is below a table, if all that is passed on is
+in_parts : (program : List (Option Instr)) (sectors : ℕ) (table : List (Option Abstract)) (slot : ℕ) (s : Abstract) (i : Instr) → Passes program sectors table slot s i
+    → (g : List (Option Abstract)) → AllBelow g (sent_from program sectors table slot) → AllBelow g (ToNext program sectors slot s i ++ ToTarget program slot s i)
+in_parts program sectors table slot s i h g all = rw (parts program sectors table slot s i h.there h.known) all
 
 pub stays_next : (program : List (Option Instr)) (sectors : ℕ) (table new : List (Option Abstract)) (slot : ℕ) (s : Abstract) (i : Instr) → Passes program sectors table slot s i
-    → new ≡ fold receive table (ToNext program sectors slot s i) → StaysBelow program sectors table new
-stays_next program sectors table new slot s i h is =
-    stays_part program sectors table new (ToNext program sectors slot s i) h.states (next_fits program sectors table slot s i h)
-    (λ g good under. each_left (λ p. EdgeUnder (Some p.1) (state_at g p.0)) (ToNext program sectors slot s i) (ToTarget program slot s i)
-    (under_all program sectors table slot s i h g good under)) is
+    → TakesIn table (ToNext program sectors slot s i) new → StaysSought program sectors table new
+stays_next program sectors table new slot s i h taken =
+    stays_part program sectors table new slot (ToNext program sectors slot s i) taken
+    (λ g all. each_left (λ p. EdgeUnder (Some p.1) (state_at g p.0)) (ToNext program sectors slot s i) (ToTarget program slot s i)
+    (in_parts program sectors table slot s i h g all))
 
 pub stays_target : (program : List (Option Instr)) (sectors : ℕ) (table new : List (Option Abstract)) (slot : ℕ) (s : Abstract) (i : Instr) → Passes program sectors table slot s i
-    → new ≡ fold receive table (ToTarget program slot s i) → StaysBelow program sectors table new
-stays_target program sectors table new slot s i h is =
-    stays_part program sectors table new (ToTarget program slot s i) h.states (target_fits program sectors table slot s i h)
-    (λ g good under. each_right (λ p. EdgeUnder (Some p.1) (state_at g p.0)) (ToNext program sectors slot s i) (ToTarget program slot s i)
-    (under_all program sectors table slot s i h g good under)) is
+    → TakesIn table (ToTarget program slot s i) new → StaysSought program sectors table new
+stays_target program sectors table new slot s i h taken =
+    stays_part program sectors table new slot (ToTarget program slot s i) taken
+    (λ g all. each_right (λ p. EdgeUnder (Some p.1) (state_at g p.0)) (ToNext program sectors slot s i) (ToTarget program slot s i)
+    (in_parts program sectors table slot s i h g all))

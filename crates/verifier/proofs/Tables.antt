@@ -27,7 +27,7 @@ pub first_is : (slots : ℕ) (states : List (Option State)) → states ≡ repli
 unfolding first_table
 first_is slots states e = rw (e, nothing_known slots) refl
 
-known_at : (states : List (Option State)) (slot : ℕ) (d : Option State) → slot < length states → option_map state_of (get_or states slot d) ≡ state_at (table_of states) slot
+pub known_at : (states : List (Option State)) (slot : ℕ) (d : Option State) → slot < length states → option_map state_of (get_or states slot d) ≡ state_at (table_of states) slot
 known_at [] slot d small = absurd (let bad : slot < 0 = small in omega (arith, bad))
 known_at (x ∷ xs) zero d small = refl
 known_at (x ∷ xs) (suc n) d small = known_at xs n d (omega (arith, small))

@@ -9,7 +9,8 @@ use Rattle.ranges.specs.States.{Abstract}
 use Rattle.verifier.specs.Breaches.{FirstBreach}
 use Rattle.verifier.specs.Least.{IsLeast}
 use Rattle.verifier.specs.Rounds.{round_of, rounds, IsSame, IsSettled}
-use Rattle.verifier.specs.Verdicts.{VerifiedValue, IsVerified, Refused, shape, no_table}
+use Rattle.verifier.specs.Verdicts.{VerifiedValue, IsVerified, Refused, shape, no_table, sought}
+use Rattle.verifier.specs.Visits.{NeedMore, most_visits}
 use Rattle.verifier.specs.Laws.{OneVerdict}
 use Rattle.verifier.proofs.Breaches.{one_breach}
 use Rattle.verifier.proofs.Exact.{one_least}
@@ -38,11 +39,14 @@ one_settled program sectors t u a b =
     ]
 
 one_refusal : OneFault → NoFaultInShaped → (program : List (Option Instr)) (sectors : ℕ) (c d : VerifierCause) (s t : ℕ)
-    → Refused program sectors c s → Refused program sectors d t → (c ≡ d) × (s ≡ t)
-one_refusal one none program sectors _ _ _ _ (shape c s x) (shape d t y) = one program c d s t x y
-one_refusal one none program sectors _ _ _ _ (shape c s x) (no_table d t u h n k y) = absurd (none program h c s x)
-one_refusal one none program sectors _ _ _ _ (no_table c s t h n k x) (shape d u y) = absurd (none program h d u y)
-one_refusal one none program sectors _ _ _ _ (no_table c s t h n k x) (no_table d u v l m j y) =
+    → (NeedMore program sectors most_visits → ⊥) → Refused program sectors c s → Refused program sectors d t → (c ≡ d) × (s ≡ t)
+one_refusal one none program sectors _ _ _ _ few (shape c s x) (shape d t y) = one program c d s t x y
+one_refusal one none program sectors _ _ _ _ few (shape c s x) (no_table d t u h n k y) = absurd (none program h c s x)
+one_refusal one none program sectors _ _ _ _ few (shape c s x) (sought d t u h n more k y) = absurd (few more)
+one_refusal one none program sectors _ _ _ _ few (sought c s t h n more k x) y = absurd (few more)
+one_refusal one none program sectors _ _ _ _ few (no_table c s t h n k x) (shape d u y) = absurd (none program h d u y)
+one_refusal one none program sectors _ _ _ _ few (no_table c s t h n k x) (sought d u v l m more j y) = absurd (few more)
+one_refusal one none program sectors _ _ _ _ few (no_table c s t h n k x) (no_table d u v l m j y) =
     let here : FirstBreach program sectors v c s = subst (λ z. FirstBreach program sectors z c s) (one_settled program sectors t v k j) x in
     one_breach program sectors v c d s u here y
 
@@ -55,6 +59,7 @@ not_both : NoFaultInShaped → (v : VerifiedValue) (program : List (Option Instr
     → Refused program sectors c s → ⊥
 not_both none v program sectors _ _ a p n (shape c s x) = none program (rw p a.shape) c s x
 not_both none v program sectors _ _ a p n (no_table c s t h no_good k x) = no_good v.table (rw (p, n) a.table.good)
+not_both none v program sectors _ _ a p n (sought c s t h no_good more k x) = no_good v.table (rw (p, n) a.table.good)
 
 pub one_verdict : OneFault → NoFaultInShaped → OneVerdict
 one_verdict one none = record {

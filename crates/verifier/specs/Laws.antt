@@ -13,6 +13,7 @@ use Rattle.verifier.specs.Least.{IsLeast}
 use Rattle.verifier.specs.Rounds.{rounds, IsSame, IsSettled}
 use Rattle.verifier.specs.Measure.{weight}
 use Rattle.verifier.specs.Verdicts.{VerifiedValue, IsVerified, Refused}
+use Rattle.verifier.specs.Visits.{NeedMore, most_visits}
 
 -- a good table has no first breach
 abbrev pub GoodHasNoBreach : Type 0
@@ -50,11 +51,11 @@ pub record RoundsEnd : Type 0 where
   pub below : (program : List (Option Instr)) (sectors turns : ℕ) → sectors < 2 ^ 64 → IsProgram program → IsShaped program
       → weight (rounds program sectors turns) < 2 ^ 96
 
--- A program has one verdict for a number of sectors, want of memory aside: one refusal, or one budget
--- and one table.
+-- A program has one verdict for a number of sectors, want of memory aside: one budget and one table, or one refusal,
+-- unless the rounds need more visits than are made.
 pub record OneVerdict : Type 0 where
   pub refusal : (program : List (Option Instr)) (sectors : ℕ) (c d : VerifierCause) (s t : ℕ)
-      → Refused program sectors c s → Refused program sectors d t → (c ≡ d) × (s ≡ t)
+      → (NeedMore program sectors most_visits → ⊥) → Refused program sectors c s → Refused program sectors d t → (c ≡ d) × (s ≡ t)
   pub accepted : (v w : VerifiedValue) → IsVerified v → IsVerified w → v.program ≡ w.program → v.sectors ≡ w.sectors
       → (v.budget ≡ w.budget) × (v.table ≡ w.table)
   pub not_both : (v : VerifiedValue) (c : VerifierCause) (s : ℕ) → IsVerified v → Refused v.program v.sectors c s → ⊥

@@ -8,6 +8,8 @@ pub mod Least
 pub mod Breaches
 pub mod Rounds
 pub mod Measure
+pub mod Sought
+pub mod Visits
 pub mod Verdicts
 pub mod Passing
 pub mod Laws

@@ -1,5 +1,5 @@
 -- What is passed, edge by edge, and how it arrives. Only this crate's own contracts cite it.
-use Rattle.std.specs.Prelude.{◌≡◌, ◌<◌, ℕ, Bool, true, false, if◌then◌else◌, List, [], length, get_or, Option, None, Some}
+use Rattle.std.specs.Prelude.{◌≡◌, ◌<◌, ◌⊎◌, ℕ, Bool, true, false, if◌then◌else◌, List, [], length, get_or, Option, None, Some}
 use Rattle.std.specs.Option.{option_map}
 use Rattle.bpf_isa.specs.declared.instr.Instr.{Instr}
 use Rattle.bpf_isa.specs.declared.instr.Instr.TheVariants as instr
@@ -8,11 +8,12 @@ use Rattle.bpf_shape.specs.Calls.{callee_of}
 use Rattle.ranges.specs.States.{Abstract, start}
 use Rattle.ranges.specs.After.{after_of}
 use Rattle.ranges.specs.Passing.{edge_of, entry_state}
-use Rattle.ranges.specs.Order.{IsState, Each, EdgeUnder}
+use Rattle.ranges.specs.Order.{IsState, StateUnder, Each, Holds, EdgeUnder}
 use Rattle.std.specs.List.{fold, flat_map, range_with_len}
 use Rattle.verifier.specs.Tables.{state_at, Covers, CoversAll, AreStates, arriving}
-use Rattle.verifier.specs.Good.{IsGood}
 use Rattle.verifier.specs.Rounds.{receive, passed_by, round_of, IsSame}
+use Rattle.verifier.specs.Sought.{IsSought}
+use Rattle.verifier.specs.Visits.{Learns, HaveLearned, count_set}
 
 -- the state on the edge to the next slot
 unfoldable pub next_state : ℕ → Abstract → Instr → Option Abstract
@@ -94,11 +95,14 @@ pub record IsMarked (program : List (Option Instr)) (sectors : ℕ) (table : Lis
   pub long : length marks ≡ length program
   pub rest : (slot : ℕ) → get_or marks slot false ≡ false → CoversAll table (passed_by program sectors table slot)
 
--- From one table with marks to another: a slot without a mark had none, and knows what it knew.
+-- From one table with marks to another: a slot without a mark had none, and knows what it knew; one with a mark had
+-- one, or learned something. What was contained in what a slot knew still is.
 pub record Kept (old : List (Option Abstract)) (before : List Bool) (new : List (Option Abstract)) (after : List Bool) : Type 0 where
   pub long : length after ≡ length before
   pub unmarked : (slot : ℕ) → get_or after slot false ≡ false → get_or before slot false ≡ false
   pub same : (slot : ℕ) → get_or after slot false ≡ false → state_at new slot ≡ state_at old slot
+  pub learned : (slot : ℕ) → get_or after slot false ≡ true → (get_or before slot false ≡ true) ⊎ Learns (state_at old slot) (state_at new slot)
+  pub grows : (slot : ℕ) (x : Abstract) → IsState x → Covers (state_at old slot) x → Covers (state_at new slot) x
 
 -- what a round makes of a table, with the marks for the next, and whether it changes it
 pub record MadeRound (program : List (Option Instr)) (sectors : ℕ) (old : List (Option Abstract)) (new : List (Option Abstract)) (after : List Bool) (changed : Bool) : Type 0 where
@@ -106,16 +110,17 @@ pub record MadeRound (program : List (Option Instr)) (sectors : ℕ) (old : List
   pub marks : IsMarked program sectors new after
   pub changes : changed ≡ true → IsSame program sectors old → ⊥
   pub same : changed ≡ false → IsSame program sectors old
+  pub learned : HaveLearned old new (count_set after)
 
--- what is known of each slot in the first table is under what is known there in the second
-abbrev pub Below : List (Option Abstract) → List (Option Abstract) → Type 0
-Below t g = (slot : ℕ) → EdgeUnder (state_at t slot) (state_at g slot)
-
--- From one table to another that is as long: where the first is below a good table, the second is.
-pub record StaysBelow (program : List (Option Instr)) (sectors : ℕ) (old : List (Option Abstract)) (new : List (Option Abstract)) : Type 0 where
+-- From one table of the search to another.
+pub record StaysSought (program : List (Option Instr)) (sectors : ℕ) (old : List (Option Abstract)) (new : List (Option Abstract)) : Type 0 where
   pub long : length new ≡ length old
-  pub below : (g : List (Option Abstract)) → IsGood program sectors g → Below old g → Below new g
+  pub sought : IsSought program sectors old → IsSought program sectors new
 
--- a table that is below each good one
-pub record IsBelowGood (program : List (Option Instr)) (sectors : ℕ) (table : List (Option Abstract)) : Type 0 where
-  pub below : (g : List (Option Abstract)) → IsGood program sectors g → Below table g
+-- a state that another one tells something: it stays under each state under which it was, if that one is under it too
+pub record LearnsFrom (old : Abstract) (other : Abstract) (new : Abstract) : Type 0 where
+  pub under : (g : Abstract) → IsState g → StateUnder old g → StateUnder other g → StateUnder new g
+
+-- the same of what is known at a slot: a state, or none, to which all tells something
+pub record LearnsAt (old : Option Abstract) (other : Abstract) (new : Option Abstract) : Type 0 where
+  pub under : (m : Option Abstract) → Holds IsState m → EdgeUnder old m → EdgeUnder (Some other) m → EdgeUnder new m

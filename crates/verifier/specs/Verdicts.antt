@@ -1,5 +1,5 @@
 -- Which programs are accepted, and how the others are refused (docs/VERIFIER.md).
-use Rattle.std.specs.Prelude.{◌≤◌, ℕ, List, Option}
+use Rattle.std.specs.Prelude.{◌≡◌, ◌≤◌, ℕ, List, Option, Some}
 use Rattle.base.specs.declared.causes.VerifierCause.{VerifierCause}
 use Rattle.bpf_isa.specs.declared.instr.Instr.{Instr}
 use Rattle.bpf_isa.specs.Program.{IsProgram}
@@ -9,6 +9,9 @@ use Rattle.ranges.specs.States.{Abstract}
 use Rattle.verifier.specs.Breaches.{FirstBreach}
 use Rattle.verifier.specs.Least.{IsLeast, HasNoGood}
 use Rattle.verifier.specs.Rounds.{IsSettled}
+use Rattle.verifier.specs.Sought.{IsSought}
+use Rattle.verifier.specs.Tables.{rule_at}
+use Rattle.verifier.specs.Visits.{NeedMore, most_visits}
 
 -- a program that is accepted for a number of sectors
 pub record VerifiedValue : Type 0 where
@@ -28,11 +31,14 @@ pub record IsVerified (v : VerifiedValue) : Type 0 where
   pub table : IsLeast v.program v.sectors v.table
 
 -- A program that isn't: it has not the right shape, and this is the first broken shape rule; or no table is good for
--- it, and this is the first breach of the table at which the rounds end.
+-- it, and this is the first breach of the table at which the rounds end. Where the rounds need more than 500,000 visits
+-- of slots, it may be a breach on a table to which a search comes.
 pub data Refused (program : List (Option Instr)) (sectors : ℕ) : VerifierCause → ℕ → Type 0 where
   shape : (c : VerifierCause) (slot : ℕ) → FirstBroken program c slot → Refused program sectors c slot
   no_table : (c : VerifierCause) (slot : ℕ) (table : List (Option Abstract)) → IsShaped program → HasNoGood program sectors
       → IsSettled program sectors table → FirstBreach program sectors table c slot → Refused program sectors c slot
+  sought : (c : VerifierCause) (slot : ℕ) (table : List (Option Abstract)) → IsShaped program → HasNoGood program sectors
+      → NeedMore program sectors most_visits → IsSought program sectors table → rule_at program table slot ≡ Some c → Refused program sectors c slot
 
 -- a program is accepted for so many sectors, with that budget
 abbrev pub IsAccepted : List (Option Instr) → ℕ → ℕ → Type 0

@@ -80,10 +80,14 @@
 //! ```
 #![tactic(auto)]
 
+mod agenda;
 mod check;
 mod climbing;
 mod inferring;
 pub mod laws;
+mod learning;
+mod order;
+mod parts;
 mod passing;
 mod raising;
 mod rounds;

@@ -3,12 +3,13 @@
 //! In a round only the slots with a mark pass on what they know: those at which the round before learned
 //! something. What the others pass on is contained where it arrives since they passed it on last.
 
-ghost use Rattle.std.specs.Prelude.{◌≡◌, ◌<◌, ◌++◌, [], ◌∷◌, OnOk, IfOk, true, false, get_or, length, map, replicate};
+ghost use Rattle.std.specs.Prelude.{◌≡◌, ◌<◌, ◌++◌, [], ◌∷◌, OnOk, IfOk, IfSome, IfNone, true, false, get_or, length, map, replicate};
 ghost use Rattle.bpf_isa.specs.Program.{IsProgram};
 ghost use Rattle.bpf_shape.specs.Shape.{IsShapeOf};
 ghost use Rattle.verifier.specs.Tables.{sent_from};
 ghost use Rattle.verifier.specs.Seen.{arrival_of};
 ghost use Rattle.verifier.specs.Rounds.{passed_by, IsSettled};
+ghost use Rattle.verifier.specs.Visits.{count_set, NeedMore};
 ghost use Rattle.verifier.specs.Passing.{Arrive, IsRound, Arrived, IsMarked, MadeRound, Kept, passed_if, passed_again};
 
 use crate::passing::{Arrival, push_sent, rule_at};
@@ -150,6 +151,47 @@ fn make_round(
     let waiting = passed(alloc, program, shape, sectors, table, marks.as_slice())?;
     clear(marks);
     Ok(arrive_all(table, marks, waiting.as_slice()))
+}
+
+/// How many marks are set.
+fn count_set(marks: &[bool]) -> u64
+    ensures { result ≡ count_set marks.now }
+{
+    let mut set = 0;
+    for mark in marks {
+        if *mark {
+            set += 1;
+        }
+    }
+    set
+}
+
+/// The table at which the rounds end, unless they need more visits of slots than these.
+pub(crate) fn make_rounds_within(
+    alloc: Global,
+    program: &Program,
+    shape: &Shape,
+    sectors: u32,
+    most: u64,
+) -> Result<Option<Table>, AllocError>
+    requires shape { IsShapeOf program.now shape.now }
+    ensures settled { IfOk result (λ found. IfSome found (IsSettled program.now sectors)) }
+    ensures more { IfOk result (λ found. IfNone found (NeedMore program.now sectors most)) }
+    ensures program { OnOk result (IsProgram program.now) }
+{
+    let mut table = Table::first(alloc, program.slots())?;
+    let mut marks = all_marked(alloc, program.slots())?;
+    let mut left = most;
+    loop {
+        if !make_round(alloc, program, shape, sectors, &mut table, &mut marks)? {
+            return Ok(Some(table));
+        }
+        let visits = count_set(marks.as_slice());
+        if left < visits {
+            return Ok(None);
+        }
+        left -= visits;
+    }
 }
 
 /// The table at which the rounds end: each that changes it raises its sum, which stays below 2^96.

@@ -1,13 +1,17 @@
 //! Tables: what is known at each slot of a program.
 
-ghost use Rattle.std.specs.Prelude.{◌≡◌, ◌<◌, ◌↔◌, IsTrue, IfOk, length, map, set, None, Some};
+ghost use Rattle.std.specs.Prelude.{◌≡◌, ◌<◌, ◌↔◌, IsTrue, IfOk, length, map, set, None, Some, [], ◌∷◌};
 ghost use Rattle.std.specs.Option.{option_map};
 ghost use Rattle.ranges.specs.States.{start};
 ghost use Rattle.ranges.specs.SeenStates.{state_of};
 ghost use Rattle.verifier.specs.Tables.{state_at, Covers, AreStates};
 ghost use Rattle.verifier.specs.Seen.{table_of};
+ghost use Rattle.verifier.specs.Passing.{LearnsAt};
 ghost use Rattle.verifier.specs.Rounds.{joined, receive, first_table};
+ghost use Rattle.verifier.specs.Sought.{TakesIn};
 
+use crate::learning::learn;
+use crate::parts::Parts;
 use ranges::State;
 use std::alloc::{AllocError, Global};
 use std::marker::Model;
@@ -102,6 +106,29 @@ impl Table {
         ensures { self.new ≡ receive self.old (slot, state_of state.now) }
     {
         join_to(&mut self.states[slot], state);
+    }
+
+    /// Some parts of a state arrive at a slot. Those of which it learned something.
+    #[tactic(auto, using(crate::proofs::Learned::takes_in, crate::proofs::Tables::all_states))]
+    pub(crate) fn learn(&mut self, slot: usize, state: &State, parts: Parts) -> Parts
+        requires { slot < length self.old }
+        ensures { TakesIn self.old ((slot, state_of state.now) ∷ []) self.new }
+    {
+        learn_at(&mut self.states[slot], state, parts)
+    }
+}
+
+/// What is known at a slot learns some parts of a state, all of them where nothing is known. Those that it learned.
+#[tactic(auto, using(crate::proofs::Learned::learned_none, crate::proofs::Learned::learned_some))]
+fn learn_at(known: &mut Option<State>, state: &State, parts: Parts) -> Parts
+    ensures { LearnsAt (option_map state_of known.old) (state_of state.now) (option_map state_of known.new) }
+{
+    match known {
+        Some(known) => learn(known, state, parts),
+        None => {
+            *known = Some(*state);
+            Parts::ALL
+        }
     }
 }
 

@@ -73,7 +73,8 @@ impl<'x> Verified<'x> {
 
 /// Whether a program is accepted for devices of so many sectors (docs/VERIFIER.md): it is where it has the right shape
 /// and some table is good for it, and then it has the least good table. Else the first broken shape rule; or the first
-/// breach of the table at which the rounds end, where no table is good. `Memory` is want of memory.
+/// breach of the table at which the rounds end, where no table is good; or, where they need more than 500,000 visits of
+/// slots, the first breach that the search met. `Memory` is want of memory.
 pub fn verify<'x>(alloc: Global, program: &'x Program, sectors: u32) -> Result<Verified<'x>, Fault>
     requires some { 1 ≤ sectors }
     requires device { sectors ≤ 16384 }
@@ -83,7 +84,10 @@ pub fn verify<'x>(alloc: Global, program: &'x Program, sectors: u32) -> Result<V
     ensures refused { IfErr result (λ f. (f ≡ memory_fault) ⊎ Refused program.now sectors f.code f.slot) }
 {
     let shape = shape(alloc, program)?;
-    let table = infer(alloc, program, &shape, sectors)?;
+    let (table, met) = infer(alloc, program, &shape, sectors)?;
+    if let Some(fault) = met {
+        return Err(fault);
+    }
     check_rules(program, &table)?;
     Ok(Verified {
         program,

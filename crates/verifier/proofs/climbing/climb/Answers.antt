@@ -7,8 +7,3 @@ pub loop-step-init : goal.loop-step-init
 loop-step-init c =
     let table : c.in_ok-table.table ≡ first_table (length c.args.program.now) = search rules in
     first_climbed c.args.program.now c.args.sectors c.in_ok-table.table table
-
-pub returns-then-not-make_step-clause-below : goal.returns-then-not-make_step-clause-below
-returns-then-not-make_step-clause-below c =
-    let more = more_climbed c.args.program.now c.args.sectors c.loop-step.table c.make_step.new.table c.loop-step.invariant c.make_step.ensures in
-    more.below

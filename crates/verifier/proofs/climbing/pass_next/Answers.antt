@@ -4,8 +4,8 @@ use Rattle.verifier.specs.Tables.{state_at}
 use Rattle.verifier.proofs.Stepping.{next_fits, stays_next}
 use Rattle.verifier.proofs.climbing.pass_next.Goals as goal
 
-pub lead_next-requires-clause-fits : goal.lead_next-requires-clause-fits
-lead_next-requires-clause-fits c =
+pub lead_next-requires : goal.lead_next-requires
+lead_next-requires c =
     let known : state_at c.args.table.now c.args.slot ≡ Some (state_of c.copy_state.new.room) = rw c.if-copy_state.true at c.copy_state.ensures in
     rw (c.edges_of-edge.ensures, c.requires.shape.heads)
     (next_fits c.args.program.now c.args.sectors c.args.table.now c.args.slot (state_of c.copy_state.new.room) c.args.instr.now (record {

@@ -4,8 +4,8 @@ use Rattle.verifier.specs.Tables.{state_at}
 use Rattle.verifier.proofs.Stepping.{target_fits, stays_target}
 use Rattle.verifier.proofs.climbing.pass_target.Goals as goal
 
-pub lead_target-requires-clause-fits : goal.lead_target-requires-clause-fits
-lead_target-requires-clause-fits c =
+pub lead_target-requires : goal.lead_target-requires
+lead_target-requires c =
     let known : state_at c.args.table.now c.args.slot ≡ Some (state_of c.copy_state.new.room) = rw c.if-copy_state.true at c.copy_state.ensures in
     rw (c.target_of-edge.ensures, c.requires.shape.heads)
     (target_fits c.args.program.now c.args.sectors c.args.table.now c.args.slot (state_of c.copy_state.new.room) c.args.instr.now (record {

@@ -1,8 +1,8 @@
-use Rattle.std.proofs.Common.{◌≡◌, ◌∙◌, arith, map, length, Bool, false}
+use Rattle.std.proofs.Common.{◌≡◌, ◌∙◌, ℕ, arith, map, length, get_or, Bool, false}
 use Rattle.std.proofs.lemmas.List.{length-replicate}
 use Rattle.verifier.specs.Seen.{arrival_of}
 use Rattle.verifier.specs.Passing.{passed_again}
-use Rattle.verifier.proofs.Marks.{again_fits, made_round}
+use Rattle.verifier.proofs.Marks.{again_fits, made_round, no_marks}
 use Rattle.verifier.proofs.rounds.make_round.Goals as goal
 
 pub arrive_all-requires-clause-waiting : goal.arrive_all-requires-clause-waiting
@@ -16,6 +16,7 @@ returns c =
     rw (c.as_slice-2.ensures.value, ← c.as_slice.ensures.value) c.in_ok-waiting.ensures.passed in
     let long : length c.clear.new.marks.items ≡ length c.args.program.now =
     rw c.clear.ensures (length-replicate {A = Bool} (length c.args.marks.now.items) false ∙ c.requires.marks.long) in
+    let cleared : (slot : ℕ) → get_or c.clear.new.marks.items slot false ≡ false = rw c.clear.ensures (no_marks (length c.args.marks.now.items)) in
     made_round c.args.program.now c.args.sectors c.args.table.now c.arrive_all.new.table c.args.marks.now.items c.clear.new.marks.items c.arrive_all.new.marks.items
     (map arrival_of c.as_slice-2.result.now) c.arrive_all.result (omega (arith, c.ranges.sectors.fits)) c.in_ok-waiting.ensures.program c.requires.shape.rules
-    c.requires.round c.requires.marks all long c.arrive_all.ensures.arrived c.arrive_all.ensures.kept
+    c.requires.round c.requires.marks all long cleared c.arrive_all.ensures.arrived c.arrive_all.ensures.kept

@@ -1,0 +1,43 @@
+-- How often slots are visited in the rounds (docs/VERIFIER.md, Inference): a slot is visited in a round if it learned
+-- something in the one before.
+use Rattle.std.specs.Prelude.{◌≡◌, ◌<◌, ◌+◌, ℕ, zero, suc, Bool, true, false, List, [], ◌∷◌, length, get_or, Option}
+use Rattle.bpf_isa.specs.declared.instr.Instr.{Instr}
+use Rattle.ranges.specs.States.{Abstract}
+use Rattle.ranges.specs.Order.{Holds}
+use Rattle.verifier.specs.Tables.{state_at, Covers}
+use Rattle.verifier.specs.Rounds.{rounds}
+
+-- what is known now isn't contained in what was known
+abbrev pub Learns : Option Abstract → Option Abstract → Type 0
+Learns old new = Holds (Covers old) new → ⊥
+
+-- how many marks are set
+abbrev pub count_set : List Bool → ℕ
+count_set [] = 0
+count_set (true ∷ marks) = 1 + count_set marks
+count_set (false ∷ marks) = count_set marks
+
+-- So many slots learned something from one table to another: those that are marked. The others know what they knew.
+pub record HaveLearned (old : List (Option Abstract)) (new : List (Option Abstract)) (n : ℕ) : Type 0 where
+  pub marks : List Bool
+  pub long : length marks ≡ length new
+  pub learned : (slot : ℕ) → get_or marks slot false ≡ true → Learns (state_at old slot) (state_at new slot)
+  pub others : (slot : ℕ) → get_or marks slot false ≡ false → state_at new slot ≡ state_at old slot
+  pub count : n ≡ count_set marks
+
+-- so many visits come of so many rounds
+abbrev pub Visits : List (Option Instr) → ℕ → ℕ → ℕ → Type 0
+Visits program sectors zero n = n ≡ 0
+Visits program sectors (suc turns) n =
+    (m : ℕ) × (l : ℕ) × Visits program sectors turns m × HaveLearned (rounds program sectors turns) (rounds program sectors (suc turns)) l × (n ≡ m + l)
+
+-- how many visits are made to find out how a program is refused
+abbrev pub most_visits : ℕ
+most_visits = 500000
+
+-- the rounds need more
+pub record NeedMore (program : List (Option Instr)) (sectors : ℕ) (most : ℕ) : Type 0 where
+  pub turns : ℕ
+  pub visits : ℕ
+  pub made : Visits program sectors turns visits
+  pub more : most < visits

@@ -1,0 +1,64 @@
+//! The slots that are still to pass on what they learned, in the order of the ways.
+//!
+//! Nothing that is proved rests on it: a table that is found with it is tested.
+
+use crate::order::Order;
+use crate::parts::Parts;
+use crate::worklist::Worklist;
+use bpf_isa::program::Program;
+use std::alloc::{AllocError, Global};
+
+/// Which slots learned something, by their places in the order, and of what parts each is still to tell.
+#[derive(Drop)]
+pub(crate) struct Agenda {
+    order: Order,
+    places: Worklist,
+    parts: Vec<Parts>,
+    /// Of what parts the slot tells whose turn it is.
+    told: Parts,
+}
+
+impl Agenda {
+    /// The agenda of a program, on which no slot stands.
+    pub(crate) fn new(alloc: Global, program: &Program) -> Result<Agenda, AllocError> {
+        let order = Order::of(alloc, program)?;
+        let mut parts = Vec::new(alloc);
+        parts.resize(program.slots(), Parts::NONE)?;
+        Ok(Agenda {
+            order,
+            places: Worklist::new(),
+            parts,
+            told: Parts::NONE,
+        })
+    }
+
+    /// A slot learned something of these parts.
+    pub(crate) fn put(&mut self, slot: usize, learned: Parts) {
+        let place = self.order.place(slot);
+        if slot < self.parts.len() && place < 4096 {
+            self.parts[slot] = self.parts[slot].and(learned);
+            self.places.put(place);
+        }
+    }
+
+    /// Takes the first slot from the agenda. It is to tell of the parts of which it learned something.
+    pub(crate) fn take(&mut self) -> Option<usize> {
+        let slot = self.order.slot(self.places.take()?);
+        if self.parts.len() <= slot {
+            return None;
+        }
+        self.told = self.parts[slot];
+        self.parts[slot] = Parts::NONE;
+        Some(slot)
+    }
+
+    /// The slot whose turn it is tells of these parts too.
+    pub(crate) fn tell(&mut self, changed: Parts) {
+        self.told = self.told.and(changed);
+    }
+
+    /// Of what parts the slot tells whose turn it is.
+    pub(crate) fn told(&self) -> Parts {
+        self.told
+    }
+}

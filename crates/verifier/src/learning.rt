@@ -1,0 +1,108 @@
+//! What a state that arrives tells one that is known, part by part.
+
+ghost use Rattle.std.specs.Prelude.{◌≡◌, ◌<◌, slice_index_or, slice_set, []};
+ghost use Rattle.ranges.specs.Groups.{Marked};
+ghost use Rattle.ranges.specs.Reading.{value, with_value, with_groups};
+ghost use Rattle.ranges.specs.Seen.{kind_of};
+ghost use Rattle.ranges.specs.SeenStates.{group_of, state_of};
+ghost use Rattle.verifier.specs.Passing.{LearnsFrom};
+
+use crate::parts::Parts;
+use ranges::{Group, State, Value};
+
+/// What register n holds.
+fn value_at(state: &State, n: usize) -> Value
+    requires { n < 11 }
+    ensures { kind_of result ≡ value (state_of state.now) n }
+{
+    state.values[n]
+}
+
+/// Group n of the stack.
+fn group_at(state: &State, n: usize) -> Group
+    requires { n < 64 }
+    ensures { group_of result ≡ slice_index_or (state_of state.now).groups n (Marked []) }
+{
+    state.groups[n]
+}
+
+/// Puts another value into register n.
+fn put_value(state: &mut State, n: usize, value: Value)
+    requires { n < 11 }
+    ensures { state_of state.new ≡ with_value (state_of state.old) n (kind_of value) }
+{
+    state.values[n] = value;
+}
+
+/// Puts another group n into a state.
+fn put_group(state: &mut State, n: usize, group: Group)
+    requires { n < 64 }
+    ensures { state_of state.new ≡ with_groups (state_of state.old) (slice_set (state_of state.old).groups n (group_of group)) }
+{
+    state.groups[n] = group;
+}
+
+/// Joins a register of another state to that of a known one. Whether that tells something.
+fn learn_value(known: &mut State, state: &State, n: usize) -> bool
+    requires { n < 11 }
+    ensures { LearnsFrom (state_of known.old) (state_of state.now) (state_of known.new) }
+{
+    let (old, new) = (value_at(known, n), value_at(state, n));
+    if old.contains(new) {
+        return false;
+    }
+    put_value(known, n, old.join(new));
+    true
+}
+
+/// Joins a group of another stack to that of a known one. Whether that tells something.
+fn learn_group(known: &mut State, state: &State, n: usize) -> bool
+    requires { n < 64 }
+    ensures { LearnsFrom (state_of known.old) (state_of state.now) (state_of known.new) }
+{
+    let (old, new) = (group_at(known, n), group_at(state, n));
+    if old.contains(new) {
+        return false;
+    }
+    put_group(known, n, old.join(new));
+    true
+}
+
+/// Joins some registers. Those from which something is learned.
+#[tactic(auto, using(crate::proofs::Learned::learns_self, crate::proofs::Learned::learns_more))]
+fn learn_values(known: &mut State, state: &State, parts: Parts, learned: &mut Parts)
+    ensures { LearnsFrom (state_of known.old) (state_of state.now) (state_of known.new) }
+{
+    for n in 0..11 {
+        if parts.has_value(n) && learn_value(known, state, n) {
+            learned.add_value(n);
+        }
+    }
+}
+
+/// Joins some groups of another stack. Those from which something is learned.
+#[tactic(auto, using(crate::proofs::Learned::learns_self, crate::proofs::Learned::learns_more))]
+fn learn_groups(known: &mut State, state: &State, parts: Parts, learned: &mut Parts)
+    ensures { LearnsFrom (state_of known.old) (state_of state.now) (state_of known.new) }
+{
+    let mut rest = parts;
+    for _turn in 0..64 {
+        let Some(n) = rest.take_group() else {
+            return;
+        };
+        if learn_group(known, state, n) {
+            learned.add_group(n);
+        }
+    }
+}
+
+/// Joins some parts of another state to a known one. Those from which something is learned.
+#[tactic(auto, using(crate::proofs::Learned::learns_more))]
+pub(crate) fn learn(known: &mut State, state: &State, parts: Parts) -> Parts
+    ensures { LearnsFrom (state_of known.old) (state_of state.now) (state_of known.new) }
+{
+    let mut learned = Parts::NONE;
+    learn_values(known, state, parts, &mut learned);
+    learn_groups(known, state, parts, &mut learned);
+    learned
+}

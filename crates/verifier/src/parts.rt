@@ -1,0 +1,107 @@
+//! Parts of a state: some of its registers, and some of the groups of its stack.
+//!
+//! Nothing that is proved rests on which parts are named: a table that is found with them is tested.
+
+ghost use Rattle.std.specs.Prelude.{◌<◌, IfSome};
+
+use bpf_isa::instr::{Instr, Source};
+use bpf_isa::register::Register;
+
+/// A bit for each register, and one for each group of the stack.
+#[derive(Clone, Copy)]
+pub(crate) struct Parts {
+    values: u16,
+    groups: u64,
+}
+
+impl Parts {
+    pub(crate) const NONE: Parts = Parts {
+        values: 0,
+        groups: 0,
+    };
+    pub(crate) const ALL: Parts = Parts {
+        values: 0x7ff,
+        groups: u64::MAX,
+    };
+
+    /// A register alone.
+    fn of(register: Register) -> Parts {
+        Parts {
+            values: 1 << register.number(),
+            groups: 0,
+        }
+    }
+
+    /// The parts of both.
+    pub(crate) fn and(self, other: Parts) -> Parts {
+        Parts {
+            values: self.values | other.values,
+            groups: self.groups | other.groups,
+        }
+    }
+
+    /// Whether there is a part.
+    pub(crate) fn is_some(self) -> bool {
+        self.values != 0 || self.groups != 0
+    }
+
+    /// Whether register n is a part.
+    pub(crate) fn has_value(self, n: usize) -> bool
+        requires { n < 11 }
+    {
+        self.values >> n & 1 == 1
+    }
+
+    /// Takes away the first group, if there is one, and says which it was.
+    pub(crate) fn take_group(&mut self) -> Option<usize>
+        ensures { IfSome result (λ n. n < 64) }
+    {
+        let n = self.groups.trailing_zeros() as usize;
+        if 64 <= n {
+            return None;
+        }
+        self.groups &= self.groups.wrapping_sub(1);
+        Some(n)
+    }
+
+    /// Adds register n.
+    pub(crate) fn add_value(&mut self, n: usize)
+        requires { n < 11 }
+    {
+        self.values |= 1 << n;
+    }
+
+    /// Adds group n.
+    pub(crate) fn add_group(&mut self, n: usize)
+        requires { n < 64 }
+    {
+        self.groups |= 1 << n;
+    }
+}
+
+/// The register of a second operand, if it is one.
+fn second(source: &Source) -> Parts {
+    match source {
+        Source::Register(register) => Parts::of(*register),
+        Source::Immediate(_) => Parts::NONE,
+    }
+}
+
+/// The parts of a state that an instruction may change, on one of its edges.
+pub(crate) fn changed_by(instr: &Instr) -> Parts {
+    match instr {
+        Instr::Arithmetic { dst, .. }
+        | Instr::Negate { dst, .. }
+        | Instr::SignExtend { dst, .. }
+        | Instr::ByteOrder { dst, .. }
+        | Instr::Load { dst, .. }
+        | Instr::LoadSigned { dst, .. }
+        | Instr::LoadImmediate { dst, .. } => Parts::of(*dst),
+        Instr::Branch { dst, source, .. } => Parts::of(*dst).and(second(source)),
+        Instr::Jump { .. } | Instr::LongJump { .. } | Instr::Exit => Parts::NONE,
+        Instr::CallHelper { .. }
+        | Instr::CallLocal { .. }
+        | Instr::StoreImmediate { .. }
+        | Instr::Store { .. } => Parts::ALL,
+    }
+}
