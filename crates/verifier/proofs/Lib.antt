@@ -18,3 +18,4 @@ pub mod Exact
 pub mod Ascending
 pub mod Stepping
 pub mod Learned
+pub mod Counting

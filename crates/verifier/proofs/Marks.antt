@@ -1,5 +1,5 @@
 -- Rounds in which only marked slots pass on what they know.
-use Rattle.std.proofs.Common.{◌≡◌, ◌<◌, ◌^◌, ◌+◌, ℕ, zero, suc, Bool, true, false, if◌then◌else◌, List, [], ◌∷◌, length, replicate, get_or, flat_map, Option, refl, sym, ◌∙◌, ap, subst, inl, inr, arith}
+use Rattle.std.proofs.Common.{◌≡◌, ◌<◌, ◌^◌, ◌+◌, ℕ, zero, suc, Bool, true, false, if◌then◌else◌, List, [], ◌∷◌, length, replicate, get_or, flat_map, Option, Some, None, refl, sym, ◌∙◌, ap, subst, inl, inr, arith}
 use Rattle.std.specs.Prelude.{set}
 use Rattle.std.specs.List.{fold, range_with_len}
 use Rattle.std.proofs.lemmas.Bool.{cases_lt, cases_eq, cases_Bool}
@@ -154,8 +154,16 @@ first_marks program sectors table marks e = record {
 
 -- marks and states that arrive
 
-pub kept_self : (table : List (Option Abstract)) (marks : List Bool) → Kept table marks table marks
-kept_self table marks = record { long = refl; unmarked = λ _ e. e; same = λ _ _. refl; learned = λ _ e. inl e; grows = λ _ x is c. c }
+pub kept_self : (table : List (Option Abstract)) (marks : List Bool) → AreStates table → Kept table marks table marks
+kept_self table marks states = record {
+  long = refl;
+  unmarked = λ _ e. e;
+  same = λ _ _. refl;
+  learned = λ _ e. inl e;
+  known = states;
+  knows = states;
+  grows = λ _ x is c. c;
+}
 
 -- what was learned once is still new when more is known
 learns_still : (m n : Option Abstract) → ((x : Abstract) → IsState x → Covers m x → Covers n x) → Holds IsState m → Holds IsState n → (k : Option Abstract)
@@ -167,34 +175,38 @@ learns_still (Some s) (Some t) grows a b (Some u) c learns covered =
     let larger : StateContains t s = grows s a (contains_self s a) in
     learns (state_same u s c a (state_chain s t u (state_under t s b a larger) (state_under u t c b covered)))
 
-pub kept_more : (s t u : List (Option Abstract)) (l m n : List Bool) → AreStates s → AreStates t → AreStates u → Kept s l t m → Kept t m u n → Kept s l u n
-kept_more s t u l m n x y z a b = record {
+pub kept_more : (s t u : List (Option Abstract)) (l m n : List Bool) → Kept s l t m → Kept t m u n → Kept s l u n
+kept_more s t u l m n a b = record {
   long = b.long ∙ a.long;
   unmarked = λ slot e. a.unmarked slot (b.unmarked slot e);
   same = λ slot e. b.same slot e ∙ a.same slot (b.unmarked slot e);
   learned = λ slot e. elim (cases_Bool (get_or m slot false)) [
     | inl was ↦ elim (a.learned slot was) [
         | inl first ↦ inl first
-        | inr learns ↦ inr (learns_still (state_at t slot) (state_at u slot) (b.grows slot) (y slot) (z slot) (state_at s slot) (x slot) learns)
+        | inr learns ↦ inr (learns_still (state_at t slot) (state_at u slot) (b.grows slot) (a.knows slot) (b.knows slot) (state_at s slot) (a.known slot) learns)
       ]
     | inr was_not ↦ elim (b.learned slot e) [
         | inl was ↦ absurd (let bad : true ≡ false = sym was ∙ was_not in cc)
         | inr learns ↦ inr (subst (λ k. Learns k (state_at u slot)) (a.same slot was_not) learns)
       ]
   ];
+  known = a.known;
+  knows = b.knows;
   grows = λ slot k is c. b.grows slot k is (a.grows slot k is c);
 }
 
 pub kept_marked : (table : List (Option Abstract)) (marks : List Bool) (p : ℕ × Abstract) → p.0 < length marks → p.0 < length table → AreStates table → IsState p.1
     → (Covers (state_at table p.0) p.1 → ⊥) → Kept table marks (receive table p) (set marks p.0 true)
-kept_marked table marks p inside there states is left_out = record {
+kept_marked table marks p inside there states is missing = record {
   long = length-set marks p.0 true;
   unmarked = λ slot e. sym (get_or-set_other marks p.0 slot true false (other slot e)) ∙ e;
   same = λ slot e. elsewhere table p slot (other slot e);
   learned = λ slot e. elim (cases_eq slot p.0) [
-    | inl here ↦ inr (rw here (by_known (state_at table p.0) (states p.0) left_out (receive_covers table p there states is)))
+    | inl here ↦ inr (rw here (by_known (state_at table p.0) (states p.0) missing (receive_covers table p there states is)))
     | inr elsewhere ↦ inl (sym (get_or-set_other marks p.0 slot true false elsewhere) ∙ e)
   ];
+  known = states;
+  knows = receive_fits table p there states is;
   grows = λ slot x a c. receive_keeps table p slot x there states is a c;
 }
   where

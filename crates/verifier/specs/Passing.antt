@@ -102,6 +102,8 @@ pub record Kept (old : List (Option Abstract)) (before : List Bool) (new : List 
   pub unmarked : (slot : ℕ) → get_or after slot false ≡ false → get_or before slot false ≡ false
   pub same : (slot : ℕ) → get_or after slot false ≡ false → state_at new slot ≡ state_at old slot
   pub learned : (slot : ℕ) → get_or after slot false ≡ true → (get_or before slot false ≡ true) ⊎ Learns (state_at old slot) (state_at new slot)
+  pub known : AreStates old
+  pub knows : AreStates new
   pub grows : (slot : ℕ) (x : Abstract) → IsState x → Covers (state_at old slot) x → Covers (state_at new slot) x
 
 -- what a round makes of a table, with the marks for the next, and whether it changes it

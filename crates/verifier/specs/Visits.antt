@@ -1,6 +1,6 @@
 -- How often slots are visited in the rounds (docs/VERIFIER.md, Inference): a slot is visited in a round if it learned
 -- something in the one before.
-use Rattle.std.specs.Prelude.{◌≡◌, ◌<◌, ◌+◌, ℕ, zero, suc, Bool, true, false, List, [], ◌∷◌, length, get_or, Option}
+use Rattle.std.specs.Prelude.{◌≡◌, ◌<◌, ◌+◌, ℕ, zero, suc, Bool, true, false, List, [], ◌∷◌, length, get_or, Option, sum_by}
 use Rattle.bpf_isa.specs.declared.instr.Instr.{Instr}
 use Rattle.ranges.specs.States.{Abstract}
 use Rattle.ranges.specs.Order.{Holds}
@@ -12,10 +12,12 @@ abbrev pub Learns : Option Abstract → Option Abstract → Type 0
 Learns old new = Holds (Covers old) new → ⊥
 
 -- how many marks are set
+abbrev pub one_if : Bool → ℕ
+one_if true = 1
+one_if false = 0
+
 abbrev pub count_set : List Bool → ℕ
-count_set [] = 0
-count_set (true ∷ marks) = 1 + count_set marks
-count_set (false ∷ marks) = count_set marks
+count_set marks = sum_by one_if marks
 
 -- So many slots learned something from one table to another: those that are marked. The others know what they knew.
 pub record HaveLearned (old : List (Option Abstract)) (new : List (Option Abstract)) (n : ℕ) : Type 0 where

@@ -20,22 +20,24 @@ use std::alloc::{AllocError, Global};
 /// How many visits of slots the rounds are given to name a breach.
 const MOST_VISITS: u64 = 500_000;
 
-/// What is inferred where no table was found to be good, with the table of the search and the breach that it met there.
+/// What is inferred where the search found no good table, by the table at which it ended and the breach that it met.
 fn infer_refused(
     alloc: Global,
     program: &Program,
     shape: &Shape,
     sectors: u32,
-    found: (Table, Option<Fault>),
+    table: Table,
+    met: Option<Fault>,
 ) -> Result<(Table, Option<Fault>), AllocError>
     requires shape { IsShapeOf program.now shape.now }
-    requires sought { IsSought program.now sectors found.0 }
-    requires met { IfSome found.1 (λ f. rule_at program.now found.0 f.slot ≡ Some f.code) }
+    requires sought { IsSought program.now sectors table }
+    requires met { IfSome met (λ f. rule_at program.now table f.slot ≡ Some f.code) }
     ensures found { IfOk result (λ it. IsFound program.now sectors it.0 it.1) }
     ensures program { OnOk result (IsProgram program.now) }
 {
-    let (table, Some(fault)) = found else {
-        return Ok((make_rounds(alloc, program, shape, sectors)?, None));
+    let Some(fault) = met else {
+        let settled = make_rounds(alloc, program, shape, sectors)?;
+        return Ok((settled, None));
     };
     match make_rounds_within(alloc, program, shape, sectors, MOST_VISITS)? {
         Some(settled) => Ok((settled, None)),
@@ -56,10 +58,10 @@ pub(crate) fn infer(
     ensures found { IfOk result (λ it. IsFound program.now sectors it.0 it.1) }
     ensures program { OnOk result (IsProgram program.now) }
 {
-    let found = climb(alloc, program, shape, sectors)?;
-    match check_table(program, shape, sectors, &found.0) {
-        Ok(()) => Ok((found.0, None)),
-        Err(_) => infer_refused(alloc, program, shape, sectors, found),
+    let (table, met) = climb(alloc, program, shape, sectors)?;
+    match check_table(program, shape, sectors, &table) {
+        Ok(()) => Ok((table, None)),
+        Err(_) => infer_refused(alloc, program, shape, sectors, table, met),
     }
 }
 

@@ -3,13 +3,13 @@
 //! In a round only the slots with a mark pass on what they know: those at which the round before learned
 //! something. What the others pass on is contained where it arrives since they passed it on last.
 
-ghost use Rattle.std.specs.Prelude.{◌≡◌, ◌<◌, ◌++◌, [], ◌∷◌, OnOk, IfOk, IfSome, IfNone, true, false, get_or, length, map, replicate};
+ghost use Rattle.std.specs.Prelude.{◌≡◌, ◌<◌, ◌≤◌, ◌++◌, [], ◌∷◌, OnOk, IfOk, IfSome, IfNone, true, false, get_or, length, map, replicate};
 ghost use Rattle.bpf_isa.specs.Program.{IsProgram};
 ghost use Rattle.bpf_shape.specs.Shape.{IsShapeOf};
 ghost use Rattle.verifier.specs.Tables.{sent_from};
 ghost use Rattle.verifier.specs.Seen.{arrival_of};
 ghost use Rattle.verifier.specs.Rounds.{passed_by, IsSettled};
-ghost use Rattle.verifier.specs.Visits.{count_set, NeedMore};
+ghost use Rattle.verifier.specs.Visits.{one_if, count_set, NeedMore};
 ghost use Rattle.verifier.specs.Passing.{Arrive, IsRound, Arrived, IsMarked, MadeRound, Kept, passed_if, passed_again};
 
 use crate::passing::{Arrival, push_sent, rule_at};
@@ -102,13 +102,14 @@ fn clear(marks: &mut Vec<bool>)
 }
 
 /// A state arrives and its slot is marked, if it isn't contained in what is known. Whether it was not.
-#[tactic(auto, using(crate::proofs::Marks::kept_self, crate::proofs::Marks::kept_marked))]
+#[tactic(auto, using(crate::proofs::Marks::kept_self))]
 fn arrive(table: &mut Table, marks: &mut Vec<bool>, arrival: &Arrival) -> bool
     requires slot { arrival.now.slot < length table.old }
     requires marks { length marks.old.items ≡ length table.old }
     ensures arrived { Arrived table.old (arrival_of arrival.now ∷ []) table.new result }
     ensures kept { Kept table.old marks.old.items table.new marks.new.items }
 {
+    let _states = table.slots();
     if table.covers(arrival.slot, &arrival.state) {
         return false;
     }
@@ -118,12 +119,14 @@ fn arrive(table: &mut Table, marks: &mut Vec<bool>, arrival: &Arrival) -> bool
 }
 
 /// All that is passed on arrives. Whether some of it was not contained in what was known.
+#[tactic(auto, using(crate::proofs::Marks::kept_self))]
 fn arrive_all(table: &mut Table, marks: &mut Vec<bool>, waiting: &[Arrival]) -> bool
     requires waiting { Arrive (length table.old) (map arrival_of waiting.now) }
     requires marks { length marks.old.items ≡ length table.old }
     ensures arrived { Arrived table.old (map arrival_of waiting.now) table.new result }
     ensures kept { Kept table.old marks.old.items table.new marks.new.items }
 {
+    let _states = table.slots();
     let mut changed = false;
     for arrival in waiting {
         if arrive(table, marks, arrival) {
@@ -153,20 +156,27 @@ fn make_round(
     Ok(arrive_all(table, marks, waiting.as_slice()))
 }
 
+/// One for a mark that is set.
+fn one_if(mark: bool) -> u64
+    ensures value { result ≡ one_if mark }
+    ensures bound { result ≤ 1 }
+{
+    if mark { 1 } else { 0 }
+}
+
 /// How many marks are set.
 fn count_set(marks: &[bool]) -> u64
     ensures { result ≡ count_set marks.now }
 {
     let mut set = 0;
-    for mark in marks {
-        if *mark {
-            set += 1;
-        }
+    for place in 0..marks.len() {
+        set += one_if(marks[place]);
     }
     set
 }
 
 /// The table at which the rounds end, unless they need more visits of slots than these.
+#[tactic(auto, using(crate::proofs::Counting::counted_settled))]
 pub(crate) fn make_rounds_within(
     alloc: Global,
     program: &Program,

@@ -1,8 +1,0 @@
-use Rattle.std.proofs.Common.{arith}
-use Rattle.verifier.proofs.Ascending.{good_is_settled}
-use Rattle.verifier.proofs.inferring.infer.Goals as goal
-
-pub returns-in-Ok-clause-settled : goal.returns-in-Ok-clause-settled
-returns-in-Ok-clause-settled c =
-    good_is_settled c.args.program.now c.args.sectors c.in_ok-table.table (omega (arith, c.ranges.sectors.fits)) c.in_ok-table.ensures.program c.requires.shape.rules
-    c.in_ok-table.ensures.below c.in-Ok.ensures.good
