@@ -35,7 +35,8 @@
 //!   `Breaches`: `FirstBreach` of a table, in the order of the document.
 //! - `Least`: `IsLeast`, a good table that is contained in each good table.
 //! - `Rounds`: `round_of`, the table of so many `rounds`, and `IsSettled`: the one of them that a round doesn't
-//!   change. `Measure`: the sum of a table, by which the rounds end.
+//!   change. `Measure`: the sum of a table, by which the rounds end. `Visits`: how often slots are visited in them.
+//! - `Sought`: `IsSought`, a table to which a search comes that passes on what one slot after the other knows.
 //! - `Verdicts`: `IsVerified`, what holds of each `Verified`, and `Refused`, by cases. Acceptance speaks of no rounds:
 //!   a program is accepted where it has the right shape and a good table exists.
 //!
@@ -46,11 +47,13 @@
 //! - What `verify` accepts has right shape, the budget of its longest path, and its least good table, which
 //!   `check_table` takes.
 //! - What it refuses, want of memory aside, breaks this shape rule first; or no table is good for it, and this is
-//!   the first breach of its settled table. No program is both accepted and refused, there is one budget, one table
-//!   and one refusal at most, and none is refused for a table that isn't settled (`laws`).
+//!   the first breach of its settled table. Where the rounds need more than 500,000 visits of slots, it is a breach that
+//!   the search met. No program is both accepted and refused, there is one budget and one table at most, one refusal
+//!   up to so many visits, and none is refused for a table that isn't settled (`laws`).
 //! - The rounds end: each that changes the table raises its sum, which stays below 2^96 (`laws`). So there is no
 //!   limit of rounds.
-//! - `inferred` answers the settled table of each program of right shape, also of one that breaks a rule.
+//! - `inferred` answers the settled table of each program of right shape, also of one that breaks a rule; where the
+//!   rounds need too many visits, the table at which the search met a broken rule.
 //!
 //! That the settled table is the least rests on `ranges`: a smaller state breaks no rule that a larger one keeps, and
 //! passes on smaller states. That a run of an accepted program meets no fault is proved in `soundness`.
@@ -59,9 +62,10 @@
 //!
 //! - `table`: `Table`. `passing`: the rules and edges of one slot. `check`: `check_table`.
 //! - `climbing`: the search. Like the test, it leads states along edges in place, in one room for all slots. Of it only
-//!   is proved that each good table contains what it ends with; that this one is good is tested by `check_table`, and
-//!   then it is the least. So the order in which slots pass on, by `worklist`, is free. `inferring`: the search, and the
-//!   rounds where it finds nothing good.
+//!   is proved that one slot after the other passed on what it knew, so that each good table contains what it ends with;
+//!   that this one is good is tested by `check_table`, and then it is the least. So it is free which slot comes next
+//!   (`agenda`, by the `order` of the ways, in a `worklist`), and which parts of a state are joined (`parts`, `learning`).
+//!   `inferring`: the search, and the rounds where it finds nothing good.
 //! - `rounds`: a round lists all that is passed on by the table as it is, and then lets it arrive, so no
 //!   copy of the table is made. What is known already is not joined again. Each slot that learns something
 //!   gets a mark, and only the marked slots pass on in the next round: what the others pass on is contained

@@ -1,4 +1,4 @@
-//! The slots that are still to pass on what they know, the lowest first.
+//! Slots, or places of slots in an order, of which the lowest is taken first.
 //!
 //! Nothing that is proved rests on the order, nor on what is marked: a table that is found with it is tested.
 
