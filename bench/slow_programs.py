@@ -85,10 +85,10 @@ def program(kind, slots, numbers, refused):
         inner = loop(numbers, room - len(cleared) - 3, WAYS)
         return [*begin, *cleared, *inner, *again(len(inner)), *last]
     if kind == "callee":
-        call = [slot(0x85, 0, 1, 0, 3 + len(last)), *again(1)]
+        call = [slot(0xBF, 1, 9), slot(0x85, 0, 1, 0, 3 + len(last)), *again(2)]
         own = [slot(0xBF, 9, 1), *clear(numbers)]
-        function = [*own, *loop(numbers, room - len(own) - 6, WAYS), *END]
-        return [*begin, slot(0xBF, 1, 9), *call, *last, *function]
+        function = [*own, *loop(numbers, room - len(own) - 7, WAYS), *END]
+        return [*begin, *call, *last, *function]
     if kind == "backward":
         count = (room - 2) // 4
         starts = [4 * (count - 1 - turn) for turn in range(count)] + [4 * count]
