@@ -9,12 +9,9 @@ use Rattle.bpf_shape.specs.Rules.{IsShaped}
 use Rattle.verifier.specs.Breaches.{KeepsRules, FirstRule}
 use Rattle.verifier.specs.Rounds.{IsSettled}
 use Rattle.verifier.specs.Verdicts.{IsVerified, Refused, no_table, sought}
-use Rattle.verifier.specs.Inferred.{IsFound, IsCutShort}
-use Rattle.verifier.specs.Tables.{rule_at}
-use Rattle.verifier.specs.Sought.{IsSought}
-use Rattle.verifier.specs.Visits.{NeedMore, most_visits}
+use Rattle.verifier.specs.Inferred.{IsFound}
 use Rattle.bpf_shape.specs.declared.fault.Fault.{Fault}
-use Rattle.verifier.proofs.Ascending.{met_has_no_good, good_is_settled}
+use Rattle.verifier.proofs.Ascending.{met_has_no_good}
 use Rattle.verifier.proofs.Below.{settled_is_least, broken_has_no_good, rule_is_breach}
 
 pub accepted : (program : List (Option Instr)) (sectors budget : ℕ) (table : List (Option Abstract)) (shape : ShapeValue) → 1 ≤ sectors → sectors ≤ 16384 → sectors < 2 ^ 64

@@ -9,7 +9,7 @@ use Rattle.verifier.specs.Tables.{state_at, AreStates, rule_at}
 use Rattle.verifier.specs.Good.{IsGood}
 use Rattle.verifier.specs.Least.{HasNoGood}
 use Rattle.verifier.specs.Rounds.{first_table, IsSettled}
-use Rattle.verifier.specs.Sought.{Below, TakesIn, IsSought, at_first, one_more}
+use Rattle.verifier.specs.Sought.{Below, IsSought, at_first, one_more}
 use Rattle.verifier.specs.Passing.{StaysSought}
 use Rattle.verifier.proofs.Settled.{first_long, first_fits}
 use Rattle.verifier.proofs.Below.{first_below, sent_all_below, keeps_below, under_is_covered}

@@ -8,12 +8,11 @@ use Rattle.ranges.specs.declared.state.State.{State}
 use Rattle.ranges.specs.Kinds.{Kind, Unset, join}
 use Rattle.ranges.specs.Groups.{GroupKind, Marked, zip_with, join_group}
 use Rattle.ranges.specs.States.{Abstract, join_state}
-use Rattle.ranges.specs.Order.{Under, GroupUnder, EachUnder, StateUnder, IsState, EdgeUnder, Holds}
+use Rattle.ranges.specs.Order.{Under, GroupUnder, EachUnder, IsState, EdgeUnder, Holds}
 use Rattle.ranges.specs.Reading.{value, with_value, with_groups}
 use Rattle.ranges.specs.SeenStates.{state_of}
 use Rattle.ranges.proofs.Arrays.{mapped_set}
 use Rattle.ranges.proofs.Covering.{state_least}
-use Rattle.ranges.proofs.Typed.{each_state_fits}
 use Rattle.verifier.specs.Tables.{state_at, AreStates}
 use Rattle.verifier.specs.Seen.{table_of}
 use Rattle.verifier.specs.Sought.{Below, TakesIn}

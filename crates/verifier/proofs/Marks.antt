@@ -13,7 +13,7 @@ use Rattle.ranges.specs.States.{Abstract, StateContains}
 use Rattle.ranges.specs.Order.{IsState, Holds}
 use Rattle.verifier.specs.Tables.{state_at, Covers, CoversAll, AreStates, rule_at, sent_from}
 use Rattle.verifier.specs.Rounds.{receive, passed_by, passed, round_of}
-use Rattle.verifier.specs.Visits.{Learns, HaveLearned, count_set}
+use Rattle.verifier.specs.Visits.{Learns}
 use Rattle.verifier.specs.Passing.{Arrive, Arrived, IsRound, IsMarked, MadeRound, Kept, passed_if, passed_again}
 use Rattle.verifier.proofs.Arriving.{elsewhere, all_long, all_fit, all_keep, all_covered, covered_same, receive_covers, receive_keeps, receive_fits}
 use Rattle.verifier.proofs.Chains.{contains_self}
@@ -182,13 +182,13 @@ kept_more s t u l m n a b = record {
   same = λ slot e. b.same slot e ∙ a.same slot (b.unmarked slot e);
   learned = λ slot e. elim (cases_Bool (get_or m slot false)) [
     | inl was ↦ elim (a.learned slot was) [
-        | inl first ↦ inl first
-        | inr learns ↦ inr (learns_still (state_at t slot) (state_at u slot) (b.grows slot) (a.knows slot) (b.knows slot) (state_at s slot) (a.known slot) learns)
-      ]
+      | inl first ↦ inl first
+      | inr learns ↦ inr (learns_still (state_at t slot) (state_at u slot) (b.grows slot) (a.knows slot) (b.knows slot) (state_at s slot) (a.known slot) learns)
+    ]
     | inr was_not ↦ elim (b.learned slot e) [
-        | inl was ↦ absurd (let bad : true ≡ false = sym was ∙ was_not in cc)
-        | inr learns ↦ inr (subst (λ k. Learns k (state_at u slot)) (a.same slot was_not) learns)
-      ]
+      | inl was ↦ absurd (let bad : true ≡ false = sym was ∙ was_not in cc)
+      | inr learns ↦ inr (subst (λ k. Learns k (state_at u slot)) (a.same slot was_not) learns)
+    ]
   ];
   known = a.known;
   knows = b.knows;

@@ -10,7 +10,7 @@ use Rattle.bpf_shape.specs.Rules.{IsShaped}
 use Rattle.ranges.specs.States.{Abstract}
 use Rattle.ranges.specs.Order.{EdgeUnder, IsState}
 use Rattle.verifier.specs.Tables.{state_at, AreStates, sent_from}
-use Rattle.verifier.specs.Sought.{AllBelow, TakesIn, IsSought, one_more}
+use Rattle.verifier.specs.Sought.{AllBelow, TakesIn, one_more}
 use Rattle.verifier.specs.Passing.{Arrive, StaysSought, along, next_state, target_of, target_state}
 use Rattle.verifier.proofs.Edges.{by_edges}
 use Rattle.verifier.proofs.Reaching.{each_left, each_right, sent_fits}

@@ -1,6 +1,6 @@
 -- How often slots are visited in the rounds (docs/VERIFIER.md, Inference): a slot is visited in a round if it learned
 -- something in the one before.
-use Rattle.std.specs.Prelude.{◌≡◌, ◌<◌, ◌+◌, ℕ, zero, suc, Bool, true, false, List, [], ◌∷◌, length, get_or, Option, sum_by}
+use Rattle.std.specs.Prelude.{◌≡◌, ◌<◌, ◌+◌, ℕ, zero, suc, Bool, true, false, List, length, get_or, Option, sum_by}
 use Rattle.bpf_isa.specs.declared.instr.Instr.{Instr}
 use Rattle.ranges.specs.States.{Abstract}
 use Rattle.ranges.specs.Order.{Holds}

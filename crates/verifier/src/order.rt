@@ -103,10 +103,12 @@ fn plain_edges(program: &Program, slot: usize) -> Edges {
         return edges;
     }
     match program.at(slot) {
-        Some(Instr::Branch {
-            condition: Condition::Eq,
-            ..
-        }) => Edges {
+        Some(
+            Instr::Branch {
+                condition: Condition::Eq,
+                ..
+            },
+        ) => Edges {
             next: None,
             target: edges.target,
         },

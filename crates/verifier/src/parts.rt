@@ -19,8 +19,14 @@ impl Parts {
         values: 0,
         groups: 0,
     };
+
     pub(crate) const ALL: Parts = Parts {
         values: 0x7ff,
+        groups: u64::MAX,
+    };
+    /// All groups of the stack.
+    const STACK: Parts = Parts {
+        values: 0,
         groups: u64::MAX,
     };
 
@@ -87,6 +93,23 @@ fn second(source: &Source) -> Parts {
     }
 }
 
+/// The group in which a byte lies, by its distance from the end of the stack.
+fn group_at(distance: u16) -> Parts {
+    Parts {
+        values: 0,
+        groups: 1 << (distance / 8 % 64),
+    }
+}
+
+/// The groups that a store may change: of the eight bytes at most that it writes. Register 10 is the end of the stack.
+fn stored(base: Register, offset: i16) -> Parts {
+    if base.number() != 10 {
+        return Parts::STACK;
+    }
+    let distance = offset.cast_unsigned();
+    group_at(distance).and(group_at(distance.wrapping_add(7)))
+}
+
 /// The parts of a state that an instruction may change, on one of its edges.
 pub(crate) fn changed_by(instr: &Instr) -> Parts {
     match instr {
@@ -99,9 +122,9 @@ pub(crate) fn changed_by(instr: &Instr) -> Parts {
         | Instr::LoadImmediate { dst, .. } => Parts::of(*dst),
         Instr::Branch { dst, source, .. } => Parts::of(*dst).and(second(source)),
         Instr::Jump { .. } | Instr::LongJump { .. } | Instr::Exit => Parts::NONE,
-        Instr::CallHelper { .. }
-        | Instr::CallLocal { .. }
-        | Instr::StoreImmediate { .. }
-        | Instr::Store { .. } => Parts::ALL,
+        Instr::StoreImmediate { base, offset, .. } | Instr::Store { base, offset, .. } => {
+            stored(*base, *offset)
+        }
+        Instr::CallHelper { .. } | Instr::CallLocal { .. } => Parts::ALL,
     }
 }

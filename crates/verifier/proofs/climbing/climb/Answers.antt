@@ -1,6 +1,6 @@
 use Rattle.std.proofs.Common.{rules, ◌≡◌, length}
 use Rattle.verifier.specs.Rounds.{first_table}
-use Rattle.verifier.proofs.Ascending.{first_climbed, more_climbed}
+use Rattle.verifier.proofs.Ascending.{first_climbed}
 use Rattle.verifier.proofs.climbing.climb.Goals as goal
 
 pub loop-step-init : goal.loop-step-init
