@@ -9,7 +9,8 @@ KIND is one of
     stores    the same loop, filled with stores in place of branches
     inner     the same in a loop of its own within another one
     callee    the same in a local function that a loop calls
-    backward  no loop: branches in a row, each laid out in front of the one before and with two ways to the next
+    turned    the first loop, its branches laid out backwards: each in front of the one before
+    backward  no loop: branches in a row, laid out so, in which each way adds less than those before it
 
 SLOTS is how many slots it has at most, NUMBERS how many numbers widen, and REFUSED is `no`, `first` for one that reads an
 unset register before the loop, or `last` for one that does behind it. FILE is written.
@@ -51,6 +52,18 @@ def widened(number):
     return [slot(0x79, 4, 10, place(number - 1)), slot(0xAD, 4, 5, len(raised)), *raised]
 
 
+def backwards(room, added):
+    """Branches in a row, each laid out in front of the one before; where more of them follow, other numbers are added."""
+    count = room // 4
+    starts = [4 * (count - 1 - turn) for turn in range(count)] + [4 * count]
+    body = [slot(0x05, 0, 0, starts[0])] + [b""] * (4 * count)
+    for turn in range(count):
+        at, to = starts[turn], starts[turn + 1]
+        number = added(count - 1 - turn)
+        body[at + 1 : at + 5] = [slot(0x45, 9, 0, 2, 1), slot(0x07, 3, 0, 0, number), slot(0x05, 0, 0, to - at - 3), slot(0x05, 0, 0, to - at - 4)]
+    return body
+
+
 def loop(numbers, room, filled):
     """A loop of so many slots at most."""
     low, high = struct.unpack("<ii", struct.pack("<Q", LIMIT))
@@ -59,7 +72,9 @@ def loop(numbers, room, filled):
         body += widened(number)
     for number in range(numbers):
         body += [slot(0x79, 2, 10, place(number)), slot(0x0F, 3, 2)]
-    while len(body) + len(filled) + 6 <= room:
+    if filled is None:
+        body += backwards(room - len(body) - 7, lambda behind: 1)
+    while filled and len(body) + len(filled) + 6 <= room:
         body += filled
     body += [put(register, 0) for register in (2, 3, 4)]
     return body + again(len(body))
@@ -71,15 +86,17 @@ def clear(numbers):
 
 WAYS = [slot(0x45, 9, 0, 2, 1), slot(0x07, 3, 0, 0, 1), slot(0x07, 3)]
 STORES = [slot(0x7B, 10, 3, -512)]
+# With what a loop is filled; with None it is with branches laid out backwards.
+FILLED = {"ways": WAYS, "stores": STORES, "turned": None}
 
 
 def program(kind, slots, numbers, refused):
     begin = [slot(0x79, 9, 1, 8), *(BROKEN if refused == "first" else [])]
     last = [*(BROKEN if refused == "last" else []), *END]
     room = slots - len(begin) - len(last)
-    if kind == "ways" or kind == "stores":
+    if kind in FILLED:
         cleared = clear(numbers)
-        return [*begin, *cleared, *loop(numbers, room - len(cleared), WAYS if kind == "ways" else STORES), *last]
+        return [*begin, *cleared, *loop(numbers, room - len(cleared), FILLED[kind]), *last]
     if kind == "inner":
         cleared = clear(numbers)
         inner = loop(numbers, room - len(cleared) - 3, WAYS)
@@ -90,13 +107,7 @@ def program(kind, slots, numbers, refused):
         function = [*own, *loop(numbers, room - len(own) - 7, WAYS), *END]
         return [*begin, *call, *last, *function]
     if kind == "backward":
-        count = (room - 2) // 4
-        starts = [4 * (count - 1 - turn) for turn in range(count)] + [4 * count]
-        body = [b""] * (4 * count)
-        for turn in range(count):
-            at, to = starts[turn], starts[turn + 1]
-            body[at : at + 4] = [slot(0x45, 9, 0, 2, 1), slot(0x07, 3, 0, 0, turn), slot(0x05, 0, 0, to - at - 3), slot(0x05, 0, 0, to - at - 4)]
-        return [*begin, put(3, 0), slot(0x05, 0, 0, starts[0]), *body, *last]
+        return [*begin, put(3, 0), *backwards(room - 2, lambda behind: 1 << min(24, behind)), *last]
     sys.exit(__doc__)
 
 
