@@ -14,8 +14,28 @@ pub(crate) struct Agenda {
     order: Order,
     places: Worklist,
     parts: Vec<Parts>,
-    /// Of what parts the slot tells whose turn it is.
+    /// The slots that passed something on to the next slot, and those that did to a target.
+    nexts: Vec<bool>,
+    targets: Vec<bool>,
+    /// The slot whose turn it is, and of what parts it tells.
+    turn: usize,
     told: Parts,
+}
+
+/// Whether a slot that passes something on does so for the first time.
+fn is_first(passed: &mut Vec<bool>, slot: usize) -> bool {
+    if passed.len() <= slot || passed[slot] {
+        return false;
+    }
+    passed[slot] = true;
+    true
+}
+
+/// No slot of so many has passed something on.
+fn none_passed(alloc: Global, slots: usize) -> Result<Vec<bool>, AllocError> {
+    let mut passed = Vec::new(alloc);
+    passed.resize(slots, false)?;
+    Ok(passed)
 }
 
 impl Agenda {
@@ -28,6 +48,9 @@ impl Agenda {
             order,
             places: Worklist::new(),
             parts,
+            nexts: none_passed(alloc, program.slots())?,
+            targets: none_passed(alloc, program.slots())?,
+            turn: 0,
             told: Parts::NONE,
         })
     }
@@ -47,6 +70,7 @@ impl Agenda {
         if self.parts.len() <= slot {
             return None;
         }
+        self.turn = slot;
         self.told = self.parts[slot];
         self.parts[slot] = Parts::NONE;
         Some(slot)
@@ -57,8 +81,19 @@ impl Agenda {
         self.told = self.told.and(changed);
     }
 
-    /// Of what parts the slot tells whose turn it is.
-    pub(crate) fn told(&self) -> Parts {
+    /// Of what parts the slot whose turn it is tells the next one: of all, the first time that something is passed.
+    pub(crate) fn told_next(&mut self) -> Parts {
+        if is_first(&mut self.nexts, self.turn) {
+            return Parts::ALL;
+        }
+        self.told
+    }
+
+    /// The same of what it tells a target.
+    pub(crate) fn told_target(&mut self) -> Parts {
+        if is_first(&mut self.targets, self.turn) {
+            return Parts::ALL;
+        }
         self.told
     }
 }

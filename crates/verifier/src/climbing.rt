@@ -36,11 +36,11 @@ use std::alloc::{AllocError, Global};
 const MOST_STEPS: u64 = 1 << 48;
 
 /// A state arrives at a slot, which learns from the parts that are told.
-fn arrive(table: &mut Table, agenda: &mut Agenda, slot: usize, state: &State)
+fn arrive(table: &mut Table, agenda: &mut Agenda, slot: usize, state: &State, told: Parts)
     requires { slot < length table.old }
     ensures { TakesIn table.old ((slot, state_of state.now) ∷ []) table.new }
 {
-    let learned = table.learn(slot, state, agenda.told());
+    let learned = table.learn(slot, state, told);
     if learned.is_some() {
         agenda.put(slot, learned);
     }
@@ -61,7 +61,8 @@ fn lead_next(
 {
     if let Some(slot) = edge {
         if arrive_next(shape, slot, sectors, instr, state) {
-            arrive(table, agenda, slot, state);
+            let told = agenda.told_next();
+            arrive(table, agenda, slot, state, told);
         }
     }
 }
@@ -80,7 +81,8 @@ fn lead_target(
 {
     if let Some(slot) = edge {
         if arrive_target(shape, slot, instr, state) {
-            arrive(table, agenda, slot, state);
+            let told = agenda.told_target();
+            arrive(table, agenda, slot, state, told);
         }
     }
 }
