@@ -15,7 +15,7 @@ use base::refusal::Refusal;
 use command_line::Words;
 use looks::{assembled, image, listed, show, shown_log, survey, verified};
 use request::{OptionWords, Options, Request, Telling, Which, options_of, unreadable};
-use runs::run_with;
+use runs::{Question, run_with};
 use std::alloc::{AllocError, Global};
 use std::sync::Wait;
 use std::thread::Threads;
@@ -46,15 +46,12 @@ fn explore_files<G: Gate + Sync, R: Threads + Wait + Sync>(
     rt: &R,
     alloc: Global,
     gate: &G,
-    telling: Telling,
-    log: &[u8],
-    programs: &[Vec<u8>],
-    options: &Options,
+    question: &Question<'_>,
 ) -> Result<(Vec<u8>, u8), Refusal>
-    ensures answers { IfOk result (λ answer. AnswersRun telling options.now log.now (map (λ f. f.items) programs.now) answer.0.items answer.1) }
-    ensures refused { IfErr result (Refuses log.now (map (λ f. f.items) programs.now) options.now) }
+    ensures answers { IfOk result (λ answer. AnswersRun question.now.telling question.now.options.now question.now.log.now (map (λ f. f.items) question.now.programs.now) answer.0.items answer.1) }
+    ensures refused { IfErr result (Refuses question.now.log.now (map (λ f. f.items) question.now.programs.now) question.now.options.now) }
 {
-    let explored = run_with(rt, alloc, gate, telling, log, programs, options)?;
+    let explored = run_with(rt, alloc, gate, question)?;
     let status = if explored.failing { 1 } else { 0 };
     Ok((explored.bytes, status))
 }
@@ -108,15 +105,15 @@ fn explore_readable<G: Gate + Sync, R: Threads + Wait + Sync>(
         return Err(unreadable(place + 1));
     }
     match programs_of(alloc, others) {
-        Ok(programs) => explore_files(
-            rt,
-            alloc,
-            gate,
-            telling,
-            log.as_slice(),
-            programs.as_slice(),
-            options,
-        ),
+        Ok(programs) => {
+            let question = Question {
+                telling,
+                log: log.as_slice(),
+                programs: programs.as_slice(),
+                options,
+            };
+            explore_files(rt, alloc, gate, &question)
+        }
         Err(_error) => Err(Refusal::of_memory()),
     }
 }
@@ -133,15 +130,13 @@ fn act_stored<G: Gate + Sync, R: Threads + Wait + Sync>(
     let options = stored_options();
     match stored_files(alloc) {
         Ok((log, programs)) => {
-            explore_files(
-                rt,
-                alloc,
-                gate,
-                Telling::Report,
-                log.as_slice(),
-                programs.as_slice(),
-                &options,
-            )
+            let question = Question {
+                telling: Telling::Report,
+                log: log.as_slice(),
+                programs: programs.as_slice(),
+                options: &options,
+            };
+            explore_files(rt, alloc, gate, &question)
         }
         Err(_error) => Err(Refusal::of_memory()),
     }
