@@ -116,12 +116,17 @@ class Sources:
                     found.append(self.at(path, number))
         return found
 
+    def constants_at(self, path, number):
+        """Returns the constants of which a line is a part."""
+        text, line = self.texts.get(path, ""), lambda at: text.count("\n", 0, at) + 1
+        found = [(it[1], line(it.start()), line(text.find(";", it.end()))) for it in CONSTANT.finditer(text)]
+        return [name for name, first, last in found if first <= number <= last]
+
     def changed(self, lines):
         """Returns the functions that a change of these lines changes, and those that name a constant which it changes."""
         found = [self.at(*it) for it in lines]
         for path, number in lines:
-            line = self.texts[path].split("\n")[number - 1] if path in self.texts else ""
-            found += [it for name in CONSTANT.findall(line) for it in self.naming(name, path)]
+            found += [it for name in self.constants_at(path, number) for it in self.naming(name, path)]
         return list(dict.fromkeys(it for it in found if it))
 
 
