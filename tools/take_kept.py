@@ -8,6 +8,7 @@ takes, for the crates that are named, the libraries below them, where what was k
 doesn't look there. It prints which libraries weren't kept; those are proved anew.
 """
 import os
+import shutil
 import sys
 
 sys.dont_write_bytecode = True
@@ -18,7 +19,11 @@ import kit
 def take(rt, crate, kept):
     """Returns whether the library of a crate stands in its out/ now."""
     os.makedirs(f"{crate.folder}/out", exist_ok=True)
-    is_there = crate.is_built() or kept.give(crate, False, kept.key(crate))
+    is_there = crate.is_built()
+    if not is_there:
+        # What a gate left here may be the kept files by other names. rt would take these for damaged, and drop what is kept.
+        shutil.rmtree(f"{crate.folder}/out/rlib", ignore_errors=True)
+        is_there = kept.give(crate, False, kept.key(crate))
     kept.is_built(crate)
     if is_there:
         with open(f"{crate.folder}/out/rlib/stamp", "w", encoding="utf-8") as file:
