@@ -1,9 +1,12 @@
 """The kit's command rt as a module, for tools that check crates as it does."""
+import contextlib
 import importlib.machinery
 import importlib.util
 import os
+import re
 import shutil
 import sys
+import tempfile
 
 
 def load():
@@ -14,8 +17,39 @@ def load():
     loader.exec_module(rt)
     # Its first call sets a signal's handler, which only the main thread may.
     rt.rtlib.guarded()
+    for name, stand_in in stand_ins(rt).items():
+        if not hasattr(rt, name):
+            setattr(rt, name, stand_in)
     rt.share_work(False)
     return rt
+
+
+def stand_ins(rt):
+    """Returns what stands in for calls that only some kits have: without them nothing is kept between checkouts."""
+
+    def seeded(crate, flags, kept):
+        """Checks the crate as it stands, over what is kept of it, and returns a folder with what that left in seed/, or None."""
+        room = tempfile.mkdtemp(prefix="rt-seed-")
+        seed = f"{room}/seed"
+        shutil.copytree(kept, seed) if kept else os.mkdir(seed)
+        if rt.checked(crate, {}, flags, seed).returncode:
+            shutil.rmtree(room, ignore_errors=True)
+            return None
+        return room
+
+    return {
+        "share_work": lambda shares: None,
+        "ending": contextlib.nullcontext,
+        "adopt": lambda crate, is_alone: None,
+        "seeded": seeded,
+        "linked": shutil.copytree,
+        "LIMITS": re.compile(r"\b(limit|gave up|out of memory)\b"),
+    }
+
+
+def gate():
+    """Returns the words of the gate from nothing: a kit that keeps nothing between checkouts has no word for it."""
+    return ["rt", "ci", *["--anew"] * hasattr(load(), "Kept")]
 
 
 def crates(rt):

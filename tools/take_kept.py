@@ -39,6 +39,8 @@ def main(names):
     crates = {it.name: it for it in rt.crates_of(os.getcwd())}
     wanted = {below for name in names for below in crates[name].below()}
     order = [it for it in crates.values() if it in wanted]
+    if not hasattr(rt, "Kept"):
+        sys.exit("this kit keeps nothing between checkouts")
     kept = rt.Kept(order)
     lacking = [it.name for it in order if not take(rt, it, kept)]
     print(f"not kept: {' '.join(lacking) or 'none'}")
