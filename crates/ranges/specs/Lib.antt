@@ -13,3 +13,4 @@ pub mod Passing
 pub mod Order
 pub mod Laws
 pub mod Moving
+pub mod Changing

@@ -82,6 +82,7 @@
 
 mod byte_marks;
 mod bytes;
+mod change;
 mod edges;
 mod effects;
 mod group;
@@ -98,6 +99,7 @@ mod value;
 mod writes;
 
 pub use byte_marks::ByteMarks;
+pub use change::{Change, Effect, effect_along, effect_behind};
 pub use edges::{branch, entry};
 pub use effects::after;
 pub use group::Group;

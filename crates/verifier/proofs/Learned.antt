@@ -87,10 +87,10 @@ table_learns table slot m n s inside e h g is below arrives k =
       | inr other ↦ rw (get_or-set_other table slot k n None other) (below k)
     ]
 
-pub takes_in : (states : List (Option State)) (table : List (Option Abstract)) (slot : ℕ) (old new d : Option State) (s : State) → slot < length states
-    → table_of states ≡ table → old ≡ get_or states slot d → LearnsAt (option_map state_of old) (state_of s) (option_map state_of new)
-    → TakesIn table ((slot, state_of s) ∷ []) (table_of (set states slot new))
-takes_in states table slot old new d s small e o h =
+pub takes_in : (states : List (Option State)) (table : List (Option Abstract)) (slot : ℕ) (old new d : Option State) (x : Abstract) → slot < length states
+    → table_of states ≡ table → old ≡ get_or states slot d → LearnsAt (option_map state_of old) x (option_map state_of new)
+    → TakesIn table ((slot, x) ∷ []) (table_of (set states slot new))
+takes_in states table slot old new d x small e o h =
     let made : table_of (set states slot new) ≡ set table slot (option_map state_of new) =
     mapped_set (option_map state_of) states slot new ∙ ap (λ t. set t slot (option_map state_of new)) e in
     let known : option_map state_of old ≡ state_at table slot =
@@ -100,7 +100,7 @@ takes_in states table slot old new d s small e o h =
       long = ap (λ t. length t) made ∙ length-set table slot (option_map state_of new);
       states = λ _. all_states (set states slot new);
       below = λ g is below arrive. rw made
-          (table_learns table slot (option_map state_of old) (option_map state_of new) (state_of s) (omega (arith, small, long)) known h g is below arrive.0);
+          (table_learns table slot (option_map state_of old) (option_map state_of new) x (omega (arith, small, long)) known h g is below arrive.0);
     }
 
 pub takes_nothing : (table : List (Option Abstract)) → TakesIn table [] table

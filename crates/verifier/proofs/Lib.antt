@@ -19,3 +19,4 @@ pub mod Ascending
 pub mod Stepping
 pub mod Learned
 pub mod Counting
+pub mod Ways

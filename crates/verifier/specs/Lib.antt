@@ -12,5 +12,6 @@ pub mod Sought
 pub mod Visits
 pub mod Verdicts
 pub mod Passing
+pub mod Ways
 pub mod Laws
 pub mod Inferred

@@ -22,6 +22,11 @@ pub(crate) struct Agenda {
     told: Parts,
 }
 
+/// Whether a slot passed something on.
+fn has_told(passed: &[bool], slot: usize) -> bool {
+    passed.get(slot).copied().unwrap_or(true)
+}
+
 /// Whether a slot that passes something on does so for the first time.
 fn is_first(passed: &mut Vec<bool>, slot: usize) -> bool {
     if passed.len() <= slot || passed[slot] {
@@ -76,24 +81,30 @@ impl Agenda {
         Some(slot)
     }
 
-    /// The slot whose turn it is tells of these parts too.
-    pub(crate) fn tell(&mut self, changed: Parts) {
-        self.told = self.told.and(changed);
+    /// Whether the slot whose turn it is told the next one something before.
+    pub(crate) fn has_told_next(&self) -> bool {
+        has_told(&self.nexts, self.turn)
     }
 
-    /// Of what parts the slot whose turn it is tells the next one: of all, the first time that something is passed.
-    pub(crate) fn told_next(&mut self) -> Parts {
+    /// The same of a target.
+    pub(crate) fn has_told_target(&self) -> bool {
+        has_told(&self.targets, self.turn)
+    }
+
+    /// Of what parts the slot whose turn it is tells the next one, where these changed: of all, the first time
+    /// that something is passed.
+    pub(crate) fn told_next(&mut self, changed: Parts) -> Parts {
         if is_first(&mut self.nexts, self.turn) {
             return Parts::ALL;
         }
-        self.told
+        self.told.and(changed)
     }
 
     /// The same of what it tells a target.
-    pub(crate) fn told_target(&mut self) -> Parts {
+    pub(crate) fn told_target(&mut self, changed: Parts) -> Parts {
         if is_first(&mut self.targets, self.turn) {
             return Parts::ALL;
         }
-        self.told
+        self.told.and(changed)
     }
 }

@@ -6,9 +6,9 @@
 //! knows changes. Each table on the way is below every good one. Whether the last one is good is not known here: its
 //! caller tests it.
 //!
-//! What a slot knows is copied once for each edge, into one room for all steps, and led along the edge in place. Only
-//! those parts of it are joined that changed since the slot passed it on last, or that its instruction may change. No
-//! list of what is passed on is made.
+//! Only those parts of what a slot knows are joined that changed since it passed them on last, or that its instruction
+//! changes. Where that is little, they go from slot to slot one by one (`way`). Else, and where nothing is known yet, the
+//! state is copied into one room for all steps, and led along the edge in place. No list of what is passed on is made.
 
 ghost use Rattle.std.specs.Prelude.{◌≡◌, ◌<◌, OnOk, IfOk, IfErr, IfSome, Some, length, [], ◌∷◌};
 ghost use Rattle.std.specs.Option.{option_to_list};
@@ -19,17 +19,20 @@ ghost use Rattle.ranges.specs.Moving.{reached};
 ghost use Rattle.ranges.specs.SeenStates.{state_of};
 ghost use Rattle.verifier.specs.Sought.{TakesIn, IsSought};
 ghost use Rattle.verifier.specs.Tables.{state_at, rule_at};
+ghost use Rattle.verifier.specs.Ways.{Goes, IsWay, LearnsAlong, LeavesAt};
 ghost use Rattle.verifier.specs.Passing.{Arrive, StaysSought, along, next_state, target_state};
 
 use crate::agenda::Agenda;
 use crate::check::refused;
-use crate::parts::{Parts, changed_by};
-use crate::passing::{arrive_next, arrive_target, rule_at, target_of};
+use crate::parts::{Parts, changed_by, parts_of};
+use crate::passing::{arrive_next, arrive_target, next_effect, rule_at, target_effect, target_of};
+use crate::scene::Scene;
 use crate::table::Table;
+use crate::way::{Way, learn_along};
 use bpf_isa::instr::Instr;
 use bpf_isa::program::Program;
 use bpf_shape::{Fault, Shape, edges_of};
-use ranges::State;
+use ranges::{Effect, State};
 use std::alloc::{AllocError, Global};
 
 /// How many steps the search makes before it gives up: more than any can need in a lifetime.
@@ -46,22 +49,32 @@ fn arrive(table: &mut Table, agenda: &mut Agenda, slot: usize, state: &State, to
     }
 }
 
+/// What little changes goes along a way, and arrives there.
+fn arrive_along(table: &mut Table, agenda: &mut Agenda, way: &Way, told: Parts)
+    requires { Goes way.now (length table.old) }
+    ensures { LearnsAlong way.now table.old table.new }
+{
+    let learned = learn_along(table, way, told);
+    if learned.is_some() {
+        agenda.put(way.to, learned);
+    }
+}
+
 /// Leads a state along the edge to the next slot, if there is one. What is passed arrives there.
 fn lead_next(
-    shape: &Shape,
-    sectors: u32,
+    scene: &Scene,
     table: &mut Table,
     agenda: &mut Agenda,
     edge: Option<usize>,
     instr: &Instr,
     state: &mut State,
 )
-    requires { Arrive (length table.old) (option_to_list (along shape.now.heads edge (next_state sectors (state_of state.old) instr.now))) }
-    ensures { TakesIn table.old (option_to_list (along shape.now.heads edge (next_state sectors (state_of state.old) instr.now))) table.new }
+    requires { Arrive (length table.old) (option_to_list (along scene.now.shape.now.heads edge (next_state scene.now.sectors (state_of state.old) instr.now))) }
+    ensures { TakesIn table.old (option_to_list (along scene.now.shape.now.heads edge (next_state scene.now.sectors (state_of state.old) instr.now))) table.new }
 {
     if let Some(slot) = edge {
-        if arrive_next(shape, slot, sectors, instr, state) {
-            let told = agenda.told_next();
+        if arrive_next(scene.shape, slot, scene.sectors, instr, state) {
+            let told = agenda.told_next(changed_by(instr));
             arrive(table, agenda, slot, state, told);
         }
     }
@@ -69,19 +82,19 @@ fn lead_next(
 
 /// The same of the other edge.
 fn lead_target(
-    shape: &Shape,
+    scene: &Scene,
     table: &mut Table,
     agenda: &mut Agenda,
     edge: Option<usize>,
     instr: &Instr,
     state: &mut State,
 )
-    requires { Arrive (length table.old) (option_to_list (along shape.now.heads edge (target_state (state_of state.old) instr.now))) }
-    ensures { TakesIn table.old (option_to_list (along shape.now.heads edge (target_state (state_of state.old) instr.now))) table.new }
+    requires { Arrive (length table.old) (option_to_list (along scene.now.shape.now.heads edge (target_state (state_of state.old) instr.now))) }
+    ensures { TakesIn table.old (option_to_list (along scene.now.shape.now.heads edge (target_state (state_of state.old) instr.now))) table.new }
 {
     if let Some(slot) = edge {
-        if arrive_target(shape, slot, instr, state) {
-            let told = agenda.told_target();
+        if arrive_target(scene.shape, slot, instr, state) {
+            let told = agenda.told_target(changed_by(instr));
             arrive(table, agenda, slot, state, told);
         }
     }
@@ -100,77 +113,134 @@ fn copy_state(table: &Table, slot: usize, room: &mut State) -> bool
     }
 }
 
+/// Where little changes and something is known there already, the way to another slot.
+#[inline(always)]
+fn way_to(table: &Table, from: usize, to: usize, effect: Effect, is_head: bool) -> Option<Way>
+    ensures { IfSome result (IsWay from to is_head effect (length table.now)) }
+{
+    match effect {
+        Effect::Changed(change) => {
+            if from != to && to < table.slots() && table.state(to).is_some() {
+                Some(Way {
+                    from,
+                    to,
+                    change,
+                    is_head,
+                })
+            } else {
+                None
+            }
+        }
+        _ => None,
+    }
+}
+
+/// What a slot's state becomes on the edge to the next slot. Nothing where it has none, and much where it isn't to be said.
+#[inline(always)]
+fn effect_next(scene: &Scene, table: &Table, slot: usize, is_asked: bool, instr: &Instr) -> Effect
+    ensures { LeavesAt (state_at table.now slot) result (λ s. next_state scene.now.sectors s instr.now) }
+{
+    match table.state(slot) {
+        Some(state) => {
+            if is_asked {
+                next_effect(instr, state, scene.sectors)
+            } else {
+                Effect::Much
+            }
+        }
+        None => Effect::Nothing,
+    }
+}
+
+/// The same on the other edge.
+#[inline(always)]
+fn effect_target(table: &Table, slot: usize, is_asked: bool, instr: &Instr) -> Effect
+    ensures { LeavesAt (state_at table.now slot) result (λ s. target_state s instr.now) }
+{
+    match table.state(slot) {
+        Some(state) => {
+            if is_asked {
+                target_effect(instr, state)
+            } else {
+                Effect::Much
+            }
+        }
+        None => Effect::Nothing,
+    }
+}
+
 /// What a slot passes to the next one arrives.
 #[tactic(auto, using(crate::proofs::Ascending::stays_self, crate::proofs::Ascending::stays_more))]
 fn pass_next(
-    program: &Program,
-    shape: &Shape,
-    sectors: u32,
+    scene: &Scene,
     table: &mut Table,
     agenda: &mut Agenda,
     slot: usize,
     instr: &Instr,
     room: &mut State,
 )
-    requires shape { IsShapeOf program.now shape.now }
-    requires long { length table.old ≡ length program.now }
+    requires shape { IsShapeOf scene.now.program.now scene.now.shape.now }
+    requires long { length table.old ≡ length scene.now.program.now }
     requires small { slot < 4096 }
-    requires instr { at program.now slot ≡ Some instr.now }
-    ensures { StaysSought program.now sectors table.old table.new }
+    requires instr { at scene.now.program.now slot ≡ Some instr.now }
+    ensures { StaysSought scene.now.program.now scene.now.sectors table.old table.new }
 {
     let _states = table.slots();
-    let _slots = program.slots();
+    let _slots = scene.program.slots();
     let edge = edges_of(slot, instr).next;
-    if edge.is_some() && copy_state(table, slot, room) {
-        lead_next(shape, sectors, table, agenda, edge, instr, room);
+    let Some(to) = edge else {
+        return;
+    };
+    let effect = effect_next(scene, table, slot, agenda.has_told_next(), instr);
+    if let Some(way) = way_to(table, slot, to, effect, scene.shape.is_head(to)) {
+        let told = agenda.told_next(parts_of(&way.change));
+        arrive_along(table, agenda, &way, told);
+    } else if !matches!(effect, Effect::Nothing) && copy_state(table, slot, room) {
+        lead_next(scene, table, agenda, edge, instr, room);
     }
 }
 
 /// What a slot passes to the target of a jump or the entry of a local function arrives.
 #[tactic(auto, using(crate::proofs::Ascending::stays_self, crate::proofs::Ascending::stays_more))]
 fn pass_target(
-    program: &Program,
-    shape: &Shape,
-    sectors: u32,
+    scene: &Scene,
     table: &mut Table,
     agenda: &mut Agenda,
     slot: usize,
     instr: &Instr,
     room: &mut State,
 )
-    requires shape { IsShapeOf program.now shape.now }
-    requires long { length table.old ≡ length program.now }
+    requires shape { IsShapeOf scene.now.program.now scene.now.shape.now }
+    requires long { length table.old ≡ length scene.now.program.now }
     requires small { slot < 4096 }
-    requires instr { at program.now slot ≡ Some instr.now }
-    ensures { StaysSought program.now sectors table.old table.new }
+    requires instr { at scene.now.program.now slot ≡ Some instr.now }
+    ensures { StaysSought scene.now.program.now scene.now.sectors table.old table.new }
 {
     let _states = table.slots();
-    let _slots = program.slots();
+    let _slots = scene.program.slots();
     let edge = target_of(slot, instr);
-    if edge.is_some() && copy_state(table, slot, room) {
-        lead_target(shape, table, agenda, edge, instr, room);
+    let Some(to) = edge else {
+        return;
+    };
+    let effect = effect_target(table, slot, agenda.has_told_target(), instr);
+    if let Some(way) = way_to(table, slot, to, effect, scene.shape.is_head(to)) {
+        let told = agenda.told_target(parts_of(&way.change));
+        arrive_along(table, agenda, &way, told);
+    } else if !matches!(effect, Effect::Nothing) && copy_state(table, slot, room) {
+        lead_target(scene, table, agenda, edge, instr, room);
     }
 }
 
 /// What a slot passes on arrives, along one edge after the other.
 #[tactic(auto, using(crate::proofs::Ascending::stays_self, crate::proofs::Ascending::stays_more))]
-fn pass_on(
-    program: &Program,
-    shape: &Shape,
-    sectors: u32,
-    table: &mut Table,
-    agenda: &mut Agenda,
-    slot: usize,
-    room: &mut State,
-)
-    requires shape { IsShapeOf program.now shape.now }
-    requires long { length table.old ≡ length program.now }
-    ensures { StaysSought program.now sectors table.old table.new }
+fn pass_on(scene: &Scene, table: &mut Table, agenda: &mut Agenda, slot: usize, room: &mut State)
+    requires shape { IsShapeOf scene.now.program.now scene.now.shape.now }
+    requires long { length table.old ≡ length scene.now.program.now }
+    ensures { StaysSought scene.now.program.now scene.now.sectors table.old table.new }
 {
-    if let Some(instr) = program.at(slot) {
-        agenda.tell(changed_by(&instr));
-        pass_next(program, shape, sectors, table, agenda, slot, &instr, room);
-        pass_target(program, shape, sectors, table, agenda, slot, &instr, room);
+    if let Some(instr) = scene.program.at(slot) {
+        pass_next(scene, table, agenda, slot, &instr, room);
+        pass_target(scene, table, agenda, slot, &instr, room);
     }
 }
 
@@ -178,25 +248,23 @@ fn pass_on(
 /// then no table is good.
 #[tactic(auto, using(crate::proofs::Ascending::stays_self, crate::proofs::Ascending::stays_more))]
 fn make_step(
-    program: &Program,
-    shape: &Shape,
-    sectors: u32,
+    scene: &Scene,
     table: &mut Table,
     agenda: &mut Agenda,
     room: &mut State,
 ) -> Result<bool, Fault>
-    requires shape { IsShapeOf program.now shape.now }
-    requires long { length table.old ≡ length program.now }
-    ensures sought { StaysSought program.now sectors table.old table.new }
-    ensures broken { IfErr result (λ f. rule_at program.now table.new f.slot ≡ Some f.code) }
+    requires shape { IsShapeOf scene.now.program.now scene.now.shape.now }
+    requires long { length table.old ≡ length scene.now.program.now }
+    ensures sought { StaysSought scene.now.program.now scene.now.sectors table.old table.new }
+    ensures broken { IfErr result (λ f. rule_at scene.now.program.now table.new f.slot ≡ Some f.code) }
 {
     let Some(slot) = agenda.take() else {
         return Ok(false);
     };
-    if let Some(cause) = rule_at(program, table, slot) {
+    if let Some(cause) = rule_at(scene.program, table, slot) {
         return Err(refused(cause, slot));
     }
-    pass_on(program, shape, sectors, table, agenda, slot, room);
+    pass_on(scene, table, agenda, slot, room);
     Ok(true)
 }
 
@@ -217,9 +285,14 @@ pub(crate) fn climb(
     let mut table = Table::first(alloc, program.slots())?;
     let mut agenda = Agenda::new(alloc, program)?;
     let mut room = State::start();
+    let scene = Scene {
+        program,
+        shape,
+        sectors,
+    };
     agenda.put(0, Parts::ALL);
     for _step in 0..MOST_STEPS {
-        match make_step(program, shape, sectors, &mut table, &mut agenda, &mut room) {
+        match make_step(&scene, &mut table, &mut agenda, &mut room) {
             Ok(true) => {}
             Ok(false) => return Ok((table, None)),
             Err(fault) => return Ok((table, Some(fault))),

@@ -6,6 +6,7 @@ ghost use Rattle.ranges.specs.Reading.{value, with_value, with_groups};
 ghost use Rattle.ranges.specs.Seen.{kind_of};
 ghost use Rattle.ranges.specs.SeenStates.{group_of, state_of};
 ghost use Rattle.verifier.specs.Passing.{LearnsFrom};
+ghost use Rattle.verifier.specs.Ways.{TellsGroup, TellsValue};
 
 use crate::parts::Parts;
 use ranges::{Group, State, Value};
@@ -42,12 +43,13 @@ fn put_group(state: &mut State, n: usize, group: Group)
     state.groups[n] = group;
 }
 
-/// Joins a register of another state to that of a known one. Whether that tells something.
-fn learn_value(known: &mut State, state: &State, n: usize) -> bool
+/// Joins a value to register n of a known state. Whether that tells something.
+#[tactic(auto, using(crate::proofs::Ways::tells_no_value))]
+pub(crate) fn tell_value(known: &mut State, n: usize, new: Value) -> bool
     requires { n < 11 }
-    ensures { LearnsFrom (state_of known.old) (state_of state.now) (state_of known.new) }
+    ensures { TellsValue (state_of known.old) n (kind_of new) (state_of known.new) }
 {
-    let (old, new) = (value_at(known, n), value_at(state, n));
+    let old = value_at(known, n);
     if old.contains(new) {
         return false;
     }
@@ -55,17 +57,34 @@ fn learn_value(known: &mut State, state: &State, n: usize) -> bool
     true
 }
 
-/// Joins a group of another stack to that of a known one. Whether that tells something.
-fn learn_group(known: &mut State, state: &State, n: usize) -> bool
+/// Joins a group to group n of a known state's stack. Whether that tells something.
+#[tactic(auto, using(crate::proofs::Ways::tells_no_group))]
+pub(crate) fn tell_group(known: &mut State, n: usize, new: Group) -> bool
     requires { n < 64 }
-    ensures { LearnsFrom (state_of known.old) (state_of state.now) (state_of known.new) }
+    ensures { TellsGroup (state_of known.old) n (group_of new) (state_of known.new) }
 {
-    let (old, new) = (group_at(known, n), group_at(state, n));
+    let old = group_at(known, n);
     if old.contains(new) {
         return false;
     }
     put_group(known, n, old.join(new));
     true
+}
+
+/// Joins a register of another state to that of a known one. Whether that tells something.
+fn learn_value(known: &mut State, state: &State, n: usize) -> bool
+    requires { n < 11 }
+    ensures { LearnsFrom (state_of known.old) (state_of state.now) (state_of known.new) }
+{
+    tell_value(known, n, value_at(state, n))
+}
+
+/// Joins a group of another stack to that of a known one. Whether that tells something.
+fn learn_group(known: &mut State, state: &State, n: usize) -> bool
+    requires { n < 64 }
+    ensures { LearnsFrom (state_of known.old) (state_of state.now) (state_of known.new) }
+{
+    tell_group(known, n, group_at(state, n))
 }
 
 /// Joins some registers. Those from which something is learned.

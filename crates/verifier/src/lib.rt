@@ -61,7 +61,8 @@
 //! # How it is written
 //!
 //! - `table`: `Table`. `passing`: the rules and edges of one slot. `check`: `check_table`.
-//! - `climbing`: the search. Like the test, it leads states along edges in place, in one room for all slots. Of it only
+//! - `climbing`: the search. Where little changes along an edge it passes on the changed parts alone (`way`); else it
+//!   leads a copy along the edge in place, in one room for all slots. `scene`: what all its steps are given. Of it only
 //!   is proved that one slot after the other passed on what it knew, so that each good table contains what it ends with;
 //!   that this one is good is tested by `check_table`, and then it is the least. So it is free which slot comes next
 //!   (`agenda`, by the `order` of the ways, in a `worklist`), and which parts of a state are joined (`parts`, `learning`).
@@ -95,9 +96,11 @@ mod parts;
 mod passing;
 mod raising;
 mod rounds;
+mod scene;
 mod table;
 mod unsigned_state;
 mod verified;
+mod way;
 mod worklist;
 
 pub use check::check_table;

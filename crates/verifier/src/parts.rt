@@ -6,6 +6,7 @@ ghost use Rattle.std.specs.Prelude.{◌<◌, IfSome};
 
 use bpf_isa::instr::{Instr, Source};
 use bpf_isa::register::Register;
+use ranges::Change;
 
 /// A bit for each register, and one for each group of the stack.
 #[derive(Clone, Copy)]
@@ -30,12 +31,15 @@ impl Parts {
         groups: u64::MAX,
     };
 
+    /// The registers that a call answers in or unsets.
+    const CALLED: Parts = Parts {
+        values: 0x3f,
+        groups: 0,
+    };
+
     /// A register alone.
-    fn of(register: Register) -> Parts {
-        Parts {
-            values: 1 << register.number(),
-            groups: 0,
-        }
+    fn of(of: Register) -> Parts {
+        register(of.number())
     }
 
     /// The parts of both.
@@ -56,6 +60,18 @@ impl Parts {
         requires { n < 11 }
     {
         self.values >> n & 1 == 1
+    }
+
+    /// Takes away the first register, if there is one, and says which it was.
+    pub(crate) fn take_value(&mut self) -> Option<usize>
+        ensures { IfSome result (λ n. n < 11) }
+    {
+        let n = self.values.trailing_zeros() as usize;
+        if 11 <= n {
+            return None;
+        }
+        self.values &= self.values.wrapping_sub(1);
+        Some(n)
     }
 
     /// Takes away the first group, if there is one, and says which it was.
@@ -85,6 +101,14 @@ impl Parts {
     }
 }
 
+/// Register n alone.
+fn register(n: usize) -> Parts {
+    Parts {
+        values: 1 << (n % 16),
+        groups: 0,
+    }
+}
+
 /// The register of a second operand, if it is one.
 fn second(source: &Source) -> Parts {
     match source {
@@ -108,6 +132,20 @@ fn stored(base: Register, offset: i16) -> Parts {
     }
     let distance = offset.cast_unsigned();
     group_at(distance).and(group_at(distance.wrapping_add(7)))
+}
+
+/// The parts that change.
+pub(crate) fn parts_of(change: &Change) -> Parts {
+    match change {
+        Change::Stays => Parts::NONE,
+        Change::Register(n, _) => register(*n),
+        Change::Registers(n, _, m, _) => register(*n).and(register(*m)),
+        Change::Answer(_) => Parts::CALLED,
+        Change::Group(n, _) => Parts {
+            values: 0,
+            groups: 1 << (n % 64),
+        },
+    }
 }
 
 /// The parts of a state that an instruction may change, on one of its edges.

@@ -6,6 +6,7 @@ ghost use Rattle.base.specs.Check.{first_failing};
 ghost use Rattle.bpf_shape.specs.Again.{heads};
 ghost use Rattle.ranges.specs.SeenStates.{state_of};
 ghost use Rattle.ranges.specs.Rules.{rules};
+ghost use Rattle.ranges.specs.Changing.{Leaves};
 ghost use Rattle.ranges.specs.Moving.{reached};
 ghost use Rattle.verifier.specs.Tables.{arriving, arrival, rule_at, sent_from, passed_on};
 ghost use Rattle.verifier.specs.Passing.{next_state, target_of, target_state, along};
@@ -16,7 +17,7 @@ use base::causes::VerifierCause;
 use bpf_isa::instr::Instr;
 use bpf_isa::program::Program;
 use bpf_shape::{Shape, callee_of, edges_of};
-use ranges::{State, advance, check, enter, follow};
+use ranges::{Effect, State, advance, check, effect_along, effect_behind, enter, follow};
 use std::alloc::AllocError;
 
 /// A state that arrives at a slot.
@@ -69,6 +70,54 @@ fn go_next(instr: &Instr, state: &mut State, sectors: u32) -> bool
         | Instr::StoreImmediate { .. }
         | Instr::Store { .. }
         | Instr::LoadImmediate { .. } => advance(instr, state, sectors),
+    }
+}
+
+/// What a state becomes on the edge to the next slot, on a device of so many sectors.
+#[tactic(auto, unfolding(crate::specs::Passing::next_state))]
+pub(crate) fn next_effect(instr: &Instr, state: &State, sectors: u32) -> Effect
+    ensures { Leaves (state_of state.now) result (next_state sectors (state_of state.now) instr.now) }
+{
+    match instr {
+        Instr::Branch { .. } => effect_along(instr, false, state),
+        Instr::Arithmetic { .. }
+        | Instr::Negate { .. }
+        | Instr::SignExtend { .. }
+        | Instr::ByteOrder { .. }
+        | Instr::Jump { .. }
+        | Instr::LongJump { .. }
+        | Instr::CallHelper { .. }
+        | Instr::CallLocal { .. }
+        | Instr::Exit
+        | Instr::Load { .. }
+        | Instr::LoadSigned { .. }
+        | Instr::StoreImmediate { .. }
+        | Instr::Store { .. }
+        | Instr::LoadImmediate { .. } => effect_behind(instr, state, sectors),
+    }
+}
+
+/// What a state becomes on the other edge.
+#[tactic(auto, unfolding(crate::specs::Passing::target_state))]
+pub(crate) fn target_effect(instr: &Instr, state: &State) -> Effect
+    ensures { Leaves (state_of state.now) result (target_state (state_of state.now) instr.now) }
+{
+    match instr {
+        Instr::CallLocal { .. } => Effect::Much,
+        Instr::Arithmetic { .. }
+        | Instr::Negate { .. }
+        | Instr::SignExtend { .. }
+        | Instr::ByteOrder { .. }
+        | Instr::Jump { .. }
+        | Instr::LongJump { .. }
+        | Instr::Branch { .. }
+        | Instr::CallHelper { .. }
+        | Instr::Exit
+        | Instr::Load { .. }
+        | Instr::LoadSigned { .. }
+        | Instr::StoreImmediate { .. }
+        | Instr::Store { .. }
+        | Instr::LoadImmediate { .. } => effect_along(instr, true, state),
     }
 }
 

@@ -3,16 +3,19 @@
 ghost use Rattle.std.specs.Prelude.{◌≡◌, ◌<◌, ◌↔◌, IsTrue, IfOk, length, map, set, None, Some, [], ◌∷◌};
 ghost use Rattle.std.specs.Option.{option_map};
 ghost use Rattle.ranges.specs.States.{start};
-ghost use Rattle.ranges.specs.SeenStates.{state_of};
+ghost use Rattle.ranges.specs.Seen.{kind_of};
+ghost use Rattle.ranges.specs.SeenStates.{group_of, state_of};
 ghost use Rattle.verifier.specs.Tables.{state_at, Covers, AreStates};
 ghost use Rattle.verifier.specs.Seen.{table_of};
 ghost use Rattle.verifier.specs.Passing.{LearnsAt};
 ghost use Rattle.verifier.specs.Rounds.{joined, receive, first_table};
 ghost use Rattle.verifier.specs.Sought.{TakesIn};
+ghost use Rattle.verifier.specs.Ways.{Goes, LearnsAlong, TellsGroupAt, TellsValueAt};
 
-use crate::learning::learn;
+use crate::learning::{learn, tell_group, tell_value};
 use crate::parts::Parts;
-use ranges::State;
+use crate::way::Way;
+use ranges::{Group, State, Value};
 use std::alloc::{AllocError, Global};
 use std::marker::Model;
 
@@ -116,6 +119,34 @@ impl Table {
     {
         learn_at(&mut self.states[slot], state, parts)
     }
+
+    /// Register n goes along a way. Whether something is learned from it.
+    #[tactic(auto, using(crate::proofs::Ways::along_self, crate::proofs::Tables::all_states))]
+    pub(crate) fn learn_value(&mut self, way: &Way, n: usize) -> bool
+        requires way { Goes way.now (length self.old) }
+        requires register { n < 11 }
+        ensures { LearnsAlong way.now self.old self.new }
+    {
+        let value = match self.state(way.from) {
+            Some(state) => way.value_at(state, n),
+            None => return false,
+        };
+        tell_value_at(&mut self.states[way.to], n, value)
+    }
+
+    /// Group n of the stack goes along a way. Whether something is learned from it.
+    #[tactic(auto, using(crate::proofs::Ways::along_self, crate::proofs::Tables::all_states))]
+    pub(crate) fn learn_group(&mut self, way: &Way, n: usize) -> bool
+        requires way { Goes way.now (length self.old) }
+        requires group { n < 64 }
+        ensures { LearnsAlong way.now self.old self.new }
+    {
+        let group = match self.state(way.from) {
+            Some(state) => way.group_at(state, n),
+            None => return false,
+        };
+        tell_group_at(&mut self.states[way.to], n, group)
+    }
 }
 
 /// What is known at a slot learns some parts of a state, all of them where nothing is known. Those that it learned.
@@ -129,6 +160,30 @@ fn learn_at(known: &mut Option<State>, state: &State, parts: Parts) -> Parts
             *known = Some(*state);
             Parts::ALL
         }
+    }
+}
+
+/// A value is joined to register n of what is known at a slot. Whether that tells something.
+#[tactic(auto, using(crate::proofs::Ways::tells_some_value, crate::proofs::Ways::tells_none_value))]
+fn tell_value_at(known: &mut Option<State>, n: usize, value: Value) -> bool
+    requires { n < 11 }
+    ensures { TellsValueAt (option_map state_of known.old) n (kind_of value) (option_map state_of known.new) }
+{
+    match known {
+        Some(known) => tell_value(known, n, value),
+        None => false,
+    }
+}
+
+/// A group is joined to group n of what is known at a slot. Whether that tells something.
+#[tactic(auto, using(crate::proofs::Ways::tells_some_group, crate::proofs::Ways::tells_none_group))]
+fn tell_group_at(known: &mut Option<State>, n: usize, group: Group) -> bool
+    requires { n < 64 }
+    ensures { TellsGroupAt (option_map state_of known.old) n (group_of group) (option_map state_of known.new) }
+{
+    match known {
+        Some(known) => tell_group(known, n, group),
+        None => false,
     }
 }
 

@@ -1,33 +1,47 @@
 use Rattle.std.proofs.Common.{◌≡◌, arith, Some}
+use Rattle.bpf_shape.specs.Edges.{edges_of}
 use Rattle.ranges.specs.SeenStates.{state_of}
-use Rattle.verifier.specs.Tables.{state_at}
-use Rattle.verifier.proofs.Stepping.{next_fits, stays_next}
+use Rattle.verifier.proofs.Ways.{fits_next, comes_next, learns_next}
 use Rattle.verifier.proofs.climbing.pass_next.Goals as goal
 
 pub lead_next-requires : goal.lead_next-requires
 lead_next-requires c =
-    let known : state_at c.args.table.now c.args.slot ≡ Some (state_of c.copy_state.new.room) = rw c.if-copy_state.true at c.copy_state.ensures in
-    rw (c.edges_of-edge.ensures, c.requires.shape.heads)
-    (next_fits c.args.program.now c.args.sectors c.args.table.now c.args.slot (state_of c.copy_state.new.room) c.args.instr.now (record {
-      few = omega (arith, c.ranges.sectors.fits);
+    let edge : (edges_of c.args.slot c.args.instr.now).next ≡ Some c.in-Some.to = rw c.edges_of-edge.ensures at c.in-Some.is in
+    fits_next c.args.scene.now.program.now c.args.scene.now.sectors c.args.table.now c.args.slot c.in-Some.to c.args.instr.now c.args.scene.now.shape.now.heads (state_of c.copy_state.new.room) (record {
+      few = omega (arith, c.args.scene.now.few);
       made = c.slots-slots.ensures.program;
       shape = c.requires.shape.rules;
       states = c.slots-states.ensures.states;
       long = c.requires.long;
       there = c.requires.instr;
-      known = known;
-    }))
+      rounds = c.requires.shape.heads;
+    })
+    edge (c.if-copy_state.ensures)
+
+pub returns-in-Some-way_to : goal.returns-in-Some-way_to
+returns-in-Some-way_to c =
+    let edge : (edges_of c.args.slot c.args.instr.now).next ≡ Some c.in-Some.to = rw c.edges_of-edge.ensures at c.in-Some.is in
+    learns_next c.args.scene.now.program.now c.args.scene.now.sectors c.args.table.now c.arrive_along.new.table c.args.slot c.in-Some.to c.args.instr.now c.args.scene.now.shape.now.heads c.effect_next-effect.result c.in-Some-way_to.way (record {
+      few = omega (arith, c.args.scene.now.few);
+      made = c.slots-slots.ensures.program;
+      shape = c.requires.shape.rules;
+      states = c.slots-states.ensures.states;
+      long = c.requires.long;
+      there = c.requires.instr;
+      rounds = c.requires.shape.heads;
+    })
+    edge c.effect_next-effect.ensures (rw c.is_head.ensures at c.in-Some-way_to.ensures) c.arrive_along.ensures
 
 pub returns-then-copy_state : goal.returns-then-copy_state
 returns-then-copy_state c =
-    let known : state_at c.args.table.now c.args.slot ≡ Some (state_of c.copy_state.new.room) = rw c.if-copy_state.true at c.copy_state.ensures in
-    stays_next c.args.program.now c.args.sectors c.args.table.now c.lead_next.new.table c.args.slot (state_of c.copy_state.new.room) c.args.instr.now (record {
-      few = omega (arith, c.ranges.sectors.fits);
+    let edge : (edges_of c.args.slot c.args.instr.now).next ≡ Some c.in-Some.to = rw c.edges_of-edge.ensures at c.in-Some.is in
+    comes_next c.args.scene.now.program.now c.args.scene.now.sectors c.args.table.now c.lead_next.new.table c.args.slot c.in-Some.to c.args.instr.now c.args.scene.now.shape.now.heads (state_of c.copy_state.new.room) (record {
+      few = omega (arith, c.args.scene.now.few);
       made = c.slots-slots.ensures.program;
       shape = c.requires.shape.rules;
       states = c.slots-states.ensures.states;
       long = c.requires.long;
       there = c.requires.instr;
-      known = known;
+      rounds = c.requires.shape.heads;
     })
-    (rw (c.edges_of-edge.ensures, c.requires.shape.heads) at c.lead_next.ensures)
+    edge (c.if-copy_state.ensures) c.lead_next.ensures

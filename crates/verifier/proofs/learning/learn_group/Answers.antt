@@ -1,15 +1,6 @@
-use Rattle.std.proofs.Common.{◌≡◌, [], slice_index_or}
-use Rattle.ranges.specs.Groups.{Marked, join_group}
-use Rattle.ranges.specs.SeenStates.{group_of, state_of}
+use Rattle.ranges.specs.SeenStates.{state_of}
 use Rattle.ranges.proofs.Typed.{each_state_fits}
-use Rattle.verifier.proofs.Learned.{learned_group}
 use Rattle.verifier.proofs.learning.learn_group.Goals as goal
 
 pub returns : goal.returns
-returns c =
-    let both : group_of c.join.result
-    ≡ join_group (slice_index_or (state_of c.args.known.now).groups c.args.n (Marked [])) (slice_index_or (state_of c.args.state.now).groups c.args.n (Marked [])) =
-    rw (← c.group_at-old.ensures, ← c.group_at-new.ensures) c.join.ensures in
-    rw c.put_group.ensures
-    (learned_group (state_of c.args.known.now) (state_of c.args.state.now) c.args.n (group_of c.join.result)
-    (each_state_fits c.args.known.now) (each_state_fits c.args.state.now) c.requires both)
+returns c = c.tell_group.ensures.tells (state_of c.args.state.now) (each_state_fits c.args.state.now) c.group_at.ensures

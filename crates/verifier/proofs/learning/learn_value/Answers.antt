@@ -1,16 +1,6 @@
-use Rattle.std.proofs.Common.{◌≡◌}
-use Rattle.ranges.specs.Kinds.{join}
-use Rattle.ranges.specs.Reading.{value}
-use Rattle.ranges.specs.Seen.{kind_of}
 use Rattle.ranges.specs.SeenStates.{state_of}
 use Rattle.ranges.proofs.Typed.{each_state_fits}
-use Rattle.verifier.proofs.Learned.{learned_value}
 use Rattle.verifier.proofs.learning.learn_value.Goals as goal
 
 pub returns : goal.returns
-returns c =
-    let both : kind_of c.join.result ≡ join (value (state_of c.args.known.now) c.args.n) (value (state_of c.args.state.now) c.args.n) =
-    rw (← c.value_at-old.ensures, ← c.value_at-new.ensures) c.join.ensures in
-    rw c.put_value.ensures
-    (learned_value (state_of c.args.known.now) (state_of c.args.state.now) c.args.n (kind_of c.join.result)
-    (each_state_fits c.args.known.now) (each_state_fits c.args.state.now) c.requires both)
+returns c = c.tell_value.ensures.tells (state_of c.args.state.now) (each_state_fits c.args.state.now) c.value_at.ensures

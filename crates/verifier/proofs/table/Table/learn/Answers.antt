@@ -10,5 +10,5 @@ returns c =
     let same : length c.self.inside.states.items ≡ length c.args.self.now =
     sym (length-map c.self.inside.states.items (option_map state_of)) ∙ ap (λ t. length t) c.self.view_is in
     let small : c.args.slot < length c.self.inside.states.items = rw same c.requires in
-    takes_in c.self.inside.states.items c.args.self.now c.args.slot c.index_mut.result.now c.learn_at.new.known _ c.args.state.now small c.self.view_is
+    takes_in c.self.inside.states.items c.args.self.now c.args.slot c.index_mut.result.now c.learn_at.new.known _ (state_of c.args.state.now) small c.self.view_is
     c.index_mut.ensures.value c.learn_at.ensures

@@ -1,0 +1,208 @@
+-- What little changes goes along an edge, part by part.
+use Rattle.std.proofs.Common.{◌≡◌, ◌<◌, ◌^◌, ℕ, zero, suc, Bool, false, List, [], ◌∷◌, map, length, get_or, Option, None, Some, refl, sym, ◌∙◌, ap}
+use Rattle.std.specs.Prelude.{set, slice_index_or}
+use Rattle.std.specs.Option.{option_map, option_to_list}
+use Rattle.std.proofs.lemmas.List.{length-map, length-set, get_or-set_other}
+use Rattle.ranges.specs.declared.state.State.{State}
+use Rattle.ranges.specs.declared.change.Effect.{Effect}
+use Rattle.ranges.specs.declared.change.Effect.TheVariants.{Changed, Nothing}
+use Rattle.ranges.specs.Kinds.{Kind, Unset, join, round}
+use Rattle.ranges.specs.Groups.{GroupKind, Marked, join_group, round_group}
+use Rattle.ranges.specs.States.{Abstract, round_state}
+use Rattle.ranges.specs.Order.{IsState}
+use Rattle.ranges.specs.Reading.{value, with_value, with_groups}
+use Rattle.ranges.specs.Changing.{changed, Leaves}
+use Rattle.ranges.specs.SeenStates.{state_of}
+use Rattle.ranges.proofs.Arrays.{mapped_set}
+use Rattle.verifier.specs.declared.way.Way.{Way}
+use Rattle.bpf_isa.specs.declared.instr.Instr.{Instr}
+use Rattle.bpf_isa.specs.Program.{IsProgram}
+use Rattle.bpf_isa.specs.Slots.{at}
+use Rattle.bpf_shape.specs.Again.{heads}
+use Rattle.bpf_shape.specs.Edges.{edges_of}
+use Rattle.bpf_shape.specs.Rules.{IsShaped}
+use Rattle.verifier.specs.Tables.{state_at, AreStates}
+use Rattle.verifier.specs.Seen.{table_of}
+use Rattle.verifier.specs.Sought.{TakesIn}
+use Rattle.verifier.specs.Passing.{Arrive, LearnsAt, StaysSought, along, next_state, target_of, target_state}
+use Rattle.verifier.specs.Ways.{passed_along, Goes, IsWay, LearnsAlong, LeavesAt, TellsValue, TellsGroup, TellsValueAt, TellsGroupAt}
+use Rattle.verifier.proofs.Stepping.{Passes, next_fits, target_fits, stays_next, stays_target}
+use Rattle.verifier.proofs.Learned.{learns_self, learned_value, learned_group, learned_some, takes_in}
+
+-- a state is rounded place by place
+
+map_at : {X : Type 0} (f : X → X) (xs : List X) (n : ℕ) (d : X) → f d ≡ d → f (get_or xs n d) ≡ get_or (map f xs) n d
+map_at f [] n d e = e
+map_at f (x ∷ xs) zero d e = refl
+map_at f (x ∷ xs) (suc n) d e = map_at f xs n d e
+
+pub round_value : (s : Abstract) (n : ℕ) → round (value s n) ≡ value (round_state s) n
+unfolding round_state round
+round_value s n = map_at round s.values n Unset refl
+
+pub round_group_at : (s : Abstract) (n : ℕ) → round_group (slice_index_or s.groups n (Marked [])) ≡ slice_index_or (round_state s).groups n (Marked [])
+unfolding round_state round_group
+round_group_at s n = map_at round_group s.groups n (Marked []) refl
+
+-- one part is told
+
+pub tells_no_value : (s : Abstract) (n : ℕ) (k : Kind) → TellsValue s n k s
+tells_no_value s n k = record { tells = λ x _ _. learns_self s x }
+
+pub tells_value : (s : Abstract) (n : ℕ) (k l : Kind) → IsState s → n < 11 → l ≡ join (value s n) k → TellsValue s n k (with_value s n l)
+tells_value s n k l a inside e = record { tells = λ x b is. learned_value s x n l a b inside (rw is at e) }
+
+pub tells_no_group : (s : Abstract) (n : ℕ) (k : GroupKind) → TellsGroup s n k s
+tells_no_group s n k = record { tells = λ x _ _. learns_self s x }
+
+pub tells_group : (s : Abstract) (n : ℕ) (k l : GroupKind) → IsState s → n < 64 → l ≡ join_group (slice_index_or s.groups n (Marked [])) k
+    → TellsGroup s n k (with_groups s (set s.groups n l))
+tells_group s n k l a inside e = record { tells = λ x b is. learned_group s x n l a b inside (rw is at e) }
+
+-- at a slot
+
+pub tells_some_value : (s new : Abstract) (n : ℕ) (k : Kind) → TellsValue s n k new → TellsValueAt (Some s) n k (Some new)
+tells_some_value s new n k h = record { tells = λ x a is. learned_some s x new (h.tells x a is) }
+
+pub tells_none_value : (n : ℕ) (k : Kind) → TellsValueAt None n k None
+tells_none_value n k = record { tells = λ x _ _. record { under = λ m _ u _. u } }
+
+pub tells_some_group : (s new : Abstract) (n : ℕ) (k : GroupKind) → TellsGroup s n k new → TellsGroupAt (Some s) n k (Some new)
+tells_some_group s new n k h = record { tells = λ x a is. learned_some s x new (h.tells x a is) }
+
+pub tells_none_group : (n : ℕ) (k : GroupKind) → TellsGroupAt None n k None
+tells_none_group n k = record { tells = λ x _ _. record { under = λ m _ u _. u } }
+
+-- a table learns along a way
+
+pub along_self : (way : Way) (t : List (Option Abstract)) → LearnsAlong way t t
+along_self way t = record { long = refl; same = refl; takes = λ s _ _. record { long = refl; states = λ h. h; below = λ g _ below _. below } }
+
+pub along_more : (way : Way) (t u v : List (Option Abstract)) → LearnsAlong way t u → LearnsAlong way u v → LearnsAlong way t v
+along_more way t u v a b = record {
+  long = b.long ∙ a.long;
+  same = b.same ∙ a.same;
+  takes = λ s known is.
+      let first = a.takes s known is in
+      let second = b.takes s (a.same ∙ known) is in
+      record {
+        long = second.long ∙ first.long;
+        states = λ h. second.states (first.states h);
+        below = λ g fits below arrive. second.below g fits (first.below g fits below arrive) arrive;
+      };
+}
+
+-- a part that is told at the end of a way
+pub goes_along : (way : Way) (states : List (Option State)) (table : List (Option Abstract)) (old new d : Option State)
+    → Goes way (length table) → table_of states ≡ table → old ≡ get_or states way.to d
+    → ((s : Abstract) → state_at table way.from ≡ Some s → IsState (passed_along way s) → LearnsAt (option_map state_of old) (passed_along way s) (option_map state_of new))
+    → LearnsAlong way table (table_of (set states way.to new))
+goes_along way states table old new d goes e o tells =
+    let long : length table ≡ length states = sym (ap (λ t. length t) e) ∙ length-map states (option_map state_of) in
+    let inside : way.to < length states = rw long at goes.inside in
+    let made : table_of (set states way.to new) ≡ set table way.to (option_map state_of new) =
+    mapped_set (option_map state_of) states way.to new ∙ ap (λ t. set t way.to (option_map state_of new)) e in
+    record {
+      long = length-map (set states way.to new) (option_map state_of) ∙ length-set states way.to new ∙ sym long;
+      same = rw made (get_or-set_other table way.to way.from (option_map state_of new) None goes.apart);
+      takes = λ s known is. takes_in states table way.to old new d (passed_along way s) inside e o (tells s known is);
+    }
+
+-- what was read of the state at the begin of a way is of each state that is known there
+
+same_state : (m : Option Abstract) (s t : Abstract) → Some s ≡ m → m ≡ Some t → s ≡ t
+same_state m s t a b = let both : Some s ≡ Some t = a ∙ b in cc
+
+pub value_of_state : (way : Way) (s t : Abstract) (m : Option Abstract) (n : ℕ) (k : Kind) → Some s ≡ m → m ≡ Some t → k ≡ value (passed_along way s) n
+    → k ≡ value (passed_along way t) n
+value_of_state way s t m n k a b e = rw (same_state m s t a b) at e
+
+pub group_of_state : (way : Way) (s t : Abstract) (m : Option Abstract) (n : ℕ) (k : GroupKind) → Some s ≡ m → m ≡ Some t
+    → k ≡ slice_index_or (passed_along way s).groups n (Marked []) → k ≡ slice_index_or (passed_along way t).groups n (Marked [])
+group_of_state way s t m n k a b e = rw (same_state m s t a b) at e
+
+-- what goes along an edge by a way
+pub by_way : (heads : List Bool) (way : Way) (from to n : ℕ) (effect : Effect) (s : Abstract) (m : Option Abstract) → IsWay from to (get_or heads to false) effect n way
+    → Leaves s effect m → option_to_list (along heads (Some to) m) ≡ (way.to, passed_along way s) ∷ []
+by_way heads way from to n effect s m w leaves =
+    let left : m ≡ Some (changed s way.change) = rw w.changes at leaves in
+    rw (left, w.ends, w.rounds) refl
+
+by_learning : (table new : List (Option Abstract)) (heads : List Bool) (way : Way) (slot to : ℕ) (effect : Effect) (s : Abstract) (m : Option Abstract)
+    → IsWay slot to (get_or heads to false) effect (length table) way → Leaves s effect m → state_at table slot ≡ Some s → LearnsAlong way table new
+    → Arrive (length table) (option_to_list (along heads (Some to) m)) → TakesIn table (option_to_list (along heads (Some to) m)) new
+by_learning table new heads way slot to effect s m w leaves known learns arrive =
+    let e = by_way heads way slot to (length table) effect s m w leaves in
+    let fits : Arrive (length table) ((way.to, passed_along way s) ∷ []) = rw e at arrive in
+    rw e (learns.takes s (rw w.begins known) fits.0.1)
+
+nothing_changes : (effect : Effect) (way : Way) → effect ≡ Nothing → effect ≡ Changed way.change → ⊥
+nothing_changes effect way a b = let both : Nothing ≡ Changed way.change = sym a ∙ b in cc
+
+-- what holds where a slot passes something on along an edge
+pub record Sends (program : List (Option Instr)) (sectors : ℕ) (table : List (Option Abstract)) (slot : ℕ) (i : Instr) (marks : List Bool) : Type 0 where
+  pub few : sectors < 2 ^ 64
+  pub made : IsProgram program
+  pub shape : IsShaped program
+  pub states : AreStates table
+  pub long : length table ≡ length program
+  pub there : at program slot ≡ Some i
+  pub rounds : marks ≡ heads program
+
+passes_of : (program : List (Option Instr)) (sectors : ℕ) (table : List (Option Abstract)) (slot : ℕ) (i : Instr) (marks : List Bool) (s : Abstract)
+    → Sends program sectors table slot i marks → state_at table slot ≡ Some s → Passes program sectors table slot s i
+passes_of program sectors table slot i marks s h known = record {
+  few = h.few;
+  made = h.made;
+  shape = h.shape;
+  states = h.states;
+  long = h.long;
+  there = h.there;
+  known = known;
+}
+
+pub fits_next : (program : List (Option Instr)) (sectors : ℕ) (table : List (Option Abstract)) (slot to : ℕ) (i : Instr) (marks : List Bool) (s : Abstract)
+    → Sends program sectors table slot i marks → (edges_of slot i).next ≡ Some to → state_at table slot ≡ Some s
+    → Arrive (length table) (option_to_list (along marks (Some to) (next_state sectors s i)))
+fits_next program sectors table slot to i marks s h e known =
+    rw h.rounds (rw e at (next_fits program sectors table slot s i (passes_of program sectors table slot i marks s h known)))
+
+pub comes_next : (program : List (Option Instr)) (sectors : ℕ) (table new : List (Option Abstract)) (slot to : ℕ) (i : Instr) (marks : List Bool) (s : Abstract)
+    → Sends program sectors table slot i marks → (edges_of slot i).next ≡ Some to → state_at table slot ≡ Some s
+    → TakesIn table (option_to_list (along marks (Some to) (next_state sectors s i))) new → StaysSought program sectors table new
+comes_next program sectors table new slot to i marks s h e known taken =
+    stays_next program sectors table new slot s i (passes_of program sectors table slot i marks s h known) (rw e (rw h.rounds at taken))
+
+pub learns_next : (program : List (Option Instr)) (sectors : ℕ) (table new : List (Option Abstract)) (slot to : ℕ) (i : Instr) (marks : List Bool) (effect : Effect) (way : Way)
+    → Sends program sectors table slot i marks → (edges_of slot i).next ≡ Some to → LeavesAt (state_at table slot) effect (λ s. next_state sectors s i)
+    → IsWay slot to (get_or marks to false) effect (length table) way → LearnsAlong way table new → StaysSought program sectors table new
+learns_next program sectors table new slot to i marks effect way h e leaves w learns = by_known (state_at table slot) refl leaves
+  where
+    by_known : (m : Option Abstract) → state_at table slot ≡ m → LeavesAt m effect (λ s. next_state sectors s i) → StaysSought program sectors table new
+    by_known None known left = absurd (nothing_changes effect way left w.changes)
+    by_known (Some s) known left =
+        comes_next program sectors table new slot to i marks s h e known
+        (by_learning table new marks way slot to effect s (next_state sectors s i) w left known learns (fits_next program sectors table slot to i marks s h e known))
+
+pub fits_target : (program : List (Option Instr)) (sectors : ℕ) (table : List (Option Abstract)) (slot to : ℕ) (i : Instr) (marks : List Bool) (s : Abstract)
+    → Sends program sectors table slot i marks → target_of slot i ≡ Some to → state_at table slot ≡ Some s
+    → Arrive (length table) (option_to_list (along marks (Some to) (target_state s i)))
+fits_target program sectors table slot to i marks s h e known =
+    rw h.rounds (rw e at (target_fits program sectors table slot s i (passes_of program sectors table slot i marks s h known)))
+
+pub comes_target : (program : List (Option Instr)) (sectors : ℕ) (table new : List (Option Abstract)) (slot to : ℕ) (i : Instr) (marks : List Bool) (s : Abstract)
+    → Sends program sectors table slot i marks → target_of slot i ≡ Some to → state_at table slot ≡ Some s
+    → TakesIn table (option_to_list (along marks (Some to) (target_state s i))) new → StaysSought program sectors table new
+comes_target program sectors table new slot to i marks s h e known taken =
+    stays_target program sectors table new slot s i (passes_of program sectors table slot i marks s h known) (rw e (rw h.rounds at taken))
+
+pub learns_target : (program : List (Option Instr)) (sectors : ℕ) (table new : List (Option Abstract)) (slot to : ℕ) (i : Instr) (marks : List Bool) (effect : Effect) (way : Way)
+    → Sends program sectors table slot i marks → target_of slot i ≡ Some to → LeavesAt (state_at table slot) effect (λ s. target_state s i)
+    → IsWay slot to (get_or marks to false) effect (length table) way → LearnsAlong way table new → StaysSought program sectors table new
+learns_target program sectors table new slot to i marks effect way h e leaves w learns = by_known (state_at table slot) refl leaves
+  where
+    by_known : (m : Option Abstract) → state_at table slot ≡ m → LeavesAt m effect (λ s. target_state s i) → StaysSought program sectors table new
+    by_known None known left = absurd (nothing_changes effect way left w.changes)
+    by_known (Some s) known left =
+        comes_target program sectors table new slot to i marks s h e known
+        (by_learning table new marks way slot to effect s (target_state s i) w left known learns (fits_target program sectors table slot to i marks s h e known))

@@ -1,0 +1,15 @@
+//! A program with its shape, and the devices for which it is verified.
+
+ghost use Rattle.std.specs.Prelude.{◌<◌};
+
+use bpf_isa::program::Program;
+use bpf_shape::Shape;
+
+/// A program with its shape, on devices of so many sectors.
+#[derive(Clone, Copy)]
+pub(crate) struct Scene<'x> {
+    pub program: &'x Program,
+    pub shape: &'x Shape,
+    pub sectors: u32,
+    pub ghost few: { sectors < 4294967296 },
+}
