@@ -9,24 +9,37 @@ use bpf_isa::ready::Code;
 use bpf_isa::register::Register;
 use std::test::Fail;
 
-#[test]
-fn two_slots_both_ways(rt: HostRuntime) -> Result<(), Fail> {
-    let dst = Register::new(0).ok_or("r0")?;
-    let bytes = [0x18, 0, 0, 0, 0, 0, 0, 0, 0, 0, 0, 0, 0, 0, 0, 0x80];
-    let instr = Instr::LoadImmediate {
-        dst,
+/// `lddw r0, 9223372036854775808` as bytes.
+fn wide_bytes() -> [u8; 16] {
+    [0x18, 0, 0, 0, 0, 0, 0, 0, 0, 0, 0, 0, 0, 0, 0, 0x80]
+}
+
+/// `lddw r0, 9223372036854775808`.
+fn wide_instr() -> Option<Instr> {
+    Some(Instr::LoadImmediate {
+        dst: Register::new(0)?,
         value: 0x8000_0000_0000_0000,
-    };
-    let program = decode(rt.alloc(), &bytes)?;
+    })
+}
+
+#[test]
+fn two_slots_are_read(rt: HostRuntime) -> Result<(), Fail> {
+    let program = decode(rt.alloc(), &wide_bytes())?;
     assert_eq!(rt; program.slots(), 2);
-    assert_eq!(rt; program.at(0), Some(instr));
+    assert_eq!(rt; program.at(0), wide_instr());
     assert_eq!(rt; program.at(1), None);
     assert_eq!(rt; program.at(2), None);
+    Ok(())
+}
+
+#[test]
+fn two_slots_are_written(rt: HostRuntime) -> Result<(), Fail> {
     let mut instrs = Vec::new(rt.alloc());
-    instrs.push(instr)?;
+    instrs.push(wide_instr().ok_or("r0")?)?;
     let made = Program::of(rt.alloc(), instrs)?;
     assert_eq!(rt; made.slots(), 2);
-    assert_eq!(rt; encode(rt.alloc(), &made)?.as_slice(), bytes.as_slice());
+    let bytes = encode(rt.alloc(), &made)?;
+    assert_eq!(rt; bytes.as_slice(), wide_bytes().as_slice());
     Ok(())
 }
 

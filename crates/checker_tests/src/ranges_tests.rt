@@ -305,11 +305,14 @@ fn store_byte() -> State {
     behind(&store_number(10, -8), &State::start())
 }
 
+/// What is known before a call of a local function: r1 is the context, r6 is 7, and r2 is 3.
+fn before_call() -> State {
+    behind(&put(2, 3), &behind(&put(6, 7), &store_byte()))
+}
+
 #[test]
-fn local_calls(rt: HostRuntime) {
-    // r1 stays the context, r6 is 7, and r2 is 3
-    let before = behind(&put(2, 3), &behind(&put(6, 7), &store_byte()));
-    let call = Instr::CallLocal { offset: 1 };
+fn behind_local_calls(rt: HostRuntime) {
+    let (call, before) = (Instr::CallLocal { offset: 1 }, before_call());
     assert_eq!(rt; broken(&call, &before), 0);
     let kept = behind(&call, &before);
     assert_eq!(rt; kept.values[0], number(Range::full()));
@@ -317,14 +320,16 @@ fn local_calls(rt: HostRuntime) {
     assert_eq!(rt; kept.values[2], Value::Unset);
     assert_eq!(rt; kept.values[6], number(Range::constant(7)));
     assert_eq!(rt; broken(&load(Size::Byte, 0, 10, -1), &kept), 0);
-    let entered = entry(&before);
+}
+
+#[test]
+fn inside_local_calls(rt: HostRuntime) {
+    let entered = entry(&before_call());
+    let frame = Value::Stack(StackOffset { offset: 512 });
     assert_eq!(rt; entered.values[1], Value::Unset);
     assert_eq!(rt; entered.values[2], number(Range::constant(3)));
     assert_eq!(rt; entered.values[6], Value::Unset);
-    assert_eq!(rt;
-        entered.values[10],
-        Value::Stack(StackOffset { offset: 512 })
-    );
+    assert_eq!(rt; entered.values[10], frame);
     assert_eq!(rt; broken(&load(Size::Byte, 0, 10, -1), &entered), 51);
 }
 
@@ -380,35 +385,45 @@ fn store_small(offset: i16) -> Instr {
     }
 }
 
+/// A load of the number that is spilled below the frame's end.
+fn read_back() -> Instr {
+    load(Size::Double, 0, 10, -8)
+}
+
+/// What is known where 7 is spilled there.
+fn with_spill() -> State {
+    known(&[store_number(10, -8)])
+}
+
 #[test]
 fn spills_joined(rt: HostRuntime) {
-    let spilled = known(&[store_number(10, -8)]);
-    let pointer = known(&[store(10, -8, 1)]);
-    let unset = State::start();
-    let read = load(Size::Double, 0, 10, -8);
     // numbers join as in registers, and so they are rounded
-    let other = known(&[put(2, 9), store(10, -8, 2)]);
-    let both = spilled.join(&other);
-    assert_eq!(rt;
-        behind(&read, &both).values[0],
-        number(Range { low: 7, high: 9 })
-    );
-    assert_eq!(rt;
-        behind(&read, &both.round()).values[0],
-        number(Range { low: 4, high: 15 })
-    );
+    let spilled = with_spill();
+    let both = spilled.join(&known(&[put(2, 9), store(10, -8, 2)]));
+    let joined = behind(&read_back(), &both).values[0];
+    assert_eq!(rt; joined, number(Range { low: 7, high: 9 }));
+    let rounded = behind(&read_back(), &both.round()).values[0];
+    assert_eq!(rt; rounded, number(Range { low: 4, high: 15 }));
     assert!(rt; both.contains(&spilled) && !spilled.contains(&both));
+}
+
+#[test]
+fn spills_beside_bytes(rt: HostRuntime) {
     // eight written bytes contain a spilled number, whose bytes are written
+    let spilled = with_spill();
     let written = known(&[store_number(10, -8), store_small(-8)]);
     assert!(rt; written.contains(&spilled) && !spilled.contains(&written));
-    assert_eq!(rt;
-        behind(&read, &written.join(&spilled)).values[0],
-        number(Range::full())
-    );
+    let joined = behind(&read_back(), &written.join(&spilled)).values[0];
+    assert_eq!(rt; joined, number(Range::full()));
+}
+
+#[test]
+fn spills_taken_away(rt: HostRuntime) {
     // with unset bytes, or with a pointer, the bytes are unset
-    assert_eq!(rt; broken(&read, &spilled.join(&unset)), 51);
-    assert_eq!(rt; broken(&read, &spilled.join(&pointer)), 51);
-    assert_eq!(rt; broken(&read, &pointer.join(&spilled)), 51);
+    let (spilled, pointer) = (with_spill(), known(&[store(10, -8, 1)]));
+    assert_eq!(rt; broken(&read_back(), &spilled.join(&State::start())), 51);
+    assert_eq!(rt; broken(&read_back(), &spilled.join(&pointer)), 51);
+    assert_eq!(rt; broken(&read_back(), &pointer.join(&spilled)), 51);
 }
 
 /// `jslt r0, immediate, +1`.

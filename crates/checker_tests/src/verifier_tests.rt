@@ -77,26 +77,39 @@ fn states_taken_away(rt: HostRuntime) -> Result<(), Fail> {
     let leads: [u64; 9] = [0, 0, 1, 2, 3, 4, 5, 2, 7];
     for (slot, lowest) in leads.iter().enumerate() {
         let table = without(rt.alloc(), verified.table(), slot)?;
-        assert_eq!(rt;
-            breach(&program, &shape, &table),
-            (59, *lowest),
-            "slot {slot}"
-        );
+        let found = breach(&program, &shape, &table);
+        assert_eq!(rt; found, (59, *lowest), "slot {slot}");
     }
     Ok(())
 }
 
+/// `mov64 r0, 0` and `exit`.
+fn answer_0(alloc: Global) -> Result<Program, Fail> {
+    program_of(alloc, &[(0xb7, 0, 0, 0), EXIT])
+}
+
+/// A table in which so many slots have the start.
+fn table_of_starts(alloc: Global, slots: usize) -> Result<Table, Fail> {
+    let mut states = Vec::new(alloc);
+    states.resize(slots, Some(State::start()))?;
+    Ok(Table::of(states))
+}
+
 #[test]
 fn other_tables(rt: HostRuntime) -> Result<(), Fail> {
-    // mov64 r0, 0; exit
-    let program = program_of(rt.alloc(), &[(0xb7, 0, 0, 0), EXIT])?;
+    let program = answer_0(rt.alloc())?;
     let shape = shape(rt.alloc(), &program)?;
-    let start = State::start();
-    let table = Table::of(vec![in rt.alloc(); Some(start)]?);
-    assert_eq!(rt; breach(&program, &shape, &table), (59, 0));
-    let table = Table::of(vec![in rt.alloc(); Some(start), Some(start)]?);
-    assert_eq!(rt; breach(&program, &shape, &table), (50, 1));
-    assert_eq!(rt; table.into_states().len(), 2);
+    let short = table_of_starts(rt.alloc(), 1)?;
+    assert_eq!(rt; breach(&program, &shape, &short), (59, 0));
+    let unset = table_of_starts(rt.alloc(), 2)?;
+    assert_eq!(rt; breach(&program, &shape, &unset), (50, 1));
+    assert_eq!(rt; unset.into_states().len(), 2);
+    Ok(())
+}
+
+#[test]
+fn verified_program(rt: HostRuntime) -> Result<(), Fail> {
+    let program = answer_0(rt.alloc())?;
     let verified = verify(rt.alloc(), &program, 16_384)?;
     assert_eq!(rt; verified.sectors(), 16_384);
     assert_eq!(rt; verified.program().slots(), 2);

@@ -203,30 +203,32 @@ fn passes_over_blocks_behind_a_failing_image(rt: HostRuntime) -> Result<(), Fail
     Ok(())
 }
 
+/// What one worker makes of these jobs, step by step.
+fn stepped(alloc: Global, jobs: &Jobs, events: &[Event]) -> Result<String, Fail> {
+    let mut explore = Explore::new(alloc, jobs, 1, false)?;
+    for event in events {
+        step(alloc, &mut explore, event)?;
+    }
+    told(alloc, &explore)
+}
+
 #[test]
 fn outcomes_are_taken_from_the_cache(rt: HostRuntime) -> Result<(), Fail> {
     let alloc = rt.alloc();
     let jobs = two_blocks(alloc, &[good(0), good(1)], &[failing(2)])?.ok_or("jobs")?;
     let mut gone = Vec::new(alloc);
     gone.push(1000)?;
-    let mut explore = Explore::new(alloc, &jobs, 1, false)?;
-    step(alloc, &mut explore, &Event::Draw(0))?;
-    step(alloc, &mut explore, &Event::Take(0, 0, 0))?;
-    step(
-        alloc,
-        &mut explore,
-        &Event::Put(0, Keys::of(Vec::new(alloc))),
-    )?;
-    step(alloc, &mut explore, &Event::Look(0))?;
-    step(
-        alloc,
-        &mut explore,
-        &Event::Put(0, Keys::of(Vec::new(alloc))),
-    )?;
-    step(alloc, &mut explore, &Event::Look(0))?;
-    step(alloc, &mut explore, &Event::Put(0, Keys::of(gone)))?;
-    step(alloc, &mut explore, &Event::Done(0))?;
-    let text = told(alloc, &explore)?;
+    let events = [
+        Event::Draw(0),
+        Event::Take(0, 0, 0),
+        Event::Put(0, Keys::of(Vec::new(alloc))),
+        Event::Look(0),
+        Event::Put(0, Keys::of(Vec::new(alloc))),
+        Event::Look(0),
+        Event::Put(0, Keys::of(gone)),
+        Event::Done(0),
+    ];
+    let text = stepped(alloc, &jobs, &events)?;
     assert_eq!(rt; text.as_str(), "next 1 | 0:", "both jobs are good");
     Ok(())
 }

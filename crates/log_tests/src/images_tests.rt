@@ -38,12 +38,14 @@ fn key_of<'a>(
 ) -> Result<Option<Key<'a>>, Fail>
     requires history { history.now ≡ plan.now }
 {
-    if count(plan, 1, false).is_ok_and(|counted| number < counted) {
-        let choice = nth(plan, 1, false, number);
-        Ok(history.view(alloc, &choice)?.key(alloc, program)?)
-    } else {
-        Err("no such image".into())
+    let Ok(counted) = count(plan, 1, false) else {
+        return Err("too many images".into());
+    };
+    if number >= counted {
+        return Err("no such image".into());
     }
+    let choice = nth(plan, 1, false, number);
+    Ok(history.view(alloc, &choice)?.key(alloc, program)?)
 }
 
 /// An image, a program, and how many sectors the key of both has.
@@ -51,6 +53,14 @@ type Told = (u64, u8, usize);
 
 /// Two of them, and whether their keys are equal.
 type Pair = (Told, Told, bool);
+
+/// Whether a key is of that program, and has so many sectors.
+fn check_told(rt: &impl Abort, key: &Key<'_>, told: Told) -> Result<(), Fail> {
+    let (number, program, changed) = told;
+    assert_eq!(rt; key.program(), program);
+    assert_eq!(rt; key.changed().len(), changed, "image {number}");
+    Ok(())
+}
 
 fn told_key<'a>(
     alloc: Global,
@@ -61,12 +71,10 @@ fn told_key<'a>(
 ) -> Result<Key<'a>, Fail>
     requires history { history.now ≡ plan.now }
 {
-    let (number, program, changed) = told;
-    let Some(key) = key_of(alloc, plan, history, number, program)? else {
+    let Some(key) = key_of(alloc, plan, history, told.0, told.1)? else {
         return Err("no key".into());
     };
-    assert_eq!(rt; key.program(), program);
-    assert_eq!(rt; key.changed().len(), changed, "image {number}");
+    check_told(rt, &key, told)?;
     Ok(key)
 }
 
@@ -92,7 +100,7 @@ fn check_pair(
 fn check_pairs(rt: &impl Abort, alloc: Global, items: &[Item], pairs: &[Pair]) -> Result<(), Fail> {
     let text = text_of(alloc, items)?;
     let log = read(alloc, &text, SECTORS)?;
-    let plan = Plan::new(alloc, &log, Cuts::All, By::Sector)?;
+    let plan = Plan::new(alloc, &log, Cuts::ALL, By::Sector)?;
     let history = History::new(alloc, &plan, &log)?;
     for pair in pairs {
         check_pair(rt, alloc, &plan, &history, *pair)?;
@@ -164,7 +172,7 @@ fn check_many(
 {
     let text = text_of(alloc, &[(first, written, 0, 0xaa)])?;
     let log = read(alloc, &text, sectors)?;
-    let plan = Plan::new(alloc, &log, Cuts::All, By::Sector)?;
+    let plan = Plan::new(alloc, &log, Cuts::ALL, By::Sector)?;
     let history = History::new(alloc, &plan, &log)?;
     let key = key_of(alloc, &plan, &history, 1, 0)?;
     let Some(key) = key else {
@@ -202,7 +210,7 @@ fn shard_of(alloc: Global, at: u16, program: u8) -> Result<Option<u8>, Fail> {
         *byte = 1;
     }
     let log = read(alloc, &text, SECTORS)?;
-    let plan = Plan::new(alloc, &log, Cuts::All, By::Sector)?;
+    let plan = Plan::new(alloc, &log, Cuts::ALL, By::Sector)?;
     let history = History::new(alloc, &plan, &log)?;
     Ok(key_of(alloc, &plan, &history, 1, program)?.map(|key| key.shard()))
 }
@@ -213,6 +221,15 @@ fn shards_sum_mixes(rt: HostRuntime) -> Result<(), Fail> {
     for (at, program, shard) in [(504, 0, 4), (496, 0, 6), (440, 0, 6), (504, 13, 1)] {
         assert_eq!(rt; shard_of(rt.alloc(), at, program)?, Some(shard));
     }
+    Ok(())
+}
+
+/// Whether a copy of an image's key is the same, and one for another program that of the view.
+fn check_copy(rt: &impl Abort, alloc: Global, view: &View<'_>, key: &Key<'_>) -> Result<(), Fail> {
+    let mut copy = key.copy(alloc)?;
+    assert!(rt; copy == *key);
+    copy.set_program(3);
+    assert!(rt; Some(copy) == view.key(alloc, 3)?);
     Ok(())
 }
 
@@ -231,14 +248,10 @@ fn check_kept_key<'a>(
     let own = view.key(alloc, 0)?;
     let kept = changes.key(alloc, view)?;
     assert!(rt; own == kept, "image {number}");
-    let Some(key) = kept else {
-        return Ok(());
-    };
-    let mut copy = key.copy(alloc)?;
-    assert!(rt; copy == key, "image {number}");
-    copy.set_program(3);
-    assert!(rt; Some(copy) == view.key(alloc, 3)?, "image {number}");
-    Ok(())
+    match kept {
+        Some(key) => check_copy(rt, alloc, view, &key),
+        None => Ok(()),
+    }
 }
 
 /// Compares the keys of so many images, in their order and back.
@@ -266,7 +279,7 @@ fn compare_keys(
 fn check_kept_keys(rt: &impl Abort, alloc: Global, items: &[Item]) -> Result<u64, Fail> {
     let text = text_of(alloc, items)?;
     let log = read(alloc, &text, SECTORS)?;
-    let plan = Plan::new(alloc, &log, Cuts::All, By::Sector)?;
+    let plan = Plan::new(alloc, &log, Cuts::ALL, By::Sector)?;
     let history = History::new(alloc, &plan, &log)?;
     let Ok(total) = count(&plan, 2, true) else {
         return Err("too many images".into());

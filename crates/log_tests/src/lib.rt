@@ -4,7 +4,7 @@
 //!
 //! A crate with tests of its own is proved twice, so they stand here, over the finished work of the
 //! others. Each file has the tests of one crate; `log_text` builds the texts of logs that several of them
-//! read. This crate has no code but tests.
+//! read, and `whole_runs` makes the runs that several of them make. This crate has no code but tests.
 #![tactic(auto)]
 
 #[cfg(test)]
@@ -23,5 +23,7 @@ mod shares_tests;
 mod stealing_tests;
 #[cfg(test)]
 mod verdict_cache_tests;
+#[cfg(test)]
+mod whole_runs;
 #[cfg(test)]
 mod workers_tests;

@@ -1,12 +1,8 @@
 //! A run by two workers, whose order of blocks is replayed as events of `explore_core`.
 
 use crate::log_text::{FLUSH, text_of};
-use bpf_isa::codec::decode;
-use checker::Checker;
-use choices::{Starts, count};
-use epochs::{By, Cuts, Plan};
+use crate::whole_runs::{Way, work_of};
 use explore_core::{Event, Explore, Found, Job, Jobs, run};
-use images::History;
 use lines::Lines;
 use logfmt::read;
 use std::alloc::{AllocError, Global};
@@ -15,7 +11,7 @@ use std::sync::atomic::{AtomicU64, Ordering};
 use std::test::Fail;
 use std::thread;
 use std::thread::Threads;
-use workers::{Gate, Input, explore_all};
+use workers::Gate;
 
 /// How many images there are, in four blocks.
 const IMAGES: u64 = 256;
@@ -103,27 +99,12 @@ fn judged<R: Threads + Wait + Sync>(
 ) -> Result<Lines, Fail> {
     let bytes = text_of(alloc, &[(0, 0, FLUSH, 0); 255])?;
     let log = read(alloc, bytes.as_slice(), 1).ok().ok_or("a log")?;
-    let plan = Plan::new(alloc, &log, Cuts::All, By::Sector)?;
-    let history = History::new(alloc, &plan, &log)?;
-    let program = decode(alloc, &BY_70).ok().ok_or("a program")?;
-    let checkers = [Checker::limited(&program, 3)];
-    let images = count(&plan, 0, false).ok().ok_or("few images")?;
-    let starts = Starts::new(alloc, &plan, 0, false)?;
-    let input = Input::new(
-        &plan,
-        &starts,
-        &history,
-        &checkers,
-        By::Sector,
-        0,
-        false,
-        2,
-        0,
-        false,
-        images,
-    );
-    let work = explore_all(rt, alloc, gate, &input).ok().ok_or("work")?;
-    Ok(work.lines)
+    let way = Way {
+        workers: 2,
+        cache: 0,
+        first: false,
+    };
+    Ok(work_of(rt, alloc, gate, &log, &BY_70, &way)?.lines)
 }
 
 /// The jobs of that run: image n is of epoch n.

@@ -4,8 +4,9 @@ ghost use Rattle.std.specs.Prelude.{◌≡◌, ◌<◌, [], ◌∷◌, IfOk};
 
 use base::causes::WorkCause;
 use base::refusal::Refusal;
-use shares::{Board, Deal, Seat, hands};
+use shares::{Board, Deal, Hand, Seat, hands};
 use std::alloc::{AllocError, Global};
+use std::process::Abort;
 use std::test::Fail;
 
 /// Accepts what threads may share.
@@ -101,6 +102,24 @@ impl Deal for Eight {
     ghost blocks = { 8 };
 }
 
+/// Takes the blocks that are wanted by a hand, one after the other.
+fn check_takes(
+    rt: &impl Abort,
+    board: &Board,
+    seat: &mut Seat,
+    hand: &mut Hand<Eight>,
+    wanted: &[Option<u32>],
+) -> Result<(), Fail>
+    requires board { seat.old.board ≡ board.now.name }
+    requires blocks { board.now.name.blocks ≡ 8 }
+    ensures { seat.new.board ≡ board.now.name }
+{
+    for block in wanted {
+        assert_eq!(rt; hand.take(board, seat), *block);
+    }
+    Ok(())
+}
+
 #[test]
 fn hands_draw_ahead_and_steal(rt: HostRuntime) -> Result<(), Fail> {
     let (board, mut first, mut second) = board_of(rt.alloc(), 8)?;
@@ -108,20 +127,22 @@ fn hands_draw_ahead_and_steal(rt: HostRuntime) -> Result<(), Fail> {
     let mut own = both.next().ok_or("a first hand")?;
     let mut other = both.next().ok_or("a second hand")?;
     handed_over(&own);
-    assert_eq!(rt; own.take(&board, &mut first), Some(0));
+    check_takes(&rt, &board, &mut first, &mut own, &[Some(0)])?;
     assert_eq!(rt;
         board.left(&mut second),
         4,
         "three more blocks are drawn for later"
     );
-    assert_eq!(rt; other.take(&board, &mut second), Some(4));
-    assert_eq!(rt; other.take(&board, &mut second), Some(5));
-    assert_eq!(rt; other.take(&board, &mut second), Some(6));
-    assert_eq!(rt; other.take(&board, &mut second), Some(7));
-    assert_eq!(rt; other.take(&board, &mut second), Some(1));
-    assert_eq!(rt; other.take(&board, &mut second), Some(2));
-    assert_eq!(rt; other.take(&board, &mut second), Some(3));
-    assert_eq!(rt; other.take(&board, &mut second), None);
-    assert_eq!(rt; own.take(&board, &mut first), None);
-    Ok(())
+    let stolen = [
+        Some(4),
+        Some(5),
+        Some(6),
+        Some(7),
+        Some(1),
+        Some(2),
+        Some(3),
+    ];
+    check_takes(&rt, &board, &mut second, &mut other, &stolen)?;
+    check_takes(&rt, &board, &mut second, &mut other, &[None])?;
+    check_takes(&rt, &board, &mut first, &mut own, &[None])
 }

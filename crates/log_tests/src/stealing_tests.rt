@@ -3,11 +3,7 @@
 ghost use Rattle.std.specs.Prelude.{◌≤◌};
 
 use crate::log_text::{FLUSH, text_of};
-use bpf_isa::codec::decode;
-use checker::Checker;
-use choices::{Starts, count};
-use epochs::{By, Cuts, Plan};
-use images::History;
+use crate::whole_runs::{Way, work_of};
 use logfmt::read;
 use std::alloc::Global;
 use std::sync::Wait;
@@ -15,7 +11,7 @@ use std::sync::atomic::{AtomicU64, Ordering};
 use std::test::Fail;
 use std::thread;
 use std::thread::Threads;
-use workers::{Gate, Input, explore_all};
+use workers::Gate;
 
 /// Answers 1: `mov64 r0, 1; exit`.
 const ANSWER_1: [u8; 16] = [0xb7, 0, 0, 0, 1, 0, 0, 0, 0x95, 0, 0, 0, 0, 0, 0, 0];
@@ -82,27 +78,12 @@ fn failing<R: Threads + Wait + Sync>(
 {
     let bytes = text_of(alloc, &[(0, 0, FLUSH, 0); 511])?;
     let log = read(alloc, bytes.as_slice(), 1).ok().ok_or("a log")?;
-    let plan = Plan::new(alloc, &log, Cuts::All, By::Sector)?;
-    let history = History::new(alloc, &plan, &log)?;
-    let program = decode(alloc, &ANSWER_1).ok().ok_or("a program")?;
-    let checkers = [Checker::limited(&program, 3)];
-    let images = count(&plan, 0, false).ok().ok_or("few images")?;
-    let starts = Starts::new(alloc, &plan, 0, false)?;
-    let input = Input::new(
-        &plan,
-        &starts,
-        &history,
-        &checkers,
-        By::Sector,
-        0,
-        false,
+    let way = Way {
         workers,
-        0,
-        false,
-        images,
-    );
-    let work = explore_all(rt, alloc, gate, &input).ok().ok_or("work")?;
-    Ok(work.lines.len())
+        cache: 0,
+        first: false,
+    };
+    Ok(work_of(rt, alloc, gate, &log, &ANSWER_1, &way)?.lines.len())
 }
 
 #[test]

@@ -50,29 +50,31 @@ fn ended_on(view: &View<'_>, checker: &Checker<'_>) -> Outcome
     checker.judge(&view.context(), view)
 }
 
+/// A run: its plan, the history of the plan, and its checkers.
+#[derive(Drop)]
+struct Small<'a> {
+    plan: &'a Plan<'a>,
+    history: &'a History<'a>,
+    checkers: &'a [Checker<'a>],
+    pub ghost history_is: { history.now ≡ plan.now },
+}
+
 /// The key of a work, and what its checker ends in, which has a limit.
-fn judged<'a>(
-    alloc: Global,
-    plan: &Plan<'_>,
-    history: &'a History<'_>,
-    checkers: &[Checker<'_>],
-    work: Work,
-) -> Result<(Key<'a>, Outcome), Fail>
-    requires history { history.now ≡ plan.now }
-    ensures { IfOk result (λ own. IsEndingOf plan.now checkers.now own.0 (ending_of own.1)) }
+fn judged<'a>(alloc: Global, run: &Small<'a>, work: Work) -> Result<(Key<'a>, Outcome), Fail>
+    ensures { IfOk result (λ own. IsEndingOf run.now.plan.now run.now.checkers.now own.0 (ending_of own.1)) }
 {
     one_image_tells();
     let (image, program) = work;
-    if !count(plan, 1, false).is_ok_and(|counted| image < counted) {
+    if !count(run.plan, 1, false).is_ok_and(|counted| image < counted) {
         return Err("an image".into());
     }
-    let Some(checker) = checkers.get(usize::from(program)) else {
+    let Some(checker) = run.checkers.get(usize::from(program)) else {
         return Err("a checker".into());
     };
     if checker.is_verified() {
         return Err("a checker with a limit".into());
     }
-    let view = history.view(alloc, &nth(plan, 1, false, image))?;
+    let view = run.history.view(alloc, &nth(run.plan, 1, false, image))?;
     let Some(key) = view.key(alloc, program)? else {
         return Err("a key".into());
     };
@@ -99,26 +101,23 @@ enum Call {
 fn check_calls<J: Run, R: Abort>(
     rt: &R,
     alloc: Global,
-    plan: &Plan<'_>,
-    history: &History<'_>,
-    checkers: &[Checker<'_>],
+    run: &Small<'_>,
     size: u32,
     calls: &[Call],
 ) -> Result<u64, Fail>
-    requires plan { plan.now ≡ J.plan }
-    requires history { history.now ≡ J.plan }
-    requires checkers { checkers.now ≡ J.checkers }
+    requires plan { run.now.plan.now ≡ J.plan }
+    requires checkers { run.now.checkers.now ≡ J.checkers }
     requires size { size ≡ J.size }
 {
     let mut shard: Shard<'_, J> = Shard::new(alloc, size, 0)?;
     for call in calls {
         match *call {
             Call::Put(work, kept) => {
-                let (key, outcome) = judged(alloc, plan, history, checkers, work)?;
+                let (key, outcome) = judged(alloc, run, work)?;
                 assert_eq!(rt; shard.put(key, outcome), kept);
             }
             Call::Look(work, number) => {
-                let (key, _outcome) = judged(alloc, plan, history, checkers, work)?;
+                let (key, _outcome) = judged(alloc, run, work)?;
                 assert_eq!(rt; number_of(shard.look(&key)), number);
             }
         }
@@ -127,22 +126,15 @@ fn check_calls<J: Run, R: Abort>(
 }
 
 /// How many of two entries a shard takes.
-fn room_of<'a, J: Run>(
-    alloc: Global,
-    plan: &Plan<'_>,
-    history: &'a History<'_>,
-    checkers: &[Checker<'_>],
-    mut shard: Shard<'a, J>,
-) -> Result<u8, Fail>
-    requires plan { plan.now ≡ J.plan }
-    requires history { history.now ≡ J.plan }
-    requires checkers { checkers.now ≡ J.checkers }
+fn room_of<'a, J: Run>(alloc: Global, run: &Small<'a>, mut shard: Shard<'a, J>) -> Result<u8, Fail>
+    requires plan { run.now.plan.now ≡ J.plan }
+    requires checkers { run.now.checkers.now ≡ J.checkers }
 {
-    let (zeros, outcome) = judged(alloc, plan, history, checkers, ZEROS)?;
+    let (zeros, outcome) = judged(alloc, run, ZEROS)?;
     if shard.put(zeros, outcome) == Kept::Off {
         return Ok(0);
     }
-    let (written, outcome) = judged(alloc, plan, history, checkers, WRITTEN)?;
+    let (written, outcome) = judged(alloc, run, WRITTEN)?;
     Ok(if shard.put(written, outcome) == Kept::Evicted {
         1
     } else {
@@ -156,19 +148,16 @@ fn can_be_shared<T: Sync>(_shards: &[T]) {}
 fn check_rooms<'a, J: Run + Send + Sync, R: Abort>(
     rt: &R,
     alloc: Global,
-    plan: &Plan<'_>,
-    history: &'a History<'_>,
-    checkers: &[Checker<'_>],
+    run: &Small<'a>,
     size: u32,
     rooms: (usize, u8, u8),
 ) -> Result<(), Fail>
-    requires plan { plan.now ≡ J.plan }
-    requires history { history.now ≡ J.plan }
-    requires checkers { checkers.now ≡ J.checkers }
+    requires plan { run.now.plan.now ≡ J.plan }
+    requires checkers { run.now.checkers.now ≡ J.checkers }
     requires size { (size ≡ J.size) × (size ≤ 65536) }
 {
     let (first, room_of_first, room_of_others) = rooms;
-    let shards: Vec<Mutex<Shard<'a, J>>> = shards(alloc, history, checkers, size)?;
+    let shards: Vec<Mutex<Shard<'a, J>>> = shards(alloc, run.history, run.checkers, size)?;
     can_be_shared(shards.as_slice());
     assert_eq!(rt; shards.len(), 16);
     let mut number = 0usize;
@@ -178,7 +167,7 @@ fn check_rooms<'a, J: Run + Send + Sync, R: Abort>(
         } else {
             room_of_others
         };
-        let room = room_of(alloc, plan, history, checkers, shard.into_inner())?;
+        let room = room_of(alloc, run, shard.into_inner())?;
         assert_eq!(rt; room, wanted, "shard {number}");
         number = number.saturating_add(1);
     }
@@ -188,11 +177,16 @@ fn check_rooms<'a, J: Run + Send + Sync, R: Abort>(
 /// Makes calls of the empty first shard of a cache of that size, in a run of two programs.
 fn check_run<R: Abort>(rt: &R, alloc: Global, size: u32, calls: &[Call]) -> Result<u64, Fail> {
     let log = one_write(alloc)?;
-    let plan = Plan::new(alloc, &log, Cuts::All, By::Sector)?;
+    let plan = Plan::new(alloc, &log, Cuts::ALL, By::Sector)?;
     let history = History::new(alloc, &plan, &log)?;
     let program = decode(alloc, &ANSWER_1).ok().ok_or("a program")?;
     let checkers = [Checker::limited(&program, 2), Checker::limited(&program, 1)];
-    check_calls::<Brand, R>(rt, alloc, &plan, &history, &checkers, size, calls)
+    let run = Small {
+        plan: &plan,
+        history: &history,
+        checkers: &checkers,
+    };
+    check_calls::<Brand, R>(rt, alloc, &run, size, calls)
 }
 
 #[test]
@@ -244,11 +238,16 @@ fn check_size<R: Abort>(
     requires { size ≤ 65536 }
 {
     let log = one_write(alloc)?;
-    let plan = Plan::new(alloc, &log, Cuts::All, By::Sector)?;
+    let plan = Plan::new(alloc, &log, Cuts::ALL, By::Sector)?;
     let history = History::new(alloc, &plan, &log)?;
     let program = decode(alloc, &ANSWER_1).ok().ok_or("a program")?;
     let checkers = [Checker::limited(&program, 2)];
-    check_rooms::<Brand, R>(rt, alloc, &plan, &history, &checkers, size, rooms)
+    let run = Small {
+        plan: &plan,
+        history: &history,
+        checkers: &checkers,
+    };
+    check_rooms::<Brand, R>(rt, alloc, &run, size, rooms)
 }
 
 #[test]

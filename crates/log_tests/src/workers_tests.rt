@@ -6,6 +6,7 @@ ghost use Rattle.workers.specs.Input.{IsRunOf};
 ghost use Rattle.workers.specs.Pieces.{block_count};
 
 use crate::log_text::{FLUSH, text_of};
+use crate::whole_runs::{Way, work_of};
 use base::refusal::Refusal;
 use bpf_isa::codec::decode;
 use checker::Checker;
@@ -19,7 +20,7 @@ use std::sync::{Mutex, Wait};
 use std::test::Fail;
 use std::thread::Threads;
 use verdict_cache::{Run, Shard, shards};
-use workers::{Input, OpenGate, Piece, collect, explore_all, judge_block};
+use workers::{Asked, Input, OpenGate, Piece, collect, judge_block};
 
 /// Answers 1.
 const ANSWER_1: [u8; 16] = [0xb7, 0, 0, 0, 1, 0, 0, 0, 0x95, 0, 0, 0, 0, 0, 0, 0];
@@ -77,7 +78,7 @@ fn pieces_of<'a, J: Run, R: Wait>(
     Ok(pieces)
 }
 
-/// What the pieces of these blocks are collected to: the number of a refusal and its place, or 0 and
+/// What the pieces of these blocks are collected to, with a cache of 16 entries: the number of a refusal and its place, or 0 and
 /// whether there is a line.
 fn collected_by<'a, J: Run, R: Wait>(
     rt: &R,
@@ -85,15 +86,14 @@ fn collected_by<'a, J: Run, R: Wait>(
     input: &Input<'a>,
     history: &'a History<'a>,
     checkers: &[Checker<'_>],
-    cache: u32,
     blocks: &[(u32, Option<u64>)],
 ) -> Result<(u8, u64), Fail>
     requires run { IsRunOf J.plan J.checkers input.now }
     requires history { history.now ≡ J.plan }
     requires checkers { checkers.now ≡ J.checkers }
-    requires cache { (cache ≡ J.size) × (cache ≤ 65536) }
+    requires cache { 16 ≡ J.size }
 {
-    let shards: Vec<Mutex<Shard<'a, J>>> = shards(alloc, history, checkers, cache)?;
+    let shards: Vec<Mutex<Shard<'a, J>>> = shards(alloc, history, checkers, 16)?;
     let pieces = pieces_of(rt, alloc, input, shards.as_slice(), blocks)?;
     match collect(alloc, pieces, input.block_count()) {
         Ok(lines) => Ok((0, if lines.is_empty() { 0 } else { 1 })),
@@ -101,7 +101,7 @@ fn collected_by<'a, J: Run, R: Wait>(
     }
 }
 
-/// The same of a run of one program, with a cache of 16 entries.
+/// The same of a run of one program.
 fn collected<R: Wait>(
     rt: &R,
     alloc: Global,
@@ -109,7 +109,7 @@ fn collected<R: Wait>(
     blocks: &[(u32, Option<u64>)],
 ) -> Result<(u8, u64), Fail> {
     let log = flushes(alloc)?;
-    let plan = Plan::new(alloc, &log, Cuts::All, By::Sector)?;
+    let plan = Plan::new(alloc, &log, Cuts::ALL, By::Sector)?;
     let history = History::new(alloc, &plan, &log)?;
     let program = decode(alloc, program).ok().ok_or("a program")?;
     let checkers = [Checker::limited(&program, 3)];
@@ -121,14 +121,16 @@ fn collected<R: Wait>(
         &history,
         &checkers,
         By::Sector,
-        0,
-        false,
-        2,
-        16,
-        true,
-        images,
+        Asked {
+            bound: 0,
+            tears: false,
+            first: true,
+            workers: 2,
+            cache: 16,
+            images,
+        },
     );
-    collected_by::<Brand, R>(rt, alloc, &input, &history, &checkers, 16, blocks)
+    collected_by::<Brand, R>(rt, alloc, &input, &history, &checkers, blocks)
 }
 
 fn numbered(refusal: &Refusal) -> u8 {
@@ -187,36 +189,25 @@ fn explored<R: Threads + Wait + Sync>(
     alloc: Global,
     log: &Log,
     program: &[u8],
-    workers: u8,
-    cache: u32,
-    first: bool,
+    way: Way,
 ) -> Result<(bool, u64), Fail>
-    requires workers { (1 ≤ workers) × (workers ≤ 64) }
-    requires cache { cache ≤ 65536 }
+    requires workers { (1 ≤ way.workers) × (way.workers ≤ 64) }
+    requires cache { way.cache ≤ 65536 }
 {
-    let plan = Plan::new(alloc, log, Cuts::All, By::Sector)?;
-    let history = History::new(alloc, &plan, log)?;
-    let program = decode(alloc, program).ok().ok_or("a program")?;
-    let checkers = [Checker::limited(&program, 3)];
-    let images = count(&plan, 0, false).ok().ok_or("few images")?;
-    let starts = Starts::new(alloc, &plan, 0, false)?;
-    let input = Input::new(
-        &plan,
-        &starts,
-        &history,
-        &checkers,
-        By::Sector,
-        0,
-        false,
+    let work = work_of(rt, alloc, &OpenGate, log, program, &way)?;
+    Ok((!work.lines.is_empty(), work.hits))
+}
+
+/// By so many workers, who keep so many outcomes.
+fn way(workers: u8, cache: u32, first: bool) -> Way
+    ensures workers { result.workers ≡ workers }
+    ensures cache { result.cache ≡ cache }
+{
+    Way {
         workers,
         cache,
         first,
-        images,
-    );
-    let work = explore_all(rt, alloc, &OpenGate, &input)
-        .ok()
-        .ok_or("work")?;
-    Ok((!work.lines.is_empty(), work.hits))
+    }
 }
 
 #[test]
@@ -224,10 +215,10 @@ fn explores_for_all_and_for_the_first(rt: HostRuntime) -> Result<(), Fail> {
     let alloc = rt.alloc();
     let log = flushes(alloc)?;
     for first in [false, true] {
-        let (fails, hits) = explored(&rt, alloc, &log, &ANSWER_1, 1, 0, first)?;
+        let (fails, hits) = explored(&rt, alloc, &log, &ANSWER_1, way(1, 0, first))?;
         assert!(rt; fails);
         assert_eq!(rt; hits, 0);
-        let (fails, hits) = explored(&rt, alloc, &log, &FROM_70, 4, 65_536, first)?;
+        let (fails, hits) = explored(&rt, alloc, &log, &FROM_70, way(4, 65_536, first))?;
         assert!(rt; fails);
         assert_eq!(rt; hits, 0);
     }
@@ -239,12 +230,12 @@ fn cache_is_asked_where_a_block_is_judged(rt: HostRuntime) -> Result<(), Fail> {
     let alloc = rt.alloc();
     let bytes = text_of(alloc, &[(0, 1, 0, 0); 70])?;
     let log = read(alloc, bytes.as_slice(), 1).ok().ok_or("a log")?;
-    let (_fails, hits) = explored(&rt, alloc, &log, &ANSWER_1, 1, 65_536, false)?;
+    let (_fails, hits) = explored(&rt, alloc, &log, &ANSWER_1, way(1, 65_536, false))?;
     assert_eq!(rt; hits, 70);
-    let (_fails, hits) = explored(&rt, alloc, &log, &ANSWER_1, 1, 0, false)?;
+    let (_fails, hits) = explored(&rt, alloc, &log, &ANSWER_1, way(1, 0, false))?;
     assert_eq!(rt; hits, 0);
     // The second block lies behind image 0, and is passed over.
-    let (fails, hits) = explored(&rt, alloc, &log, &ANSWER_1, 1, 65_536, true)?;
+    let (fails, hits) = explored(&rt, alloc, &log, &ANSWER_1, way(1, 65_536, true))?;
     assert!(rt; fails);
     assert_eq!(rt; hits, 63);
     Ok(())

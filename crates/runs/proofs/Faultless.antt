@@ -7,6 +7,7 @@ use Rattle.checker.specs.Checker.{CheckerValue}
 use Rattle.workers.specs.Failing.{Subject}
 use Rattle.workers.specs.Safe.{IsAcceptedFor, AcceptedCheckersRunSafely}
 use Rattle.workers.proofs.Sets.{listed}
+use Rattle.request.proofs.Logs.{bounds_of, device_of}
 use Rattle.request.specs.declared.settings.Settings.{Settings}
 use Rattle.runs.specs.Programs.{IsRunWithin}
 use Rattle.request.specs.Source.{HasImages}
@@ -29,10 +30,10 @@ accepted_all s (bytes ∷ files) (d ∷ checkers) (suc n) c made free there = ac
 pub faultless : AcceptedCheckersRunSafely → (text : List ℕ) (s : Settings) (files : List (List ℕ)) (log : LogValue) (checkers : List CheckerValue) → HasImages text s log
     → AreCheckersOf s files checkers → s.checked ≡ None → IsFaultless (subject_of s log checkers)
 faultless sound text s files log checkers source made free =
-    let is : IsLog log = source.reads.of_log.bounds in
+    let is : IsLog log = bounds_of text s log source.reads in
     let subject : Subject = subject_of s log checkers in
     let accepted : (n : ℕ) (c : CheckerValue) → slice_get checkers n ≡ Some c → IsAcceptedFor subject c =
-    λ n c there. subst (λ sectors. IsAccepted c.program sectors c.limit) (sym source.reads.device) (accepted_all s files checkers n c made free there) in
+    λ n c there. subst (λ sectors. IsAccepted c.program sectors c.limit) (sym (device_of text s log source.reads)) (accepted_all s files checkers n c made free there) in
     record {
       runs = λ n c there. sound.images subject c is (accepted n c there);
       lines = λ i l there.

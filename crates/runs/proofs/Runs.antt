@@ -13,8 +13,8 @@ use Rattle.runs.specs.Why.{Tells, IsTold}
 use Rattle.runs.specs.Explore.{Refuses, for_source, AreCheckersOf, subject_of, report_of, IsProgramCount, IsReport}
 use Rattle.runs.proofs.Faultless.{faultless}
 
-pub of_log : (text : List ℕ) (files : List (List ℕ)) (s : Settings) (sectors : ℕ) (r : Refusal) → IsProgramCount (length files) → sectors ≡ s.sectors → RefusesLog text sectors r → Refuses text files s r
-of_log text files s sectors r count e h = for_source r count (for_log r (rw (← e) h))
+pub of_log : (text : List ℕ) (files : List (List ℕ)) (s : Settings) (r : Refusal) → IsProgramCount (length files) → RefusesLog text s r → Refuses text files s r
+of_log text files s r count h = for_source r count (for_log r h)
 
 -- the report of a run
 pub reported : AcceptedCheckersRunSafely → (text : List ℕ) (files : List (List ℕ)) (s : Settings) (log : LogValue) (checkers now : List CheckerValue) (bytes : List ℕ) (failing : Bool)

@@ -30,7 +30,9 @@ use std::alloc::{AllocError, Global};
 use std::sync::Wait;
 use std::thread::Threads;
 use verifier::verify;
-use workers::{Gate, Input, OpenGate, accepted_checkers_run_safely, explore_all, lines_are_set};
+use workers::{
+    Asked, Gate, Input, OpenGate, accepted_checkers_run_safely, explore_all, lines_are_set,
+};
 
 /// What a run answers.
 #[derive(Drop)]
@@ -304,12 +306,14 @@ fn judged<'x, G: Gate + Sync, R: Threads + Wait + Sync>(
         &history,
         &*checkers,
         options.by(),
-        bound,
-        tears,
-        options.workers(),
-        options.cache(),
-        first,
-        images,
+        Asked {
+            bound,
+            tears,
+            first,
+            workers: options.workers(),
+            cache: options.cache(),
+            images,
+        },
     );
     let work = explore_all(rt, alloc, gate, &input)?;
     let findings = Findings {
@@ -360,7 +364,7 @@ pub fn run_with<G: Gate + Sync, R: Threads + Wait + Sync>(
     if !is_program_count(programs.len()) {
         return Err(option_refusal_of(OptionPlace::Programs));
     }
-    let log = read_log(alloc, question.log, options.sectors())?;
+    let log = read_log(alloc, question.log, options)?;
     let (plan, images) = planned(alloc, &log, options)?;
     let decoded = decode_all(alloc, programs)?;
     let checkers = checkers_of(alloc, decoded.programs.as_slice(), options)?;

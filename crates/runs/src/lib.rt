@@ -37,7 +37,7 @@
 //! # Example
 //!
 //! ```text
-//! let options = Options::new(&Settings { sectors: 1, cuts: Cuts::All, bound: 0, .. })?;
+//! let options = Options::new(&Settings { sectors: 1, cuts: Cuts::ALL, bound: 0, .. })?;
 //! let report = explore(rt, alloc, log, programs, &options)?;
 //! // crash report 2
 //! // sectors 1 entries 0 cuts all bound 0 tears no first no

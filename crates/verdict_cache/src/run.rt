@@ -21,10 +21,10 @@ pub trait Run {
 
 impl Run for Brand {
     ghost use Rattle.std.specs.Prelude.{[]};
-    ghost use Rattle.epochs.specs.declared.cuts.Cuts.TheVariants.{All};
+    ghost use Rattle.epochs.specs.Cuts.{all_cuts};
     ghost use Rattle.epochs.specs.declared.part.By.TheVariants.{Sector};
 
-    ghost plan = { record { log = record { sectors = 0; entries = [] }; kind = All; by = Sector } };
+    ghost plan = { record { log = record { sectors = 0; entries = [] }; kind = all_cuts; by = Sector } };
 
     ghost checkers = { [] };
 

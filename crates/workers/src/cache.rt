@@ -7,13 +7,15 @@ ghost use Rattle.verdict_cache.specs.Endings.{IsEndingOf};
 
 use images::Key;
 use interp::Outcome;
+use std::alloc::Global;
 use std::marker::Model;
 use std::sync::{Mutex, Wait};
 use verdict_cache::{Run, Shard};
 
-/// The sixteen shards of the cache of a run.
+/// The sixteen shards of the cache of a run, and where memory is taken.
 #[derive(Drop)]
 pub(crate) struct Shards<'b, 'a, J: Run> {
+    alloc: Global,
     locks: &'b [Mutex<Shard<'a, J>>],
 }
 
@@ -36,10 +38,15 @@ pub(crate) struct Numbered<'b, 'a, J: Run> {
 
 impl<'b, 'a, J: Run> Shards<'b, 'a, J> {
     /// The shards, by their numbers.
-    pub(crate) fn new(locks: &'b [Mutex<Shard<'a, J>>]) -> Shards<'b, 'a, J>
+    pub(crate) fn new(alloc: Global, locks: &'b [Mutex<Shard<'a, J>>]) -> Shards<'b, 'a, J>
         requires { length locks.now ≡ 16 }
     {
-        Shards { locks }
+        Shards { alloc, locks }
+    }
+
+    /// Where memory is taken.
+    pub(crate) fn alloc(&self) -> Global {
+        self.alloc
     }
 
     /// The shard of that number.

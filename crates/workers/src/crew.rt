@@ -12,6 +12,7 @@ use crate::gate::Gate;
 use crate::input::Input;
 use crate::piece::Piece;
 use crate::taking::pieces_taken;
+use crate::worker::Worker;
 use shares::{Board, Deal, Hand, Seat, hands};
 use std::alloc::{AllocError, Global};
 use std::sync::Wait;
@@ -63,7 +64,6 @@ impl<H: Deal> Job<H> {
     fn done<'a, J: Run, G: Gate, R: Wait>(
         self,
         rt: &R,
-        alloc: Global,
         gate: &G,
         input: &Input<'a>,
         shards: &Shards<'_, 'a, J>,
@@ -80,9 +80,13 @@ impl<H: Deal> Job<H> {
             mut seat,
             mut hand,
         } = self;
-        let pieces = pieces_taken(
-            rt, alloc, gate, input, shards, board, worker, &mut seat, &mut hand,
-        );
+        let own = Worker {
+            input: &*input,
+            shards: &*shards,
+            gate: &*gate,
+            number: worker,
+        };
+        let pieces = pieces_taken(rt, &own, board, &mut seat, &mut hand);
         Done { seat, pieces }
     }
 }
@@ -96,7 +100,6 @@ fn all_done<
     R: Threads + Wait + Sync,
 >(
     rt: &R,
-    alloc: Global,
     gate: &G,
     input: &Input<'a>,
     shards: &Shards<'_, 'a, J>,
@@ -116,7 +119,7 @@ fn all_done<
             requires { IsRunOf J.plan J.checkers input.now × (board.now.name.blocks ≡ block_count input.now) × (H.blocks ≡ block_count input.now)
                 × (job.seat.board ≡ board.now.name) × (job.seat.steps ≡ []) × (job.hand ≡ hand_value [] [] []) }
             ensures { IsDone input.entry.now board.entry.now.name result }
-        { job.done(rt, alloc, gate, input, shards, board) },
+        { job.done(rt, gate, input, shards, board) },
     )
 }
 
@@ -172,7 +175,7 @@ pub(crate) fn crew_back<
     let crew = input.crew();
     let (board, seats) = Board::new(alloc, input.block_count(), crew)?;
     let jobs = jobs_of(alloc, seats, hands::<H>(alloc, crew)?)?;
-    let done = all_done(rt, alloc, gate, input, shards, &board, jobs)?;
+    let done = all_done(rt, gate, input, shards, &board, jobs)?;
     let (seats, pieces) = parted(alloc, done)?;
     Ok(Back {
         board,

@@ -84,7 +84,7 @@ fn explored<J: Run + Send + Sync, G: Gate + Sync, R: Threads + Wait + Sync>(
         Ok(locks) => locks,
         Err(_error) => return Err(Refusal::of_memory()),
     };
-    let shards = Shards::new(locks.as_slice());
+    let shards = Shards::new(alloc, locks.as_slice());
     let pieces = match all_pieces(rt, alloc, gate, input, &shards) {
         Ok(pieces) => pieces,
         Err(refusal) => return Err(refusal),

@@ -1,6 +1,6 @@
 //! What the work is given.
 
-ghost use Rattle.std.specs.Prelude.{◌≡◌, ◌≤◌, ◌<◌, length, slice_get, Some};
+ghost use Rattle.std.specs.Prelude.{◌≡◌, ◌≤◌, ◌<◌, length, slice_get, Some, ◌+◌, ℕ};
 ghost use Rattle.choices.specs.Choices.{limit, ranked};
 ghost use Rattle.checker.specs.Checker.{AreFor};
 ghost use Rattle.workers.specs.Failing.{choices_of, image_count};
@@ -9,7 +9,7 @@ ghost use Rattle.workers.specs.Exploring.{passes_over};
 
 use crate::piece::BLOCK;
 use checker::Checker;
-use choices::{Choice, Starts};
+use choices::{Choice, Starts, next};
 use epochs::{By, Plan};
 use images::History;
 use std::marker::Model;
@@ -24,12 +24,20 @@ pub struct Input<'a> {
     pub(crate) history: &'a History<'a>,
     pub(crate) checkers: &'a [Checker<'a>],
     pub(crate) by: By,
-    pub(crate) bound: u8,
-    pub(crate) tears: bool,
-    first: bool,
-    workers: u8,
-    cache: u32,
-    images: u64,
+    pub(crate) asked: Asked,
+}
+
+/// What is asked of a run, by names: at most `bound` departures, and torn writes or none; with `first` the first
+/// failing image alone. It is judged by 1 to 64 workers, who keep at most `cache` outcomes, 0 to 65,536. `images`
+/// is the number of its images, as `choices::count` gives it.
+#[derive(Clone, Copy)]
+pub struct Asked {
+    pub bound: u8,
+    pub tears: bool,
+    pub first: bool,
+    pub workers: u8,
+    pub cache: u32,
+    pub images: u64,
 }
 
 impl<'a> Model for Input<'a> {
@@ -38,40 +46,33 @@ impl<'a> Model for Input<'a> {
 
     ghost Value = { Subject };
 
-    ghost view = { λ i. record { plan = i.plan.now; checkers = i.checkers.now; bound = i.bound; tears = i.tears; first = i.first } };
+    ghost view = { λ i. record { plan = i.plan.now; checkers = i.checkers.now; bound = i.asked.bound; tears = i.asked.tears; first = i.asked.first } };
 
-    ghost invariant = { λ i. IsInput (record { plan = i.plan.now; checkers = i.checkers.now; bound = i.bound; tears = i.tears; first = i.first }) i.history.now i.starts.now i.by i.workers i.cache i.images };
+    ghost invariant = { λ i. IsInput (record { plan = i.plan.now; checkers = i.checkers.now; bound = i.asked.bound; tears = i.asked.tears; first = i.asked.first }) i.history.now i.starts.now i.by i.asked.workers i.asked.cache i.asked.images };
 }
 
 impl<'a> Input<'a> {
     /// What is judged by a run. The history, the table of choices and what departs as one are those of the plan, and the images
-    /// are counted, as `choices::count` does. A checker that was verified is one that was for devices of the log's size. With
-    /// `first` the run looks for the first failing image alone. It is judged by 1 to 64 workers, who keep at
-    /// most `cache` outcomes, 0 to 65,536.
+    /// are counted. A checker that was verified is one that was for devices of the log's size.
     pub fn new(
         plan: &'a Plan<'a>,
         starts: &'a Starts<'a>,
         history: &'a History<'a>,
         checkers: &'a [Checker<'a>],
         by: By,
-        bound: u8,
-        tears: bool,
-        workers: u8,
-        cache: u32,
-        first: bool,
-        images: u64,
+        asked: Asked,
     ) -> Input<'a>
-        requires starts { starts.now ≡ record { plan = plan.now; bound = bound; tears = tears } }
+        requires starts { starts.now ≡ record { plan = plan.now; bound = asked.bound; tears = asked.tears } }
         requires history { history.now ≡ plan.now }
         requires checkers { length checkers.now ≤ 8 }
         requires device { AreFor plan.now.log.sectors checkers.now }
         requires by { by ≡ plan.now.by }
-        requires bound { bound ≤ 3 }
-        requires workers { (1 ≤ workers) × (workers ≤ 64) }
-        requires cache { cache ≤ 65536 }
-        requires images { images ≡ length (ranked plan.now bound tears) }
-        requires few { images ≤ limit }
-        ensures { result ≡ record { plan = plan.now; checkers = checkers.now; bound = bound; tears = tears; first = first } }
+        requires bound { asked.bound ≤ 3 }
+        requires workers { (1 ≤ asked.workers) × (asked.workers ≤ 64) }
+        requires cache { asked.cache ≤ 65536 }
+        requires images { asked.images ≡ length (ranked plan.now asked.bound asked.tears) }
+        requires few { asked.images ≤ limit }
+        ensures { result ≡ record { plan = plan.now; checkers = checkers.now; bound = asked.bound; tears = asked.tears; first = asked.first } }
     {
         Input {
             starts,
@@ -79,12 +80,7 @@ impl<'a> Input<'a> {
             history,
             checkers,
             by,
-            bound,
-            tears,
-            first,
-            workers,
-            cache,
-            images,
+            asked,
         }
     }
 
@@ -93,7 +89,7 @@ impl<'a> Input<'a> {
         ensures value { result ≡ image_count self.now }
         ensures few { result ≤ limit }
     {
-        self.images
+        self.asked.images
     }
 
     /// How many blocks there are, of 64 images in a row each; the last may be shorter.
@@ -109,7 +105,7 @@ impl<'a> Input<'a> {
     pub(crate) fn crew(&self) -> u8
         ensures { (0 < result) × (result ≤ 64) }
     {
-        u32::from(self.workers).min(self.block_count()).max(1) as u8
+        u32::from(self.asked.workers).min(self.block_count()).max(1) as u8
     }
 
     /// The choice of the image of that number.
@@ -118,6 +114,15 @@ impl<'a> Input<'a> {
         ensures { slice_get (choices_of self.now) image ≡ Some result }
     {
         self.starts.nth(image)
+    }
+
+    /// Goes on from the choice of an image to that of the next one, if there is one.
+    pub(crate) fn go_on(&self, choice: &mut Choice)
+        requires { (image : ℕ) × (slice_get (choices_of self.now) image ≡ Some choice.old) }
+        ensures { (image : ℕ) → slice_get (choices_of self.now) image ≡ Some choice.old → image + 1 < image_count self.now
+            → slice_get (choices_of self.now) (image + 1) ≡ Some choice.new }
+    {
+        let _moved = next(self.plan, self.asked.bound, self.asked.tears, choice);
     }
 
     /// The history of its plan.
@@ -138,14 +143,14 @@ impl<'a> Input<'a> {
     pub(crate) fn cache(&self) -> u32
         ensures { result ≤ 65536 }
     {
-        self.cache
+        self.asked.cache
     }
 
     /// Whether the first failing image is all that is asked for.
     pub(crate) fn first(&self) -> bool
         ensures { result ≡ self.now.first }
     {
-        self.first
+        self.asked.first
     }
 
     /// Whether a block is passed over after that failing image: where the first is all that is asked
@@ -153,6 +158,6 @@ impl<'a> Input<'a> {
     pub(crate) fn passes_over(&self, block: u32, image: u64) -> bool
         ensures { result ≡ passes_over self.now block image }
     {
-        self.first && image < BLOCK * u64::from(block)
+        self.asked.first && image < BLOCK * u64::from(block)
     }
 }

@@ -13,10 +13,12 @@ ghost use Rattle.workers.specs.Input.{line_list, IsRunOf};
 
 use crate::block_lines::BlockLines;
 use crate::cache::Shards;
+use crate::gate::{Gate, OpenGate};
 use crate::input::Input;
 use crate::piece::{BLOCK, Piece};
+use crate::worker::Worker;
 use checker::Checker;
-use choices::{Choice, next};
+use choices::Choice;
 use epochs::By;
 use images::{Changes, Key, View};
 use interp::Outcome;
@@ -36,25 +38,32 @@ fn fails_with(outcome: &Outcome) -> bool
     }
 }
 
+/// An image of a run: its number, its choice, and its view.
+#[derive(Drop)]
+struct Seen<'v, 'a> {
+    image: u64,
+    choice: &'v Choice,
+    view: &'v View<'a>,
+}
+
 /// Appends the line of an image and a checker that ended so, if it fails there.
 fn push_failing(
     lines: &mut BlockLines,
     by: By,
-    image: u64,
-    choice: &Choice,
+    seen: &Seen<'_, '_>,
     number: u8,
     outcome: Outcome,
 ) -> Result<(), AllocError>
-    ensures { OnOk result (lines.new ≡ lines.old ++ line_list (line_if by image choice.now number (ending_of outcome))) }
+    ensures { OnOk result (lines.new ≡ lines.old ++ line_list (line_if by seen.now.image seen.now.choice.now number (ending_of outcome))) }
 {
     if fails_with(&outcome) {
         lines.push(Line {
-            image,
-            cut: choice.cut(),
+            image: seen.image,
+            cut: seen.choice.cut(),
             program: number,
             outcome,
             by,
-            departures: choice.departures_owned(),
+            departures: seen.choice.departures_owned(),
         })?;
     }
     Ok(())
@@ -74,43 +83,39 @@ fn outcome_on(view: &View<'_>, checker: &Checker<'_>) -> Outcome
 fn judge_checker(
     lines: &mut BlockLines,
     by: By,
-    image: u64,
-    choice: &Choice,
-    view: &View<'_>,
+    seen: &Seen<'_, '_>,
     number: u8,
     checker: &Checker<'_>,
 ) -> Result<(), AllocError>
-    requires device { IsFor view.now.log.sectors checker.now.verified }
-    ensures { (s : Subject) → view.now ≡ view_of s.plan choice.now
-        → OnOk result (lines.new ≡ lines.old ++ line_list (line_if by image choice.now number (ending_at s choice.now checker.now))) }
+    requires device { IsFor seen.now.view.now.log.sectors checker.now.verified }
+    ensures { (s : Subject) → seen.now.view.now ≡ view_of s.plan seen.now.choice.now
+        → OnOk result (lines.new ≡ lines.old ++ line_list (line_if by seen.now.image seen.now.choice.now number (ending_at s seen.now.choice.now checker.now))) }
 {
-    push_failing(lines, by, image, choice, number, outcome_on(view, checker))
+    push_failing(lines, by, seen, number, outcome_on(seen.view, checker))
 }
 
 /// What the checker of a key ends in on the key's image: what the cache has for it, or else what it ends
 /// in when it is run, which is then put into the cache, if there is memory for that.
 fn outcome_of<'a, J: Run, R: Wait>(
     rt: &R,
-    alloc: Global,
     shards: &Shards<'_, 'a, J>,
-    choice: &Choice,
-    view: &View<'a>,
+    seen: &Seen<'_, 'a>,
     key: &Key<'a>,
     checker: &Checker<'_>,
 ) -> Outcome
-    requires image { view.now ≡ view_of J.plan choice.now }
-    requires key { key_of view.now key.now.program ≡ Some key.now }
+    requires image { seen.now.view.now ≡ view_of J.plan seen.now.choice.now }
+    requires key { key_of seen.now.view.now key.now.program ≡ Some key.now }
     requires checker { slice_get J.checkers key.now.program ≡ Some checker.now }
-    requires device { IsFor view.now.log.sectors checker.now.verified }
-    ensures { ending_of result ≡ ending_on J.plan choice.now checker.now }
+    requires device { IsFor seen.now.view.now.log.sectors checker.now.verified }
+    ensures { ending_of result ≡ ending_on J.plan seen.now.choice.now checker.now }
 {
     let shard = shards.of_key(key);
     if let Some(outcome) = shard.look(rt, key) {
         return outcome;
     }
-    let outcome = outcome_on(view, checker);
+    let outcome = outcome_on(seen.view, checker);
     one_image_tells();
-    if let Ok(own) = key.copy(alloc) {
+    if let Ok(own) = key.copy(shards.alloc()) {
         shard.put(rt, own, copy_of(&outcome));
     }
     outcome
@@ -118,19 +123,13 @@ fn outcome_of<'a, J: Run, R: Wait>(
 
 impl<'a> Input<'a> {
     /// Appends the lines of an image, on which each checker is run.
-    fn judge_by_runs(
-        &self,
-        lines: &mut BlockLines,
-        image: u64,
-        choice: &Choice,
-        view: &View<'_>,
-    ) -> Result<(), AllocError>
-        requires choice { slice_get (choices_of self.now) image ≡ Some choice.now }
-        requires view { view.now ≡ view_of self.now.plan choice.now }
-        ensures { OnOk result (lines.new ≡ lines.old ++ image_lines self.now image) }
+    fn judge_by_runs(&self, lines: &mut BlockLines, seen: &Seen<'_, '_>) -> Result<(), AllocError>
+        requires choice { slice_get (choices_of self.now) seen.now.image ≡ Some seen.now.choice.now }
+        requires view { seen.now.view.now ≡ view_of self.now.plan seen.now.choice.now }
+        ensures { OnOk result (lines.new ≡ lines.old ++ image_lines self.now seen.now.image) }
     {
         for (number, checker) in self.checkers.iter().enumerate() {
-            judge_checker(lines, self.by, image, choice, view, number as u8, checker)?;
+            judge_checker(lines, self.by, seen, number as u8, checker)?;
         }
         Ok(())
     }
@@ -139,127 +138,100 @@ impl<'a> Input<'a> {
     fn judge_by_key<J: Run, R: Wait>(
         &self,
         rt: &R,
-        alloc: Global,
         shards: &Shards<'_, 'a, J>,
         lines: &mut BlockLines,
-        image: u64,
-        choice: &Choice,
-        view: &View<'a>,
+        seen: &Seen<'_, 'a>,
         mut key: Key<'a>,
     ) -> Result<(), AllocError>
         requires run { IsRunOf J.plan J.checkers self.now }
-        requires choice { slice_get (choices_of self.now) image ≡ Some choice.now }
-        requires view { view.now ≡ view_of self.now.plan choice.now }
-        requires key { key_of view.now 0 ≡ Some key }
-        ensures { OnOk result (lines.new ≡ lines.old ++ image_lines self.now image) }
+        requires choice { slice_get (choices_of self.now) seen.now.image ≡ Some seen.now.choice.now }
+        requires view { seen.now.view.now ≡ view_of self.now.plan seen.now.choice.now }
+        requires key { key_of seen.now.view.now 0 ≡ Some key }
+        ensures { OnOk result (lines.new ≡ lines.old ++ image_lines self.now seen.now.image) }
     {
         for (number, checker) in self.checkers.iter().enumerate() {
             key.set_program(number as u8);
-            let outcome = outcome_of(rt, alloc, shards, choice, view, &key, checker);
-            push_failing(lines, self.by, image, choice, number as u8, outcome)?;
-        }
-        Ok(())
-    }
-
-    /// Appends the lines of an image, with the help of the cache. Its key is made once, for all checkers;
-    /// an image without a key is judged without the cache.
-    fn judge_by_cache<J: Run, R: Wait>(
-        &self,
-        rt: &R,
-        alloc: Global,
-        shards: &Shards<'_, 'a, J>,
-        changes: &mut Changes<'a>,
-        lines: &mut BlockLines,
-        image: u64,
-        choice: &Choice,
-        view: &View<'a>,
-    ) -> Result<(), AllocError>
-        requires run { IsRunOf J.plan J.checkers self.now }
-        requires changes { changes.old ≡ self.now.plan.log }
-        requires choice { slice_get (choices_of self.now) image ≡ Some choice.now }
-        requires view { view.now ≡ view_of self.now.plan choice.now }
-        ensures lines { OnOk result (lines.new ≡ lines.old ++ image_lines self.now image) }
-        ensures changes { changes.new ≡ changes.old }
-    {
-        match changes.key(alloc, view)? {
-            Some(key) => { self.judge_by_key(rt, alloc, shards, lines, image, choice, view, key) }
-            None => self.judge_by_runs(lines, image, choice, view),
-        }
-    }
-
-    /// Appends the lines of an image. Without a cache no key is made.
-    fn judge_image<J: Run, R: Wait>(
-        &self,
-        rt: &R,
-        alloc: Global,
-        shards: &Shards<'_, 'a, J>,
-        changes: &mut Changes<'a>,
-        lines: &mut BlockLines,
-        image: u64,
-        choice: &Choice,
-    ) -> Result<(), AllocError>
-        requires run { IsRunOf J.plan J.checkers self.now }
-        requires changes { changes.old ≡ self.now.plan.log }
-        requires choice { slice_get (choices_of self.now) image ≡ Some choice.now }
-        ensures lines { OnOk result (lines.new ≡ lines.old ++ image_lines self.now image) }
-        ensures changes { changes.new ≡ changes.old }
-    {
-        let view = self.history.view(alloc, choice)?;
-        if self.cache() == 0 {
-            self.judge_by_runs(lines, image, choice, &view)
-        } else {
-            self.judge_by_cache(rt, alloc, shards, changes, lines, image, choice, &view)
-        }
-    }
-
-    /// Appends the lines of some images in a row, of which there is one at least.
-    fn judge_row<J: Run, R: Wait>(
-        &self,
-        rt: &R,
-        alloc: Global,
-        shards: &Shards<'_, 'a, J>,
-        changes: &mut Changes<'a>,
-        lines: &mut BlockLines,
-        first: u64,
-        end: u64,
-    ) -> Result<(), AllocError>
-        requires run { IsRunOf J.plan J.checkers self.now }
-        requires changes { changes.old ≡ self.now.plan.log }
-        requires some { first < end }
-        requires end { end ≤ image_count self.now }
-        ensures lines { OnOk result (lines.new ≡ lines.old ++ lines_from self.now first (end - first)) }
-        ensures changes { changes.new ≡ changes.old }
-    {
-        let mut choice = self.choice(first);
-        for image in first..end {
-            self.judge_image(rt, alloc, shards, changes, lines, image, &choice)?;
-            let _moved = next(self.plan, self.bound, self.tears, &mut choice);
+            let outcome = outcome_of(rt, shards, seen, &key, checker);
+            push_failing(lines, self.by, seen, number as u8, outcome)?;
         }
         Ok(())
     }
 }
 
-/// Judges the images of a block, with what is known of the changes of the log's images so far.
-#[tactic(auto, unfolding(crate::specs::Failing::part))]
-pub(crate) fn judge_taken<'a, J: Run, R: Wait>(
-    rt: &R,
-    alloc: Global,
-    input: &Input<'a>,
-    shards: &Shards<'_, 'a, J>,
-    changes: &mut Changes<'a>,
-    block: u32,
-) -> Result<Piece, AllocError>
-    requires run { IsRunOf J.plan J.checkers input.now }
-    requires changes { changes.old ≡ input.now.plan.log }
-    requires block { block < block_count input.now }
-    ensures piece { IfOk result (λ piece. piece ≡ piece_of input.now block) }
-    ensures changes { changes.new ≡ changes.old }
-{
-    let first = BLOCK * u64::from(block);
-    let end = input.image_count().min(first + BLOCK);
-    let mut lines = BlockLines::new(alloc);
-    input.judge_row(rt, alloc, shards, changes, &mut lines, first, end)?;
-    Ok(Piece::of(block, lines))
+impl<'b, 'a, J: Run, G: Gate> Worker<'b, 'a, J, G> {
+    /// Appends the lines of an image. Its key is made once, for all checkers; an image without a key is judged
+    /// without the cache, and without a cache no key is made.
+    fn judge_image<R: Wait>(
+        &self,
+        rt: &R,
+        changes: &mut Changes<'a>,
+        lines: &mut BlockLines,
+        image: u64,
+        choice: &Choice,
+    ) -> Result<(), AllocError>
+        requires changes { changes.old ≡ self.now.input.now.plan.log }
+        requires choice { slice_get (choices_of self.now.input.now) image ≡ Some choice.now }
+        ensures lines { OnOk result (lines.new ≡ lines.old ++ image_lines self.now.input.now image) }
+        ensures changes { changes.new ≡ changes.old }
+    {
+        let input = self.input;
+        let alloc = self.shards.alloc();
+        let view = input.history.view(alloc, choice)?;
+        let seen = Seen {
+            image,
+            choice: &*choice,
+            view: &view,
+        };
+        if input.cache() == 0 {
+            return input.judge_by_runs(lines, &seen);
+        }
+        match changes.key(alloc, &view)? {
+            Some(key) => input.judge_by_key(rt, self.shards, lines, &seen, key),
+            None => input.judge_by_runs(lines, &seen),
+        }
+    }
+
+    /// The lines of some images in a row, of which there is one at least.
+    fn judge_row<R: Wait>(
+        &self,
+        rt: &R,
+        changes: &mut Changes<'a>,
+        first: u64,
+        end: u64,
+    ) -> Result<BlockLines, AllocError>
+        requires changes { changes.old ≡ self.now.input.now.plan.log }
+        requires some { first < end }
+        requires end { end ≤ image_count self.now.input.now }
+        ensures lines { IfOk result (λ lines. lines ≡ lines_from self.now.input.now first (end - first)) }
+        ensures changes { changes.new ≡ changes.old }
+    {
+        let mut lines = BlockLines::new(self.shards.alloc());
+        let mut choice = self.input.choice(first);
+        for image in first..end {
+            self.judge_image(rt, changes, &mut lines, image, &choice)?;
+            self.input.go_on(&mut choice);
+        }
+        Ok(lines)
+    }
+
+    /// The piece of a block, whose images it judges.
+    #[tactic(auto, unfolding(crate::specs::Failing::part))]
+    pub(crate) fn piece<R: Wait>(
+        &self,
+        rt: &R,
+        changes: &mut Changes<'a>,
+        block: u32,
+    ) -> Result<Piece, AllocError>
+        requires changes { changes.old ≡ self.now.input.now.plan.log }
+        requires block { block < block_count self.now.input.now }
+        ensures piece { IfOk result (λ piece. piece ≡ piece_of self.now.input.now block) }
+        ensures changes { changes.new ≡ changes.old }
+    {
+        let first = BLOCK * u64::from(block);
+        let end = self.input.image_count().min(first + BLOCK);
+        let lines = self.judge_row(rt, changes, first, end)?;
+        Ok(Piece::of(block, lines))
+    }
 }
 
 /// Judges the images of a block: 64 in a row from `64 * block` on, or those that are left. The sixteen
@@ -279,6 +251,11 @@ pub fn judge_block<'a, J: Run, R: Wait>(
     requires block { block < block_count input.now }
     ensures { IfOk result (λ piece. piece ≡ piece_of input.now block) }
 {
-    let mut changes = Changes::new(alloc, input.history());
-    judge_taken(rt, alloc, input, &Shards::new(shards), &mut changes, block)
+    let worker = Worker {
+        input: &*input,
+        shards: &Shards::new(alloc, shards),
+        gate: &OpenGate,
+        number: 0,
+    };
+    worker.piece(rt, &mut Changes::new(alloc, input.history()), block)
 }

@@ -6,7 +6,8 @@
 //!
 //! | Type or call | What it is |
 //! |---|---|
-//! | `Input::new(plan, starts, history, checkers, by, bound, tears, workers, cache, first, images)` | what is judged, whose images are counted; by how many workers, with how large a cache |
+//! | `Input::new(plan, starts, history, checkers, by, asked)` | what is judged |
+//! | `Asked` | what is asked of a run, by names: bound and tears, the first failing image or all, how many workers, how large a cache, and how many images there are |
 //! | `judge_block(rt, alloc, input, shards, block)` | the piece of a block: its lines, by image and then by checker |
 //! | `Piece::passed(block, image)` | the piece of a block that was passed over after a failing image |
 //! | `collect(alloc, pieces, blocks)` | all lines, of pieces in any order; refused where a block has two pieces or none |
@@ -66,6 +67,7 @@
 //! # How it is written
 //!
 //! `judging` finds the first choice of a block by its number, and then goes on from choice to choice.
+//! `worker` has what a worker judges with, the input, the shards and the gate.
 //! `block_lines` keeps the least image beside the lines of a block. `taking` is one worker, and `crew` sends
 //! them out and waits for them; `settling` makes of their pieces one of each block. `collecting` puts the pieces into a table with a row for each block, and notes
 //! the lowest block that comes twice and the least failing image. `exploring` puts all together; there a
@@ -85,11 +87,12 @@ mod laws;
 mod piece;
 mod settling;
 mod taking;
+mod worker;
 
 pub use collecting::collect;
 pub use exploring::{Work, explore_all};
 pub use gate::{Gate, OpenGate};
-pub use input::Input;
+pub use input::{Asked, Input};
 pub use judging::judge_block;
 pub use laws::{
     accepted_checkers_run_safely, collection_begins_with_first, collection_is_failing,

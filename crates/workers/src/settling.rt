@@ -8,8 +8,8 @@ ghost use Rattle.workers.specs.Settling.{AreRowsOf, AreSettled, has_full, piece_
 use crate::cache::Shards;
 use crate::gate::Gate;
 use crate::input::Input;
-use crate::judging::judge_taken;
 use crate::piece::Piece;
+use crate::worker::Worker;
 use images::Changes;
 use std::alloc::{AllocError, Global};
 use std::sync::Wait;
@@ -65,26 +65,22 @@ fn rows_of(alloc: Global, pieces: Vec<Piece>, blocks: u32) -> Result<Vec<Option<
 /// The piece of a row, or, where it has none, that of its block, which is judged now.
 fn piece_of_row<'a, J: Run, G: Gate, R: Wait>(
     rt: &R,
-    alloc: Global,
-    gate: &G,
-    input: &Input<'a>,
-    shards: &Shards<'_, 'a, J>,
+    worker: &Worker<'_, 'a, J, G>,
     changes: &mut Changes<'a>,
     block: u32,
     row: Option<Piece>,
 ) -> Result<Piece, AllocError>
-    requires run { IsRunOf J.plan J.checkers input.now }
-    requires changes { changes.old ≡ input.now.plan.log }
-    requires block { block < block_count input.now }
-    ensures piece { IfOk result (λ piece. piece ≡ piece_or_part input.now block row) }
+    requires changes { changes.old ≡ worker.now.input.now.plan.log }
+    requires block { block < block_count worker.now.input.now }
+    ensures piece { IfOk result (λ piece. piece ≡ piece_or_part worker.now.input.now block row) }
     ensures changes { changes.new ≡ changes.old }
 {
     if let Some(piece) = row {
         return Ok(piece);
     }
-    gate.before(0, block);
-    let piece = judge_taken(rt, alloc, input, shards, changes, block)?;
-    gate.after(0, block);
+    worker.gate.before(worker.number, block);
+    let piece = worker.piece(rt, changes, block)?;
+    worker.gate.after(worker.number, block);
     Ok(piece)
 }
 
@@ -103,12 +99,18 @@ pub(crate) fn settled<'a, J: Run, G: Gate, R: Wait>(
     requires pieces { All (λ piece. piece.block < block_count input.now) pieces.items }
     ensures { IfOk result (λ settled. AreSettled input.now pieces.items settled.items) }
 {
+    let worker = Worker {
+        input: &*input,
+        shards: &*shards,
+        gate: &*gate,
+        number: 0,
+    };
     let mut changes = Changes::new(alloc, input.history());
     let rows = rows_of(alloc, pieces, input.block_count())?;
     let mut settled = Vec::new(alloc);
     let mut block = 0u32;
     for row in rows {
-        settled.push(piece_of_row(rt, alloc, gate, input, shards, &mut changes, block, row)?)?;
+        settled.push(piece_of_row(rt, &worker, &mut changes, block, row)?)?;
         block += 1;
     }
     Ok(settled)

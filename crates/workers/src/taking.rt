@@ -5,19 +5,17 @@ ghost use Rattle.shares.specs.Steps.{next_seen, finds};
 ghost use Rattle.shares.specs.Hands.{HandValue, hand_value};
 ghost use Rattle.shares.specs.Seats.{HasEnded, taken};
 ghost use Rattle.workers.specs.Exploring.{passes_over};
-ghost use Rattle.workers.specs.Input.{IsRunOf};
 ghost use Rattle.workers.specs.Least.{least_image};
 ghost use Rattle.workers.specs.Pieces.{block_count, lines_of, piece_of};
 ghost use Rattle.workers.specs.Taking.{KeepsPosts, AddsPiece, HasTaken};
 
-use crate::cache::Shards;
 use crate::gate::Gate;
 use crate::input::Input;
-use crate::judging::judge_taken;
 use crate::piece::Piece;
+use crate::worker::Worker;
 use images::Changes;
 use shares::{Board, Deal, Hand, Seat};
-use std::alloc::{AllocError, Global};
+use std::alloc::AllocError;
 use std::sync::Wait;
 use verdict_cache::Run;
 
@@ -56,31 +54,28 @@ fn first_failing(input: &Input<'_>, piece: &Piece) -> Option<u64>
 
 /// The piece of a block that a worker took. It is passed over where it can be; else it is judged, and
 /// its first failing image is posted.
-fn piece_taken<'a, J: Run, R: Wait>(
+fn piece_taken<'a, J: Run, G: Gate, R: Wait>(
     rt: &R,
-    alloc: Global,
-    input: &Input<'a>,
-    shards: &Shards<'_, 'a, J>,
+    worker: &Worker<'_, 'a, J, G>,
     changes: &mut Changes<'a>,
     board: &Board,
     seat: &mut Seat,
     block: u32,
 ) -> Result<Piece, AllocError>
-    requires run { IsRunOf J.plan J.checkers input.now }
     requires board { seat.old.board ≡ board.now.name }
-    requires changes { changes.old ≡ input.now.plan.log }
-    requires block { block < block_count input.now }
+    requires changes { changes.old ≡ worker.now.input.now.plan.log }
+    requires block { block < block_count worker.now.input.now }
     ensures changes { changes.new ≡ changes.old }
     ensures board { seat.new.board ≡ seat.old.board }
     ensures taken { taken seat.new ≡ taken seat.old }
     ensures seen { next_seen seat.old.steps ≤ next_seen seat.new.steps }
-    ensures added { IfOk result (AddsPiece input.now block seat.old.steps seat.new.steps) }
+    ensures added { IfOk result (AddsPiece worker.now.input.now block seat.old.steps seat.new.steps) }
 {
-    if let Some(image) = image_before(input, board, seat, block) {
+    if let Some(image) = image_before(worker.input, board, seat, block) {
         return Ok(Piece::passed(block, image));
     }
-    let piece = judge_taken(rt, alloc, input, shards, changes, block)?;
-    if let Some(image) = first_failing(input, &piece) {
+    let piece = worker.piece(rt, changes, block)?;
+    if let Some(image) = first_failing(worker.input, &piece) {
         board.post(seat, image);
     }
     Ok(piece)
@@ -89,90 +84,72 @@ fn piece_taken<'a, J: Run, R: Wait>(
 /// The piece of a block that a worker took. The gate is told before and after.
 fn piece_through<'a, J: Run, G: Gate, R: Wait>(
     rt: &R,
-    alloc: Global,
-    gate: &G,
-    input: &Input<'a>,
-    shards: &Shards<'_, 'a, J>,
+    worker: &Worker<'_, 'a, J, G>,
     changes: &mut Changes<'a>,
     board: &Board,
-    worker: u8,
     seat: &mut Seat,
     block: u32,
 ) -> Result<Piece, AllocError>
-    requires run { IsRunOf J.plan J.checkers input.now }
     requires board { seat.old.board ≡ board.now.name }
-    requires changes { changes.old ≡ input.now.plan.log }
-    requires block { block < block_count input.now }
+    requires changes { changes.old ≡ worker.now.input.now.plan.log }
+    requires block { block < block_count worker.now.input.now }
     ensures changes { changes.new ≡ changes.old }
     ensures board { seat.new.board ≡ seat.old.board }
     ensures taken { taken seat.new ≡ taken seat.old }
     ensures seen { next_seen seat.old.steps ≤ next_seen seat.new.steps }
-    ensures added { IfOk result (AddsPiece input.now block seat.old.steps seat.new.steps) }
+    ensures added { IfOk result (AddsPiece worker.now.input.now block seat.old.steps seat.new.steps) }
 {
-    gate.before(worker, block);
-    let piece = piece_taken(rt, alloc, input, shards, changes, board, seat, block)?;
-    gate.after(worker, block);
+    worker.gate.before(worker.number, block);
+    let piece = piece_taken(rt, worker, changes, board, seat, block)?;
+    worker.gate.after(worker.number, block);
     Ok(piece)
 }
 
-/// Takes blocks by a worker's hand until it finds none, but no more than there are, and adds a piece of each.
+/// Takes blocks by a worker's hand until it finds none, but no more than there are: a piece of each.
 fn take_blocks<'a, J: Run, H: Deal, G: Gate, R: Wait>(
     rt: &R,
-    alloc: Global,
-    gate: &G,
-    input: &Input<'a>,
-    shards: &Shards<'_, 'a, J>,
+    worker: &Worker<'_, 'a, J, G>,
     changes: &mut Changes<'a>,
     board: &Board,
-    worker: u8,
     seat: &mut Seat,
     hand: &mut Hand<H>,
-    pieces: &mut Vec<Piece>,
-) -> Result<(), AllocError>
-    requires run { IsRunOf J.plan J.checkers input.now }
-    requires blocks { (board.now.name.blocks ≡ block_count input.now) × (H.blocks ≡ block_count input.now) }
-    requires changes { changes.old ≡ input.now.plan.log }
-    requires taken { HasTaken input.now board.now.name seat.old hand.old [] pieces.old.items }
+) -> Result<Vec<Piece>, AllocError>
+    requires blocks { (board.now.name.blocks ≡ block_count worker.now.input.now) × (H.blocks ≡ block_count worker.now.input.now) }
+    requires changes { changes.old ≡ worker.now.input.now.plan.log }
+    requires board { seat.old.board ≡ board.now.name }
+    requires fresh { (seat.old.steps ≡ []) × (hand.old ≡ hand_value [] [] []) }
     ensures changes { changes.new ≡ changes.old }
-    ensures taken { OnOk result (HasTaken input.now board.now.name seat.new hand.new [] pieces.new.items) }
+    ensures taken { IfOk result (λ pieces. HasTaken worker.now.input.now board.now.name seat.new hand.new [] pieces.items) }
 {
-    for _turn in 0..input.block_count() {
+    let mut pieces = Vec::new(worker.shards.alloc());
+    for _turn in 0..worker.input.block_count() {
         let Some(block) = hand.take(board, seat) else {
-            return Ok(());
+            return Ok(pieces);
         };
-        let piece = piece_through(
-            rt, alloc, gate, input, shards, changes, board, worker, seat, block,
-        )?;
+        let piece = piece_through(rt, worker, changes, board, seat, block)?;
         pieces.push(piece)?;
     }
-    Ok(())
+    Ok(pieces)
 }
 
 /// Draws blocks from the board until there is none left, and adds a piece of each.
 fn draw_blocks<'a, J: Run, G: Gate, R: Wait>(
     rt: &R,
-    alloc: Global,
-    gate: &G,
-    input: &Input<'a>,
-    shards: &Shards<'_, 'a, J>,
+    worker: &Worker<'_, 'a, J, G>,
     changes: &mut Changes<'a>,
     board: &Board,
-    worker: u8,
     seat: &mut Seat,
     pieces: &mut Vec<Piece>,
 ) -> Result<(), AllocError>
-    requires run { IsRunOf J.plan J.checkers input.now }
-    requires blocks { board.now.name.blocks ≡ block_count input.now }
+    requires blocks { board.now.name.blocks ≡ block_count worker.now.input.now }
     requires board { seat.old.board ≡ board.now.name }
-    requires changes { changes.old ≡ input.now.plan.log }
-    ensures taken { OnOk result ((hand : HandValue) → HasTaken input.now board.now.name seat.old hand [] pieces.old.items
-        → HasTaken input.now board.now.name seat.new hand [] pieces.new.items) }
+    requires changes { changes.old ≡ worker.now.input.now.plan.log }
+    ensures taken { OnOk result ((hand : HandValue) → HasTaken worker.now.input.now board.now.name seat.old hand [] pieces.old.items
+        → HasTaken worker.now.input.now board.now.name seat.new hand [] pieces.new.items) }
     ensures ended { OnOk result (HasEnded seat.new) }
 {
     while let Some(block) = board.draw(seat) {
-        let piece = piece_through(
-            rt, alloc, gate, input, shards, changes, board, worker, seat, block,
-        )?;
+        let piece = piece_through(rt, worker, changes, board, seat, block)?;
         pieces.push(piece)?;
     }
     Ok(())
@@ -182,48 +159,19 @@ fn draw_blocks<'a, J: Run, G: Gate, R: Wait>(
 /// hand that gave as many blocks as there are is asked no more: what is left to draw is then drawn alone.
 pub(crate) fn pieces_taken<'a, J: Run, H: Deal, G: Gate, R: Wait>(
     rt: &R,
-    alloc: Global,
-    gate: &G,
-    input: &Input<'a>,
-    shards: &Shards<'_, 'a, J>,
+    worker: &Worker<'_, 'a, J, G>,
     board: &Board,
-    worker: u8,
     seat: &mut Seat,
     hand: &mut Hand<H>,
 ) -> Result<Vec<Piece>, AllocError>
-    requires run { IsRunOf J.plan J.checkers input.now }
     requires board { seat.old.board ≡ board.now.name }
-    requires blocks { (board.now.name.blocks ≡ block_count input.now) × (H.blocks ≡ block_count input.now) }
+    requires blocks { (board.now.name.blocks ≡ block_count worker.now.input.now) × (H.blocks ≡ block_count worker.now.input.now) }
     requires fresh { (seat.old.steps ≡ []) × (hand.old ≡ hand_value [] [] []) }
-    ensures pieces { IfOk result (λ pieces. HasTaken input.now board.now.name seat.new hand.new [] pieces.items) }
+    ensures pieces { IfOk result (λ pieces. HasTaken worker.now.input.now board.now.name seat.new hand.new [] pieces.items) }
     ensures ended { IfOk result (λ _. HasEnded seat.new) }
 {
-    let mut changes = Changes::new(alloc, input.history());
-    let mut pieces = Vec::new(alloc);
-    take_blocks(
-        rt,
-        alloc,
-        gate,
-        input,
-        shards,
-        &mut changes,
-        board,
-        worker,
-        seat,
-        hand,
-        &mut pieces,
-    )?;
-    draw_blocks(
-        rt,
-        alloc,
-        gate,
-        input,
-        shards,
-        &mut changes,
-        board,
-        worker,
-        seat,
-        &mut pieces,
-    )?;
+    let mut changes = Changes::new(worker.shards.alloc(), worker.input.history());
+    let mut pieces = take_blocks(rt, worker, &mut changes, board, seat, hand)?;
+    draw_blocks(rt, worker, &mut changes, board, seat, &mut pieces)?;
     Ok(pieces)
 }

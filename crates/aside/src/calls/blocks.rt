@@ -20,7 +20,7 @@ use std::marker::Brand;
 use std::sync::{Mutex, Wait};
 use std::thread::Threads;
 use verdict_cache::{Run, Shard, shards};
-use workers::{Input, OpenGate, collect, explore_all, judge_block};
+use workers::{Asked, Input, OpenGate, collect, explore_all, judge_block};
 
 /// Answers 1.
 const ANSWER_1: [u8; 16] = [0xb7, 0, 0, 0, 1, 0, 0, 0, 0x95, 0, 0, 0, 0, 0, 0, 0];
@@ -99,12 +99,14 @@ pub fn are_right<R: Threads + Wait + Sync>(rt: &R, alloc: Global) -> bool {
         &history,
         &checkers,
         By::Sector,
-        0,
-        false,
-        1,
-        16,
-        false,
-        images,
+        Asked {
+            bound: 0,
+            tears: false,
+            first: false,
+            workers: 1,
+            cache: 16,
+            images,
+        },
     );
     if !blocks_are_right::<Brand, R>(rt, alloc, &input, &history, &checkers) {
         return false;

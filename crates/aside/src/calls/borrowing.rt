@@ -16,10 +16,10 @@ pub fn plan_of<'a>(alloc: Global, log: &'a Log) -> Result<Plan<'a>, AllocError>
     ensures log { IfOk result (λ plan. plan.log ≡ log.now) }
     ensures by { IfOk result (λ plan. plan.by ≡ Sector) }
 {
-    if let Ok(plan) = Plan::new(alloc, log, Cuts::All, By::Sector) {
+    if let Ok(plan) = Plan::new(alloc, log, Cuts::ALL, By::Sector) {
         return Ok(plan);
     }
-    Plan::new(alloc, log, Cuts::All, By::Sector)
+    Plan::new(alloc, log, Cuts::ALL, By::Sector)
 }
 
 /// The history of a plan.

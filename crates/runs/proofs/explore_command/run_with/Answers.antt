@@ -5,7 +5,7 @@ use Rattle.request.specs.Source.{for_plan}
 use Rattle.runs.specs.Explore.{for_count, for_source, for_program, no_list_memory}
 use Rattle.runs.proofs.RefusalLemmas.{counted, uncounted, few_decoded, unaccepted_of, undecoded_of, checkers_decoded}
 use Rattle.runs.proofs.Fitting.{made_fit}
-use Rattle.request.proofs.Logs.{is_log, has_images}
+use Rattle.request.proofs.Logs.{device_of, has_images}
 use Rattle.request.proofs.Results.{both_ok, one_err}
 use Rattle.runs.proofs.Runs.{of_log, told_of}
 use Rattle.runs.proofs.explore_command.run_with.Goals as goal
@@ -19,21 +19,21 @@ pub returns-in_err-log-clause-refused : goal.returns-in_err-log-clause-refused
 returns-in_err-log-clause-refused g c =
     let p = err_from_is_err_and c.from_residual.result c.from_residual.ensures.1 in
     rw (p.1, p.2)
-    (of_log _ _ _ c.sectors.result _ (counted _ c.args.question.now.programs.now (c.is_program_count.ensures.0 c.if-not-is_program_count.false)) c.sectors.ensures.value c.in_err-log.ensures.refused)
+    (of_log _ _ _ _ (counted _ c.args.question.now.programs.now (c.is_program_count.ensures.0 c.if-not-is_program_count.false)) c.in_err-log.ensures.refused)
 
 pub returns-in_err-plan-clause-refused : goal.returns-in_err-plan-clause-refused
 returns-in_err-plan-clause-refused g c =
     let p = err_from_is_err_and c.from_residual-in_err-plan.result c.from_residual-in_err-plan.ensures.1 in
     rw (p.1, p.2)
     (for_source _ (counted _ c.args.question.now.programs.now (c.is_program_count.ensures.0 c.if-not-is_program_count.false))
-    (for_plan _ c.in_ok-log.log (is_log _ _ _ c.sectors.result c.in_ok-log.ensures.sectors c.sectors.ensures.value c.in_ok-log.ensures.text) c.in_err-plan.ensures.refused))
+    (for_plan _ c.in_ok-log.log c.in_ok-log.ensures.log c.in_err-plan.ensures.refused))
 
 pub returns-in_err-decoded-clause-refused : goal.returns-in_err-decoded-clause-refused
 returns-in_err-decoded-clause-refused g c =
     let p = err_from_is_err_and c.from_residual-in_err-decoded.result c.from_residual-in_err-decoded.ensures.1 in
     rw (p.1, p.2, c.in_err-decoded.ensures.refused)
     (for_program _ c.in_ok-log.log (counted _ c.args.question.now.programs.now (c.is_program_count.ensures.0 c.if-not-is_program_count.false))
-    (has_images _ _ _ c.sectors.result _ c.in_ok-log.ensures.sectors c.sectors.ensures.value c.in_ok-log.ensures.text c.in_ok-plan.ensures.count c.in_ok-plan.ensures.few)
+    (has_images _ _ _ _ c.in_ok-log.ensures.log c.in_ok-plan.ensures.count c.in_ok-plan.ensures.few)
     no_list_memory)
 
 pub checkers_of-requires : goal.checkers_of-requires
@@ -45,15 +45,24 @@ returns-in_err-checkers-clause-refused g c =
     let p = err_from_is_err_and c.from_residual-in_err-checkers.result c.from_residual-in_err-checkers.ensures.1 in
     rw (p.1, p.2)
     (for_program _ c.in_ok-log.log (counted _ c.args.question.now.programs.now (c.is_program_count.ensures.0 c.if-not-is_program_count.false))
-    (has_images _ _ _ c.sectors.result _ c.in_ok-log.ensures.sectors c.sectors.ensures.value c.in_ok-log.ensures.text c.in_ok-plan.ensures.count c.in_ok-plan.ensures.few)
+    (has_images _ _ _ _ c.in_ok-log.ensures.log c.in_ok-plan.ensures.count c.in_ok-plan.ensures.few)
     (unaccepted_of _ _ _ c.as_slice.result.now _ _ c.as_slice.ensures.value c.in_ok-decoded.ensures.decoded c.in_err-checkers.ensures.refused))
 
 pub returns-in-Some-clause-refused : goal.returns-in-Some-clause-refused
 returns-in-Some-clause-refused g c =
     for_program _ c.in_ok-log.log (counted _ c.args.question.now.programs.now (c.is_program_count.ensures.0 c.if-not-is_program_count.false))
-    (has_images _ _ _ c.sectors.result _ c.in_ok-log.ensures.sectors c.sectors.ensures.value c.in_ok-log.ensures.text c.in_ok-plan.ensures.count c.in_ok-plan.ensures.few)
+    (has_images _ _ _ _ c.in_ok-log.ensures.log c.in_ok-plan.ensures.count c.in_ok-plan.ensures.few)
     (undecoded_of _ _ _ c.as_slice.result.now _ _ _ c.as_slice.ensures.value c.in_ok-decoded.ensures.decoded c.in-Some.is
     c.in_ok-checkers.ensures.made c.in_ok-checkers.ensures.all)
+
+pub invariant_of-task : goal.invariant_of-task
+invariant_of-task g c =
+    record {
+      plan_is = c.in_ok-plan.ensures.plan;
+      device = device_of _ c.args.question.now.options.now c.in_ok-log.log c.in_ok-log.ensures.log;
+      count = c.in_ok-plan.ensures.count;
+      few = c.in_ok-plan.ensures.few;
+    }
 
 pub judged-requires-clause-verified : goal.judged-requires-clause-verified
 judged-requires-clause-verified g c =
@@ -64,7 +73,7 @@ returns-clause-told g c =
     both_ok c.judged.result _ _ _ c.judged.ensures.bytes c.judged.ensures.failing
     (λ e bytes failing.
     told_of c.args.question.now.telling c.accepted_checkers_run_safely.ensures _ _ _ c.in_ok-log.log c.in_ok-checkers.checkers.items c.as_slice-2.result.now _ _ (counted _ c.args.question.now.programs.now (c.is_program_count.ensures.0 c.if-not-is_program_count.false))
-    (has_images _ _ _ c.sectors.result _ c.in_ok-log.ensures.sectors c.sectors.ensures.value c.in_ok-log.ensures.text c.in_ok-plan.ensures.count c.in_ok-plan.ensures.few)
+    (has_images _ _ _ _ c.in_ok-log.ensures.log c.in_ok-plan.ensures.count c.in_ok-plan.ensures.few)
     (checkers_decoded _ _ _ c.as_slice.result.now _ _ c.as_slice.ensures.value c.in_ok-decoded.ensures.decoded c.in_default.not-Some
     c.in_ok-checkers.ensures.made c.in_ok-checkers.ensures.all)
     c.as_slice-2.ensures.value bytes failing)
@@ -74,4 +83,4 @@ returns-clause-refused g c =
     one_err c.judged.result _ _ c.judged.ensures.refused
     (λ r refused.
     for_source r (counted _ c.args.question.now.programs.now (c.is_program_count.ensures.0 c.if-not-is_program_count.false))
-    (for_plan r c.in_ok-log.log (is_log _ _ _ c.sectors.result c.in_ok-log.ensures.sectors c.sectors.ensures.value c.in_ok-log.ensures.text) refused))
+    (for_plan r c.in_ok-log.log c.in_ok-log.ensures.log refused))

@@ -11,8 +11,8 @@ loop-block-preserved g c =
       c.piece_through.ensures.board ∙ c.draw.ensures.board ∙ board,
       c.piece_through.ensures.changes ∙ log,
       λ hand h. rw c.in_ok-push.ensures.items
-          (judges c.args.input.now name c.draw.new.seat c.piece_through.new.seat hand c.in-Some.block at.pieces.items c.in_ok-piece.piece
-          (draws_one c.args.input.now name at.seat c.draw.new.seat hand c.in-Some.block at.pieces.items (taken hand h) c.draw.ensures.board c.in-Some.ensures.block.1 c.in-Some.ensures.taken)
+          (judges c.args.worker.now.input.now name c.draw.new.seat c.piece_through.new.seat hand c.in-Some.block at.pieces.items c.in_ok-piece.piece
+          (draws_one c.args.worker.now.input.now name at.seat c.draw.new.seat hand c.in-Some.block at.pieces.items (taken hand h) c.draw.ensures.board c.in-Some.ensures.block.1 c.in-Some.ensures.taken)
           c.piece_through.ensures.board c.piece_through.ensures.taken c.in_ok-piece.ensures.added),
     )
 
@@ -26,4 +26,4 @@ pub returns-clause-taken : goal.returns-clause-taken
 returns-clause-taken g c = λ hand h.
     let at = c.loop-block in
     let (board, log, taken) = at.invariant in
-    draws_no_more c.args.input.now c.args.board.now.name at.seat c.draw.new.seat hand at.pieces.items (taken hand h) c.draw.ensures.board c.in_default.ensures.none c.in_default.ensures.none_taken
+    draws_no_more c.args.worker.now.input.now c.args.board.now.name at.seat c.draw.new.seat hand at.pieces.items (taken hand h) c.draw.ensures.board c.in_default.ensures.none c.in_default.ensures.none_taken

@@ -5,8 +5,8 @@ use Rattle.workers.specs.Taking.{HasTaken}
 use Rattle.workers.proofs.taking.draw_blocks.Given as goal
 
 abbrev pub invariant-loop-block : goal.invariant-loop-block
-invariant-loop-block g l = (l.seat.board ≡ l.board.name) × (l.changes ≡ l.input.plan.log)
-    × ((hand : HandValue) → HasTaken l.input l.board.name l.initial.seat hand [] l.initial.pieces.items → HasTaken l.input l.board.name l.seat hand [] l.pieces.items)
+invariant-loop-block g l = (l.seat.board ≡ l.board.name) × (l.changes ≡ l.worker.input.now.plan.log)
+    × ((hand : HandValue) → HasTaken l.worker.input.now l.board.name l.initial.seat hand [] l.initial.pieces.items → HasTaken l.worker.input.now l.board.name l.seat hand [] l.pieces.items)
 
 abbrev pub decreases-loop-block : goal.decreases-loop-block
 decreases-loop-block g l = l.board.name.blocks - next_seen l.seat.steps

@@ -9,7 +9,7 @@ use Rattle.workers.proofs.taking.piece_taken.Goals.{in-Some-first_failing, in_de
 pub returns-in-Some-clause-added : goal.returns-in-Some-clause-added
 returns-in-Some-clause-added g c =
     rw c.passed.ensures
-    (adds_passed c.args.input.now c.args.block c.in-Some.image c.args.seat.now.steps c.image_before.new.seat.steps c.image_before.ensures.posts c.requires.block c.in-Some.ensures.found.0 c.in-Some.ensures.found.1)
+    (adds_passed c.args.worker.now.input.now c.args.block c.in-Some.image c.args.seat.now.steps c.image_before.new.seat.steps c.image_before.ensures.posts c.requires.block c.in-Some.ensures.found.0 c.in-Some.ensures.found.1)
 
 pub returns-clause-seen : goal.returns-clause-seen
 returns-clause-seen g c = elim c.match-first_failing.branch [
@@ -25,8 +25,8 @@ returns-clause-added g c = elim c.match-first_failing.branch [
   | in-Some-first_failing w ↦
       let step = w.post.ensures.step in
       rw w.seat-is
-      (adds_last c.args.input.now c.args.block w.in-Some-first_failing.image step.0 c.args.seat.now.steps c.image_before.new.seat.steps w.post.new.seat.steps c.in_ok-piece.piece c.image_before.ensures.posts step.1
+      (adds_last c.args.worker.now.input.now c.args.block w.in-Some-first_failing.image step.0 c.args.seat.now.steps c.image_before.new.seat.steps w.post.new.seat.steps c.in_ok-piece.piece c.image_before.ensures.posts step.1
       c.in_ok-piece.ensures.piece c.requires.block (sym c.first_failing.ensures.value ∙ w.in-Some-first_failing.is))
   | in_default-first_failing w ↦
-      rw (w.seat-is, c.in_ok-piece.ensures.piece) (adds_full c.args.input.now c.args.block c.args.seat.now.steps c.image_before.new.seat.steps c.image_before.ensures.posts c.requires.block)
+      rw (w.seat-is, c.in_ok-piece.ensures.piece) (adds_full c.args.worker.now.input.now c.args.block c.args.seat.now.steps c.image_before.new.seat.steps c.image_before.ensures.posts c.requires.block)
 ]

@@ -1,16 +1,16 @@
-use Rattle.std.proofs.Common.{◌≡◌, ◌∙◌, [], ◌∷◌}
-use Rattle.workers.proofs.Takes.{takes, judges}
+use Rattle.std.proofs.Common.{◌≡◌, ◌∙◌, [], ◌∷◌, refl}
+use Rattle.workers.proofs.Takes.{none_taken, takes, judges}
 use Rattle.workers.proofs.taking.take_blocks.Goals as goal
 
 pub returns-in_default-clause-taken : goal.returns-in_default-clause-taken
 returns-in_default-clause-taken g c =
     let at = c.loop-turn in
-    takes c.args.input.now c.args.board.now.name at.seat c.take.new.seat at.hand c.take.new.self [] at.pieces.items at.invariant.0 c.take.ensures.board c.in_default.ensures.taken
+    takes c.args.worker.now.input.now c.args.board.now.name at.seat c.take.new.seat at.hand c.take.new.self [] at.pieces.items at.invariant.0 c.take.ensures.board c.in_default.ensures.taken
 
 pub loop-turn-preserved : goal.loop-turn-preserved
 loop-turn-preserved g c =
     let at = c.loop-turn in
-    let s = c.args.input.now in
+    let s = c.args.worker.now.input.now in
     let name = c.args.board.now.name in
     let block = c.in-Some.block in (
       rw c.in_ok-push.ensures.items
@@ -19,3 +19,8 @@ loop-turn-preserved g c =
           c.in_ok-piece.ensures.added),
       c.piece_through.ensures.changes ∙ at.invariant.1,
     )
+
+pub loop-turn-init : goal.loop-turn-init
+loop-turn-init g c =
+    let none : c.new-pieces.result.items ≡ [] = c.new-pieces.ensures.items in
+    (rw (← c.requires.board, c.requires.fresh.1, none) (none_taken c.args.worker.now.input.now c.args.seat.now c.requires.fresh.0), c.requires.changes)

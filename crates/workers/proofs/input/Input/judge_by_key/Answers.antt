@@ -8,14 +8,14 @@ use Rattle.workers.proofs.input.Input.judge_by_key.Goals as goal
 pub returns : goal.returns
 returns g c =
     let last : c.loop-number.number ≡ length c.args.self.now.checkers = rw (← c.self.view_is) (omega (arith, c.loop-number-test.false, c.loop-number.auto.number-end)) in
-    c.loop-number.invariant.0 ∙ ap (λ (ls : List FailingLine). c.args.lines.now ++ ls) (lines_of_image c.args.self.now c.args.image c.loop-number.number last)
+    c.loop-number.invariant.0 ∙ ap (λ (ls : List FailingLine). c.args.lines.now ++ ls) (lines_of_image c.args.self.now c.args.seen.now.image c.loop-number.number last)
 
 pub outcome_of-outcome-requires-clause-device : goal.outcome_of-outcome-requires-clause-device
 outcome_of-outcome-requires-clause-device g c =
     let checkers = c.self.inside.checkers.now in
     let there : slice_get checkers c.loop-number.number ≡ Some c.checker-item.result =
     slice_get_read checkers (length checkers) c.loop-number.number c.checker-item.result refl c.loop-number-test.true c.checker-item.is in
-    each_fits c.args.self.now c.args.view.now c.args.choice.now c.loop-number.number c.checker-item.result (rw (← c.self.view_is) c.self.invariant.device) c.requires.view (rw (← c.self.view_is) there)
+    each_fits c.args.self.now c.args.seen.now.view.now c.args.seen.now.choice.now c.loop-number.number c.checker-item.result (rw (← c.self.view_is) c.self.invariant.device) c.requires.view (rw (← c.self.view_is) there)
 
 pub loop-number-preserved : goal.loop-number-preserved
 loop-number-preserved g c =
@@ -23,9 +23,9 @@ loop-number-preserved g c =
     let there : slice_get checkers c.loop-number.number ≡ Some c.checker-item.result =
     slice_get_read checkers (length checkers) c.loop-number.number c.checker-item.result refl c.loop-number-test.true c.checker-item.is in
     let (lines, program, told) = c.loop-number.invariant in (
-      checker_found c.args.self.now c.self.inside.by c.args.image c.loop-number.number c.args.choice.now c.checker-item.result _ c.args.lines.now c.loop-number.lines _ (rw (← c.self.view_is) c.self.invariant.by_is) c.requires.choice (rw (← c.self.view_is) there)
-          (c.outcome_of-outcome.ensures ∙ same_ending c.args.self.now _ c.args.choice.now c.checker-item.result c.requires.run.plan_is)
+      checker_found c.args.self.now c.self.inside.by c.args.seen.now.image c.loop-number.number c.args.seen.now.choice.now c.checker-item.result _ c.args.lines.now c.loop-number.lines _ (rw (← c.self.view_is) c.self.invariant.by_is) c.requires.choice (rw (← c.self.view_is) there)
+          (c.outcome_of-outcome.ensures ∙ same_ending c.args.self.now _ c.args.seen.now.choice.now c.checker-item.result c.requires.run.plan_is)
           lines c.in_ok-push_failing.ensures,
       _,
-      c.set_program.ensures.told c.args.view.now program told,
+      c.set_program.ensures.told c.args.seen.now.view.now program told,
     )

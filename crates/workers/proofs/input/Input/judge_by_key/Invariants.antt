@@ -6,5 +6,5 @@ use Rattle.workers.proofs.input.Input.judge_by_key.Given as goal
 
 abbrev pub invariant-loop-number : goal.invariant-loop-number
 invariant-loop-number g l =
-    (l.lines ≡ l.initial.lines ++ filter_map (line_of l.self l.image) (range_with_len 0 l.number))
-    × (p : ℕ) × (key_of l.view p ≡ Some l.key)
+    (l.lines ≡ l.initial.lines ++ filter_map (line_of l.self l.seen.image) (range_with_len 0 l.number))
+    × (p : ℕ) × (key_of l.seen.view.now p ≡ Some l.key)

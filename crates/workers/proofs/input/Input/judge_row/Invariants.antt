@@ -1,8 +1,0 @@
-use Rattle.std.proofs.Common.{◌≡◌, ◌++◌, ◌-◌, ◌<◌, slice_get, Some}
-use Rattle.workers.specs.Failing.{lines_from, choices_of, image_count}
-use Rattle.workers.proofs.input.Input.judge_row.Given as goal
-
-abbrev pub invariant-loop-image : goal.invariant-loop-image
-invariant-loop-image g l = (l.lines ≡ l.initial.lines ++ lines_from l.self l.first (l.image - l.first))
-    × (l.image < image_count l.self → slice_get (choices_of l.self) l.image ≡ Some l.choice)
-    × (l.changes ≡ l.initial.changes)
