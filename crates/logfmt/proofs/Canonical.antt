@@ -168,7 +168,7 @@ is_super n rest few =
     }
 
 pub canonical_is_text : CanonicalIsText
-canonical_is_text log is =
+canonical_is_text log is recorded =
     let es : List Entry = log.entries in
     let whole = front_length log.sectors es (length es) is.entries (omega arith) in
     let all : take (length es) es ≡ es = take_all (length es) es (omega arith) in
@@ -180,8 +180,9 @@ canonical_is_text log is =
       super = is_super (length es) (flat_map entry_sectors es) is.count;
       stands = all_stand log.sectors es is.entries is.units;
       bounds = is;
+      recorded = recorded;
     }
 
 pub canonical_reads_back : CanonicalReadsBack
-canonical_reads_back log read is text device =
-    text_of_one_log (canonical_text log.entries) read log text (canonical_is_text log is) device
+canonical_reads_back log read is recorded text device =
+    text_of_one_log (canonical_text log.entries) read log text (canonical_is_text log is recorded) device

@@ -5,3 +5,4 @@ pub mod Canonical
 pub mod NoFault
 pub mod OneFault
 pub mod DataBytes
+pub mod Flushed

@@ -40,10 +40,10 @@ length_passes bytes sectors p e stands is =
     ] in
     rw bit (by_kind e.flags.mark refl)
 
-mark_passes : (bytes : List ℕ) (sectors p : ℕ) (e : Entry) → StandsAt bytes p e → IsEntry sectors e
+mark_passes : (bytes : List ℕ) (sectors p : ℕ) (e : Entry) → StandsAt bytes p e → IsEntry sectors e → (e.flags.mark ≡ true → e.flags.flush ≡ false)
     → (not (has_bit (word_at bytes p) 8) || has_mark_form (word_at bytes p) (count_at bytes p) (length_at bytes p)) ≡ true
 unfolding has_mark_form
-mark_passes bytes sectors p e stands is =
+mark_passes bytes sectors p e stands is recorded =
     let bit = bit_is bytes p e 8 e.flags.mark stands (flag_mark e.flags) in
     let flush = bit_is bytes p e 1 e.flags.flush stands (flag_flush e.flags) in
     let fua = bit_is bytes p e 2 e.flags.fua stands (flag_fua e.flags) in
@@ -55,15 +55,16 @@ mark_passes bytes sectors p e stands is =
           let form : IsMark e = is.mark k in
           let none : count_at bytes p ≡ 0 = sym stands.count ∙ form.count in
           let short : nat_le (length_at bytes p) 480 ≡ true = grind (arith, nat_tests, form.text, stands.text_length) in
-          rw (flush ∙ form.flush, fua ∙ form.fua, discard ∙ form.discard, none, short) refl
+          rw (flush ∙ recorded k, fua ∙ form.fua, discard ∙ form.discard, none, short) refl
       | false ↦ λ k. refl
     ] in
     rw bit (by_kind e.flags.mark refl)
 
-entry_passes : (bytes : List ℕ) (sectors p units : ℕ) (e : Entry) → StandsAt bytes p e → IsEntry sectors e → units + e.count ≤ 262144
+entry_passes : (bytes : List ℕ) (sectors p units : ℕ) (e : Entry) → StandsAt bytes p e → IsEntry sectors e
+    → (e.flags.mark ≡ true → e.flags.flush ≡ false) → units + e.count ≤ 262144
     → first_failing (entry_checks bytes sectors p units) ≡ None
 unfolding entry_checks
-entry_passes bytes sectors p units e stands is few =
+entry_passes bytes sectors p units e stands is recorded few =
     let here : nat_le (512 * (p + 1)) (length bytes) ≡ true = grind (arith, nat_tests, stands.whole) in
     let known : nat_lt (word_at bytes p) 32 ≡ true = grind (arith, nat_tests, stands.flags, flag_word-lt e.flags) in
     let inside : ((count_at bytes p == 0) || nat_le (sector_at bytes p + count_at bytes p) sectors) ≡ true =
@@ -71,7 +72,7 @@ entry_passes bytes sectors p units e stands is few =
     let room : nat_le (units + count_at bytes p) 262144 ≡ true = grind (arith, nat_tests, stands.count, few) in
     let behind : data_of e ≡ data_sectors bytes p = same_data bytes p e stands in
     let whole : nat_le (512 * (p + 1 + data_sectors bytes p)) (length bytes) ≡ true = grind (arith, nat_tests, stands.whole, behind) in
-    rw (here, known, length_passes bytes sectors p e stands is, mark_passes bytes sectors p e stands is, inside, room, whole) refl
+    rw (here, known, length_passes bytes sectors p e stands is, mark_passes bytes sectors p e stands is recorded, inside, room, whole) refl
 
 header_place : (bytes : List ℕ) (es : List Entry) (i : ℕ) → AllStand bytes es → i ≤ length es → header bytes i ≡ place es i
 header_place bytes es zero stand h = refl
@@ -112,7 +113,7 @@ text_passes bytes log i text h =
           let same : (get_or es i a.0).count ≡ a.0.count = ap (λ (x : Entry). x.count) a.3 in
           let units = text.bounds.units in
           rw (placed, before)
-          (entry_passes bytes log.sectors (place es i) (units_of (take i es)) a.0 (text.stands i a.0 a.2) (text.bounds.entries i a.0 a.2) (omega (arith, part, same, units)))
+          (entry_passes bytes log.sectors (place es i) (units_of (take i es)) a.0 (text.stands i a.0 a.2) (text.bounds.entries i a.0 a.2) (text.recorded i a.0 a.2) (omega (arith, part, same, units)))
       | inr past ↦ absurd (omega (arith, past.0, h))
     ]
 

@@ -1,11 +1,11 @@
 -- What holds after the first n entries were read: the invariant of the loop of `read`.
-use Rattle.std.proofs.Common.{ℕ, zero, suc, ◌≡◌, ◌+◌, ◌*◌, ◌<◌, ◌≤◌, if◌then◌else◌, List, [], ◌∷◌, ◌++◌, length, slice_get, Some, None, refl, sym, ◌∙◌, inl, inr, arith, length-append, add-one, below_more}
+use Rattle.std.proofs.Common.{ℕ, zero, suc, true, false, ◌≡◌, ◌+◌, ◌*◌, ◌<◌, ◌≤◌, if◌then◌else◌, List, [], ◌∷◌, ◌++◌, length, slice_get, Some, None, refl, sym, ◌∙◌, inl, inr, arith, length-append, add-one, below_more}
 use Rattle.std.proofs.lemmas.List.Sums.{sum_by_push}
 use Rattle.std.proofs.lemmas.Option.{slice_get_within}
 use Rattle.base.proofs.Lists.{slice_get-append_left, slice_get-push, slice_get_of_push}
 use Rattle.base.specs.Check.{first_failing}
 use Rattle.logfmt.specs.declared.entry.Entry.{Entry}
-use Rattle.logfmt.specs.Bounds.{IsEntry, AreEntries, units_of, data_of, place}
+use Rattle.logfmt.specs.Bounds.{IsEntry, AreEntries, AreRecorded, units_of, data_of, place}
 use Rattle.base.specs.Numbers.{number_at}
 use Rattle.base.specs.declared.causes.LogCause.{LogCause}
 use Rattle.logfmt.specs.LogText.{LogText, StandsAt, AllStand}
@@ -25,6 +25,7 @@ pub record Progress (bytes : List ℕ) (sectors : ℕ) (es : List Entry) (n p u 
   pub within : u ≤ 262144
   pub stand : AllStand bytes es
   pub entries : AreEntries sectors es
+  pub recorded : AreRecorded es
   pub pass : EntriesPass bytes sectors n
 
 -- the header places do not depend on what follows
@@ -55,6 +56,7 @@ start bytes sectors h = record {
   within = omega arith;
   stand = λ i e k. absurd (let bad : None ≡ Some e = k in cc);
   entries = λ i e k. absurd (let bad : None ≡ Some e = k in cc);
+  recorded = λ i e k. absurd (let bad : None ≡ Some e = k in cc);
   pass = λ i k. absurd (omega (arith, k));
 }
 
@@ -67,10 +69,10 @@ same_data bytes p e stands =
 pub go_on : (bytes : List ℕ) (sectors : ℕ) (es : List Entry) (n p u : ℕ) (e : Entry)
     → Progress bytes sectors es n p u
     → first_failing (entry_checks bytes sectors p u) ≡ None
-    → StandsAt bytes p e → IsEntry sectors e
+    → StandsAt bytes p e → IsEntry sectors e → (e.flags.mark ≡ true → e.flags.flush ≡ false)
     → (h : Header) → HeaderStands bytes p h → u + h.count ≤ 262144 → (d : ℕ) → d ≡ (if h.flags.discard then 0 else h.count)
     → Progress bytes sectors (es ++ e ∷ []) (n + 1) (p + (1 + d)) (u + h.count)
-go_on bytes sectors es n p u e so passes stands fits h has room d behind_is =
+go_on bytes sectors es n p u e so passes stands fits recorded h has room d behind_is =
     let count : e.count ≡ h.count = stands.count ∙ sym has.count in
     let behind : d ≡ data_sectors bytes p = behind_is ∙ rw (has.discard, has.count) refl in
     let content : data_of e ≡ data_sectors bytes p = same_data bytes p e stands in
@@ -90,6 +92,10 @@ go_on bytes sectors es n p u e so passes stands fits h has room d behind_is =
         | inl was ↦ so.entries i x was
         | inr last ↦ rw last.1 fits
       ];
+      recorded = λ i x k. elim (slice_get_of_push es e i x k) [
+        | inl was ↦ so.recorded i x was
+        | inr last ↦ rw last.1 recorded
+      ];
       pass = below_more _ n so.pass (rw (so.header, so.before) passes);
     }
 
@@ -101,6 +107,7 @@ whole_text bytes sectors es n p u s some device count so = record {
   super = record { whole = s.whole; magic = s.magic; version = s.version; entries = count ∙ sym so.count; sector_size = s.sector_size };
   stands = so.stand;
   bounds = record { some = some; device = device; count = omega (arith, s.count, count, so.count); units = omega (arith, so.sum, so.within); entries = so.entries; size = rw (so.count, so.placed) (omega (arith, so.inside, s.size)) };
+  recorded = so.recorded;
 }
 
 -- the first fault, at an entry behind those that passed

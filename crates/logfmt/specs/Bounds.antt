@@ -26,9 +26,8 @@ abbrev pub place : List Entry → ℕ → ℕ
 place es zero = 1
 place es (suc i) = place es i + 1 + data_at es i
 
--- a mark writes nothing, asks nothing of the device, and its text fits its header
+-- a mark writes nothing, and its text fits its header
 pub record IsMark (e : Entry) : Type 0 where
-  pub flush : e.flags.flush ≡ false
   pub fua : e.flags.fua ≡ false
   pub discard : e.flags.discard ≡ false
   pub count : e.count ≡ 0
@@ -50,6 +49,10 @@ pub record IsEntry (sectors : ℕ) (e : Entry) : Type 0 where
 -- each entry of the list is one for that device
 abbrev pub AreEntries : ℕ → List Entry → Type 0
 AreEntries sectors es = (i : ℕ) (e : Entry) → slice_get es i ≡ Some e → IsEntry sectors e
+
+-- as entries are recorded: no mark is a flush too
+abbrev pub AreRecorded : List Entry → Type 0
+AreRecorded es = (i : ℕ) (e : Entry) → slice_get es i ≡ Some e → e.flags.mark ≡ true → e.flags.flush ≡ false
 
 -- within the limits
 pub record IsLog (log : LogValue) : Type 0 where

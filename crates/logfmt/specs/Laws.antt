@@ -1,7 +1,7 @@
 -- What holds of the texts of logs as a whole: `read` and `write` lead back and forth.
 use Rattle.std.specs.Prelude.{ℕ, ◌≡◌, List}
 use Rattle.base.specs.declared.causes.LogCause.{LogCause}
-use Rattle.logfmt.specs.Bounds.{LogValue, IsLog}
+use Rattle.logfmt.specs.Bounds.{LogValue, IsLog, AreRecorded}
 use Rattle.logfmt.specs.LogText.{LogText, canonical_text}
 use Rattle.logfmt.specs.Faults.{FirstFault}
 
@@ -9,14 +9,14 @@ use Rattle.logfmt.specs.Faults.{FirstFault}
 abbrev pub TextOfOneLog : Type 0
 TextOfOneLog = (bytes : List ℕ) (a b : LogValue) → LogText bytes a → LogText bytes b → a.sectors ≡ b.sectors → a ≡ b
 
--- the canonical text of a log is a text of it
+-- the canonical text of a log as it is recorded is a text of it
 abbrev pub CanonicalIsText : Type 0
-CanonicalIsText = (log : LogValue) → IsLog log → LogText (canonical_text log.entries) log
+CanonicalIsText = (log : LogValue) → IsLog log → AreRecorded log.entries → LogText (canonical_text log.entries) log
 
--- a log that is read from the canonical text of a log, for the same device, is that log
+-- a log that is read from the canonical text of such a log, for the same device, is that log
 abbrev pub CanonicalReadsBack : Type 0
 CanonicalReadsBack =
-    (log read : LogValue) → IsLog log → LogText (canonical_text log.entries) read → read.sectors ≡ log.sectors → read ≡ log
+    (log read : LogValue) → IsLog log → AreRecorded log.entries → LogText (canonical_text log.entries) read → read.sectors ≡ log.sectors → read ≡ log
 
 -- no check fails at a text of a log
 abbrev pub TextHasNoFault : Type 0

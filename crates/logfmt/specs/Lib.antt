@@ -4,4 +4,5 @@ pub mod Bounds
 pub mod LogText
 pub mod Faults
 pub mod Header
+pub mod Flushed
 pub mod Laws

@@ -5,7 +5,7 @@ use Rattle.std.specs.List.{slice_range, flat_map}
 use Rattle.base.specs.Numbers.{number_at, number_bytes, zeros}
 use Rattle.logfmt.specs.declared.entry.Entry.{Entry}
 use Rattle.logfmt.specs.Flags.{flag_word}
-use Rattle.logfmt.specs.Bounds.{LogValue, IsLog, data_of, place}
+use Rattle.logfmt.specs.Bounds.{LogValue, IsLog, AreRecorded, data_of, place}
 
 -- sector 0 is the super block of a log of that many entries
 pub record IsSuper (bytes : List ℕ) (count : ℕ) : Type 0 where
@@ -35,6 +35,7 @@ pub record LogText (bytes : List ℕ) (log : LogValue) : Type 0 where
   pub super : IsSuper bytes (length log.entries)
   pub stands : AllStand bytes log.entries
   pub bounds : IsLog log
+  pub recorded : AreRecorded log.entries
 
 -- the canonical text: zeros in all unused places, nothing behind the last entry
 unfoldable pub super_sector : ℕ → List ℕ

@@ -54,6 +54,14 @@ impl Log {
         Log { sectors, entries }
     }
 
+    /// Its entries, taken out of it.
+    pub(crate) fn into_entries(self) -> Vec<Entry>
+        ensures value { result.items ≡ self.entries }
+        ensures bounds { IsLog self }
+    {
+        self.entries
+    }
+
     /// The number of sectors of the device.
     pub fn sectors(&self) -> u32
         ensures value { result ≡ self.now.sectors }

@@ -62,6 +62,7 @@
 mod entry;
 mod fault;
 mod flags;
+mod flushes;
 mod header;
 mod laws;
 mod reader;

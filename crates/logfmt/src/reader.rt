@@ -1,6 +1,6 @@
 //! From bytes to a log: one pass, in which each check is made once and in its order.
 
-ghost use Rattle.std.specs.Prelude.{◌≡◌, ◌≤◌, ◌<◌, ◌+◌, ◌*◌, ◌⊎◌, length, IfOk, IfErr, IfNone, OnOk, if◌then◌else◌};
+ghost use Rattle.std.specs.Prelude.{true, false, ◌≡◌, ◌≤◌, ◌<◌, ◌+◌, ◌*◌, ◌⊎◌, length, IfOk, IfErr, IfNone, OnOk, if◌then◌else◌};
 ghost use Rattle.base.specs.Check.{first_failing};
 ghost use Rattle.base.specs.Numbers.{number_at};
 ghost use Rattle.base.specs.declared.causes.LogCause.TheVariants as cause;
@@ -77,6 +77,7 @@ fn entry_of(
     requires fits { HeaderFits sectors header }
     ensures stands { IfOk result (StandsAt bytes.now at) }
     ensures fits { IfOk result (IsEntry sectors) }
+    ensures recorded { IfOk result (λ e. e.flags.mark ≡ true → e.flags.flush ≡ false) }
 {
     let text = SECTOR * at + 32;
     let data = SECTOR * (at + 1);

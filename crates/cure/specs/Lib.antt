@@ -1,0 +1,4 @@
+-- What a cure is.
+pub mod Failures
+pub mod Printed
+pub mod Text

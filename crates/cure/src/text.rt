@@ -1,0 +1,126 @@
+//! What is said of failures and of rounds (the crate's page, The text).
+
+ghost use Rattle.std.specs.Prelude.{◌≡◌, ◌++◌, ◌≤◌, ◌<◌, ℕ, length, filter, map, OnOk, string_bytes};
+ghost use Rattle.std.specs.List.{flat_map, range_with_len};
+ghost use Rattle.cure.specs.Text.{is_of, is_uncured, program_line, programs_text, begin_text, flush_place, flush_line, refused_line};
+
+use crate::failure::Failure;
+use flushes::MissingFlush;
+use report::{Head, put_options};
+use std::alloc::AllocError;
+
+/// How many failures are of the program of that number.
+fn failing(failures: &[Failure], program: usize) -> u64
+    ensures value { result ≡ length (filter (is_of program) failures.now) }
+{
+    let mut count = 0;
+    for failure in failures {
+        count += u64::from(is_of(*failure, program));
+    }
+    count
+}
+
+/// Whether a failure is of the program of that number.
+fn is_of(failure: Failure, program: usize) -> bool
+    ensures { result ≡ is_of program failure }
+{
+    usize::from(failure.program) == program
+}
+
+/// Whether a failure is of the program of that number, and has no window.
+fn is_uncured(failure: Failure, program: usize) -> bool
+    ensures { result ≡ is_uncured program failure }
+{
+    is_of(failure, program) && failure.window.is_none()
+}
+
+/// How many failures of the program of that number have no window.
+fn uncured(failures: &[Failure], program: usize) -> u64
+    ensures value { result ≡ length (filter (is_uncured program) failures.now) }
+{
+    let mut count = 0;
+    for failure in failures {
+        count += u64::from(is_uncured(*failure, program));
+    }
+    count
+}
+
+/// Appends on how many images a program fails, and on how many of these no flush helps.
+#[tactic(auto, unfolding(crate::specs::Text::program_line))]
+fn put_program(out: &mut String, program: usize, failures: &[Failure]) -> Result<(), AllocError>
+    ensures { OnOk result (string_bytes out.new ≡ string_bytes out.old ++ program_line failures.now program) }
+{
+    let failing = failing(failures, program);
+    write!(out, "program {program} failing {failing}")?;
+    let uncured = uncured(failures, program);
+    write!(out, " uncured {uncured}\n")
+}
+
+/// Appends this of each of so many programs.
+fn put_programs(out: &mut String, programs: usize, failures: &[Failure]) -> Result<(), AllocError>
+    ensures { OnOk result (string_bytes out.new ≡ string_bytes out.old ++ programs_text programs failures.now) }
+{
+    for program in 0..programs {
+        put_program(out, program, failures)?;
+    }
+    Ok(())
+}
+
+/// Appends title, options and programs of a run, and of each program on how many images it fails, and on how many of these no
+/// flush helps.
+///
+/// # Errors
+///
+/// Memory was refused.
+#[tactic(auto, unfolding(crate::specs::Text::begin_text))]
+pub fn put_begin(out: &mut String, head: &Head, failures: &[Failure]) -> Result<(), AllocError>
+    ensures { OnOk result (string_bytes out.new ≡ string_bytes out.old ++ begin_text head.now failures.now) }
+{
+    write!(out, "crash cure 1\n")?;
+    put_options(out, head)?;
+    put_programs(out, head.programs.len(), failures)
+}
+
+/// Appends where a flush of a round stands.
+#[tactic(auto, unfolding(crate::specs::Text::flush_place))]
+fn put_place(out: &mut String, round: u64, flush: MissingFlush) -> Result<(), AllocError>
+    ensures { OnOk result (string_bytes out.new ≡ string_bytes out.old ++ flush_place round flush) }
+{
+    write!(out, "round {round} flush before {}", flush.at)?;
+    write!(out, " from {}", flush.from)
+}
+
+/// Appends the line of a flush of a round.
+#[tactic(auto, unfolding(crate::specs::Text::flush_line))]
+fn put_flush(out: &mut String, round: u64, flush: MissingFlush) -> Result<(), AllocError>
+    ensures { OnOk result (string_bytes out.new ≡ string_bytes out.old ++ flush_line round flush) }
+{
+    put_place(out, round, flush)?;
+    write!(out, " failing {}\n", flush.failing)
+}
+
+/// Appends a line for each flush of the round of that number.
+///
+/// # Errors
+///
+/// Memory was refused.
+pub fn put_round(out: &mut String, round: u64, flushes: &[MissingFlush]) -> Result<(), AllocError>
+    ensures { OnOk result (string_bytes out.new ≡ string_bytes out.old ++ flat_map (flush_line round) flushes.now) }
+{
+    for flush in flushes {
+        put_flush(out, round, *flush)?;
+    }
+    Ok(())
+}
+
+/// Appends that a run has too many images, by the cut with which their number passes the limit.
+///
+/// # Errors
+///
+/// Memory was refused.
+#[tactic(auto, unfolding(crate::specs::Text::refused_line))]
+pub fn put_refused(out: &mut String, at: u64) -> Result<(), AllocError>
+    ensures { OnOk result (string_bytes out.new ≡ string_bytes out.old ++ refused_line at) }
+{
+    write!(out, "refused 12 at {at}\n")
+}

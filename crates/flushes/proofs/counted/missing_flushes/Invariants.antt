@@ -1,0 +1,6 @@
+use Rattle.std.proofs.Common.{ℕ, ◌≡◌, take}
+use Rattle.flushes.specs.Counted.{missing}
+use Rattle.flushes.proofs.counted.missing_flushes.Given as goal
+
+abbrev pub invariant-loop-window : goal.invariant-loop-window
+invariant-loop-window l = l.flushes.items ≡ missing (take l.window-index l.fn.windows) l.places.items

@@ -1,0 +1,39 @@
+//! Where a flush would take failing images away, and the fewest flushes that would take away all that a flush can.
+//!
+//! A failing image is a cut and a choice. A flush between the first entry of which something departs and the last entry of
+//! which something arrived forbids it: these places are its window. Where nothing arrived behind the first departure the
+//! image is that of an earlier cut, and no flush helps.
+//!
+//! | Call | Answer |
+//! |---|---|
+//! | `window_of(by, log, cut, departures)` | the window of an image, if it has one |
+//! | `missing_flushes(alloc, windows, entries)` | the fewest places of which each window holds one, and how many windows are counted at each |
+//!
+//! # Place
+//!
+//! On `choices`, whose departures it takes. It judges nothing, and explores nothing.
+//!
+//! # What is proved
+//!
+//! `specs/Windows.antt` says what a window is (`IsWindow`), and where there is none. `specs/Places.antt` says which places are
+//! answered (`AreMissing`): each is the end of the first window that holds none of those before it, so each window holds one,
+//! and each window is counted at its first place. Two laws stand above (`specs/Laws.antt`): no fewer places have one in each
+//! window (`places_are_fewest`), and the counts add up to the number of windows (`each_is_counted_once`).
+//!
+//! # How it is written
+//!
+//! Behind the first departure entries are looked at from the cut back. At most three parts depart, so few writes are passed
+//! over. Of the windows with one end only the one that begins last decides, so a table of the entries takes their place, and
+//! one walk along it finds the places.
+#![tactic(auto)]
+
+mod counted;
+mod laws;
+mod places;
+mod window;
+
+pub use counted::{MissingFlush, missing_flushes};
+pub use laws::{
+    each_is_counted_once, flush_elsewhere_leaves, flush_takes_away, places_are_fewest, same_is_left,
+};
+pub use window::{Window, window_of};
