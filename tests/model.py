@@ -6,7 +6,7 @@ answer isn't worked out: a checker is a function of an image that stands for a p
 """
 import functools
 import struct
-from dataclasses import dataclass
+from dataclasses import dataclass, replace
 
 from notation import DISCARD, FIRST_LINE, FLUSH, FUA, MARK, SECTOR
 
@@ -103,16 +103,28 @@ def departures(parts, count, fates):
 
 
 class Run:
-    """A log, the size of the device, and which images are wanted."""
+    """A log, the size of the device, and which images are wanted. `recorded` is the log without the flushes that are added."""
 
-    def __init__(self, entries, sectors=4, cuts="all", bound=1, tears=False, by="sector"):
+    def __init__(self, entries, sectors=4, cuts="all", bound=1, tears=False, by="sector", flush=(), first=None, last=None):
+        self.recorded = entries
+        entries = [replace(it, flags=it.flags | FLUSH) if number in flush else it for number, it in enumerate(entries)]
         self.entries, self.sectors, self.cuts, self.bound, self.tears, self.by = entries, sectors, cuts, bound, tears, by
+        self.flush, self.first, self.last = flush, first, last
         self.parts = [part for number, entry in enumerate(entries) for part in parts_of(number, entry, by)]
 
     def options(self):
         """The options of the command line that ask for this run."""
         words = f"--sectors {self.sectors} --cuts {self.cuts} --bound {self.bound}{' --tears' if self.tears else ''}"
-        return words + (" --by write" if self.by == "write" else "")
+        words += " --by write" if self.by == "write" else ""
+        words += f" --flush {','.join(str(it) for it in self.flush)}" if self.flush else ""
+        words += f" --from {self.first}" if self.first is not None else ""
+        return words + (f" --to {self.last}" if self.last is not None else "")
+
+    def told(self):
+        """What is told of the cuts behind their kind: the flushes that were added, and the range."""
+        flush = ",".join(str(it) for it in self.flush) or None
+        words = (("flush", flush), ("from", self.first), ("to", self.last))
+        return "".join(f" {word} {value}" for word, value in words if value is not None)
 
     def flushes(self, start, end):
         """How many flush entries there are from `start` to before `end`."""
@@ -125,6 +137,12 @@ class Run:
         return sum(1 for it in self.entries[:cut] if it.flags & MARK)
 
     def wanted_cuts(self):
+        """The cuts of the kind that stand in the range."""
+        first = 0 if self.first is None else self.first
+        last = len(self.entries) if self.last is None else self.last
+        return [cut for cut in self.cuts_of_kind() if first <= cut <= last]
+
+    def cuts_of_kind(self):
         count = len(self.entries)
         if self.cuts == "all":
             return list(range(count + 1))
@@ -193,7 +211,7 @@ def failing_lines(image, checkers):
 def head(run, checkers, first):
     text = f"sectors {run.sectors} entries {len(run.entries)} cuts {run.cuts} bound {run.bound}"
     text += f" tears {'yes' if run.tears else 'no'} first {'yes' if first else 'no'}"
-    text += " by write\n" if run.by == "write" else "\n"
+    text += (" by write" if run.by == "write" else "") + run.told() + "\n"
     return text + "".join(f"program {number} {it.about}\n" for number, it in enumerate(checkers))
 
 
@@ -318,7 +336,7 @@ def shown_lines(run, image):
     cut, whole = image.cut, Image(image.number, image.cut, (), run)
     yield (
         f"sectors {run.sectors} entries {len(run.entries)} cuts {run.cuts} bound {run.bound}"
-        f" tears {'yes' if run.tears else 'no'} by {run.by}"
+        f" tears {'yes' if run.tears else 'no'} by {run.by}{run.told()}"
     )
     yield f"cut {cut} epoch {image.epoch()} marks {image.marks()} choice {image.choice()}"
     yield from (departed(part, fate) for part, fate in image.departures)

@@ -25,7 +25,7 @@ def paged(name, options, entries, programs, out, status):
 
 def modelled(name, run):
     status = 1 if any_fails(run) else 0
-    return paged(f"page: {name}", run.options(), run.entries, PROGRAMS[:2], Long(lambda: page(run, CHECKERS[:2])), status)
+    return paged(f"page: {name}", run.options(), run.recorded, PROGRAMS[:2], Long(lambda: page(run, CHECKERS[:2])), status)
 
 
 def design(which, run, about, judge, status):
@@ -33,7 +33,7 @@ def design(which, run, about, judge, status):
     wanted = page(run, [Checker(about, judge)]).encode()
     assert wanted == data(EXAMPLES / f"{which}.page.html"), f"{which}.page.html isn't the model's"
     folder = which.split("/")[0]
-    return paged(f"page: {which}", run.options(), run.entries, data(EXAMPLES / f"{folder}/checker.bpf"), wanted, status)
+    return paged(f"page: {which}", run.options(), run.recorded, data(EXAMPLES / f"{folder}/checker.bpf"), wanted, status)
 
 
 ROWS = [

@@ -108,9 +108,20 @@ def runs():
                 yield f"{name} {cuts} {bound}{words}{' by write' if by == 'write' else ''}", run
 
 
+def narrowed():
+    """Runs with flushes that are added, and with ranges of cuts, by name."""
+    some = [dict(flush=(0,)), dict(flush=(2, 1, 2)), dict(flush=(3,), first=1, last=4), dict(first=2), dict(last=3), dict(first=3, last=3)]
+    for name, (sectors, entries) in LOGS.items():
+        for more, cuts, by in product(some, ["all", "flush", "mark"], ["sector", "write"]):
+            named = [*more.get("flush", ()), more.get("first", 0) - 1, more.get("last", 0) - 1]
+            run = Run(entries, sectors, cuts, 1, True, by, **more)
+            if max(named) < len(entries) and count(run) <= MOST:
+                yield f"{name} {run.options()}", run
+
+
 def modelled(name, run):
     """The report, the report of the first failing image, and the survey of a run."""
-    entries, options = run.entries, run.options()
+    entries, options = run.recorded, run.options()
     status = 1 if count(run) else 0
     return [
         explore(f"model: {name}", options, entries, PROGRAMS, Long(lambda: explored(run, CHECKERS)), status),
@@ -138,7 +149,7 @@ def shown(name, run, numbers):
         Row(
             f"model: {name}, image {number}",
             f"image log {number} {run.options()}",
-            files(run.entries),
+            files(run.recorded),
             images[number].content(),
         )
         for number in numbers
@@ -152,6 +163,7 @@ PAGES = Run(PAGED, 12, "all", 2, True, "write")
 
 ROWS = [
     *(row for name, run in runs() for row in modelled(name, run)),
+    *(row for name, run in list(narrowed())[::6] for row in modelled(name, run)),
     *shown("torn_over_torn", TORN, [0, 1, 2, 9, 15, 45, 46, 47, 54, 151, 720, 721, 959, 1687, 2409, 3000, 3968, 4094, 4095]),
     *shown("discarded", LOST, range(count(LOST))),
     *shown("ends", WIDE, [0, 1, 30, count(WIDE) - 1]),

@@ -213,6 +213,16 @@ OPTIONS = [
         "a run has 1 to 8 programs",
     ),
     noted("cuts", "images log --sectors 4 --cuts none", {}, "refused 13 at 7", "--cuts is all, flush or mark"),
+    noted("flushes", "images log --sectors 4 --flush 1,", {}, "refused 13 at 12", "--flush is 1 to 64 numbers of entries, with commas between"),
+    noted("range", "images log --sectors 4 --from 2 --to 1", {}, "refused 13 at 13", "--from isn't above --to"),
+    noted(
+        "an entry that the log doesn't have",
+        "images log --sectors 4 --flush 99",
+        files(LOG),
+        "refused 15 at 99",
+        "the log doesn't have it: of --flush each is an entry of the log, and --from and --to are at most the number of"
+        " entries (docs/REPORT.md, Options); 'crashbpf log' lists the entries",
+    ),
     noted("parts", "images log --sectors 4 --by page", {}, "refused 13 at 10", "--by is sector or write"),
     noted(
         "no such image",

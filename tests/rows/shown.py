@@ -15,6 +15,8 @@ RUNS = [
     Run(MANY, sectors=64),
     Run(PAGED, sectors=16, tears=True, by="write"),
     Run(PAGED, sectors=16, bound=2),
+    Run(MARKED, sectors=3, cuts="flush", flush=(0, 5, 2), first=1, last=6),
+    Run(TORN_OVER_TORN, bound=2, flush=(1,), last=3),
 ]
 
 
@@ -28,7 +30,7 @@ def by_number(run, image):
     return Row(
         f"show {image.number} of {run.options()}",
         f"show log {image.number} {run.options()}",
-        files(run.entries),
+        files(run.recorded),
         shown(run, image),
     )
 
@@ -37,7 +39,7 @@ def by_choice(command, run, image, told):
     return Row(
         f"{command} of cut {image.cut} and choice {image.choice()}, {run.options()}",
         f"{command} log --cut {image.cut} --choice {image.choice()} {run.options()}",
-        files(run.entries),
+        files(run.recorded),
         told,
     )
 

@@ -6,7 +6,7 @@ from model import Checker, Run, causes
 from notation import FLUSH, Long, explore
 
 from rows.examples import EXAMPLES, JOURNAL_RIGHT, JOURNAL_WRONG, data, pages, two_slots
-from rows.modelled import CHECKERS, PROGRAMS, any_fails, runs
+from rows.modelled import CHECKERS, PROGRAMS, any_fails, narrowed, runs
 
 # How many images a run may have whose groups the model is to find.
 FEW = 700
@@ -21,7 +21,7 @@ def why(name, options, entries, programs, out, status):
 def modelled(name, run):
     """Why two programs fail on the images of a run."""
     status = 1 if any_fails(run) else 0
-    return why(f"why: {name}", run.options(), run.entries, PROGRAMS[:2], Long(lambda: causes(run, CHECKERS[:2])), status)
+    return why(f"why: {name}", run.options(), run.recorded, PROGRAMS[:2], Long(lambda: causes(run, CHECKERS[:2])), status)
 
 
 def design(which, run, about, judge, status):
@@ -29,7 +29,7 @@ def design(which, run, about, judge, status):
     wanted = causes(run, [Checker(about, judge)]).encode()
     assert wanted == data(EXAMPLES / f"{which}.why"), f"{which}.why isn't the model's"
     folder = which.split("/")[0]
-    return why(f"why: {which}", run.options(), run.entries, data(EXAMPLES / f"{folder}/checker.bpf"), wanted, status)
+    return why(f"why: {which}", run.options(), run.recorded, data(EXAMPLES / f"{folder}/checker.bpf"), wanted, status)
 
 
 SLOTS = ("slots 39 budget 87", model.two_slots)
@@ -53,4 +53,5 @@ ROWS = [
         1,
     ),
     *(modelled(name, run) for name, run in runs() if sum(1 for _image in run.images()) <= FEW),
+    *(modelled(name, run) for name, run in list(narrowed())[::20] if sum(1 for _image in run.images()) <= FEW),
 ]

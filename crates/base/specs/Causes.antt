@@ -32,6 +32,7 @@ abbrev pub request_number : RequestCause → ℕ
 request_number request.TooManyImages = 12
 request_number request.Option = 13
 request_number request.File = 14
+request_number request.NotInLog = 15
 
 abbrev pub code_number : CodeCause → ℕ
 code_number code.Length = 20

@@ -52,6 +52,8 @@ pub enum RequestCause {
     Option = 13,
     /// A file cannot be read.
     File = 14,
+    /// An entry or a cut is named that the log doesn't have.
+    NotInLog = 15,
 }
 
 impl RequestCause {

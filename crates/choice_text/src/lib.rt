@@ -12,6 +12,7 @@
 //! | `put_names(out, by, names)` | appends the same of their names |
 //! | `put_part`, `put_fate` | append a part, and what became of it |
 //! | `read_names(alloc, by, text)` | the names of which a text is |
+//! | `put_cuts_words(out, cuts)` | appends the flushes that were added to a log, and the range of the wanted cuts, as the report prints them |
 //!
 //! # What is proved
 //!
@@ -36,8 +37,10 @@
 //! ```
 #![tactic(auto)]
 
+mod cuts;
 mod printing;
 mod reading;
 
+pub use cuts::put_cuts_words;
 pub use printing::{put_departures, put_fate, put_names, put_part};
 pub use reading::read_names;

@@ -1,3 +1,4 @@
 -- What the words of a command line ask for.
+pub mod FlushList
 pub mod Parsed
 pub mod Words

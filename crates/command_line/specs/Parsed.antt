@@ -1,9 +1,11 @@
 -- What the words of a command ask for (docs/REPORT.md, Commands and Options).
-use Rattle.std.specs.Prelude.{ℕ, ◌≡◌, ◌<◌, ◌^◌, ◌++◌, Bool, true, false, List, [], ◌∷◌, length, map, Option, None, Some, option_map, unwrap_or, MatchOption, codes, bytes_eq, if◌then◌else◌}
+use Rattle.std.specs.Prelude.{ℕ, ◌≡◌, ◌<◌, ◌^◌, ◌++◌, Bool, true, false, List, [], ◌∷◌, length, map, Option, None, Some, option_map, unwrap_or, MatchOption, IsSomeAnd, codes, bytes_eq, if◌then◌else◌}
 use Rattle.std.specs.Borrow.{Bor}
 use Rattle.std.specs.Str.Parse.{IsNumeral, digits_value, without_leading_plus}
-use Rattle.epochs.specs.declared.cuts.Cuts.{Cuts}
-use Rattle.epochs.specs.declared.cuts.Cuts.TheVariants as cuts
+use Rattle.epochs.specs.declared.cuts.CutKind.{CutKind}
+use Rattle.epochs.specs.declared.cuts.CutKind.TheVariants as cuts
+use Rattle.epochs.specs.declared.flushes.Flushes.{Flushes}
+use Rattle.epochs.specs.Flushes.{places_of}
 use Rattle.epochs.specs.declared.part.By.{By}
 use Rattle.epochs.specs.declared.part.By.TheVariants as by
 use Rattle.request.specs.declared.command.OptionWords.{OptionWords}
@@ -16,6 +18,7 @@ use Rattle.clap.specs.declared.parser.matches.Found.{Found}
 use Rattle.command_line.specs.declared.parsed.Parsed.{Parsed}
 use Rattle.command_line.specs.declared.parsed.Verb.{Verb}
 use Rattle.command_line.specs.declared.parsed.Verb.TheVariants as verb
+use Rattle.command_line.specs.FlushList.{IsFlushList, NoFlushList}
 
 -- the bytes of a word, if it was written
 abbrev pub written : Option (Bor (List ℕ)) → Option (List ℕ)
@@ -37,7 +40,7 @@ command_named name =
     else None
 
 -- the kind of cut behind --cuts, all cuts where nothing is; none where the word is no kind of cut
-abbrev pub cuts_named : Option (List ℕ) → Option Cuts
+abbrev pub cuts_named : Option (List ℕ) → Option CutKind
 cuts_named None = Some cuts.All
 cuts_named (Some word) =
     if bytes_eq word (codes "all") then Some cuts.All
@@ -53,11 +56,20 @@ parts_named (Some word) =
     else if bytes_eq word (codes "write") then Some by.Write
     else None
 
--- the options, each that isn't written by its default. All commands on a device but `log` want --sectors.
-abbrev pub options_named : Parsed → OptionWords
-options_named p = record {
+-- the flushes that are asked for: none without a word, and else those of the list that the word is; where it is none of 1 to 64
+-- entries, that is kept
+abbrev pub AreFlushes : Option (List ℕ) → Option Flushes → Type 0
+AreFlushes None added = IsSomeAnd added (λ flushes. places_of flushes ≡ [])
+AreFlushes (Some word) added = MatchOption added (NoFlushList 64 word) (λ flushes. IsFlushList word (places_of flushes))
+
+-- the options, each that isn't written by its default, with these flushes. All commands on a device but `log` want --sectors.
+abbrev pub options_with : Parsed → Option Flushes → OptionWords
+options_with p added = record {
   sectors = unwrap_or p.sectors 16384;
+  flushes = added;
   cuts = cuts_named (written p.cuts);
+  from = p.from;
+  to = p.to;
   bound = unwrap_or p.bound 1;
   tears = p.tears;
   by = parts_named (written p.by);
@@ -66,6 +78,11 @@ options_named p = record {
   checked = p.checked;
   first = p.first;
 }
+
+-- the options that are asked for
+pub record AreOptions (p : Parsed) (w : OptionWords) : Type 0 where
+  pub added : AreFlushes (written p.flush) w.flushes
+  pub others : w ≡ options_with p w.flushes
 
 -- the text of a choice, kept if it has at most 96 bytes
 abbrev pub choice_named : Parsed → List ℕ
@@ -78,14 +95,14 @@ IsWhich p (which.Printed cut choice) = (p.cut ≡ Some cut) × MatchOption choic
 
 -- what a command asks for: its options, and the image that it means
 abbrev pub Asks : Parsed → Option Verb → Request → Type 0
-Asks p (Some verb.Explore) r = r ≡ asks.Explore (options_named p)
-Asks p (Some verb.Why) r = r ≡ asks.Why (options_named p)
-Asks p (Some verb.Page) r = r ≡ asks.Page (options_named p)
-Asks p (Some verb.Images) r = r ≡ asks.Images (options_named p)
-Asks p (Some verb.Image) r = (meant : Which) × IsWhich p meant × (r ≡ asks.Image (options_named p) meant)
-Asks p (Some verb.Show) r = (meant : Which) × IsWhich p meant × (r ≡ asks.Show (options_named p) meant)
-Asks p (Some verb.Log) r = r ≡ asks.Log (options_named p)
-Asks p (Some verb.Verify) r = r ≡ asks.Verify (options_named p)
+Asks p (Some verb.Explore) r = (options : OptionWords) × AreOptions p options × (r ≡ asks.Explore options)
+Asks p (Some verb.Why) r = (options : OptionWords) × AreOptions p options × (r ≡ asks.Why options)
+Asks p (Some verb.Page) r = (options : OptionWords) × AreOptions p options × (r ≡ asks.Page options)
+Asks p (Some verb.Images) r = (options : OptionWords) × AreOptions p options × (r ≡ asks.Images options)
+Asks p (Some verb.Image) r = (options : OptionWords) × (meant : Which) × AreOptions p options × IsWhich p meant × (r ≡ asks.Image options meant)
+Asks p (Some verb.Show) r = (options : OptionWords) × (meant : Which) × AreOptions p options × IsWhich p meant × (r ≡ asks.Show options meant)
+Asks p (Some verb.Log) r = (options : OptionWords) × AreOptions p options × (r ≡ asks.Log options)
+Asks p (Some verb.Verify) r = (options : OptionWords) × AreOptions p options × (r ≡ asks.Verify options)
 Asks p (Some verb.Asm) r = r ≡ asks.Asm
 Asks p (Some verb.List) r = r ≡ asks.List p.slots
 Asks p None r = r ≡ asks.StoredRun
@@ -118,7 +135,10 @@ pub record IsRead (found : Found) (p : Parsed) : Type 0 where
   pub file : written p.file ≡ first_value found (codes "file")
   pub programs : option_map (λ ws. map (λ w. w.now) ws.now) p.programs ≡ option_map raw_values (matched_of found (codes "programs"))
   pub sectors : IsNumberOf found (codes "sectors") p.sectors
+  pub flush : written p.flush ≡ first_value found (codes "flush")
   pub cuts : written p.cuts ≡ first_value found (codes "cuts")
+  pub from : IsNumberOf found (codes "from") p.from
+  pub to : IsNumberOf found (codes "to") p.to
   pub bound : IsNumberOf found (codes "bound") p.bound
   pub tears : IsFlagOf found (codes "tears") p.tears
   pub parts : written p.by ≡ first_value found (codes "by")

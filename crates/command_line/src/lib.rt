@@ -14,8 +14,8 @@
 //! | `words.request()` | what it asks for |
 //! | `words.progress()` | whether it is to be said how far an exploration is |
 //!
-//! Without a word, the run that the program holds itself is asked for. A word that names no kind of cut or part is kept as
-//! none, and the text of a choice that is longer than any choice's likewise: these are refusals of the command, with a number
+//! Without a word, the run that the program holds itself is asked for. A word that names no kind of cut or part, or that is no
+//! list of entries, is kept as none, and the text of a choice that is longer than any choice's likewise: these are refusals of the command, with a number
 //! and notes, and no faults of the command line.
 //!
 //! The texts of the help stand in `words.rt`. `tools/man_page.py` makes `docs/crashbpf.1` of what the built program prints of
@@ -37,6 +37,7 @@
 //! ```
 #![tactic(auto)]
 
+mod flush_list;
 mod parsed;
 mod words;
 

@@ -2,11 +2,12 @@
 
 ghost use Rattle.std.specs.Prelude.{◌≡◌, ◌<◌, ◌++◌, length, map, option_map, string_bytes, IfOk, MatchOption, OnOk};
 ghost use Rattle.clap.specs.Words.{found_of};
-ghost use Rattle.command_line.specs.Parsed.{Asks, command_named, cuts_named, files_named, options_named, parts_named, IsFlagOf, IsNumberOf, IsRead, IsWhich};
+ghost use Rattle.command_line.specs.Parsed.{Asks, AreFlushes, AreOptions, command_named, cuts_named, files_named, options_with, parts_named, IsFlagOf, IsNumberOf, IsRead, IsWhich};
 
+use crate::flush_list::flushes_in;
 use arrayvec::ArrayString;
 use clap::ArgMatches;
-use epochs::{By, Cuts};
+use epochs::{By, CutKind, Flushes};
 use request::{OptionWords, Request, Which};
 use std::alloc::{AllocError, Global};
 
@@ -22,8 +23,14 @@ pub struct Parsed<'a> {
     pub programs: Option<&'a [&'a str]>,
     /// The number behind `--sectors`.
     pub sectors: Option<u64>,
+    /// The word behind `--flush`.
+    pub flush: Option<&'a str>,
     /// The word behind `--cuts`.
     pub cuts: Option<&'a str>,
+    /// The number behind `--from`.
+    pub from: Option<u64>,
+    /// The number behind `--to`.
+    pub to: Option<u64>,
     /// The number behind `--bound`.
     pub bound: Option<u64>,
     /// Whether `--tears` stands there.
@@ -85,13 +92,13 @@ fn verb_of(name: &str) -> Option<Verb>
 }
 
 /// The kind of cut that a word names: all cuts where there is no word.
-fn cuts_of(word: Option<&str>) -> Option<Cuts>
+fn cuts_of(word: Option<&str>) -> Option<CutKind>
     ensures { result ≡ cuts_named (option_map (λ w. w.now) word.entry) }
 {
     match word {
-        None | Some("all") => Some(Cuts::All),
-        Some("flush") => Some(Cuts::BeforeFlush),
-        Some("mark") => Some(Cuts::AfterMark),
+        None | Some("all") => Some(CutKind::All),
+        Some("flush") => Some(CutKind::BeforeFlush),
+        Some("mark") => Some(CutKind::AfterMark),
         Some(_) => None,
     }
 }
@@ -104,6 +111,16 @@ fn by_of(word: Option<&str>) -> Option<By>
         None | Some("sector") => Some(By::Sector),
         Some("write") => Some(By::Write),
         Some(_) => None,
+    }
+}
+
+/// The flushes that a word says: none of them where there is no word.
+fn flushes_of(word: Option<&str>) -> Option<Flushes>
+    ensures { AreFlushes (option_map (λ w. w.now) word.entry) result }
+{
+    match word {
+        Some(word) => flushes_in(word),
+        None => Some(Flushes::NONE),
     }
 }
 
@@ -152,7 +169,10 @@ impl<'a> Parsed<'a> {
             file: matches.get_str("file"),
             programs: matches.get_strs("programs"),
             sectors: number_of(matches, "sectors"),
+            flush: matches.get_str("flush"),
             cuts: matches.get_str("cuts"),
+            from: number_of(matches, "from"),
+            to: number_of(matches, "to"),
             bound: number_of(matches, "bound"),
             tears: flag_of(matches, "tears"),
             by: matches.get_str("by"),
@@ -168,13 +188,16 @@ impl<'a> Parsed<'a> {
         }
     }
 
-    /// The options that were written, each that wasn't by its default.
-    fn options(&self) -> OptionWords
-        ensures { result ≡ options_named self.now }
+    /// The options that were written, each that wasn't by its default, with these flushes.
+    fn options_with(&self, flushes: Option<Flushes>) -> OptionWords
+        ensures { result ≡ options_with self.now flushes }
     {
         OptionWords {
             sectors: self.sectors.unwrap_or(16_384),
+            flushes,
             cuts: cuts_of(self.cuts),
+            from: self.from,
+            to: self.to,
             bound: self.bound.unwrap_or(1),
             tears: self.tears,
             by: by_of(self.by),
@@ -183,6 +206,13 @@ impl<'a> Parsed<'a> {
             checked: self.checked,
             first: self.first,
         }
+    }
+
+    /// The options that were written.
+    fn options(&self) -> OptionWords
+        ensures { AreOptions self.now result }
+    {
+        self.options_with(flushes_of(self.flush))
     }
 
     /// Which image is meant: by its cut and its choice, or else by its number.

@@ -148,6 +148,23 @@ fn sectors_option<'a>(alloc: Global) -> Arg<'a> {
         .help("Sectors of the device, 1 to 16384")
 }
 
+/// The option that adds flushes to the log.
+fn flush_option<'a>(alloc: Global) -> Arg<'a> {
+    Arg::new(alloc, "flush")
+        .long("flush")
+        .value_name("E[,E..]")
+        .help("Go as if a flush stood right before each of these entries, up to 64")
+}
+
+/// An option that says where the wanted cuts begin or end.
+fn range_option<'a>(alloc: Global, name: &'a str, help: &'a str) -> Arg<'a> {
+    Arg::new(alloc, name)
+        .long(name)
+        .value_name("K")
+        .value_parser(clap::value_parser!(u64))
+        .help(help)
+}
+
 /// The log of a command.
 fn log_file<'a>(alloc: Global) -> Arg<'a> {
     Arg::new(alloc, "file")
@@ -178,7 +195,14 @@ fn log_command<'a>(alloc: Global, name: &'a str) -> Result<Command<'a>, AllocErr
     );
     Command::new(alloc, name)
         .arg(sectors_option(alloc))?
+        .arg(flush_option(alloc))?
         .arg(cuts)?
+        .arg(range_option(alloc, "from", "The first of the cuts [default: 0]"))?
+        .arg(range_option(
+            alloc,
+            "to",
+            "The last of the cuts [default: the last of the log]",
+        ))?
         .arg(bound)?
         .arg(tears)?
         .arg(by)?
@@ -303,6 +327,7 @@ fn table_command<'a>(alloc: Global) -> Result<Command<'a>, AllocError> {
         .about("Prints the entries of a log")
         .after_help(AFTER_LOG)
         .arg(sectors)?
+        .arg(flush_option(alloc))?
         .arg(log_file(alloc))
 }
 

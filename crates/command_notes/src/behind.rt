@@ -9,7 +9,7 @@ use bpf_isa::codec::decode;
 use bpf_isa::program::Program;
 use choices::count;
 use command_line::Words;
-use epochs::{By, Cuts, Plan};
+use epochs::{By, CutKind, Cuts, Plan};
 use logfmt::{Log, read};
 use notes::{
     asm_cure, code_cure, log_cure, put_entry, put_escaped, put_known, put_least, put_note,
@@ -267,9 +267,16 @@ fn put_cuts(
     out: &mut String,
     log: &Log,
     options: &Options,
-    cuts: Cuts,
+    kind: CutKind,
     name: &str,
 ) -> Result<(), AllocError> {
+    let asked = options.cuts();
+    let cuts = Cuts {
+        kind,
+        from: asked.from,
+        to: asked.to,
+        flushes: asked.flushes,
+    };
     let plan = Plan::new(alloc, log, cuts, options.by())?;
     match count(&plan, options.bound(), options.tears()) {
         Ok(images) if images > 0 => write!(out, "note: with --cuts {name} there are {images}\n"),
@@ -284,11 +291,11 @@ fn put_fewer_cuts(
     log: &Log,
     options: &Options,
 ) -> Result<(), AllocError> {
-    if options.cuts() != Cuts::All {
+    if options.cuts().kind != CutKind::All {
         return Ok(());
     }
-    put_cuts(alloc, out, log, options, Cuts::BeforeFlush, "flush")?;
-    put_cuts(alloc, out, log, options, Cuts::AfterMark, "mark")
+    put_cuts(alloc, out, log, options, CutKind::BeforeFlush, "flush")?;
+    put_cuts(alloc, out, log, options, CutKind::AfterMark, "mark")
 }
 
 /// Appends with which cuts, and with how small a bound, a log hasn't too many images.
@@ -301,7 +308,7 @@ fn put_fewer(
     let Ok(options) = options_of(words) else {
         return Ok(());
     };
-    let Ok(log) = read_log(alloc, bytes, options.sectors()) else {
+    let Ok(log) = read_log(alloc, bytes, &options) else {
         return Ok(());
     };
     put_fewer_cuts(alloc, out, &log, &options)?;
@@ -343,6 +350,10 @@ fn put_images_notes(
     }
 }
 
+/// What an entry or a cut has to be that is named.
+const NOT_IN_LOG: &str =
+    "the log doesn't have it: of --flush each is an entry of the log, and --from and --to are at most the number of entries (docs/REPORT.md, Options); 'crashbpf log' lists the entries";
+
 /// What the option or the number at a place has to be.
 fn option_rule(place: u64) -> &'static str {
     match place {
@@ -355,6 +366,8 @@ fn option_rule(place: u64) -> &'static str {
         7 => "--cuts is all, flush or mark",
         10 => "--by is sector or write",
         11 => "no image of that cut has that choice, as the report prints it with the same options",
+        12 => "--flush is 1 to 64 numbers of entries, with commas between",
+        13 => "--from isn't above --to",
         _ => "the log has no image of that number; 'crashbpf images' tells how many it has",
     }
 }
@@ -414,6 +427,7 @@ pub fn notes_behind(
             put_images_notes(alloc, &mut out, words, files)?
         }
         Cause::Request(RequestCause::Option) => put_note(&mut out, option_rule(refusal.at))?,
+        Cause::Request(RequestCause::NotInLog) => put_note(&mut out, NOT_IN_LOG)?,
         Cause::Request(RequestCause::File) => put_file_notes(&mut out, words, files, place)?,
         Cause::Work(_cause) => put_work_notes(&mut out, words)?,
     }

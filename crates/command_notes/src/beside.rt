@@ -90,14 +90,14 @@ fn put_survey_notes(
     if options.by() == By::Write || options.bound() == 0 {
         return Ok(());
     }
-    match read_log(alloc, bytes, options.sectors()) {
+    match read_log(alloc, bytes, &options) {
         Ok(log) => put_large_notes(out, &log, options.bound()),
         Err(_refusal) => Ok(()),
     }
 }
 
 /// The notes beside the answer of a command that succeeded: what no run of a program reaches (`verify`, `explore`), and how many
-/// writes never depart as a whole (`images` by sector). Each line begins with `note: `; mostly there is none.
+/// writes never depart as a whole (`images`, `explore`, `why` and `page` by sector). Each line begins with `note: `; mostly there is none.
 pub fn notes_beside(
     alloc: Global,
     words: &Words,
@@ -108,8 +108,10 @@ pub fn notes_beside(
         (Request::Verify(options), Some(bytes)) => {
             put_verified_notes(alloc, &mut out, options, bytes)?
         }
-        (Request::Explore(options) | Request::Why(options) | Request::Page(options), _) =>
-            put_explored_notes(alloc, &mut out, options, files)?,
+        (Request::Explore(options) | Request::Why(options) | Request::Page(options), Some(log)) => {
+            put_explored_notes(alloc, &mut out, options, files)?;
+            put_survey_notes(alloc, &mut out, options, log)?
+        }
         (Request::Images(options), Some(bytes)) => {
             put_survey_notes(alloc, &mut out, options, bytes)?
         }

@@ -5,7 +5,8 @@ ghost use Rattle.std.specs.Prelude.{◌≤◌};
 
 use base::refusal::Refusal;
 use commands::{
-    By, Cuts, Explored, Gate, OpenGate, Options, Settings, explore, explore_with, fault_line,
+    By, CutKind, Cuts, Explored, Flushes, Gate, OpenGate, Options, Settings, explore, explore_with,
+    fault_line,
 };
 use std::alloc::Global;
 use std::process::Abort;
@@ -21,7 +22,7 @@ const ANSWER_1: [u8; 16] = [0xb7, 0, 0, 0, 1, 0, 0, 0, 0x95, 0, 0, 0, 0, 0, 0, 0
 /// A device of one sector, every cut, and a limit of two steps.
 const SETTINGS: Settings = Settings {
     sectors: 1,
-    cuts: Cuts::All,
+    cuts: Cuts::ALL,
     bound: 0,
     tears: true,
     by: By::Sector,
@@ -262,7 +263,7 @@ fn held<R: Threads + Wait + Sync + Abort>(
 fn by_workers(workers: u64, cache: u64, first: bool) -> Settings {
     Settings {
         sectors: 1,
-        cuts: Cuts::All,
+        cuts: Cuts::ALL,
         bound: 0,
         tears: false,
         by: By::Sector,
@@ -325,10 +326,18 @@ fn pair(alloc: Global) -> Result<Vec<u8>, Fail> {
     Ok(log)
 }
 
+/// The cuts before a flush, and the last.
+const BEFORE_FLUSHES: Cuts = Cuts {
+    kind: CutKind::BeforeFlush,
+    from: None,
+    to: None,
+    flushes: Flushes::NONE,
+};
+
 /// The run sixteen_codes of docs/REPORT.md, with 256 images, by two workers.
 const SIXTEEN_CODES: Settings = Settings {
     sectors: 4,
-    cuts: Cuts::BeforeFlush,
+    cuts: BEFORE_FLUSHES,
     bound: 2,
     tears: true,
     by: By::Sector,
@@ -422,7 +431,7 @@ fn hits_of<R: Threads + Wait + Sync>(
 ) -> Result<u64, Fail> {
     let options = Options::new(&Settings {
         sectors: 4,
-        cuts: Cuts::All,
+        cuts: Cuts::ALL,
         bound: 1,
         tears: false,
         by: By::Sector,

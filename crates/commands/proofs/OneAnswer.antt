@@ -32,7 +32,7 @@ use Rattle.looks.specs.Table.{IsTable}
 use Rattle.looks.specs.Verifying.{accepted_text, IsAcceptedText}
 use Rattle.looks.specs.Assembly.{listing_text, IsAssembled, IsListed}
 use Rattle.commands.specs.Acting.{Files, status_of, AnswersRun, AnswersFiles, AnswersExplore, AnswersFile, AnswersWith, Answers}
-use Rattle.commands.proofs.OneReport.{same_log, same_checkers, same_test, one_report}
+use Rattle.commands.proofs.OneReport.{same_log, same_asked, same_checkers, same_test, one_report}
 use Rattle.commands.proofs.OneText.{one_explanation}
 use Rattle.commands.proofs.OnePage.{one_page}
 
@@ -133,7 +133,7 @@ one_survey laws s text bytes others a b =
 
 one_table : Laws → (s : Settings) → IsOne (λ text bytes. IsTable text s bytes)
 one_table laws s text bytes others a b =
-    let value = laws.texts text a.value b.value a.reads.of_log b.reads.of_log (a.reads.device ∙ sym b.reads.device) in
+    let value = same_asked laws.texts text s a.value b.value a.reads b.reads in
     a.shown ∙ ap (λ (v : LogValue). log_table v.entries) value ∙ sym b.shown
 
 -- the choice that is meant is one

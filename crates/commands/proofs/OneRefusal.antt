@@ -6,7 +6,8 @@ use Rattle.std.proofs.lemmas.Bool.Decides.{nat_tests}
 use Rattle.base.specs.declared.refusal.Refusal.{Refusal}
 use Rattle.base.specs.Refusals.{memory_refusal}
 use Rattle.logfmt.specs.Bounds.{LogValue}
-use Rattle.epochs.specs.declared.cuts.Cuts.{Cuts}
+use Rattle.epochs.specs.declared.cuts.CutKind.{CutKind}
+use Rattle.epochs.specs.declared.flushes.Flushes.{Flushes}
 use Rattle.epochs.specs.declared.part.By.{By}
 use Rattle.bpf_isa.specs.declared.instr.Instr.{Instr}
 use Rattle.choices.specs.Choices.{ChoiceValue}
@@ -41,19 +42,21 @@ use Rattle.commands.proofs.OneReport.{Below, same_log, of_log, of_source, report
 use Rattle.commands.proofs.OneAnswer.{same_files, same_settings}
 
 -- words that ask for settings are not refused
-asked_by : (w : OptionWords) (cuts : Option Cuts) (way : Option By) (s : Settings) (r : Refusal) → option_and_then (λ c. option_map (settings_with w c) way) cuts ≡ Some s
-    → settings_refusal s ≡ None
-    → option_map_or (λ c. option_map_or (λ b. settings_refusal (settings_with w c b)) way (Some (option_refusal place.By))) cuts (Some (option_refusal place.Cuts)) ≡ Some r → ⊥
-asked_by w None way s r asked good bad = let none : None ≡ Some s = asked in cc
-asked_by w (Some c) None s r asked good bad = let none : None ≡ Some s = asked in cc
-asked_by w (Some c) (Some way) s r asked good bad =
-    let both : Some (settings_with w c way) ≡ Some s = asked in
-    let same : settings_with w c way ≡ s = cc in
+asked_by : (w : OptionWords) (cuts : Option CutKind) (way : Option By) (added : Option Flushes) (s : Settings) (r : Refusal)
+    → option_and_then (λ c. option_and_then (λ b. option_map (settings_with w c b) added) way) cuts ≡ Some s → settings_refusal s ≡ None
+    → option_map_or (λ c. option_map_or (λ b. option_map_or (λ f. settings_refusal (settings_with w c b f)) added (Some (option_refusal place.Flush))) way (Some (option_refusal place.By))) cuts (Some (option_refusal place.Cuts)) ≡ Some r
+    → ⊥
+asked_by w None way added s r asked good bad = let none : None ≡ Some s = asked in cc
+asked_by w (Some c) None added s r asked good bad = let none : None ≡ Some s = asked in cc
+asked_by w (Some c) (Some way) None s r asked good bad = let none : None ≡ Some s = asked in cc
+asked_by w (Some c) (Some way) (Some added) s r asked good bad =
+    let both : Some (settings_with w c way added) ≡ Some s = asked in
+    let same : settings_with w c way added ≡ s = cc in
     let none : None ≡ Some r = sym good ∙ sym (ap settings_refusal same) ∙ bad in
     cc
 
 not_for_words : (w : OptionWords) (s : Settings) (r : Refusal) → AskFor w s → words_refusal w ≡ Some r → ⊥
-not_for_words w s r h bad = asked_by w w.cuts w.by s r h.asked h.good bad
+not_for_words w s r h bad = asked_by w w.cuts w.by w.flushes s r h.asked h.good bad
 
 of_words : (w : OptionWords) (s : Settings) (Rest : Settings → Refusal → Type 0) (r : Refusal) → AskFor w s → ((q : Refusal) → Rest s q → IsOfMemory q.code)
     → RefusesWith w Rest r → IsOfMemory r.code

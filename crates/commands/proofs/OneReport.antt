@@ -20,14 +20,22 @@ use Rattle.checker.specs.Checker.{CheckerValue}
 use Rattle.lines.specs.Line.{FailingLine}
 use Rattle.workers.specs.Failing.{failing_lines}
 use Rattle.request.specs.declared.settings.Settings.{Settings}
-use Rattle.request.specs.Source.{plan_of, images_of, HasImages, IsLogOf, RefusesLog, with_fault, no_memory, RefusesPlan, too_many, no_plan_memory, RefusesSource, for_log, for_plan}
+use Rattle.logfmt.specs.Flushed.{flushed}
+use Rattle.epochs.specs.Flushes.{places_of}
+use Rattle.request.specs.Source.{plan_of, images_of, HasImages, IsLogOf, IsRecorded, lacking, RefusesLog, with_fault, no_memory, lacks, RefusesPlan, too_many, no_plan_memory, RefusesSource, for_log, for_plan}
 use Rattle.runs.specs.Programs.{IsRunWithin, IsCodeFault, IsVerifierFault}
 use Rattle.runs.specs.Explore as explore
 use Rattle.runs.specs.Explore.{IsCheckerOf, AreCheckersOf, subject_of, report_of, IsReport, RefusesProgram, with_code_fault, with_verifier_fault, no_code_memory, no_verifier_memory, no_list_memory, Refuses, for_count, for_program}
 use Rattle.commands.specs.Laws.{IsOfMemory}
 
+same_recorded : TextOfOneLog → (text : List ℕ) (s : Settings) (v w : LogValue) → IsRecorded text s v → IsRecorded text s w → v ≡ w
+same_recorded texts text s v w h k = texts text v w h.of_log k.of_log (h.device ∙ sym k.device)
+
+pub same_asked : TextOfOneLog → (text : List ℕ) (s : Settings) (v w : LogValue) → IsLogOf text s v → IsLogOf text s w → v ≡ w
+same_asked texts text s v w h k = h.added ∙ ap (flushed (places_of s.cuts.flushes)) (same_recorded texts text s h.read k.read h.recorded k.recorded) ∙ sym k.added
+
 pub same_log : TextOfOneLog → (text : List ℕ) (s : Settings) (v w : LogValue) → HasImages text s v → HasImages text s w → v ≡ w
-same_log texts text s v w h k = texts text v w h.reads.of_log k.reads.of_log (h.reads.device ∙ sym k.reads.device)
+same_log texts text s v w h k = same_asked texts text s v w h.reads k.reads
 
 -- a program runs within one limit
 same_limit : OneVerdict → (checked : Option ℕ) (sectors : ℕ) (c d : CheckerValue) → c.program ≡ d.program → IsRunWithin checked sectors c → IsRunWithin checked sectors d
@@ -104,10 +112,15 @@ pub record Below : Type 0 where
   pub spelled : NoFaultInSpelled
   pub verdicts : OneVerdict
 
-pub of_log : Below → (text : List ℕ) (s : Settings) (value : LogValue) (r : Refusal) → IsLogOf text s value → RefusesLog text s.sectors r → IsOfMemory r.code
+pub of_log : Below → (text : List ℕ) (s : Settings) (value : LogValue) (r : Refusal) → IsLogOf text s value → RefusesLog text s r → IsOfMemory r.code
 of_log below text s value r h (with_fault cause at fault) =
-    absurd (below.clean text value cause at h.of_log (subst (λ n. log_fault.FirstFault text n cause at) (sym h.device) fault))
+    absurd (below.clean text h.read cause at h.recorded.of_log (subst (λ n. log_fault.FirstFault text n cause at) (sym h.recorded.device) fault))
 of_log below text s value r h no_memory = refl
+of_log below text s value r h (lacks read place recorded at) =
+    let same : read ≡ h.read = same_recorded below.texts text s read h.read recorded h.recorded in
+    let none : lacking s.cuts (length read.entries) ≡ [] = ap (λ (v : LogValue). lacking s.cuts (length v.entries)) same ∙ h.has in
+    let bad : Some place ≡ None = sym at ∙ ap (λ xs. slice_get xs 0) none in
+    absurd (let no : Some place ≡ None = bad in cc)
 
 of_plan : Below → (s : Settings) (value : LogValue) (r : Refusal) → length (images_of s value) ≤ limit → RefusesPlan s value r → IsOfMemory r.code
 of_plan below s value r few (too_many cut past) = absurd (not_past s value cut few past)
@@ -116,7 +129,7 @@ of_plan below s value r few no_plan_memory = refl
 pub of_source : Below → (text : List ℕ) (s : Settings) (value : LogValue) (r : Refusal) → HasImages text s value → RefusesSource text s r → IsOfMemory r.code
 of_source below text s value _ h (for_log r why) = of_log below text s value r h.reads why
 of_source below text s value _ h (for_plan r other reads why) =
-    let same : other ≡ value = below.texts text other value reads.of_log h.reads.of_log (reads.device ∙ sym h.reads.device) in
+    let same : other ≡ value = same_asked below.texts text s other value reads h.reads in
     of_plan below s value r h.few (subst (λ v. RefusesPlan s v r) same why)
 
 not_unaccepted : Below → (checked : Option ℕ) (sectors : ℕ) (c : CheckerValue) (slots : List (Option Instr)) (cause : VerifierCause) (slot : ℕ) → checked ≡ None

@@ -3,7 +3,8 @@ use Rattle.std.proofs.Common.{ℕ, ◌≡◌, nat_le, Bool, true, false, ◌&&�
 use Rattle.std.specs.Option.{option_map_or, option_and_then}
 use Rattle.base.specs.Check.{check, first_failing}
 use Rattle.logfmt.specs.Bounds.{LogValue}
-use Rattle.epochs.specs.declared.cuts.Cuts.{Cuts}
+use Rattle.epochs.specs.declared.cuts.CutKind.{CutKind}
+use Rattle.epochs.specs.declared.flushes.Flushes.{Flushes}
 use Rattle.epochs.specs.declared.part.By.{By}
 use Rattle.request.specs.declared.settings.OptionPlace.TheVariants as place
 use Rattle.request.specs.declared.settings.Settings.{Settings}
@@ -12,9 +13,9 @@ use Rattle.request.specs.declared.settings.Telling.TheVariants as telling
 use Rattle.request.specs.declared.command.OptionWords.{OptionWords}
 use Rattle.request.specs.declared.command.Request.{Request}
 use Rattle.request.specs.declared.command.Request.TheVariants as request
-use Rattle.request.specs.Settings.{option_refusal, option_checks, settings_refusal}
+use Rattle.request.specs.Settings.{is_ordered, option_refusal, option_checks, settings_refusal}
 use Rattle.request.specs.OptionWords.{settings_with, AskFor}
-use Rattle.request.specs.Source.{HasImages}
+use Rattle.request.specs.Source.{IsLogOf, HasImages}
 use Rattle.runs.specs.Explore.{AreCheckersOf, head_of}
 use Rattle.checker.specs.Checker.{CheckerValue}
 use Rattle.runs.specs.Why.{IsTold}
@@ -41,36 +42,41 @@ set_alone s = record {
 }
 
 -- words that ask for settings ask for these, for one worker without a cache
-alone_of : (w : OptionWords) (cuts : Option Cuts) (way : Option By) (s : Settings) → option_and_then (λ c. option_map (settings_with w c) way) cuts ≡ Some s
-    → option_and_then (λ c. option_map (settings_with (alone w) c) way) cuts ≡ Some (set_alone s)
-alone_of w None way s h = absurd (let bad : None ≡ Some s = h in cc)
-alone_of w (Some c) None s h = absurd (let bad : None ≡ Some s = h in cc)
-alone_of w (Some c) (Some way) s h =
-    let both : Some (settings_with w c way) ≡ Some s = h in
-    let same : settings_with w c way ≡ s = cc in
+alone_of : (w : OptionWords) (cuts : Option CutKind) (way : Option By) (added : Option Flushes) (s : Settings)
+    → option_and_then (λ c. option_and_then (λ b. option_map (settings_with w c b) added) way) cuts ≡ Some s
+    → option_and_then (λ c. option_and_then (λ b. option_map (settings_with (alone w) c b) added) way) cuts ≡ Some (set_alone s)
+alone_of w None way added s h = absurd (let bad : None ≡ Some s = h in cc)
+alone_of w (Some c) None added s h = absurd (let bad : None ≡ Some s = h in cc)
+alone_of w (Some c) (Some way) None s h = absurd (let bad : None ≡ Some s = h in cc)
+alone_of w (Some c) (Some way) (Some added) s h =
+    let both : Some (settings_with w c way added) ≡ Some s = h in
+    let same : settings_with w c way added ≡ s = cc in
     ap (λ (t : Settings). Some (set_alone t)) same
 
 -- where no check fails, none fails with one worker without a cache
-passed_alone : (sectors bound workers cache checked : Bool)
-    → option_map option_refusal (first_failing (check place.Sectors sectors ∷ check place.Bound bound ∷ check place.Workers workers ∷ check place.Cache cache ∷ check place.Checked checked ∷ [])) ≡ None
-    → option_map option_refusal (first_failing (check place.Sectors sectors ∷ check place.Bound bound ∷ check place.Workers true ∷ check place.Cache true ∷ check place.Checked checked ∷ [])) ≡ None
-passed_alone false bound workers cache checked h = h
-passed_alone true false workers cache checked h = h
-passed_alone true true false cache checked h = absurd (let bad : Some (option_refusal place.Workers) ≡ None = h in cc)
-passed_alone true true true false checked h = absurd (let bad : Some (option_refusal place.Cache) ≡ None = h in cc)
-passed_alone true true true true checked h = h
+passed_alone : (sectors bound workers cache checked range : Bool)
+    → option_map option_refusal (first_failing (check place.Sectors sectors ∷ check place.Bound bound ∷ check place.Workers workers ∷ check place.Cache cache ∷ check place.Checked checked ∷ check place.Range range ∷ [])) ≡ None
+    → option_map option_refusal (first_failing (check place.Sectors sectors ∷ check place.Bound bound ∷ check place.Workers true ∷ check place.Cache true ∷ check place.Checked checked ∷ check place.Range range ∷ [])) ≡ None
+passed_alone false bound workers cache checked range h = h
+passed_alone true false workers cache checked range h = h
+passed_alone true true false cache checked range h = absurd (let bad : Some (option_refusal place.Workers) ≡ None = h in cc)
+passed_alone true true true false checked range h = absurd (let bad : Some (option_refusal place.Cache) ≡ None = h in cc)
+passed_alone true true true true checked range h = h
 
 good_alone : (s : Settings) → settings_refusal s ≡ None → settings_refusal (set_alone s) ≡ None
 unfolding option_checks
 good_alone s h =
     passed_alone (nat_le 1 s.sectors && nat_le s.sectors 16384) (nat_le s.bound 3) (nat_le 1 s.workers && nat_le s.workers 64) (nat_le s.cache 65536)
-    (option_map_or (λ limit. nat_le limit 1000000000) s.checked true) h
+    (option_map_or (λ limit. nat_le limit 1000000000) s.checked true) (is_ordered s.cuts) h
 
 ask_alone : (w : OptionWords) (s : Settings) → AskFor w s → AskFor (alone w) (set_alone s)
-ask_alone w s h = record { asked = alone_of w w.cuts w.by s h.asked; good = good_alone s h.good }
+ask_alone w s h = record { asked = alone_of w w.cuts w.by w.flushes s h.asked; good = good_alone s h.good }
+
+log_alone : {text : List ℕ} {s : Settings} {v : LogValue} → IsLogOf text s v → IsLogOf text (set_alone s) v
+log_alone h = record { read = h.read; recorded = record { device = h.recorded.device; of_log = h.recorded.of_log }; has = h.has; added = h.added }
 
 images_alone : {text : List ℕ} {s : Settings} {v : LogValue} → HasImages text s v → HasImages text (set_alone s) v
-images_alone h = record { reads = record { device = h.reads.device; of_log = h.reads.of_log }; few = h.few }
+images_alone h = record { reads = log_alone h.reads; few = h.few }
 
 checkers_alone : (s : Settings) (files : List (List ℕ)) (cs : List CheckerValue) → AreCheckersOf s files cs → AreCheckersOf (set_alone s) files cs
 checkers_alone s [] [] h = h
@@ -152,7 +158,7 @@ answers_alone (request.Images w) files bytes status h =
     (λ s held shown k. record { value = k.value; source = images_alone k.source; told = k.told }) files bytes status h
 answers_alone (request.Log w) files bytes status h =
     with_alone w (λ s text. IsTable text s)
-    (λ s held shown k. record { value = k.value; reads = record { device = k.reads.device; of_log = k.reads.of_log }; shown = k.shown }) files bytes status h
+    (λ s held shown k. record { value = k.value; reads = log_alone k.reads; shown = k.shown }) files bytes status h
 answers_alone (request.Image w which) files bytes status h =
     with_alone w (λ s text. IsImage text s which)
     (λ s held shown k. record { value = k.value; source = images_alone k.source; choice = k.choice; meant = k.meant; shown = k.shown }) files bytes status h

@@ -22,7 +22,10 @@ AnswerOrRefusal = (r : Request) (files : Files) (bytes : List ℕ) (status : ℕ
 abbrev pub alone : OptionWords → OptionWords
 alone w = record {
   sectors = w.sectors;
+  flushes = w.flushes;
   cuts = w.cuts;
+  from = w.from;
+  to = w.to;
   bound = w.bound;
   tears = w.tears;
   by = w.by;

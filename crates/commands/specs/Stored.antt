@@ -5,7 +5,7 @@ use Rattle.bpf_isa.specs.declared.instr.Instr.TheVariants as instr
 use Rattle.bpf_isa.specs.declared.instr.Operator.TheVariants as op
 use Rattle.bpf_isa.specs.declared.instr.Source.TheVariants as source
 use Rattle.bpf_isa.specs.declared.instr.Width.TheVariants as width
-use Rattle.epochs.specs.declared.cuts.Cuts.TheVariants as cuts
+use Rattle.epochs.specs.Cuts.{all_cuts}
 use Rattle.epochs.specs.declared.part.By.TheVariants as by
 use Rattle.logfmt.specs.LogText.{canonical_text}
 use Rattle.request.specs.declared.settings.Settings.{Settings}
@@ -22,7 +22,7 @@ stored_programs = (spelling (instr.Arithmetic width.W64 op.Mov 0 (source.Immedia
 abbrev pub stored_settings : Settings
 stored_settings = record {
   sectors = 1;
-  cuts = cuts.All;
+  cuts = all_cuts;
   bound = 0;
   tears = false;
   by = by.Sector;

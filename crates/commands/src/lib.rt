@@ -65,7 +65,7 @@ mod writing;
 pub use action::act;
 pub use command_line::Words;
 pub use command_notes::{notes_behind, notes_beside};
-pub use epochs::{By, Cuts};
+pub use epochs::{By, CutKind, Cuts, Flushes};
 pub use exit::{Exit, perform};
 pub use laws::{
     answer_or_refusal, each_image_stands_once, one_answer, one_report, report_or_refusal,

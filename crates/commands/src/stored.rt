@@ -22,7 +22,7 @@ const STORED_PROGRAM: [u8; 16] = [0xb7, 0, 0, 0, 0, 0, 0, 0, 0x95, 0, 0, 0, 0, 0
 /// What the run is asked, `--sectors 1 --bound 0 --checked 2`.
 const STORED_SETTINGS: Settings = Settings {
     sectors: 1,
-    cuts: Cuts::All,
+    cuts: Cuts::ALL,
     bound: 0,
     tears: false,
     by: By::Sector,

@@ -13,7 +13,7 @@ pub struct Numbering<'a> {
     pub plan: &'a Plan<'a>,
     /// The log.
     pub log: &'a Log,
-    /// The kind of the cuts.
+    /// The wanted cuts.
     pub cuts: Cuts,
     /// What departs as one.
     pub by: By,

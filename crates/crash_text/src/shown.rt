@@ -6,20 +6,20 @@ ghost use Rattle.crash_text.specs.Shown.{cuts_word, by_word, numbered_text, chos
 use crate::cut::{put_cut, put_departed};
 use crate::numbering::Numbering;
 use crate::sector::put_differences;
-use choice_text::put_departures;
+use choice_text::{put_cuts_words, put_departures};
 use choices::Choice;
-use epochs::{By, Cuts};
+use epochs::{By, CutKind};
 use helpers::Device;
 use std::alloc::AllocError;
 
 /// What the kinds of cuts are called.
-fn cuts_word(cuts: Cuts) -> &'static str
-    ensures { result.now ≡ cuts_word cuts }
+fn cuts_word(kind: CutKind) -> &'static str
+    ensures { result.now ≡ cuts_word kind }
 {
-    match cuts {
-        Cuts::All => "all",
-        Cuts::BeforeFlush => "flush",
-        Cuts::AfterMark => "mark",
+    match kind {
+        CutKind::All => "all",
+        CutKind::BeforeFlush => "flush",
+        CutKind::AfterMark => "mark",
     }
 }
 
@@ -52,7 +52,7 @@ fn put_numbered(out: &mut String, numbering: &Numbering<'_>) -> Result<(), Alloc
         log.sectors(),
         log.entries().len()
     )?;
-    let cuts = cuts_word(numbering.cuts);
+    let cuts = cuts_word(numbering.cuts.kind);
     write!(out, " cuts {cuts}")
 }
 
@@ -66,7 +66,9 @@ fn put_chosen(out: &mut String, numbering: &Numbering<'_>) -> Result<(), AllocEr
     let tears = yes_or_no(numbering.tears);
     write!(out, " bound {bound} tears {tears}")?;
     let by = by_word(numbering.by);
-    write!(out, " by {by}\n")
+    write!(out, " by {by}")?;
+    put_cuts_words(out, &numbering.cuts)?;
+    out.push_str("\n")
 }
 
 /// Appends where a cut stands.

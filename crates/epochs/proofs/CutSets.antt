@@ -1,15 +1,17 @@
 -- The wanted cuts, as a set in its order.
-use Rattle.std.proofs.Common.{ℕ, zero, suc, ◌≡◌, ◌+◌, ◌==◌, ◌<◌, ◌||◌, ◌⊎◌, Bool, true, false, List, [], ◌∷◌, ◌++◌, length, filter, slice_get, Some, None, refl, sym, subst, ◌∙◌, ap, inl, inr, arith, add-one}
+use Rattle.std.proofs.Common.{ℕ, zero, suc, ◌≡◌, ◌+◌, ◌==◌, ◌<◌, ◌||◌, ◌&&◌, ◌≤◌, ◌⊎◌, Bool, true, false, List, [], ◌∷◌, ◌++◌, length, filter, slice_get, Option, Some, None, IfSome, refl, sym, subst, ◌∙◌, ap, inl, inr, arith, add-one}
 use Rattle.std.specs.List.{range_with_len}
 use Rattle.std.specs.Option.{option_map_or}
 use Rattle.std.proofs.lemmas.Bool.{cases_lt, eqb-true, eq-eqb}
+use Rattle.std.proofs.lemmas.Bool.Decides.{nat_tests}
 use Rattle.std.proofs.lemmas.Option.{slice_get_within, slice_get_cases, same_Some}
 use Rattle.base.proofs.Lists.{slice_get-append_left, slice_get-append_right, slice_get_of_append}
 use Rattle.logfmt.specs.declared.entry.Entry.{Entry}
 use Rattle.epochs.specs.declared.cuts.Cuts.{Cuts}
-use Rattle.epochs.specs.declared.cuts.Cuts.TheVariants as kind
-use Rattle.epochs.specs.Cuts.{is_wanted, is_flush_at, is_behind_mark}
-use Rattle.epochs.specs.Laws.{IsWanted, CutsAreSet}
+use Rattle.epochs.specs.declared.cuts.CutKind.{CutKind}
+use Rattle.epochs.specs.declared.cuts.CutKind.TheVariants as kind
+use Rattle.epochs.specs.Cuts.{is_of_kind, is_behind_first, is_before_last, is_wanted, is_flush_at, is_behind_mark}
+use Rattle.epochs.specs.Laws.{IsOfKind, IsWanted, CutsAreSet}
 use Rattle.epochs.proofs.Wanted.{kept_cut, left_cut}
 
 -- a list has the numbers below n that pass a test, rising
@@ -104,41 +106,82 @@ or_left : (a b : Bool) → a ≡ true → (a || b) ≡ true
 or_left true b h = refl
 or_left false b h = absurd (let bad : false ≡ true = h in cc)
 
--- the test of a cut, and what it means
-test_means : (wanted : Cuts) (es : List Entry) (k : ℕ) → k < length es + 1 → is_wanted wanted es k ≡ true → IsWanted wanted es k
-test_means kind.All es k lt h = omega (arith, lt)
-test_means kind.BeforeFlush es k lt h = elim (either (k == length es) (is_flush_at es k) h) [
+-- the test of a kind, and what it means
+kind_means : (wanted : CutKind) (es : List Entry) (k : ℕ) → k < length es + 1 → is_of_kind wanted es k ≡ true → IsOfKind wanted es k
+kind_means kind.All es k lt h = omega (arith, lt)
+kind_means kind.BeforeFlush es k lt h = elim (either (k == length es) (is_flush_at es k) h) [
   | inl last ↦ inl (eqb-true k (length es) last)
   | inr flush ↦ inr (flagged (λ (entry : Entry). entry.flags.flush) es k flush)
 ]
-test_means kind.AfterMark es zero lt h = absurd (let bad : false ≡ true = h in cc)
-test_means kind.AfterMark es (suc e) lt h =
+kind_means kind.AfterMark es zero lt h = absurd (let bad : false ≡ true = h in cc)
+kind_means kind.AfterMark es (suc e) lt h =
     let it = flagged (λ (entry : Entry). entry.flags.mark) es e h in
     (e, it.0, omega arith, it.1, it.2)
 
-meaning_below : (wanted : Cuts) (es : List Entry) (k : ℕ) → IsWanted wanted es k → k < length es + 1
-meaning_below kind.All es k h = omega (arith, h)
-meaning_below kind.BeforeFlush es k h = elim h [
+kind_below : (wanted : CutKind) (es : List Entry) (k : ℕ) → IsOfKind wanted es k → k < length es + 1
+kind_below kind.All es k h = omega (arith, h)
+kind_below kind.BeforeFlush es k h = elim h [
   | inl last ↦ omega (arith, last)
   | inr flush ↦ omega (arith, slice_get_within es k flush.0 flush.1)
 ]
-meaning_below kind.AfterMark es k h = omega (arith, slice_get_within es h.0 h.1 h.3, h.2)
+kind_below kind.AfterMark es k h = omega (arith, slice_get_within es h.0 h.1 h.3, h.2)
 
-meaning_tests : (wanted : Cuts) (es : List Entry) (k : ℕ) → IsWanted wanted es k → is_wanted wanted es k ≡ true
-meaning_tests kind.All es k h = refl
-meaning_tests kind.BeforeFlush es k h = elim h [
+kind_tests : (wanted : CutKind) (es : List Entry) (k : ℕ) → IsOfKind wanted es k → is_of_kind wanted es k ≡ true
+kind_tests kind.All es k h = refl
+kind_tests kind.BeforeFlush es k h = elim h [
   | inl last ↦ or_left (k == length es) (is_flush_at es k) (eq-eqb k (length es) last)
   | inr flush ↦ or_right (k == length es) (is_flush_at es k) (flag_there (λ (entry : Entry). entry.flags.flush) es k flush.0 flush.1 flush.2)
 ]
-meaning_tests kind.AfterMark es k h =
+kind_tests kind.AfterMark es k h =
     let next : k ≡ suc h.0 = omega (arith, h.2) in
     ap (is_behind_mark es) next ∙ flag_there (λ (entry : Entry). entry.flags.mark) es h.0 h.1 h.3 h.4
+
+both : (a b : Bool) → (a && b) ≡ true → (a ≡ true) × (b ≡ true)
+both true b h = (refl, h)
+both false b h = absurd (let bad : false ≡ true = h in cc)
+
+and_both : (a b : Bool) → a ≡ true → b ≡ true → (a && b) ≡ true
+and_both true b h k = k
+and_both false b h k = absurd (let bad : false ≡ true = h in cc)
+
+first_means : (first : Option ℕ) (k : ℕ) → is_behind_first first k ≡ true → IfSome first (λ n. n ≤ k)
+first_means None k h = tt
+first_means (Some n) k h = grind (arith, nat_tests, h)
+
+first_tests : (first : Option ℕ) (k : ℕ) → IfSome first (λ n. n ≤ k) → is_behind_first first k ≡ true
+first_tests None k h = refl
+first_tests (Some n) k h = grind (arith, nat_tests, h)
+
+last_means : (last : Option ℕ) (k : ℕ) → is_before_last last k ≡ true → IfSome last (λ n. k ≤ n)
+last_means None k h = tt
+last_means (Some n) k h = grind (arith, nat_tests, h)
+
+last_tests : (last : Option ℕ) (k : ℕ) → IfSome last (λ n. k ≤ n) → is_before_last last k ≡ true
+last_tests None k h = refl
+last_tests (Some n) k h = grind (arith, nat_tests, h)
+
+-- the test of a cut, and what it means
+test_means : (wanted : Cuts) (es : List Entry) (k : ℕ) → k < length es + 1 → is_wanted wanted es k ≡ true → IsWanted wanted es k
+test_means wanted es k lt h =
+    let early = both (is_of_kind wanted.kind es k && is_behind_first wanted.from k) (is_before_last wanted.to k) h in
+    let late = both (is_of_kind wanted.kind es k) (is_behind_first wanted.from k) early.0 in
+    record {
+      of_kind = kind_means wanted.kind es k lt late.0;
+      behind = first_means wanted.from k late.1;
+      before = last_means wanted.to k early.1;
+    }
+
+meaning_tests : (wanted : Cuts) (es : List Entry) (k : ℕ) → IsWanted wanted es k → is_wanted wanted es k ≡ true
+meaning_tests wanted es k h =
+    and_both (is_of_kind wanted.kind es k && is_behind_first wanted.from k) (is_before_last wanted.to k)
+    (and_both (is_of_kind wanted.kind es k) (is_behind_first wanted.from k) (kind_tests wanted.kind es k h.of_kind) (first_tests wanted.from k h.behind))
+    (last_tests wanted.to k h.before)
 
 pub cuts_are_set : CutsAreSet
 cuts_are_set wanted es =
     let all = keeps_filter (is_wanted wanted es) (length es + 1) in
     record {
       sound = λ i k h. let is = all.sound i k h in test_means wanted es k is.0 is.1;
-      complete = λ k h. all.complete k (meaning_below wanted es k h) (meaning_tests wanted es k h);
+      complete = λ k h. all.complete k (kind_below wanted.kind es k h.of_kind) (meaning_tests wanted es k h);
       rising = all.rising;
     }

@@ -1,6 +1,6 @@
 -- Laws of parts and cuts: which parts are volatile and which cuts are wanted, in which order they stand,
 -- and how many bytes a unit has.
-use Rattle.std.specs.Prelude.{ℕ, zero, suc, ◌+◌, ◌≡◌, ◌<◌, ◌≤◌, ◌⊎◌, true, false, if◌then◌else◌, List, length, drop, slice_get, Some}
+use Rattle.std.specs.Prelude.{ℕ, zero, suc, ◌+◌, ◌≡◌, ◌<◌, ◌≤◌, ◌⊎◌, true, false, if◌then◌else◌, List, length, drop, slice_get, Some, IfSome}
 use Rattle.logfmt.specs.declared.entry.Entry.{Entry}
 use Rattle.logfmt.specs.Bounds.{LogValue, IsLog}
 use Rattle.epochs.specs.declared.unit.Unit.{Unit as LogUnit}
@@ -9,7 +9,8 @@ use Rattle.epochs.specs.declared.part.By.{By}
 use Rattle.epochs.specs.Units.{unit_content}
 use Rattle.epochs.specs.Parts.{part_size, volatile_parts}
 use Rattle.epochs.specs.declared.cuts.Cuts.{Cuts}
-use Rattle.epochs.specs.declared.cuts.Cuts.TheVariants as kind
+use Rattle.epochs.specs.declared.cuts.CutKind.{CutKind}
+use Rattle.epochs.specs.declared.cuts.CutKind.TheVariants as kind
 use Rattle.epochs.specs.Cuts.{is_flush_at, cuts_of}
 use Rattle.epochs.specs.Plan.{IsUnit}
 use Rattle.epochs.specs.Table.{unforced_parts}
@@ -58,12 +59,18 @@ UnitIsSector = (log : LogValue) (u : LogUnit) → IsLog log → IsUnit log u →
 
 -- cut k is one of that kind: each cut of the log; the last, and each right before a flush entry; each right
 -- behind a mark
-abbrev pub IsWanted : Cuts → List Entry → ℕ → Type 0
-IsWanted kind.All es k = k ≤ length es
-IsWanted kind.BeforeFlush es k = (k ≡ length es) ⊎ ((entry : Entry) × (slice_get es k ≡ Some entry) × (entry.flags.flush ≡ true))
-IsWanted kind.AfterMark es k = (e : ℕ) × (entry : Entry) × (k ≡ e + 1) × (slice_get es e ≡ Some entry) × (entry.flags.mark ≡ true)
+abbrev pub IsOfKind : CutKind → List Entry → ℕ → Type 0
+IsOfKind kind.All es k = k ≤ length es
+IsOfKind kind.BeforeFlush es k = (k ≡ length es) ⊎ ((entry : Entry) × (slice_get es k ≡ Some entry) × (entry.flags.flush ≡ true))
+IsOfKind kind.AfterMark es k = (e : ℕ) × (entry : Entry) × (k ≡ e + 1) × (slice_get es e ≡ Some entry) × (entry.flags.mark ≡ true)
 
--- the list has the cuts of that kind and no other, rising, and so each once
+-- cut k is wanted: one of the kind, from the first to the last that are given
+pub record IsWanted (wanted : Cuts) (es : List Entry) (k : ℕ) : Type 0 where
+  pub of_kind : IsOfKind wanted.kind es k
+  pub behind : IfSome wanted.from (λ first. first ≤ k)
+  pub before : IfSome wanted.to (λ last. k ≤ last)
+
+-- the list has the wanted cuts and no other, rising, and so each once
 pub record ListsCuts (wanted : Cuts) (es : List Entry) (cuts : List ℕ) : Type 0 where
   pub sound : (i k : ℕ) → slice_get cuts i ≡ Some k → IsWanted wanted es k
   pub complete : (k : ℕ) → IsWanted wanted es k → (i : ℕ) × (slice_get cuts i ≡ Some k)

@@ -56,7 +56,7 @@
 //! use epochs::{By, Cuts, Part, Plan};
 //!
 //! // `log` has a write of sector 0, a flush, and another write of sector 0
-//! let plan = Plan::new(alloc, &log, Cuts::All, By::Sector)?;
+//! let plan = Plan::new(alloc, &log, Cuts::ALL, By::Sector)?;
 //! // plan.cuts() is [0, 1, 2, 3]; plan.volatile(k) is 0, 1, 0, 1 and plan.epoch(k) is 0, 0, 1, 1
 //! let part = plan.part(3, 0);
 //! // the second write: Part { entry: 2, place: 0, count: 1, sector: 0 }
@@ -64,13 +64,16 @@
 #![tactic(auto)]
 
 mod cuts;
+mod flushes;
 mod laws;
 mod part;
+mod places;
 mod plan;
 mod table;
 mod unit;
 
-pub use cuts::Cuts;
+pub use cuts::{CutKind, Cuts};
+pub use flushes::Flushes;
 pub use laws::{cuts_are_set, unit_is_sector, volatile_is_run, volatile_is_set};
 pub use part::{By, Part};
 pub use plan::Plan;

@@ -26,7 +26,7 @@ impl By {
     }
 
     /// How many parts an entry has.
-    pub(crate) fn parts(self, entry: &Entry) -> u64
+    pub fn parts(self, entry: &Entry) -> u64
         ensures value { result ≡ part_count self entry.now }
         ensures bound { result ≤ entry.now.count }
     {

@@ -11,15 +11,9 @@ use Rattle.bpf_isa.specs.Program.{IsSpelledBy, FirstFault}
 use Rattle.bpf_shape.specs.declared.fault.Fault.{Fault}
 use Rattle.bpf_shape.specs.Fault as shape
 use Rattle.verifier.specs.Verdicts.{Refused}
-use Rattle.request.specs.declared.settings.Settings.{Settings}
-use Rattle.request.specs.Source.{RefusesLog}
 use Rattle.request.specs.Refusals.{bytes_refusal}
-use Rattle.looks.specs.Table as table
 use Rattle.looks.specs.Verifying as verifying
 use Rattle.looks.specs.Assembly.{text_refusal, RefusesText, says_none, no_text_memory, RefusesBytes, with_bytes_fault, no_program_memory}
-
-pub table_refused : (text : List ℕ) (s : Settings) (sectors : ℕ) (r : Refusal) → sectors ≡ s.sectors → RefusesLog text sectors r → table.RefusesTable text s r
-table_refused text s sectors r e h = table.for_log r (rw (← e) h)
 
 pub bytes_refused : (bytes : List ℕ) (f : CodeFault) → (f ≡ code.memory_fault) ⊎ FirstFault bytes f.code f.slot → RefusesBytes bytes (bytes_refusal f.code f.slot)
 bytes_refused bytes f (inl e) = rw e no_program_memory

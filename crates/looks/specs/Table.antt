@@ -15,5 +15,5 @@ pub record IsTable (text : List ℕ) (s : Settings) (bytes : List ℕ) : Type 0 
 
 -- a log is refused for its first fault; or for want of memory
 pub data RefusesTable (text : List ℕ) (s : Settings) : Refusal → Type 0 where
-  for_log : (r : Refusal) → RefusesLog text s.sectors r → RefusesTable text s r
+  for_log : (r : Refusal) → RefusesLog text s r → RefusesTable text s r
   for_memory : (value : LogValue) → IsLogOf text s value → RefusesTable text s memory_refusal

@@ -65,7 +65,7 @@ pub fn image(alloc: Global, log: &[u8], which: Which, options: &Options) -> Resu
     ensures shown { IfOk result (λ bytes. IsImage log.now options.now which bytes.items) }
     ensures refused { IfErr result (RefusesImage log.now options.now which) }
 {
-    let log = read_log(alloc, log, options.sectors())?;
+    let log = read_log(alloc, log, options)?;
     let (plan, images) = planned(alloc, &log, options)?;
     let choice = choice_meant(alloc, &plan, images, options, which)?;
     match shown(alloc, &log, &plan, &choice) {

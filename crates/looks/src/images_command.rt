@@ -92,7 +92,7 @@ pub fn survey(alloc: Global, log: &[u8], options: &Options) -> Result<Vec<u8>, R
     ensures told { IfOk result (λ bytes. IsSurvey log.now options.now bytes.items) }
     ensures refused { IfErr result (RefusesSurvey log.now options.now) }
 {
-    let log = read_log(alloc, log, options.sectors())?;
+    let log = read_log(alloc, log, options)?;
     let (plan, images) = planned(alloc, &log, options)?;
     match text_of(alloc, &plan, options.bound(), options.tears(), images) {
         Ok(bytes) => Ok(bytes),

@@ -18,7 +18,7 @@ pub fn shown_log(alloc: Global, bytes: &[u8], options: &Options) -> Result<Vec<u
     ensures shown { IfOk result (λ text. IsTable bytes.now options.now text.items) }
     ensures refused { IfErr result (RefusesTable bytes.now options.now) }
 {
-    let log = read_log(alloc, bytes, options.sectors())?;
+    let log = read_log(alloc, bytes, options)?;
     match log_table(alloc, &log) {
         Ok(text) => Ok(text.into_bytes()),
         Err(_error) => Err(Refusal::of_memory()),

@@ -77,7 +77,7 @@ pub fn show(alloc: Global, log: &[u8], which: Which, options: &Options) -> Resul
     ensures shown { IfOk result (λ bytes. IsShown log.now options.now which bytes.items) }
     ensures refused { IfErr result (RefusesImage log.now options.now which) }
 {
-    let log = read_log(alloc, log, options.sectors())?;
+    let log = read_log(alloc, log, options)?;
     let (plan, images) = planned(alloc, &log, options)?;
     let choice = choice_meant(alloc, &plan, images, options, which)?;
     match text_of(alloc, &log, &plan, options, &choice) {

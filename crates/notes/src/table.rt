@@ -98,7 +98,7 @@ pub fn put_entry_line(
 pub fn log_table(alloc: Global, log: &Log) -> Result<String, AllocError>
     ensures { IfOk result (λ text. string_bytes text ≡ log_table log.now.entries) }
 {
-    let plan = Plan::new(alloc, log, Cuts::All, By::Sector)?;
+    let plan = Plan::new(alloc, log, Cuts::ALL, By::Sector)?;
     let mut out = String::new(alloc);
     for (number, entry) in log.entries().iter().enumerate() {
         put_entry_line(&mut out, number, plan.epoch(number as u32), entry)?;
@@ -123,7 +123,7 @@ pub fn put_entry(
 ) -> Result<(), AllocError>
     ensures { OnOk result (string_bytes out.new ≡ string_bytes out.old ++ entry_note log.now.entries number) }
 {
-    let plan = Plan::new(alloc, log, Cuts::All, By::Sector)?;
+    let plan = Plan::new(alloc, log, Cuts::ALL, By::Sector)?;
     let Some(entry) = log.entries().get(number) else {
         return Ok(());
     };

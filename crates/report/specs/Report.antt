@@ -8,6 +8,7 @@ use Rattle.report.specs.declared.head.ProgramHead.{ProgramHead}
 use Rattle.lines.specs.Line.{FailingLine, first_lines}
 use Rattle.lines.specs.Images.{failing_images, first_image}
 pub use Rattle.lines.specs.Text.{line_text}
+use Rattle.choice_text.specs.Words.{cuts_words}
 use Rattle.report.specs.Text.{yes_or_no, cuts_word, by_words}
 
 -- what the report says at its head, and how many images there are
@@ -25,11 +26,11 @@ pub record HeadValue : Type 0 where
 -- the line of the options, in two parts
 unfoldable pub device_text : HeadValue → List ℕ
 device_text h =
-    codes "sectors " ++ decimal h.sectors ++ codes " entries " ++ decimal h.entries ++ codes " cuts " ++ cuts_word h.cuts
+    codes "sectors " ++ decimal h.sectors ++ codes " entries " ++ decimal h.entries ++ codes " cuts " ++ cuts_word h.cuts.kind
 
 unfoldable pub choices_text : HeadValue → List ℕ
 choices_text h =
-    codes " bound " ++ decimal h.bound ++ codes " tears " ++ yes_or_no h.tears ++ codes " first " ++ yes_or_no h.first ++ by_words h.by ++ codes "\n"
+    codes " bound " ++ decimal h.bound ++ codes " tears " ++ yes_or_no h.tears ++ codes " first " ++ yes_or_no h.first ++ by_words h.by ++ cuts_words h.cuts ++ codes "\n"
 
 abbrev pub options_line : HeadValue → List ℕ
 options_line h = device_text h ++ choices_text h

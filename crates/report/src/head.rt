@@ -20,7 +20,7 @@ pub struct Head {
     pub sectors: u32,
     /// The number of entries of the log.
     pub entries: u32,
-    /// The kind of the cuts.
+    /// The wanted cuts.
     pub cuts: Cuts,
     /// How many parts may depart.
     pub bound: u8,

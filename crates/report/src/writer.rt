@@ -9,7 +9,8 @@ ghost use Rattle.report.specs.Text.{yes_or_no, cuts_word, by_words};
 ghost use Rattle.report.specs.Report.{device_text, choices_text, steps_word, program_line, program_lines, totals_line, image_text, first_line, last_line, shown_lines, options_text, head_text, report_bytes};
 
 use crate::head::{Head, ProgramHead};
-use epochs::{By, Cuts};
+use choice_text::put_cuts_words;
+use epochs::{By, CutKind};
 use lines::Lines;
 use std::alloc::{AllocError, Global};
 
@@ -19,13 +20,13 @@ fn yes_or_no_word(b: bool) -> &'static str
     if b { "yes" } else { "no" }
 }
 
-fn word_of_cuts(cuts: Cuts) -> &'static str
-    ensures { result.now ≡ cuts_word cuts }
+fn word_of_cuts(kind: CutKind) -> &'static str
+    ensures { result.now ≡ cuts_word kind }
 {
-    match cuts {
-        Cuts::All => "all",
-        Cuts::BeforeFlush => "flush",
-        Cuts::AfterMark => "mark",
+    match kind {
+        CutKind::All => "all",
+        CutKind::BeforeFlush => "flush",
+        CutKind::AfterMark => "mark",
     }
 }
 
@@ -51,7 +52,7 @@ fn word_of_steps(verified: bool) -> &'static str
 fn put_device(out: &mut String, head: &Head) -> Result<(), AllocError>
     ensures { OnOk result (string_bytes out.new ≡ string_bytes out.old ++ device_text head.now) }
 {
-    let cuts = word_of_cuts(head.cuts);
+    let cuts = word_of_cuts(head.cuts.kind);
     write!(
         out,
         "sectors {} entries {} cuts {cuts}",
@@ -59,7 +60,8 @@ fn put_device(out: &mut String, head: &Head) -> Result<(), AllocError>
     )
 }
 
-/// Appends the bound, the tears and whether the first failing image is asked for.
+/// Appends the bound, the tears, whether the first failing image is asked for, what departs as one where it isn't a sector, the
+/// flushes that were added and the range of the cuts.
 #[tactic(auto, unfolding(crate::specs::Report::choices_text))]
 fn put_choices(out: &mut String, head: &Head) -> Result<(), AllocError>
     ensures { OnOk result (string_bytes out.new ≡ string_bytes out.old ++ choices_text head.now) }
@@ -68,7 +70,9 @@ fn put_choices(out: &mut String, head: &Head) -> Result<(), AllocError>
     let first = yes_or_no_word(head.first);
     write!(out, " bound {} tears {tears} first {first}", head.bound)?;
     let by = words_of_by(head.by);
-    write!(out, "{by}\n")
+    write!(out, "{by}")?;
+    put_cuts_words(out, &head.cuts)?;
+    write!(out, "\n")
 }
 
 /// Appends the line of a program.

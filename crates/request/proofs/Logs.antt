@@ -1,28 +1,63 @@
--- What was read of a log, for the device of the settings.
-use Rattle.std.proofs.Common.{ℕ, ◌≡◌, ◌≤◌, ◌⊎◌, inl, inr, List, length, ◌∙◌, arith}
+-- What was read of a log, by the settings.
+use Rattle.std.proofs.Common.{ℕ, ◌≡◌, ◌≤◌, ◌⊎◌, inl, inr, ◌<◌, List, [], length, slice_get, Option, None, Some, sym, ap, ◌∙◌, subst, arith}
 use Rattle.base.specs.declared.causes.LogCause.TheVariants as log
-use Rattle.base.specs.declared.refusal.Refusal.{Refusal}
 use Rattle.logfmt.specs.declared.fault.LogFault.{LogFault}
-use Rattle.logfmt.specs.Bounds.{LogValue}
+use Rattle.logfmt.specs.Bounds.{LogValue, IsLog}
+use Rattle.logfmt.proofs.Flushed.{log-flushed}
 use Rattle.logfmt.specs.Faults as log_fault
 use Rattle.logfmt.specs.LogText.{LogText}
+use Rattle.logfmt.specs.Flushed.{flushed}
+use Rattle.logfmt.specs.declared.entry.Entry.{Entry}
+use Rattle.std.specs.List.{slice_index_or}
+use Rattle.epochs.specs.declared.cuts.Cuts.{Cuts}
+use Rattle.epochs.specs.Flushes.{places_of}
 use Rattle.choices.specs.Choices.{limit}
+use Rattle.request.proofs.Lacking.{none_lacks, entries_there}
 use Rattle.request.specs.declared.settings.Settings.{Settings}
-use Rattle.request.specs.Source.{IsLogOf, HasImages, images_of, log_refusal, RefusesLog, with_fault, no_memory, RefusesSource, for_log}
+use Rattle.request.specs.Source.{IsLogOf, HasImages, images_of, lacking, log_refusal, lacking_refusal, lacks, RefusesLog, with_fault, no_memory}
 
 -- what `read` answers
-pub log_refused : (text : List ℕ) (sectors : ℕ) (f : LogFault) → (f ≡ record { code = log.Memory; at = 0 }) ⊎ log_fault.FirstFault text sectors f.code f.at
-    → RefusesLog text sectors (log_refusal f.code f.at)
-log_refused text sectors f (inl e) = rw e no_memory
-log_refused text sectors f (inr h) = with_fault f.code f.at h
+pub log_refused : (text : List ℕ) (s : Settings) (sectors : ℕ) (f : LogFault) → sectors ≡ s.sectors
+    → (f ≡ record { code = log.Memory; at = 0 }) ⊎ log_fault.FirstFault text sectors f.code f.at → RefusesLog text s (log_refusal f.code f.at)
+log_refused text s sectors f same (inl e) = rw e no_memory
+log_refused text s sectors f same (inr h) = with_fault f.code f.at (subst (λ n. log_fault.FirstFault text n f.code f.at) same h)
 
-pub is_log : (text : List ℕ) (s : Settings) (log : LogValue) (sectors : ℕ) → log.sectors ≡ sectors → sectors ≡ s.sectors → LogText text log → IsLogOf text s log
-is_log text s log sectors e f h = record { device = e ∙ f; of_log = h }
+pub has_images : (text : List ℕ) (s : Settings) (log : LogValue) (images : ℕ) → IsLogOf text s log → images ≡ length (images_of s log) → images ≤ limit → HasImages text s log
+has_images text s log images reads count few = record { reads = reads; few = omega (arith, count, few) }
 
-pub has_images : (text : List ℕ) (s : Settings) (log : LogValue) (sectors images : ℕ) → log.sectors ≡ sectors → sectors ≡ s.sectors → LogText text log
-    → images ≡ length (images_of s log) → images ≤ limit → HasImages text s log
-has_images text s log sectors images e f h count few = record { reads = is_log text s log sectors e f h; few = omega (arith, count, few) }
+-- nothing that is named is lacking
+nothing : (cuts : Cuts) (log : LogValue) (es : List Entry) (first : Option ℕ) → es ≡ log.entries → first ≡ slice_get (lacking cuts (length es)) 0 → first ≡ None
+    → lacking cuts (length log.entries) ≡ []
+nothing cuts log es first same is none =
+    subst (λ (xs : List Entry). lacking cuts (length xs) ≡ []) same (none_lacks cuts (length es) (sym is ∙ none))
 
--- the log is refused by what was read for the device of the settings
-pub log_source : (text : List ℕ) (s : Settings) (sectors : ℕ) (r : Refusal) → sectors ≡ s.sectors → RefusesLog text sectors r → RefusesSource text s r
-log_source text s sectors r e h = for_log r (rw (← e) h)
+pub there : (cuts : Cuts) (log : LogValue) (es : List Entry) (places : List ℕ) (first : Option ℕ) → es ≡ log.entries → places ≡ places_of cuts.flushes
+    → first ≡ slice_get (lacking cuts (length es)) 0 → first ≡ None → (k d : ℕ) → k < length places → slice_index_or places k d < length log.entries
+there cuts log es places first same are is none =
+    subst (λ (ps : List ℕ). (k d : ℕ) → k < length ps → slice_index_or ps k d < length log.entries) (sym are)
+    (entries_there cuts (length log.entries) (nothing cuts log es first same is none))
+
+-- an entry or a cut is lacking
+pub lacks_place : (text : List ℕ) (s : Settings) (cuts : Cuts) (log : LogValue) (es : List Entry) (first : Option ℕ) (place : ℕ) → cuts ≡ s.cuts → log.sectors ≡ s.sectors → LogText text log
+    → es ≡ log.entries → first ≡ slice_get (lacking cuts (length es)) 0 → first ≡ Some place → RefusesLog text s (lacking_refusal place)
+lacks_place text s cuts log es first place asked device of_log same is found =
+    let at : slice_get (lacking cuts (length log.entries)) 0 ≡ Some place = subst (λ (xs : List Entry). slice_get (lacking cuts (length xs)) 0 ≡ Some place) same (sym is ∙ found) in
+    lacks log place (record { device = device; of_log = of_log }) (subst (λ (c : Cuts). slice_get (lacking c (length log.entries)) 0 ≡ Some place) asked at)
+
+-- the log that is asked for
+pub log_of : (text : List ℕ) (s : Settings) (cuts : Cuts) (log value : LogValue) (es : List Entry) (places : List ℕ) (first : Option ℕ) → cuts ≡ s.cuts → log.sectors ≡ s.sectors
+    → LogText text log → es ≡ log.entries → places ≡ places_of cuts.flushes → first ≡ slice_get (lacking cuts (length es)) 0 → first ≡ None → value ≡ flushed places log
+    → IsLogOf text s value
+log_of text s cuts log value es places first asked device of_log same are is none added = record {
+  read = log;
+  recorded = record { device = device; of_log = of_log };
+  has = subst (λ (c : Cuts). lacking c (length log.entries) ≡ []) asked (nothing cuts log es first same is none);
+  added = added ∙ ap (λ ps. flushed ps log) (are ∙ ap (λ (c : Cuts). places_of c.flushes) asked);
+}
+
+-- a log that is asked for is one for the device, within the bounds of a log
+pub device_of : (text : List ℕ) (s : Settings) (value : LogValue) → IsLogOf text s value → value.sectors ≡ s.sectors
+device_of text s value is = ap (λ (v : LogValue). v.sectors) is.added ∙ is.recorded.device
+
+pub bounds_of : (text : List ℕ) (s : Settings) (value : LogValue) → IsLogOf text s value → IsLog value
+bounds_of text s value is = subst IsLog (sym is.added) (log-flushed (places_of s.cuts.flushes) is.read is.recorded.of_log.bounds)

@@ -1,7 +1,8 @@
 -- The options that words ask for, and when the words are refused (docs/REPORT.md, Options).
 use Rattle.std.specs.Prelude.{◌≡◌, Option, None, Some, option_map}
 use Rattle.std.specs.Option.{option_map_or, option_and_then}
-use Rattle.epochs.specs.declared.cuts.Cuts.{Cuts}
+use Rattle.epochs.specs.declared.cuts.CutKind.{CutKind}
+use Rattle.epochs.specs.declared.flushes.Flushes.{Flushes}
 use Rattle.epochs.specs.declared.part.By.{By}
 use Rattle.base.specs.declared.refusal.Refusal.{Refusal}
 use Rattle.request.specs.declared.command.OptionWords.{OptionWords}
@@ -9,11 +10,11 @@ use Rattle.request.specs.declared.settings.OptionPlace.TheVariants as place
 use Rattle.request.specs.declared.settings.Settings.{Settings}
 use Rattle.request.specs.Settings.{option_refusal, settings_refusal}
 
--- what the words ask for, with cuts of that kind, and parts of that
-abbrev pub settings_with : OptionWords → Cuts → By → Settings
-settings_with w cuts way = record {
+-- what the words ask for, with cuts of that kind, parts of that, and these flushes added
+abbrev pub settings_with : OptionWords → CutKind → By → Flushes → Settings
+settings_with w kind way added = record {
   sectors = w.sectors;
-  cuts = cuts;
+  cuts = record { kind = kind; from = w.from; to = w.to; flushes = added };
   bound = w.bound;
   tears = w.tears;
   by = way;
@@ -23,13 +24,18 @@ settings_with w cuts way = record {
   first = w.first;
 }
 
--- what the words ask for, none where the word for the cuts names no kind of cut, or that behind --by no kind of part
+-- what the words ask for, none where the word for the cuts names no kind of cut, that behind --by no kind of part, or that
+-- behind --flush no entries
 abbrev pub settings_of : OptionWords → Option Settings
-settings_of w = option_and_then (λ cuts. option_map (settings_with w cuts) w.by) w.cuts
+settings_of w = option_and_then (λ kind. option_and_then (λ way. option_map (settings_with w kind way) w.flushes) w.by) w.cuts
+
+-- the refusal of the words, of which those for the cuts and for the parts name kinds: the entries of --flush are tested first
+abbrev pub flushes_refusal : OptionWords → CutKind → By → Option Refusal
+flushes_refusal w kind way = option_map_or (λ added. settings_refusal (settings_with w kind way added)) w.flushes (Some (option_refusal place.Flush))
 
 -- the refusal of the words, of which that for the cuts names a kind of cut: the kind of the parts is tested first
-abbrev pub parts_refusal : OptionWords → Cuts → Option Refusal
-parts_refusal w cuts = option_map_or (λ way. settings_refusal (settings_with w cuts way)) w.by (Some (option_refusal place.By))
+abbrev pub parts_refusal : OptionWords → CutKind → Option Refusal
+parts_refusal w kind = option_map_or (flushes_refusal w kind) w.by (Some (option_refusal place.By))
 
 -- the refusal of the words of a command line: the kind of the cuts is tested first
 abbrev pub words_refusal : OptionWords → Option Refusal

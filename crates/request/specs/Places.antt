@@ -14,3 +14,5 @@ place_number place.Cuts = 7
 place_number place.Image = 9
 place_number place.By = 10
 place_number place.Choice = 11
+place_number place.Flush = 12
+place_number place.Range = 13

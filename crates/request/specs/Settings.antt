@@ -1,10 +1,12 @@
 -- The options of a run, and which are refused (docs/REPORT.md, Options).
-use Rattle.std.specs.Prelude.{ℕ, ◌≡◌, ◌≤◌, true, ◌&&◌, nat_le, List, [], ◌∷◌, Option, None}
+use Rattle.std.specs.Prelude.{◌≡◌, ◌≤◌, Bool, true, ◌&&◌, nat_le, List, [], ◌∷◌, Option, None}
 use Rattle.std.specs.Option.{option_map, option_map_or}
 use Rattle.base.specs.Check.{Check, check, first_failing}
 use Rattle.base.specs.declared.causes.RequestCause.TheVariants as request
 use Rattle.base.specs.declared.refusal.Refusal.{Refusal}
 use Rattle.base.specs.declared.refusal.Cause.TheVariants.{Request}
+use Rattle.epochs.specs.declared.cuts.Cuts.{Cuts}
+use Rattle.epochs.specs.Cuts.{is_before_last}
 use Rattle.request.specs.declared.settings.Settings.{Settings}
 use Rattle.request.specs.declared.settings.OptionPlace.{OptionPlace}
 use Rattle.request.specs.declared.settings.OptionPlace.TheVariants as place
@@ -14,6 +16,10 @@ use Rattle.request.specs.Places.{place_number}
 abbrev pub option_refusal : OptionPlace → Refusal
 option_refusal at = record { code = Request request.Option; at = place_number at; program = None }
 
+-- where the first and the last cut are both given, the first isn't behind the last
+abbrev pub is_ordered : Cuts → Bool
+is_ordered cuts = option_map_or (λ first. is_before_last cuts.to first) cuts.from true
+
 -- the checks of the options, each with its place
 unfoldable pub option_checks : Settings → List (Check OptionPlace)
 option_checks s =
@@ -22,6 +28,7 @@ option_checks s =
     ∷ check place.Workers (nat_le 1 s.workers && nat_le s.workers 64)
     ∷ check place.Cache (nat_le s.cache 65536)
     ∷ check place.Checked (option_map_or (λ limit. nat_le limit 1000000000) s.checked true)
+    ∷ check place.Range (is_ordered s.cuts)
     ∷ []
 
 -- the refusal of the first option that a check refuses, if one does

@@ -1,5 +1,5 @@
 -- What a command reads of a log: the log itself, and the crash images that are asked for of it.
-use Rattle.std.specs.Prelude.{ℕ, ◌≡◌, ◌≤◌, List, length, None}
+use Rattle.std.specs.Prelude.{ℕ, ◌≡◌, ◌≤◌, ◌++◌, nat_le, nat_lt, if◌then◌else◌, List, [], ◌∷◌, length, filter, slice_get, Option, None, Some}
 use Rattle.base.specs.declared.causes.LogCause.{LogCause}
 use Rattle.base.specs.declared.causes.LogCause.TheVariants as log
 use Rattle.base.specs.declared.causes.RequestCause.TheVariants as request
@@ -9,16 +9,42 @@ use Rattle.base.specs.declared.refusal.Cause.TheVariants.{Log, Request}
 use Rattle.logfmt.specs.Bounds.{LogValue}
 use Rattle.logfmt.specs.LogText.{LogText}
 use Rattle.logfmt.specs.Faults as log_fault
+use Rattle.logfmt.specs.Flushed.{flushed}
+use Rattle.epochs.specs.declared.cuts.Cuts.{Cuts}
+use Rattle.epochs.specs.Flushes.{places_of}
 use Rattle.epochs.specs.Plan.{PlanValue}
 use Rattle.choices.specs.Choices.{ChoiceValue, ranked, limit, IsFirstPast}
 use Rattle.request.specs.declared.settings.Settings.{Settings}
 
 -- the text is that of this log, for the device of the settings
-pub record IsLogOf (text : List ℕ) (s : Settings) (value : LogValue) : Type 0 where
+pub record IsRecorded (text : List ℕ) (s : Settings) (value : LogValue) : Type 0 where
   pub device : value.sectors ≡ s.sectors
   pub of_log : LogText text value
 
--- the log with the kind of cuts and of parts that is asked for
+-- the first of two, where there is one, and else the second
+abbrev pub either : Option ℕ → Option ℕ → Option ℕ
+either (Some place) second = Some place
+either None second = second
+
+-- a cut that is given and that a log of n entries doesn't have
+abbrev pub cut_past : ℕ → Option ℕ → List ℕ
+cut_past n None = []
+cut_past n (Some cut) = if nat_lt n cut then cut ∷ [] else []
+
+-- what is named that a log of n entries doesn't have: entries before which a flush is to be added, then the first cut, then the
+-- last
+unfoldable pub lacking : Cuts → ℕ → List ℕ
+lacking cuts n = filter (λ entry. nat_le n entry) (places_of cuts.flushes) ++ (cut_past n cuts.from ++ cut_past n cuts.to)
+
+-- the log that is asked for of this text: the one that it records, which has each entry and cut that is named, with the flushes
+-- that are added
+pub record IsLogOf (text : List ℕ) (s : Settings) (value : LogValue) : Type 0 where
+  pub read : LogValue
+  pub recorded : IsRecorded text s read
+  pub has : lacking s.cuts (length read.entries) ≡ []
+  pub added : value ≡ flushed (places_of s.cuts.flushes) read
+
+-- the log with the cuts and the kind of parts that are asked for
 abbrev pub plan_of : Settings → LogValue → PlanValue
 plan_of s value = record { log = value; kind = s.cuts; by = s.by }
 
@@ -26,7 +52,7 @@ plan_of s value = record { log = value; kind = s.cuts; by = s.by }
 abbrev pub images_of : Settings → LogValue → List ChoiceValue
 images_of s value = ranked (plan_of s value) s.bound s.tears
 
--- the text is that of this log, and it has no more images than a run may have
+-- it is the log that is asked for of the text, and it has no more images than a run may have
 pub record HasImages (text : List ℕ) (s : Settings) (value : LogValue) : Type 0 where
   pub reads : IsLogOf text s value
   pub few : length (images_of s value) ≤ limit
@@ -37,10 +63,15 @@ log_refusal cause at = record { code = Log cause; at = at; program = None }
 abbrev pub images_refusal : ℕ → Refusal
 images_refusal cut = record { code = Request request.TooManyImages; at = cut; program = None }
 
--- the refusals of a log: its first fault, or want of memory
-pub data RefusesLog (text : List ℕ) (sectors : ℕ) : Refusal → Type 0 where
-  with_fault : (cause : LogCause) (at : ℕ) → log_fault.FirstFault text sectors cause at → RefusesLog text sectors (log_refusal cause at)
-  no_memory : RefusesLog text sectors (log_refusal log.Memory 0)
+abbrev pub lacking_refusal : ℕ → Refusal
+lacking_refusal place = record { code = Request request.NotInLog; at = place; program = None }
+
+-- the refusals of a log: its first fault, or want of memory; or the first entry or cut that is named and that it doesn't have
+pub data RefusesLog (text : List ℕ) (s : Settings) : Refusal → Type 0 where
+  with_fault : (cause : LogCause) (at : ℕ) → log_fault.FirstFault text s.sectors cause at → RefusesLog text s (log_refusal cause at)
+  no_memory : RefusesLog text s (log_refusal log.Memory 0)
+  lacks : (read : LogValue) (place : ℕ) → IsRecorded text s read → slice_get (lacking s.cuts (length read.entries)) 0 ≡ Some place
+      → RefusesLog text s (lacking_refusal place)
 
 -- the refusals of a plan: it has too many images, by the cut with which their number passes the limit; or
 -- want of memory
@@ -50,5 +81,5 @@ pub data RefusesPlan (s : Settings) (value : LogValue) : Refusal → Type 0 wher
 
 -- both in their order: the log, then the number of its images
 pub data RefusesSource (text : List ℕ) (s : Settings) : Refusal → Type 0 where
-  for_log : (r : Refusal) → RefusesLog text s.sectors r → RefusesSource text s r
+  for_log : (r : Refusal) → RefusesLog text s r → RefusesSource text s r
   for_plan : (r : Refusal) (value : LogValue) → IsLogOf text s value → RefusesPlan s value r → RefusesSource text s r

@@ -1,22 +1,29 @@
 //! What a command line asks for, and the options that its words stand for.
 
-ghost use Rattle.std.specs.Prelude.{◌≡◌, Some, MatchResult};
-ghost use Rattle.request.specs.OptionWords.{AskFor, words_refusal};
+ghost use Rattle.std.specs.Prelude.{◌≡◌, None, Some, IfOk, MatchResult};
+ghost use Rattle.request.specs.Settings.{settings_refusal};
+ghost use Rattle.request.specs.OptionWords.{AskFor, settings_with, words_refusal};
 
 use crate::options::Options;
 use crate::refusals::option_refusal_of;
 use crate::settings::{OptionPlace, Settings};
 use arrayvec::ArrayString;
 use base::refusal::Refusal;
-use epochs::{By, Cuts};
+use epochs::{By, CutKind, Cuts, Flushes};
 
 /// The options as they were written; no check was made of them (docs/REPORT.md, Options).
 #[derive(Clone, Copy)]
 pub struct OptionWords {
     /// The number behind `--sectors`.
     pub sectors: u64,
+    /// The entries behind `--flush`, none of them where that doesn't stand there; none where the word is no list of entries.
+    pub flushes: Option<Flushes>,
     /// The kind of cut behind `--cuts`; none where the word is no kind of cut.
-    pub cuts: Option<Cuts>,
+    pub cuts: Option<CutKind>,
+    /// The number behind `--from`, where that stands there.
+    pub from: Option<u64>,
+    /// The number behind `--to`, where that stands there.
+    pub to: Option<u64>,
     /// The number behind `--bound`.
     pub bound: u64,
     /// Whether `--tears` stands there.
@@ -73,30 +80,52 @@ pub enum Request {
     List { numbered: bool },
 }
 
+/// The options that these words ask for, of which those for the cuts, for the parts and for the flushes are good.
+fn options_with(
+    words: &OptionWords,
+    kind: CutKind,
+    by: By,
+    flushes: Flushes,
+) -> Result<Options, Refusal>
+    ensures made { IfOk result (λ o. o ≡ settings_with words.now kind by flushes) }
+    ensures refused { MatchResult result (λ o. settings_refusal (settings_with words.now kind by flushes) ≡ None)
+        (λ r. settings_refusal (settings_with words.now kind by flushes) ≡ Some r) }
+{
+    Options::new(&Settings {
+        sectors: words.sectors,
+        cuts: Cuts {
+            kind,
+            from: words.from,
+            to: words.to,
+            flushes,
+        },
+        bound: words.bound,
+        tears: words.tears,
+        by,
+        workers: words.workers,
+        cache: words.cache,
+        checked: words.checked,
+        first: words.first,
+    })
+}
+
 /// The options that these words ask for.
 ///
 /// # Errors
 ///
-/// 13 at 7 where the word behind `--cuts` is no kind of cut, 13 at 10 where that behind `--by` is no kind of part, then those
-/// of `Options::new`.
+/// 13 at 7 where the word behind `--cuts` is no kind of cut, 13 at 10 where that behind `--by` is no kind of part, 13 at 12
+/// where that behind `--flush` is no list of entries, then those of `Options::new`.
 pub fn options_of(words: OptionWords) -> Result<Options, Refusal>
     ensures { MatchResult result (λ o. AskFor words o) (λ r. words_refusal words ≡ Some r) }
 {
-    match words.cuts {
-        Some(cuts) => match words.by {
-            Some(by) => Options::new(&Settings {
-                sectors: words.sectors,
-                cuts,
-                bound: words.bound,
-                tears: words.tears,
-                by,
-                workers: words.workers,
-                cache: words.cache,
-                checked: words.checked,
-                first: words.first,
-            }),
-            None => Err(option_refusal_of(OptionPlace::By)),
-        },
-        None => Err(option_refusal_of(OptionPlace::Cuts)),
-    }
+    let Some(kind) = words.cuts else {
+        return Err(option_refusal_of(OptionPlace::Cuts));
+    };
+    let Some(by) = words.by else {
+        return Err(option_refusal_of(OptionPlace::By));
+    };
+    let Some(flushes) = words.flushes else {
+        return Err(option_refusal_of(OptionPlace::Flush));
+    };
+    options_with(&words, kind, by, flushes)
 }

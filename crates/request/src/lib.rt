@@ -10,7 +10,7 @@
 //! |---|---|
 //! | `Options::new(settings)` | tests what a run is asked, option by option, and keeps it |
 //! | `options_of(words)` | the same, of options as the words of a command line have them |
-//! | `read_log(alloc, bytes, sectors)` | the log that bytes are, for a device of that size |
+//! | `read_log(alloc, bytes, options)` | the log that bytes are, for a device of that size, with the flushes that are added |
 //! | `planned(alloc, log, options)` | the plan of a log by the options, with how many crash images it has |
 //! | `option_refusal_of(place)`, `unreadable(place)`, `bytes_refusal_of(fault)` | the refusal of an option, of a file, and of a program's bytes |
 //! | `fault_line(alloc, refusal)` | the line that a refusal prints |
@@ -23,11 +23,12 @@
 //! `Options::new` answers what it was asked, and refuses exactly the first option that is out of its range, by its place
 //! (`specs/Settings.antt`, docs/REPORT.md, Options). So whoever has `Options` has numbers in their ranges: 1 to 16,384 sectors,
 //! at most 3 parts that depart, 1 to 64 workers, a cache of at most 65,536 outcomes, a limit of at most 10^9 steps.
-//! `options_of` refuses first a word that names no kind of cut, then one that names no kind of part
-//! (`specs/OptionWords.antt`).
+//! `options_of` refuses first a word that names no kind of cut, then one that names no kind of part, then one that is no list of
+//! entries (`specs/OptionWords.antt`).
 //!
-//! Where `read_log` answers a log, the bytes are a text of that log for that device, and where it refuses them, it names their
-//! first fault. `planned` answers the plan of the log with the kinds of cuts and parts that are asked for, and the number of
+//! Where `read_log` answers a log, the bytes are a text of a log for that device that has all entries and cuts that are named, and
+//! the answer is that log with the flushes that are added (`IsLogOf`). Where it refuses them, it names their first fault, or the
+//! first entry or cut that the log doesn't have. `planned` answers the plan of the log with the kinds of cuts and parts that are asked for, and the number of
 //! its crash images, at most 16,777,216; it refuses a log that has more, by the first cut with which there are more
 //! (`specs/Source.antt`). Memory may run out in both. `fault_line` is `refused`, the number of the cause, its place and, if one
 //! is at fault, the program (`specs/FaultLine.antt`).
@@ -35,8 +36,8 @@
 //! # Example
 //!
 //! ```text
-//! let options = Options::new(&Settings { sectors: 1, cuts: Cuts::All, bound: 0, .. })?;
-//! let log = read_log(alloc, bytes, options.sectors())?;
+//! let options = Options::new(&Settings { sectors: 1, cuts: Cuts::ALL, bound: 0, .. })?;
+//! let log = read_log(alloc, bytes, &options)?;
 //! let (plan, images) = planned(alloc, &log, &options)?;
 //! // a log without entries has one cut, and of it one image
 //! let refusal = Options::new(&Settings { sectors: 0, .. });

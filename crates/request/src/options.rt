@@ -2,7 +2,7 @@
 
 ghost use Rattle.std.specs.Prelude.{◌≡◌, ◌≤◌, MatchResult, IfOk, None, Some, not, nat_le, true};
 ghost use Rattle.std.specs.Option.{option_map_or};
-ghost use Rattle.request.specs.Settings.{settings_refusal, IsAsked};
+ghost use Rattle.request.specs.Settings.{settings_refusal, is_ordered, IsAsked};
 
 use crate::refusals::option_refusal_of;
 use crate::settings::{OptionPlace, Settings};
@@ -63,6 +63,16 @@ fn is_too_long(checked: Option<u64>) -> bool
     }
 }
 
+/// Whether the first cut is behind the last, where both are given.
+fn is_reversed(cuts: &Cuts) -> bool
+    ensures { result ≡ not (is_ordered cuts.now) }
+{
+    match (cuts.from, cuts.to) {
+        (Some(first), Some(last)) => first > last,
+        _ => false,
+    }
+}
+
 impl Options {
     /// The options of a run that is asked this.
     ///
@@ -89,6 +99,9 @@ impl Options {
         if is_too_long(settings.checked) {
             return Err(option_refusal_of(OptionPlace::Checked));
         }
+        if is_reversed(&settings.cuts) {
+            return Err(option_refusal_of(OptionPlace::Range));
+        }
         Ok(Options {
             sectors: settings.sectors as u32,
             cuts: settings.cuts,
@@ -110,7 +123,7 @@ impl Options {
         self.sectors
     }
 
-    /// The kind of the cuts.
+    /// The wanted cuts, and the flushes that are added to the log.
     pub fn cuts(&self) -> Cuts
         ensures { result ≡ self.now.cuts }
     {

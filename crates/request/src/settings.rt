@@ -10,7 +10,7 @@ use epochs::{By, Cuts};
 pub struct Settings {
     /// The number of sectors of the device.
     pub sectors: u64,
-    /// Which cuts are wanted.
+    /// Which cuts are wanted, and which flushes are added to the log.
     pub cuts: Cuts,
     /// How many parts may depart.
     pub bound: u64,
@@ -56,6 +56,10 @@ pub enum OptionPlace {
     By = 10,
     /// The cut and the choice of an image.
     Choice = 11,
+    /// The entries before which a flush is added.
+    Flush = 12,
+    /// The first and the last of the cuts.
+    Range = 13,
 }
 
 impl OptionPlace {

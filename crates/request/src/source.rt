@@ -1,16 +1,15 @@
 //! What every command reads of a log: the log itself, and the number of the crash images that are
 //! asked for of it.
 
-ghost use Rattle.std.specs.Prelude.{◌≡◌, ◌≤◌, length, IfOk, IfErr};
+ghost use Rattle.std.specs.Prelude.{◌≡◌, ◌≤◌, length, filter, nat_le, slice_get, IfOk, IfErr};
 ghost use Rattle.choices.specs.Choices.{ranked, limit};
-ghost use Rattle.logfmt.specs.LogText.{LogText};
-ghost use Rattle.request.specs.Source.{log_refusal, images_refusal, plan_of, images_of, RefusesLog, RefusesPlan};
+ghost use Rattle.request.specs.Source.{log_refusal, images_refusal, lacking_refusal, cut_past, either, lacking, plan_of, images_of, IsLogOf, RefusesLog, RefusesPlan};
 
 use crate::options::Options;
 use base::causes::RequestCause;
 use base::refusal::{Cause, Refusal};
 use choices::{TooMany, count};
-use epochs::Plan;
+use epochs::{Cuts, Plan};
 use logfmt::{Log, LogFault, read};
 use std::alloc::Global;
 
@@ -36,21 +35,80 @@ fn images_refusal_of(fault: TooMany) -> Refusal
     }
 }
 
-/// The log of these bytes, for a device of that many sectors.
+/// The refusal that says an entry or a cut that the log doesn't have.
+fn lacking_refusal_of(place: u64) -> Refusal
+    ensures { result ≡ lacking_refusal place }
+{
+    Refusal {
+        code: Cause::Request(RequestCause::NotInLog),
+        at: place,
+        program: None,
+    }
+}
+
+/// The first of some entries that a log of `count` entries doesn't have.
+fn entry_past(entries: &[u32], count: usize) -> Option<u64>
+    ensures { result ≡ slice_get (filter (λ entry. nat_le count entry) entries.now) 0 }
+{
+    match entries {
+        [] => None,
+        [first, rest @ ..] => {
+            if count <= *first as usize {
+                Some(u64::from(*first))
+            } else {
+                entry_past(rest, count)
+            }
+        }
+    }
+}
+
+/// A cut that is given, where a log of `count` entries doesn't have it.
+fn cut_past(cut: Option<u64>, count: usize) -> Option<u64>
+    ensures { result ≡ slice_get (cut_past count cut) 0 }
+{
+    match cut {
+        Some(cut) if cut > count as u64 => Some(cut),
+        _ => None,
+    }
+}
+
+/// The first of two, where there is one, and else the second.
+fn either(first: Option<u64>, second: Option<u64>) -> Option<u64>
+    ensures { result ≡ either first second }
+{
+    match first {
+        Some(place) => Some(place),
+        None => second,
+    }
+}
+
+/// The first entry or cut that is named and that a log of `count` entries doesn't have.
+fn first_lacking(cuts: &Cuts, count: usize) -> Option<u64>
+    ensures { result ≡ slice_get (lacking cuts.now count) 0 }
+{
+    let entry = entry_past(cuts.flushes.places(), count);
+    let first = cut_past(cuts.from, count);
+    let last = cut_past(cuts.to, count);
+    either(entry, either(first, last))
+}
+
+/// The log of these bytes by the options: for a device of their size, with the flushes that are added.
 ///
 /// # Errors
 ///
-/// The first fault of the log; or want of memory.
-pub fn read_log(alloc: Global, bytes: &[u8], sectors: u32) -> Result<Log, Refusal>
-    requires some { 1 ≤ sectors }
-    requires device { sectors ≤ 16384 }
-    ensures text { IfOk result (LogText bytes.now) }
-    ensures sectors { IfOk result (λ log. log.sectors ≡ sectors) }
-    ensures refused { IfErr result (RefusesLog bytes.now sectors) }
+/// The first fault of the log; or want of memory; or 15 at the first entry or cut that is named and that the log doesn't have.
+pub fn read_log(alloc: Global, bytes: &[u8], options: &Options) -> Result<Log, Refusal>
+    ensures log { IfOk result (IsLogOf bytes.now options.now) }
+    ensures refused { IfErr result (RefusesLog bytes.now options.now) }
 {
-    match read(alloc, bytes, sectors) {
-        Ok(log) => Ok(log),
-        Err(fault) => Err(log_refusal_of(fault)),
+    let log = match read(alloc, bytes, options.sectors()) {
+        Ok(log) => log,
+        Err(fault) => return Err(log_refusal_of(fault)),
+    };
+    let cuts = options.cuts();
+    match first_lacking(&cuts, log.entries().len()) {
+        Some(place) => Err(lacking_refusal_of(place)),
+        None => Ok(log.flushed(cuts.flushes.places())),
     }
 }
 

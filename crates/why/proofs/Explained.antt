@@ -6,8 +6,9 @@ use Rattle.std.specs.List.{slice_index_or}
 use Rattle.std.proofs.lemmas.List.{length-map}
 use Rattle.logfmt.specs.declared.entry.Entry.{Entry}
 use Rattle.epochs.specs.declared.cuts.Cuts.{Cuts}
-use Rattle.epochs.specs.declared.cuts.Cuts.TheVariants as kind
-use Rattle.epochs.specs.Laws.{IsWanted}
+use Rattle.epochs.specs.declared.cuts.CutKind.{CutKind}
+use Rattle.epochs.specs.declared.cuts.CutKind.TheVariants as kind
+use Rattle.epochs.specs.Laws.{IsOfKind, IsWanted}
 use Rattle.choices.specs.declared.choice.Departure.{Departure}
 use Rattle.choices.specs.Choices.{ChoiceValue, ranked}
 use Rattle.choices.specs.Laws.{RankedIsModel}
@@ -16,12 +17,15 @@ use Rattle.pairs.specs.Pairs.{FailureValue, IsFailure, AreFailures}
 use Rattle.why.specs.Failures.{AreImages}
 use Rattle.why.specs.Pairs.{is_write, entry_of, failure_of, failure_at}
 
--- a wanted cut is one of the log
+-- a cut of a kind is one of the log, and so is a wanted one
+kind_within : (kind : CutKind) (es : List Entry) (k : ℕ) → IsOfKind kind es k → k ≤ length es
+kind_within kind.All es k is = is
+kind_within kind.BeforeFlush es k (inl same) = omega (arith, same)
+kind_within kind.BeforeFlush es k (inr at) = let lt = slice_get_within es k at.0 at.1 in omega (arith, lt)
+kind_within kind.AfterMark es k at = let lt = slice_get_within es at.0 at.1 at.3 in let same = at.2 in omega (arith, lt, same)
+
 cut_within : (wanted : Cuts) (es : List Entry) (k : ℕ) → IsWanted wanted es k → k ≤ length es
-cut_within kind.All es k is = is
-cut_within kind.BeforeFlush es k (inl same) = omega (arith, same)
-cut_within kind.BeforeFlush es k (inr at) = let lt = slice_get_within es k at.0 at.1 in omega (arith, lt)
-cut_within kind.AfterMark es k at = let lt = slice_get_within es at.0 at.1 at.3 in let same = at.2 in omega (arith, lt, same)
+cut_within wanted es k is = kind_within wanted.kind es k is.of_kind
 
 -- an element of a mapped list
 of_mapped : {X Y : Type 0} (f : X → Y) (xs : List X) (i : ℕ) (y : Y) → slice_get (map f xs) i ≡ Some y → (x : X) × (slice_get xs i ≡ Some x) × (y ≡ f x)

@@ -1,3 +1,4 @@
+use Rattle.std.proofs.Common.{refl}
 use Rattle.std.proofs.lemmas.Result.{err_from_is_err_and}
 use Rattle.commands.specs.Acting.{for_words, for_settings, for_held}
 use Rattle.commands.proofs.Acts.{unread_file}
@@ -19,3 +20,10 @@ returns-in_err-bytes-clause-refused c =
     rw (p.1, p.2)
     (for_settings c.in_ok-options.options c.in_err-bytes.field-0.0 c.in_ok-options.ensures
     (for_held c.in_ok-log.log.now c.in_err-bytes.field-0.0 c.in_ok-log.ensures c.in_err-bytes.ensures.refused))
+
+pub returns-clause-answers : goal.returns-clause-answers
+returns-clause-answers c = record {
+  settings = c.in_ok-options.options;
+  asked = c.in_ok-options.ensures;
+  answers = record { held = c.in_ok-log.log.now; read = c.in_ok-log.ensures; is = c.in_ok-bytes.ensures.shown; ends = refl };
+}

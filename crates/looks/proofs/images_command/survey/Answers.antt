@@ -1,22 +1,21 @@
 use Rattle.std.proofs.Common.{◌≡◌, ◌∙◌, ◌≤◌, length, arith}
 use Rattle.choices.specs.Choices.{limit}
 use Rattle.std.proofs.lemmas.Result.{err_from_is_err_and}
-use Rattle.request.specs.Source.{for_plan, images_of}
-use Rattle.request.proofs.Logs.{log_source}
+use Rattle.request.specs.Source.{for_log, for_plan, images_of}
 use Rattle.looks.specs.Survey.{for_source, for_memory}
 use Rattle.looks.proofs.images_command.survey.Goals as goal
 
 pub returns-in_err-log-clause-refused : goal.returns-in_err-log-clause-refused
 returns-in_err-log-clause-refused c =
     let p = err_from_is_err_and c.from_residual.result c.from_residual.ensures.1 in
-    rw (p.1, p.2) (for_source _ (log_source _ _ c.sectors.result _ c.sectors.ensures.value c.in_err-log.ensures.refused))
+    rw (p.1, p.2) (for_source _ (for_log _ c.in_err-log.ensures.refused))
 
 pub returns-in_err-plan-clause-refused : goal.returns-in_err-plan-clause-refused
 returns-in_err-plan-clause-refused c =
     let p = err_from_is_err_and c.from_residual-in_err-plan.result c.from_residual-in_err-plan.ensures.1 in
     rw (p.1, p.2)
     (for_source _
-    (for_plan _ c.in_ok-log.log (record { device = c.in_ok-log.ensures.sectors ∙ c.sectors.ensures.value; of_log = c.in_ok-log.ensures.text }) c.in_err-plan.ensures.refused))
+    (for_plan _ c.in_ok-log.log (c.in_ok-log.ensures.log) c.in_err-plan.ensures.refused))
 
 pub returns-clause-refused : goal.returns-clause-refused
 returns-clause-refused c =
@@ -24,6 +23,6 @@ returns-clause-refused c =
     rw c.of_memory.ensures
     (for_memory c.in_ok-log.log
     (record {
-      reads = record { device = c.in_ok-log.ensures.sectors ∙ c.sectors.ensures.value; of_log = c.in_ok-log.ensures.text };
+      reads = c.in_ok-log.ensures.log;
       few = few;
     }))

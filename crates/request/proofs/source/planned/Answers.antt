@@ -1,6 +1,5 @@
-use Rattle.std.proofs.Common.{◌≡◌, ◌∙◌}
-use Rattle.choices.specs.Choices.{IsFirstPast}
-use Rattle.request.specs.Source.{too_many, no_plan_memory, plan_of}
+use Rattle.std.proofs.Common.{◌∙◌}
+use Rattle.request.specs.Source.{too_many, no_plan_memory}
 use Rattle.request.proofs.Plans.{same_plan, past_of}
 use Rattle.request.proofs.source.planned.Goals as goal
 

@@ -9,8 +9,8 @@ loop-cut-preserved c =
     elim c.if-wants.branch [
       | then-wants+in_ok-push w ↦
           rw (w.cuts-is, w.in_ok-push.ensures.items, c.loop-cut.invariant)
-          (sym (kept_cut (is_wanted c.args.self c.args.entries.now) c.loop-cut.cut (sym c.wants.ensures ∙ w.if-wants.true)))
+          (sym (kept_cut (is_wanted c.args.self.now c.args.entries.now) c.loop-cut.cut (sym c.wants.ensures ∙ w.if-wants.true)))
       | else-wants w ↦
           rw (w.cuts-is, c.loop-cut.invariant)
-          (sym (left_cut (is_wanted c.args.self c.args.entries.now) c.loop-cut.cut (sym c.wants.ensures ∙ w.if-wants.false)))
+          (sym (left_cut (is_wanted c.args.self.now c.args.entries.now) c.loop-cut.cut (sym c.wants.ensures ∙ w.if-wants.false)))
     ]

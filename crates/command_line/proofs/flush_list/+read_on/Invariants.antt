@@ -1,0 +1,4 @@
+use Rattle.command_line.proofs.flush_list.+read_on.Given as goal
+
+abbrev pub decreases-read_on : goal.decreases-read_on
+decreases-read_on l = l.left
