@@ -7,7 +7,8 @@ from pathlib import Path
 
 from program import SLOT, NoProgram
 
-HEADERS = Path(__file__).resolve().parent.parent
+CC = Path(__file__).resolve().parent
+HEADERS = ["-I", CC.parent, "-isystem", CC / "include"]
 
 
 def run(words, **how):
@@ -42,7 +43,7 @@ class Clang:
         self.name = name
         suffix = re.search(r"(-\d+)?$", name)[0]
         self.objdump = str(Path(name).parent / f"llvm-objdump{suffix}") if "/" in name else f"llvm-objdump{suffix}"
-        self.target = [name, "-target", "bpfel", "-mcpu=v2", "-O2", "-I", HEADERS]
+        self.target = [name, "-target", "bpfel", "-mcpu=v2", "-O2", *HEADERS]
 
     def tools(self):
         return [self.name, self.objdump]
@@ -81,7 +82,7 @@ class Gcc:
     def __init__(self, name):
         self.name = name
         self.objdump = re.sub(r"gcc(-[\d.]+)?$", "objdump", name)
-        self.target = [name, "-mcpu=v2", "-O2", "-I", HEADERS]
+        self.target = [name, "-mcpu=v2", "-O2", *HEADERS]
 
     def tools(self):
         return [self.name, self.objdump]
