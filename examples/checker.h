@@ -3,21 +3,25 @@
  * a byte position, and loops that the shape rules know. See docs/CHECKERS.md,
  * and docs/MACHINE.md for the rules of the helpers.
  *
- *     examples/cc checker.c check checker.bpf --sectors 4
+ *     crashbpf-cc checker.c check checker.bpf --sectors 4
  *
- * compiles the function `check` of checker.c. By hand, where it is the only
- * function of its file:
+ * (examples/cc/crashbpf-cc) compiles the function `check` of checker.c. By hand,
+ * where it is the only function of its file:
  *
  *     clang -O2 -target bpfel -mcpu=v2 -c checker.c -o checker.o
  *     llvm-objcopy -O binary --only-section=.text checker.o checker.bpf
  *
  * Nothing but the instructions of that one function reaches the program, and of
- * those that are LOCAL to it. So it has no global variables, no string literals
- * and no constant tables, and what it calls is INLINED or LOCAL. It is for clang
- * 14 or newer; gcc's assembler for BPF knows another syntax.
+ * those that are LOCAL to it. So it has no global variables and no constant
+ * tables, and what it calls is inlined or LOCAL. It is for clang 14 or newer, and
+ * for gcc 12 or newer as it is built for BPF.
+ *
+ * native/checker.h has the same for a program that judges a file, for a debugger.
  */
 #ifndef CHECKER_H
 #define CHECKER_H
+
+#include <stddef.h>
 
 typedef unsigned char u8;
 typedef unsigned short u16;
@@ -27,6 +31,9 @@ typedef unsigned long long u64;
 /* In front of each function that a checker calls: its body goes to where it is called. */
 #define INLINED static inline __attribute__((always_inline))
 
+/* native/checker.h defines this, and what stands below for programs alone. */
+#ifndef CHECKER_NATIVE
+
 /*
  * In front of a function that the function `checker` of the file calls and that is
  * to stand in the program once: LOCAL(check) u64 sum_of(u64 n) { .. }. It takes up
@@ -34,6 +41,15 @@ typedef unsigned long long u64;
  * three calls deep, and none within itself.
  */
 #define LOCAL(checker) static __attribute__((noinline, section(".text." #checker)))
+
+/* A helper is called by its number, which the two compilers write in different ways. */
+#ifdef __clang__
+#define HELPER_(number, answer, name, ...) static answer (*const name)(__VA_ARGS__) = (answer (*)(__VA_ARGS__))number
+#else
+#define HELPER_(number, answer, name, ...) answer name(__VA_ARGS__) __attribute__((kernel_helper(number)))
+#endif
+
+#endif
 
 /* Where a program starts, r1 points to this. It is read-only. */
 struct context {
@@ -44,26 +60,41 @@ struct context {
 };
 
 /* The address of sector n, 512 bytes that can be read, or 0 past the device. */
-static const void *(*const sector)(u64 n) = (const void *(*)(u64))1;
+HELPER_(1, const void *, sector, u64 n);
 
 /*
  * Copies `length` bytes (a constant, 1 to 512) of the device from byte position
  * `at` to an array on the stack. Answers 1 if any lay past the device, else 0.
  */
-static u64 (*const copy)(u64 at, void *to, u64 length) = (u64 (*)(u64, void *, u64))2;
+HELPER_(2, u64, copy, u64 at, void *to, u64 length);
 
 /* Keeps a code for the report. Answers 1, and keeps nothing, after sixteen. */
-static u64 (*const report)(u64 code) = (u64 (*)(u64))4;
+HELPER_(4, u64, report, u64 code);
 
 /* 1 if sector n is all zeros, else 0; 2 past the device. */
-static u64 (*const zero)(u64 n) = (u64 (*)(u64))5;
+HELPER_(5, u64, zero, u64 n);
 
 /* The mix of sector n, a number made of all its words, each of which counts by its place
  * (docs/MACHINE.md); 0 past the device. Different sectors may have the same one. */
-static u64 (*const mix)(u64 n) = (u64 (*)(u64))6;
+HELPER_(6, u64, mix, u64 n);
 
 /* 1 if the sectors a and b are equal, else 0; 2 if either is past the device. */
-static u64 (*const same)(u64 a, u64 b) = (u64 (*)(u64, u64))7;
+HELPER_(7, u64, same, u64 a, u64 b);
+
+#ifndef CHECKER_NATIVE
+
+/* The few instructions that macros below write, in the syntax of each compiler's assembler. */
+#ifdef __clang__
+#define AGAIN_(end) "r1 = %0\n\tcall 3\n\tif r0 == 0 goto %l[" #end "]"
+#define ABOVE_ "if %0 > %1 goto %l[above_]"
+#define SECTOR_ "r1 = %1\n\tcall 1\n\tif r0 == 0 goto %l[past_]\n\t%0 = r0"
+#define MOVE_ "%0 += %1"
+#else
+#define AGAIN_(end) "mov %%r1,%0\n\tcall 3\n\tjeq %%r0,0,%l[" #end "]"
+#define ABOVE_ "jgt %0,%1,%l[above_]"
+#define SECTOR_ "mov %%r1,%1\n\tcall 1\n\tjeq %%r0,0,%l[past_]\n\tmov %0,%%r0"
+#define MOVE_ "add %0,%1"
+#endif
 
 /*
  * Goes to the label `end` when this place has been passed `times` times in the
@@ -81,13 +112,13 @@ static u64 (*const same)(u64 a, u64 b) = (u64 (*)(u64, u64))7;
  * is to make m turns in each of n turns of the outer one needs n * (m + 1).
  */
 #define AT_MOST(times, end)			\
-	asm goto("r1 = %0\n\t"			\
-		 "call 3\n\t"			\
-		 "if r0 == 0 goto %l[" #end "]"	\
+	__asm__ goto(AGAIN_(end)		\
 		 :				\
 		 : "i"(times)			\
 		 : "r0", "r1", "r2", "r3", "r4", "r5", "memory" \
 		 : end)
+
+#endif
 
 /*
  * The same with a statement in place of the label: TURN(8, return TURNS_SPENT).
@@ -108,6 +139,8 @@ static u64 (*const same)(u64 a, u64 b) = (u64 (*)(u64, u64))7;
 /* An answer for a loop whose turns are spent. */
 #define TURNS_SPENT 255
 
+#ifndef CHECKER_NATIVE
+
 /*
  * Goes on where the variable i, a u64, is below the constant n, and does
  * `otherwise` elsewhere. From here on the verifier knows it, and the compiler
@@ -118,7 +151,7 @@ static u64 (*const same)(u64 a, u64 b) = (u64 (*)(u64, u64))7;
 		__label__ above_;					\
 		_Static_assert(sizeof(i) == 8 && (__typeof__(i))-1 > 0,	\
 			       "the index of BELOW has to be a u64");	\
-		asm goto("if %0 > %1 goto %l[above_]"			\
+		__asm__ goto(ABOVE_					\
 			 : "+r"(i)					\
 			 : "i"((n) - 1)					\
 			 :						\
@@ -129,12 +162,16 @@ static u64 (*const same)(u64 a, u64 b) = (u64 (*)(u64, u64))7;
 		}							\
 	})
 
+#endif
+
 /* A turn of a loop that goes by the index i, a u64, over n elements; i is BELOW n from here on. */
 #define TURN_BELOW(i, n, otherwise)	\
 	({				\
 		TURN(n, otherwise);	\
 		BELOW(i, n, otherwise);	\
 	})
+
+#ifndef CHECKER_NATIVE
 
 /*
  * The address of sector n, or `otherwise` past the device:
@@ -148,10 +185,7 @@ static u64 (*const same)(u64 a, u64 b) = (u64 (*)(u64, u64))7;
 	({							\
 		__label__ past_;				\
 		const void *sector_;				\
-		asm goto("r1 = %1\n\t"				\
-			 "call 1\n\t"				\
-			 "if r0 == 0 goto %l[past_]\n\t"	\
-			 "%0 = r0"				\
+		__asm__ goto(SECTOR_				\
 			 : "=r"(sector_)			\
 			 : "r"((u64)(n))			\
 			 : "r0", "r1", "r2", "r3", "r4", "r5"	\
@@ -168,7 +202,7 @@ static u64 (*const same)(u64 a, u64 b) = (u64 (*)(u64, u64))7;
  * a pointer: it can't turn a test of it into another one, merge two, or make its way
  * from x in front of a loop whose body has KEEP(x).
  */
-#define KEEP(x) asm volatile("" : "+r"(x))
+#define KEEP(x) __asm__ volatile("" : "+r"(x))
 
 /*
  * The address of element i of the n elements at p, which points into a sector; or
@@ -185,9 +219,11 @@ static u64 (*const same)(u64 a, u64 b) = (u64 (*)(u64, u64))7;
 		u64 index_ = (i);				\
 		BELOW(index_, n, otherwise);			\
 		index_ *= sizeof *element_;			\
-		asm("%0 += %1" : "+r"(element_) : "r"(index_));	\
+		__asm__(MOVE_ : "+r"(element_) : "r"(index_));	\
 		element_;					\
 	})
+
+#endif
 
 /*
  * The number that stands at byte position `at` of the device (sector 512 bytes
@@ -242,6 +278,12 @@ INLINED u64 u64_at_be(u64 at)
 	return __builtin_bswap64(u64_at(at));
 }
 
+#ifdef __clang__
+#define UNROLLED_ _Pragma("clang loop unroll(full)")
+#else
+#define UNROLLED_ _Pragma("GCC unroll 512")
+#endif
+
 /*
  * The CRC-32C of one byte more, bit by bit, some fifty steps. A sum over bytes
  * begins with CRC32C_START and ends inverted:
@@ -258,10 +300,97 @@ INLINED u64 u64_at_be(u64 at)
 INLINED u32 crc32c(u64 crc, u8 byte)
 {
 	crc ^= byte;
-#pragma clang loop unroll(full)
+	UNROLLED_
 	for (u64 bit = 0; bit < 8; bit++)
 		crc = crc >> 1 ^ (0x82f63b78 & -(crc & 1));
 	return crc;
 }
+
+#ifndef CHECKER_NATIVE
+
+/*
+ * What a checker has of the library, inlined. With a constant length memcmp, memcpy
+ * and memset are written out; with another they are loops, whose turns are bounded as
+ * those of any loop. Texts to compare with are constants: memcmp(p, "EFI PART", 8).
+ */
+typedef u64 __attribute__((may_alias)) word_;
+
+INLINED int memcmp_whole_(const void *a, const void *b, size_t length)
+{
+	const u8 *x = a, *y = b;
+	size_t i = 0;
+
+	UNROLLED_
+	for (; i + 8 <= length; i += 8) {
+		u64 v = *(const word_ *)(x + i), w = *(const word_ *)(y + i);
+
+		if (v != w)
+			return __builtin_bswap64(v) < __builtin_bswap64(w) ? -1 : 1;
+	}
+	UNROLLED_
+	for (; i < length; i++)
+		if (x[i] != y[i])
+			return x[i] - y[i];
+	return 0;
+}
+
+INLINED int memcmp_loop_(const void *a, const void *b, size_t length)
+{
+	for (size_t i = 0; i < length; i++)
+		if (((const u8 *)a)[i] != ((const u8 *)b)[i])
+			return ((const u8 *)a)[i] - ((const u8 *)b)[i];
+	return 0;
+}
+
+INLINED void *memcpy_whole_(void *to, const void *from, size_t length)
+{
+	size_t i = 0;
+
+	UNROLLED_
+	for (; i + 8 <= length; i += 8)
+		*(word_ *)((u8 *)to + i) = *(const word_ *)((const u8 *)from + i);
+	UNROLLED_
+	for (; i < length; i++)
+		((u8 *)to)[i] = ((const u8 *)from)[i];
+	return to;
+}
+
+INLINED void *memcpy_loop_(void *to, const void *from, size_t length)
+{
+	for (size_t i = 0; i < length; i++)
+		((u8 *)to)[i] = ((const u8 *)from)[i];
+	return to;
+}
+
+INLINED void *memset_whole_(void *to, int byte, size_t length)
+{
+	size_t i = 0;
+
+	UNROLLED_
+	for (; i + 8 <= length; i += 8)
+		*(word_ *)((u8 *)to + i) = 0x0101010101010101 * (u8)byte;
+	UNROLLED_
+	for (; i < length; i++)
+		((u8 *)to)[i] = byte;
+	return to;
+}
+
+INLINED void *memset_loop_(void *to, int byte, size_t length)
+{
+	for (size_t i = 0; i < length; i++)
+		((u8 *)to)[i] = byte;
+	return to;
+}
+
+#define EITHER_(name, a, b, length) \
+	(__builtin_constant_p(length) ? name##_whole_(a, b, length) : name##_loop_(a, b, length))
+#define memcmp(a, b, length) EITHER_(memcmp, a, b, length)
+#define memcpy(to, from, length) EITHER_(memcpy, to, from, length)
+#define memset(to, byte, length) EITHER_(memset, to, byte, length)
+
+/* For the native build alone: a program prints nothing. */
+#define printf(...) ((void)0)
+
+#endif
 
 #endif
