@@ -24,12 +24,19 @@ In README.md and docs/PROVED.md, moreover, for what stands in backticks and has 
 
 docs/PROVED.md lists each definition to which those of ROOTS lead by their `use` lines.
 
+The files in docs/completions/ are what tools/completions.py writes of docs/crashbpf.1, which tests/run.py compares with what
+the program's help says.
+
 Blocks of code, fenced or indented by four spaces, aren't looked at.
 """
 import os
 import re
 import sys
 from pathlib import Path
+
+sys.dont_write_bytecode = True
+
+import completions
 
 LIMIT = 160
 # How many sentences have more words than the number before it.
@@ -158,8 +165,18 @@ def believed(top):
     return found
 
 
+def old_completions(top):
+    """Returns the files of completions that aren't what the man page makes of them."""
+    page = top / "docs/crashbpf.1"
+    for name, text in completions.files(page.read_text()).items():
+        path = top / "docs/completions" / name
+        if not path.exists() or path.read_text() != text:
+            yield path
+
+
 def findings(top):
     """Returns all findings, each with its file and line."""
+    yield from ((path, 1, "isn't what tools/completions.py writes") for path in old_completions(top))
     files = list(sources(top))
     texts = [file.read_text() for file in files]
     words = set(re.findall(r"\w+", (top / "crates.txt").read_text()))
