@@ -111,8 +111,8 @@ def holds(made):
 
 
 def libraries(program):
-    """Returns the paths of the libraries with which a program is loaded."""
-    return re.findall(r"(/\S+) \(0x", run(["ldd", program]).stdout)
+    """Returns the paths of the libraries with which a program is loaded, or none where there is no ldd."""
+    return re.findall(r"(/\S+) \(0x", run(["ldd", program]).stdout) if shutil.which("ldd") else []
 
 
 def fields_of(path):
