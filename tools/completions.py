@@ -15,6 +15,8 @@ import sys
 from dataclasses import dataclass
 from pathlib import Path
 
+sys.dont_write_bytecode = True
+
 import man_page
 
 TOP = Path(__file__).resolve().parent.parent
@@ -207,5 +209,4 @@ def main(words):
 
 
 if __name__ == "__main__":
-    sys.dont_write_bytecode = True
     main(sys.argv[1:])
