@@ -3,13 +3,17 @@
 
     python3 tests/package.py [PROGRAM]
 
-PROGRAM is as in run.py. Both are made twice, the second time from a copy of the repository elsewhere, with other times of its
-files and another mask of modes, and have to be the same bytes. Then each is installed in a clean root, a folder with
-nothing else but the C libraries that the package asks for: the Debian package by dpkg, or unpacked where there is no dpkg, and
-the tar file below usr/local. From the installed files alone the first crash of README.md is run there, by chroot: its checker is compiled
-by the installed `crashbpf-cc` where clang is there, and else the stored bytes are taken. What it prints has to be what README.md
-says, but for the line with the checker's slots and budget, which the compiler decides. Where there is no right to call chroot the
-program is run by its path, and a line says so.
+PROGRAM is as in run.py. Both are made twice, the second time from a copy of the repository elsewhere, with other times of
+its files and another mask of modes, and have to be the same bytes.
+
+Then each is installed in a clean root, a folder with nothing else but the C libraries that the package asks for: the Debian
+package by dpkg, or unpacked where there is no dpkg, and the tar file below usr/local. From the installed files alone the first
+crash of README.md is run there, by chroot. Its checker is compiled by the installed `crashbpf-cc` where clang is there, and
+else the stored bytes are taken. What it prints has to be what README.md says, but for the line with the checker's slots and
+budget, which the compiler decides. Where there is no right to call chroot the program is run by its path.
+
+Of the completions bash is asked what it completes; zsh and fish, where they are there, read theirs alone. For what isn't there
+a line says so.
 
 Prints a line for each row that failed, and last `N passed, M failed`. It takes some ten seconds.
 """
@@ -197,6 +201,42 @@ def runs(path, install, prefix, folder):
     return found + differs("the output", *without) + differs("the status", done.returncode, 1)
 
 
+# What bash completes behind words, the last of which is begun; as the help of the commands has it.
+COMPLETED = {
+    ("crashbpf", "exp"): "explore",
+    ("crashbpf", "help", "ver"): "verify",
+    ("crashbpf", "explore", "--cuts", ""): "all flush mark",
+    ("crashbpf", "image", "--by", "=", "w"): "write",
+    ("crashbpf", "list", "--sl"): "--slots",
+    ("crashbpf", "explore", "--sectors", ""): "",
+    ("crashbpf", "explore", "gi"): "given",
+}
+COMPLETE = """\
+source "$1"; shift; compopt() { :; }
+COMP_WORDS=("$@"); COMP_CWORD=$(($# - 1)); _crashbpf; printf %s "${COMPREPLY[*]}"
+"""
+
+
+def completes(path, folder):
+    """What is wrong with what the shells that are there make of the files of completions."""
+    root = Path(folder, "root")
+    root.mkdir()
+    install_tar(path, root)
+    share = root / "usr/local/share"
+    Path(folder, "given").touch()
+    found = []
+    for shell, name in (("zsh", "zsh/site-functions/_crashbpf"), ("fish", "fish/vendor_completions.d/crashbpf.fish")):
+        if shutil.which(shell):
+            found += differs(f"the status of {shell} -n", run([shell, "-n", share / name]).returncode, 0)
+    if not shutil.which("bash"):
+        print("not run: completions, since there is no bash")
+        return found
+    for words, wanted in COMPLETED.items():
+        done = run(["bash", "-c", COMPLETE, "bash", share / "bash-completion/completions/crashbpf", *words], cwd=folder)
+        found += differs(f"what bash completes of {' '.join(words)!r}", done.stdout, wanted)
+    return found
+
+
 def main(words):
     program = Path(words[0] if words else TOP / "crates/crashbpf/out/crashbpf").resolve()
     if not os.access(program, os.X_OK):
@@ -206,6 +246,7 @@ def main(words):
         rows = {
             "the same bytes again": lambda room: same_again(made, room, program),
             "what both hold": lambda room: holds(made),
+            "what shells complete": lambda room: completes(made[".gz"], room),
             "the Debian package in a clean root": lambda room: runs(made[".deb"], install_deb, "usr", room),
             "the tar file in a clean root": lambda room: runs(made[".gz"], install_tar, "usr/local", room),
         }
