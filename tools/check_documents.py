@@ -40,7 +40,7 @@ import completions
 
 LIMIT = 160
 # How many sentences have more words than the number before it.
-LONG = {40: 123, 60: 24}
+LONG = {40: 98, 60: 21}
 # What stands for a space and a bar of a piece of code, so that it is one word of one cell.
 HIDDEN = {ord(" "): "\0", ord("|"): "\1"}
 SHOWN = {ord("\0"): " ", ord("\1"): "|"}
