@@ -2,6 +2,7 @@
 """Checks the documents of the repository. Prints a line for each finding; the status is then 1, else 0.
 
     tools/check_documents.py [TOP]
+    tools/check_documents.py --long [TOP]
 
 The documents are the files *.md at the top (the folder above this one, or TOP) and in docs/, examples/ and bench/.
 
@@ -10,6 +11,9 @@ The documents are the files *.md at the top (the folder above this one, or TOP) 
   definitions too.
 - Each run of table rows begins with a head and a line of dashes, so no blank line cuts a table in two.
 - README.md has at most 160 lines.
+- README.md and the documents in docs/ and examples/ have no more long sentences than LONG allows. With --long they are
+  printed, each with its file, line and number of words, and nothing else is looked at. A name or a piece of code in
+  backticks is one word. The numbers of LONG only fall: whoever shortens sentences writes down what is left.
 
 In README.md and docs/PROVED.md, moreover, for what stands in backticks and has no space in it:
 
@@ -20,6 +24,9 @@ In README.md and docs/PROVED.md, moreover, for what stands in backticks and has 
 
 docs/PROVED.md lists each definition to which those of ROOTS lead by their `use` lines.
 
+The files in docs/completions/ are what tools/completions.py writes of docs/crashbpf.1, which tests/run.py compares with what
+the program's help says.
+
 Blocks of code, fenced or indented by four spaces, aren't looked at.
 """
 import os
@@ -27,7 +34,16 @@ import re
 import sys
 from pathlib import Path
 
+sys.dont_write_bytecode = True
+
+import completions
+
 LIMIT = 160
+# How many sentences have more words than the number before it.
+LONG = {40: 98, 60: 21}
+# What stands for a space and a bar of a piece of code, so that it is one word of one cell.
+HIDDEN = {ord(" "): "\0", ord("|"): "\1"}
+SHOWN = {ord("\0"): " ", ord("\1"): "|"}
 NAME = re.compile(r"(--)?[A-Za-z_]\w*((::|\.)[A-Za-z_]\w*)*(\(\))?")
 ROOTS = ("commands", "command_line")
 USE = re.compile(r"(?m)^\s*(?:pub )?use Rattle\.(\w+)\.specs\.(\w+)")
@@ -84,6 +100,36 @@ def cut_tables(lines):
             yield number
 
 
+def paragraphs(lines):
+    """Returns the paragraphs, points of lists and cells of tables of a document, each with the number of its line."""
+    begun, text = 0, []
+    for number, line in enumerate([*lines, ""], 1):
+        starts = not line.strip() or line.startswith("|") or re.match(r"\s*([-*]|\d+\.|#+) ", line)
+        if starts and text:
+            yield begun, " ".join(text)
+            text = []
+        if line.startswith("|"):
+            yield from ((number, cell) for cell in line.split("|"))
+        elif line.strip():
+            begun = begun if text else number
+            text.append(re.sub(r"^\s*([-*]|\d+\.|#+) ", "", line).strip())
+
+
+def long_sentences(lines, limit):
+    """Returns the sentences with more words than the limit, each with the line of its paragraph and its number of words."""
+    hidden = [re.sub(r"`[^`]*`", lambda code: code[0].translate(HIDDEN), line) for line in lines]
+    for number, text in paragraphs(hidden):
+        for sentence in re.split(r"(?<=[.!?])[)'*]*\s+(?=[^a-z\s])", re.sub(r"\]\([^)]*\)", "]", text)):
+            words = len(re.findall(r"\S*\w\S*", sentence))
+            if words > limit:
+                yield number, words, sentence.strip().translate(SHOWN)
+
+
+def documents(top):
+    """Returns the documents that people read: README.md, those in docs/, and the pages of the examples."""
+    return [top / "README.md", *sorted((top / "docs").glob("*.md")), *sorted((top / "examples").glob("*.md"))]
+
+
 def clauses_by_function(texts):
     """Returns the names of the clauses of the functions of each name."""
     clauses = {}
@@ -119,8 +165,18 @@ def believed(top):
     return found
 
 
+def old_completions(top):
+    """Returns the files of completions that aren't what the man page makes of them."""
+    page = top / "docs/crashbpf.1"
+    for name, text in completions.files(page.read_text()).items():
+        path = top / "docs/completions" / name
+        if not path.exists() or path.read_text() != text:
+            yield path
+
+
 def findings(top):
     """Returns all findings, each with its file and line."""
+    yield from ((path, 1, "isn't what tools/completions.py writes") for path in old_completions(top))
     files = list(sources(top))
     texts = [file.read_text() for file in files]
     words = set(re.findall(r"\w+", (top / "crates.txt").read_text()))
@@ -130,6 +186,10 @@ def findings(top):
     for file, text in zip(files, texts):
         for number, line in enumerate(text.splitlines(), 1):
             yield from ((file, number, it) for it in unknown_documents(top, line))
+    for limit, allowed in LONG.items():
+        count = sum(1 for path in documents(top) for _ in long_sentences(prose(path.read_text()), limit))
+        if count > allowed:
+            yield top / "docs", 1, f"{count} sentences have more than {limit} words, and at most {allowed} are allowed (--long shows them)"
     for path in sorted(it for folder in ("", "docs", "examples", "bench") for it in (top / folder).glob("*.md")):
         lines = prose(path.read_text())
         if path == top / "README.md" and len(lines) > LIMIT:
@@ -147,8 +207,25 @@ def findings(top):
                 yield from ((path, number, it) for it in unknown_names(top, line, words, clauses))
 
 
+def print_long(top):
+    """Prints the long sentences, the longest first."""
+    found = [
+        (words, f"{path.relative_to(top)}:{number}: {words} words: {sentence}")
+        for path in documents(top)
+        for number, words, sentence in long_sentences(prose(path.read_text()), min(LONG))
+    ]
+    for _, line in sorted(found, key=lambda it: -it[0]):
+        print(line)
+
+
 def main():
-    top = Path(sys.argv[1] if len(sys.argv) > 1 else Path(__file__).parent.parent).resolve()
+    words = sys.argv[1:]
+    is_long = words[:1] == ["--long"]
+    words = words[is_long:]
+    top = Path(words[0] if words else Path(__file__).parent.parent).resolve()
+    if is_long:
+        print_long(top)
+        return 0
     found = [f"{path.relative_to(top)}:{number}: {it}" for path, number, it in findings(top)]
     print("\n".join(found), end="\n" if found else "")
     return 1 if found else 0

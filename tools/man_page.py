@@ -5,7 +5,7 @@
 
 runs PROGRAM (crates/crashbpf/out/crashbpf where it isn't given) with `--help`, and with each command's `--help`, and prints
 the page. docs/crashbpf.1 holds it; `man -l docs/crashbpf.1` shows it. tests/run.py compares the two, so help and page stay
-the same words.
+the same words. tools/completions.py makes of the page what shells complete.
 """
 import re
 import subprocess
@@ -39,6 +39,18 @@ def escaped(text):
 
 def verbatim(text):
     return f".nf\n{escaped(text)}\n.fi"
+
+
+def helps_in(page):
+    """Returns the helps that a page holds: the program's own behind the name "", but its first line, and each command's."""
+    helps = {}
+    for section in page.split("\n.SH ")[1:]:
+        name, _, text = section.partition("\n")
+        if name == "DESCRIPTION" or name.startswith("CRASHBPF "):
+            body = text.removeprefix(".nf\n").rstrip("\n").removesuffix("\n.fi")
+            lines = [line.removeprefix("\\&") for line in body.split("\n")]
+            helps[name.partition(" ")[2].lower()] = "\n".join(lines).replace("\\-", "-").replace("\\e", "\\")
+    return helps
 
 
 def page(program):

@@ -1,0 +1,48 @@
+# Completions of crashbpf for bash. Made by tools/completions.py of the program's help.
+_crashbpf() {
+    local word=${COMP_WORDS[COMP_CWORD]} before=${COMP_WORDS[COMP_CWORD - 1]} words=
+    COMPREPLY=()
+    [ "$word" != = ] || word=
+    [ "$before" != = ] || before=${COMP_WORDS[COMP_CWORD - 2]}
+    case "$COMP_CWORD ${COMP_WORDS[1]} $before" in
+    1\ *) words='explore why page images image show log verify asm list help -h --help -V --version' ;;
+    *\ help\ *) words='explore why page images image show log verify asm list help' ;;
+    *\ explore\ --cuts) words='all flush mark' ;;
+    *\ explore\ --by) words='sector write' ;;
+    *\ explore\ --sectors|*\ explore\ --flush|*\ explore\ --from|*\ explore\ --to|*\ explore\ --bound|*\ explore\ --workers|*\ explore\ --cache|*\ explore\ --checked) return ;;
+    *\ explore\ *) [[ $word != -* ]] || words='--sectors --flush --cuts --from --to --bound --tears --by --workers --cache --checked --progress --first -h --help' ;;
+    *\ why\ --cuts) words='all flush mark' ;;
+    *\ why\ --by) words='sector write' ;;
+    *\ why\ --sectors|*\ why\ --flush|*\ why\ --from|*\ why\ --to|*\ why\ --bound|*\ why\ --workers|*\ why\ --cache|*\ why\ --checked) return ;;
+    *\ why\ *) [[ $word != -* ]] || words='--sectors --flush --cuts --from --to --bound --tears --by --workers --cache --checked --progress -h --help' ;;
+    *\ page\ --cuts) words='all flush mark' ;;
+    *\ page\ --by) words='sector write' ;;
+    *\ page\ --sectors|*\ page\ --flush|*\ page\ --from|*\ page\ --to|*\ page\ --bound|*\ page\ --workers|*\ page\ --cache|*\ page\ --checked) return ;;
+    *\ page\ *) [[ $word != -* ]] || words='--sectors --flush --cuts --from --to --bound --tears --by --workers --cache --checked --progress -h --help' ;;
+    *\ images\ --cuts) words='all flush mark' ;;
+    *\ images\ --by) words='sector write' ;;
+    *\ images\ --sectors|*\ images\ --flush|*\ images\ --from|*\ images\ --to|*\ images\ --bound) return ;;
+    *\ images\ *) [[ $word != -* ]] || words='--sectors --flush --cuts --from --to --bound --tears --by -h --help' ;;
+    *\ image\ --cuts) words='all flush mark' ;;
+    *\ image\ --by) words='sector write' ;;
+    *\ image\ --sectors|*\ image\ --flush|*\ image\ --from|*\ image\ --to|*\ image\ --bound|*\ image\ --cut|*\ image\ --choice) return ;;
+    *\ image\ *) [[ $word != -* ]] || words='--sectors --flush --cuts --from --to --bound --tears --by --cut --choice -h --help' ;;
+    *\ show\ --cuts) words='all flush mark' ;;
+    *\ show\ --by) words='sector write' ;;
+    *\ show\ --sectors|*\ show\ --flush|*\ show\ --from|*\ show\ --to|*\ show\ --bound|*\ show\ --cut|*\ show\ --choice) return ;;
+    *\ show\ *) [[ $word != -* ]] || words='--sectors --flush --cuts --from --to --bound --tears --by --cut --choice -h --help' ;;
+    *\ log\ --sectors|*\ log\ --flush) return ;;
+    *\ log\ *) [[ $word != -* ]] || words='--sectors --flush -h --help' ;;
+    *\ verify\ --sectors) return ;;
+    *\ verify\ *) [[ $word != -* ]] || words='--sectors -h --help' ;;
+    *\ asm\ *) [[ $word != -* ]] || words='-h --help' ;;
+    *\ list\ *) [[ $word != -* ]] || words='--slots -h --help' ;;
+    esac
+    if [ -n "$words" ]; then
+        mapfile -t COMPREPLY < <(compgen -W "$words" -- "$word")
+    else
+        compopt -o filenames
+        mapfile -t COMPREPLY < <(compgen -f -- "$word")
+    fi
+}
+complete -F _crashbpf crashbpf

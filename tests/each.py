@@ -1,0 +1,205 @@
+#!/usr/bin/env python3
+"""Tests examples/each, and what docs/CI.md does with a stored report.
+
+    python3 tests/each.py [PROGRAM]
+
+PROGRAM is as in run.py. The bytes that `each` gives to a program are compared with those of the model. Then mke2fs and debugfs
+write a small ext2 file system, a log is made of what they wrote, and `each` gives its images to e2fsck, whose statuses are
+compared with those on the model's images; where these programs aren't there that row is left out, and a line says so. Last the
+commands in docs/CI.md, 'Known failures', are run: on the report that is stored, and on others.
+
+Prints a line for each row that failed, and last `N passed, M failed`.
+"""
+import hashlib
+import os
+import re
+import shutil
+import subprocess
+import sys
+import tempfile
+from pathlib import Path
+
+sys.dont_write_bytecode = True
+
+from model import Run
+from notation import MARK, TOP, F, M, S, W, log
+
+EACH = TOP / "examples/each"
+LOGS = TOP / "crates/aside/data"
+# Of ext2: the sectors of the device and of a block.
+SECTORS, BLOCK = 256, 2
+TOOLS = ("mke2fs", "debugfs", "e2fsck")
+
+
+def sh(folder, text, *words):
+    """Runs shell commands in a folder, in whose path `crashbpf` is the program."""
+    return subprocess.run(["sh", "-c", text, "sh", *map(str, words)], cwd=folder, capture_output=True, text=True, stdin=subprocess.DEVNULL)
+
+
+def differs(what, found, wanted):
+    return [] if found == wanted else [f"{what} is {found!r}, and {wanted!r} is right"]
+
+
+def explored(folder, run, command="explore"):
+    """Explores a run with a program that answers 1 always, and returns the path of its report."""
+    Path(folder, "disk.log").write_bytes(log(run.recorded))
+    Path(folder, "one.s").write_text("mov64 r0, 1\nexit\n")
+    done = sh(folder, f"crashbpf asm one.s > one.bpf && crashbpf {command} disk.log one.bpf {run.options()} > report")
+    return [] if done.returncode == 1 else [f"{command} ended with {done.returncode}: {done.stderr}"]
+
+
+def told(image, status):
+    return f"image {image.number} cut {image.cut} choice {image.choice()} status {status}"
+
+
+def gives_images(folder, run):
+    """What is wrong with the bytes that a program gets of a run, each image of which fails."""
+    found = explored(folder, run)
+    done = sh(folder, '"$1" disk.log report -- sh -c \'sha256sum < "$1"; exit 3\' name {}', EACH)
+    images = list(run.images())
+    wanted = [line for it in images for line in (told(it, 3), f"    {hashlib.sha256(it.content()).hexdigest()}  -")]
+    found += differs("the output", done.stdout, "\n".join([*wanted, f"images {len(images)} failing {len(images)}", ""]))
+    return found + differs("the status", done.returncode, 1)
+
+
+def gives_groups(folder):
+    """What is wrong with the images of groups: where each image fails, the one of each cut in which nothing departs."""
+    run = Run([W(0, 1, 1), W(1, 1, 2), F, W(0, 1, 3)], bound=2)
+    found = explored(folder, run, "why")
+    done = sh(folder, '"$1" disk.log report -- true {}', EACH)
+    whole = [it for it in run.images() if not it.departures]
+    found += differs("the output", done.stdout, "\n".join([*(told(it, 0) for it in whole), f"images {len(whole)} failing 0", ""]))
+    return found + differs("the status", done.returncode, 0)
+
+
+def refuses(folder):
+    """What is wrong with the refusals."""
+    found = explored(folder, Run([W(0, 1, 1)]))
+    cases = {
+        "disk.log report": "each: usage: ",
+        "disk.log report --": "each: usage: ",
+        "disk.log absent -- true": "each: the file absent can't be read",
+        "disk.log one.s -- true": "each: one.s is no report of explore or why",
+        "one.s report -- true": "each: image 0 can't be made",
+        "disk.log later -- true": "each: the report was made with base: give its option --base",
+    }
+    Path(folder, "later").write_text(Path(folder, "report").read_text().replace("first no", "first no base 77", 1))
+    for words, line in cases.items():
+        done = sh(folder, f'"$1" {words}', EACH)
+        found += differs(f"the status of {words!r}", done.returncode, 2)
+        found += [] if line in done.stderr else [f"{words!r} says {done.stderr!r}"]
+    return found
+
+
+def image_blocks(path):
+    data = path.read_bytes()
+    return [data[at : at + 512 * BLOCK] for at in range(0, len(data), 512 * BLOCK)]
+
+
+def ext2_log(folder):
+    """Returns the entries of a log of ext2: its making, and then files that are made and removed, each in blocks as they lie."""
+    os.environ["E2FSPROGS_FAKE_TIME"] = "1767225600"
+    disk = Path(folder, "disk.img")
+    Path(folder, "large").write_bytes(b"x" * 3000)
+    steps = {
+        "made": f"mke2fs -q -F -t ext2 -b {512 * BLOCK} -N 16 -m 0 -E nodiscard {disk}",
+        "large written": f"debugfs -w -R 'write {folder}/large large' {disk}",
+        "folder made": f"debugfs -w -R 'mkdir folder' {disk}",
+        "large removed": f"debugfs -w -R 'rm large' {disk}",
+    }
+    disk.write_bytes(bytes(512 * SECTORS))
+    entries = []
+    for name, step in steps.items():
+        before = image_blocks(disk)
+        done = sh(folder, step)
+        if done.returncode:
+            sys.exit(f"{step}: {done.stderr}")
+        changed = [(at, block) for at, (old, block) in enumerate(zip(before, image_blocks(disk))) if old != block]
+        entries += [*(S(at * BLOCK, block) for at, block in changed), F, M(name)]
+    return entries
+
+
+def gives_ext2(folder):
+    """What is wrong with the images of ext2 that e2fsck gets, from the end of mke2fs on."""
+    entries = ext2_log(folder)
+    made = next(number for number, it in enumerate(entries) if it.flags & MARK) + 1
+    run = Run(entries, sectors=SECTORS, cuts="flush", by="write", first=made)
+    found = explored(folder, run)
+    done = sh(folder, '"$1" disk.log report -- e2fsck -fn {}', EACH)
+    statuses, wanted = [], []
+    for image in run.images():
+        Path(folder, "image").write_bytes(image.content())
+        statuses.append(sh(folder, "e2fsck -fn image").returncode)
+        wanted.append(told(image, statuses[-1]))
+    lines = [it for it in done.stdout.splitlines() if not it.startswith("    ")]
+    failing = sum(1 for it in statuses if it)
+    found += differs("the output", lines, [*wanted, f"images {len(wanted)} failing {failing}"])
+    found += differs("the status", done.returncode, 1)
+    # Before and behind each step all is well; a step that lost a part of itself left something to repair.
+    whole = [status for status, image in zip(statuses, run.images()) if not image.departures]
+    found += differs("the statuses where nothing departs", whole, [0] * len(whole))
+    return found + ([] if failing else ["no image fails"])
+
+
+def compared(folder, commands, stored, keep):
+    """What is wrong with commands of docs/CI.md that compare a run with what is stored of one; `keep` stores it."""
+    Path(folder, "check.bpf").write_bytes((TOP / "examples/two_slots/checker.bpf").read_bytes())
+    found = []
+    # The log of which a report is stored, the log at hand, and the status.
+    for known, at_hand, status in (("wrong", "wrong", 0), ("wrong", "right", 1), ("right", "wrong", 1), ("right", "right", 0)):
+        shutil.copy(LOGS / f"two_slots/{known}.log", Path(folder, "writes.log"))
+        Path(folder, stored).unlink(missing_ok=True)
+        sh(folder, keep)
+        shutil.copy(LOGS / f"two_slots/{at_hand}.log", Path(folder, "writes.log"))
+        done = sh(folder, commands)
+        found += differs(f"the status of {at_hand} beside {known}", done.returncode, status)
+    Path(folder, "writes.log").write_bytes(b"no log")
+    return found + differs("the status of a refusal", sh(folder, commands).returncode, 2)
+
+
+def known_failures(folder):
+    """What is wrong with both commands of docs/CI.md that compare, each beside what was stored of its own report."""
+    text = (TOP / "docs/CI.md").read_text().partition("## Known failures")[2].partition("\n## ")[0]
+    blocks = re.findall(r"```sh\n(.*?)```", text, re.S)
+    if len(blocks) != 2:
+        return ["docs/CI.md hasn't both commands"]
+    by_report, by_answers = blocks
+    found = compared(folder, by_report, "known.report", by_report.replace("new.report", "known.report"))
+    return found + compared(folder, by_answers, "known.answers", by_answers.replace("new.answers", "known.answers"))
+
+
+def rows():
+    small = [W(0, 2, 1), W(2, 1, 2), F, W(1, 2, 3), M("end"), W(3, 1, 4)]
+    yield "images by sector, with tears", lambda folder: gives_images(folder, Run(small, bound=1, tears=True, cuts="flush"))
+    yield "images by write, with a flush and a range", lambda folder: gives_images(
+        folder, Run(small, bound=2, by="write", flush=(1, 5), first=2, last=5)
+    )
+    yield "groups of why", gives_groups
+    yield "refusals", refuses
+    if all(map(shutil.which, TOOLS)):
+        yield "images of ext2", gives_ext2
+    else:
+        print(f"not run: images of ext2, since there is no {' or no '.join(it for it in TOOLS if not shutil.which(it))}")
+    yield "known failures", known_failures
+
+
+def main(words):
+    program = Path(words[0] if words else TOP / "crates/crashbpf/out/crashbpf").resolve()
+    if not os.access(program, os.X_OK):
+        sys.exit(f"there is no program {program}: `rt run` in crates/crashbpf builds it")
+    passed = failed = 0
+    with tempfile.TemporaryDirectory() as path:
+        os.symlink(program, Path(path, "crashbpf"))
+        os.environ["PATH"] = os.pathsep.join([path, os.environ["PATH"], "/usr/sbin", "/sbin"])
+        for name, check in rows():
+            with tempfile.TemporaryDirectory() as folder:
+                found = check(folder)
+            passed, failed = passed + (not found), failed + bool(found)
+            if found:
+                print(f"FAILED {name}: {'; '.join(found)[:2000]}")
+    print(f"{passed} passed, {failed} failed")
+    return 1 if failed else 0
+
+
+if __name__ == "__main__":
+    sys.exit(main(sys.argv[1:]))

@@ -1,0 +1,265 @@
+#!/usr/bin/env python3
+"""Tests the Debian package and the tar file that tools/package makes.
+
+    python3 tests/package.py [PROGRAM]
+
+PROGRAM is as in run.py. Both are made twice, the second time from a copy of the repository elsewhere, with other times of
+its files and another mask of modes, and have to be the same bytes.
+
+Then each is installed in a clean root, a folder with nothing else but the C libraries that the package asks for: the Debian
+package by dpkg, or unpacked where there is no dpkg, and the tar file below usr/local. From the installed files alone the first
+crash of README.md is run there, by chroot. Its checker is compiled by the installed `crashbpf-cc` where clang is there, and
+else the stored bytes are taken. What it prints has to be what README.md says, but for the line with the checker's slots and
+budget, which the compiler decides. Where there is no right to call chroot the program is run by its path.
+
+Of the completions bash is asked what it completes; zsh and fish, where they are there, read theirs alone. For what isn't there
+a line says so.
+
+Prints a line for each row that failed, and last `N passed, M failed`. It takes some ten seconds.
+"""
+import gzip
+import io
+import os
+import re
+import shutil
+import subprocess
+import sys
+import tarfile
+import tempfile
+from pathlib import Path
+
+sys.dont_write_bytecode = True
+
+from notation import TOP
+
+# The folders of the repository that tools/package reads, beside README.md.
+READ = ("docs", "examples", "crates/aside/data", "tools")
+PATH = f"{os.environ['PATH']}:/usr/sbin:/sbin"
+INSTALLED = """\
+Package: {name}
+Status: install ok installed
+Architecture: {architecture}
+Multi-Arch: same
+Version: {version}
+Maintainer: nobody
+Description: a library that this root has
+
+"""
+
+
+def run(words, **how):
+    return subprocess.run([str(it) for it in words], stdin=subprocess.DEVNULL, capture_output=True, text=True, **how)
+
+
+def differs(what, found, wanted):
+    return [] if found == wanted else [f"{what} is {found!r}, and {wanted!r} is right"]
+
+
+def packages(top, folder, program, **how):
+    """Makes both files by the tool of a copy of the repository, and returns their paths by kind."""
+    done = run([top / "tools/package", folder, program], **how)
+    if done.returncode:
+        sys.exit(f"tools/package ended with {done.returncode}: {done.stderr}")
+    return {"".join(it.suffixes[-1:]): it for it in Path(folder).iterdir()}
+
+
+def same_again(made, folder, program):
+    """What is wrong with the packages that a copy of the repository makes of the program."""
+    top = Path(folder, "copy")
+    top.mkdir()
+    shutil.copyfile(TOP / "README.md", top / "README.md")
+    for name in READ:
+        shutil.copytree(TOP / name, top / name)
+    for path in top.rglob("*"):
+        os.utime(path, (1, 1))
+        path.chmod(0o700 if path.is_dir() or path.parent.name == "tools" else 0o600)
+    again = packages(top, Path(folder, "again"), program, cwd="/", preexec_fn=lambda: os.umask(0o077), env={**os.environ, "TZ": "Asia/Tokyo"})
+    found = differs("the names", sorted(it.name for it in again.values()), sorted(it.name for it in made.values()))
+    return found + [f"{path.name} is other bytes" for kind, path in made.items() if path.read_bytes() != again[kind].read_bytes()]
+
+
+def parts_of_ar(data):
+    """Returns the members of an archive of the form of ar, by name."""
+    parts, at = {}, 8
+    while at < len(data):
+        name, size = data[at : at + 16].decode().strip(), int(data[at + 48 : at + 58])
+        parts[name] = data[at + 60 : at + 60 + size]
+        at += 60 + size + size % 2
+    return parts
+
+
+def tar_of(path):
+    """Returns the packed tar file of the files that are installed."""
+    data = path.read_bytes()
+    return gzip.decompress(parts_of_ar(data)["data.tar.gz"] if path.suffix == ".deb" else data)
+
+
+def holds(made):
+    """What is wrong with the order, owners, times, modes and names of what both hold."""
+    found, names = [], {}
+    for kind, path in made.items():
+        with tarfile.open(fileobj=io.BytesIO(tar_of(path))) as archive:
+            members = archive.getmembers()
+        found += [] if members == sorted(members, key=lambda it: it.name) else [f"{kind} isn't sorted"]
+        found += differs(f"of {kind} the owners", {(it.uid, it.gid, it.uname, it.gname) for it in members}, {(0, 0, "root", "root")})
+        found += differs(f"of {kind} the number of times", len({it.mtime for it in members}), 1)
+        modes = {True: (0o755,), False: (0o644, 0o755)}
+        found += [f"{it.name} has mode {it.mode:o}" for it in members if it.mode not in modes[it.isdir() or "/bin/" in it.name]]
+        begin = "./usr/" if kind == ".deb" else f"{path.name.removesuffix('.tar.gz')}/"
+        names[kind] = {it.name.removeprefix(begin).replace("vendor-completions", "site-functions") for it in members if it.isfile()}
+    found += differs("what one of both alone holds", names[".deb"] ^ names[".gz"], set())
+    wanted = {"bin/crashbpf", "bin/crashbpf-cc", "share/man/man1/crashbpf.1.gz", "share/doc/crashbpf/copyright"}
+    wanted |= {"share/bash-completion/completions/crashbpf", "share/fish/vendor_completions.d/crashbpf.fish", "share/zsh/site-functions/_crashbpf"}
+    wanted |= {f"share/crashbpf/{it}" for it in ("README.md", "docs/REPORT.md", "examples/checker.h", "examples/two_slots/wrong.log")}
+    return found + differs("what is missing", wanted - names[".gz"], set())
+
+
+def libraries(program):
+    """Returns the paths of the libraries with which a program is loaded, or none where there is no ldd."""
+    return re.findall(r"(/\S+) \(0x", run(["ldd", program]).stdout) if shutil.which("ldd") else []
+
+
+def fields_of(path):
+    """Returns the fields of a Debian package."""
+    with tarfile.open(fileobj=io.BytesIO(gzip.decompress(parts_of_ar(path.read_bytes())["control.tar.gz"]))) as archive:
+        text = archive.extractfile("./control").read().decode()
+    return dict(re.findall(r"(?m)^(\S+): (.*)", text))
+
+
+def install_deb(path, root):
+    """Installs the Debian package in a root that has the packages on which it depends, and nothing else."""
+    if not shutil.which("dpkg"):
+        print("not run: dpkg, since it isn't there; the package is unpacked")
+        with tarfile.open(fileobj=io.BytesIO(tar_of(path))) as archive:
+            archive.extractall(root)
+        return []
+    fields = fields_of(path)
+    state = root / "var/lib/dpkg"
+    for name in ("info", "updates", "triggers", "alternatives"):
+        (state / name).mkdir(parents=True)
+    text = ""
+    for need in fields["Depends"].split(", "):
+        name, version = re.fullmatch(r"(\S+)(?: \(>= (\S+)\))?", need).groups()
+        text += INSTALLED.format(name=name, architecture=fields["Architecture"], version=version or "1")
+    (state / "status").write_text(text)
+    done = run(["dpkg", f"--root={root}", "--force-not-root", "--log=/dev/null", "--install", path], env={**os.environ, "PATH": PATH})
+    listed = run(["dpkg-query", f"--admindir={state}", "-W", "-f", "${Status}", "crashbpf"])
+    return differs("dpkg's status", done.returncode, 0) + differs("what dpkg says of the package", listed.stdout, "install ok installed")
+
+
+def install_tar(path, root):
+    (root / "usr/local").mkdir(parents=True)
+    done = run(["tar", "-xzf", path, "--strip-components=1", "-C", root / "usr/local"])
+    return differs("tar's status", done.returncode, 0)
+
+
+def first_crash():
+    """Returns the checker, the options and what is printed, as README.md has them."""
+    text = (TOP / "README.md").read_text()
+    checker = re.search(r"<<'END'\n(.*?)\nEND\n", text, re.S)
+    command = re.search(r"why (?:\S*/)?wrong\.log (?:\S*/)?check\.bpf (--[^)\n]*)", text)
+    printed = re.search(r"(?:^    .*\n)*^    crash causes (?:.*\n)(?:^    .*\n)*", text, re.M)
+    if not (checker and command and printed):
+        sys.exit("README.md has no first crash as this test looks for it: see first_crash")
+    return checker[1], command[1].split(), printed[0].replace("\n    ", "\n").removeprefix("    ")
+
+
+def in_root(root, words):
+    """Returns the words that run a command in a root, or without its own root where that isn't allowed."""
+    chroot, unshare = (shutil.which(it, path=PATH) or it for it in ("chroot", "unshare"))
+    for begin in ([chroot], [unshare, "--user", "--map-root-user", chroot]):
+        if os.access(begin[0], os.X_OK) and run([*begin, root, words[0], "--version"]).returncode == 0:
+            return [*begin, root, *words]
+    print("not run: chroot, since it isn't allowed; the program is run by its path")
+    return [root / words[0][1:], *(root / it[1:] if it.startswith("/") else it for it in words[1:])]
+
+
+def runs(path, install, prefix, folder):
+    """What is wrong with the first crash of README.md in a clean root with a package."""
+    root = Path(folder, "root")
+    root.mkdir()
+    found = install(path, root)
+    program = root / prefix / "bin/crashbpf"
+    if found or not program.exists():
+        return [*found, "the program wasn't installed"]
+    for library in libraries(program):
+        (root / library[1:]).parent.mkdir(parents=True, exist_ok=True)
+        shutil.copy(library, root / library[1:])
+    checker, options, printed = first_crash()
+    examples = root / prefix / "share/crashbpf/examples"
+    (root / "tmp").mkdir()
+    if shutil.which("clang"):
+        (root / "tmp/check.c").write_text(checker)
+        done = run([root / prefix / "bin/crashbpf-cc", root / "tmp/check.c", "check", root / "tmp/check.bpf"], cwd=folder)
+        found += [] if done.returncode == 0 else [f"crashbpf-cc ended with {done.returncode}: {done.stderr}"]
+    else:
+        print("not run: crashbpf-cc, since there is no clang; the stored bytes are taken")
+        shutil.copy(examples / "two_slots/checker_c.bpf", root / "tmp/check.bpf")
+    log = f"/{prefix}/share/crashbpf/examples/two_slots/wrong.log"
+    done = run(in_root(root, [f"/{prefix}/bin/crashbpf", "why", log, "/tmp/check.bpf", *options]), env={})
+    without = [[it for it in text.splitlines() if not it.startswith("program 0 slots")] for text in (done.stdout, printed)]
+    return found + differs("the output", *without) + differs("the status", done.returncode, 1)
+
+
+# What bash completes behind words, the last of which is begun; as the help of the commands has it.
+COMPLETED = {
+    ("crashbpf", "exp"): "explore",
+    ("crashbpf", "help", "ver"): "verify",
+    ("crashbpf", "explore", "--cuts", ""): "all flush mark",
+    ("crashbpf", "image", "--by", "=", "w"): "write",
+    ("crashbpf", "list", "--sl"): "--slots",
+    ("crashbpf", "explore", "--sectors", ""): "",
+    ("crashbpf", "explore", "gi"): "given",
+}
+COMPLETE = """\
+source "$1"; shift; compopt() { :; }
+COMP_WORDS=("$@"); COMP_CWORD=$(($# - 1)); _crashbpf; printf %s "${COMPREPLY[*]}"
+"""
+
+
+def completes(path, folder):
+    """What is wrong with what the shells that are there make of the files of completions."""
+    root = Path(folder, "root")
+    root.mkdir()
+    install_tar(path, root)
+    share = root / "usr/local/share"
+    Path(folder, "given").touch()
+    found = []
+    for shell, name in (("zsh", "zsh/site-functions/_crashbpf"), ("fish", "fish/vendor_completions.d/crashbpf.fish")):
+        if shutil.which(shell):
+            found += differs(f"the status of {shell} -n", run([shell, "-n", share / name]).returncode, 0)
+    if not shutil.which("bash"):
+        print("not run: completions, since there is no bash")
+        return found
+    for words, wanted in COMPLETED.items():
+        done = run(["bash", "-c", COMPLETE, "bash", share / "bash-completion/completions/crashbpf", *words], cwd=folder)
+        found += differs(f"what bash completes of {' '.join(words)!r}", done.stdout, wanted)
+    return found
+
+
+def main(words):
+    program = Path(words[0] if words else TOP / "crates/crashbpf/out/crashbpf").resolve()
+    if not os.access(program, os.X_OK):
+        sys.exit(f"there is no program {program}: `rt run` in crates/crashbpf builds it")
+    with tempfile.TemporaryDirectory() as folder:
+        made = packages(TOP, Path(folder, "made"), program)
+        rows = {
+            "the same bytes again": lambda room: same_again(made, room, program),
+            "what both hold": lambda room: holds(made),
+            "what shells complete": lambda room: completes(made[".gz"], room),
+            "the Debian package in a clean root": lambda room: runs(made[".deb"], install_deb, "usr", room),
+            "the tar file in a clean root": lambda room: runs(made[".gz"], install_tar, "usr/local", room),
+        }
+        failed = 0
+        for name, check in rows.items():
+            with tempfile.TemporaryDirectory() as room:
+                found = check(room)
+            if found:
+                failed += 1
+                print(f"FAILED {name}: {'; '.join(found)[:2000]}")
+    print(f"{len(rows) - failed} passed, {failed} failed")
+    return 1 if failed else 0
+
+
+if __name__ == "__main__":
+    sys.exit(main(sys.argv[1:]))
