@@ -192,6 +192,103 @@ def pages(flags):
     ]
 
 
+# The header and all records that it counts in one write.
+JOURNAL_AT_ONCE = [
+    S(0, count(2) + RECORDS[1] + RECORDS[2]),
+    F,
+    M("record 1"),
+    M("record 2"),
+    S(0, count(3) + RECORDS[1] + RECORDS[2] + RECORDS[3]),
+    F,
+    M("record 3"),
+]
+
+
+def sealed(content):
+    """A sector that begins so, with a last word that makes its mix 1."""
+    body = content + bytes(8)
+    return content + struct.pack("<Q", (1 - model.mix(body)) % 2**64)
+
+
+def leaf(commit, side):
+    """A leaf of the tree: the commit that wrote it, its data, its last word. Side 0xd0 is the left one, 0xe0 the right one."""
+    return sealed(struct.pack("<Q", commit) + bytes([side + commit]) * 496)
+
+
+def root(commit, left, right):
+    """A root node of the tree, by the sector and the commit of each leaf."""
+    return sealed(struct.pack("<5Q", commit, *left, *right) + bytes(464))
+
+
+def top(commit, sector):
+    """The header of the tree."""
+    return struct.pack("<QQ", commit, sector) + bytes(496)
+
+
+# What each commit of the tree writes: its leaves, its root node, its header.
+TREE_COMMITS = [
+    ([S(1, leaf(1, 0xD0)), S(2, leaf(1, 0xE0))], S(3, root(1, (1, 1), (2, 1))), top(1, 3)),
+    ([S(4, leaf(2, 0xD0))], S(5, root(2, (4, 2), (2, 1))), top(2, 5)),
+    ([S(1, leaf(3, 0xE0))], S(3, root(3, (4, 2), (1, 3))), top(3, 3)),
+]
+
+
+def tree(flags):
+    """The entries of three commits: each its leaves, its root node, its header, a flush, a mark."""
+    return [
+        entry
+        for number, (leaves, node, header) in enumerate(TREE_COMMITS, 1)
+        for entry in [*leaves, node, S(0, header, flags), F, M(f"commit {number}")]
+    ]
+
+
+# The header before the root node that it names, with a flush before the header.
+TREE_ORDER = [
+    entry
+    for number, (leaves, node, header) in enumerate(TREE_COMMITS, 1)
+    for entry in [*leaves, S(0, header, FLUSH), node, F, M(f"commit {number}")]
+]
+
+
+def small_page(page, version):
+    """A page of two sectors: its version, its number, its data, and a last word with which the mixes have the sum 1."""
+    body = bytes([0x40 + 0x10 * page + version]) * 512
+    start = struct.pack("<QQ", version, page) + body[16:]
+    seal = (1 - model.mix(start) - model.mix(body[:504] + bytes(8))) % 2**64
+    return start + body[:504] + struct.pack("<Q", seal)
+
+
+# What each commit of the double-write buffer writes: its two pages, with their versions.
+PAGE_COMMITS = [((0, 1), (1, 1)), ((2, 1), (3, 1)), ((0, 2), (1, 2))]
+
+
+def copies(pages, flags):
+    """The copies of two pages, in one write."""
+    return [S(8, b"".join(small_page(*it) for it in pages), flags)]
+
+
+def in_place(pages, flags):
+    """Two pages, each written in its place."""
+    return [S(2 * page, small_page(page, version), flags if page % 2 == 0 else 0) for page, version in pages]
+
+
+def double_write(flags):
+    """The entries of three commits: each its copies, its pages, a flush, a mark."""
+    return [
+        entry
+        for number, pages in enumerate(PAGE_COMMITS, 1)
+        for entry in [*copies(pages, 0), *in_place(pages, flags), F, M(f"commit {number}")]
+    ]
+
+
+# The pages in place before their copies, with a flush between them.
+DOUBLE_WRITE_ORDER = [
+    entry
+    for number, pages in enumerate(PAGE_COMMITS, 1)
+    for entry in [*in_place(pages, 0), *copies(pages, FLUSH), F, M(f"commit {number}")]
+]
+
+
 def written(which, run, first=False, stored=None):
     """The run of a log that was written entry by entry here; its report is the stored one, or that of its first failing
     image, and the model's."""
