@@ -289,16 +289,46 @@ DOUBLE_WRITE_ORDER = [
 ]
 
 
-def written(which, run, first=False, stored=None):
+# What the checkers of the designs are, and the runs whose texts are stored: each design's right version and those with a mistake.
+JUDGES = {
+    "two_slots": ("slots 39 budget 87", model.two_slots),
+    "journal": ("slots 33 budget 144", model.journal),
+    "pages": ("slots 53 budget 1026", model.pages),
+    "tree": ("slots 51 budget 65", model.tree),
+    "double_write": ("slots 75 budget 450", model.double_write),
+}
+
+DESIGNS = {
+    "two_slots/right": Run(two_slots(FLUSH), 4, bound=2, tears=True),
+    "two_slots/wrong": Run(two_slots(0), 4, bound=2, tears=True),
+    "journal/right": Run(JOURNAL_RIGHT, 8, bound=2, tears=True),
+    "journal/wrong": Run(JOURNAL_WRONG, 8),
+    "journal/at_once": Run(JOURNAL_AT_ONCE, 8),
+    "pages/right": Run(pages(FLUSH), 24, bound=2, tears=True, by="write"),
+    "pages/wrong": Run(pages(0), 24, by="write"),
+    "tree/right": Run(tree(FLUSH), 8, bound=2, tears=True),
+    "tree/wrong": Run(tree(0), 8),
+    "tree/order": Run(TREE_ORDER, 8),
+    "double_write/right": Run(double_write(FLUSH), 12, bound=2, tears=True, by="write"),
+    "double_write/wrong": Run(double_write(0), 12, bound=2),
+    "double_write/order": Run(DOUBLE_WRITE_ORDER, 12),
+}
+
+
+def folder_of(which):
+    return which.split("/")[0]
+
+
+def checker_of(which):
+    """The checker of a design, as the report sees it."""
+    return Checker(*JUDGES[folder_of(which)])
+
+
+def written(which, run=None, first=False, stored=None):
     """The run of a log that was written entry by entry here; its report is the stored one, or that of its first failing
     image, and the model's."""
-    folder = which.split("/")[0]
-    judges = {
-        "two_slots": ("slots 39 budget 87", model.two_slots),
-        "journal": ("slots 33 budget 144", model.journal),
-        "pages": ("slots 53 budget 1026", model.pages),
-    }
-    report = explored(run, [Checker(*judges[folder])], first)
+    run = run or DESIGNS[which]
+    report = explored(run, [checker_of(which)], first)
     stored = stored or which
     if not first:
         assert report.encode() == data(EXAMPLES / f"{stored}.report"), f"{stored}.report isn't the model's"
@@ -306,10 +336,47 @@ def written(which, run, first=False, stored=None):
         f"{stored}, written here{', first' if first else ''}",
         f"{run.options()}{' --first' if first else ''}",
         run.entries,
-        data(EXAMPLES / f"{folder}/checker.bpf"),
+        data(EXAMPLES / f"{folder_of(which)}/checker.bpf"),
         report,
         0 if "failing 0" in report or "first none" in report else 1,
     )
+
+
+def by_file(which):
+    """The same run of the log's file."""
+    status = 0 if which.endswith("right") else 1
+    options, folder = DESIGNS[which].options(), folder_of(which)
+    return design(f"{which}, by its file", f"{which}.log", f"{folder}/checker.bpf", options, f"{which}.report", status)
+
+
+def in_c(which):
+    """The same run by the checker in C."""
+    about = JUDGES[folder_of(which)][0].encode()
+    report = data(EXAMPLES / f"{which}.report").replace(about, IN_C[folder_of(which)].encode())
+    status = 0 if which.endswith("right") else 1
+    return design(f"{which}, in C", f"{which}.log", f"{folder_of(which)}/checker_c.bpf", DESIGNS[which].options(), report, status)
+
+
+# The checkers in C of two designs.
+IN_C = {"tree": "slots 54 budget 84", "double_write": "slots 75 budget 510"}
+
+# The flushes that are forgotten in wrong versions; with them nothing fails.
+FORGOTTEN = {
+    "two_slots/wrong": (1, 5, 9),
+    "pages/wrong": (9,),
+    "tree/wrong": (3, 8, 13),
+    "double_write/wrong": (1, 6, 11),
+}
+
+
+def mended(which, options):
+    """A wrong version with the flushes that were forgotten, with other options too."""
+    run = DESIGNS[which]
+    run = Run(run.entries, run.sectors, flush=FORGOTTEN[which], **options)
+    report = explored(run, [checker_of(which)])
+    assert report.endswith(" failing 0 lines 0\n")
+    checker = data(EXAMPLES / f"{folder_of(which)}/checker.bpf")
+    return explore(f"{which}, mended, {run.options()}", run.options(), run.entries, checker, report, 0)
 
 
 # of this run 729 images fail, as examples/README.md says
@@ -320,15 +387,16 @@ assert TORN_JOURNAL.endswith("\nimages 1271 failing 729 lines 729\n")
 TORN_PAGES = explored(Run(pages(0), 24, bound=2, tears=True, by="write"), [Checker("slots 53 budget 1026", model.pages)])
 assert TORN_PAGES.endswith("\nimages 823 failing 8 lines 8\n")
 
+NEW = ["journal/at_once", *(which for which in DESIGNS if folder_of(which) in ("tree", "double_write"))]
+
 WRITTEN = [
-    written("two_slots/right", Run(two_slots(FLUSH), 4, bound=2, tears=True)),
-    written("two_slots/right", Run(two_slots(FLUSH), 4, bound=2, tears=True), first=True),
-    written("two_slots/wrong", Run(two_slots(0), 4, bound=2, tears=True)),
-    written("journal/right", Run(JOURNAL_RIGHT, 8, bound=2, tears=True)),
-    written("journal/wrong", Run(JOURNAL_WRONG, 8)),
+    *(written(which) for which in DESIGNS),
+    *(by_file(which) for which in NEW),
+    *(in_c(which) for which in NEW if folder_of(which) in IN_C),
+    *(mended(which, dict(bound=2, by=by)) for which in FORGOTTEN for by in ["sector", "write"]),
+    *(mended(which, dict(bound=2, tears=True, by="write")) for which in FORGOTTEN),
+    written("two_slots/right", first=True),
     written("journal/wrong", Run(JOURNAL_WRONG, 8, bound=2, tears=True), first=True),
-    written("pages/right", Run(pages(FLUSH), 24, bound=2, tears=True, by="write")),
-    written("pages/wrong", Run(pages(0), 24, by="write")),
     written("pages/wrong", Run(pages(0), 24, bound=3), stored="pages/wrong_by_sector"),
     design(
         "pages, wrong, torn",
@@ -360,6 +428,11 @@ TOLD = [
     *told("two_slots/wrong", Run(two_slots(0), 4, bound=2, tears=True), 567),
     *told("journal/wrong", Run(JOURNAL_WRONG, 8), 17),
     *told("pages/wrong", Run(pages(0), 24, by="write"), 18),
+    *told("journal/at_once", DESIGNS["journal/at_once"], 12),
+    *told("tree/wrong", DESIGNS["tree/wrong"], 34),
+    *told("tree/order", DESIGNS["tree/order"], 24),
+    *told("double_write/wrong", DESIGNS["double_write/wrong"], 46),
+    *told("double_write/order", DESIGNS["double_write/order"], 2),
 ]
 
 CHECKERS = [
@@ -369,12 +442,16 @@ CHECKERS = [
         {"checker.s": data(EXAMPLES / f"{name}.s")},
         data(EXAMPLES / f"{name}.bpf"),
     )
-    for name in ["two_slots/checker", "journal/checker", "pages/checker"]
+    for name in [f"{folder}/checker" for folder in JUDGES]
 ] + [
     verified("verify two_slots/checker", data(EXAMPLES / "two_slots/checker.bpf"), "accepted budget 87"),
     verified("verify two_slots/checker_c", data(EXAMPLES / "two_slots/checker_c.bpf"), "accepted budget 111"),
     verified("verify journal/checker", data(EXAMPLES / "journal/checker.bpf"), "accepted budget 144", 8),
     verified("verify pages/checker", data(EXAMPLES / "pages/checker.bpf"), "accepted budget 1026", 24),
+    verified("verify tree/checker", data(EXAMPLES / "tree/checker.bpf"), "accepted budget 65", 8),
+    verified("verify tree/checker_c", data(EXAMPLES / "tree/checker_c.bpf"), "accepted budget 84", 8),
+    verified("verify double_write/checker", data(EXAMPLES / "double_write/checker.bpf"), "accepted budget 450", 12),
+    verified("verify double_write/checker_c", data(EXAMPLES / "double_write/checker_c.bpf"), "accepted budget 510", 12),
 ]
 
 ROWS = [*REPORTS, *SHOWN, *WRITTEN, *TOLD, *CHECKERS]
