@@ -22,6 +22,7 @@ about a minute of processor time.
 Where the rows stand
     rows/worked.py      the worked examples of the documents, and the reports of small logs
     rows/examples.py    the designs of examples/: their logs, checkers and reports
+    rows/options.py     which options find what: the table of docs/CRASH-MODEL.md, cell by cell
     rows/checkers.py    the checkers in C of examples/: what the verifier says of them, and what they answer
     rows/commands.py    each command, faults of the command line, the order of refusals
     rows/process.py     files that can't be read, a standard output that can't be written
@@ -79,6 +80,7 @@ from rows import (
     logs,
     modelled,
     notes,
+    options,
     process,
     refusals,
     shown,
@@ -94,6 +96,7 @@ from rows import (
 TABLES = [
     worked,
     examples,
+    options,
     checkers,
     commands,
     process,
