@@ -431,7 +431,7 @@ TOLD = [
     *told("journal/at_once", DESIGNS["journal/at_once"], 12),
     *told("tree/wrong", DESIGNS["tree/wrong"], 34),
     *told("tree/order", DESIGNS["tree/order"], 24),
-    *told("double_write/wrong", DESIGNS["double_write/wrong"], 46),
+    *told("double_write/wrong", DESIGNS["double_write/wrong"], 190),
     *told("double_write/order", DESIGNS["double_write/order"], 2),
 ]
 

@@ -85,6 +85,9 @@ impl Contents {
 /// How many sectors a page has.
 const PAGE: u8 = 8;
 
+/// How many of them lie between its first and its last.
+const BETWEEN: u64 = 6;
+
 fn page_sector(number: u8, place: u8) -> [u8; 512] {
     match place {
         0 => page_start(number),
@@ -107,7 +110,7 @@ fn page_end(number: u8) -> [u8; 512] {
     let mut sector = page_body(number);
     set_word(&mut sector, 504, 0);
     let rest = mix(&page_start(number))
-        .wrapping_add(mix(&page_body(number)).wrapping_mul(u64::from(PAGE) - 2))
+        .wrapping_add(mix(&page_body(number)).wrapping_mul(BETWEEN))
         .wrapping_add(mix(&sector));
     set_word(&mut sector, 504, 1u64.wrapping_sub(rest));
     sector
