@@ -1,12 +1,13 @@
-"""Where flushes are missing: what `cure` prints, of the designs of examples/ and of many logs, compared with the model
-(cure_model.py), and what it refuses (docs/REPORT.md, The text of `cure`)."""
+"""Where flushes are missing: the stored texts of `cure` of the designs of examples/, logs whose windows end at marks, forced
+writes and discards, several programs, runs that are refused; compared with cure_model.py, which is written from the documents
+alone."""
 from dataclasses import replace
 
 from cure_model import MOST, cure, images_at, too_many_at
-from model import Checker, Run, first_byte
-from notation import DISCARD, FLUSH, FUA, D, Entry, F, Long, M, Row, S, Something, W, explore, files, named, program, refused
+from model import Checker, Run
+from notation import DISCARD, FLUSH, FUA, D, Entry, F, Long, M, S, Something, W, explore, files, named, program, refused
 
-from rows.examples import DESIGNS, EXAMPLES, checker_of, data, folder_of
+from rows.examples import DESIGNS, EXAMPLES, FORGOTTEN, checker_of, data, folder_of
 from rows.limits import LONG_RUN
 from rows.modelled import CHECKERS, PROGRAMS, any_fails, narrowed, noise, runs
 
@@ -16,7 +17,7 @@ FEW, STEP, STEP_NARROWED = 300, 5, 9
 
 def cured(name, options, entries, programs, out, status, seconds=None):
     """A row of `cure`."""
-    row = explore(f"cure: {name}", options, entries, programs, out, status)
+    row = explore(f"flushes: {name}", options, entries, programs, out, status)
     row = replace(row, words=row.words.replace("explore ", "cure ", 1))
     return replace(row, seconds=seconds) if seconds else row
 
@@ -38,12 +39,11 @@ def design(which):
     return cured(which, run.options(), run.recorded, programs, wanted, 0 if right else 1)
 
 
-# Of which of them a flush was forgotten, and in which it stands: the entries before which it is missing.
-FORGOTTEN = {"two_slots/wrong": [1, 5, 9], "pages/wrong": [9], "tree/wrong": [3, 8, 13], "double_write/wrong": [1, 6, 11]}
-
+# where a flush was forgotten, just that one is named, and with it nothing fails
 for which, places in FORGOTTEN.items():
     stored = data(EXAMPLES / f"{which}.cure").decode().splitlines()
-    assert [int(it.split()[4]) for it in stored if it.startswith("round ")] == places, f"{which}.cure names other flushes"
+    named_places = tuple(int(it.split()[4]) for it in stored if it.startswith("round "))
+    assert named_places == places, f"{which}.cure names other flushes"
     assert stored[-1].endswith(" failing 0 lines 0")
 
 # What docs/REPORT.md shows of them with other options.
@@ -200,7 +200,7 @@ LOG = files([W(0, 1, 1), M("kept")], program("mov64 r0, 0; exit"))
 
 
 def not_cured(why, words, error, content=None):
-    return refused(f"cure: {why}", f"cure {words}", content or LOG, error)
+    return refused(f"flushes: {why}", f"cure {words}", content or LOG, error)
 
 
 REFUSED = [
@@ -220,15 +220,8 @@ REFUSED = [
     ),
     not_cured("no program", "log p0 p1 --sectors 4", "refused 21 at 0 of program 1", {**LOG, "p1": b""}),
     not_cured("a program that isn't accepted", "log p0 --sectors 4", "refused 50 at 0 of program 0", {**LOG, "p0": program("exit")}),
-    replace(not_cured("the first failing image alone", "log p0 --sectors 4 --first", Something())),
-    replace(not_cured("no program at all", "log --sectors 4", Something())),
-]
-
-PROGRESS = [
-    replace(
-        cured("progress", "--sectors 4 --progress", ENDS["a mark alone"], LOST, Something(), 1),
-        error=None,
-    ),
+    not_cured("the first failing image alone", "log p0 --sectors 4 --first", Something()),
+    not_cured("no program at all", "log --sectors 4", Something()),
 ]
 
 ROWS = [
@@ -241,7 +234,6 @@ ROWS = [
     *UNCHECKED,
     *REFUSED_LATER,
     *REFUSED,
-    *PROGRESS,
     *(modelled(name, run) for name, run in list(runs())[::STEP] if sum(1 for _image in run.images()) <= FEW),
     *(modelled(name, run) for name, run in list(narrowed())[::STEP_NARROWED] if sum(1 for _image in run.images()) <= FEW),
 ]
