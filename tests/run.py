@@ -40,6 +40,7 @@ Where the rows stand
     rows/shown.py       images in words, by number and by cut and choice, against the model
     rows/why.py         why checkers fail, of many logs and of the designs, against the model
     rows/browser.py     runs as a page for a browser, of many logs and of the designs, against the model
+    rows/ranges.py      flushes that are added and ranges of cuts, in `log`, in `page`, and of the designs, against the model
     rows/workers.py     runs by many workers, with and without a cache
     rows/limits.py      sizes near each limit
 
@@ -82,6 +83,7 @@ from rows import (
     notes,
     options,
     process,
+    ranges,
     refusals,
     shown,
     small_logs,
@@ -114,6 +116,7 @@ TABLES = [
     shown,
     why,
     browser,
+    ranges,
     workers,
     limits,
 ]
