@@ -41,10 +41,12 @@ Where the rows stand
     rows/why.py         why checkers fail, of many logs and of the designs, against the model
     rows/browser.py     runs as a page for a browser, of many logs and of the designs, against the model
     rows/ranges.py      flushes that are added and ranges of cuts, in `log`, in `page`, and of the designs, against the model
+    rows/flushes.py     where flushes are missing: the designs, marks, forced writes, discards, refusals, against cure_model.py
     rows/workers.py     runs by many workers, with and without a cache
     rows/limits.py      sizes near each limit
 
     notation.py         how rows, logs and programs are written down
+    cure_model.py       the cure, written from docs/CRASH-MODEL.md and docs/REPORT.md alone; by itself it tries the laws of windows
     page_model.py       the page, written from docs/REPORT.md alone but for its style and script
     model.py            the crash model and the report, written from docs/CRASH-MODEL.md and docs/REPORT.md alone
     programs/           programs as assembly texts
@@ -77,6 +79,7 @@ from rows import (
     commands,
     encodings,
     examples,
+    flushes,
     limits,
     logs,
     modelled,
@@ -117,6 +120,7 @@ TABLES = [
     why,
     browser,
     ranges,
+    flushes,
     workers,
     limits,
 ]
