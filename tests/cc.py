@@ -28,7 +28,8 @@ def cc(*words):
 
 def stored():
     """The sources, functions and stored bytes."""
-    yield "examples/two_slots/checker.c", "check", TOP / "examples/two_slots/checker_c.bpf"
+    for folder in ["two_slots", "tree", "double_write"]:
+        yield f"examples/{folder}/checker.c", "check", TOP / f"examples/{folder}/checker_c.bpf"
     for path in sorted((TOP / "examples/checkers").glob("*.c")):
         yield path, "check", path.with_suffix(".bpf")
     yield TOP / "examples/refused/not_inlined.c", "not_inlined", TOP / "examples/refused/not_inlined.bpf"

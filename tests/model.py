@@ -455,6 +455,55 @@ def pages(image):
     return 2, ()
 
 
+def is_node(image, sector, commit):
+    """Whether a sector has a whole node of that commit."""
+    if sector >= image.run.sectors:
+        return False
+    node = image.sector(sector)
+    return mix(node) == 1 and word(node, 0) == commit
+
+
+def tree(image):
+    """By examples/tree/checker.s: the root node that the header names and the two leaves that it names are there, each of the
+    commit of which it is to be."""
+    header = image.sector(0)
+    commit, root = word(header, 0), word(header, 8)
+    if commit < image.marks():
+        return 2, ()
+    if commit == 0:
+        return 0, ()
+    if not is_node(image, root, commit):
+        return 1, (root,)
+    node = image.sector(root)
+    for at in [8, 24]:
+        leaf, of = word(node, at), word(node, at + 8)
+        if not is_node(image, leaf, of):
+            return 1, (leaf,)
+    return 0, ()
+
+
+def version_at(image, first, page):
+    """The version of a page where it is whole in two sectors, else 0."""
+    sectors = [image.sector(first), image.sector(first + 1)]
+    whole = sum(mix(it) for it in sectors) % 2**64 == 1 and word(sectors[0], 8) == page
+    return word(sectors[0], 0) if whole else 0
+
+
+def double_write(image):
+    """By examples/double_write/checker.s: each page is whole in its place, or zeros there, or its copy is whole; and it has the
+    version that a mark acknowledged. Commits 1, 3, .. write the pages 0 and 1, the others 2 and 3."""
+    for page in range(4):
+        acknowledged = (image.marks() + 1 - page // 2) // 2
+        version = version_at(image, 2 * page, page)
+        if version == 0 and any(image.sector(2 * page + it) != ZEROS for it in (0, 1)):
+            version = version_at(image, 8 + 2 * (page % 2), page)
+            if version == 0:
+                return 1, (page,)
+        if version < acknowledged:
+            return 2, (page,)
+    return 0, ()
+
+
 def one(_image):
     return 1, ()
 

@@ -22,6 +22,7 @@ about a minute of processor time.
 Where the rows stand
     rows/worked.py      the worked examples of the documents, and the reports of small logs
     rows/examples.py    the designs of examples/: their logs, checkers and reports
+    rows/options.py     which options find what: the table of docs/CRASH-MODEL.md, cell by cell
     rows/checkers.py    the checkers in C of examples/: what the verifier says of them, and what they answer
     rows/commands.py    each command, faults of the command line, the order of refusals
     rows/process.py     files that can't be read, a standard output that can't be written
@@ -39,10 +40,13 @@ Where the rows stand
     rows/shown.py       images in words, by number and by cut and choice, against the model
     rows/why.py         why checkers fail, of many logs and of the designs, against the model
     rows/browser.py     runs as a page for a browser, of many logs and of the designs, against the model
+    rows/ranges.py      flushes that are added and ranges of cuts, in `log`, in `page`, and of the designs, against the model
+    rows/flushes.py     where flushes are missing: the designs, marks, forced writes, discards, refusals, against cure_model.py
     rows/workers.py     runs by many workers, with and without a cache
     rows/limits.py      sizes near each limit
 
     notation.py         how rows, logs and programs are written down
+    cure_model.py       the cure, written from docs/CRASH-MODEL.md and docs/REPORT.md alone; by itself it tries the laws of windows
     page_model.py       the page, written from docs/REPORT.md alone but for its style and script
     model.py            the crash model and the report, written from docs/CRASH-MODEL.md and docs/REPORT.md alone
     programs/           programs as assembly texts
@@ -75,11 +79,14 @@ from rows import (
     commands,
     encodings,
     examples,
+    flushes,
     limits,
     logs,
     modelled,
     notes,
+    options,
     process,
+    ranges,
     refusals,
     shown,
     small_logs,
@@ -94,6 +101,7 @@ from rows import (
 TABLES = [
     worked,
     examples,
+    options,
     checkers,
     commands,
     process,
@@ -111,6 +119,8 @@ TABLES = [
     shown,
     why,
     browser,
+    ranges,
+    flushes,
     workers,
     limits,
 ]

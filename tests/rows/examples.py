@@ -192,16 +192,143 @@ def pages(flags):
     ]
 
 
-def written(which, run, first=False, stored=None):
+# The header and all records that it counts in one write.
+JOURNAL_AT_ONCE = [
+    S(0, count(2) + RECORDS[1] + RECORDS[2]),
+    F,
+    M("record 1"),
+    M("record 2"),
+    S(0, count(3) + RECORDS[1] + RECORDS[2] + RECORDS[3]),
+    F,
+    M("record 3"),
+]
+
+
+def sealed(content):
+    """A sector that begins so, with a last word that makes its mix 1."""
+    body = content + bytes(8)
+    return content + struct.pack("<Q", (1 - model.mix(body)) % 2**64)
+
+
+def leaf(commit, side):
+    """A leaf of the tree: the commit that wrote it, its data, its last word. Side 0xd0 is the left one, 0xe0 the right one."""
+    return sealed(struct.pack("<Q", commit) + bytes([side + commit]) * 496)
+
+
+def root(commit, left, right):
+    """A root node of the tree, by the sector and the commit of each leaf."""
+    return sealed(struct.pack("<5Q", commit, *left, *right) + bytes(464))
+
+
+def top(commit, sector):
+    """The header of the tree."""
+    return struct.pack("<QQ", commit, sector) + bytes(496)
+
+
+# What each commit of the tree writes: its leaves, its root node, its header.
+TREE_COMMITS = [
+    ([S(1, leaf(1, 0xD0)), S(2, leaf(1, 0xE0))], S(3, root(1, (1, 1), (2, 1))), top(1, 3)),
+    ([S(4, leaf(2, 0xD0))], S(5, root(2, (4, 2), (2, 1))), top(2, 5)),
+    ([S(1, leaf(3, 0xE0))], S(3, root(3, (4, 2), (1, 3))), top(3, 3)),
+]
+
+
+def tree(flags):
+    """The entries of three commits: each its leaves, its root node, its header, a flush, a mark."""
+    return [
+        entry
+        for number, (leaves, node, header) in enumerate(TREE_COMMITS, 1)
+        for entry in [*leaves, node, S(0, header, flags), F, M(f"commit {number}")]
+    ]
+
+
+# The header before the root node that it names, with a flush before the header.
+TREE_ORDER = [
+    entry
+    for number, (leaves, node, header) in enumerate(TREE_COMMITS, 1)
+    for entry in [*leaves, S(0, header, FLUSH), node, F, M(f"commit {number}")]
+]
+
+
+def small_page(page, version):
+    """A page of two sectors: its version, its number, its data, and a last word with which the mixes have the sum 1."""
+    body = bytes([0x40 + 0x10 * page + version]) * 512
+    start = struct.pack("<QQ", version, page) + body[16:]
+    seal = (1 - model.mix(start) - model.mix(body[:504] + bytes(8))) % 2**64
+    return start + body[:504] + struct.pack("<Q", seal)
+
+
+# What each commit of the double-write buffer writes: its two pages, with their versions.
+PAGE_COMMITS = [((0, 1), (1, 1)), ((2, 1), (3, 1)), ((0, 2), (1, 2))]
+
+
+def copies(pages, flags):
+    """The copies of two pages, in one write."""
+    return [S(8, b"".join(small_page(*it) for it in pages), flags)]
+
+
+def in_place(pages, flags):
+    """Two pages, each written in its place."""
+    return [S(2 * page, small_page(page, version), flags if page % 2 == 0 else 0) for page, version in pages]
+
+
+def double_write(flags):
+    """The entries of three commits: each its copies, its pages, a flush, a mark."""
+    return [
+        entry
+        for number, pages in enumerate(PAGE_COMMITS, 1)
+        for entry in [*copies(pages, 0), *in_place(pages, flags), F, M(f"commit {number}")]
+    ]
+
+
+# The pages in place before their copies, with a flush between them.
+DOUBLE_WRITE_ORDER = [
+    entry
+    for number, pages in enumerate(PAGE_COMMITS, 1)
+    for entry in [*in_place(pages, 0), *copies(pages, FLUSH), F, M(f"commit {number}")]
+]
+
+
+# What the checkers of the designs are, and the runs whose texts are stored: each design's right version and those with a mistake.
+JUDGES = {
+    "two_slots": ("slots 39 budget 87", model.two_slots),
+    "journal": ("slots 33 budget 144", model.journal),
+    "pages": ("slots 53 budget 1026", model.pages),
+    "tree": ("slots 51 budget 65", model.tree),
+    "double_write": ("slots 75 budget 450", model.double_write),
+}
+
+DESIGNS = {
+    "two_slots/right": Run(two_slots(FLUSH), 4, bound=2, tears=True),
+    "two_slots/wrong": Run(two_slots(0), 4, bound=2, tears=True),
+    "journal/right": Run(JOURNAL_RIGHT, 8, bound=2, tears=True),
+    "journal/wrong": Run(JOURNAL_WRONG, 8),
+    "journal/at_once": Run(JOURNAL_AT_ONCE, 8),
+    "pages/right": Run(pages(FLUSH), 24, bound=2, tears=True, by="write"),
+    "pages/wrong": Run(pages(0), 24, by="write"),
+    "tree/right": Run(tree(FLUSH), 8, bound=2, tears=True),
+    "tree/wrong": Run(tree(0), 8),
+    "tree/order": Run(TREE_ORDER, 8),
+    "double_write/right": Run(double_write(FLUSH), 12, bound=2, tears=True, by="write"),
+    "double_write/wrong": Run(double_write(0), 12, bound=2),
+    "double_write/order": Run(DOUBLE_WRITE_ORDER, 12),
+}
+
+
+def folder_of(which):
+    return which.split("/")[0]
+
+
+def checker_of(which):
+    """The checker of a design, as the report sees it."""
+    return Checker(*JUDGES[folder_of(which)])
+
+
+def written(which, run=None, first=False, stored=None):
     """The run of a log that was written entry by entry here; its report is the stored one, or that of its first failing
     image, and the model's."""
-    folder = which.split("/")[0]
-    judges = {
-        "two_slots": ("slots 39 budget 87", model.two_slots),
-        "journal": ("slots 33 budget 144", model.journal),
-        "pages": ("slots 53 budget 1026", model.pages),
-    }
-    report = explored(run, [Checker(*judges[folder])], first)
+    run = run or DESIGNS[which]
+    report = explored(run, [checker_of(which)], first)
     stored = stored or which
     if not first:
         assert report.encode() == data(EXAMPLES / f"{stored}.report"), f"{stored}.report isn't the model's"
@@ -209,10 +336,47 @@ def written(which, run, first=False, stored=None):
         f"{stored}, written here{', first' if first else ''}",
         f"{run.options()}{' --first' if first else ''}",
         run.entries,
-        data(EXAMPLES / f"{folder}/checker.bpf"),
+        data(EXAMPLES / f"{folder_of(which)}/checker.bpf"),
         report,
         0 if "failing 0" in report or "first none" in report else 1,
     )
+
+
+def by_file(which):
+    """The same run of the log's file."""
+    status = 0 if which.endswith("right") else 1
+    options, folder = DESIGNS[which].options(), folder_of(which)
+    return design(f"{which}, by its file", f"{which}.log", f"{folder}/checker.bpf", options, f"{which}.report", status)
+
+
+def in_c(which):
+    """The same run by the checker in C."""
+    about = JUDGES[folder_of(which)][0].encode()
+    report = data(EXAMPLES / f"{which}.report").replace(about, IN_C[folder_of(which)].encode())
+    status = 0 if which.endswith("right") else 1
+    return design(f"{which}, in C", f"{which}.log", f"{folder_of(which)}/checker_c.bpf", DESIGNS[which].options(), report, status)
+
+
+# The checkers in C of two designs.
+IN_C = {"tree": "slots 54 budget 84", "double_write": "slots 75 budget 510"}
+
+# The flushes that are forgotten in wrong versions; with them nothing fails.
+FORGOTTEN = {
+    "two_slots/wrong": (1, 5, 9),
+    "pages/wrong": (9,),
+    "tree/wrong": (3, 8, 13),
+    "double_write/wrong": (1, 6, 11),
+}
+
+
+def mended(which, options):
+    """A wrong version with the flushes that were forgotten, with other options too."""
+    run = DESIGNS[which]
+    run = Run(run.entries, run.sectors, flush=FORGOTTEN[which], **options)
+    report = explored(run, [checker_of(which)])
+    assert report.endswith(" failing 0 lines 0\n")
+    checker = data(EXAMPLES / f"{folder_of(which)}/checker.bpf")
+    return explore(f"{which}, mended, {run.options()}", run.options(), run.entries, checker, report, 0)
 
 
 # of this run 729 images fail, as examples/README.md says
@@ -223,15 +387,16 @@ assert TORN_JOURNAL.endswith("\nimages 1271 failing 729 lines 729\n")
 TORN_PAGES = explored(Run(pages(0), 24, bound=2, tears=True, by="write"), [Checker("slots 53 budget 1026", model.pages)])
 assert TORN_PAGES.endswith("\nimages 823 failing 8 lines 8\n")
 
+NEW = ["journal/at_once", *(which for which in DESIGNS if folder_of(which) in ("tree", "double_write"))]
+
 WRITTEN = [
-    written("two_slots/right", Run(two_slots(FLUSH), 4, bound=2, tears=True)),
-    written("two_slots/right", Run(two_slots(FLUSH), 4, bound=2, tears=True), first=True),
-    written("two_slots/wrong", Run(two_slots(0), 4, bound=2, tears=True)),
-    written("journal/right", Run(JOURNAL_RIGHT, 8, bound=2, tears=True)),
-    written("journal/wrong", Run(JOURNAL_WRONG, 8)),
+    *(written(which) for which in DESIGNS),
+    *(by_file(which) for which in NEW),
+    *(in_c(which) for which in NEW if folder_of(which) in IN_C),
+    *(mended(which, dict(bound=2, by=by)) for which in FORGOTTEN for by in ["sector", "write"]),
+    *(mended(which, dict(bound=2, tears=True, by="write")) for which in FORGOTTEN),
+    written("two_slots/right", first=True),
     written("journal/wrong", Run(JOURNAL_WRONG, 8, bound=2, tears=True), first=True),
-    written("pages/right", Run(pages(FLUSH), 24, bound=2, tears=True, by="write")),
-    written("pages/wrong", Run(pages(0), 24, by="write")),
     written("pages/wrong", Run(pages(0), 24, bound=3), stored="pages/wrong_by_sector"),
     design(
         "pages, wrong, torn",
@@ -263,6 +428,11 @@ TOLD = [
     *told("two_slots/wrong", Run(two_slots(0), 4, bound=2, tears=True), 567),
     *told("journal/wrong", Run(JOURNAL_WRONG, 8), 17),
     *told("pages/wrong", Run(pages(0), 24, by="write"), 18),
+    *told("journal/at_once", DESIGNS["journal/at_once"], 12),
+    *told("tree/wrong", DESIGNS["tree/wrong"], 34),
+    *told("tree/order", DESIGNS["tree/order"], 24),
+    *told("double_write/wrong", DESIGNS["double_write/wrong"], 190),
+    *told("double_write/order", DESIGNS["double_write/order"], 2),
 ]
 
 CHECKERS = [
@@ -272,12 +442,16 @@ CHECKERS = [
         {"checker.s": data(EXAMPLES / f"{name}.s")},
         data(EXAMPLES / f"{name}.bpf"),
     )
-    for name in ["two_slots/checker", "journal/checker", "pages/checker"]
+    for name in [f"{folder}/checker" for folder in JUDGES]
 ] + [
     verified("verify two_slots/checker", data(EXAMPLES / "two_slots/checker.bpf"), "accepted budget 87"),
     verified("verify two_slots/checker_c", data(EXAMPLES / "two_slots/checker_c.bpf"), "accepted budget 111"),
     verified("verify journal/checker", data(EXAMPLES / "journal/checker.bpf"), "accepted budget 144", 8),
     verified("verify pages/checker", data(EXAMPLES / "pages/checker.bpf"), "accepted budget 1026", 24),
+    verified("verify tree/checker", data(EXAMPLES / "tree/checker.bpf"), "accepted budget 65", 8),
+    verified("verify tree/checker_c", data(EXAMPLES / "tree/checker_c.bpf"), "accepted budget 84", 8),
+    verified("verify double_write/checker", data(EXAMPLES / "double_write/checker.bpf"), "accepted budget 450", 12),
+    verified("verify double_write/checker_c", data(EXAMPLES / "double_write/checker_c.bpf"), "accepted budget 510", 12),
 ]
 
 ROWS = [*REPORTS, *SHOWN, *WRITTEN, *TOLD, *CHECKERS]

@@ -1,6 +1,6 @@
 //! From the entries of a log to its bytes (docs/LOG-FORMAT.md).
 
-use crate::logs::content::{PAGE, page_sector};
+use crate::logs::content::Contents;
 use crate::logs::entries::{Item, Which};
 use base::numbers::{put_u32, put_u64, put_zeros};
 use logfmt::{LogFault, read, write};
@@ -36,10 +36,10 @@ fn text_of(alloc: Global, entries: &[Item]) -> Result<Vec<u8>, AllocError> {
     Ok(out)
 }
 
-/// The sectors of the page of the commit with that number.
-fn put_page(out: &mut Vec<u8>, number: u8) -> Result<(), AllocError> {
-    for place in 0..PAGE {
-        out.extend_from_slice(&page_sector(number, place))?;
+/// Sectors, one after the other.
+fn put_sectors(out: &mut Vec<u8>, contents: Contents) -> Result<(), AllocError> {
+    for place in 0..contents.count() {
+        out.extend_from_slice(&contents.sector(place))?;
     }
     Ok(())
 }
@@ -51,13 +51,17 @@ fn put_item(out: &mut Vec<u8>, item: Item) -> Result<(), AllocError> {
             put_header(out, sector, 1, 0, "")?;
             out.extend_from_slice(&content.sector())
         }
-        Item::WritePage(sector, number) => {
-            put_header(out, sector, PAGE, 0, "")?;
-            put_page(out, number)
+        Item::WriteAll(sector, contents) => {
+            put_header(out, sector, u64::from(contents.count()), 0, "")?;
+            put_sectors(out, contents)
         }
         Item::FlushAndWrite(sector, content) => {
             put_header(out, sector, 1, FLUSH, "")?;
             out.extend_from_slice(&content.sector())
+        }
+        Item::FlushAndWriteAll(sector, contents) => {
+            put_header(out, sector, u64::from(contents.count()), FLUSH, "")?;
+            put_sectors(out, contents)
         }
         Item::Flush => put_header(out, 0, 0, FLUSH, ""),
         Item::Mark(text) => put_header(out, 0, 0, MARK, text),
