@@ -31,6 +31,7 @@ def stored():
     yield "examples/two_slots/checker.c", "check", TOP / "examples/two_slots/checker_c.bpf"
     for path in sorted((TOP / "examples/checkers").glob("*.c")):
         yield path, "check", path.with_suffix(".bpf")
+    yield TOP / "examples/recording/ext4.c", "check", TOP / "examples/recording/ext4.bpf"
     yield TOP / "examples/refused/not_inlined.c", "not_inlined", TOP / "examples/refused/not_inlined.bpf"
     refused = TOP / "examples/refused/refused.c"
     for name in re.findall(r"^u64 (\w+)\(const struct context", refused.read_text(), re.M):

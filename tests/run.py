@@ -40,6 +40,7 @@ Where the rows stand
     rows/why.py         why checkers fail, of many logs and of the designs, against the model
     rows/browser.py     runs as a page for a browser, of many logs and of the designs, against the model
     rows/workers.py     runs by many workers, with and without a cache
+    rows/recording.py   logs that were made of traces, and an ext4 that was recorded
     rows/limits.py      sizes near each limit
 
     notation.py         how rows, logs and programs are written down
@@ -80,6 +81,7 @@ from rows import (
     modelled,
     notes,
     process,
+    recording,
     refusals,
     shown,
     small_logs,
@@ -112,6 +114,7 @@ TABLES = [
     why,
     browser,
     workers,
+    recording,
     limits,
 ]
 
