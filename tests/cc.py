@@ -32,6 +32,7 @@ def stored():
         yield f"examples/{folder}/checker.c", "check", TOP / f"examples/{folder}/checker_c.bpf"
     for path in sorted((TOP / "examples/checkers").glob("*.c")):
         yield path, "check", path.with_suffix(".bpf")
+    yield TOP / "examples/recording/ext4.c", "check", TOP / "examples/recording/ext4.bpf"
     yield TOP / "examples/refused/not_inlined.c", "not_inlined", TOP / "examples/refused/not_inlined.bpf"
     refused = TOP / "examples/refused/refused.c"
     for name in re.findall(r"^u64 (\w+)\(const struct context", refused.read_text(), re.M):

@@ -43,6 +43,7 @@ Where the rows stand
     rows/ranges.py      flushes that are added and ranges of cuts, in `log`, in `page`, and of the designs, against the model
     rows/flushes.py     where flushes are missing: the designs, marks, forced writes, discards, refusals, against cure_model.py
     rows/workers.py     runs by many workers, with and without a cache
+    rows/recording.py   logs that were made of traces, and an ext4 that was recorded
     rows/limits.py      sizes near each limit
 
     notation.py         how rows, logs and programs are written down
@@ -87,6 +88,7 @@ from rows import (
     options,
     process,
     ranges,
+    recording,
     refusals,
     shown,
     small_logs,
@@ -122,6 +124,7 @@ TABLES = [
     ranges,
     flushes,
     workers,
+    recording,
     limits,
 ]
 

@@ -3,17 +3,18 @@
  * For one group, blocks of 1,024 bytes and checksums (metadata_csum), as mkfs.ext4 takes them for 8 MiB. */
 #include "checker.h"
 
-enum { GOOD, NO_MAGIC, OTHER_BLOCKS, BROKEN_SUPER, BROKEN_GROUP, NO_ROOT };
+enum { GOOD, NO_MAGIC, OTHER_SIZES, BROKEN_SUPER, BROKEN_GROUP, NO_ROOT };
 
 #define BLOCK 1024                                 /* the super block is block 1, the descriptors are block 2 */
 #define SUPER BLOCK
 #define GROUP (2 * BLOCK)
+#define SPENT (1ull << 32)
 
-/* The crc of `count` bytes from a position on; each pass of the loop is counted for all places that call it. */
+/* The crc of `count` bytes more, from a position on: 1,098 bytes in all, of all calls together. */
 LOCAL(check) u64 crc_of(u64 crc, u64 position, u64 count)
 {
 	for (u64 i = 0; i < count; i++) {
-		TURN(1200, return 1ull << 32);
+		TURN(1098, return SPENT);
 		crc = crc32c(crc, u8_at(position + i));
 	}
 	return crc;
@@ -21,34 +22,32 @@ LOCAL(check) u64 crc_of(u64 crc, u64 position, u64 count)
 
 u64 check(const struct context *context)
 {
-	u64 crc, size = u16_at(SUPER + 254);       /* s_desc_size; 0 stands for 32 */
+	u64 table = BLOCK * (u64)u32_at(GROUP + 8);        /* where the inodes of the first group begin */
+	u64 size = u16_at(SUPER + 254);                    /* of a descriptor */
+	u64 crc;
 
 	if (!context->marks)
-		return GOOD;                       /* nothing was promised yet */
+		return GOOD;                               /* nothing was promised yet */
 	if (u16_at(SUPER + 56) != 0xef53)
 		return NO_MAGIC;
-	if (u32_at(SUPER + 24))
-		return OTHER_BLOCKS;               /* s_log_block_size: blocks of 1,024 bytes have 0 */
+	if (u32_at(SUPER + 24) || size != 64)
+		return OTHER_SIZES;                        /* log2 of the block's size, less 10 */
 	crc = crc_of(CRC32C_START, SUPER, 1020);
-	if (crc >> 32)
+	if (crc == SPENT)
 		return TURNS_SPENT;
 	if (crc != u32_at(SUPER + 1020))
 		return BROKEN_SUPER;
-	/* the sum of a descriptor: the file system's seed, the number of the group, and the descriptor with a sum of 0 */
+	/* of the file system's name, the number of the group, and its descriptor with zeros for the sum itself */
 	crc = crc_of(CRC32C_START, SUPER + 104, 16);
-	for (u64 i = 0; i < 4; i++)
-		crc = crc32c(crc, 0);
+	crc = crc32c(crc32c(crc32c(crc32c(crc, 0), 0), 0), 0);
 	crc = crc_of(crc, GROUP, 30);
-	crc = crc32c(crc32c(crc, 0), 0);
-	if (size > 32)
-		crc = crc_of(crc, GROUP + 32, size <= 64 ? size - 32 : 32);
-	if (crc >> 32)
+	crc = crc_of(crc32c(crc32c(crc, 0), 0), GROUP + 32, 32);
+	if (crc == SPENT)
 		return TURNS_SPENT;
 	if ((crc & 0xffff) != u16_at(GROUP + 30))
 		return BROKEN_GROUP;
-	/* inode 2, the root, is a directory: the table begins at the block that the descriptor names */
-	if (u16_at(BLOCK * (u64)u32_at(GROUP + 8) + u16_at(SUPER + 88)) >> 12 != 4) {
-		report(u32_at(GROUP + 8));
+	if (u16_at(table + u16_at(SUPER + 88)) >> 12 != 4) {
+		report(table);                             /* inode 2, the root, is no directory */
 		return NO_ROOT;
 	}
 	return GOOD;
