@@ -11,6 +11,11 @@ CC = Path(__file__).resolve().parent
 HEADERS = ["-I", CC.parent, "-isystem", CC / "include"]
 
 
+# A loop over bytes isn't made a call of the library, and indices stay as they are written.
+LOOPS_STAY = ["-fno-builtin-memset", "-fno-builtin-memcpy"]
+AS_WRITTEN = ["-mllvm", "-disable-lsr"]
+
+
 def run(words, **how):
     return subprocess.run([str(it) for it in words], capture_output=True, text=True, **how)
 
@@ -30,13 +35,15 @@ class Clang:
     """clang 14 or newer, and llvm-objdump of the same version."""
 
     # The ways in which a checker is compiled, one after the other until a program is accepted: what is done to its
-    # loops (source.py), and more options.
+    # text (source.py), and more options.
     WAYS = [
-        ("plain", []),
-        ("plain", ["-fno-builtin-memset", "-fno-builtin-memcpy"]),
-        ("kept", ["-fno-builtin-memset", "-fno-builtin-memcpy"]),
-        ("plain", ["-mllvm", "-disable-lsr"]),
-        ("kept", ["-fno-builtin-memset", "-fno-builtin-memcpy", "-mllvm", "-disable-lsr"]),
+        ("", []),
+        ("", LOOPS_STAY),
+        ("kept", LOOPS_STAY),
+        ("kept tested", LOOPS_STAY),
+        ("", [*LOOPS_STAY, *AS_WRITTEN]),
+        ("kept", [*LOOPS_STAY, *AS_WRITTEN]),
+        ("kept tested", [*LOOPS_STAY, *AS_WRITTEN]),
     ]
 
     def __init__(self, name):
@@ -85,7 +92,7 @@ class Clang:
 class Gcc:
     """gcc 12 or newer as it is built for BPF, with binutils of the same target."""
 
-    WAYS = [("plain", []), ("kept", []), ("plain", ["-O1"]), ("kept", ["-O1"])]
+    WAYS = [("", []), ("kept", []), ("tested", []), ("kept tested", []), ("kept tested", ["-O1"])]
 
     def __init__(self, name):
         self.name = name
