@@ -398,6 +398,26 @@ INLINED void *memset_loop_(void *to, int byte, size_t length)
 #define memcpy(to, from, length) EITHER_(memcpy, to, from, length)
 #define memset(to, byte, length) EITHER_(memset, to, byte, length)
 
+/* gcc for BPF calls a library for these, clang writes them out. */
+#ifndef __clang__
+INLINED int popcount_(u64 x)
+{
+	x -= x >> 1 & 0x5555555555555555;
+	x = (x & 0x3333333333333333) + (x >> 2 & 0x3333333333333333);
+	x = (x + (x >> 4)) & 0x0f0f0f0f0f0f0f0f;
+	return x * 0x0101010101010101 >> 56;
+}
+
+#define __builtin_popcountll(x) popcount_(x)
+#define __builtin_popcountl(x) popcount_(x)
+#define __builtin_popcount(x) popcount_((u32)(x))
+#define __builtin_parityll(x) (popcount_(x) & 1)
+#define __builtin_parityl(x) (popcount_(x) & 1)
+#define __builtin_parity(x) (popcount_((u32)(x)) & 1)
+#define __builtin_ctzll(x) popcount_(((x) & -(u64)(x)) - 1)
+#define __builtin_ctz(x) popcount_(((x) & -(u32)(x)) - 1)
+#endif
+
 /* For the native build alone: a program prints nothing. */
 #define printf(...) ((void)0)
 
