@@ -77,11 +77,13 @@ class Images:
         self.numbers = sorted({int(it, 0) for it in re.findall(r"\b(?:0x[0-9a-fA-F]+|[1-9][0-9]*|0)(?=[uUlL]*\b)", text)})
         self.texts = [it.encode().decode("unicode_escape").encode("latin-1") for it in re.findall(r'"([^"\n]+)"', text)]
         self.texts = [it for it in self.texts if not it.endswith(b".h")]
+        self.sectors = [it for it in self.numbers if it < SECTORS] or [0]
         self.pool = {"zeros": bytes(SECTOR * SECTORS), **{f"seed {i}": it for i, it in enumerate(seeds)}}
 
     def place(self):
         rng = self.rng
-        sector = rng.choice([0, 0, 0, 1, 1, 2, 3, SECTORS - 1, rng.randrange(SECTORS), rng.randrange(12)])
+        likely = [0, 0, 0, 0, 1, 1, 1, 2, 3, SECTORS - 1, SECTORS // 2, SECTORS // 2 + 1]
+        sector = rng.choice([*likely, rng.randrange(SECTORS), rng.randrange(12), rng.choice(self.sectors)])
         offset = rng.choice([0, 0, 4, 8, rng.randrange(0, 32, 4), rng.randrange(0, 64, 8), rng.randrange(0, 504, 2), 504, 508])
         return sector * SECTOR + min(offset, SECTOR - 8)
 

@@ -99,7 +99,8 @@ class Gcc:
         self.objdump, self.readelf = (re.sub(r"gcc(-[\d.]+)?$", it, name) for it in ("objdump", "readelf"))
         # Loops aren't written out: a turn would be counted at each copy by itself.
         whole = ["-fno-unroll-loops", "-fno-unroll-all-loops", "-fno-peel-loops", "-fno-jump-tables"]
-        self.target = [name, "-mcpu=v2", "-O2", *whole, *HEADERS]
+        # Without -malu32 gcc 12 takes `and r, -1` for a cut to 32 bits, which cuts nothing off.
+        self.target = [name, "-mcpu=v2", "-malu32", "-O2", *whole, *HEADERS]
 
     def tools(self):
         return [self.name, self.objdump, self.readelf]
