@@ -197,6 +197,16 @@ HELPER_(7, u64, same, u64 a, u64 b);
 		sector_;					\
 	})
 
+/* What crashbpf-cc puts for sector(n) where the compiler moves a plain call's null test. */
+INLINED const void *tested_sector_(u64 n)
+{
+	const void *p = SECTOR(n, return 0);
+
+	if (!p)
+		__builtin_unreachable();
+	return p;
+}
+
 /*
  * From here on the compiler knows nothing of the value of the variable x, a number or
  * a pointer: it can't turn a test of it into another one, merge two, or make its way
@@ -281,7 +291,7 @@ INLINED u64 u64_at_be(u64 at)
 #ifdef __clang__
 #define UNROLLED_ _Pragma("clang loop unroll(full)")
 #else
-#define UNROLLED_ _Pragma("GCC unroll 512")
+#define UNROLLED_ _Pragma("GCC unroll 8")
 #endif
 
 /*
@@ -309,28 +319,33 @@ INLINED u32 crc32c(u64 crc, u8 byte)
 #ifndef CHECKER_NATIVE
 
 /*
- * What a checker has of the library, inlined. With a constant length memcmp, memcpy
- * and memset are written out; with another they are loops, whose turns are bounded as
- * those of any loop. Texts to compare with are constants: memcmp(p, "EFI PART", 8).
+ * What a checker has of the library, inlined. With a constant length of at most 512
+ * memcmp, memcpy and memset are written out, by words and then by bytes; with another
+ * they are loops, whose turns are bounded as those of any loop. Texts to compare with
+ * are constants: memcmp(p, "EFI PART", 8).
  */
 typedef u64 __attribute__((may_alias)) word_;
+
+#define EIGHT_(step, i) \
+	step(i) step(i + 1) step(i + 2) step(i + 3) step(i + 4) step(i + 5) step(i + 6) step(i + 7)
+#define WORDS_(step)									\
+	EIGHT_(step, 0) EIGHT_(step, 8) EIGHT_(step, 16) EIGHT_(step, 24)		\
+	EIGHT_(step, 32) EIGHT_(step, 40) EIGHT_(step, 48) EIGHT_(step, 56)
+#define IF_WORD_(i) if (8 * (i) + 8 <= length)
+#define IF_BYTE_(i) if (tail + (i) < length)
 
 INLINED int memcmp_whole_(const void *a, const void *b, size_t length)
 {
 	const u8 *x = a, *y = b;
-	size_t i = 0;
+	const size_t tail = length / 8 * 8;
 
-	UNROLLED_
-	for (; i + 8 <= length; i += 8) {
-		u64 v = *(const word_ *)(x + i), w = *(const word_ *)(y + i);
-
-		if (v != w)
-			return __builtin_bswap64(v) < __builtin_bswap64(w) ? -1 : 1;
-	}
-	UNROLLED_
-	for (; i < length; i++)
-		if (x[i] != y[i])
-			return x[i] - y[i];
+#define COMPARE_WORD_(i)								\
+	IF_WORD_(i) if (((const word_ *)x)[i] != ((const word_ *)y)[i])			\
+		return __builtin_bswap64(((const word_ *)x)[i])				\
+			< __builtin_bswap64(((const word_ *)y)[i]) ? -1 : 1;
+#define COMPARE_BYTE_(i) IF_BYTE_(i) if (x[tail + (i)] != y[tail + (i)]) return x[tail + (i)] - y[tail + (i)];
+	WORDS_(COMPARE_WORD_)
+	EIGHT_(COMPARE_BYTE_, 0)
 	return 0;
 }
 
@@ -344,14 +359,14 @@ INLINED int memcmp_loop_(const void *a, const void *b, size_t length)
 
 INLINED void *memcpy_whole_(void *to, const void *from, size_t length)
 {
-	size_t i = 0;
+	u8 *x = to;
+	const u8 *y = from;
+	const size_t tail = length / 8 * 8;
 
-	UNROLLED_
-	for (; i + 8 <= length; i += 8)
-		*(word_ *)((u8 *)to + i) = *(const word_ *)((const u8 *)from + i);
-	UNROLLED_
-	for (; i < length; i++)
-		((u8 *)to)[i] = ((const u8 *)from)[i];
+#define COPY_WORD_(i) IF_WORD_(i) ((word_ *)x)[i] = ((const word_ *)y)[i];
+#define COPY_BYTE_(i) IF_BYTE_(i) x[tail + (i)] = y[tail + (i)];
+	WORDS_(COPY_WORD_)
+	EIGHT_(COPY_BYTE_, 0)
 	return to;
 }
 
@@ -364,14 +379,13 @@ INLINED void *memcpy_loop_(void *to, const void *from, size_t length)
 
 INLINED void *memset_whole_(void *to, int byte, size_t length)
 {
-	size_t i = 0;
+	u8 *x = to;
+	const size_t tail = length / 8 * 8;
 
-	UNROLLED_
-	for (; i + 8 <= length; i += 8)
-		*(word_ *)((u8 *)to + i) = 0x0101010101010101 * (u8)byte;
-	UNROLLED_
-	for (; i < length; i++)
-		((u8 *)to)[i] = byte;
+#define SET_WORD_(i) IF_WORD_(i) ((word_ *)x)[i] = 0x0101010101010101 * (u8)byte;
+#define SET_BYTE_(i) IF_BYTE_(i) x[tail + (i)] = byte;
+	WORDS_(SET_WORD_)
+	EIGHT_(SET_BYTE_, 0)
 	return to;
 }
 
@@ -382,11 +396,32 @@ INLINED void *memset_loop_(void *to, int byte, size_t length)
 	return to;
 }
 
-#define EITHER_(name, a, b, length) \
-	(__builtin_constant_p(length) ? name##_whole_(a, b, length) : name##_loop_(a, b, length))
+#define EITHER_(name, a, b, length)						\
+	(__builtin_constant_p(length) && (length) <= 512			\
+	 ? name##_whole_(a, b, length) : name##_loop_(a, b, length))
 #define memcmp(a, b, length) EITHER_(memcmp, a, b, length)
 #define memcpy(to, from, length) EITHER_(memcpy, to, from, length)
 #define memset(to, byte, length) EITHER_(memset, to, byte, length)
+
+/* gcc for BPF calls a library for these, clang writes them out. */
+#ifndef __clang__
+INLINED int popcount_(u64 x)
+{
+	x -= x >> 1 & 0x5555555555555555;
+	x = (x & 0x3333333333333333) + (x >> 2 & 0x3333333333333333);
+	x = (x + (x >> 4)) & 0x0f0f0f0f0f0f0f0f;
+	return x * 0x0101010101010101 >> 56;
+}
+
+#define __builtin_popcountll(x) popcount_(x)
+#define __builtin_popcountl(x) popcount_(x)
+#define __builtin_popcount(x) popcount_((u32)(x))
+#define __builtin_parityll(x) (popcount_(x) & 1)
+#define __builtin_parityl(x) (popcount_(x) & 1)
+#define __builtin_parity(x) (popcount_((u32)(x)) & 1)
+#define __builtin_ctzll(x) popcount_(((x) & -(u64)(x)) - 1)
+#define __builtin_ctz(x) popcount_(((x) & -(u32)(x)) - 1)
+#endif
 
 /* For the native build alone: a program prints nothing. */
 #define printf(...) ((void)0)

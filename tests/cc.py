@@ -1,12 +1,14 @@
 #!/usr/bin/env python3
-"""Tests examples/cc with the clang at hand. The gate doesn't run it, since it needs a compiler.
+"""Tests examples/cc/crashbpf-cc with the compilers at hand. The gate doesn't run it, since it needs one.
 
-    python3 tests/cc.py
+    python3 tests/cc.py [--compiler NAME].. [PROGRAM]
 
-Each file of examples/ that was made of C is compiled again, and its bytes are compared with the stored ones, which are
-those of clang 14.0.6; another version may make others (`LLVM=-14` names the version). Then each refusal of the script is
-seen: its status, and its first line. Prints a line for each that failed, and last `N passed, M failed`.
+PROGRAM is as in run.py, and NAME is clang where none is given. With clang 14.0.6 each file of examples/ that was made of C
+is compiled again, and its bytes are compared with the stored ones. Then each refusal of the tool is seen: its status, and
+its first line. Then programs with plain loops run, and answer where their turns are spent and where they aren't. Prints a
+line for each that failed, and last `N passed, M failed`.
 """
+import argparse
 import os
 import re
 import subprocess
@@ -14,16 +16,20 @@ import sys
 import tempfile
 from pathlib import Path
 
-TOP = Path(__file__).resolve().parent.parent
-CC = TOP / "examples/cc"
+sys.dont_write_bytecode = True
+
+from notation import SECTOR, TOP, S, log
+
+CC = TOP / "examples/cc/crashbpf-cc"
+STORED_BY = "14.0.6"
 
 
-def cc(*words):
-    """Runs the script, in whose path no crashbpf stands."""
-    path = os.pathsep.join(it for it in os.environ["PATH"].split(os.pathsep) if not Path(it, "crashbpf").exists())
-    return subprocess.run(
-        [CC, *map(str, words)], capture_output=True, text=True, cwd=TOP, env={**os.environ, "PATH": path}
-    )
+def cc(compiler, *words, program=None):
+    """Runs the tool, in whose path no other crashbpf stands than this one."""
+    path = [it for it in os.environ["PATH"].split(os.pathsep) if not Path(it, "crashbpf").exists()]
+    path = os.pathsep.join([str(program.parent), *path] if program else path)
+    words = [CC, *map(str, words), "--compiler", compiler]
+    return subprocess.run(words, capture_output=True, text=True, cwd=TOP, env={**os.environ, "PATH": path})
 
 
 def stored():
@@ -44,66 +50,191 @@ SOURCE = """\
 static const u8 table[4] = {1, 4, 2, 77};
 int counter;
 extern u64 outside(u64);
-static __attribute__((noinline)) u64 other(u64 n) { return n * u64_at(n); }
-u64 calls(const struct context *c) { return other(c->sectors) + other(c->epoch); }
+static u64 down(u64 n) { return n ? n * down(u64_at(n)) : 1; }
+u64 calls(const struct context *c) { return down(c->sectors) + down(c->epoch); }
 u64 tabled(const struct context *c) { return table[c->marks & 3]; }
 u64 counts(const struct context *c) { return counter++; }
 u64 absent(const struct context *c) { return outside(c->marks); }
-u64 copies(const struct context *c)
-{
-	struct { u64 words[30]; } one, two;
-	copy(0, &one, sizeof one);
-	copy(512, &two, sizeof two);
-	return __builtin_memcmp(&one, &two, sizeof one);
-}
 __attribute__((section("mine"))) u64 first(const struct context *c) { return c->marks; }
 __attribute__((section("mine"))) u64 second(const struct context *c) { return c->epoch; }
-u64 good(const struct context *c) { return u64_at(c->marks); }
+LOCAL(looped) u64 sum(u64 n) { u64 sum = 0; while (u64_at(n) > sum) sum += u64_at(sum); return sum; }
+u64 looped(const struct context *c) { return sum(1) + sum(2); }
+static u64 more(u64 n) { u64 sum = 0; while (u64_at(n) > sum) sum += u64_at(sum); return sum; }
+LOCAL(deep) u64 inner(u64 n) { return more(n) + 1; }
+u64 deep(const struct context *c) { return inner(1) + inner(2); }
+static const char *word = "0123456789abcdef";
+u64 text(const struct context *c) { return word[c->marks & 15]; }
+static __attribute__((noinline)) u64 other(u64 n) { return n * u64_at(n); }
+u64 good(const struct context *c)
+{
+	u64 words[4], others[4];
+	memset(words, 0, sizeof words);
+	memcpy(others, words, sizeof others);
+	printf("%d", 5);
+	return other(c->marks) + memcmp(SECTOR(0, return 1), "magic", 5) + (memcmp(words, others, sizeof words) != 0);
+}
 """
 
 OUTSIDE = "which lies outside of the function"
 
-# What stands in the file, the function that is asked for, and the first line on standard error.
+# What stands in the file, the function that is asked for, and the first line on standard error, where slots are `N`.
 REFUSALS = [
-    (SOURCE, "calls", f"cc: source.c:6 (slot 2) needs other, {OUTSIDE} calls"),
-    (SOURCE, "counts", f"cc: source.c:8 (slot 0) needs counter, {OUTSIDE} counts"),
-    (SOURCE, "tabled", f"cc: source.c:7 (slot 2) needs .rodata.cst4, {OUTSIDE} tabled"),
-    (SOURCE, "absent", f"cc: source.c:9 (slot 1) needs outside, {OUTSIDE} absent"),
+    (SOURCE, "counts", f"cc: source.c:8 (slot N) needs counter, {OUTSIDE} counts"),
+    (SOURCE, "tabled", f"cc: source.c:7 (slot N) needs .rodata"),
+    (SOURCE, "text", f"cc: source.c:18 (slot N) needs .rodata"),
+    (SOURCE, "absent", f"cc: source.c:9 (slot N) needs outside, {OUTSIDE} absent"),
     (SOURCE, "first", "cc: the section mine of first holds more than this function and what is LOCAL to it"),
-    (SOURCE, "second", "cc: second isn't the first function of its section mine, and a program starts at the first"),
-    (SOURCE, "nobody", "cc: source.c has no function nobody that is compiled by itself; there are: other calls tabled"),
+    (SOURCE, "looped", "cc: the loop source.c:12 is in a function that is LOCAL, and has no TURN"),
+    (SOURCE, "deep", "cc: the loop source.c:14 is in a function that is LOCAL, and has no TURN"),
+    (SOURCE, "nobody", "cc: there is no function nobody that is compiled by itself; there are: "),
     ("u64 check(", "check", "source.c:1:1: error: unknown type name 'u64'"),
     (None, "check", "cc: the file source.c can't be read"),
     (SOURCE, "good", ""),
 ]
 
+# Loops that are written without a bound. Word 0 of the device says how many turns they are to make.
+LOOPS = """\
+#include "checker.h"
+u64 check(const struct context *context)
+{
+	u64 sum = 0;
 
-def compiled(folder):
-    """The names of stored files that the compiler makes otherwise, and how many are the same."""
+	for (u64 i = 0; i < u64_at(0); i++)
+		sum += u64_at(8 * i);
+	return sum == 77;
+}
+"""
+INLINED = """\
+#include "checker.h"
+static u64 sum_of(u64 count)
+{
+	u64 i = 0, sum = 0;
+
+	while (i < count)
+		sum += u64_at(8 * i++);
+	return sum;
+}
+u64 check(const struct context *context)
+{
+	if (sum_of(u64_at(0)) == 77)
+		return 0;
+	return sum_of(u64_at(0) - 1) == 99;
+}
+"""
+NESTED = """\
+#include "checker.h"
+u64 check(const struct context *context)
+{
+	u64 sum = 0, i = 0;
+
+	do {
+		for (u64 k = 0; k < 3 + (u64_at(8) & 1); k++)
+			sum += u64_at(8 * k + i);
+	} while (++i < u64_at(0));
+	return sum == 77;
+}
+"""
+EMPTY = NESTED.replace("3 + (u64_at(8) & 1)", "u64_at(8)")
+HEADER = """\
+#include "checker.h"
+u64 check(const struct context *context)
+{
+	const u8 *a = SECTOR(0, return 7), *b = SECTOR(1, return 7);
+
+	return memcmp(a + 8, b + 8, u64_at(0) & 63) != 0;
+}
+"""
+
+# The code of a loop of checker.h: its line, and that of memcmp.
+HEADER_CODE = 1000000 + next(
+    number + 2 for number, it in enumerate((TOP / "examples/checker.h").read_text().split("\n")) if "int memcmp_loop_" in it
+) + 1
+
+# A source, words of the tool, and for values of word 0 what is answered, with the codes.
+RUNS = [
+    (LOOPS, [], {0: "0", 5: "0", 65536: "0", 65537: "1000000 codes 6"}),
+    (LOOPS, ["--turns", "5"], {5: "0", 6: "1000000 codes 6"}),
+    (LOOPS, ["--turns", "7", "--turns", "6:5"], {5: "0", 6: "1000000 codes 6"}),
+    (LOOPS, ["--turns", "5", "--turns", "source.c:6:7"], {7: "0", 8: "1000000 codes 6"}),
+    (INLINED, ["--turns", "5"], {5: "0", 6: "1000000 codes 6"}),
+    (NESTED, ["--turns", "6"], {2: "0", 3: "1000000 codes 7"}),
+    (NESTED, ["--turns", "7"], {2: "0", 3: "1000000 codes 7"}),
+    (HEADER, ["--turns", "5"], {0: "0", 5: "0", 6: f"1000000 codes {HEADER_CODE}"}),
+    (EMPTY, ["--turns", "100", "--turns", "6:5"], {5: "0", 6: "1000000 codes 6"}),
+]
+
+
+def stored_bytes(compiler, folder):
+    """The names of stored files that the compiler makes otherwise."""
     for source, function, path in stored():
-        done = cc(source, function, folder / "out.bpf")
+        done = cc(compiler, source, function, folder / "out.bpf", "--turns", "0")
         same = done.returncode == 0 and (folder / "out.bpf").read_bytes() == path.read_bytes()
         yield None if same else f"{path.relative_to(TOP)}: other bytes {done.stderr}"
 
 
-def refusals(folder):
-    """What the script said otherwise than it should."""
+def refusals(compiler, folder):
+    """What the tool said otherwise than it should."""
     source = folder / "source.c"
     for text, function, wanted in REFUSALS:
         source.unlink(missing_ok=True)
         (folder / "out.bpf").unlink(missing_ok=True)
         if text is not None:
             source.write_text(text)
-        done = cc(source, function, folder / "out.bpf")
-        said = done.stderr.replace(f"{folder}/", "").split("\n")[0]
+        done = cc(compiler, source, function, folder / "out.bpf")
+        said = re.sub(r"slot \d+", "slot N", done.stderr.replace(f"{folder}/", "").split("\n")[0])
         written = (folder / "out.bpf").exists()
         good = said.startswith(wanted) and done.returncode == (1 if wanted else 0) and written != bool(wanted)
-        yield None if good else f"{function}: status {done.returncode}, '{said}', wanted '{wanted}'"
+        yield None if good else f"{compiler} {function}: status {done.returncode}, '{said}', wanted '{wanted}'"
+
+
+def answer(program, folder, value):
+    """What the program of the folder answers on a device of 64 sectors that begins with this word."""
+    (folder / "log").write_bytes(log([S(0, value.to_bytes(8, "little").ljust(64 * SECTOR, b"\0"))]))
+    words = [program, "explore", "log", "out.bpf", "--sectors", "64", "--bound", "0", "--from", "1"]
+    done = subprocess.run(words, capture_output=True, text=True, cwd=folder)
+    found = re.search(r"answer (\d+) codes (\S+) choice", done.stdout)
+    if done.returncode == 2:
+        return done.stderr.split("\n")[0]
+    return f"{found[1]} codes {found[2]}" if found else "0"
+
+
+def runs(compiler, folder, program):
+    """What programs with bounded loops answer otherwise than they should."""
+    source = folder / "source.c"
+    for number, (text, words, wanted) in enumerate(RUNS):
+        source.write_text(text)
+        done = cc(compiler, source, "check", folder / "out.bpf", "--sectors", "64", *words, program=program)
+        if done.returncode != 0:
+            yield f"{compiler} run {number}: {done.stderr}"
+            continue
+        found = {value: answer(program, folder, value) for value in wanted}
+        yield None if found == wanted else f"{compiler} run {number}: {found}, wanted {wanted}"
+
+
+def version(compiler):
+    return subprocess.run([compiler, "--version"], capture_output=True, text=True).stdout.split("\n")[0]
+
+
+def found_by(compiler, folder, program):
+    if f"version {STORED_BY}" in version(compiler):
+        yield from stored_bytes(compiler, folder)
+    else:
+        print(f"{compiler} isn't clang {STORED_BY}, so the stored bytes aren't compared")
+    yield from refusals(compiler, folder)
+    if program.exists():
+        yield from runs(compiler, folder, program)
+    else:
+        print(f"there is no program {program}, so nothing runs")
 
 
 def main():
+    parser = argparse.ArgumentParser()
+    parser.add_argument("--compiler", action="append")
+    parser.add_argument("program", nargs="?", default=TOP / "crates/crashbpf/out/crashbpf", type=Path)
+    asked = parser.parse_args()
     with tempfile.TemporaryDirectory() as name:
-        found = [*compiled(Path(name)), *refusals(Path(name))]
+        compilers = asked.compiler or ["clang"]
+        found = [it for compiler in compilers for it in found_by(compiler, Path(name), asked.program.resolve())]
     wrong = [it for it in found if it]
     for line in wrong:
         print("FAILED", line)

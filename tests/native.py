@@ -77,11 +77,13 @@ class Images:
         self.numbers = sorted({int(it, 0) for it in re.findall(r"\b(?:0x[0-9a-fA-F]+|[1-9][0-9]*|0)(?=[uUlL]*\b)", text)})
         self.texts = [it.encode().decode("unicode_escape").encode("latin-1") for it in re.findall(r'"([^"\n]+)"', text)]
         self.texts = [it for it in self.texts if not it.endswith(b".h")]
+        self.sectors = [it for it in self.numbers if it < SECTORS] or [0]
         self.pool = {"zeros": bytes(SECTOR * SECTORS), **{f"seed {i}": it for i, it in enumerate(seeds)}}
 
     def place(self):
         rng = self.rng
-        sector = rng.choice([0, 0, 0, 1, 1, 2, 3, SECTORS - 1, rng.randrange(SECTORS), rng.randrange(12)])
+        likely = [0, 0, 0, 0, 1, 1, 1, 2, 3, SECTORS - 1, SECTORS // 2, SECTORS // 2 + 1]
+        sector = rng.choice([*likely, rng.randrange(SECTORS), rng.randrange(12), rng.choice(self.sectors)])
         offset = rng.choice([0, 0, 4, 8, rng.randrange(0, 32, 4), rng.randrange(0, 64, 8), rng.randrange(0, 504, 2), 504, 508])
         return sector * SECTOR + min(offset, SECTOR - 8)
 
@@ -162,7 +164,7 @@ def judged(program, code, entries, cuts, folder):
     """What the program answers on the images of a log at those cuts."""
     (folder / "log").write_bytes(log(entries))
     (folder / "p").write_bytes(code)
-    words = [program, "explore", "log", "p", "--sectors", str(SECTORS), "--bound", "0"]
+    words = [program, "explore", "log", "p", "--sectors", str(SECTORS), "--cuts", "flush", "--bound", "0"]
     done = subprocess.run(words, capture_output=True, text=True, cwd=folder)
     if done.returncode == 2:
         return [(done.stderr.split("\n")[0], "")] * len(cuts)
@@ -173,17 +175,18 @@ def judged(program, code, entries, cuts, folder):
 
 
 def logged(images, rng):
-    """A log in which each image stands at a cut, with marks and flushes between them."""
-    entries, cuts, marks, epoch = [], [], 0, 0
-    for content in images:
+    """A log in which each image stands in front of a flush: what it has otherwise than the one before is written there."""
+    entries, cuts, marks, old = [], [], 0, bytes(SECTOR * SECTORS)
+    for epoch, content in enumerate(images):
         if rng.random() < 0.03:
             entries.append(M("mark"))
             marks += 1
-        if rng.random() < 0.1:
-            entries.append(F)
-            epoch += 1
-        entries.append(S(0, content))
+        for at in range(0, len(content), SECTOR):
+            if content[at : at + SECTOR] != old[at : at + SECTOR]:
+                entries.append(S(at // SECTOR, content[at : at + SECTOR]))
         cuts.append(Cut(content, marks, epoch, len(entries)))
+        entries.append(F)
+        old = content
     return entries, cuts
 
 

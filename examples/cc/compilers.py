@@ -11,6 +11,11 @@ CC = Path(__file__).resolve().parent
 HEADERS = ["-I", CC.parent, "-isystem", CC / "include"]
 
 
+# A loop over bytes isn't made a call of the library, and indices stay as they are written.
+LOOPS_STAY = ["-fno-builtin-memset", "-fno-builtin-memcpy"]
+AS_WRITTEN = ["-mllvm", "-disable-lsr"]
+
+
 def run(words, **how):
     return subprocess.run([str(it) for it in words], capture_output=True, text=True, **how)
 
@@ -30,13 +35,15 @@ class Clang:
     """clang 14 or newer, and llvm-objdump of the same version."""
 
     # The ways in which a checker is compiled, one after the other until a program is accepted: what is done to its
-    # loops (source.py), and more options.
+    # text (source.py), and more options.
     WAYS = [
-        ("plain", []),
-        ("plain", ["-fno-builtin-memset", "-fno-builtin-memcpy"]),
-        ("kept", ["-fno-builtin-memset", "-fno-builtin-memcpy"]),
-        ("plain", ["-mllvm", "-disable-lsr"]),
-        ("kept", ["-fno-builtin-memset", "-fno-builtin-memcpy", "-mllvm", "-disable-lsr"]),
+        ("", []),
+        ("", LOOPS_STAY),
+        ("kept", LOOPS_STAY),
+        ("kept tested", LOOPS_STAY),
+        ("", [*LOOPS_STAY, *AS_WRITTEN]),
+        ("kept", [*LOOPS_STAY, *AS_WRITTEN]),
+        ("kept tested", [*LOOPS_STAY, *AS_WRITTEN]),
     ]
 
     def __init__(self, name):
@@ -71,21 +78,32 @@ class Clang:
     def lines(self, path, section):
         """For each slot the file, the line and the instruction."""
         done = run([self.objdump, "-d", "-l", "--no-show-raw-insn", "-j", section, path])
-        return read_lines(done.stdout, r"; (.*):(\d+)$", lambda it: int(it))
+        found, file, line = {}, "", 0
+        for it in done.stdout.split("\n"):
+            place = re.match(r"; (.*):(\d+)$", it)
+            instruction = re.match(r"\s*(\d+):\s+(.*)", it)
+            if place:
+                file, line = place[1], int(place[2])
+            elif instruction:
+                found[int(instruction[1])] = (file, line, " ".join(instruction[2].split()))
+        return found
 
 
 class Gcc:
-    """bpf-gcc and bpf-objdump of binutils."""
+    """gcc 12 or newer as it is built for BPF, with binutils of the same target."""
 
-    WAYS = [("plain", []), ("kept", []), ("plain", ["-O1"]), ("kept", ["-O1"])]
+    WAYS = [("", []), ("kept", []), ("tested", []), ("kept tested", []), ("kept tested", ["-O1"])]
 
     def __init__(self, name):
         self.name = name
-        self.objdump = re.sub(r"gcc(-[\d.]+)?$", "objdump", name)
-        self.target = [name, "-mcpu=v2", "-O2", *HEADERS]
+        self.objdump, self.readelf = (re.sub(r"gcc(-[\d.]+)?$", it, name) for it in ("objdump", "readelf"))
+        # Loops aren't written out: a turn would be counted at each copy by itself.
+        whole = ["-fno-unroll-loops", "-fno-unroll-all-loops", "-fno-peel-loops", "-fno-jump-tables"]
+        # Without -malu32 gcc 12 takes `and r, -1` for a cut to 32 bits, which cuts nothing off.
+        self.target = [name, "-mcpu=v2", "-malu32", "-O2", *whole, *HEADERS]
 
     def tools(self):
-        return [self.name, self.objdump]
+        return [self.name, self.objdump, self.readelf]
 
     def preprocess(self, source, definitions):
         return run([*self.target, *definitions, "-E", source])
@@ -94,8 +112,8 @@ class Gcc:
         return run([*self.target, *definitions, "-Wall", "-fsyntax-only", source])
 
     def compile(self, text, options, out):
-        words = [*self.target, "-g", "-w", "-ffunction-sections", "-fno-jump-tables", "-fno-toplevel-reorder"]
-        words += ["-fno-tree-loop-distribute-patterns", "-fno-ipa-cp", "-fno-ipa-sra", "-fpermissive"]
+        words = [*self.target, "-g", "-w", "-ffunction-sections"]
+        words += ["-fno-tree-loop-distribute-patterns", "-fno-ipa-cp", "-fno-ipa-sra"]
         return run([*words, *options, "-c", "-x", "cpp-output", "-", "-o", out], input=text)
 
     def turn(self, times, code, answer):
@@ -107,23 +125,26 @@ class Gcc:
         )
 
     def lines(self, path, section):
-        done = run([self.objdump, "-d", "-l", "--no-show-raw-insn", "-j", section, path])
-        return read_lines(done.stdout, r"(\S.*):(\d+)(?: \(discriminator \d+\))?$", lambda it: int(it, 16) // SLOT)
-
-
-def read_lines(listing, place, number):
-    found, file, line = {}, "", 0
-    for it in listing.split("\n"):
-        where = re.match(place, it)
-        instruction = re.match(r"\s*([0-9a-f]+):\s+(.*)", it)
-        if where:
-            file, line = where[1], int(where[2])
-        elif instruction:
-            found[number(instruction[1])] = (file, line, " ".join(instruction[2].split()))
-    return found
+        """As of clang. The places are those of all sections, which begin at 0; a checker's file has one, mostly."""
+        places = {}
+        for it in run([self.readelf, "-W", "--debug-dump=decodedline", path]).stdout.split("\n"):
+            row = re.match(r"(\S+)\s+(\d+)\s+(0x[0-9a-f]+|0)\b", it)
+            if row:
+                places[int(row[3], 16) // SLOT] = (row[1], int(row[2]))
+        found, place = {}, ("", 0)
+        for it in run([self.objdump, "-d", "--no-show-raw-insn", "-j", section, path]).stdout.split("\n"):
+            instruction = re.match(r"\s*([0-9a-f]+):\s+(.*)", it)
+            if instruction:
+                slot = int(instruction[1], 16) // SLOT
+                place = places.get(slot, place)
+                found[slot] = (*place, " ".join(instruction[2].split()))
+        return found
 
 
 def same_file(one, other):
+    """Whether both are names of one file; gcc's lines have names without their folders."""
+    if "/" not in one or "/" not in other:
+        return os.path.basename(one) == os.path.basename(other)
     return os.path.realpath(one) == os.path.realpath(other)
 
 

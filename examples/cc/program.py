@@ -77,7 +77,7 @@ class Object:
         return [it for it in self.symbols if it.kind == FUNCTION and it.section != UNDEFINED]
 
     def function(self, name):
-        """The function of that name, which has to be the first of its section."""
+        """The function of that name, which has a section for itself and what is LOCAL to it."""
         found = [it for it in self.functions() if it.name == name]
         if not found:
             others = " ".join(it.name for it in self.functions()) or "none"
@@ -87,11 +87,6 @@ class Object:
             )
         (it,) = found
         section = self.sections[it.section]
-        if it.value != 0:
-            raise NoProgram(
-                f"{name} isn't the first function of its section {section.name}, and a program starts at the first",
-                f"take the attribute section(..) away, or write {name} in front of all others",
-            )
         local = sum(s.size for s in self.functions() if s.section == it.section and s.binding == LOCAL)
         if section.size != local + it.size:
             raise NoProgram(
@@ -100,9 +95,28 @@ class Object:
             )
         return it
 
-    def code(self, function):
+    def moved(self, function):
+        """Where each slot of the function's section goes: the function comes first, whatever the compiler's order."""
+        found, at = {}, 0
+        others = [it for it in self.functions() if it.section == function.section and it is not function]
+        for it in [function, *sorted(others, key=lambda other: other.value)]:
+            for slot in range(it.value // SLOT, (it.value + it.size) // SLOT):
+                found[slot] = at
+                at += 1
+        return found
+
+    def code(self, function, moved):
+        """The instructions, with calls between functions as these have moved."""
         section = self.sections[function.section]
-        return self.bytes[section.offset : section.offset + section.size]
+        code = self.bytes[section.offset : section.offset + section.size]
+        out = bytearray(code)
+        for at, it in slots_of(code).items():
+            size = SLOT * (2 if it.opcode == LDDW else 1)
+            out[SLOT * moved[at] : SLOT * moved[at] + size] = code[SLOT * at : SLOT * at + size]
+            if it.opcode == CALL and it.source == 1:
+                distance = moved[at + 1 + it.immediate] - moved[at] - 1
+                struct.pack_into("<i", out, SLOT * moved[at] + 4, distance)
+        return bytes(out)
 
     def needs(self, function):
         """The places of the function's section that the linker would have to fill."""

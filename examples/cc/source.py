@@ -16,6 +16,15 @@ CLOSES = {"(": ")", "[": "]", "{": "}"}
 # Words in front of parentheses that are no parameters.
 NO_NAMES = {"__attribute__", "__attribute", "asm", "__asm__", "__asm", "_Alignas", "typeof", "__typeof__", "__typeof", "_Static_assert"}
 LOOPS = {"for", "while", "do"}
+# From here on a compiler knows of a number only what its type says, and has it in a whole register where it is unsigned.
+KEEP = (
+    "if (sizeof(NAME) < 8 && (__typeof__(NAME))-1 > 0) { "
+    "unsigned long long kept_ = (unsigned long long)(NAME); __asm__ volatile(\"\" : \"+r\"(kept_)); "
+    "if (kept_ > (__typeof__(NAME))-1) __builtin_unreachable(); NAME = (__typeof__(NAME))kept_; "
+    "} else __asm__ volatile(\"\" : \"+r\"(NAME));"
+)
+# The function of checker.h that tests what sector(n) answers.
+TESTED = "tested_sector_"
 
 
 class Unread(Exception):
@@ -236,9 +245,20 @@ class Source:
         names = self.variables(loop)
         if not names or first == end:
             return
-        keep = " ".join(f'__asm__ volatile("" : "+r"({it}));' for it in names)
+        keep = " ".join(KEEP.replace("NAME", it) for it in names)
         yield self.tokens[first].start, self.tokens[first].start, f"(({{ {keep} 1; }}) && ("
         yield self.tokens[end].start, self.tokens[end].start, "))"
+
+    def tested(self):
+        """Edits after which the null test of sector(n) stands right behind the call."""
+        if not any(it.name == TESTED for it in self.functions):
+            return
+        for function in self.functions:
+            if function.name == TESTED:
+                continue
+            for at in range(function.body, function.end):
+                if self.word(at) == "sector" and self.word(at + 1) == "(" and self.word(at - 1) not in (".", ">", "*"):
+                    yield self.tokens[at].start, self.tokens[at].end, TESTED
 
     def variables(self, loop):
         """The names in the condition that the loop changes."""

@@ -2,7 +2,7 @@
  * A checker as a native program that judges files, so that the very source runs under
  * a debugger, with sanitizers, and with printf:
  *
- *     cc -g -fsanitize=address -include examples/native/checker.h check.c -o check
+ *     cc -g -Og -I examples -include examples/native/checker.h check.c -o check
  *     crashbpf image writes.log 18 --sectors 8 > broken.img
  *     ./check --marks 3 broken.img                  prints: answer 1 codes 1
  *
