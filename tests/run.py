@@ -48,6 +48,8 @@ Where the rows stand
 
     notation.py         how rows, logs and programs are written down
     cure_model.py       the cure, written from docs/CRASH-MODEL.md and docs/REPORT.md alone; by itself it tries the laws of windows
+    designs.py          the designs of examples/: their logs entry by entry, their checkers, the runs whose texts are stored
+    stored.py           writes these texts by the models
     page_model.py       the page, written from docs/REPORT.md alone but for its style and script
     model.py            the crash model and the report, written from docs/CRASH-MODEL.md and docs/REPORT.md alone
     programs/           programs as assembly texts

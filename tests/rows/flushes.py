@@ -4,10 +4,10 @@ alone."""
 from dataclasses import replace
 
 from cure_model import MOST, cure, images_at, too_many_at
+from designs import DESIGNS, EXAMPLES, FORGOTTEN, checker_of, data, folder_of
 from model import Checker, Run
 from notation import DISCARD, FLUSH, FUA, D, Entry, F, Long, M, S, Something, W, explore, files, named, program, refused
 
-from rows.examples import DESIGNS, EXAMPLES, FORGOTTEN, checker_of, data, folder_of
 from rows.limits import LONG_RUN
 from rows.modelled import CHECKERS, PROGRAMS, any_fails, narrowed, noise, runs
 

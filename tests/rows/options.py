@@ -2,10 +2,10 @@
 an image fails, and `-` where none does; the last row has the number of images of all runs of a column, by the model."""
 import re
 
+from designs import DESIGNS, EXAMPLES, LOGS, data, folder_of
 from model import Run
 from notation import TOP, Something, explore
 
-from rows.examples import DESIGNS, EXAMPLES, LOGS, data, folder_of
 from rows.limits import LONG_RUN
 from rows.modelled import count
 

@@ -2,28 +2,29 @@
 examples/ in all commands that take them. Compared with the model (model.py, page_model.py)."""
 from dataclasses import replace
 
-from model import Run, causes, entry_line, explored, shown
+from designs import DESIGNS, EXAMPLES, checker_of, data, folder_of
+from model import Run, entry_line, explored, shown
 from notation import Long, Row, explore, files
 
 from rows.browser import modelled as paged
-from rows.examples import DESIGNS, EXAMPLES, checker_of, data, folder_of
 from rows.modelled import DISCARDED, EMPTY_ENTRIES, MARKED, narrowed
+from rows.why import causes
 
 # How many images a run may have of which the model is to make a page, and each how many of the runs are looked at.
 FEW, STEP = 300, 30
 
 
-def logged(entries, flush):
+def logged(name, entries, flush):
     """A log as a table, with flushes that are added."""
     run = Run(entries, flush=flush)
     words = ",".join(str(it) for it in flush)
     table = "".join(f"{entry_line(run, number)}\n" for number in range(len(entries)))
-    return Row(f"ranges: {len(entries)} entries, --flush {words}", f"log log --flush {words}", files(entries), table)
+    return Row(f"ranges: {name}, --flush {words}", f"log log --flush {words}", files(entries), table)
 
 
 LOGGED = [
-    logged(entries, flush)
-    for entries in [DISCARDED, EMPTY_ENTRIES, MARKED]
+    logged(name, entries, flush)
+    for name, entries in [("discarded", DISCARDED), ("empty entries", EMPTY_ENTRIES), ("marked", MARKED)]
     for flush in [(0,), (6,), (5, 2, 2), (0, 1, 2, 3, 4, 5, 6)]
 ]
 

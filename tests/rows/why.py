@@ -8,6 +8,8 @@ from notation import FLUSH, Long, explore
 from rows.examples import EXAMPLES, JOURNAL_RIGHT, JOURNAL_WRONG, data, pages, two_slots
 from rows.modelled import CHECKERS, PROGRAMS, any_fails, narrowed, runs
 
+from designs import EXPLAINED, JUDGES, NEW, folder_of
+
 # How many images a run may have whose groups the model is to find.
 FEW = 700
 
@@ -44,6 +46,7 @@ ROWS = [
     design("journal/wrong", Run(JOURNAL_WRONG, 8), *RECORDS, 1),
     design("pages/right", Run(pages(FLUSH), 24, by="write", **TWO_TORN), *PAGES, 0),
     design("pages/wrong", Run(pages(0), 24, by="write", **TWO_TORN), *PAGES, 1),
+    *(design(which, EXPLAINED[which], *JUDGES[folder_of(which)], 0 if which.endswith("right") else 1) for which in NEW),
     why(
         "why: journal, wrong, two lost or torn, by 4 workers",
         f"{Run(JOURNAL_WRONG, 8, **TWO_TORN).options()} --workers 4 --cache 100",

@@ -1,0 +1,38 @@
+#!/usr/bin/env python3
+"""Writes the texts that are stored of the designs of examples/: their reports, why they fail, their cures, and an image of each wrong
+version in words. All are the model's; the rows compare them with what the program prints.
+
+    python3 tests/stored.py
+
+It prints the names of the files whose text was another. Pages, and texts of other runs, it doesn't write.
+"""
+import sys
+
+sys.dont_write_bytecode = True
+
+from cure_model import cure
+from designs import DESIGNS, EXAMPLES, EXPLAINED, IN_WORDS, checker_of
+from model import causes, explored, shown
+
+
+def texts():
+    """The names of the files, and their texts."""
+    for which, run in DESIGNS.items():
+        checkers = [checker_of(which)]
+        yield f"{which}.report", explored(run, checkers)
+        yield f"{which}.cure", cure(run, checkers)
+        yield f"{which}.why", causes(EXPLAINED[which], checkers)
+        if which in IN_WORDS:
+            yield f"{which}.show", shown(run, list(run.images())[IN_WORDS[which]])
+
+
+def main():
+    for name, text in texts():
+        path = EXAMPLES / name
+        if not path.exists() or path.read_text() != text:
+            path.write_text(text)
+            print(name)
+
+
+if __name__ == "__main__":
+    main()
