@@ -312,21 +312,21 @@ pub fn act<G: Gate + Sync, R: Threads + Wait + Sync>(
 {
     match words.request() {
         Request::StoredRun => act_stored(rt, alloc, gate),
-        Request::Explore(options) => {
-            act_explore(rt, alloc, gate, Wanted::Told(Telling::Report), options, files)
+        Request::Explore(asked) => {
+            act_explore(rt, alloc, gate, Wanted::Told(Telling::Report), asked, files)
         }
-        Request::Why(options) => {
-            act_explore(rt, alloc, gate, Wanted::Told(Telling::Causes), options, files)
+        Request::Why(asked) => {
+            act_explore(rt, alloc, gate, Wanted::Told(Telling::Causes), asked, files)
         }
-        Request::Cure(options) => act_explore(rt, alloc, gate, Wanted::Cured, options, files),
-        Request::Page(options) => {
-            act_explore(rt, alloc, gate, Wanted::Told(Telling::Page), options, files)
+        Request::Cure(asked) => act_explore(rt, alloc, gate, Wanted::Cured, asked, files),
+        Request::Page(asked) => {
+            act_explore(rt, alloc, gate, Wanted::Told(Telling::Page), asked, files)
         }
-        Request::Images(options) => act_images(alloc, options, files),
-        Request::Log(options) => act_log(alloc, options, files),
-        Request::Image(options, which) => act_image(alloc, options, which, files),
-        Request::Show(options, which) => act_show(alloc, options, which, files),
-        Request::Verify(options) => act_verify(alloc, options, files),
+        Request::Images(asked) => act_images(alloc, asked, files),
+        Request::Log(asked) => act_log(alloc, asked, files),
+        Request::Image(asked, which) => act_image(alloc, asked, which, files),
+        Request::Show(asked, which) => act_show(alloc, asked, which, files),
+        Request::Verify(asked) => act_verify(alloc, asked, files),
         Request::Asm => act_asm(alloc, files),
         Request::List { numbered } => act_list(alloc, numbered, files),
     }
