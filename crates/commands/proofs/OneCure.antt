@@ -1,32 +1,27 @@
 -- The cure of a log, tried, has one text.
-use Rattle.std.proofs.Common.{ℕ, zero, suc, ◌≡◌, ◌≢◌, ◌+◌, ◌<◌, ◌≤◌, ◌⊎◌, inl, inr, Bool, true, false, List, [], ◌∷◌, ◌++◌, length, take, append_assoc, length-append, Option, None, Some, slice_get, refl, sym, ◌∙◌, ap, subst, arith}
-use Rattle.std.specs.List.{flat_map}
+use Rattle.std.proofs.Common.{ℕ, zero, suc, ◌≡◌, ◌≢◌, ◌+◌, ◌<◌, ◌≤◌, false, List, [], ◌∷◌, ◌++◌, length, take, append_assoc, length-append, Option, None, Some, slice_get, refl, sym, ◌∙◌, ap, subst, arith}
 use Rattle.std.proofs.lemmas.Bool.{false≢true}
-use Rattle.base.specs.declared.refusal.Refusal.{Refusal}
-use Rattle.base.specs.declared.refusal.Cause.{Cause}
-use Rattle.base.specs.Refusals.{memory_refusal}
 use Rattle.logfmt.specs.Bounds.{LogValue}
 use Rattle.logfmt.specs.Flushed.{flushed}
 use Rattle.logfmt.specs.declared.entry.Entry.{Entry}
-use Rattle.epochs.specs.Plan.{PlanValue}
 use Rattle.epochs.specs.declared.part.By.{By}
 use Rattle.epochs.specs.Cuts.{cuts_of}
 use Rattle.choices.specs.declared.choice.Departure.{Departure}
 use Rattle.choices.specs.Picks.{fates_of}
-use Rattle.choices.specs.Choices.{choices_at, choices_over, ranked_before, limit, IsFirstPast}
+use Rattle.choices.specs.Choices.{choices_at, choices_over, ranked_before, IsFirstPast}
 use Rattle.checker.specs.Checker.{CheckerValue}
 use Rattle.flushes.specs.declared.window.Window.{Window}
 use Rattle.flushes.specs.declared.counted.MissingFlush.{MissingFlush}
-use Rattle.flushes.specs.Windows.{is_end, IsWindow, HasNoWindow}
-use Rattle.flushes.specs.Places.{HoldsNone, Covers, IsNext, ArePlaces}
+use Rattle.flushes.specs.Windows.{IsWindow, HasNoWindow}
+use Rattle.flushes.specs.Places.{Covers, IsNext, ArePlaces}
 use Rattle.flushes.specs.Counted.{missing, AreMissing}
 use Rattle.lines.specs.Line.{FailingLine}
 use Rattle.report.specs.Report.{HeadValue}
 use Rattle.cure.specs.declared.failure.Failure.{Failure}
 use Rattle.cure.specs.Failures.{IsWindowIf, IsFailure, AreFailures, windows_in, places_in}
-use Rattle.cure.specs.Text.{begin_text, uncured_text, flush_line, rounds_text, refused_line}
+use Rattle.cure.specs.Text.{begin_text, uncured_text, rounds_text, refused_line}
 use Rattle.request.specs.declared.settings.Settings.{Settings}
-use Rattle.request.specs.Source.{plan_of, images_of, images_refusal, RefusesPlan, too_many, no_plan_memory}
+use Rattle.request.specs.Source.{plan_of}
 use Rattle.runs.specs.Explore.{head_of}
 use Rattle.runs.specs.Why.{with_first}
 use Rattle.runs.specs.Cured.{run_lines, FailAs, IsRound, AreRounds, with_rounds, Ends, with_totals, with_refusal, TellsRounds, TellsCure}
@@ -157,32 +152,23 @@ same_past s value c d a b =
     let both : Some c ≡ Some d = sym a.wanted ∙ ap (λ n. slice_get (cuts_of s.cuts value.entries) n) place ∙ b.wanted in
     cc
 
-past_by : (s : Settings) (value : LogValue) (cut : ℕ) (r : Refusal) → RefusesPlan s value r → r ≡ images_refusal cut → IsFirstPast (plan_of s value) s.bound s.tears cut
-past_by s value cut _ (too_many other past) same =
-    let at : other ≡ cut = ap (λ (r : Refusal). r.at) same in
-    subst (λ n. IsFirstPast (plan_of s value) s.bound s.tears n) at past
-past_by s value cut _ no_plan_memory same = absurd (let bad : Cause = memory_refusal.code in let codes : memory_refusal.code ≡ (images_refusal cut).code = ap (λ (r : Refusal). r.code) same in cc)
-
-refused_past : (s : Settings) (value : LogValue) (cut : ℕ) → RefusesPlan s value (images_refusal cut) → IsFirstPast (plan_of s value) s.bound s.tears cut
-refused_past s value cut why = past_by s value cut (images_refusal cut) why refl
-
--- a run has one failures
+-- a run has one list of failures
 same_fails : (s : Settings) (cs : List CheckerValue) (value : LogValue) (fs gs : List Failure) → FailAs s cs value fs → FailAs s cs value gs → fs ≡ gs
 same_fails s cs value fs gs a b = same_failures s.by value.entries (run_lines s cs value) fs gs a b
 
 -- the last run says one thing
 same_end : (s : Settings) (cs : List CheckerValue) (value : LogValue) (end other : List ℕ) → Ends s cs value end → Ends s cs value other → end ≡ other
 same_end s cs value _ _ (with_totals fs few fail none) (with_totals gs small fails nothing) = refl
-same_end s cs value _ _ (with_totals fs few fail none) (with_refusal cut why) = absurd (not_past s value cut few (refused_past s value cut why))
-same_end s cs value _ _ (with_refusal cut why) (with_totals fs few fail none) = absurd (not_past s value cut few (refused_past s value cut why))
-same_end s cs value _ _ (with_refusal cut why) (with_refusal other because) =
-    ap refused_line (same_past s value cut other (refused_past s value cut why) (refused_past s value other because))
+same_end s cs value _ _ (with_totals fs few fail none) (with_refusal cut past) = absurd (not_past s value cut few past)
+same_end s cs value _ _ (with_refusal cut past) (with_totals fs few fail none) = absurd (not_past s value cut few past)
+same_end s cs value _ _ (with_refusal cut past) (with_refusal other behind) =
+    ap refused_line (same_past s value cut other past behind)
 
 -- behind the last run there is no round
 no_round : (s : Settings) (cs : List CheckerValue) (value : LogValue) (ms : List MissingFlush) (end : List ℕ) → IsRound s cs value ms → Ends s cs value end → ⊥
 no_round s cs value ms _ round (with_totals fs few fail none) =
     round.some (ap windows_in (same_fails s cs value round.failures fs round.fail fail) ∙ none)
-no_round s cs value ms _ round (with_refusal cut why) = not_past s value cut round.few (refused_past s value cut why)
+no_round s cs value ms _ round (with_refusal cut past) = not_past s value cut round.few past
 
 same_round : (s : Settings) (cs : List CheckerValue) (value : LogValue) (ms ns : List MissingFlush) → IsRound s cs value ms → IsRound s cs value ns → ms ≡ ns
 same_round s cs value ms ns a b =

@@ -19,10 +19,10 @@ use Rattle.request.specs.Source.{IsLogOf, HasImages}
 use Rattle.runs.specs.Explore.{AreCheckersOf, head_of}
 use Rattle.checker.specs.Checker.{CheckerValue}
 use Rattle.runs.specs.Why.{IsTold}
-use Rattle.runs.specs.Cured.{AreRounds, Ends, with_totals, with_refusal, with_rounds, TellsRounds}
+use Rattle.logfmt.specs.Flushed.{flushed}
+use Rattle.cure.specs.Failures.{places_in}
+use Rattle.runs.specs.Cured.{AreRounds, Ends, with_totals, with_refusal}
 use Rattle.flushes.specs.declared.counted.MissingFlush.{MissingFlush}
-use Rattle.request.specs.Source.{images_refusal, RefusesPlan, too_many, no_plan_memory}
-use Rattle.base.specs.declared.refusal.Refusal.{Refusal}
 use Rattle.commands.specs.declared.action.Wanted.{Wanted}
 use Rattle.commands.specs.declared.action.Wanted.TheVariants as wanted
 use Rattle.looks.specs.Image.{IsImage}
@@ -128,18 +128,14 @@ told_alone telling.Page text files s bytes failing h =
       faultless = h.faultless;
     }
 
-plan_alone : {s : Settings} {v : LogValue} {r : Refusal} → RefusesPlan s v r → RefusesPlan (set_alone s) v r
-plan_alone (too_many cut past) = too_many cut (record { place = past.place; wanted = past.wanted; before = past.before; past = past.past })
-plan_alone no_plan_memory = no_plan_memory
-
 rounds_alone : (s : Settings) (cs : List CheckerValue) (v : LogValue) (rounds : List (List MissingFlush)) → AreRounds s cs v rounds → AreRounds (set_alone s) cs v rounds
 rounds_alone s cs v [] h = h
 rounds_alone s cs v (ms ∷ rounds) h =
-    (record { few = h.0.few; failures = h.0.failures; fail = h.0.fail; some = h.0.some; missing = h.0.missing }, rounds_alone s cs _ rounds h.1)
+    (record { few = h.0.few; failures = h.0.failures; fail = h.0.fail; some = h.0.some; missing = h.0.missing }, rounds_alone s cs (flushed (places_in ms) v) rounds h.1)
 
 ends_alone : {s : Settings} {cs : List CheckerValue} {v : LogValue} {end : List ℕ} → Ends s cs v end → Ends (set_alone s) cs v end
 ends_alone (with_totals failures few fail none) = with_totals failures few fail none
-ends_alone (with_refusal cut why) = with_refusal cut (plan_alone why)
+ends_alone (with_refusal cut past) = with_refusal cut (record { place = past.place; wanted = past.wanted; before = past.before; past = past.past })
 
 answered_alone : (t : Wanted) (text : List ℕ) (files : List (List ℕ)) (s : Settings) (bytes : List ℕ) (failing : Bool)
     → IsAnswered t text files s bytes failing → IsAnswered t text files (set_alone s) bytes failing
