@@ -42,7 +42,8 @@ pub(crate) fn worked<'x, G: Gate + Sync, R: Threads + Wait + Sync>(
     ensures refused { IfErr result (λ r. r ≡ memory_refusal) }
 {
     let (task, starts, history) = (basis.task, basis.starts, basis.history);
-    let (plan, checkers, options) = (task.plan, task.checkers, task.options);
+    let (plan, checkers, options, images) = (task.plan, task.checkers, task.options, task.images);
+    let (bound, tears) = (options.bound(), options.tears());
     let input = Input::new(
         &*plan,
         &*starts,
@@ -50,12 +51,12 @@ pub(crate) fn worked<'x, G: Gate + Sync, R: Threads + Wait + Sync>(
         &*checkers,
         options.by(),
         Asked {
-            bound: options.bound(),
-            tears: options.tears(),
+            bound,
+            tears,
             first,
             workers: options.workers(),
             cache: options.cache(),
-            images: task.images,
+            images,
         },
     );
     explore_all(rt, alloc, gate, &input)

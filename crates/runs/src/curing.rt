@@ -118,7 +118,8 @@ fn found_in<'x, G: Gate + Sync, R: Threads + Wait + Sync>(
         Ok(history) => history,
         Err(_error) => return Err(Refusal::of_memory()),
     };
-    let starts = match Starts::new(alloc, &*plan, options.bound(), options.tears()) {
+    let (bound, tears) = (options.bound(), options.tears());
+    let starts = match Starts::new(alloc, &*plan, bound, tears) {
         Ok(starts) => starts,
         Err(_error) => return Err(Refusal::of_memory()),
     };
