@@ -42,7 +42,7 @@ struct Run<'x> {
 impl<'x> Run<'x> {
     /// The question of it, of which that is to be told.
     fn question(self, telling: Telling) -> Question<'x>
-        ensures asked { result ≡ record { telling = telling; log = self.log; programs = self.programs; options = self.options } }
+        ensures { result ≡ record { telling = telling; log = self.entry.log; programs = self.entry.programs; options = self.entry.options } }
     {
         Question {
             telling,
