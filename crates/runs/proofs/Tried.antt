@@ -2,11 +2,10 @@
 use Rattle.std.proofs.Common.{ℕ, ◌≡◌, ◌≢◌, ◌↔◌, ◌<◌, ◌≤◌, ◌⊎◌, inl, inr, Bool, true, false, not, IsTrue, List, [], length, map, Option, None, Some, slice_get, refl, sym, ◌∙◌, ap, subst, arith}
 use Rattle.std.specs.List.Sorted.{IsNonDecreasing}
 use Rattle.std.specs.Option.{option_map}
+use Rattle.std.proofs.lemmas.List.{length-map}
 use Rattle.std.proofs.lemmas.Option.{slice_get-map, slice_get_within, same_Some}
 use Rattle.std.proofs.lemmas.Bool.{false≢true}
-use Rattle.base.specs.declared.causes.RequestCause.TheVariants as request
 use Rattle.base.specs.declared.refusal.Refusal.{Refusal}
-use Rattle.base.specs.declared.refusal.Cause.TheVariants.{Request}
 use Rattle.base.specs.Refusals.{memory_refusal}
 use Rattle.logfmt.specs.Bounds.{LogValue}
 use Rattle.epochs.specs.Plan.{PlanValue}
@@ -107,12 +106,3 @@ run_refused s value r no_plan_memory = inr refl
 pub past_of : (s : Settings) (value : LogValue) (r : Refusal) → RefusesPlan s value r → r ≡ images_refusal r.at → IsFirstPast (plan_of s value) s.bound s.tears r.at
 past_of s value r (too_many cut past) same = past
 past_of s value r no_plan_memory same = absurd (let bad : memory_refusal.code ≡ (images_refusal 0).code = ap (λ (x : Refusal). x.code) same in cc)
-
--- by its cause
-pub of_images : (r : Refusal) → (r ≡ images_refusal r.at) ⊎ (r ≡ memory_refusal) → r.code ≡ Request request.TooManyImages → r ≡ images_refusal r.at
-of_images r (inl is) code = is
-of_images r (inr is) code = absurd (let bad : memory_refusal.code ≡ Request request.TooManyImages = ap (λ (x : Refusal). x.code) (sym is) ∙ code in cc)
-
-pub of_memory : (r : Refusal) → (r ≡ images_refusal r.at) ⊎ (r ≡ memory_refusal) → r.code ≢ Request request.TooManyImages → r ≡ memory_refusal
-of_memory r (inl is) other = absurd (other (ap (λ (x : Refusal). x.code) is))
-of_memory r (inr is) other = is
