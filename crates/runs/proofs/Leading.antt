@@ -1,6 +1,7 @@
 -- What is told of the rounds of a cure, round after round.
-use Rattle.std.proofs.Common.{ℕ, zero, suc, ◌≡◌, ◌≢◌, ◌+◌, ◌<◌, ◌≤◌, Bool, true, false, not, if◌then◌else◌, List, [], ◌∷◌, ◌++◌, length, filter, append_assoc, refl, sym, ◌∙◌, ap, subst, arith}
+use Rattle.std.proofs.Common.{ℕ, zero, ◌≡◌, ◌≢◌, ◌==◌, ◌+◌, ◌<◌, ◌≤◌, Bool, true, false, not, if◌then◌else◌, List, [], ◌∷◌, ◌++◌, length, filter, append_assoc, refl, sym, ◌∙◌, ap, subst, arith}
 use Rattle.std.specs.List.{flat_map}
+use Rattle.std.proofs.lemmas.Bool.Decides.{eqb_tells}
 use Rattle.logfmt.specs.declared.entry.Entry.{Entry}
 use Rattle.logfmt.specs.Bounds.{LogValue, IsLog}
 use Rattle.logfmt.specs.Flushed.{flushed}
@@ -17,8 +18,7 @@ use Rattle.cure.specs.Text.{flush_line, refused_line, rounds_text}
 use Rattle.request.specs.declared.settings.Settings.{Settings}
 use Rattle.request.specs.Source.{plan_of, images_of}
 use Rattle.runs.specs.Explore.{head_of}
-use Rattle.runs.specs.Why.{with_first}
-use Rattle.runs.specs.Cured.{run_lines, IsRound, AreRounds, with_rounds, Ends, with_totals, with_refusal, TellsRounds}
+use Rattle.runs.specs.Cured.{IsRound, Ends, with_totals, with_refusal, TellsRounds}
 use Rattle.runs.specs.Trials.{IsFound, LeadsOn, TellsOn}
 
 -- before the first round
@@ -101,13 +101,13 @@ trying_first s checkers value old h ls fs ws is device found windows =
 -- the run of the log with the flushes that were missing
 pub trying_more : (s : Settings) (checkers : List CheckerValue) (first : LogValue) (old now new : List ℕ) (number : ℕ) (value next : LogValue) (h k : HeadValue) (ls ms : List FailingLine)
     (fs gs : List Failure) (ws vs asked : List Window) (flushes : List MissingFlush)
-    → Trying s checkers first old number value h ls fs ws now → ws ≢ [] → asked ≡ ws → AreMissing asked flushes → next ≡ flushed (places_in flushes) value
+    → Trying s checkers first old number value h ls fs ws now → asked ≢ [] → asked ≡ ws → AreMissing asked flushes → next ≡ flushed (places_in flushes) value
     → calm_entries next.entries < calm_entries value.entries → new ≡ now ++ flat_map (flush_line number) flushes → IsFound s checkers next k ms gs → vs ≡ windows_in gs
     → Trying s checkers first old (number + 1) next k ms gs vs new
 trying_more s checkers first old now new number value next h k ls ms fs gs ws vs asked flushes trying some same missing added fewer told found windows =
     let few = trying.few in
     let round : IsRound s checkers value flushes =
-    round_of s checkers value h ls fs flushes trying.found (λ none. some (trying.windows ∙ none)) (subst (λ (xs : List Window). AreMissing xs flushes) (same ∙ trying.windows) missing) in
+    round_of s checkers value h ls fs flushes trying.found (λ none. some (same ∙ trying.windows ∙ none)) (subst (λ (xs : List Window). AreMissing xs flushes) (same ∙ trying.windows) missing) in
     record {
       device = ap (λ (v : LogValue). v.sectors) added ∙ trying.device;
       found = found;
@@ -119,12 +119,12 @@ trying_more s checkers first old now new number value next h k ls ms fs gs ws vs
 -- the run of the log with them has too many images
 pub trying_past : (s : Settings) (checkers : List CheckerValue) (first : LogValue) (old now mid new : List ℕ) (number : ℕ) (value next : LogValue) (h : HeadValue) (ls : List FailingLine)
     (fs : List Failure) (ws asked : List Window) (flushes : List MissingFlush) (cut : ℕ)
-    → Trying s checkers first old number value h ls fs ws now → ws ≢ [] → asked ≡ ws → AreMissing asked flushes → next ≡ flushed (places_in flushes) value
+    → Trying s checkers first old number value h ls fs ws now → asked ≢ [] → asked ≡ ws → AreMissing asked flushes → next ≡ flushed (places_in flushes) value
     → mid ≡ now ++ flat_map (flush_line number) flushes → IsFirstPast (plan_of s next) s.bound s.tears cut → new ≡ mid ++ refused_line cut
     → TellsOn s checkers first old new
 trying_past s checkers first old now mid new number value next h ls fs ws asked flushes cut trying some same missing added told past ends =
     let round : IsRound s checkers value flushes =
-    round_of s checkers value h ls fs flushes trying.found (λ none. some (trying.windows ∙ none)) (subst (λ (xs : List Window). AreMissing xs flushes) (same ∙ trying.windows) missing) in
+    round_of s checkers value h ls fs flushes trying.found (λ none. some (same ∙ trying.windows ∙ none)) (subst (λ (xs : List Window). AreMissing xs flushes) (same ∙ trying.windows) missing) in
     tells_end s checkers first old mid new (refused_line cut) (number + 1) next
     (subst (λ (v : LogValue). LeadsOn s checkers first old (number + 1) v mid) (sym added) (leads_more s checkers first old now mid number value flushes trying.leads round told))
     (with_refusal cut past) ends
@@ -135,3 +135,11 @@ pub trying_end : (s : Settings) (checkers : List CheckerValue) (first : LogValue
 trying_end s checkers first old now new number value h ls fs ws trying none told =
     tells_end s checkers first old now new (totals_line h.images ls) number value trying.leads
     (ends_made s checkers value h ls fs trying.found (sym trying.windows ∙ none)) told
+
+-- a list that is empty, by its length
+pub none_left : {A : Type 0} (xs : List A) (n : ℕ) (empty : Bool) → empty ≡ (n == 0) → empty ≡ true → n ≡ length xs → xs ≡ []
+none_left [] n empty told test long = refl
+none_left (x ∷ xs) n empty told test long =
+    let zero : (n == 0) ≡ true = sym told ∙ test in
+    let e : n ≡ 0 = grind (arith, eqb_tells, zero) in
+    absurd (omega (arith, e, long))

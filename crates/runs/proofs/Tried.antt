@@ -1,12 +1,10 @@
 -- What a run of a log finds, by the marks of its failing lines.
-use Rattle.std.proofs.Common.{ℕ, ◌≡◌, ◌≢◌, ◌↔◌, ◌<◌, ◌≤◌, ◌⊎◌, inl, inr, Bool, true, false, not, IsTrue, List, [], length, map, Option, None, Some, slice_get, refl, sym, ◌∙◌, ap, subst, arith}
+use Rattle.std.proofs.Common.{ℕ, ◌≡◌, ◌<◌, ◌≤◌, ◌⊎◌, inl, inr, Bool, false, List, length, map, Option, None, Some, slice_get, refl, sym, ◌∙◌, ap, subst, arith}
 use Rattle.std.specs.List.Sorted.{IsNonDecreasing}
 use Rattle.std.specs.Option.{option_map}
+use Rattle.std.proofs.lemmas.List.{length-map}
 use Rattle.std.proofs.lemmas.Option.{slice_get-map, slice_get_within, same_Some}
-use Rattle.std.proofs.lemmas.Bool.{false≢true}
-use Rattle.base.specs.declared.causes.RequestCause.TheVariants as request
 use Rattle.base.specs.declared.refusal.Refusal.{Refusal}
-use Rattle.base.specs.declared.refusal.Cause.TheVariants.{Request}
 use Rattle.base.specs.Refusals.{memory_refusal}
 use Rattle.logfmt.specs.Bounds.{LogValue}
 use Rattle.epochs.specs.Plan.{PlanValue}
@@ -17,8 +15,7 @@ use Rattle.checker.specs.Checker.{CheckerValue}
 use Rattle.lines.specs.Line.{FailingLine}
 use Rattle.lines.specs.declared.marks.Mark.{Mark}
 use Rattle.lines.specs.Marks.{mark_of, marks_of}
-use Rattle.workers.specs.Failing.{Subject}
-use Rattle.workers.specs.Laws.{LinesAreSet, ListsFailing, IsFailing}
+use Rattle.workers.specs.Laws.{LinesAreSet, ListsFailing}
 use Rattle.report.specs.Report.{HeadValue}
 use Rattle.cure.specs.declared.failure.Failure.{Failure}
 use Rattle.cure.specs.Failures.{IsWindowIf, IsFailure, AreFailuresAt}
@@ -94,11 +91,6 @@ pub found_is : (s : Settings) (value : LogValue) (checkers : List CheckerValue) 
 found_is s value checkers h ls fs images head count few lines order failures =
     record { head = head; few = omega (arith, count, few); lines = lines; order = order; failures = failures }
 
--- it fails on some image
-pub fails_of : (ls ms : List FailingLine) (empty : Bool) → ls ≡ ms → IsTrue empty ↔ (ls ≡ []) → IsTrue (not empty) ↔ (ms ≢ [])
-fails_of ls ms true same h = (λ t. absurd (false≢true t), λ some. absurd (some (sym same ∙ h.0 refl)))
-fails_of ls ms false same h = (λ t none. false≢true (h.1 (same ∙ none)), λ some. refl)
-
 -- a run is refused for its images, or for want of memory
 pub run_refused : (s : Settings) (value : LogValue) (r : Refusal) → RefusesPlan s value r → (r ≡ images_refusal r.at) ⊎ (r ≡ memory_refusal)
 run_refused s value r (too_many cut past) = inl refl
@@ -107,12 +99,3 @@ run_refused s value r no_plan_memory = inr refl
 pub past_of : (s : Settings) (value : LogValue) (r : Refusal) → RefusesPlan s value r → r ≡ images_refusal r.at → IsFirstPast (plan_of s value) s.bound s.tears r.at
 past_of s value r (too_many cut past) same = past
 past_of s value r no_plan_memory same = absurd (let bad : memory_refusal.code ≡ (images_refusal 0).code = ap (λ (x : Refusal). x.code) same in cc)
-
--- by its cause
-pub of_images : (r : Refusal) → (r ≡ images_refusal r.at) ⊎ (r ≡ memory_refusal) → r.code ≡ Request request.TooManyImages → r ≡ images_refusal r.at
-of_images r (inl is) code = is
-of_images r (inr is) code = absurd (let bad : memory_refusal.code ≡ Request request.TooManyImages = ap (λ (x : Refusal). x.code) (sym is) ∙ code in cc)
-
-pub of_memory : (r : Refusal) → (r ≡ images_refusal r.at) ⊎ (r ≡ memory_refusal) → r.code ≢ Request request.TooManyImages → r ≡ memory_refusal
-of_memory r (inl is) other = absurd (other (ap (λ (x : Refusal). x.code) is))
-of_memory r (inr is) other = is

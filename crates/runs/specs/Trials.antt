@@ -1,5 +1,5 @@
 -- What is kept of the runs of a cure: what a run finds, and what the text so far comes to.
-use Rattle.std.specs.Prelude.{ℕ, ◌≡◌, ◌≤◌, Bool, true, false, List, ◌++◌, length, map}
+use Rattle.std.specs.Prelude.{ℕ, ◌≡◌, ◌≤◌, false, List, ◌++◌, length, map}
 use Rattle.std.specs.List.Sorted.{IsNonDecreasing}
 use Rattle.logfmt.specs.Bounds.{LogValue}
 use Rattle.choices.specs.Choices.{limit}

@@ -249,7 +249,8 @@ fn all_rounds<G: Gate + Sync, R: Threads + Wait + Sync>(
     let mut windows = windows_found(alloc, found.failures.as_slice())?;
     let mut round = 1;
     while !windows.is_empty() {
-        log = next_log(alloc, out, round, log, windows.as_slice())?.log;
+        let added = next_log(alloc, out, round, log, windows.as_slice())?;
+        log = added.log;
         found = match found_of(rt, alloc, gate, judges, &log) {
             Ok(found) => found,
             Err(refusal) => {
