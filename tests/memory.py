@@ -94,6 +94,7 @@ ROWS = {
     "why: two_slots/wrong": (426, "72 . 72 11 72 26.0 72 11 72 26.0 72 60.0 72 . 72 . 72 . 72 . 72 ."),
     "why: journal/wrong": (363, "72 . 72 11 72 26.0 72 11 72 26.0 72 60.0 72 . 72 ."),
     "why: journal, wrong, two lost or torn, by 4 workers": (None, MANY),
+    "cure: two_slots, wrong, 4 workers, with progress": (None, MANY),
     "page: journal/wrong": (443, "72 . 72 11 72 26.0 72 11 72 26.0 72 60.0 72 . 72 ."),
     "page: markup in a mark": (585, "72 . 72 11 72 26.0 26.1 72 11 72 26.0 72 26.1 60.0 72 60.1 72 . 72 . 72 . 72 ."),
     "asm report_codes, with labels": (162, "72 . 72 35 72 35 72 ."),

@@ -160,8 +160,8 @@ class Row:
             file `pipe` is a pipe of what `whole` holds)
     seconds how long the run may take
     notes   the notes on standard error, each without `note: ` and the newline; None where nothing is asked of them
-    images  how many images the line of `--progress` ends with, judged and in all; standard error begins with it, and
-            `error` is the rest. None where there is no such line
+    images  how many images the line of `--progress` ends with, judged and in all, or a list of them where there are
+            several runs; standard error begins with these lines, and `error` is the rest. None where there is no such line
     """
 
     name: str

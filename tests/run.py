@@ -39,6 +39,7 @@ Where the rows stand
     rows/small_logs.py  every image of small logs, what their cuts leave open, accepted programs with and without checks
     rows/shown.py       images in words, by number and by cut and choice, against the model
     rows/why.py         why checkers fail, of many logs and of the designs, against the model
+    rows/cure.py        where flushes are missing, of many logs and of the designs, against the model
     rows/browser.py     runs as a page for a browser, of many logs and of the designs, against the model
     rows/ranges.py      flushes that are added and ranges of cuts, in `log`, in `page`, and of the designs, against the model
     rows/flushes.py     where flushes are missing: the designs, marks, forced writes, discards, refusals, against cure_model.py
@@ -80,6 +81,7 @@ from rows import (
     browser,
     checkers,
     commands,
+    cure,
     encodings,
     examples,
     flushes,
@@ -122,6 +124,7 @@ TABLES = [
     small_logs,
     shown,
     why,
+    cure,
     browser,
     ranges,
     flushes,
@@ -224,14 +227,21 @@ def output_differs(what, found, wanted):
     return [] if found == wanted else [f"{what} {first_difference(found, wanted)}"]
 
 
-# What `--progress` says: a line that is written again, and its end.
-PROGRESS = re.compile(rb"(progress: \d+ of \d+ images\r)*(?P<last>progress: \d+ of \d+ images)\n")
+# What `--progress` says of a run: a line that is written again, and its end.
+PROGRESS = re.compile(rb"(progress: \d+ of \d+ images\r)*(?P<last>progress: \d+ of \d+ images\n)")
 
 
 def split_progress(error):
-    """The last of the lines of progress with which standard error begins, or nothing, and what follows them."""
-    begun = PROGRESS.match(error)
-    return (begun["last"], error[begun.end() :]) if begun else (b"", error)
+    """The last line of the progress of each run with which standard error begins, and what follows them."""
+    last = b""
+    while begun := PROGRESS.match(error):
+        last, error = last + begun["last"], error[begun.end() :]
+    return last, error
+
+
+def progress_of(images):
+    """The last line of the progress of each run, by how many images it has."""
+    return "".join(f"progress: {it} of {it} images\n" for it in ([images] if isinstance(images, int) else images) if it)
 
 
 def split_notes(error):
@@ -249,7 +259,7 @@ def differences(row, done, out):
     if row.error is not None:
         line = f"{row.error}\n" if row.error and isinstance(row.error, str) else row.error
         last, error = split_progress(done.stderr) if row.images is not None else (b"", done.stderr)
-        found += output_differs("the progress", last, f"progress: {row.images} of {row.images} images" if row.images else "")
+        found += output_differs("the progress", last, progress_of(row.images or 0))
         rest, notes = split_notes(error)
         found += output_differs("standard error", rest, line)
         found += [] if rest + notes == error else ["a note stands before the line of the refusal"]

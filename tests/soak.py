@@ -7,7 +7,7 @@ PROGRAM is as in run.py; N is 100,000 where it isn't given, S is 1. Each run tak
 examples/ or of a row of rows/, changes some of it (bits, bytes, fields of headers and slots, pieces cut out, put in twice
 or appended), and gives it to a command with options of which some are out of range. It is expected that
 
-    the status is 0, 1 or 2; 1 only of `explore`, `why` and `page`;
+    the status is 0, 1 or 2; 1 only of `explore`, `why`, `cure` and `page`;
     there is nothing on standard output where the status is 2, and one line at least on standard error there, and else
     nothing on standard error but notes;
     no run takes longer than LIMIT seconds, or more memory than its log, 128 MiB, and 4 KiB for each entry of its cache.
@@ -116,6 +116,7 @@ RUN = [*IMAGES, "checked", "workers", "cache"]
 TAKEN = {
     "explore": RUN,
     "why": RUN,
+    "cure": RUN,
     "page": RUN,
     "images": IMAGES,
     "image": IMAGES,
@@ -128,6 +129,7 @@ TAKEN = {
 FLAGS = {
     "explore": {"tears": 0.4, "first": 0.3, "progress": 0.1},
     "why": {"tears": 0.4, "progress": 0.1},
+    "cure": {"tears": 0.4, "progress": 0.1},
     "page": {"tears": 0.4, "progress": 0.1},
     "images": {"tears": 0.4},
     "image": {"tears": 0.4},
@@ -139,11 +141,11 @@ FLAGS = {
 }
 
 # The commands that run programs, and those that tell one image.
-RUNS = ["explore", "why", "page"]
+RUNS = ["explore", "why", "cure", "page"]
 TELL = ["image", "show"]
 
 # How often each command is called, in all COMMANDS.
-COMMANDS = [*["explore"] * 3, *["why"] * 2, *["page"] * 2, "images", "image", "show", "show", "log", *["verify"] * 2, "asm", "list"]
+COMMANDS = [*["explore"] * 3, *["why"] * 2, *["cure"] * 2, *["page"] * 2, "images", "image", "show", "show", "log", *["verify"] * 2, "asm", "list"]
 
 # Choices as `--choice` takes them, good ones and others.
 CHOICES = ["-", "0.0:drop", "0:drop", "1.0:head3", "1.0:tail7", "0.0:drop,1.0:drop", "2.1:head9", "x", "", "4294967296.0:drop"]

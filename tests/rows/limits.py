@@ -16,6 +16,7 @@ from notation import (
     explore,
     files,
     header,
+    lines,
     log,
     named,
     program,
@@ -316,6 +317,23 @@ def stretched_survey():
     return text + survey_line(len(STRETCHED), len(STRETCHES), 0, 0, 1) + f"total {MOST_IMAGES}\n"
 
 
+# The same with a mark behind the write of the last stretch that has one, and a program that wants the write to be there behind
+# the mark: it isn't where it was dropped, or only a tail of it arrived.
+MARK_PLACE = 2 * sum(1 for units in STRETCHES if units) - 1
+MARKED_STRETCHES = [*STRETCHED[: MARK_PLACE - 1], W(0, 1, 0xAA), M("there"), *STRETCHED[MARK_PLACE:]]
+NOT_THERE = program("""
+    ldxdw r0, [r1+16]
+    jeq r0, 0, +7
+    mov64 r1, 0
+    call 1
+    jeq r0, 0, +4
+    ldxb r1, [r0+0]
+    mov64 r0, 1
+    jeq r1, 0, +1
+    mov64 r0, 0
+    exit
+    """)
+
 MOST = [
     Row("limit: 16,777,216 images", f"images log {COUNT_OPTIONS}", files(STRETCHED), stretched_survey()),
     Row("limit: the last of 16,777,216 images", f"image log 16777215 {COUNT_OPTIONS}", files(STRETCHED), bytes(SECTOR * 386)),
@@ -340,6 +358,21 @@ MOST = [
         LONG_RUN,
     ),
     *refused_everywhere("16,777,217 images", [*STRETCHED, F], COUNT_OPTIONS, "refused 12 at 61"),
+    Row(
+        "limit: 16,777,216 images, and one more with the flush of a cure",
+        f"cure log p0 {COUNT_OPTIONS}",
+        files(MARKED_STRETCHES, NOT_THERE),
+        "crash cure 1\n"
+        + lines(f"""
+        sectors 386 entries 61 cuts flush bound 2 tears yes first no
+        program 0 slots 10 budget 10
+        program 0 failing 8 uncured 0
+        round 1 flush before {MARK_PLACE} from {MARK_PLACE} failing 8
+        refused 12 at 61
+        """),
+        1,
+        seconds=LONG_RUN,
+    ),
 ]
 
 

@@ -187,6 +187,15 @@ IMAGES = [
         f"with --bound 2 there are {1 + 1 + 64 * 15 + 64 * 63 // 2 * 225}",
     ),
     noted(
+        "too many images to cure",
+        "cure log p0 --sectors 64 --bound 3 --tears",
+        files([W(0, 64, 0xAA)], GOOD),
+        "refused 12 at 1",
+        TOO_MANY,
+        TAKE_FEWER,
+        f"with --bound 2 there are {1 + 1 + 64 * 15 + 64 * 63 // 2 * 225}",
+    ),
+    noted(
         "too many images by write",
         "images log --sectors 64 --bound 3 --tears --cuts flush --by write",
         files([W(number, 2, 0xAA) for number in range(62)]),
@@ -546,6 +555,21 @@ ANSWERS = [
         files([W(0, 3, 1), D(0, 4), W(0, 2, 1), W(0, 3, 1, FUA), F]),
         lines(TWO_LARGE),
         f"entries with more than 2 sectors: 2; {NOT_AMONG}",
+        BY_WRITE,
+    ),
+    answered(
+        "writes of more sectors than the bound in a cure, and functions that aren't reached",
+        "cure log p0 --sectors 4",
+        files([W(0, 1, 1), W(0, 2, 1), F], UNREACHED_ONE),
+        lines("""
+        crash cure 1
+        sectors 4 entries 3 cuts all bound 1 tears no first no
+        program 0 slots 5 budget 2
+        program 0 failing 0 uncured 0
+        images 8 failing 0 lines 0
+        """),
+        f"program 0: instructions that no run reaches: 2, the first at slot 2; {UNREACHED}",
+        f"entries with more than 1 sectors: 1; {NOT_AMONG}",
         BY_WRITE,
     ),
     answered(

@@ -49,6 +49,7 @@ NO_TEXT = ["FILE can't be read", "an assembly text has at most 16777216 bytes (d
 WITHOUT_END = [
     *endless("explore FILE good --sectors 4", "refused 10 at 0"),
     *endless("why FILE good --sectors 4", "refused 10 at 0"),
+    *endless("cure FILE good --sectors 4", "refused 10 at 0"),
     *endless("page FILE good --sectors 4", "refused 10 at 0"),
     *endless("images FILE --sectors 4", "refused 10 at 0"),
     *endless("log FILE", "refused 10 at 0"),

@@ -29,6 +29,7 @@ abbrev pub command_named : List ℕ → Option Verb
 command_named name =
     if bytes_eq name (codes "explore") then Some verb.Explore
     else if bytes_eq name (codes "why") then Some verb.Why
+    else if bytes_eq name (codes "cure") then Some verb.Cure
     else if bytes_eq name (codes "page") then Some verb.Page
     else if bytes_eq name (codes "images") then Some verb.Images
     else if bytes_eq name (codes "image") then Some verb.Image
@@ -97,6 +98,7 @@ IsWhich p (which.Printed cut choice) = (p.cut ≡ Some cut) × MatchOption choic
 abbrev pub Asks : Parsed → Option Verb → Request → Type 0
 Asks p (Some verb.Explore) r = (options : OptionWords) × AreOptions p options × (r ≡ asks.Explore options)
 Asks p (Some verb.Why) r = (options : OptionWords) × AreOptions p options × (r ≡ asks.Why options)
+Asks p (Some verb.Cure) r = (options : OptionWords) × AreOptions p options × (r ≡ asks.Cure options)
 Asks p (Some verb.Page) r = (options : OptionWords) × AreOptions p options × (r ≡ asks.Page options)
 Asks p (Some verb.Images) r = (options : OptionWords) × AreOptions p options × (r ≡ asks.Images options)
 Asks p (Some verb.Image) r = (options : OptionWords) × (meant : Which) × AreOptions p options × IsWhich p meant × (r ≡ asks.Image options meant)

@@ -62,6 +62,7 @@ pub struct Parsed<'a> {
 pub(crate) enum Verb {
     Explore,
     Why,
+    Cure,
     Page,
     Images,
     Image,
@@ -79,6 +80,7 @@ fn verb_of(name: &str) -> Option<Verb>
     match name {
         "explore" => Some(Verb::Explore),
         "why" => Some(Verb::Why),
+        "cure" => Some(Verb::Cure),
         "page" => Some(Verb::Page),
         "images" => Some(Verb::Images),
         "image" => Some(Verb::Image),
@@ -235,6 +237,7 @@ impl<'a> Parsed<'a> {
         match verb_of(self.command) {
             Some(Verb::Explore) => Request::Explore(self.options()),
             Some(Verb::Why) => Request::Why(self.options()),
+            Some(Verb::Cure) => Request::Cure(self.options()),
             Some(Verb::Page) => Request::Page(self.options()),
             Some(Verb::Images) => Request::Images(self.options()),
             Some(Verb::Image) => Request::Image(self.options(), self.which()),

@@ -63,6 +63,17 @@ Example: crashbpf why disk.log check.bpf --sectors 64 --cuts flush --bound 2 --t
 
 Exit status: 0 where no image fails, 1 where one does, 2 for a refusal.";
 
+/// What stands behind the help of `cure`.
+const AFTER_CURE: &str =
+    "Goes as if a flush stood at each place that is picked for the failing images, runs again, and so on, until
+no flush takes a failing image away. Each line 'round N flush before E from A failing G' is a place: right
+before entry E, or before an entry from A on. A failure that no flush takes away wants another order of
+the writes.
+
+Example: crashbpf cure disk.log check.bpf --sectors 64 --cuts flush --bound 2 --tears
+
+Exit status: 0 where no image of the log itself fails, 1 where one does, 2 for a refusal.";
+
 /// What stands behind the help of `page`.
 const AFTER_PAGE: &str =
     "One HTML file, for any browser, which fetches nothing: the log as a row of entries, the cuts between them
@@ -244,6 +255,14 @@ fn why_command<'a>(alloc: Global) -> Result<Command<'a>, AllocError> {
     with_run_options(alloc, command)?.arg(program_files(alloc))
 }
 
+/// The command `cure`.
+fn cure_command<'a>(alloc: Global) -> Result<Command<'a>, AllocError> {
+    let command = log_command(alloc, "cure")?
+        .about("Tells before which entries a flush is missing, and what fails with these flushes")
+        .after_help(AFTER_CURE);
+    with_run_options(alloc, command)?.arg(program_files(alloc))
+}
+
 /// The command `page`.
 fn page_command<'a>(alloc: Global) -> Result<Command<'a>, AllocError> {
     let command = log_command(alloc, "page")?
@@ -385,6 +404,7 @@ fn commands<'a>(alloc: Global) -> Result<Command<'a>, AllocError> {
         .subcommand_required(true)
         .subcommand(explore_command(alloc)?)?
         .subcommand(why_command(alloc)?)?
+        .subcommand(cure_command(alloc)?)?
         .subcommand(page_command(alloc)?)?
         .subcommand(images_command(alloc)?)?
         .subcommand(image_command(alloc)?)?

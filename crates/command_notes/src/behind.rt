@@ -164,17 +164,16 @@ fn names_instruction(cause: VerifierCause) -> bool {
 /// The options that a command takes, where it takes some of a log.
 fn log_options(request: Request) -> Option<OptionWords> {
     match request {
-        Request::Explore(words) | Request::Why(words) | Request::Page(words) => Some(words),
-        Request::Images(words) => Some(words),
-        Request::Image(words, _) | Request::Show(words, _) => Some(words),
-        _ => None,
+        Request::Images(words) | Request::Image(words, _) | Request::Show(words, _) => Some(words),
+        _ => run_options(request),
     }
 }
 
 /// The options that a command takes, where it runs programs on crash images.
 fn run_options(request: Request) -> Option<OptionWords> {
     match request {
-        Request::Explore(words) | Request::Why(words) | Request::Page(words) => Some(words),
+        Request::Explore(words) | Request::Why(words) => Some(words),
+        Request::Cure(words) | Request::Page(words) => Some(words),
         _ => None,
     }
 }

@@ -96,8 +96,9 @@ fn put_survey_notes(
     }
 }
 
-/// The notes beside the answer of a command that succeeded: what no run of a program reaches (`verify`, `explore`), and how many
-/// writes never depart as a whole (`images`, `explore`, `why` and `page` by sector). Each line begins with `note: `; mostly there is none.
+/// The notes beside the answer of a command that succeeded: what no run of a program reaches (`verify` and the commands of a
+/// run), and how many writes never depart as a whole (`images` and those commands, by sector). Each line begins with `note: `;
+/// mostly there is none.
 pub fn notes_beside(
     alloc: Global,
     words: &Words,
@@ -108,7 +109,13 @@ pub fn notes_beside(
         (Request::Verify(options), Some(bytes)) => {
             put_verified_notes(alloc, &mut out, options, bytes)?
         }
-        (Request::Explore(options) | Request::Why(options) | Request::Page(options), Some(log)) => {
+        (
+            Request::Explore(options)
+            | Request::Why(options)
+            | Request::Cure(options)
+            | Request::Page(options),
+            Some(log),
+        ) => {
             put_explored_notes(alloc, &mut out, options, files)?;
             put_survey_notes(alloc, &mut out, options, log)?
         }

@@ -9,6 +9,7 @@ pub mod OneCause
 pub mod OnePairs
 pub mod OneText
 pub mod OnePage
+pub mod OneCure
 pub mod OneAnswer
 pub mod OneWork
 pub mod OneRefusal

@@ -24,6 +24,7 @@ use Rattle.request.specs.OptionWords.{AskFor}
 use Rattle.request.specs.Source.{plan_of}
 use Rattle.runs.specs.Explore.{subject_of}
 use Rattle.runs.specs.Why.{TellsOfLines, PageOfLines, IsExplained, IsPaged, IsTold}
+use Rattle.runs.specs.Cured.{TellsCure, IsCured}
 use Rattle.looks.specs.Which.{IsMeant, IsOnly}
 use Rattle.looks.specs.Image.{joined, IsImage}
 use Rattle.looks.specs.Show.{whole_view, IsShown}
@@ -31,10 +32,13 @@ use Rattle.looks.specs.Survey.{survey_text, IsSurvey}
 use Rattle.looks.specs.Table.{IsTable}
 use Rattle.looks.specs.Verifying.{accepted_text, IsAcceptedText}
 use Rattle.looks.specs.Assembly.{listing_text, IsAssembled, IsListed}
-use Rattle.commands.specs.Acting.{Files, status_of, AnswersRun, AnswersFiles, AnswersExplore, AnswersFile, AnswersWith, Answers}
+use Rattle.commands.specs.declared.action.Wanted.{Wanted}
+use Rattle.commands.specs.declared.action.Wanted.TheVariants as wanted
+use Rattle.commands.specs.Acting.{Files, status_of, IsAnswered, AnswersRun, AnswersFiles, AnswersExplore, AnswersFile, AnswersWith, Answers}
 use Rattle.commands.proofs.OneReport.{same_log, same_asked, same_checkers, same_test, one_report}
 use Rattle.commands.proofs.OneText.{one_explanation}
 use Rattle.commands.proofs.OnePage.{one_page}
+use Rattle.commands.proofs.OneCure.{one_cure}
 
 -- what the laws of the lower layers say
 pub record Laws : Type 0 where
@@ -73,10 +77,25 @@ told_once laws telling.Report text files s bytes others failing fails h k = one_
 told_once laws telling.Causes text files s bytes others failing fails h k = explained_once laws text files s bytes others failing fails h k
 told_once laws telling.Page text files s bytes others failing fails h k = paged_once laws text files s bytes others failing fails h k
 
-run_once : Laws → (t : Telling) (s : Settings) (log : List ℕ) (programs : List (List ℕ)) (bytes others : List ℕ) (status ended : ℕ)
+cured_once : Laws → (text : List ℕ) (files : List (List ℕ)) (s : Settings) (bytes others : List ℕ) (failing fails : Bool)
+    → IsCured text files s bytes failing → IsCured text files s others fails → (bytes ≡ others) × (failing ≡ fails)
+cured_once laws text files s bytes others failing fails h k =
+    let value = same_log laws.texts text s h.value k.value h.source k.source in
+    let checkers = same_checkers laws.programs laws.verdicts s files h.checkers k.checkers h.made k.made in
+    let lines : failing_lines (subject_of s h.value h.checkers) ≡ failing_lines (subject_of s k.value k.checkers) = λ i. failing_lines (subject_of s (value i) (checkers i)) in
+    let by_value = subst (λ (v : LogValue). TellsCure s v k.checkers others) (sym value) k.cure in
+    let cure = subst (λ (cs : List CheckerValue). TellsCure s h.value cs others) (sym checkers) by_value in
+    (one_cure s h.value h.checkers bytes others h.cure cure, same_test failing fails _ _ h.fails k.fails lines)
+
+answered_once : Laws → (t : Wanted) (text : List ℕ) (files : List (List ℕ)) (s : Settings) (bytes others : List ℕ) (failing fails : Bool)
+    → IsAnswered t text files s bytes failing → IsAnswered t text files s others fails → (bytes ≡ others) × (failing ≡ fails)
+answered_once laws (wanted.Told t) text files s bytes others failing fails h k = told_once laws t text files s bytes others failing fails h k
+answered_once laws wanted.Cured text files s bytes others failing fails h k = cured_once laws text files s bytes others failing fails h k
+
+run_once : Laws → (t : Wanted) (s : Settings) (log : List ℕ) (programs : List (List ℕ)) (bytes others : List ℕ) (status ended : ℕ)
     → AnswersRun t s log programs bytes status → AnswersRun t s log programs others ended → Same bytes others status ended
 run_once laws t s log programs bytes others status ended a b =
-    let same = told_once laws t log programs s bytes others a.failing b.failing a.told b.told in
+    let same = answered_once laws t log programs s bytes others a.failing b.failing a.told b.told in
     (same.0, a.ends ∙ ap status_of same.1 ∙ sym b.ends)
 
 -- what files that can be read hold
@@ -92,7 +111,7 @@ contents_are (x ∷ xs) = ap (λ (ys : List (List ℕ)). x ∷ ys) (contents_are
 pub same_files : (files : Files) (xs ys : List (List ℕ)) → files ≡ map Some xs → files ≡ map Some ys → xs ≡ ys
 same_files files xs ys a b = sym (contents_are xs) ∙ ap contents (sym a ∙ b) ∙ contents_are ys
 
-files_once : Laws → (t : Telling) (s : Settings) (files : Files) (bytes others : List ℕ) (status ended : ℕ)
+files_once : Laws → (t : Wanted) (s : Settings) (files : Files) (bytes others : List ℕ) (status ended : ℕ)
     → AnswersFiles t s files bytes status → AnswersFiles t s files others ended → Same bytes others status ended
 files_once laws t s files bytes others status ended a b =
     let all : b.log ∷ b.programs ≡ a.log ∷ a.programs = same_files files (b.log ∷ b.programs) (a.log ∷ a.programs) b.read a.read in
@@ -104,7 +123,7 @@ files_once laws t s files bytes others status ended a b =
 pub same_settings : (w : OptionWords) (s t : Settings) → AskFor w s → AskFor w t → s ≡ t
 same_settings w s t a b = let both : Some s ≡ Some t = sym a.asked ∙ b.asked in cc
 
-explore_once : Laws → (t : Telling) (w : OptionWords) (files : Files) (bytes others : List ℕ) (status ended : ℕ)
+explore_once : Laws → (t : Wanted) (w : OptionWords) (files : Files) (bytes others : List ℕ) (status ended : ℕ)
     → AnswersExplore t w files bytes status → AnswersExplore t w files others ended → Same bytes others status ended
 explore_once laws t w files bytes others status ended a b =
     let same = same_settings w b.settings a.settings b.asked a.asked in
@@ -176,10 +195,11 @@ one_listed laws numbered code bytes others a b = a.listed ∙ ap (listing_text n
 
 pub one_answer : Laws → (r : Request) (files : Files) (bytes others : List ℕ) (status ended : ℕ)
     → Answers r files bytes status → Answers r files others ended → (bytes ≡ others) × (status ≡ ended)
-one_answer laws request.StoredRun files bytes others status ended a b = run_once laws telling.Report _ _ _ bytes others status ended a b
-one_answer laws (request.Explore w) files bytes others status ended a b = explore_once laws telling.Report w files bytes others status ended a b
-one_answer laws (request.Why w) files bytes others status ended a b = explore_once laws telling.Causes w files bytes others status ended a b
-one_answer laws (request.Page w) files bytes others status ended a b = explore_once laws telling.Page w files bytes others status ended a b
+one_answer laws request.StoredRun files bytes others status ended a b = run_once laws (wanted.Told telling.Report) _ _ _ bytes others status ended a b
+one_answer laws (request.Explore w) files bytes others status ended a b = explore_once laws (wanted.Told telling.Report) w files bytes others status ended a b
+one_answer laws (request.Why w) files bytes others status ended a b = explore_once laws (wanted.Told telling.Causes) w files bytes others status ended a b
+one_answer laws (request.Cure w) files bytes others status ended a b = explore_once laws wanted.Cured w files bytes others status ended a b
+one_answer laws (request.Page w) files bytes others status ended a b = explore_once laws (wanted.Told telling.Page) w files bytes others status ended a b
 one_answer laws (request.Images w) files bytes others status ended a b = with_once w (λ s text. IsSurvey text s) (one_survey laws) files bytes others status ended a b
 one_answer laws (request.Log w) files bytes others status ended a b = with_once w (λ s text. IsTable text s) (one_table laws) files bytes others status ended a b
 one_answer laws (request.Image w which) files bytes others status ended a b = with_once w (λ s text. IsImage text s which) (one_image laws which) files bytes others status ended a b

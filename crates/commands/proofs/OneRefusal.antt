@@ -25,6 +25,8 @@ use Rattle.request.specs.OptionWords.{AskFor, settings_with, words_refusal}
 use Rattle.request.specs.Source.{plan_of, HasImages}
 use Rattle.runs.specs.Explore.{report_of, Refuses}
 use Rattle.runs.specs.Why.{IsTold}
+use Rattle.commands.specs.declared.action.Wanted.{Wanted}
+use Rattle.commands.specs.declared.action.Wanted.TheVariants as wanted
 use Rattle.looks.specs.Which.{IsMeant}
 use Rattle.looks.specs.Image as image
 use Rattle.looks.specs.Image.{IsImage, RefusesImage}
@@ -36,7 +38,7 @@ use Rattle.looks.specs.Table.{IsTable, RefusesTable}
 use Rattle.looks.specs.Verifying.{IsAcceptedText, RefusesVerified, with_code_fault, no_code_memory, with_verifier_fault, no_verifier_memory, no_text_memory}
 use Rattle.looks.specs.Assembly as assembly
 use Rattle.looks.specs.Assembly.{IsAssembled, IsListed, RefusesText, RefusesBytes}
-use Rattle.commands.specs.Acting.{Files, first_held, unread, AnswersRun, AnswersFiles, AnswersExplore, AnswersFile, AnswersWith, Answers, RefusesWith, for_words, for_settings, RefusesFile, for_file, for_held, RefusesFiles, for_unread, for_run, for_memory, RefusesToAct}
+use Rattle.commands.specs.Acting.{Files, first_held, unread, IsAnswered, AnswersRun, AnswersFiles, AnswersExplore, AnswersFile, AnswersWith, Answers, RefusesWith, for_words, for_settings, RefusesFile, for_file, for_held, RefusesFiles, for_unread, for_run, for_memory, RefusesToAct}
 use Rattle.commands.specs.Laws.{IsOfMemory}
 use Rattle.commands.proofs.OneReport.{Below, same_log, of_log, of_source, report_or_refusal}
 use Rattle.commands.proofs.OneAnswer.{same_files, same_settings}
@@ -93,6 +95,14 @@ of_told below telling.Page text files s bytes failing r h why =
     report_or_refusal below text files s (report_of s h.value h.checkers) failing r
     (record { count = h.count; value = h.value; source = h.source; checkers = h.checkers; made = h.made; report = refl; fails = h.fails; faultless = h.faultless }) why
 
+-- a run that is answered has a report
+of_answered : Below → (t : Wanted) (text : List ℕ) (files : List (List ℕ)) (s : Settings) (bytes : List ℕ) (failing : Bool) (r : Refusal)
+    → IsAnswered t text files s bytes failing → Refuses text files s r → IsOfMemory r.code
+of_answered below (wanted.Told t) text files s bytes failing r h why = of_told below t text files s bytes failing r h why
+of_answered below wanted.Cured text files s bytes failing r h why =
+    report_or_refusal below text files s (report_of s h.value h.checkers) failing r
+    (record { count = h.count; value = h.value; source = h.source; checkers = h.checkers; made = h.made; report = refl; fails = h.fails; faultless = h.faultless }) why
+
 -- each of the files can be read
 read_all : (xs : List (List ℕ)) → length xs ≤ position_or_len is_none (map Some xs)
 read_all [] = omega arith
@@ -114,7 +124,7 @@ none_unread x xs place h =
     (nat_lt (position_or_len is_none (map Some (x ∷ xs))) (length (map Some (x ∷ xs)))) refl
     (subst (λ (n : ℕ). n ≤ position_or_len is_none (map Some (x ∷ xs))) (sym long) all) h
 
-of_files : Below → (t : Telling) (files : Files) (s : Settings) (bytes : List ℕ) (status : ℕ) (r : Refusal) → AnswersFiles t s files bytes status → RefusesFiles files s r
+of_files : Below → (t : Wanted) (files : Files) (s : Settings) (bytes : List ℕ) (status : ℕ) (r : Refusal) → AnswersFiles t s files bytes status → RefusesFiles files s r
     → IsOfMemory r.code
 of_files below t files s bytes status _ h (for_unread place unreadable) =
     absurd (none_unread h.log h.programs place (subst (λ (fs : Files). unread fs ≡ Some place) h.read unreadable))
@@ -123,18 +133,18 @@ of_files below t files s bytes status _ h (for_run log programs r read why) =
     let same : log ≡ h.log = cc in
     let others : programs ≡ h.programs = cc in
     let by_log = subst (λ (text : List ℕ). Refuses text programs s r) same why in
-    of_told below t h.log h.programs s bytes h.answers.failing r h.answers.told (subst (λ (ps : List (List ℕ)). Refuses h.log ps s r) others by_log)
+    of_answered below t h.log h.programs s bytes h.answers.failing r h.answers.told (subst (λ (ps : List (List ℕ)). Refuses h.log ps s r) others by_log)
 of_files below t files s bytes status _ h (for_memory readable) = refl
 
-of_explore : Below → (t : Telling) (w : OptionWords) (files : Files) (bytes : List ℕ) (status : ℕ) (r : Refusal) → AnswersExplore t w files bytes status
+of_explore : Below → (t : Wanted) (w : OptionWords) (files : Files) (bytes : List ℕ) (status : ℕ) (r : Refusal) → AnswersExplore t w files bytes status
     → RefusesWith w (RefusesFiles files) r → IsOfMemory r.code
 of_explore below t w files bytes status r h why =
     of_words w h.settings (RefusesFiles files) r h.asked (λ q. of_files below t files h.settings bytes status q h.answers) why
 
-of_stored : Below → (t : Telling) (text : List ℕ) (files : List (List ℕ)) (s : Settings) (bytes : List ℕ) (status : ℕ) (r : Refusal) → AnswersRun t s text files bytes status
+of_stored : Below → (t : Wanted) (text : List ℕ) (files : List (List ℕ)) (s : Settings) (bytes : List ℕ) (status : ℕ) (r : Refusal) → AnswersRun t s text files bytes status
     → (r ≡ memory_refusal) ⊎ Refuses text files s r → IsOfMemory r.code
 of_stored below t text files s bytes status r h (inl same) = subst (λ (q : Refusal). IsOfMemory q.code) (sym same) refl
-of_stored below t text files s bytes status r h (inr why) = of_told below t text files s bytes h.failing r h.told why
+of_stored below t text files s bytes status r h (inr why) = of_answered below t text files s bytes h.failing r h.told why
 
 of_survey : Below → (s : Settings) (text bytes : List ℕ) (r : Refusal) → IsSurvey text s bytes → RefusesSurvey text s r → IsOfMemory r.code
 of_survey below s text bytes _ h (survey.for_source r why) = of_source below text s h.value r h.source why
@@ -175,10 +185,11 @@ of_listed below numbered code bytes _ h assembly.no_listing_memory = refl
 
 pub answer_or_refusal : Below → (r : Request) (files : Files) (bytes : List ℕ) (status : ℕ) (refusal : Refusal) → Answers r files bytes status → RefusesToAct r files refusal
     → IsOfMemory refusal.code
-answer_or_refusal below request.StoredRun files bytes status refusal h why = of_stored below telling.Report _ _ _ bytes status refusal h why
-answer_or_refusal below (request.Explore w) files bytes status refusal h why = of_explore below telling.Report w files bytes status refusal h why
-answer_or_refusal below (request.Why w) files bytes status refusal h why = of_explore below telling.Causes w files bytes status refusal h why
-answer_or_refusal below (request.Page w) files bytes status refusal h why = of_explore below telling.Page w files bytes status refusal h why
+answer_or_refusal below request.StoredRun files bytes status refusal h why = of_stored below (wanted.Told telling.Report) _ _ _ bytes status refusal h why
+answer_or_refusal below (request.Explore w) files bytes status refusal h why = of_explore below (wanted.Told telling.Report) w files bytes status refusal h why
+answer_or_refusal below (request.Why w) files bytes status refusal h why = of_explore below (wanted.Told telling.Causes) w files bytes status refusal h why
+answer_or_refusal below (request.Cure w) files bytes status refusal h why = of_explore below wanted.Cured w files bytes status refusal h why
+answer_or_refusal below (request.Page w) files bytes status refusal h why = of_explore below (wanted.Told telling.Page) w files bytes status refusal h why
 answer_or_refusal below (request.Images w) files bytes status refusal h why =
     of_with w (λ s text. IsSurvey text s) (λ s text. RefusesSurvey text s) (of_survey below) files bytes status refusal h why
 answer_or_refusal below (request.Log w) files bytes status refusal h why =

@@ -88,7 +88,8 @@ few_over way es m bound place (suc n) (cut ∷ cuts) =
       length-append (choices_at way es m bound place cut) (choices_over way es m bound (place + 1) cuts),
     )
 
-not_past : (s : Settings) (value : LogValue) (cut : ℕ) → length (images_of s value) ≤ limit → IsFirstPast (plan_of s value) s.bound s.tears cut → ⊥
+-- a log with few enough images has no cut with which there are too many
+pub not_past : (s : Settings) (value : LogValue) (cut : ℕ) → length (images_of s value) ≤ limit → IsFirstPast (plan_of s value) s.bound s.tears cut → ⊥
 unfolding ranked ranked_before
 not_past s value cut few past =
     omega (arith, few, past.past, few_over s.by value.entries (fates_of s.tears) s.bound 0 (past.place + 1) (cuts_of s.cuts value.entries))

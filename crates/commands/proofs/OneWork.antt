@@ -19,12 +19,18 @@ use Rattle.request.specs.Source.{IsLogOf, HasImages}
 use Rattle.runs.specs.Explore.{AreCheckersOf, head_of}
 use Rattle.checker.specs.Checker.{CheckerValue}
 use Rattle.runs.specs.Why.{IsTold}
+use Rattle.logfmt.specs.Flushed.{flushed}
+use Rattle.cure.specs.Failures.{places_in}
+use Rattle.runs.specs.Cured.{AreRounds, Ends, with_totals, with_refusal}
+use Rattle.flushes.specs.declared.counted.MissingFlush.{MissingFlush}
+use Rattle.commands.specs.declared.action.Wanted.{Wanted}
+use Rattle.commands.specs.declared.action.Wanted.TheVariants as wanted
 use Rattle.looks.specs.Image.{IsImage}
 use Rattle.looks.specs.Show.{IsShown}
 use Rattle.looks.specs.Survey.{IsSurvey}
 use Rattle.looks.specs.Table.{IsTable}
 use Rattle.looks.specs.Verifying.{IsAcceptedText}
-use Rattle.commands.specs.Acting.{Files, AnswersExplore, AnswersWith, Answers}
+use Rattle.commands.specs.Acting.{Files, IsAnswered, AnswersExplore, AnswersWith, Answers}
 use Rattle.commands.specs.OneAnswer.{OneAnswer, alone, asked_alone, WorkChangesNothing}
 
 -- the same settings for one worker without a cache
@@ -122,7 +128,45 @@ told_alone telling.Page text files s bytes failing h =
       faultless = h.faultless;
     }
 
-explore_alone : (t : Telling) (w : OptionWords) (files : Files) (bytes : List ℕ) (status : ℕ)
+rounds_alone : (s : Settings) (cs : List CheckerValue) (v : LogValue) (rounds : List (List MissingFlush)) → AreRounds s cs v rounds → AreRounds (set_alone s) cs v rounds
+rounds_alone s cs v [] h = h
+rounds_alone s cs v (ms ∷ rounds) h =
+    (record { few = h.0.few; failures = h.0.failures; fail = h.0.fail; some = h.0.some; missing = h.0.missing }, rounds_alone s cs (flushed (places_in ms) v) rounds h.1)
+
+ends_alone : {s : Settings} {cs : List CheckerValue} {v : LogValue} {end : List ℕ} → Ends s cs v end → Ends (set_alone s) cs v end
+ends_alone (with_totals failures few fail none) = with_totals failures few fail none
+ends_alone (with_refusal cut past) = with_refusal cut (record { place = past.place; wanted = past.wanted; before = past.before; past = past.past })
+
+answered_alone : (t : Wanted) (text : List ℕ) (files : List (List ℕ)) (s : Settings) (bytes : List ℕ) (failing : Bool)
+    → IsAnswered t text files s bytes failing → IsAnswered t text files (set_alone s) bytes failing
+unfolding head_of
+answered_alone (wanted.Told t) text files s bytes failing h = told_alone t text files s bytes failing h
+answered_alone wanted.Cured text files s bytes failing h =
+    let tells = h.cure.tells in
+    record {
+      count = h.count;
+      value = h.value;
+      source = images_alone h.source;
+      checkers = h.checkers;
+      made = checkers_alone s files h.checkers h.made;
+      cure = record {
+        failures = h.cure.failures;
+        fail = h.cure.fail;
+        rounds = h.cure.rounds;
+        tells = record {
+          rounds = tells.rounds;
+          are = rounds_alone s h.checkers h.value tells.rounds tells.are;
+          end = tells.end;
+          ends = ends_alone tells.ends;
+          told = tells.told;
+        };
+        text = h.cure.text;
+      };
+      fails = h.fails;
+      faultless = h.faultless;
+    }
+
+explore_alone : (t : Wanted) (w : OptionWords) (files : Files) (bytes : List ℕ) (status : ℕ)
     → AnswersExplore t w files bytes status → AnswersExplore t (alone w) files bytes status
 explore_alone t w files bytes status h =
     let run = h.answers.answers in
@@ -133,7 +177,7 @@ explore_alone t w files bytes status h =
         log = h.answers.log;
         programs = h.answers.programs;
         read = h.answers.read;
-        answers = record { failing = run.failing; told = told_alone t h.answers.log h.answers.programs h.settings bytes run.failing run.told; ends = run.ends };
+        answers = record { failing = run.failing; told = answered_alone t h.answers.log h.answers.programs h.settings bytes run.failing run.told; ends = run.ends };
       };
     }
 
@@ -150,9 +194,10 @@ with_alone w Is keeps files bytes status h =
 
 pub answers_alone : (r : Request) (files : Files) (bytes : List ℕ) (status : ℕ) → Answers r files bytes status → Answers (asked_alone r) files bytes status
 answers_alone request.StoredRun files bytes status h = h
-answers_alone (request.Explore w) files bytes status h = explore_alone telling.Report w files bytes status h
-answers_alone (request.Why w) files bytes status h = explore_alone telling.Causes w files bytes status h
-answers_alone (request.Page w) files bytes status h = explore_alone telling.Page w files bytes status h
+answers_alone (request.Explore w) files bytes status h = explore_alone (wanted.Told telling.Report) w files bytes status h
+answers_alone (request.Why w) files bytes status h = explore_alone (wanted.Told telling.Causes) w files bytes status h
+answers_alone (request.Cure w) files bytes status h = explore_alone wanted.Cured w files bytes status h
+answers_alone (request.Page w) files bytes status h = explore_alone (wanted.Told telling.Page) w files bytes status h
 answers_alone (request.Images w) files bytes status h =
     with_alone w (λ s text. IsSurvey text s)
     (λ s held shown k. record { value = k.value; source = images_alone k.source; told = k.told }) files bytes status h

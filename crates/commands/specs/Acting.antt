@@ -3,6 +3,8 @@
 use Rattle.std.specs.Prelude.{ℕ, ◌≡◌, ◌⊎◌, Bool, if◌then◌else◌, List, [], ◌∷◌, map, position, is_none, Option, None, Some}
 use Rattle.base.specs.declared.refusal.Refusal.{Refusal}
 use Rattle.base.specs.Refusals.{memory_refusal}
+use Rattle.commands.specs.declared.action.Wanted.{Wanted}
+use Rattle.commands.specs.declared.action.Wanted.TheVariants as wanted
 use Rattle.commands.specs.Stored.{stored_log, stored_programs, stored_settings}
 use Rattle.request.specs.declared.settings.Settings.{Settings}
 use Rattle.request.specs.declared.command.OptionWords.{OptionWords}
@@ -10,10 +12,10 @@ use Rattle.request.specs.declared.command.Request.{Request}
 use Rattle.request.specs.declared.command.Request.TheVariants as request
 use Rattle.request.specs.OptionWords.{AskFor, words_refusal}
 use Rattle.request.specs.Refusals.{file_refusal}
-use Rattle.request.specs.declared.settings.Telling.{Telling}
 use Rattle.request.specs.declared.settings.Telling.TheVariants as telling
 use Rattle.runs.specs.Explore.{Refuses}
 use Rattle.runs.specs.Why.{IsTold}
+use Rattle.runs.specs.Cured.{IsCured}
 use Rattle.looks.specs.Image.{IsImage, RefusesImage}
 use Rattle.looks.specs.Show.{IsShown}
 use Rattle.looks.specs.Survey.{IsSurvey, RefusesSurvey}
@@ -39,21 +41,26 @@ first_held (file ∷ files) = file
 abbrev pub status_of : Bool → ℕ
 status_of failing = if failing then 1 else 0
 
--- what is told of a run, and its status
-pub record AnswersRun (t : Telling) (s : Settings) (log : List ℕ) (programs : List (List ℕ)) (bytes : List ℕ) (status : ℕ) : Type 0 where
+-- what a run answers that is asked for this: what is told of it, or where flushes are missing, run by run
+abbrev pub IsAnswered : Wanted → List ℕ → List (List ℕ) → Settings → List ℕ → Bool → Type 0
+IsAnswered (wanted.Told t) log programs s bytes failing = IsTold t log programs s bytes failing
+IsAnswered wanted.Cured log programs s bytes failing = IsCured log programs s bytes failing
+
+-- what a run answers, and its status
+pub record AnswersRun (t : Wanted) (s : Settings) (log : List ℕ) (programs : List (List ℕ)) (bytes : List ℕ) (status : ℕ) : Type 0 where
   pub failing : Bool
-  pub told : IsTold t log programs s bytes failing
+  pub told : IsAnswered t log programs s bytes failing
   pub ends : status ≡ status_of failing
 
 -- the same of a run over the command's files, the log first
-pub record AnswersFiles (t : Telling) (s : Settings) (files : Files) (bytes : List ℕ) (status : ℕ) : Type 0 where
+pub record AnswersFiles (t : Wanted) (s : Settings) (files : Files) (bytes : List ℕ) (status : ℕ) : Type 0 where
   pub log : List ℕ
   pub programs : List (List ℕ)
   pub read : files ≡ map Some (log ∷ programs)
   pub answers : AnswersRun t s log programs bytes status
 
 -- the same of the settings that the words ask for
-pub record AnswersExplore (t : Telling) (w : OptionWords) (files : Files) (bytes : List ℕ) (status : ℕ) : Type 0 where
+pub record AnswersExplore (t : Wanted) (w : OptionWords) (files : Files) (bytes : List ℕ) (status : ℕ) : Type 0 where
   pub settings : Settings
   pub asked : AskFor w settings
   pub answers : AnswersFiles t settings files bytes status
@@ -73,10 +80,11 @@ pub record AnswersWith (w : OptionWords) (Is : Settings → List ℕ → List �
 
 -- the bytes for standard output, and the status, of what the command line asks for
 abbrev pub Answers : Request → Files → List ℕ → ℕ → Type 0
-Answers request.StoredRun files bytes status = AnswersRun telling.Report stored_settings stored_log stored_programs bytes status
-Answers (request.Explore w) files bytes status = AnswersExplore telling.Report w files bytes status
-Answers (request.Why w) files bytes status = AnswersExplore telling.Causes w files bytes status
-Answers (request.Page w) files bytes status = AnswersExplore telling.Page w files bytes status
+Answers request.StoredRun files bytes status = AnswersRun (wanted.Told telling.Report) stored_settings stored_log stored_programs bytes status
+Answers (request.Explore w) files bytes status = AnswersExplore (wanted.Told telling.Report) w files bytes status
+Answers (request.Why w) files bytes status = AnswersExplore (wanted.Told telling.Causes) w files bytes status
+Answers (request.Cure w) files bytes status = AnswersExplore wanted.Cured w files bytes status
+Answers (request.Page w) files bytes status = AnswersExplore (wanted.Told telling.Page) w files bytes status
 Answers (request.Images w) files bytes status = AnswersWith w (λ s text. IsSurvey text s) files bytes status
 Answers (request.Log w) files bytes status = AnswersWith w (λ s text. IsTable text s) files bytes status
 Answers (request.Image w which) files bytes status = AnswersWith w (λ s text. IsImage text s which) files bytes status
@@ -95,7 +103,7 @@ pub data RefusesFile (files : Files) (Rest : List ℕ → Refusal → Type 0) : 
   for_file : first_held files ≡ None → RefusesFile files Rest (file_refusal 0)
   for_held : (held : List ℕ) (r : Refusal) → first_held files ≡ Some held → Rest held r → RefusesFile files Rest r
 
--- the refusals of `explore` and `why` behind their options: the first file that can't be read, then those of the run; or
+-- the refusals of a run's command behind its options: the first file that can't be read, then those of the run; or
 -- want of memory
 pub data RefusesFiles (files : Files) (s : Settings) : Refusal → Type 0 where
   for_unread : (place : ℕ) → unread files ≡ Some place → RefusesFiles files s (file_refusal place)
@@ -107,6 +115,7 @@ abbrev pub RefusesToAct : Request → Files → Refusal → Type 0
 RefusesToAct request.StoredRun files r = (r ≡ memory_refusal) ⊎ Refuses stored_log stored_programs stored_settings r
 RefusesToAct (request.Explore w) files r = RefusesWith w (RefusesFiles files) r
 RefusesToAct (request.Why w) files r = RefusesWith w (RefusesFiles files) r
+RefusesToAct (request.Cure w) files r = RefusesWith w (RefusesFiles files) r
 RefusesToAct (request.Page w) files r = RefusesWith w (RefusesFiles files) r
 RefusesToAct (request.Images w) files r = RefusesWith w (λ s. RefusesFile files (λ text. RefusesSurvey text s)) r
 RefusesToAct (request.Log w) files r = RefusesWith w (λ s. RefusesFile files (λ text. RefusesTable text s)) r

@@ -40,6 +40,7 @@ abbrev pub asked_alone : Request → Request
 asked_alone request.StoredRun = request.StoredRun
 asked_alone (request.Explore w) = request.Explore (alone w)
 asked_alone (request.Why w) = request.Why (alone w)
+asked_alone (request.Cure w) = request.Cure (alone w)
 asked_alone (request.Page w) = request.Page (alone w)
 asked_alone (request.Images w) = request.Images (alone w)
 asked_alone (request.Log w) = request.Log (alone w)

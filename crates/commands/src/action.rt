@@ -6,7 +6,8 @@ ghost use Rattle.base.specs.Refusals.{memory_refusal};
 ghost use Rattle.request.specs.declared.command.Request.TheVariants as asks;
 ghost use Rattle.runs.specs.Explore.{Refuses};
 ghost use Rattle.request.specs.Refusals.{file_refusal};
-ghost use Rattle.commands.specs.Acting.{first_held, unread, status_of, AnswersRun, AnswersFiles, AnswersExplore, Answers, RefusesWith, RefusesToAct, RefusesFiles};
+ghost use Rattle.commands.specs.declared.action.Wanted.TheVariants as wants;
+ghost use Rattle.commands.specs.Acting.{first_held, unread, status_of, IsAnswered, AnswersRun, AnswersFiles, AnswersExplore, Answers, RefusesWith, RefusesToAct, RefusesFiles};
 ghost use Rattle.commands.specs.Stored.{stored_log, stored_programs, stored_settings};
 ghost use Rattle.request.specs.declared.settings.Telling.TheVariants as tells;
 
@@ -15,11 +16,42 @@ use base::refusal::Refusal;
 use command_line::Words;
 use looks::{assembled, image, listed, show, shown_log, survey, verified};
 use request::{OptionWords, Options, Request, Telling, Which, options_of, unreadable};
-use runs::{Question, run_with};
+use runs::{Explored, Question, cured, run_with};
 use std::alloc::{AllocError, Global};
 use std::sync::Wait;
 use std::thread::Threads;
 use workers::Gate;
+
+/// What a command asks a run for.
+#[derive(Clone, Copy)]
+pub(crate) enum Wanted {
+    /// To be told of its failing images.
+    Told(Telling),
+    /// To be told where flushes are missing, run by run.
+    Cured,
+}
+
+/// A log and programs, and the options of their run.
+#[derive(Clone, Copy)]
+struct Run<'x> {
+    log: &'x [u8],
+    programs: &'x [Vec<u8>],
+    options: &'x Options,
+}
+
+impl<'x> Run<'x> {
+    /// The question of it, of which that is to be told.
+    fn question(self, telling: Telling) -> Question<'x>
+        ensures { result ≡ record { telling = telling; log = self.entry.log; programs = self.entry.programs; options = self.entry.options } }
+    {
+        Question {
+            telling,
+            log: self.log,
+            programs: self.programs,
+            options: self.options,
+        }
+    }
+}
 
 /// The place of the first file that cannot be read.
 fn first_unreadable(files: &[Option<Vec<u8>>]) -> Option<usize>
@@ -41,17 +73,35 @@ fn programs_of(alloc: Global, files: &[Option<Vec<u8>>]) -> Result<Vec<Vec<u8>>,
     Ok(programs)
 }
 
-/// Explores a log, and answers what is to be told with its status: 1 where there is a failing image.
+/// What a run answers that is asked for this.
+fn answered<G: Gate + Sync, R: Threads + Wait + Sync>(
+    rt: &R,
+    alloc: Global,
+    gate: &G,
+    wanted: Wanted,
+    run: &Run<'_>,
+) -> Result<Explored, Refusal>
+    ensures answers { IfOk result (λ e. IsAnswered wanted run.now.log.now (map (λ f. f.items) run.now.programs.now) run.now.options.now e.bytes.items e.failing) }
+    ensures refused { IfErr result (Refuses run.now.log.now (map (λ f. f.items) run.now.programs.now) run.now.options.now) }
+{
+    match wanted {
+        Wanted::Told(telling) => run_with(rt, alloc, gate, &run.question(telling)),
+        Wanted::Cured => cured(rt, alloc, gate, &run.question(Telling::Report)),
+    }
+}
+
+/// Explores a log, and answers what is wanted with its status: 1 where there is a failing image.
 fn explore_files<G: Gate + Sync, R: Threads + Wait + Sync>(
     rt: &R,
     alloc: Global,
     gate: &G,
-    question: &Question<'_>,
+    wanted: Wanted,
+    run: &Run<'_>,
 ) -> Result<(Vec<u8>, u8), Refusal>
-    ensures answers { IfOk result (λ answer. AnswersRun question.now.telling question.now.options.now question.now.log.now (map (λ f. f.items) question.now.programs.now) answer.0.items answer.1) }
-    ensures refused { IfErr result (Refuses question.now.log.now (map (λ f. f.items) question.now.programs.now) question.now.options.now) }
+    ensures answers { IfOk result (λ answer. AnswersRun wanted run.now.options.now run.now.log.now (map (λ f. f.items) run.now.programs.now) answer.0.items answer.1) }
+    ensures refused { IfErr result (Refuses run.now.log.now (map (λ f. f.items) run.now.programs.now) run.now.options.now) }
 {
-    let explored = run_with(rt, alloc, gate, question)?;
+    let explored = answered(rt, alloc, gate, wanted, run)?;
     let status = if explored.failing { 1 } else { 0 };
     Ok((explored.bytes, status))
 }
@@ -72,15 +122,15 @@ fn act_explore<G: Gate + Sync, R: Threads + Wait + Sync>(
     rt: &R,
     alloc: Global,
     gate: &G,
-    telling: Telling,
+    wanted: Wanted,
     words: OptionWords,
     files: &[Option<Vec<u8>>],
 ) -> Result<(Vec<u8>, u8), Refusal>
-    ensures answers { IfOk result (λ answer. AnswersExplore telling words (map (option_map (λ f. f.items)) files.now) answer.0.items answer.1) }
+    ensures answers { IfOk result (λ answer. AnswersExplore wanted words (map (option_map (λ f. f.items)) files.now) answer.0.items answer.1) }
     ensures refused { IfErr result (RefusesWith words (RefusesFiles (map (option_map (λ f. f.items)) files.now))) }
 {
     let options = options_of(words)?;
-    explore_readable(rt, alloc, gate, telling, &options, files)
+    explore_readable(rt, alloc, gate, wanted, &options, files)
 }
 
 /// Explores files, each of which has to be readable.
@@ -88,11 +138,11 @@ fn explore_readable<G: Gate + Sync, R: Threads + Wait + Sync>(
     rt: &R,
     alloc: Global,
     gate: &G,
-    telling: Telling,
+    wanted: Wanted,
     options: &Options,
     files: &[Option<Vec<u8>>],
 ) -> Result<(Vec<u8>, u8), Refusal>
-    ensures answers { IfOk result (λ answer. AnswersFiles telling options.now (map (option_map (λ f. f.items)) files.now) answer.0.items answer.1) }
+    ensures answers { IfOk result (λ answer. AnswersFiles wanted options.now (map (option_map (λ f. f.items)) files.now) answer.0.items answer.1) }
     ensures refused { IfErr result (RefusesFiles (map (option_map (λ f. f.items)) files.now) options.now) }
 {
     let Some((first, others)) = files.split_first() else {
@@ -106,13 +156,12 @@ fn explore_readable<G: Gate + Sync, R: Threads + Wait + Sync>(
     }
     match programs_of(alloc, others) {
         Ok(programs) => {
-            let question = Question {
-                telling,
+            let run = Run {
                 log: log.as_slice(),
                 programs: programs.as_slice(),
                 options,
             };
-            explore_files(rt, alloc, gate, &question)
+            explore_files(rt, alloc, gate, wanted, &run)
         }
         Err(_error) => Err(Refusal::of_memory()),
     }
@@ -124,19 +173,18 @@ fn act_stored<G: Gate + Sync, R: Threads + Wait + Sync>(
     alloc: Global,
     gate: &G,
 ) -> Result<(Vec<u8>, u8), Refusal>
-    ensures answers { IfOk result (λ answer. AnswersRun tells.Report stored_settings stored_log stored_programs answer.0.items answer.1) }
+    ensures answers { IfOk result (λ answer. AnswersRun (wants.Told tells.Report) stored_settings stored_log stored_programs answer.0.items answer.1) }
     ensures refused { IfErr result (λ r. (r ≡ memory_refusal) ⊎ Refuses stored_log stored_programs stored_settings r) }
 {
     let options = stored_options();
     match stored_files(alloc) {
         Ok((log, programs)) => {
-            let question = Question {
-                telling: Telling::Report,
+            let run = Run {
                 log: log.as_slice(),
                 programs: programs.as_slice(),
                 options: &options,
             };
-            explore_files(rt, alloc, gate, &question)
+            explore_files(rt, alloc, gate, Wanted::Told(Telling::Report), &run)
         }
         Err(_error) => Err(Refusal::of_memory()),
     }
@@ -264,16 +312,21 @@ pub fn act<G: Gate + Sync, R: Threads + Wait + Sync>(
 {
     match words.request() {
         Request::StoredRun => act_stored(rt, alloc, gate),
-        Request::Explore(options) => {
-            act_explore(rt, alloc, gate, Telling::Report, options, files)
+        Request::Explore(asked) => {
+            act_explore(rt, alloc, gate, Wanted::Told(Telling::Report), asked, files)
         }
-        Request::Why(options) => act_explore(rt, alloc, gate, Telling::Causes, options, files),
-        Request::Page(options) => act_explore(rt, alloc, gate, Telling::Page, options, files),
-        Request::Images(options) => act_images(alloc, options, files),
-        Request::Log(options) => act_log(alloc, options, files),
-        Request::Image(options, which) => act_image(alloc, options, which, files),
-        Request::Show(options, which) => act_show(alloc, options, which, files),
-        Request::Verify(options) => act_verify(alloc, options, files),
+        Request::Why(asked) => {
+            act_explore(rt, alloc, gate, Wanted::Told(Telling::Causes), asked, files)
+        }
+        Request::Cure(asked) => act_explore(rt, alloc, gate, Wanted::Cured, asked, files),
+        Request::Page(asked) => {
+            act_explore(rt, alloc, gate, Wanted::Told(Telling::Page), asked, files)
+        }
+        Request::Images(asked) => act_images(alloc, asked, files),
+        Request::Log(asked) => act_log(alloc, asked, files),
+        Request::Image(asked, which) => act_image(alloc, asked, which, files),
+        Request::Show(asked, which) => act_show(alloc, asked, which, files),
+        Request::Verify(asked) => act_verify(alloc, asked, files),
         Request::Asm => act_asm(alloc, files),
         Request::List { numbered } => act_list(alloc, numbered, files),
     }

@@ -14,7 +14,7 @@
 //! - `request`: what a run is asked, and `Options`, tested in their order; what each command reads of a log; the line of a
 //!   refusal.
 //! - `command_line`: the words of the command line, and their help.
-//! - `runs`: `explore`, `why` and `page`, from bytes to bytes.
+//! - `runs`: `explore`, `why`, `page` and `cured`, from bytes to bytes.
 //! - `looks`: `images`, `image`, `show`, `log`, `verify`, `asm` and `list`.
 //! - `command_notes`: the notes behind a refusal and beside an answer.
 //!
@@ -32,7 +32,7 @@
 //! # What is proved
 //!
 //! `act` answers for each command exactly the bytes that the contract of its call says, over the options that the words ask for
-//! and what the files hold, with status 1 where a run found a failing image, and 0 else. Its refusals come in the order of
+//! and what the files hold, with status 1 where a run found a failing image (of `cure` the first), and 0 else. Its refusals come in the order of
 //! docs/REPORT.md: of the words, of a file that can't be read, then those of the call (`specs/Acting.antt`). Without a word it
 //! explores the log and the program that it holds itself (`specs/Stored.antt`). `perform` gives the status 2 and an empty
 //! standard output where `act` refuses, and else `act`'s own (`specs/Exits.antt`).
@@ -73,7 +73,7 @@ pub use laws::{
 };
 pub use looks::{choices_are_short, image, report_prints_choices, show, survey};
 pub use progress::Progress;
-pub use request::{OptionPlace, Options, Settings, Which, fault_line};
-pub use runs::{Explored, explore, explore_with, page, why};
+pub use request::{OptionPlace, Options, Settings, Telling, Which, fault_line};
+pub use runs::{Explored, Question, cured, explore, explore_with, page, why};
 pub use workers::{Gate, OpenGate};
 pub use writing::{Output, emit};

@@ -4,9 +4,9 @@ use std::sync::atomic::{AtomicU64, Ordering};
 use std::time::{Clock, Instant};
 use workers::{BLOCK, Gate};
 
-/// A gate that says on standard error how many images are judged, of how many. It is one line, which is
-/// written again once a second at most, with a carriage return behind it, and ended by `end`. Where that
-/// isn't asked for, or the clock can't be read, nothing is said.
+/// A gate that says on standard error how many images are judged, of how many. Of each exploration it is one
+/// line, which is written again once a second at most, with a carriage return behind it. It is ended where the
+/// next exploration begins, and by `end`. Where that isn't asked for, or the clock can't be read, nothing is said.
 #[derive(Drop)]
 pub struct Progress<'r, R> {
     rt: &'r R,
@@ -32,7 +32,7 @@ impl<'r, R: Clock + Eprint> Progress<'r, R> {
         }
     }
 
-    /// Writes the line a last time and ends it, if the exploration has begun.
+    /// Writes the line of the exploration a last time and ends it, if one has begun.
     pub fn end(&self) {
         if self.start.is_some() && self.images.load(Ordering::SeqCst) > 0 {
             self.say("\n");
@@ -65,6 +65,8 @@ fn images_in(block: u32, images: u64) -> u64 {
 
 impl<R: Clock + Eprint> Gate for Progress<'_, R> {
     fn begin(&self, images: u64) {
+        self.end();
+        self.judged.store(0, Ordering::SeqCst);
         self.images.store(images, Ordering::SeqCst);
     }
 

@@ -62,6 +62,8 @@ pub enum Request {
     Explore(OptionWords),
     /// `why LOG PROGRAM..`
     Why(OptionWords),
+    /// `cure LOG PROGRAM..`, which takes no `--first`.
+    Cure(OptionWords),
     /// `page LOG PROGRAM..`
     Page(OptionWords),
     /// `images LOG`

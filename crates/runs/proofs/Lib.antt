@@ -6,3 +6,6 @@ pub mod Fitting
 pub mod Runs
 pub mod Explained
 pub mod Pages
+pub mod Tried
+pub mod Leading
+pub mod Cures

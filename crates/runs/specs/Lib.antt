@@ -6,3 +6,5 @@ pub mod Why
 pub mod Marked
 pub mod Found
 pub mod Tasks
+pub mod Cured
+pub mod Trials

@@ -46,7 +46,7 @@ pub struct Explored {
 }
 
 /// Whether a run may have so many programs.
-fn is_program_count(count: usize) -> bool
+pub(crate) fn is_program_count(count: usize) -> bool
     ensures { IsTrue result ↔ IsProgramCount count }
 {
     count >= 1 && count <= usize::from(MOST_PROGRAMS)
@@ -95,13 +95,13 @@ fn push_program(programs: &mut Vec<Program>, program: Program) -> Result<(), Ref
 
 /// The programs that were decoded, up to the first that can't be, and its refusal.
 #[derive(Drop)]
-struct Decoded {
-    programs: Vec<Program>,
-    refusal: Option<Refusal>,
+pub(crate) struct Decoded {
+    pub(crate) programs: Vec<Program>,
+    pub(crate) refusal: Option<Refusal>,
 }
 
 /// Decodes the programs in their order, up to the first that can't be decoded.
-fn decode_all(alloc: Global, files: &[Vec<u8>]) -> Result<Decoded, Refusal>
+pub(crate) fn decode_all(alloc: Global, files: &[Vec<u8>]) -> Result<Decoded, Refusal>
     requires { length files.now ≤ 8 }
     ensures decoded { IfOk result (λ d. AreDecoded (map (λ f. f.items) files.now) d.programs.items d.refusal) }
     ensures refused { IfErr result (λ r. r ≡ memory_refusal) }
@@ -163,7 +163,7 @@ fn push_checker<'p>(checkers: &mut Vec<Checker<'p>>, checker: Checker<'p>) -> Re
 }
 
 /// The programs as checkers.
-fn checkers_of<'p>(
+pub(crate) fn checkers_of<'p>(
     alloc: Global,
     programs: &'p [Program],
     options: &Options,
@@ -198,7 +198,7 @@ fn program_heads(alloc: Global, checkers: &[Checker<'_>]) -> Result<Vec<ProgramH
 
 /// What stands at the head of a text, of which it is said whether it is of the first failing image alone.
 #[tactic(auto, unfolding(crate::specs::Explore::head_of))]
-fn head_of_run(alloc: Global, task: &Task<'_>, first: bool) -> Result<Head, AllocError>
+pub(crate) fn head_of_run(alloc: Global, task: &Task<'_>, first: bool) -> Result<Head, AllocError>
     ensures { IfOk result (λ head. head ≡ head_of (with_first first task.now.options.now) task.now.log.now task.now.checkers.now) }
 {
     let options = task.options;

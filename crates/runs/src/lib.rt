@@ -14,6 +14,7 @@
 //! | `why(rt, alloc, gate, log, programs, options)` | the same run told by its causes (`causes.rt`) |
 //! | `page(rt, alloc, gate, log, programs, options)` | the same run as a page for a browser (`paging.rt`) |
 //! | `run_with(rt, alloc, gate, question)` | one of the three, by what is to be told |
+//! | `cured(rt, alloc, gate, question)` | where flushes are missing, and what is left with them, run by run (`curing.rt`) |
 //!
 //! # What is proved
 //!
@@ -46,9 +47,12 @@
 //! ```
 #![tactic(auto)]
 
+mod basis;
 mod causes;
+mod curing;
 mod explore_command;
 mod paging;
 mod task;
 
+pub use curing::cured;
 pub use explore_command::{Explored, Question, explore, explore_with, page, run_with, why};

@@ -1,0 +1,213 @@
+-- The cure of a log, tried, has one text.
+use Rattle.std.proofs.Common.{ℕ, zero, suc, ◌≡◌, ◌≢◌, ◌+◌, ◌<◌, ◌≤◌, false, List, [], ◌∷◌, ◌++◌, length, take, append_assoc, length-append, Option, None, Some, slice_get, refl, sym, ◌∙◌, ap, subst, arith}
+use Rattle.std.proofs.lemmas.Bool.{false≢true}
+use Rattle.logfmt.specs.Bounds.{LogValue}
+use Rattle.logfmt.specs.Flushed.{flushed}
+use Rattle.logfmt.specs.declared.entry.Entry.{Entry}
+use Rattle.epochs.specs.declared.part.By.{By}
+use Rattle.epochs.specs.Cuts.{cuts_of}
+use Rattle.choices.specs.declared.choice.Departure.{Departure}
+use Rattle.choices.specs.Picks.{fates_of}
+use Rattle.choices.specs.Choices.{choices_at, choices_over, ranked_before, IsFirstPast}
+use Rattle.checker.specs.Checker.{CheckerValue}
+use Rattle.flushes.specs.declared.window.Window.{Window}
+use Rattle.flushes.specs.declared.counted.MissingFlush.{MissingFlush}
+use Rattle.flushes.specs.Windows.{IsWindow, HasNoWindow}
+use Rattle.flushes.specs.Places.{Covers, IsNext, ArePlaces}
+use Rattle.flushes.specs.Counted.{missing, AreMissing}
+use Rattle.lines.specs.Line.{FailingLine}
+use Rattle.report.specs.Report.{HeadValue}
+use Rattle.cure.specs.declared.failure.Failure.{Failure}
+use Rattle.cure.specs.Failures.{IsWindowIf, IsFailure, AreFailures, windows_in, places_in}
+use Rattle.cure.specs.Text.{begin_text, uncured_text, rounds_text, refused_line}
+use Rattle.request.specs.declared.settings.Settings.{Settings}
+use Rattle.request.specs.Source.{plan_of}
+use Rattle.runs.specs.Explore.{head_of}
+use Rattle.runs.specs.Why.{with_first}
+use Rattle.runs.specs.Cured.{run_lines, FailAs, IsRound, AreRounds, with_rounds, Ends, with_totals, with_refusal, TellsRounds, TellsCure}
+use Rattle.commands.proofs.OneReport.{not_past}
+
+-- a window ends at one entry
+not_behind : (way : By) (es : List Entry) (cut : ℕ) (ds : List Departure) (v w : Window) → IsWindow way es cut ds v → IsWindow way es cut ds w → v.end < w.end → ⊥
+not_behind way es cut ds v w a b less = false≢true (sym (a.last w.end less b.before) ∙ b.end)
+
+one_end : (m n : ℕ) → (m < n → ⊥) → (n < m → ⊥) → m ≡ n
+one_end m n below above = omega (arith, below, above)
+
+same_window : (way : By) (es : List Entry) (cut : ℕ) (ds : List Departure) (v w : Window) → IsWindow way es cut ds v → IsWindow way es cut ds w → v ≡ w
+same_window way es cut ds v w a b =
+    let both : Some a.first ≡ Some b.first = sym a.departs ∙ b.departs in
+    let first : a.first ≡ b.first = cc in
+    let start : v.start ≡ w.start = a.start ∙ ap (λ (d : Departure). d.part.entry + 1) first ∙ sym b.start in
+    let end : v.end ≡ w.end = one_end v.end w.end (not_behind way es cut ds v w a b) (not_behind way es cut ds w v b a) in
+    λ i. record { start = start i; end = end i }
+
+not_none : (way : By) (es : List Entry) (cut : ℕ) (ds : List Departure) (w : Window) → IsWindow way es cut ds w → HasNoWindow way es cut ds → ⊥
+not_none way es cut ds w a none =
+    let start = a.start in
+    let order = a.order in
+    let behind : a.first.part.entry < w.end = omega (arith, start, order) in
+    false≢true (sym (none a.first w.end a.departs behind a.before) ∙ a.end)
+
+same_if : (way : By) (es : List Entry) (cut : ℕ) (ds : List Departure) (v w : Option Window) → IsWindowIf way es cut ds v → IsWindowIf way es cut ds w → v ≡ w
+same_if way es cut ds None None a b = refl
+same_if way es cut ds None (Some w) a b = absurd (not_none way es cut ds w b a)
+same_if way es cut ds (Some v) None a b = absurd (not_none way es cut ds v a b)
+same_if way es cut ds (Some v) (Some w) a b = ap Some (same_window way es cut ds v w a b)
+
+same_failure : (way : By) (es : List Entry) (l : FailingLine) (f g : Failure) → IsFailure way es l f → IsFailure way es l g → f ≡ g
+same_failure way es l f g a b =
+    let program : f.program ≡ g.program = a.program ∙ sym b.program in
+    let window = same_if way es l.cut l.departures f.window g.window a.window b.window in
+    λ i. record { program = program i; window = window i }
+
+rest_of : (way : By) (es : List Entry) (l : FailingLine) (ls : List FailingLine) (f : Failure) (fs : List Failure) → AreFailures way es (l ∷ ls) (f ∷ fs) → AreFailures way es ls fs
+rest_of way es l ls f fs a =
+    let long : suc (length fs) ≡ suc (length ls) = a.all in
+    record { all = omega (arith, long); each = λ i m g there at. a.each (suc i) m g there at }
+
+-- the failures of failing lines are one list
+pub same_failures : (way : By) (es : List Entry) (ls : List FailingLine) (fs gs : List Failure) → AreFailures way es ls fs → AreFailures way es ls gs → fs ≡ gs
+same_failures way es [] [] [] a b = refl
+same_failures way es [] (f ∷ fs) gs a b = absurd (let long : suc (length fs) ≡ 0 = a.all in omega (arith, long))
+same_failures way es [] [] (g ∷ gs) a b = absurd (let long : suc (length gs) ≡ 0 = b.all in omega (arith, long))
+same_failures way es (l ∷ ls) [] gs a b = absurd (let long : 0 ≡ suc (length ls) = a.all in omega (arith, long))
+same_failures way es (l ∷ ls) (f ∷ fs) [] a b = absurd (let long : 0 ≡ suc (length ls) = b.all in omega (arith, long))
+same_failures way es (l ∷ ls) (f ∷ fs) (g ∷ gs) a b =
+    let one = same_failure way es l f g (a.each 0 l f refl refl) (b.each 0 l g refl refl) in
+    let rest = same_failures way es ls fs gs (rest_of way es l ls f fs a) (rest_of way es l ls g gs b) in
+    λ i. one i ∷ rest i
+
+-- behind some places one is the next
+same_next : (ws : List Window) (ps : List ℕ) (p q : ℕ) → IsNext ws ps p → IsNext ws ps q → p ≡ q
+same_next ws ps p q a b =
+    let low : p ≤ b.window.end = a.first b.number b.window b.there b.none in
+    let high : q ≤ a.window.end = b.first a.number a.window a.there a.none in
+    let own = a.end in
+    let other = b.end in
+    omega (arith, low, high, own, other)
+
+-- where each window holds a place, none is next
+no_next : (ws : List Window) (ps : List ℕ) (p : ℕ) → Covers ws ps → IsNext ws ps p → ⊥
+no_next ws ps p all next =
+    let one = all next.number next.window next.there in
+    next.none one.number one.place one.there one.holds
+
+-- each of these places is next behind some before and those before it
+abbrev AreNext : List Window → List ℕ → List ℕ → Type 0
+AreNext ws before ps = (i p : ℕ) → slice_get ps i ≡ Some p → IsNext ws (before ++ take i ps) p
+
+next_of : (ws : List Window) (before : List ℕ) (p : ℕ) (ps : List ℕ) → AreNext ws before (p ∷ ps) → AreNext ws (before ++ p ∷ []) ps
+next_of ws before p ps each i q there = subst (λ (xs : List ℕ). IsNext ws xs q) (sym (append_assoc before (p ∷ []) (take i ps))) (each (suc i) q there)
+
+places_behind : (ws : List Window) (before ps qs : List ℕ) → AreNext ws before ps → AreNext ws before qs → Covers ws (before ++ ps) → Covers ws (before ++ qs) → ps ≡ qs
+places_behind ws before [] [] a b all every = refl
+places_behind ws before [] (q ∷ qs) a b all every = absurd (no_next ws (before ++ []) q all (b 0 q refl))
+places_behind ws before (p ∷ ps) [] a b all every = absurd (no_next ws (before ++ []) p every (a 0 p refl))
+places_behind ws before (p ∷ ps) (q ∷ qs) a b all every =
+    let one : p ≡ q = same_next ws (before ++ []) p q (a 0 p refl) (b 0 q refl) in
+    let same : q ∷ qs ≡ p ∷ qs = λ i. sym one i ∷ qs in
+    let other : AreNext ws before (p ∷ qs) = subst (λ (xs : List ℕ). AreNext ws before xs) same b in
+    let covers : Covers ws (before ++ p ∷ qs) = subst (λ (xs : List ℕ). Covers ws (before ++ xs)) same every in
+    let rest =
+    places_behind ws (before ++ p ∷ []) ps qs (next_of ws before p ps a) (next_of ws before p qs other)
+    (subst (Covers ws) (sym (append_assoc before (p ∷ []) ps)) all) (subst (Covers ws) (sym (append_assoc before (p ∷ []) qs)) covers) in
+    λ i. one i ∷ rest i
+
+same_places : (ws : List Window) (ps qs : List ℕ) → ArePlaces ws ps → ArePlaces ws qs → ps ≡ qs
+same_places ws ps qs a b = places_behind ws [] ps qs a.each b.each a.all b.all
+
+-- the flushes that are missing for windows are one list
+pub same_missing : (ws : List Window) (ms ns : List MissingFlush) → AreMissing ws ms → AreMissing ws ns → ms ≡ ns
+same_missing ws ms ns a b = a.listed ∙ ap (missing ws) (same_places ws a.places b.places a.picked b.picked) ∙ sym b.listed
+
+-- more cuts have no fewer choices
+more_over : (way : By) (es : List Entry) (m bound place : ℕ) (k n : ℕ) (cuts : List ℕ) → k ≤ n
+    → length (choices_over way es m bound place (take k cuts)) ≤ length (choices_over way es m bound place (take n cuts))
+unfolding choices_over
+more_over way es m bound place zero n cuts few = omega arith
+more_over way es m bound place (suc k) zero cuts few = absurd (omega (arith, few))
+more_over way es m bound place (suc k) (suc n) [] few = omega arith
+more_over way es m bound place (suc k) (suc n) (cut ∷ cuts) few =
+    omega (
+      arith,
+      more_over way es m bound (place + 1) k n cuts (omega (arith, few)),
+      length-append (choices_at way es m bound place cut) (choices_over way es m bound (place + 1) (take k cuts)),
+      length-append (choices_at way es m bound place cut) (choices_over way es m bound (place + 1) (take n cuts)),
+    )
+
+not_later : (s : Settings) (value : LogValue) (c d : ℕ) (a : IsFirstPast (plan_of s value) s.bound s.tears c) (b : IsFirstPast (plan_of s value) s.bound s.tears d)
+    → a.place < b.place → ⊥
+unfolding ranked_before
+not_later s value c d a b less =
+    let past = a.past in
+    let before = b.before in
+    let more = more_over s.by value.entries (fates_of s.tears) s.bound 0 (a.place + 1) b.place (cuts_of s.cuts value.entries) (omega (arith, less)) in
+    omega (arith, past, before, more)
+
+-- the cut with which there are too many images is one
+same_past : (s : Settings) (value : LogValue) (c d : ℕ) → IsFirstPast (plan_of s value) s.bound s.tears c → IsFirstPast (plan_of s value) s.bound s.tears d → c ≡ d
+same_past s value c d a b =
+    let place : a.place ≡ b.place = one_end a.place b.place (not_later s value c d a b) (not_later s value d c b a) in
+    let both : Some c ≡ Some d = sym a.wanted ∙ ap (λ n. slice_get (cuts_of s.cuts value.entries) n) place ∙ b.wanted in
+    cc
+
+-- a run has one list of failures
+same_fails : (s : Settings) (cs : List CheckerValue) (value : LogValue) (fs gs : List Failure) → FailAs s cs value fs → FailAs s cs value gs → fs ≡ gs
+same_fails s cs value fs gs a b = same_failures s.by value.entries (run_lines s cs value) fs gs a b
+
+-- the last run says one thing
+same_end : (s : Settings) (cs : List CheckerValue) (value : LogValue) (end other : List ℕ) → Ends s cs value end → Ends s cs value other → end ≡ other
+same_end s cs value _ _ (with_totals fs few fail none) (with_totals gs small fails nothing) = refl
+same_end s cs value _ _ (with_totals fs few fail none) (with_refusal cut past) = absurd (not_past s value cut few past)
+same_end s cs value _ _ (with_refusal cut past) (with_totals fs few fail none) = absurd (not_past s value cut few past)
+same_end s cs value _ _ (with_refusal cut past) (with_refusal other behind) =
+    ap refused_line (same_past s value cut other past behind)
+
+-- behind the last run there is no round
+no_round : (s : Settings) (cs : List CheckerValue) (value : LogValue) (ms : List MissingFlush) (end : List ℕ) → IsRound s cs value ms → Ends s cs value end → ⊥
+no_round s cs value ms _ round (with_totals fs few fail none) =
+    round.some (ap windows_in (same_fails s cs value round.failures fs round.fail fail) ∙ none)
+no_round s cs value ms _ round (with_refusal cut past) = not_past s value cut round.few past
+
+same_round : (s : Settings) (cs : List CheckerValue) (value : LogValue) (ms ns : List MissingFlush) → IsRound s cs value ms → IsRound s cs value ns → ms ≡ ns
+same_round s cs value ms ns a b =
+    let windows = ap windows_in (same_fails s cs value a.failures b.failures a.fail b.fail) in
+    same_missing (windows_in a.failures) ms ns a.missing (subst (λ (ws : List Window). AreMissing ws ns) (sym windows) b.missing)
+
+-- the rounds from a log on, and the last run
+pub record Rounds (s : Settings) (cs : List CheckerValue) (value : LogValue) (rounds : List (List MissingFlush)) (end : List ℕ) : Type 0 where
+  pub are : AreRounds s cs value rounds
+  pub ends : Ends s cs (with_rounds value rounds) end
+
+same_rounds : (s : Settings) (cs : List CheckerValue) (value : LogValue) (rs qs : List (List MissingFlush)) (end other : List ℕ)
+    → Rounds s cs value rs end → Rounds s cs value qs other → (rs ≡ qs) × (end ≡ other)
+same_rounds s cs value [] [] end other a b = (refl, same_end s cs value end other a.ends b.ends)
+same_rounds s cs value [] (q ∷ qs) end other a b = absurd (no_round s cs value q end b.are.0 a.ends)
+same_rounds s cs value (r ∷ rs) [] end other a b = absurd (no_round s cs value r other a.are.0 b.ends)
+same_rounds s cs value (r ∷ rs) (q ∷ qs) end other a b =
+    let one : r ≡ q = same_round s cs value r q a.are.0 b.are.0 in
+    let behind : Rounds s cs (flushed (places_in q) value) qs other = record { are = b.are.1; ends = b.ends } in
+    let moved : Rounds s cs (flushed (places_in r) value) qs other = subst (λ (ms : List MissingFlush). Rounds s cs (flushed (places_in ms) value) qs other) (sym one) behind in
+    let own : Rounds s cs (flushed (places_in r) value) rs end = record { are = a.are.1; ends = a.ends } in
+    let rest = same_rounds s cs (flushed (places_in r) value) rs qs end other own moved in
+    (λ i. one i ∷ rest.0 i, rest.1)
+
+same_tale : (s : Settings) (cs : List CheckerValue) (value : LogValue) (number : ℕ) (text other : List ℕ) → TellsRounds s cs value number text
+    → TellsRounds s cs value number other → text ≡ other
+same_tale s cs value number text other a b =
+    let same = same_rounds s cs value a.rounds b.rounds a.end b.end (record { are = a.are; ends = a.ends }) (record { are = b.are; ends = b.ends }) in
+    let told : rounds_text number a.rounds ++ a.end ≡ rounds_text number b.rounds ++ b.end = λ i. rounds_text number (same.0 i) ++ same.1 i in
+    a.told ∙ told ∙ sym b.told
+
+-- the whole text of the failures of a first run, and of what follows
+abbrev whole_text : HeadValue → List FailingLine → List Failure → List ℕ → List ℕ
+whole_text h ls fs rounds = begin_text h fs ++ uncured_text ls fs ++ rounds
+
+pub one_cure : (s : Settings) (value : LogValue) (cs : List CheckerValue) (bytes others : List ℕ) → TellsCure s value cs bytes → TellsCure s value cs others → bytes ≡ others
+one_cure s value cs bytes others a b =
+    let failures = same_fails s cs value a.failures b.failures a.fail b.fail in
+    let rounds = same_tale s cs value 1 a.rounds b.rounds a.tells b.tells in
+    let same : whole_text (head_of (with_first false s) value cs) (run_lines s cs value) a.failures a.rounds ≡ whole_text (head_of (with_first false s) value cs) (run_lines s cs value) b.failures b.rounds =
+    λ i. whole_text (head_of (with_first false s) value cs) (run_lines s cs value) (failures i) (rounds i) in
+    a.text ∙ same ∙ sym b.text

@@ -1,0 +1,86 @@
+use Rattle.std.proofs.Common.{◌∙◌, sym}
+use Rattle.std.proofs.lemmas.Bool.{false≢true}
+use Rattle.std.proofs.lemmas.Result.{err_from_is_err_and}
+use Rattle.request.specs.Source.{for_plan}
+use Rattle.request.proofs.Logs.{bounds_of, device_of, has_images}
+use Rattle.request.proofs.Results.{both_ok, one_err}
+use Rattle.runs.specs.Explore.{for_count, for_source, for_program, no_list_memory}
+use Rattle.runs.proofs.RefusalLemmas.{counted, uncounted, few_decoded, unaccepted_of, undecoded_of, checkers_decoded}
+use Rattle.runs.proofs.Fitting.{made_fit}
+use Rattle.runs.proofs.Runs.{of_log}
+use Rattle.runs.proofs.Cures.{cured_of}
+use Rattle.runs.proofs.curing.cured.Goals as goal
+
+pub returns-then-not-is_program_count-clause-refused : goal.returns-then-not-is_program_count-clause-refused
+returns-then-not-is_program_count-clause-refused g c =
+    rw c.option_refusal_of.ensures
+    (for_count (λ count. false≢true (sym c.if-not-is_program_count.true ∙ c.is_program_count.ensures.1 (uncounted _ c.args.question.now.programs.now count))))
+
+pub returns-in_err-log-clause-refused : goal.returns-in_err-log-clause-refused
+returns-in_err-log-clause-refused g c =
+    let p = err_from_is_err_and c.from_residual.result c.from_residual.ensures.1 in
+    rw (p.1, p.2)
+    (of_log _ _ _ _ (counted _ c.args.question.now.programs.now (c.is_program_count.ensures.0 c.if-not-is_program_count.false)) c.in_err-log.ensures.refused)
+
+pub returns-in_err-planned-clause-refused : goal.returns-in_err-planned-clause-refused
+returns-in_err-planned-clause-refused g c =
+    let p = err_from_is_err_and c.from_residual-in_err-planned.result c.from_residual-in_err-planned.ensures.1 in
+    rw (p.1, p.2)
+    (for_source _ (counted _ c.args.question.now.programs.now (c.is_program_count.ensures.0 c.if-not-is_program_count.false))
+    (for_plan _ c.in_ok-log.log c.in_ok-log.ensures.log c.in_err-planned.ensures.refused))
+
+pub returns-in_err-decoded-clause-refused : goal.returns-in_err-decoded-clause-refused
+returns-in_err-decoded-clause-refused g c =
+    let p = err_from_is_err_and c.from_residual-in_err-decoded.result c.from_residual-in_err-decoded.ensures.1 in
+    rw (p.1, p.2, c.in_err-decoded.ensures.refused)
+    (for_program _ c.in_ok-log.log (counted _ c.args.question.now.programs.now (c.is_program_count.ensures.0 c.if-not-is_program_count.false))
+    (has_images _ _ _ _ c.in_ok-log.ensures.log c.in_ok-planned.ensures.count c.in_ok-planned.ensures.few)
+    no_list_memory)
+
+pub checkers_of-requires : goal.checkers_of-requires
+checkers_of-requires g c =
+    record { few = few_decoded _ _ c.as_slice.result.now _ (counted _ c.args.question.now.programs.now (c.is_program_count.ensures.0 c.if-not-is_program_count.false)).few c.as_slice.ensures.value c.in_ok-decoded.ensures.decoded }
+
+pub returns-in_err-checkers-clause-refused : goal.returns-in_err-checkers-clause-refused
+returns-in_err-checkers-clause-refused g c =
+    let p = err_from_is_err_and c.from_residual-in_err-checkers.result c.from_residual-in_err-checkers.ensures.1 in
+    rw (p.1, p.2)
+    (for_program _ c.in_ok-log.log (counted _ c.args.question.now.programs.now (c.is_program_count.ensures.0 c.if-not-is_program_count.false))
+    (has_images _ _ _ _ c.in_ok-log.ensures.log c.in_ok-planned.ensures.count c.in_ok-planned.ensures.few)
+    (unaccepted_of _ _ _ c.as_slice.result.now _ _ c.as_slice.ensures.value c.in_ok-decoded.ensures.decoded c.in_err-checkers.ensures.refused))
+
+pub returns-in-Some-clause-refused : goal.returns-in-Some-clause-refused
+returns-in-Some-clause-refused g c =
+    for_program _ c.in_ok-log.log (counted _ c.args.question.now.programs.now (c.is_program_count.ensures.0 c.if-not-is_program_count.false))
+    (has_images _ _ _ _ c.in_ok-log.ensures.log c.in_ok-planned.ensures.count c.in_ok-planned.ensures.few)
+    (undecoded_of _ _ _ c.as_slice.result.now _ _ _ c.as_slice.ensures.value c.in_ok-decoded.ensures.decoded c.in-Some.is
+    c.in_ok-checkers.ensures.made c.in_ok-checkers.ensures.all)
+
+pub cured_log-requires-clause-verified : goal.cured_log-requires-clause-verified
+cured_log-requires-clause-verified g c =
+    λ κs lives. rw c.as_slice-2.ensures.value (made_fit c.args.question.now.options.now c.as_slice.result.now c.in_ok-checkers.checkers.items c.in_ok-checkers.ensures.made)
+
+pub cured_log-requires-clause-log : goal.cured_log-requires-clause-log
+cured_log-requires-clause-log g c =
+    λ κs lives. bounds_of _ c.args.question.now.options.now c.in_ok-log.log c.in_ok-log.ensures.log
+
+pub cured_log-requires-clause-device : goal.cured_log-requires-clause-device
+cured_log-requires-clause-device g c =
+    λ κs lives. device_of _ c.args.question.now.options.now c.in_ok-log.log c.in_ok-log.ensures.log
+
+pub returns-clause-cured : goal.returns-clause-cured
+returns-clause-cured g c =
+    both_ok c.cured_log.result _ _ _ c.cured_log.ensures.bytes c.cured_log.ensures.failing
+    (λ e bytes failing.
+    cured_of c.accepted_checkers_run_safely.ensures _ _ _ c.in_ok-log.log c.in_ok-checkers.checkers.items c.as_slice-2.result.now _ _ (counted _ c.args.question.now.programs.now (c.is_program_count.ensures.0 c.if-not-is_program_count.false))
+    (has_images _ _ _ _ c.in_ok-log.ensures.log c.in_ok-planned.ensures.count c.in_ok-planned.ensures.few)
+    (checkers_decoded _ _ _ c.as_slice.result.now _ _ c.as_slice.ensures.value c.in_ok-decoded.ensures.decoded c.in_default.not-Some
+    c.in_ok-checkers.ensures.made c.in_ok-checkers.ensures.all)
+    c.as_slice-2.ensures.value bytes failing)
+
+pub returns-clause-refused : goal.returns-clause-refused
+returns-clause-refused g c =
+    one_err c.cured_log.result _ _ c.cured_log.ensures.refused
+    (λ r refused.
+    for_source r (counted _ c.args.question.now.programs.now (c.is_program_count.ensures.0 c.if-not-is_program_count.false))
+    (for_plan r c.in_ok-log.log c.in_ok-log.ensures.log refused))
