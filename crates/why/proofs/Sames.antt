@@ -1,5 +1,5 @@
 -- Whether all images of a group end alike.
-use Rattle.std.proofs.Common.{◌≢◌, replicate, ℕ, zero, suc, ◌≡◌, ◌+◌, ◌<◌, ◌≤◌, ◌==◌, ◌&&◌, ◌||◌, ◌↔◌, Bool, true, false, not, if◌then◌else◌, List, [], ◌∷◌, ◌++◌, length, take, slice_set, slice_get, Some, bytes_eq, refl, sym, ◌∙◌, ap, subst, inl, inr, arith}
+use Rattle.std.proofs.Common.{◌≢◌, replicate, ℕ, zero, suc, ◌≡◌, ◌+◌, ◌<◌, ◌==◌, ◌&&◌, ◌||◌, ◌↔◌, Bool, true, false, not, List, [], ◌∷◌, ◌++◌, length, slice_set, slice_get, Some, refl, sym, ◌∙◌, ap, subst, inl, inr, arith}
 use Rattle.std.specs.List.{slice_index_or, range_with_len, list_all}
 use Rattle.std.proofs.lemmas.Bool.{cases_lt}
 use Rattle.std.proofs.lemmas.Bool.Decides.{eqb_tells}
@@ -119,6 +119,7 @@ same_tells outcomes begin places k = (there, back)
         let alike : ends_alike outcomes (begin + i) (begin + k) ≡ true =
         ap (λ (b : Bool). not b || ends_alike outcomes (begin + i) (begin + k)) (sym test) ∙ own in
         (bytes_eq-Decides (ends_at outcomes (begin + i)) (ends_at outcomes (begin + k))).0 alike
+
     back : ((i : ℕ) → slice_get places i ≡ Some k → ends_at outcomes (begin + i) ≡ ends_at outcomes (begin + k)) → same_at outcomes begin places k ≡ true
     back each = all_pass (ends_as outcomes begin places k) (length places) (λ i lt. by_test i lt (slice_index_or places i 0 == k) refl)
       where

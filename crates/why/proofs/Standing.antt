@@ -10,8 +10,7 @@ use Rattle.base.proofs.Lists.{range_with_len-push}
 use Rattle.epochs.specs.Cuts.{cuts_of}
 use Rattle.choices.specs.Sums.{StartsValue}
 use Rattle.choices.proofs.Plans.{before_none, before_more, before_all}
-use Rattle.groups.specs.Groups.{AreChoices}
-use Rattle.groups.specs.Folded.{StandsUnder, AreFolded}
+use Rattle.groups.specs.Folded.{StandsUnder}
 use Rattle.why.specs.declared.group.Group.{Group}
 use Rattle.why.specs.declared.cut.CutFailures.{CutFailures}
 use Rattle.why.specs.Groups.{times, group_at, has_images, groups_of}

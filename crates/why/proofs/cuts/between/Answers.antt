@@ -1,6 +1,4 @@
-use Rattle.std.proofs.Common.{◌∙◌, ◌+◌, ◌≤◌, length, filter, ap, arith, List, ℕ}
-use Rattle.why.specs.Failures.{is_between}
-use Rattle.why.proofs.Between.{AreBelow, between_is, below_is, parts_few}
+use Rattle.why.proofs.Between.{between_is, below_is}
 use Rattle.why.proofs.cuts.between.Goals as goal
 
 pub returns-clause-before : goal.returns-clause-before

@@ -1,4 +1,4 @@
-use Rattle.std.proofs.Common.{◌≡◌, ◌+◌, ◌<◌, ◌∙◌, length, map, ap, ℕ, Bool, true, List, arith}
+use Rattle.std.proofs.Common.{◌≡◌, ◌+◌, ◌<◌, ◌∙◌, length, map, ℕ, true, List, arith}
 use Rattle.std.specs.List.{slice_index_or}
 use Rattle.why.specs.declared.group.Group.{Group}
 use Rattle.why.specs.Groups.{times, same_at, group_at}

@@ -1,4 +1,4 @@
-use Rattle.std.proofs.Common.{rules, ℕ, ◌≡◌, ◌+◌, ◌<◌, ◌∙◌, Bool, true, List, length, map, refl, ap, arith}
+use Rattle.std.proofs.Common.{ℕ, ◌<◌, ◌∙◌, true, List, length, map, refl, arith}
 use Rattle.std.specs.List.{slice_index_or}
 use Rattle.std.proofs.lemmas.Option.{slice_get-get_or}
 use Rattle.why.proofs.Sames.{compare_more, flag_at}
