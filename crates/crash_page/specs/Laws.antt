@@ -16,4 +16,4 @@ TextIsNoMarkup = (bytes : List ℕ) (i b : ℕ) → slice_get (html bytes) i ≡
 
 -- what `failures` tells of images of a run is what a page takes
 abbrev pub FailuresAreOfRun : Type 0
-FailuresAreOfRun = (s : StartsValue) (failing : List ℕ) (cs : List CutFailures) → AreImages s failing → AreCuts s failing cs → All (IsOfRun s) cs
+FailuresAreOfRun = (s : StartsValue) (failing : List ℕ) (outcomes : List (List ℕ)) (cs : List CutFailures) → AreImages s failing → AreCuts s failing outcomes cs → All (IsOfRun s) cs
