@@ -1,5 +1,5 @@
 -- What lines say, read one after the other.
-use Rattle.std.proofs.Common.{ℕ, zero, suc, ◌≡◌, ◌∙◌, ◌+◌, ◌≤◌, ◌==◌, append-nil, Bool, true, false, if◌then◌else◌, List, [], ◌∷◌, ◌++◌, length, length-append, map, filter, take, drop, slice_get, None, Some, refl, sym, ap, subst, arith}
+use Rattle.std.proofs.Common.{ℕ, zero, suc, ◌≡◌, ◌∙◌, ◌+◌, ◌≤◌, ◌==◌, append-nil, Bool, true, false, if◌then◌else◌, List, [], ◌∷◌, ◌++◌, length, length-append, filter, take, drop, slice_get, None, Some, refl, sym, ap, arith}
 use Rattle.std.specs.List.{flat_map}
 use Rattle.std.proofs.lemmas.List.Concat.{flat_map-append}
 use Rattle.std.proofs.lemmas.List.Elements.{filter-append}
@@ -8,7 +8,7 @@ use Rattle.base.proofs.Lists.{take-suc_place}
 use Rattle.lines.specs.declared.marks.Mark.{Mark}
 use Rattle.lines.specs.Line.{FailingLine}
 use Rattle.lines.specs.Marks.{mark_of, marks_of}
-use Rattle.lines.specs.Text.{ending_text, line_text}
+use Rattle.lines.specs.Text.{line_text}
 use Rattle.outcomes.specs.Outcomes.{own_outcome, outcomes_failing, is_marked, if_own, ReadsOutcome, AreOutcomes}
 
 -- of the first i lines it was read what a program ended in, and a rest is still to be read

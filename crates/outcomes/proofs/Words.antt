@@ -1,7 +1,6 @@
 -- What a line says, by its words.
 use Rattle.std.proofs.Common.{ℕ, ◌≡◌, ◌∙◌, List, [], ◌∷◌, ◌++◌, codes, append_assoc, refl, sym}
 use Rattle.std.specs.Fmt.{decimal}
-use Rattle.machine.specs.Outcome.{Ending}
 use Rattle.lines.specs.Line.{FailingLine}
 use Rattle.lines.specs.Reading.{IsCutAt, ReadsField}
 use Rattle.lines.specs.Text.{ending_text, choice_text, line_text}

@@ -1,6 +1,6 @@
 use Rattle.std.proofs.Common.{rules, ◌≤◌, length, arith}
 use Rattle.std.proofs.lemmas.Option.{slice_get-get_or}
-use Rattle.outcomes.proofs.Read.{one_read, all_read, all_counted}
+use Rattle.outcomes.proofs.Read.{one_read, all_read}
 use Rattle.outcomes.proofs.reading.outcomes_of.Goals as goal
 
 pub loop-mark-preserved : goal.loop-mark-preserved
