@@ -61,7 +61,11 @@ fn put_program(out: &mut String, program: usize, failures: &[Failure]) -> Result
 /// # Errors
 ///
 /// Memory was refused.
-pub fn put_programs(out: &mut String, programs: usize, failures: &[Failure]) -> Result<(), AllocError>
+pub fn put_programs(
+    out: &mut String,
+    programs: usize,
+    failures: &[Failure],
+) -> Result<(), AllocError>
     ensures { OnOk result (string_bytes out.new ≡ string_bytes out.old ++ programs_text programs failures.now) }
 {
     for program in 0..programs {
@@ -90,8 +94,7 @@ pub fn put_begin(out: &mut String, head: &Head, failures: &[Failure]) -> Result<
 fn put_place(out: &mut String, flush: MissingFlush) -> Result<(), AllocError>
     ensures { OnOk result (string_bytes out.new ≡ string_bytes out.old ++ missing_place flush) }
 {
-    write!(out, "flush before {}", flush.at)?;
-    write!(out, " from {}", flush.from)
+    write!(out, "flush before {} from {}", flush.at, flush.from)
 }
 
 /// Appends the line of a flush that is missing.
