@@ -3,9 +3,9 @@
 ghost use Rattle.std.specs.Prelude.{◌≡◌, ◌<◌, ◌++◌, [], length, IfOk, OnOk, string_bytes};
 ghost use Rattle.choices.specs.Choices.{ranked};
 ghost use Rattle.images.specs.Views.{IsMember};
-ghost use Rattle.crash_page.specs.Groups.{image_text, block_text, choice_at, group_choice, group_size, group_text};
+ghost use Rattle.crash_page.specs.Groups.{image_text, block_text, choice_at, sides_text, group_open, group_choice, group_size, group_text};
 
-use crate::html::put_html;
+use crate::html::put_sided;
 use crate::pieces::{Piece, put, put_number};
 use crate::run::Run;
 use choice_text::put_departures;
@@ -62,7 +62,7 @@ fn put_block(out: &mut String, text: &str) -> Result<(), AllocError>
 {
     if text.len() <= LONGEST {
         put(out, Piece::TextOpen)?;
-        put_html(out, text.as_bytes())?;
+        put_sided(out, text.as_bytes())?;
         return put(out, Piece::TextClose);
     }
     put(out, Piece::LongOpen)?;
@@ -79,12 +79,39 @@ pub(crate) fn put_choice_at(out: &mut String, run: &Run<'_>, image: u64) -> Resu
     put_departures(out, run.numbering.by, choice.departures())
 }
 
+/// Appends what the sides of the differences of an image are, where something departs.
+fn put_sides(out: &mut String, choice: &Choice) -> Result<(), AllocError>
+    ensures { OnOk result (string_bytes out.new ≡ string_bytes out.old ++ sides_text choice.now) }
+{
+    if choice.departures().is_empty() {
+        Ok(())
+    } else {
+        put(out, Piece::Sides)
+    }
+}
+
+/// Appends what begins a group, open or not.
+fn put_group_open(out: &mut String, is_open: bool) -> Result<(), AllocError>
+    ensures { OnOk result (string_bytes out.new ≡ string_bytes out.old ++ group_open is_open) }
+{
+    if is_open {
+        put(out, Piece::GroupOpened)
+    } else {
+        put(out, Piece::GroupOpen)
+    }
+}
+
 /// Appends the choice of a group.
 #[tactic(auto, unfolding(crate::specs::Groups::group_choice))]
-fn put_group_choice(out: &mut String, run: &Run<'_>, choice: &Choice) -> Result<(), AllocError>
-    ensures { OnOk result (string_bytes out.new ≡ string_bytes out.old ++ group_choice run.now.starts.now choice.now) }
+fn put_group_choice(
+    out: &mut String,
+    run: &Run<'_>,
+    is_open: bool,
+    choice: &Choice,
+) -> Result<(), AllocError>
+    ensures { OnOk result (string_bytes out.new ≡ string_bytes out.old ++ group_choice run.now.starts.now is_open choice.now) }
 {
-    put(out, Piece::GroupOpen)?;
+    put_group_open(out, is_open)?;
     put_departures(out, run.numbering.by, choice.departures())
 }
 
@@ -106,15 +133,17 @@ pub(crate) fn put_group(
     alloc: Global,
     out: &mut String,
     run: &Run<'_>,
+    is_open: bool,
     group: Group,
 ) -> Result<(), AllocError>
     requires image { group.image < length (ranked run.now.starts.now.plan run.now.starts.now.bound run.now.starts.now.tears) }
-    ensures { OnOk result (string_bytes out.new ≡ string_bytes out.old ++ group_text run.now.starts.now group) }
+    ensures { OnOk result (string_bytes out.new ≡ string_bytes out.old ++ group_text run.now.starts.now is_open group) }
 {
     let choice = run.starts.nth(group.image);
     let text = image_text(alloc, run, &choice)?;
-    put_group_choice(out, run, &choice)?;
+    put_group_choice(out, run, is_open, &choice)?;
     put_group_size(out, group)?;
+    put_sides(out, &choice)?;
     put_block(out, text.as_str())?;
     put(out, Piece::GroupClose)
 }

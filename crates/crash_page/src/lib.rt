@@ -28,11 +28,13 @@ mod dress;
 mod entry;
 mod group;
 mod html;
+mod lacking;
 mod laws;
 mod page;
 mod pieces;
 mod program;
 mod run;
+mod share;
 mod strip;
 
 pub use laws::{failures_are_of_run, text_is_no_markup};

@@ -4,25 +4,38 @@ ghost use Rattle.std.specs.Prelude.{ℕ, ◌≡◌, ◌++◌, OnOk, string_bytes
 ghost use Rattle.std.specs.Fmt.{decimal};
 ghost use Rattle.crash_page.specs.Pieces.{piece_text};
 
-use crate::dress::{CLOSING, LEGEND, OPENING};
+use crate::dress::{CLOSING, LEGEND, OPENING, STYLE};
 use std::alloc::AllocError;
 
 /// A part of a page.
 #[derive(Clone, Copy)]
 pub(crate) enum Piece {
     Opening,
+    Style,
     Legend,
     Closing,
     AboutOpen,
+    AboutClose,
+    HeadClose,
     TextOpen,
     TextClose,
     ProgramOpen,
+    ProgramId,
+    ProgramName,
     ProgramClose,
+    NoCuts,
     GoodOpen,
     GoodClose,
     BadOpen,
     BadCuts,
     Of,
+    CureEntry,
+    CureEntries,
+    CureClose,
+    NamedOpen,
+    NamedClose,
+    UncuredOpen,
+    UncuredClose,
     StripOpen,
     OpenEnd,
     StripClose,
@@ -30,6 +43,12 @@ pub(crate) enum Piece {
     CellLink,
     LinkEnd,
     CellClose,
+    LackOpen,
+    LackTitle,
+    LackFrom,
+    LackOn,
+    LackImages,
+    LackClose,
     PassingOpen,
     PassingClose,
     FailingOpen,
@@ -37,8 +56,13 @@ pub(crate) enum Piece {
     FailingTitle,
     FailingClose,
     ImagesFail,
+    KeyOpen,
+    KeyColour,
+    KeyClose,
+    LegendClose,
     CutOpen,
     CutLine,
+    CutOpened,
     CutNumber,
     CutEpoch,
     CutMarks,
@@ -53,14 +77,21 @@ pub(crate) enum Piece {
     CutBody,
     CutClose,
     GroupOpen,
+    GroupOpened,
     GroupImage,
     GroupSize,
     GroupLineEnd,
+    Sides,
+    WholeSide,
+    WrongSide,
+    NoSide,
+    SideClose,
     GroupClose,
     LongOpen,
     LongClose,
     RestOpen,
     RestClose,
+    SectionClose,
     ListOpen,
     RowOpen,
     RowClose,
@@ -74,34 +105,64 @@ fn text_of(piece: Piece) -> &'static str
 {
     match piece {
         Piece::Opening => OPENING,
+        Piece::Style => STYLE,
         Piece::Legend => LEGEND,
         Piece::Closing => CLOSING,
         Piece::AboutOpen => "<pre class='about'>",
+        Piece::AboutClose => "</pre>\n</header>\n<main>\n",
+        Piece::HeadClose => "</h1>\n",
         Piece::TextOpen => "<pre>",
         Piece::TextClose => "</pre>\n",
-        Piece::ProgramOpen => "<h2>Program ",
+        Piece::ProgramOpen => "<section aria-labelledby='p",
+        Piece::ProgramId => "'>\n<h2 id='p",
+        Piece::ProgramName => "'>Program ",
         Piece::ProgramClose => "</h2>\n",
+        Piece::NoCuts => "<p class='none'>The log has no wanted cut: no image was judged.</p>\n",
         Piece::GoodOpen => "<p class='good'>No image fails, at ",
         Piece::GoodClose => " cuts.</p>\n",
         Piece::BadOpen => "<p class='bad'>",
         Piece::BadCuts => " images fail, at ",
         Piece::Of => " of ",
-        Piece::StripOpen => "<div class='log",
+        Piece::CureEntry => "<p class='cure'>A flush right before entry ",
+        Piece::CureEntries => "<p class='cure'>A flush right before each of the entries ",
+        Piece::CureClose => {
+            " takes every failing image away that a flush can. This isn't tried here: crashbpf cure tries it.</p>\n"
+        }
+        Piece::NamedOpen => "<a href='#",
+        Piece::NamedClose => "</a>",
+        Piece::UncuredOpen => "<p class='order'>No flush takes ",
+        Piece::UncuredClose => {
+            " of the failing images away: there the order of the writes is wrong.</p>\n"
+        }
+        Piece::StripOpen => {
+            "<div tabindex='0' role='group' aria-label='The log: arrow keys move' class='log"
+        }
         Piece::OpenEnd => "'>\n",
         Piece::StripClose => "</div>\n",
-        Piece::CellOpen => "<a class='e",
+        Piece::CellOpen => "<a tabindex='-1' class='e",
         Piece::CellLink => "' href='#e",
         Piece::LinkEnd => "'>",
         Piece::CellClose => "</a>\n",
-        Piece::PassingOpen => "<i class='c",
+        Piece::LackOpen => "<a tabindex='-1' class='lack' id='",
+        Piece::LackTitle => "' title='a flush is missing before entry ",
+        Piece::LackFrom => ", or any from ",
+        Piece::LackOn => " on",
+        Piece::LackImages => " failing images'>",
+        Piece::LackClose => "flush missing</a>\n",
+        Piece::PassingOpen => "<i class='c ",
         Piece::PassingClose => "'></i>\n",
-        Piece::FailingOpen => "<a class='c s",
+        Piece::FailingOpen => "<a tabindex='-1' class='c ",
         Piece::FailingLink => "' href='#",
         Piece::FailingTitle => "' title='cut ",
         Piece::FailingClose => "'></a>\n",
         Piece::ImagesFail => " images fail",
-        Piece::CutOpen => "<details class='cut s",
+        Piece::KeyOpen => "<span><b class='",
+        Piece::KeyColour => "'></b>",
+        Piece::KeyClose => "</span>",
+        Piece::LegendClose => "</p>\n",
+        Piece::CutOpen => "<details class='cut ",
         Piece::CutLine => "'><summary>",
+        Piece::CutOpened => "' open><summary>",
         Piece::CutNumber => "<b>cut ",
         Piece::CutEpoch => "</b> <span>epoch ",
         Piece::CutMarks => ", marks ",
@@ -116,19 +177,31 @@ fn text_of(piece: Piece) -> &'static str
         Piece::CutBody => "</summary>\n<div id='",
         Piece::CutClose => "</div></details>\n",
         Piece::GroupOpen => "<details><summary><code>",
+        Piece::GroupOpened => "<details open><summary><code>",
         Piece::GroupImage => "</code> <small>image ",
         Piece::GroupSize => ", group of ",
         Piece::GroupLineEnd => "</small></summary>\n",
+        Piece::Sides => {
+            "<p class='sides'><span class='whole'>&lt; where nothing is lost</span> <span class='wrong'>&gt; this image, which fails</span></p>\n"
+        }
+        Piece::WholeSide => "<span class='whole'>",
+        Piece::WrongSide => "<span class='wrong'>",
+        Piece::NoSide => "<span>",
+        Piece::SideClose => "</span>",
         Piece::GroupClose => "</details>\n",
         Piece::LongOpen => "<p class='about'>Its text has ",
         Piece::LongClose => " bytes: crashbpf show prints it.</p>\n",
         Piece::RestOpen => "<p class='about'>",
-        Piece::RestClose =>
-            " more smallest failing choices of this cut: crashbpf why lists them.</p>\n",
-        Piece::ListOpen => "<h2>Entries</h2>\n<ol>\n",
+        Piece::RestClose => {
+            " more smallest failing choices of this cut: crashbpf why lists them.</p>\n"
+        }
+        Piece::SectionClose => "</section>\n",
+        Piece::ListOpen => {
+            "<section aria-labelledby='entries'>\n<h2 id='entries'>Entries</h2>\n<ol>\n"
+        }
         Piece::RowOpen => "<li id='e",
         Piece::RowClose => "</li>\n",
-        Piece::ListClose => "</ol>\n",
+        Piece::ListClose => "</ol>\n</section>\n",
     }
 }
 
