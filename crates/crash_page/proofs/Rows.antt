@@ -1,5 +1,5 @@
 -- Texts of a list, element after element: what is written, before what is still to come.
-use Rattle.std.proofs.Common.{ℕ, zero, suc, ◌≡◌, ◌+◌, ◌-◌, ◌<◌, ◌≤◌, ◌==◌, ◌&&◌, Bool, true, List, [], ◌∷◌, ◌++◌, length, length-append, append_assoc, filter, take, drop, get_or, slice_get, Some, None, refl, sym, ap, ◌∙◌, arith}
+use Rattle.std.proofs.Common.{ℕ, zero, suc, ◌≡◌, ◌+◌, ◌-◌, ◌<◌, ◌≤◌, ◌==◌, ◌&&◌, Bool, true, All, List, [], ◌∷◌, ◌++◌, length, length-append, append_assoc, filter, take, drop, get_or, slice_get, Some, None, refl, sym, ap, ◌∙◌, arith}
 use Rattle.std.proofs.lemmas.Option.{same_Some, slice_get_read}
 use Rattle.std.proofs.lemmas.List.{take_more}
 use Rattle.std.proofs.lemmas.List.Elements.{filter-append}
@@ -29,9 +29,9 @@ drop_all [] (suc n) past = refl
 drop_all (x ∷ xs) zero past = absurd (omega (arith, past))
 drop_all (x ∷ xs) (suc n) past = drop_all xs n (omega (arith, past))
 
--- a cut of a run is one of its log
-pub cut_within : (s : StartsValue) (l : LogValue) (c : CutFailures) → s.plan.log ≡ l → IsOfRun s c → c.cut ≤ length l.entries
-cut_within s l c same is = let cut = is.cut in let long = ap (λ (x : LogValue). length x.entries) same in omega (arith, cut, long)
+-- the cuts of a run are cuts of its log
+pub cuts_within : (s : StartsValue) (lines : ℕ) (l : LogValue) (cs : List CutFailures) → s.plan.log ≡ l → All (IsOfRun s lines) cs → All (λ (c : CutFailures). c.cut ≤ length l.entries) cs
+cuts_within s lines l cs same are = λ k d lt. let cut = (are k d lt).cut in let long = ap (λ (x : LogValue). length x.entries) same in omega (arith, cut, long)
 
 -- what is written and what is to come are the whole text, with one piece more written
 next_piece : (start before piece now rest all : List ℕ) → before ++ (piece ++ rest) ≡ start ++ all → now ≡ before ++ piece → now ++ rest ≡ start ++ all
@@ -54,21 +54,21 @@ pub strip_end : (es : List Entry) (program : ℕ) (ms : List MissingFlush) (from
 strip_end es program ms from n cs start before now past so_far is =
     is ∙ ap (λ (rest : List CutFailures). before ++ strip_from es program ms from rest) (sym (drop_all cs n past)) ∙ so_far
 
-pub cuts_more : (s : StartsValue) (program : ℕ) (is_first next_first : Bool) (left less n : ℕ) (cs : List CutFailures) (c : CutFailures) (how : Showing) (start before now : List ℕ)
+pub cuts_more : (s : StartsValue) (outcomes : List (List ℕ)) (program : ℕ) (is_first next_first : Bool) (left less n : ℕ) (cs : List CutFailures) (c : CutFailures) (how : Showing) (start before now : List ℕ)
     → n < length cs → c ≡ get_or cs n c → how ≡ showing program is_first left c → less ≡ left - how.groups → next_first ≡ (is_first && c.failing == 0)
-    → before ++ cuts_text s program is_first left (drop n cs) ≡ start ++ cuts_text s program true 500 cs → now ≡ before ++ cut_text s how c
-    → now ++ cuts_text s program next_first less (drop (n + 1) cs) ≡ start ++ cuts_text s program true 500 cs
-cuts_more s program is_first next_first left less n cs c how start before now within is told lower later so_far written =
+    → before ++ cuts_text s outcomes program is_first left (drop n cs) ≡ start ++ cuts_text s outcomes program true 500 cs → now ≡ before ++ cut_text s outcomes how c
+    → now ++ cuts_text s outcomes program next_first less (drop (n + 1) cs) ≡ start ++ cuts_text s outcomes program true 500 cs
+cuts_more s outcomes program is_first next_first left less n cs c how start before now within is told lower later so_far written =
     let split : drop n cs ≡ c ∷ drop (n + 1) cs = drop_next cs n c (slice_get_read cs (length cs) n c refl within is) in
-    let opened : before ++ (cut_text s (showing program is_first left c) c ++ cuts_text s program (is_first && c.failing == 0) (left - shown_of left c) (drop (n + 1) cs)) ≡ start ++ cuts_text s program true 500 cs =
-    ap (λ (rest : List CutFailures). before ++ cuts_text s program is_first left rest) (sym split) ∙ so_far in
+    let opened : before ++ (cut_text s outcomes (showing program is_first left c) c ++ cuts_text s outcomes program (is_first && c.failing == 0) (left - shown_of left c) (drop (n + 1) cs)) ≡ start ++ cuts_text s outcomes program true 500 cs =
+    ap (λ (rest : List CutFailures). before ++ cuts_text s outcomes program is_first left rest) (sym split) ∙ so_far in
     rw (lower ∙ ap (λ (h : Showing). left - h.groups) told, later)
-    (next_piece start before (cut_text s (showing program is_first left c) c) now _ _ opened (written ∙ ap (λ (h : Showing). before ++ cut_text s h c) told))
+    (next_piece start before (cut_text s outcomes (showing program is_first left c) c) now _ _ opened (written ∙ ap (λ (h : Showing). before ++ cut_text s outcomes h c) told))
 
-pub cuts_end : (s : StartsValue) (program : ℕ) (is_first : Bool) (left n : ℕ) (cs : List CutFailures) (start before : List ℕ) → length cs ≤ n
-    → before ++ cuts_text s program is_first left (drop n cs) ≡ start ++ cuts_text s program true 500 cs → before ≡ start ++ cuts_text s program true 500 cs
-cuts_end s program is_first left n cs start before past so_far =
-    sym (ap (λ (rest : List CutFailures). before ++ cuts_text s program is_first left rest) (drop_all cs n past) ∙ append-nil before) ∙ so_far
+pub cuts_end : (s : StartsValue) (outcomes : List (List ℕ)) (program : ℕ) (is_first : Bool) (left n : ℕ) (cs : List CutFailures) (start before : List ℕ) → length cs ≤ n
+    → before ++ cuts_text s outcomes program is_first left (drop n cs) ≡ start ++ cuts_text s outcomes program true 500 cs → before ≡ start ++ cuts_text s outcomes program true 500 cs
+cuts_end s outcomes program is_first left n cs start before past so_far =
+    sym (ap (λ (rest : List CutFailures). before ++ cuts_text s outcomes program is_first left rest) (drop_all cs n past) ∙ append-nil before) ∙ so_far
 
 pub named_more : (program count n : ℕ) (ms : List MissingFlush) (m : MissingFlush) (start before now : List ℕ) → n < length ms → m ≡ get_or ms n m
     → before ++ named_from program count n (drop n ms) ≡ start ++ named_from program count 0 ms → now ≡ before ++ named_text program count n m

@@ -1,4 +1,4 @@
--- What is said of a cut at which images fail: its first smallest failing choices, each with its image in words.
+-- What is said of a cut at which images fail: its first groups, each with the image of its example in words.
 use Rattle.std.specs.Prelude.{ℕ, ◌-◌, ◌==◌, ◌&&◌, nat_le, Bool, false, if◌then◌else◌, List, [], ◌∷◌, ◌++◌, length, take, slice_get}
 use Rattle.std.specs.Fmt.{decimal}
 use Rattle.std.specs.List.{flat_map}
@@ -11,10 +11,11 @@ use Rattle.images.specs.Views.{ViewValue, view_of, sectors_of}
 use Rattle.crash_text.specs.Shown.{shown_text}
 use Rattle.why.specs.declared.cut.CutFailures.{CutFailures}
 use Rattle.why.specs.declared.group.Group.{Group}
+use Rattle.why.specs.Groups.{ends_at}
 use Rattle.crash_page.specs.declared.pieces.Piece.TheVariants as piece
 use Rattle.crash_page.specs.Pieces.{piece_text}
 use Rattle.crash_page.specs.declared.cut.Showing.{Showing}
-use Rattle.crash_page.specs.Html.{sided}
+use Rattle.crash_page.specs.Html.{html, sided}
 use Rattle.crash_page.specs.Shares.{share_of, share_class}
 use Rattle.crash_page.specs.Cells.{place_name, count_text}
 
@@ -44,7 +45,7 @@ choice_at s image = option_map_or (λ (c : ChoiceValue). departures_text s.plan.
 abbrev pub sides_text : ChoiceValue → List ℕ
 sides_text choice = if length choice.departures == 0 then [] else piece_text piece.Sides
 
--- a group, open or not: its choice, its image, and how many failing images stand in it
+-- a group, open or not: the choice of its example, its image, and how many failing images stand in it
 abbrev pub group_open : Bool → List ℕ
 group_open is_open = if is_open then piece_text piece.GroupOpened else piece_text piece.GroupOpen
 
@@ -52,21 +53,31 @@ unfoldable pub group_choice : StartsValue → Bool → ChoiceValue → List ℕ
 group_choice s is_open choice = group_open is_open ++ departures_text s.plan.by choice.departures
 
 unfoldable pub group_size : Group → List ℕ
-group_size g = piece_text piece.GroupImage ++ decimal g.image ++ piece_text piece.GroupSize ++ decimal g.failing ++ piece_text piece.GroupLineEnd
+group_size g = piece_text piece.GroupImage ++ decimal g.image ++ piece_text piece.GroupSize ++ decimal g.failing
 
-unfoldable pub chosen_text : StartsValue → Bool → Group → ChoiceValue → List ℕ
-chosen_text s is_open g choice =
-    group_choice s is_open choice ++ group_size g ++ sides_text choice ++ block_text (image_text s choice) ++ piece_text piece.GroupClose
+-- what the program ends in on its image, and whether on all images of the group
+abbrev pub same_text : Bool → List ℕ
+same_text same = if same then piece_text piece.GroupAll else piece_text piece.GroupSome
 
-abbrev pub group_text : StartsValue → Bool → Group → List ℕ
-group_text s is_open g = option_map_or (chosen_text s is_open g) (slice_get (ranked s.plan s.bound s.tears) g.image) []
+unfoldable pub group_end : List (List ℕ) → Group → List ℕ
+group_end outcomes g = same_text g.same ++ html (ends_at outcomes g.line) ++ piece_text piece.GroupLineEnd
+
+unfoldable pub group_line : StartsValue → List (List ℕ) → Bool → Group → ChoiceValue → List ℕ
+group_line s outcomes is_open g choice = group_choice s is_open choice ++ group_size g ++ group_end outcomes g
+
+unfoldable pub chosen_text : StartsValue → List (List ℕ) → Bool → Group → ChoiceValue → List ℕ
+chosen_text s outcomes is_open g choice =
+    group_line s outcomes is_open g choice ++ sides_text choice ++ block_text (image_text s choice) ++ piece_text piece.GroupClose
+
+abbrev pub group_text : StartsValue → List (List ℕ) → Bool → Group → List ℕ
+group_text s outcomes is_open g = option_map_or (chosen_text s outcomes is_open g) (slice_get (ranked s.plan s.bound s.tears) g.image) []
 
 -- groups, of which the first may be open
-unfoldable pub groups_text : StartsValue → Bool → List Group → List ℕ
-groups_text s is_open [] = []
-groups_text s is_open (g ∷ gs) = group_text s is_open g ++ flat_map (group_text s false) gs
+unfoldable pub groups_text : StartsValue → List (List ℕ) → Bool → List Group → List ℕ
+groups_text s outcomes is_open [] = []
+groups_text s outcomes is_open (g ∷ gs) = group_text s outcomes is_open g ++ flat_map (group_text s outcomes false) gs
 
--- the first of the choices of a cut, and how many there are
+-- the choice of the first group of a cut, and how many there are
 unfoldable pub first_text : StartsValue → List Group → List ℕ
 first_text s [] = []
 first_text s (g ∷ gs) = piece_text piece.FirstOpen ++ choice_at s g.image ++ piece_text piece.FirstOf ++ decimal (length (g ∷ gs)) ++ piece_text piece.FirstClose
@@ -106,21 +117,21 @@ abbrev pub shown_of : ℕ → CutFailures → ℕ
 shown_of left c = length (take left (take most_of_cut c.groups.items))
 
 -- a cut, with so many of its groups; where it is open, the first of them is, too
-unfoldable pub cut_shown : StartsValue → Showing → CutFailures → List ℕ
-cut_shown s how c =
-    cut_head s how c ++ groups_text s how.is_open (take how.groups c.groups.items) ++ rest_text (length c.groups.items - how.groups)
+unfoldable pub cut_shown : StartsValue → List (List ℕ) → Showing → CutFailures → List ℕ
+cut_shown s outcomes how c =
+    cut_head s how c ++ groups_text s outcomes how.is_open (take how.groups c.groups.items) ++ rest_text (length c.groups.items - how.groups)
     ++ piece_text piece.CutClose
 
 -- a cut, where images fail
-abbrev pub cut_text : StartsValue → Showing → CutFailures → List ℕ
-cut_text s how c = if c.failing == 0 then [] else cut_shown s how c
+abbrev pub cut_text : StartsValue → List (List ℕ) → Showing → CutFailures → List ℕ
+cut_text s outcomes how c = if c.failing == 0 then [] else cut_shown s outcomes how c
 
 -- how a cut is shown, where so many groups may still be, and no cut before it failed or one did
 abbrev pub showing : ℕ → Bool → ℕ → CutFailures → Showing
 showing program is_first left c = record { program = program; is_open = is_first; groups = shown_of left c }
 
 -- the cuts of a program, of which the first failing one is open
-abbrev pub cuts_text : StartsValue → ℕ → Bool → ℕ → List CutFailures → List ℕ
-cuts_text s program is_first left [] = []
-cuts_text s program is_first left (c ∷ cs) =
-    cut_text s (showing program is_first left c) c ++ cuts_text s program (is_first && c.failing == 0) (left - shown_of left c) cs
+abbrev pub cuts_text : StartsValue → List (List ℕ) → ℕ → Bool → ℕ → List CutFailures → List ℕ
+cuts_text s outcomes program is_first left [] = []
+cuts_text s outcomes program is_first left (c ∷ cs) =
+    cut_text s outcomes (showing program is_first left c) c ++ cuts_text s outcomes program (is_first && c.failing == 0) (left - shown_of left c) cs

@@ -1,15 +1,14 @@
 -- The page of a run (docs/REPORT.md, The page of `page`).
-use Rattle.std.specs.Prelude.{ℕ, ◌+◌, ◌<◌, ◌≤◌, ◌==◌, not, nat_lt, Bool, if◌then◌else◌, List, [], ◌∷◌, ◌++◌, All, codes, length, filter}
+use Rattle.std.specs.Prelude.{ℕ, ◌+◌, ◌≤◌, ◌==◌, not, nat_lt, Bool, true, if◌then◌else◌, List, [], ◌∷◌, ◌++◌, All, codes, length, map, filter}
 use Rattle.std.specs.Fmt.{decimal}
 use Rattle.logfmt.specs.declared.entry.Entry.{Entry}
 use Rattle.logfmt.specs.Bounds.{LogValue}
 use Rattle.notes.specs.LogTable.{word_text}
-use Rattle.choices.specs.Choices.{ranked}
 use Rattle.choices.specs.Sums.{StartsValue}
 use Rattle.report.specs.declared.head.ProgramHead.{ProgramHead}
 use Rattle.report.specs.Report.{steps_word}
 use Rattle.why.specs.declared.cut.CutFailures.{CutFailures}
-use Rattle.why.specs.declared.group.Group.{Group}
+use Rattle.why.specs.Text.{IsNumbered}
 use Rattle.crash_page.specs.declared.pieces.Piece.TheVariants as piece
 use Rattle.crash_page.specs.Pieces.{piece_text}
 use Rattle.crash_page.specs.declared.program.ProgramFailures.{ProgramFailures}
@@ -60,10 +59,14 @@ title_text program p =
 unfoldable pub summary_text : ℕ → ProgramFailures → List ℕ
 summary_text program f = title_text program f.head ++ verdict_text f ++ advice_text program f.missing.items f.uncured
 
+-- what it ends in on each image on which it fails
+abbrev pub outcomes_of : ProgramFailures → List (List ℕ)
+outcomes_of f = map (λ o. o.now) f.outcomes.items
+
 -- a program: what it comes to, the log with its cuts, and what is said of the cuts at which it fails
 unfoldable pub program_text : StartsValue → ℕ → ProgramFailures → List ℕ
 program_text s program f =
-    summary_text program f ++ strip_text s.plan.log.entries program f ++ legend_text ++ cuts_text s program true most_of_program f.cuts.items
+    summary_text program f ++ strip_text s.plan.log.entries program f ++ legend_text ++ cuts_text s (outcomes_of f) program true most_of_program f.cuts.items
     ++ piece_text piece.SectionClose
 
 -- programs, of which the first has that number
@@ -89,10 +92,10 @@ head_text l = piece_text piece.Opening ++ log_name l ++ piece_text piece.Style +
 unfoldable pub page_text : List ℕ → StartsValue → List ProgramFailures → List ℕ
 page_text about s fs = head_text s.plan.log ++ about_text about ++ programs_text s 0 fs ++ list_text s.plan.log.entries ++ piece_text piece.Closing
 
--- what fails at a cut is of the images of a run
-pub record IsOfRun (s : StartsValue) (c : CutFailures) : Type 0 where
+-- what fails at a cut is of the images of a run, of which so many fail
+pub record IsOfRun (s : StartsValue) (lines : ℕ) (c : CutFailures) : Type 0 where
   pub cut : c.cut ≤ length s.plan.log.entries
-  pub images : All (λ (g : Group). g.image < length (ranked s.plan s.bound s.tears)) c.groups.items
+  pub groups : All (IsNumbered s lines) c.groups.items
 
 abbrev pub AreOfRun : StartsValue → ProgramFailures → Type 0
-AreOfRun s f = All (IsOfRun s) f.cuts.items
+AreOfRun s f = All (IsOfRun s (length f.outcomes.items)) f.cuts.items

@@ -1,9 +1,10 @@
 //! What is said of a cut at which images fail.
 
-ghost use Rattle.std.specs.Prelude.{◌≡◌, ◌<◌, ◌≤◌, ◌++◌, ◌-◌, All, false, length, take, OnOk, string_bytes};
+ghost use Rattle.std.specs.Prelude.{◌≡◌, ◌<◌, ◌≤◌, ◌++◌, ◌-◌, All, false, length, map, take, OnOk, string_bytes};
 ghost use Rattle.std.specs.List.{flat_map};
 ghost use Rattle.choices.specs.Choices.{ranked};
-ghost use Rattle.why.specs.declared.group.Group.{Group};
+ghost use Rattle.why.specs.declared.group.Group.{Group as GroupValue};
+ghost use Rattle.why.specs.Text.{IsNumbered};
 ghost use Rattle.crash_page.specs.Groups.{group_text, groups_text, first_text, stand_text, bar_text, cut_line, cut_open, cut_body, cut_head, rest_text, most_of_cut, shown_of, cut_shown, cut_text};
 ghost use Rattle.crash_page.specs.Page.{IsOfRun};
 
@@ -32,7 +33,7 @@ pub(crate) struct Showing {
 /// Appends the first of the choices of a cut, and how many there are.
 #[tactic(auto, unfolding(crate::specs::Groups::first_text))]
 fn put_first(out: &mut String, run: &Run<'_>, groups: &[Group]) -> Result<(), AllocError>
-    requires images { All (λ (g : Group). g.image < length (ranked run.now.starts.now.plan run.now.starts.now.bound run.now.starts.now.tears)) groups.now }
+    requires images { All (λ (g : GroupValue). g.image < length (ranked run.now.starts.now.plan run.now.starts.now.bound run.now.starts.now.tears)) groups.now }
     ensures { OnOk result (string_bytes out.new ≡ string_bytes out.old ++ first_text run.now.starts.now groups.now) }
 {
     match groups {
@@ -117,7 +118,8 @@ fn put_head(
     how: Showing,
     cut: &CutFailures,
 ) -> Result<(), AllocError>
-    requires cut { IsOfRun run.now.starts.now cut.now }
+    requires cut { cut.now.cut ≤ length run.now.starts.now.plan.log.entries }
+    requires images { All (λ (g : GroupValue). g.image < length (ranked run.now.starts.now.plan run.now.starts.now.bound run.now.starts.now.tears)) cut.now.groups.items }
     ensures { OnOk result (string_bytes out.new ≡ string_bytes out.old ++ cut_head run.now.starts.now how cut.now) }
 {
     put_open(out, how.is_open, cut)?;
@@ -145,13 +147,14 @@ fn put_closed(
     alloc: Global,
     out: &mut String,
     run: &Run<'_>,
+    outcomes: &[&str],
     groups: &[Group],
 ) -> Result<(), AllocError>
-    requires images { All (λ (g : Group). g.image < length (ranked run.now.starts.now.plan run.now.starts.now.bound run.now.starts.now.tears)) groups.now }
-    ensures { OnOk result (string_bytes out.new ≡ string_bytes out.old ++ flat_map (group_text run.now.starts.now false) groups.now) }
+    requires groups { All (IsNumbered run.now.starts.now (length outcomes.now)) groups.now }
+    ensures { OnOk result (string_bytes out.new ≡ string_bytes out.old ++ flat_map (group_text run.now.starts.now (map (λ o. o.now) outcomes.now) false) groups.now) }
 {
     for group in groups {
-        put_group(alloc, out, run, false, *group)?;
+        put_group(alloc, out, run, outcomes, false, *group)?;
     }
     Ok(())
 }
@@ -162,17 +165,18 @@ fn put_groups(
     alloc: Global,
     out: &mut String,
     run: &Run<'_>,
+    outcomes: &[&str],
     is_open: bool,
     groups: &[Group],
 ) -> Result<(), AllocError>
-    requires images { All (λ (g : Group). g.image < length (ranked run.now.starts.now.plan run.now.starts.now.bound run.now.starts.now.tears)) groups.now }
-    ensures { OnOk result (string_bytes out.new ≡ string_bytes out.old ++ groups_text run.now.starts.now is_open groups.now) }
+    requires groups { All (IsNumbered run.now.starts.now (length outcomes.now)) groups.now }
+    ensures { OnOk result (string_bytes out.new ≡ string_bytes out.old ++ groups_text run.now.starts.now (map (λ o. o.now) outcomes.now) is_open groups.now) }
 {
     match groups {
         [] => Ok(()),
         [group, rest @ ..] => {
-            put_group(alloc, out, run, is_open, *group)?;
-            put_closed(alloc, out, run, rest)
+            put_group(alloc, out, run, outcomes, is_open, *group)?;
+            put_closed(alloc, out, run, outcomes, rest)
         }
     }
 }
@@ -187,21 +191,22 @@ pub(crate) fn shown_of(left: usize, cut: &CutFailures) -> usize
 }
 
 /// Appends a cut with some of its groups.
-#[tactic(auto, unfolding(crate::specs::Groups::cut_shown))]
+#[tactic(auto, using(crate::proofs::Departing::images_within), unfolding(crate::specs::Groups::cut_shown))]
 fn put_shown_cut(
     alloc: Global,
     out: &mut String,
     run: &Run<'_>,
+    outcomes: &[&str],
     how: Showing,
     cut: &CutFailures,
 ) -> Result<(), AllocError>
     requires shown { how.groups ≤ length cut.now.groups.items }
-    requires cut { IsOfRun run.now.starts.now cut.now }
-    ensures { OnOk result (string_bytes out.new ≡ string_bytes out.old ++ cut_shown run.now.starts.now how cut.now) }
+    requires cut { IsOfRun run.now.starts.now (length outcomes.now) cut.now }
+    ensures { OnOk result (string_bytes out.new ≡ string_bytes out.old ++ cut_shown run.now.starts.now (map (λ o. o.now) outcomes.now) how cut.now) }
 {
     let groups = cut.groups.as_slice();
     put_head(out, run, how, cut)?;
-    put_groups(alloc, out, run, how.is_open, &groups[..how.groups])?;
+    put_groups(alloc, out, run, outcomes, how.is_open, &groups[..how.groups])?;
     put_rest(out, groups.len() - how.groups)?;
     put(out, Piece::CutClose)
 }
@@ -211,15 +216,16 @@ pub(crate) fn put_cut(
     alloc: Global,
     out: &mut String,
     run: &Run<'_>,
+    outcomes: &[&str],
     how: Showing,
     cut: &CutFailures,
 ) -> Result<(), AllocError>
     requires shown { how.groups ≤ length cut.now.groups.items }
-    requires cut { IsOfRun run.now.starts.now cut.now }
-    ensures { OnOk result (string_bytes out.new ≡ string_bytes out.old ++ cut_text run.now.starts.now how cut.now) }
+    requires cut { IsOfRun run.now.starts.now (length outcomes.now) cut.now }
+    ensures { OnOk result (string_bytes out.new ≡ string_bytes out.old ++ cut_text run.now.starts.now (map (λ o. o.now) outcomes.now) how cut.now) }
 {
     if cut.failing == 0 {
         return Ok(());
     }
-    put_shown_cut(alloc, out, run, how, cut)
+    put_shown_cut(alloc, out, run, outcomes, how, cut)
 }

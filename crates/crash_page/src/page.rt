@@ -59,7 +59,7 @@ fn put_programs(
     alloc: Global,
     out: &mut String,
     run: &Run<'_>,
-    programs: &[ProgramFailures],
+    programs: &[ProgramFailures<'_>],
 ) -> Result<(), AllocError>
     requires programs { All (AreOfRun run.now.starts.now) programs.now }
     ensures { OnOk result (string_bytes out.new ≡ string_bytes out.old ++ programs_text run.now.starts.now 0 programs.now) }
@@ -84,7 +84,7 @@ pub fn put_page(
     out: &mut String,
     about: &str,
     run: &Run<'_>,
-    programs: &[ProgramFailures],
+    programs: &[ProgramFailures<'_>],
 ) -> Result<(), AllocError>
     requires programs { All (AreOfRun run.now.starts.now) programs.now }
     ensures { OnOk result (string_bytes out.new ≡ string_bytes out.old ++ page_text about.now run.now.starts.now programs.now) }

@@ -80,6 +80,8 @@ pub(crate) enum Piece {
     GroupOpened,
     GroupImage,
     GroupSize,
+    GroupAll,
+    GroupSome,
     GroupLineEnd,
     Sides,
     WholeSide,
@@ -180,6 +182,8 @@ fn text_of(piece: Piece) -> &'static str
         Piece::GroupOpened => "<details open><summary><code>",
         Piece::GroupImage => "</code> <small>image ",
         Piece::GroupSize => ", group of ",
+        Piece::GroupAll => ", all: ",
+        Piece::GroupSome => ", some: ",
         Piece::GroupLineEnd => "</small></summary>\n",
         Piece::Sides => {
             "<p class='sides'><span class='whole'>&lt; where nothing is lost</span> <span class='wrong'>&gt; this image, which fails</span></p>\n"
@@ -192,9 +196,7 @@ fn text_of(piece: Piece) -> &'static str
         Piece::LongOpen => "<p class='about'>Its text has ",
         Piece::LongClose => " bytes: crashbpf show prints it.</p>\n",
         Piece::RestOpen => "<p class='about'>",
-        Piece::RestClose => {
-            " more smallest failing choices of this cut: crashbpf why lists them.</p>\n"
-        }
+        Piece::RestClose => " more groups of this cut: crashbpf why lists them.</p>\n",
         Piece::SectionClose => "</section>\n",
         Piece::ListOpen => {
             "<section aria-labelledby='entries'>\n<h2 id='entries'>Entries</h2>\n<ol>\n"

@@ -1,6 +1,6 @@
 //! What is said of a program.
 
-ghost use Rattle.std.specs.Prelude.{◌≡◌, ◌==◌, if◌then◌else◌, ◌≤◌, ◌++◌, [], ◌∷◌, All, true, length, filter, OnOk, string_bytes};
+ghost use Rattle.std.specs.Prelude.{◌≡◌, ◌==◌, if◌then◌else◌, ◌≤◌, ◌++◌, [], ◌∷◌, All, true, length, map, filter, OnOk, string_bytes};
 ghost use Rattle.crash_page.specs.declared.pieces.Piece.TheVariants as piece;
 ghost use Rattle.crash_page.specs.Pieces.{piece_text};
 ghost use Rattle.crash_page.specs.Groups.{cuts_text};
@@ -28,11 +28,13 @@ const MANY: usize = 400;
 
 /// On which images a program fails.
 #[derive(Drop)]
-pub struct ProgramFailures {
+pub struct ProgramFailures<'a> {
     /// What the report says of the program.
     pub head: ProgramHead,
     /// On how many images it fails.
     pub failing: usize,
+    /// What it ends in on each of these images.
+    pub outcomes: Vec<&'a str>,
     /// What fails at each wanted cut.
     pub cuts: Vec<CutFailures>,
     /// The flushes that are missing for these images.
@@ -63,7 +65,7 @@ fn failing_cuts(cuts: &[CutFailures]) -> usize
 
 /// Appends on how many images a program fails, and at how many cuts.
 #[tactic(auto, unfolding(crate::specs::Page::bad_text))]
-fn put_bad(out: &mut String, failures: &ProgramFailures) -> Result<(), AllocError>
+fn put_bad(out: &mut String, failures: &ProgramFailures<'_>) -> Result<(), AllocError>
     ensures { OnOk result (string_bytes out.new ≡ string_bytes out.old ++ bad_text failures.now) }
 {
     put(out, Piece::BadOpen)?;
@@ -74,7 +76,7 @@ fn put_bad(out: &mut String, failures: &ProgramFailures) -> Result<(), AllocErro
 }
 
 /// Appends whether a program fails.
-fn put_failing(out: &mut String, failures: &ProgramFailures) -> Result<(), AllocError>
+fn put_failing(out: &mut String, failures: &ProgramFailures<'_>) -> Result<(), AllocError>
     ensures { OnOk result (string_bytes out.new ≡ string_bytes out.old ++ (if failures.now.failing == 0 then piece_text piece.GoodOpen else bad_text failures.now)) }
 {
     if failures.failing == 0 {
@@ -86,7 +88,7 @@ fn put_failing(out: &mut String, failures: &ProgramFailures) -> Result<(), Alloc
 
 /// Appends what a program comes to, of so many cuts.
 #[tactic(auto, unfolding(crate::specs::Page::judged_text))]
-fn put_judged(out: &mut String, failures: &ProgramFailures) -> Result<(), AllocError>
+fn put_judged(out: &mut String, failures: &ProgramFailures<'_>) -> Result<(), AllocError>
     ensures { OnOk result (string_bytes out.new ≡ string_bytes out.old ++ judged_text failures.now) }
 {
     put_failing(out, failures)?;
@@ -95,7 +97,7 @@ fn put_judged(out: &mut String, failures: &ProgramFailures) -> Result<(), AllocE
 }
 
 /// Appends what a program comes to, or that nothing was judged.
-fn put_verdict(out: &mut String, failures: &ProgramFailures) -> Result<(), AllocError>
+fn put_verdict(out: &mut String, failures: &ProgramFailures<'_>) -> Result<(), AllocError>
     ensures { OnOk result (string_bytes out.new ≡ string_bytes out.old ++ verdict_text failures.now) }
 {
     if failures.cuts.is_empty() {
@@ -116,13 +118,13 @@ fn put_strip_open(out: &mut String, log: &Log) -> Result<(), AllocError>
 }
 
 /// Appends the row of entries and cuts, with the flushes that are missing.
-#[tactic(auto, unfolding(crate::specs::Page::strip_text))]
+#[tactic(auto, using(crate::proofs::Rows::cuts_within), unfolding(crate::specs::Page::strip_text))]
 fn put_row(
     alloc: Global,
     out: &mut String,
     run: &Run<'_>,
     program: usize,
-    failures: &ProgramFailures,
+    failures: &ProgramFailures<'_>,
 ) -> Result<(), AllocError>
     requires cuts { AreOfRun run.now.starts.now failures.now }
     ensures { OnOk result (string_bytes out.new ≡ string_bytes out.old ++ strip_text run.now.numbering.log.now.entries program failures.now) }
@@ -140,10 +142,11 @@ fn put_cuts(
     out: &mut String,
     run: &Run<'_>,
     program: usize,
+    outcomes: &[&str],
     cuts: &[CutFailures],
 ) -> Result<(), AllocError>
-    requires cuts { All (IsOfRun run.now.starts.now) cuts.now }
-    ensures { OnOk result (string_bytes out.new ≡ string_bytes out.old ++ cuts_text run.now.starts.now program true most_of_program cuts.now) }
+    requires cuts { All (IsOfRun run.now.starts.now (length outcomes.now)) cuts.now }
+    ensures { OnOk result (string_bytes out.new ≡ string_bytes out.old ++ cuts_text run.now.starts.now (map (λ o. o.now) outcomes.now) program true most_of_program cuts.now) }
 {
     let mut left = MOST_GROUPS_OF_PROGRAM;
     let mut is_first = true;
@@ -153,7 +156,7 @@ fn put_cuts(
             is_open: is_first,
             groups: shown_of(left, cut),
         };
-        put_cut(alloc, out, run, how, cut)?;
+        put_cut(alloc, out, run, outcomes, how, cut)?;
         is_first = is_first && cut.failing == 0;
         left -= how.groups;
     }
@@ -161,7 +164,7 @@ fn put_cuts(
 }
 
 /// The flushes that are missing for a program.
-fn lacking_of<'a>(program: usize, failures: &'a ProgramFailures) -> Lacking<'a>
+fn lacking_of<'a>(program: usize, failures: &'a ProgramFailures<'_>) -> Lacking<'a>
     ensures program { result.program ≡ program }
     ensures flushes { result.flushes.now ≡ failures.now.missing.items }
 {
@@ -206,7 +209,7 @@ fn put_title(out: &mut String, program: usize, head: ProgramHead) -> Result<(), 
 fn put_summary(
     out: &mut String,
     program: usize,
-    failures: &ProgramFailures,
+    failures: &ProgramFailures<'_>,
 ) -> Result<(), AllocError>
     ensures { OnOk result (string_bytes out.new ≡ string_bytes out.old ++ summary_text program failures.now) }
 {
@@ -223,7 +226,7 @@ pub(crate) fn put_program(
     out: &mut String,
     run: &Run<'_>,
     program: usize,
-    failures: &ProgramFailures,
+    failures: &ProgramFailures<'_>,
 ) -> Result<(), AllocError>
     requires cuts { AreOfRun run.now.starts.now failures.now }
     ensures { OnOk result (string_bytes out.new ≡ string_bytes out.old ++ program_text run.now.starts.now program failures.now) }
@@ -231,6 +234,7 @@ pub(crate) fn put_program(
     put_summary(out, program, failures)?;
     put_row(alloc, out, run, program, failures)?;
     put_legend(out)?;
-    put_cuts(alloc, out, run, program, failures.cuts.as_slice())?;
+    let (outcomes, cuts) = (failures.outcomes.as_slice(), failures.cuts.as_slice());
+    put_cuts(alloc, out, run, program, outcomes, cuts)?;
     put(out, Piece::SectionClose)
 }

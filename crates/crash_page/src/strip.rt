@@ -2,7 +2,7 @@
 
 ghost use Rattle.std.specs.Prelude.{◌≡◌, ◌≤◌, ◌++◌, All, length, OnOk, string_bytes};
 ghost use Rattle.crash_page.specs.Cells.{place_name, count_text, passing_text, failing_class, failing_link, failing_title, failing_text, cut_cell, strip_from};
-ghost use Rattle.crash_page.specs.Page.{IsOfRun};
+ghost use Rattle.why.specs.declared.cut.CutFailures.{CutFailures as CutValue};
 
 use crate::entry::{put_cells, put_shade};
 use crate::lacking::Lacking;
@@ -113,7 +113,7 @@ fn put_cut_cell(
 }
 
 /// Appends the entries of a log with the flushes that are missing, and each of the cuts before the entry of its number.
-#[tactic(auto, using(crate::proofs::Rows::cut_within, crate::proofs::Rows::strip_more, crate::proofs::Rows::strip_end))]
+#[tactic(auto, using(crate::proofs::Rows::strip_more, crate::proofs::Rows::strip_end))]
 pub(crate) fn put_strip(
     alloc: Global,
     out: &mut String,
@@ -121,7 +121,7 @@ pub(crate) fn put_strip(
     lacking: &Lacking<'_>,
     cuts: &[CutFailures],
 ) -> Result<(), AllocError>
-    requires cuts { All (IsOfRun run.now.starts.now) cuts.now }
+    requires cuts { All (λ (c : CutValue). c.cut ≤ length run.now.numbering.log.now.entries) cuts.now }
     ensures { OnOk result (string_bytes out.new ≡ string_bytes out.old ++ strip_from run.now.numbering.log.now.entries lacking.now.program lacking.now.flushes.now 0 cuts.now) }
 {
     let (plan, log) = (run.starts.plan(), run.numbering.log);
