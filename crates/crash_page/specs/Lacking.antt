@@ -17,7 +17,7 @@ from_text m = if m.from == m.at then [] else piece_text piece.LackFrom ++ decima
 
 -- what stands beside the pointer: where it may stand, and how many failing images it takes away
 unfoldable pub flush_title : MissingFlush → List ℕ
-flush_title m = piece_text piece.LackTitle ++ decimal m.at ++ from_text m ++ codes ": " ++ decimal m.failing ++ piece_text piece.LackImages
+flush_title m = piece_text piece.LackTitle ++ decimal m.at ++ from_text m ++ piece_text piece.LackImages ++ decimal m.failing
 
 -- its place, and to which line it leads
 unfoldable pub flush_link : ℕ → ℕ → List ℕ

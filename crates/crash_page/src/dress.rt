@@ -12,8 +12,8 @@ pub(crate) const OPENING: &str = "<!DOCTYPE html>
 /// What stands between the name of the log in the title and that in the first line: the style.
 pub(crate) const STYLE: &str = "</title>
 <style>
-:root{color-scheme:light dark;--paper:#fff;--ink:#1c2024;--faint:#59636b;--line:#d5dade;--even:#dfe4e8;--odd:#8f9ba5;--write:#dbe8fb;--write-ink:#1d3655;--discard:#e3d8f2;--discard-ink:#402a5c;--mark:#fff0b8;--mark-ink:#574500;--flush:#2f5f9f;--lack:#b3261e;--lack-ink:#fff;--s0:#7fbf93;--s1:#ffd978;--s2:#ffb347;--s3:#f4803c;--s4:#d8452f;--s5:#9c1420;--aim:#fff8d8;--wrong:#b3261e;--good:#17653a}
-@media (prefers-color-scheme:dark){:root{--paper:#15181b;--ink:#e3e7ea;--faint:#a3adb6;--line:#343a40;--even:#2c3238;--odd:#6a7681;--write:#1f3350;--write-ink:#c3d9f5;--discard:#3b2b50;--discard-ink:#dccbf2;--mark:#443a10;--mark-ink:#f5e3a0;--flush:#77a7e6;--lack:#ff8a80;--lack-ink:#2b0503;--s0:#3f8758;--s1:#8a6d1c;--s2:#b0741c;--s3:#cf6526;--s4:#e04f3a;--s5:#ff7b7b;--aim:#2c2a18;--wrong:#ff9d96;--good:#7fd6a0}}
+:root{color-scheme:light dark;--paper:#fff;--ink:#1c2024;--faint:#59636b;--line:#d5dade;--even:#dfe4e8;--odd:#8f9ba5;--write:#dbe8fb;--write-ink:#1d3655;--discard:#e3d8f2;--discard-ink:#402a5c;--mark:#fff0b8;--mark-ink:#574500;--flush:#2f5f9f;--s0:#7fbf93;--s1:#ffd978;--s2:#ffb347;--s3:#f4803c;--s4:#d8452f;--s5:#9c1420;--aim:#fff8d8;--wrong:#b3261e;--good:#17653a}
+@media (prefers-color-scheme:dark){:root{--paper:#15181b;--ink:#e3e7ea;--faint:#a3adb6;--line:#343a40;--even:#2c3238;--odd:#6a7681;--write:#1f3350;--write-ink:#c3d9f5;--discard:#3b2b50;--discard-ink:#dccbf2;--mark:#443a10;--mark-ink:#f5e3a0;--flush:#77a7e6;--s0:#3f8758;--s1:#8a6d1c;--s2:#b0741c;--s3:#cf6526;--s4:#e04f3a;--s5:#ff7b7b;--aim:#2c2a18;--wrong:#ff9d96;--good:#7fd6a0}}
 *{box-sizing:border-box}
 body{margin:0 auto;max-width:76rem;padding:1.5rem;background:var(--paper);color:var(--ink);font:15px/1.5 system-ui,sans-serif}
 h1{font-size:1.35rem;margin:0 0 .5rem}
@@ -37,7 +37,7 @@ small,.about,.none{color:var(--faint);font-size:13px}
 .e.fua{text-decoration:underline!important}
 .log>.flush{border-left:3px solid var(--flush)}
 .log>.mark{background:var(--mark);color:var(--mark-ink);border-left:2px solid var(--mark-ink);max-width:16em;text-overflow:ellipsis;text-align:left;unicode-bidi:isolate}
-.log>.lack{margin:0 2px;padding:0 4px;border:0;line-height:26px;background:var(--lack);color:var(--lack-ink);font-weight:600}
+.log>.lack{margin:0 2px;padding:0 4px;border:0;line-height:26px;background:var(--flush);color:var(--paper);font-weight:600}
 .c{width:11px;background:var(--share)}
 i.c{width:3px}
 .c:hover,.e:hover,.lack:hover{filter:brightness(.9)}
@@ -48,7 +48,7 @@ i.c{width:3px}
 .key{display:flex;flex-wrap:wrap;gap:.2rem 1.1rem;color:var(--faint);font-size:12px;margin-bottom:1rem}
 .key b{display:inline-block;width:11px;height:14px;margin-right:.35em;vertical-align:-.15em;background:var(--share)}
 .key .flush{border-left:3px solid var(--flush);width:3px}
-.key .lack{background:var(--lack)}
+.key .lack{background:var(--flush)}
 .key .mark{background:var(--mark);border-left:2px solid var(--mark-ink)}
 .key .write{background:var(--write)}
 .key .discard{background:repeating-linear-gradient(135deg,var(--discard) 0 3px,var(--paper) 3px 5px)}

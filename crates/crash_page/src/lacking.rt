@@ -48,9 +48,8 @@ fn put_flush_title(out: &mut String, flush: MissingFlush) -> Result<(), AllocErr
     put(out, Piece::LackTitle)?;
     put_number(out, u64::from(flush.at))?;
     put_from(out, flush)?;
-    out.push_str(": ")?;
-    put_number(out, flush.failing as u64)?;
-    put(out, Piece::LackImages)
+    put(out, Piece::LackImages)?;
+    put_number(out, flush.failing as u64)
 }
 
 /// Appends the place of a flush in the row, and to which line it leads.
