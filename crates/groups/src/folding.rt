@@ -49,7 +49,7 @@ fn known_by(
     key: u128,
     place: usize,
 ) -> Result<usize, AllocError>
-    ensures { OnOk result (Remembers (tree.get nat_cmp examples.old) (tree.get nat_cmp examples.new) key place) }
+    ensures kept { OnOk result (Remembers (tree.get nat_cmp examples.old) (tree.get nat_cmp examples.new) key place) }
     ensures known { IfOk result (λ known. known ≡ unwrap_or (tree.get nat_cmp examples.old key) place) }
 {
     if let Some(known) = examples.get(&key) {

@@ -1,6 +1,6 @@
 //! Whether a program ends on all images of a group as on its example.
 
-ghost use Rattle.std.specs.Prelude.{◌≡◌, ◌+◌, ◌<◌, ◌≤◌, ℕ, length, map, slice_get, Some, IfOk, bytes_eq, true, false};
+ghost use Rattle.std.specs.Prelude.{◌≡◌, ◌+◌, ◌<◌, ◌≤◌, ◌&&◌, ℕ, length, map, slice_get, Some, IfOk, bytes_eq, true, false};
 ghost use Rattle.std.specs.List.{slice_index_or};
 ghost use Rattle.why.specs.Groups.{ends_at, ends_alike, same_at};
 
@@ -13,6 +13,13 @@ fn are_alike(outcomes: &[&str], first: usize, second: usize) -> bool
     ensures { result ≡ ends_alike (map (λ o. o.now) outcomes.now) first second }
 {
     outcomes[first] == outcomes[second]
+}
+
+/// Whether both hold.
+fn both(so_far: bool, alike: bool) -> bool
+    ensures { result ≡ (so_far && alike) }
+{
+    so_far && alike
 }
 
 /// For each place whether all images that stand under it have its outcome, where the outcome of the first image has that number.
@@ -31,8 +38,7 @@ pub(crate) fn same_of(
     same.resize(places.len(), true)?;
     for (place, example) in places.iter().enumerate() {
         let alike = are_alike(outcomes, begin + place, begin + *example);
-        let so_far = same[*example];
-        same[*example] = so_far && alike;
+        same[*example] = both(same[*example], alike);
     }
     Ok(same)
 }
