@@ -6,8 +6,9 @@ The parts that are the same on each page, its style, the keys of its entries and
 """
 import re
 
-from model import FLAGS, departures_of, entry_line, head, parts_of, shown
+from model import FLAGS, entry_line, escaped, head, missing_flushes, shown, window_of
 from notation import DISCARD, MARK, TOP
+from why_model import folded_groups, judged
 
 # How many groups of a cut and of a program are shown, how long a text may be, and how many flushes are named.
 OF_CUT, OF_PROGRAM, LONGEST, NAMED = 8, 500, 16384, 16
@@ -40,7 +41,7 @@ def mark_label(text):
     try:
         characters = text.decode()
     except UnicodeDecodeError:
-        return html("".join(chr(it) if 32 <= it < 127 and it not in b'"\\' else f"\\x{{{it:x}}}" for it in text))
+        return html(escaped(text))
     odd = [chr(it) for it in (*range(32), *range(127, 160), 92)]
     return "".join(f"\\x{{{ord(it):x}}}" if it in odd else html(it) for it in characters)
 
@@ -71,35 +72,8 @@ def legend():
     return dress("LEGEND") + keys + "</p>\n"
 
 
-def window(run, image):
-    """The entries right before which a flush takes an image away, if there are some: first and last."""
-    if not image.departures:
-        return None
-    first = image.departures[0][0].entry
-    lost = [part.entry for part, fate in image.departures if fate == "drop"]
-
-    def ends(number):
-        entry = run.entries[number]
-        return entry.flags & MARK or lost.count(number) < len(list(parts_of(number, entry, run.by)))
-
-    last = [number for number in range(first + 1, image.cut) if ends(number)]
-    return (first + 1, last[-1]) if last else None
-
-
-def missing(windows):
-    """The flushes that are missing for these windows: the first entry before which each may stand, the last, and how many windows
-    are counted there."""
-    places = []
-    while left := [it for it in windows if not any(it[0] <= place <= it[1] for place in places)]:
-        places.append(min(end for _start, end in left))
-    counted = {place: [] for place in places}
-    for start, end in windows:
-        counted[next(place for place in places if start <= place <= end)].append(start)
-    return [(max(starts), place, len(starts)) for place, starts in counted.items()]
-
-
 def flush_cell(program, flush):
-    first, last, count = flush
+    last, first, count = flush
     place = f"{last}" if first == last else f"{last}, or any from {first} on"
     title = f"a flush is missing before entry {place}; failing images: {count}"
     return f"<a tabindex='-1' class='lack' id='p{program}f{last}' href='#e{last}' title='{title}'>flush missing</a>\n"
@@ -109,7 +83,7 @@ def advice(program, flushes, uncured):
     """What flushes would do."""
     text = ""
     if flushes:
-        named = [f"<a href='#p{program}f{last}'>{last}</a>" for _first, last, _count in flushes]
+        named = [f"<a href='#p{program}f{last}'>{last}</a>" for last, _first, _count in flushes]
         named = named[:NAMED] + ([f"{len(named) - NAMED} more"] if len(named) > NAMED else [])
         listed = ", ".join(named[:-1]) + " and " + named[-1] if len(named) > 1 else named[0]
         entries = "each of the entries" if len(named) > 1 else "entry"
@@ -120,31 +94,8 @@ def advice(program, flushes, uncured):
     return text
 
 
-def outcome(checker, image):
-    """What a program ends in on an image on which it fails."""
-    answer, codes = checker.judge(image)
-    return f"answer {answer} codes {','.join(str(it) for it in codes) or '-'}"
-
-
-def lost_or_torn(image):
-    """What becomes of the parts of an image, however much of each is torn."""
-    return frozenset((part.name, fate == "drop") for part, fate in image.departures)
-
-
-def groups(failing):
-    """The groups of the failing images of a cut: the example of each, and the images that stand under it. An image stands under the
-    example of the first that is a part of it; of those in which the same parts are lost and torn the first is the example."""
-    own, examples = {}, {}
-    for image in failing:
-        first = next(it for it in failing if departures_of(it) <= departures_of(image))
-        if first is image:
-            examples.setdefault(lost_or_torn(image), image)
-        own.setdefault(examples[lost_or_torn(first)], []).append(image)
-    return list(own.items())
-
-
 class Cut:
-    """A wanted cut: how many images it has, and those on which a program fails."""
+    """A wanted cut: how many images it has, and those on which a program fails, with what it ends in on each."""
 
     def __init__(self, run, number, failing):
         self.run, self.number, self.failing = run, number, failing
@@ -163,17 +114,17 @@ class Cut:
         title = f"cut {self.number}: {self.count()}"
         return f"<a tabindex='-1' class='{classes}' href='#p{program}c{self.number}' title='{title}'></a>\n"
 
-    def text(self, program, checker, left, is_open):
+    def text(self, program, left, is_open):
         """What is said of it, where so many groups may be shown, and how many are."""
-        found = groups(self.failing)
+        found = folded_groups(self.failing)
         some = found[: min(OF_CUT, left)]
         run, number = self.run, self.number
         text = f"<details class='cut {self.share()}'{' open' if is_open else ''}><summary><b>cut {number}</b>"
         text += f" <span>epoch {run.epoch(number)}, marks {run.marks(number)}</span> <span>{self.count()}</span>"
         text += f" <progress max='{self.images}' value='{len(self.failing)}'></progress> "
-        text += f"<code>{found[0][0].choice()}</code> <small>first of {len(found)}</small>"
+        text += f"<code>{found[0][0].image.choice()}</code> <small>first of {len(found)}</small>"
         text += f"</summary>\n<div id='p{program}c{number}'>\n"
-        text += "".join(group(run, checker, *it, is_open and at == 0) for at, it in enumerate(some))
+        text += "".join(group(run, it, is_open and at == 0) for at, it in enumerate(some))
         if len(found) > len(some):
             text += f"<p class='about'>{len(found) - len(some)} more groups of this cut: crashbpf why lists them.</p>\n"
         return text + "</div></details>\n", len(some)
@@ -185,10 +136,10 @@ def sided(text):
     return "".join(f"<span{sides.get(it[0], '')}>{html(it)}</span>" for it in text.splitlines(keepends=True))
 
 
-def group(run, checker, image, own, is_open):
-    """A group: its example, and the images that stand under it."""
-    ends = outcome(checker, image)
-    said = "all" if all(outcome(checker, it) == ends for it in own) else "some"
+def group(run, own, is_open):
+    """A group: its example, and how many images stand under it."""
+    image, ends = own[0].image, own[0].outcome
+    said = "all" if all(it.outcome == ends for it in own) else "some"
     text = f"<details{' open' if is_open else ''}><summary><code>{image.choice()}</code>"
     text += f" <small>image {image.number}, group of {len(own)}, {said}: {html(ends)}</small></summary>\n"
     if image.departures:
@@ -205,7 +156,7 @@ def group(run, checker, image, own, is_open):
 def strip(run, program, flushes, cuts):
     """The row of entries and cuts, with the flushes that are missing."""
     cells = {cut.number: cut.cell(program) for cut in cuts}
-    lacking = {it[1]: flush_cell(program, it) for it in flushes}
+    lacking = {it[0]: flush_cell(program, it) for it in flushes}
     narrow = " many" if len(run.entries) > MANY else ""
     text = f"<div tabindex='0' role='group' aria-label='The log: arrow keys move' class='log{narrow}'>\n"
     for number in range(len(run.entries)):
@@ -223,14 +174,14 @@ def verdict(cuts):
 
 
 def program_text(run, program, checker, cuts):
-    windows = [window(run, image) for cut in cuts for image in cut.failing]
-    flushes = missing([it for it in windows if it])
+    windows = [window_of(it.image) for cut in cuts for it in cut.failing]
+    flushes = missing_flushes([it for it in windows if it])
     text = f"<section aria-labelledby='p{program}'>\n<h2 id='p{program}'>Program {program}: {checker.about}</h2>\n" + verdict(cuts)
     text += advice(program, flushes, windows.count(None)) + strip(run, program, flushes, cuts) + legend()
     left, is_open = OF_PROGRAM, True
     for cut in cuts:
         if cut.failing:
-            more, some = cut.text(program, checker, left, is_open)
+            more, some = cut.text(program, left, is_open)
             text, left, is_open = text + more, left - some, False
     return text + "</section>\n"
 
@@ -238,13 +189,13 @@ def program_text(run, program, checker, cuts):
 def page(run, checkers):
     """What `page` prints."""
     images = list(run.images())
-    failing = [[it for it in images if checker.judge(it)[0] != 0] for checker in checkers]
-    failed = {it.number for own in failing for it in own}
+    failing = [[own for own in (judged(it, checker) for it in images) if own] for checker in checkers]
+    failed = {it.image.number for own in failing for it in own}
     about = head(run, checkers, False) + f"images {len(images)} failing {len(failed)} lines {sum(len(own) for own in failing)}\n"
     name = f"entries {len(run.entries)}, sectors {run.sectors}"
     text = f"{dress('OPENING')}{name}{dress('STYLE')}{name}</h1>\n<pre class='about'>{html(about)}</pre>\n</header>\n<main>\n"
     for program, own in enumerate(failing):
-        cuts = [Cut(run, number, [it for it in own if it.cut == number]) for number in run.wanted_cuts()]
+        cuts = [Cut(run, number, [it for it in own if it.image.cut == number]) for number in run.wanted_cuts()]
         text += program_text(run, program, checkers[program], cuts)
     rows = "".join(f"<li id='e{it}'>{html(entry_line(run, it))}\n</li>\n" for it in range(len(run.entries)))
     listed = f"<section aria-labelledby='entries'>\n<h2 id='entries'>Entries</h2>\n<ol>\n{rows}</ol>\n</section>\n"
