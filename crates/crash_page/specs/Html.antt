@@ -3,7 +3,6 @@ use Rattle.std.specs.Prelude.{ℕ, ◌==◌, nat_lt, ◌||◌, Bool, true, false
 use Rattle.std.specs.List.{flat_map}
 use Rattle.std.specs.Str.{is_utf8}
 use Rattle.std.specs.Char.{encode_utf8, is_control}
-use Rattle.std.specs.Fmt.{digits}
 use Rattle.notes.specs.Escaped.{escaped}
 use Rattle.crash_page.specs.declared.pieces.Piece.TheVariants as piece
 use Rattle.crash_page.specs.Pieces.{piece_text}
@@ -21,10 +20,16 @@ html_byte b =
 abbrev pub html : List ℕ → List ℕ
 html bytes = flat_map html_byte bytes
 
--- a character of the text of a mark: control characters and `\` (92) by their numbers in hexadecimal digits, any other as it is
+-- a control character or `\` (92)
+abbrev pub is_odd : ℕ → Bool
+is_odd c = is_control c || c == 92
+
+-- a character below 160 of the text of a mark: an odd one as `log` shows its number, any other as it is
+abbrev pub low_char : ℕ → List ℕ
+low_char c = if is_odd c then html (escaped (c ∷ [])) else html_byte c
+
 abbrev pub mark_char : ℕ → List ℕ
-mark_char c =
-    if is_control c || c == 92 then codes "\\x{" ++ digits 16 false c ++ codes "}" else if nat_lt c 128 then html_byte c else encode_utf8 c
+mark_char c = if nat_lt c 160 then low_char c else encode_utf8 c
 
 -- the text of a mark: by its characters where it is UTF-8, else as `log` shows it
 abbrev pub mark_label : List ℕ → List ℕ

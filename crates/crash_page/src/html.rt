@@ -1,9 +1,9 @@
 //! Text on a page.
 
-ghost use Rattle.std.specs.Prelude.{◌≡◌, ◌++◌, chars, OnOk, IfOk, string_bytes};
+ghost use Rattle.std.specs.Prelude.{◌≡◌, ◌<◌, ◌++◌, chars, OnOk, IfOk, string_bytes};
 ghost use Rattle.std.specs.List.{flat_map};
 ghost use Rattle.notes.specs.Escaped.{escaped};
-ghost use Rattle.crash_page.specs.Html.{plain_byte, html_byte, html, mark_char, mark_label, side_text, begin_text, end_text, sided_byte, sided};
+ghost use Rattle.crash_page.specs.Html.{plain_byte, html_byte, html, is_odd, low_char, mark_char, mark_label, side_text, begin_text, end_text, sided_byte, sided};
 
 use crate::pieces::{Piece, put};
 use notes::put_escaped;
@@ -45,29 +45,6 @@ pub(crate) fn put_html(out: &mut String, bytes: &[u8]) -> Result<(), AllocError>
     Ok(())
 }
 
-/// Appends a character of the text of a mark.
-fn put_mark_char(out: &mut String, character: char) -> Result<(), AllocError>
-    ensures { OnOk result (string_bytes out.new ≡ string_bytes out.old ++ mark_char character) }
-{
-    if character.is_control() || character == '\\' {
-        write!(out, "\\x{{{:x}}}", character as u32)
-    } else if character.is_ascii() {
-        put_byte(out, character as u8)
-    } else {
-        out.push(character)
-    }
-}
-
-/// Appends the characters of the text of a mark.
-fn put_mark_chars(out: &mut String, text: &str) -> Result<(), AllocError>
-    ensures { OnOk result (string_bytes out.new ≡ string_bytes out.old ++ flat_map mark_char (chars text.now)) }
-{
-    for character in text.chars() {
-        put_mark_char(out, character)?;
-    }
-    Ok(())
-}
-
 /// Bytes of a foreign text, printable.
 fn printable(alloc: Global, bytes: &[u8]) -> Result<String, AllocError>
     ensures { IfOk result (λ text. string_bytes text ≡ escaped bytes.now) }
@@ -75,6 +52,55 @@ fn printable(alloc: Global, bytes: &[u8]) -> Result<String, AllocError>
     let mut text = String::new(alloc);
     put_escaped(&mut text, bytes)?;
     Ok(text)
+}
+
+/// Appends bytes as `log` shows them.
+fn put_printable(alloc: Global, out: &mut String, bytes: &[u8]) -> Result<(), AllocError>
+    ensures { OnOk result (string_bytes out.new ≡ string_bytes out.old ++ html (escaped bytes.now)) }
+{
+    let text = printable(alloc, bytes)?;
+    put_html(out, text.as_bytes())
+}
+
+/// Whether a character is a control character or `\`.
+fn is_odd(character: char) -> bool
+    ensures { result ≡ is_odd character }
+{
+    character.is_control() || character == '\\'
+}
+
+/// Appends a character below 160 of the text of a mark.
+fn put_low_char(alloc: Global, out: &mut String, character: char) -> Result<(), AllocError>
+    requires { character < 160 }
+    ensures { OnOk result (string_bytes out.new ≡ string_bytes out.old ++ low_char character) }
+{
+    let byte = character as u8;
+    if is_odd(character) {
+        put_printable(alloc, out, &[byte])
+    } else {
+        put_byte(out, byte)
+    }
+}
+
+/// Appends a character of the text of a mark.
+fn put_mark_char(alloc: Global, out: &mut String, character: char) -> Result<(), AllocError>
+    ensures { OnOk result (string_bytes out.new ≡ string_bytes out.old ++ mark_char character) }
+{
+    if (character as u32) < 160 {
+        put_low_char(alloc, out, character)
+    } else {
+        out.push(character)
+    }
+}
+
+/// Appends the characters of the text of a mark.
+fn put_mark_chars(alloc: Global, out: &mut String, text: &str) -> Result<(), AllocError>
+    ensures { OnOk result (string_bytes out.new ≡ string_bytes out.old ++ flat_map mark_char (chars text.now)) }
+{
+    for character in text.chars() {
+        put_mark_char(alloc, out, character)?;
+    }
+    Ok(())
 }
 
 /// Appends the text of a mark: its characters where it is UTF-8, control characters and `\` by their numbers; else each byte that
@@ -87,8 +113,8 @@ pub(crate) fn put_mark_label(
     ensures { OnOk result (string_bytes out.new ≡ string_bytes out.old ++ mark_label text.now) }
 {
     match str::from_utf8(text) {
-        Ok(characters) => put_mark_chars(out, characters),
-        Err(_error) => put_html(out, printable(alloc, text)?.as_bytes()),
+        Ok(characters) => put_mark_chars(alloc, out, characters),
+        Err(_error) => put_printable(alloc, out, text),
     }
 }
 

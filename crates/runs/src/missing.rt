@@ -31,7 +31,7 @@ pub(crate) fn failures_found(
     requires lines { findings.now.work.now.lines ≡ lines_of findings.now.task.now }
     requires marks { marks.now ≡ marks_of findings.now.work.now.lines }
     ensures failures { IfOk result (λ fs. AreFailures findings.now.starts.now.plan.by findings.now.starts.now.plan.log.entries findings.now.work.now.lines fs.items) }
-    ensures inside { IfOk result (λ fs. AreWindows (length findings.now.starts.now.plan.log.entries) (windows_in fs.items)) }
+    ensures inside { IfOk result (λ fs. AreWindows (length findings.now.task.now.log.now.entries) (windows_in fs.items)) }
 {
     // A law of the failing lines, which does nothing: each is of an image of the run.
     lines_are_set();

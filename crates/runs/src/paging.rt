@@ -38,6 +38,7 @@ fn push_own(own: &mut Vec<Failure>, program: usize, failure: Failure) -> Result<
 }
 
 /// The failures of a program, of those of a run.
+#[tactic(auto, using(crate::proofs::Pages::own_more))]
 fn failures_of(
     alloc: Global,
     failures: &[Failure],
@@ -61,6 +62,7 @@ fn count_uncured(failure: Failure, program: usize) -> usize
 }
 
 /// How many failures of a program no flush takes away.
+#[tactic(auto, using(crate::proofs::Pages::uncured_more))]
 fn uncured_of(failures: &[Failure], program: usize) -> usize
     ensures value { result ≡ length (filter (is_uncured program) failures.now) }
     ensures bound { result ≤ length failures.now }
