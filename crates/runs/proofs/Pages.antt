@@ -1,5 +1,5 @@
 -- The page of a run, of the marks and of the failing lines.
-use Rattle.std.proofs.Common.{ℕ, zero, suc, ◌≡◌, ◌+◌, ◌<◌, ◌≤◌, Bool, true, false, if◌then◌else◌, List, [], ◌∷◌, ◌++◌, length, length-append, filter, take, All, get_or, slice_get, Option, None, Some, refl, sym, ◌∙◌, ap, subst, inl, inr, arith}
+use Rattle.std.proofs.Common.{ℕ, zero, suc, ◌≡◌, ◌+◌, ◌<◌, ◌≤◌, ◌==◌, Bool, true, false, if◌then◌else◌, List, [], ◌∷◌, ◌++◌, length, length-append, filter, take, All, get_or, slice_get, Option, None, Some, refl, sym, ◌∙◌, ap, subst, inl, inr, arith}
 use Rattle.std.proofs.lemmas.List.{take_more}
 use Rattle.std.proofs.lemmas.List.Elements.{filter-append}
 use Rattle.std.proofs.lemmas.Option.{same_Some, slice_get_within, slice_get-get_or}
@@ -17,7 +17,7 @@ use Rattle.cure.specs.Text.{is_of, is_uncured}
 use Rattle.lines.specs.declared.marks.Mark.{Mark}
 use Rattle.lines.specs.Line.{FailingLine}
 use Rattle.lines.specs.Marks.{marks_of}
-use Rattle.outcomes.specs.Outcomes.{outcomes_failing}
+use Rattle.outcomes.specs.Outcomes.{is_marked, outcomes_failing}
 use Rattle.report.specs.declared.head.ProgramHead.{ProgramHead}
 use Rattle.report.specs.Report.{HeadValue, options_text, totals_line}
 use Rattle.crash_page.specs.declared.program.ProgramFailures.{ProgramFailures}
@@ -79,6 +79,16 @@ inside_of n program fs own ws now are owns of is =
 pub missing_of_own : (program : ℕ) (fs own : List Failure) (ws now : List Window) (ms : List MissingFlush) → own ≡ own_failures program fs → ws ≡ windows_in own → now ≡ ws
     → AreMissing now ms → AreMissing (windows_in (own_failures program fs)) ms
 missing_of_own program fs own ws now ms owns of is are = subst (λ (vs : List Window). AreMissing vs ms) (is ∙ of ∙ ap windows_in owns) are
+
+-- a program fails on as many images as lines are its own
+pub marked_many : (program : ℕ) (ms : List Mark) → length (images_marked ms program) ≡ length (filter (is_marked program) ms)
+marked_many program [] = refl
+marked_many program (m ∷ ms) = step (marked_many program ms) (m.program == program) refl
+  where
+    step : length (images_marked ms program) ≡ length (filter (is_marked program) ms) → (b : Bool) → (m.program == program) ≡ b
+        → length (images_marked (m ∷ ms) program) ≡ length (filter (is_marked program) (m ∷ ms))
+    step was true e = rw e (ap (λ (n : ℕ). suc n) was)
+    step was false e = rw e was
 
 pub failing_none : (s : StartsValue) (failing : ℕ → List ℕ) (ls : List FailingLine) (hs : List ProgramHead) (fs : List Failure) (programs : List ProgramFailures) → programs ≡ []
     → AreFailing s failing ls hs fs 0 programs
