@@ -71,11 +71,12 @@ codes_pass p w (n ∷ ns) =
 
 ending_pass : (p : ℕ → Bool) → WordsPass p → (e : Ending) → list_all p (ending_text e) ≡ true
 ending_pass p w (Verdict answer numbers) =
-    both p (codes "answer ") (decimal answer ++ codes " codes " ++ codes_text numbers) w.answer
-    (both p (decimal answer) (codes " codes " ++ codes_text numbers) (number p answer w.digit) (both p (codes " codes ") (codes_text numbers) w.numbers (codes_pass p w numbers)))
+    both p (codes "answer " ++ decimal answer ++ codes " codes ") (codes_text numbers)
+    (both p (codes "answer " ++ decimal answer) (codes " codes ") (both p (codes "answer ") (decimal answer) w.answer (number p answer w.digit)) w.numbers) (codes_pass p w numbers)
 ending_pass p w (Stopped cause slot) =
-    both p (codes "fault ") (decimal (fault_number cause) ++ codes " slot " ++ decimal slot) w.fault
-    (both p (decimal (fault_number cause)) (codes " slot " ++ decimal slot) (number p (fault_number cause) w.digit) (both p (codes " slot ") (decimal slot) w.slot (number p slot w.digit)))
+    both p (codes "fault " ++ decimal (fault_number cause) ++ codes " slot ") (decimal slot)
+    (both p (codes "fault " ++ decimal (fault_number cause)) (codes " slot ") (both p (codes "fault ") (decimal (fault_number cause)) w.fault (number p (fault_number cause) w.digit)) w.slot)
+    (number p slot w.digit)
 ending_pass p w OutOfSteps = w.steps
 
 -- an ending has no h
@@ -134,12 +135,12 @@ plain_fate (fate.Tail t) = both is_plain (codes "tail") (decimal t) refl (plain_
 
 plain_part : (way : By) (p : Part) → list_all is_plain (part_text way p) ≡ true
 unfolding part_text
-plain_part by.Sector p = both is_plain (decimal p.entry) (codes "." ++ decimal p.place) (plain_number p.entry) (both is_plain (codes ".") (decimal p.place) refl (plain_number p.place))
+plain_part by.Sector p = both is_plain (decimal p.entry ++ codes ".") (decimal p.place) (both is_plain (decimal p.entry) (codes ".") (plain_number p.entry) refl) (plain_number p.place)
 plain_part by.Write p = plain_number p.entry
 
 plain_departure : (way : By) (d : Departure) → list_all is_plain (departure_text way d) ≡ true
 unfolding departure_text
-plain_departure way d = both is_plain (part_text way d.part) (codes ":" ++ fate_text d.fate) (plain_part way d.part) (both is_plain (codes ":") (fate_text d.fate) refl (plain_fate d.fate))
+plain_departure way d = both is_plain (part_text way d.part ++ codes ":") (fate_text d.fate) (both is_plain (part_text way d.part) (codes ":") (plain_part way d.part) refl) (plain_fate d.fate)
 
 plain_choice : (way : By) (ds : List Departure) → list_all is_plain (choice_text way ds) ≡ true
 unfolding choice_text
@@ -151,16 +152,18 @@ plain_choice way (d ∷ ds) =
 plain_line : (l : FailingLine) → list_all is_plain (line_text l) ≡ true
 unfolding line_text
 plain_line l =
-    both is_plain (codes "image ") _ refl
-    (both is_plain (decimal l.image) _ (plain_number l.image)
-    (both is_plain (codes " cut ") _ refl
-    (both is_plain (decimal l.cut) _ (plain_number l.cut)
-    (both is_plain (codes " program ") _ refl
-    (both is_plain (decimal l.program) _ (plain_number l.program)
-    (both is_plain (codes " ") _ refl
-    (both is_plain (ending_text l.ending) _ (ending_pass is_plain plain l.ending)
-    (both is_plain (codes " choice ") _ refl
-    (both is_plain (choice_text l.by l.departures) (codes "\n") (plain_choice l.by l.departures) refl)))))))))
+    let a : List ℕ = codes "image " ++ decimal l.image in
+    let b : List ℕ = a ++ codes " cut " ++ decimal l.cut in
+    let c : List ℕ = b ++ codes " program " ++ decimal l.program in
+    let d : List ℕ = c ++ codes " " ++ ending_text l.ending in
+    let e : List ℕ = d ++ codes " choice " ++ choice_text l.by l.departures in
+    let pa : list_all is_plain a ≡ true = both is_plain (codes "image ") (decimal l.image) refl (plain_number l.image) in
+    let pb : list_all is_plain b ≡ true = both is_plain (a ++ codes " cut ") (decimal l.cut) (both is_plain a (codes " cut ") pa refl) (plain_number l.cut) in
+    let pc : list_all is_plain c ≡ true = both is_plain (b ++ codes " program ") (decimal l.program) (both is_plain b (codes " program ") pb refl) (plain_number l.program) in
+    let pd : list_all is_plain d ≡ true = both is_plain (c ++ codes " ") (ending_text l.ending) (both is_plain c (codes " ") pc refl) (ending_pass is_plain plain l.ending) in
+    let pe : list_all is_plain e ≡ true =
+    both is_plain (d ++ codes " choice ") (choice_text l.by l.departures) (both is_plain d (codes " choice ") pd refl) (plain_choice l.by l.departures) in
+    both is_plain e (codes "\n") pe refl
 
 ascii : (bs : List ℕ) → list_all is_plain bs ≡ true → IsAscii bs
 ascii [] all = IsAscii-nil

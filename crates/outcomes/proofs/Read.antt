@@ -1,14 +1,14 @@
 -- What lines say, read one after the other.
-use Rattle.std.proofs.Common.{ℕ, zero, suc, ◌≡◌, ◌∙◌, ◌+◌, ◌≤◌, ◌==◌, append-nil, Bool, true, false, if◌then◌else◌, List, [], ◌∷◌, ◌++◌, length, length-append, map, filter, take, drop, slice_get, None, Some, refl, sym, ap, subst, arith}
+use Rattle.std.proofs.Common.{ℕ, zero, suc, ◌≡◌, ◌∙◌, ◌+◌, ◌≤◌, ◌==◌, append-nil, Bool, true, false, if◌then◌else◌, List, [], ◌∷◌, ◌++◌, length, length-append, filter, take, drop, slice_get, None, Some, refl, sym, ap, arith}
 use Rattle.std.specs.List.{flat_map}
 use Rattle.std.proofs.lemmas.List.Concat.{flat_map-append}
 use Rattle.std.proofs.lemmas.List.Elements.{filter-append}
-use Rattle.std.proofs.lemmas.List.{length-map}
+use Rattle.std.proofs.lemmas.List.{length-map, take_all}
 use Rattle.base.proofs.Lists.{take-suc_place}
 use Rattle.lines.specs.declared.marks.Mark.{Mark}
 use Rattle.lines.specs.Line.{FailingLine}
 use Rattle.lines.specs.Marks.{mark_of, marks_of}
-use Rattle.lines.specs.Text.{ending_text, line_text}
+use Rattle.lines.specs.Text.{line_text}
 use Rattle.outcomes.specs.Outcomes.{own_outcome, outcomes_failing, is_marked, if_own, ReadsOutcome, AreOutcomes}
 
 -- of the first i lines it was read what a program ended in, and a rest is still to be read
@@ -54,11 +54,10 @@ one_read text marks program i rest more outcome outcomes m so at reads =
           let one : suc i ≡ i + 1 = omega arith in
           let mine : if_own program m outcome ≡ own_outcome program l =
           ap (λ (k : Mark). if_own program k outcome) own.2 ∙ ap (λ (o : List ℕ). if l.program == program then o ∷ [] else []) said.0 in
-          let took : take (i + 1) ls ≡ take i ls ++ l ∷ [] = ap (λ (k : ℕ). take k ls) (sym one) ∙ take-suc_place ls i l own.1 in
-          (
+          let took : take (i + 1) ls ≡ take i ls ++ l ∷ [] = ap (λ (k : ℕ). take k ls) (sym one) ∙ take-suc_place ls i l own.1 in (
             said.1 ∙ ap (λ (k : ℕ). flat_map line_text (drop k ls)) one,
             ap (λ (os : List (List ℕ)). os ++ if_own program m outcome) was.1 ∙ ap (λ (os : List (List ℕ)). outcomes_failing program (take i ls) ++ os) (mine ∙ sym (append-nil (own_outcome program l)))
-            ∙ sym (flat_map-append (own_outcome program) (take i ls) (l ∷ [])) ∙ ap (outcomes_failing program) (sym took),
+                ∙ sym (flat_map-append (own_outcome program) (take i ls) (l ∷ [])) ∙ ap (outcomes_failing program) (sym took),
           );
       many =
           let one : suc i ≡ i + 1 = omega arith in
@@ -70,21 +69,15 @@ one_read text marks program i rest more outcome outcomes m so at reads =
     }
 
 -- all lines
-take_whole : {X : Type 0} (xs : List X) (i : ℕ) → length xs ≤ i → take i xs ≡ xs
-take_whole [] zero le = refl
-take_whole [] (suc i) le = refl
-take_whole (x ∷ xs) zero le = absurd (omega (arith, le))
-take_whole (x ∷ xs) (suc i) le = ap (λ (ys : List X). x ∷ ys) (take_whole xs i (omega (arith, le)))
-
 pub all_read : (text : List ℕ) (marks : List Mark) (program i : ℕ) (rest : List ℕ) (outcomes : List (List ℕ)) → StillReads text marks program i rest outcomes → length marks ≤ i
     → AreOutcomes text marks program outcomes
 all_read text marks program i rest outcomes so past =
     record {
       read = λ ls e same.
           let many : length marks ≡ length ls = ap (λ (ms : List Mark). length ms) same ∙ length-map ls mark_of in
-          (so.read ls e same).1 ∙ ap (outcomes_failing program) (take_whole ls i (omega (arith, past, many)));
+          (so.read ls e same).1 ∙ ap (outcomes_failing program) (take_all i ls (omega (arith, past, many)));
     }
 
 pub all_counted : (text : List ℕ) (marks : List Mark) (program i : ℕ) (rest : List ℕ) (outcomes : List (List ℕ)) → StillReads text marks program i rest outcomes → length marks ≤ i
     → length outcomes ≡ length (filter (is_marked program) marks)
-all_counted text marks program i rest outcomes so past = so.many ∙ ap (λ (ms : List Mark). length (filter (is_marked program) ms)) (take_whole marks i past)
+all_counted text marks program i rest outcomes so past = so.many ∙ ap (λ (ms : List Mark). length (filter (is_marked program) ms)) (take_all i marks past)

@@ -1,7 +1,6 @@
 -- What a line says, by its words.
 use Rattle.std.proofs.Common.{ℕ, ◌≡◌, ◌∙◌, List, [], ◌∷◌, ◌++◌, codes, append_assoc, refl, sym}
 use Rattle.std.specs.Fmt.{decimal}
-use Rattle.machine.specs.Outcome.{Ending}
 use Rattle.lines.specs.Line.{FailingLine}
 use Rattle.lines.specs.Reading.{IsCutAt, ReadsField}
 use Rattle.lines.specs.Text.{ending_text, choice_text, line_text}
@@ -15,7 +14,8 @@ pub ending_read : (said begun rest outer inner : List ℕ) → IsCutAt 104 said 
 ending_read said begun rest outer inner at c blank =
     record {
       read = λ e choice same.
-          let parted : ending_text e ++ codes " choice " ++ choice ≡ (ending_text e ++ codes " c") ++ 104 ∷ (codes "oice " ++ choice) = simp append_assoc in
+          let parted : ending_text e ++ codes " choice " ++ choice ≡ (ending_text e ++ codes " c") ++ 104 ∷ (codes "oice " ++ choice) =
+          append_assoc (ending_text e) (codes " choice ") choice ∙ sym (append_assoc (ending_text e) (codes " c") (104 ∷ (codes "oice " ++ choice))) in
           let first = (at.parts (ending_text e ++ codes " c") (codes "oice " ++ choice) (lacks_both 104 (ending_text e) (codes " c") (ending_lacks e) refl) (same ∙ parted)).0 in
           let second = c (ending_text e ++ 32 ∷ []) (first ∙ sym (append_assoc (ending_text e) (32 ∷ []) (99 ∷ []))) in
           blank (ending_text e) second;
