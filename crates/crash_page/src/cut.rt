@@ -206,7 +206,14 @@ fn put_shown_cut(
 {
     let groups = cut.groups.as_slice();
     put_head(out, run, how, cut)?;
-    put_groups(alloc, out, run, outcomes, how.is_open, &groups[..how.groups])?;
+    put_groups(
+        alloc,
+        out,
+        run,
+        outcomes,
+        how.is_open,
+        &groups[..how.groups],
+    )?;
     put_rest(out, groups.len() - how.groups)?;
     put(out, Piece::CutClose)
 }

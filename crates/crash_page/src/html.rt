@@ -105,11 +105,7 @@ fn put_mark_chars(alloc: Global, out: &mut String, text: &str) -> Result<(), All
 
 /// Appends the text of a mark: its characters where it is UTF-8, control characters and `\` by their numbers; else each byte that
 /// isn't printable ASCII by its number.
-pub(crate) fn put_mark_label(
-    alloc: Global,
-    out: &mut String,
-    text: &[u8],
-) -> Result<(), AllocError>
+pub(crate) fn put_mark_label(alloc: Global, out: &mut String, text: &[u8]) -> Result<(), AllocError>
     ensures { OnOk result (string_bytes out.new ≡ string_bytes out.old ++ mark_label text.now) }
 {
     match str::from_utf8(text) {
@@ -133,11 +129,7 @@ fn put_side(out: &mut String, byte: u8) -> Result<(), AllocError>
 fn put_begin(out: &mut String, begins: bool, byte: u8) -> Result<(), AllocError>
     ensures { OnOk result (string_bytes out.new ≡ string_bytes out.old ++ begin_text begins byte) }
 {
-    if begins {
-        put_side(out, byte)
-    } else {
-        Ok(())
-    }
+    if begins { put_side(out, byte) } else { Ok(()) }
 }
 
 /// Appends what ends a line, behind its newline.

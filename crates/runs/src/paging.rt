@@ -110,7 +110,12 @@ fn program_failures<'x>(
     let entries = findings.task.log.entries().len();
     let images = images_of_program(alloc, reading.marks, program)?;
     let outcomes = outcomes_of(alloc, reading.text, reading.marks, program)?;
-    let cuts = failures(alloc, findings.starts, images.as_slice(), outcomes.as_slice())?;
+    let cuts = failures(
+        alloc,
+        findings.starts,
+        images.as_slice(),
+        outcomes.as_slice(),
+    )?;
     let missing = missing_for(alloc, failures_of_run, program, entries)?;
     Ok(ProgramFailures {
         head,
