@@ -333,6 +333,11 @@ def cured(run, checkers):
 FLAGS = [(FLUSH, "flush"), (FUA, "fua"), (DISCARD, "discard"), (MARK, "mark"), (16, "metadata")]
 
 
+def escaped(text):
+    """Bytes of a foreign text: printable ASCII but `"` and `\\` as it is, any other byte by its number."""
+    return "".join(chr(it) if 32 <= it < 127 and it not in b'"\\' else f"\\x{{{it:x}}}" for it in text)
+
+
 def entry_line(run, number):
     """An entry as `log` prints it."""
     entry = run.entries[number]
@@ -340,7 +345,7 @@ def entry_line(run, number):
     text += " write" if entry.count and not entry.flags & DISCARD else ""
     text += "".join(f" {word}" for flag, word in FLAGS if entry.flags & flag)
     text += f" sector {entry.sector} count {entry.count}" if entry.count else ""
-    return text + (f' text "{entry.text.decode()}"' if entry.flags & MARK else "")
+    return text + (f' text "{escaped(entry.text)}"' if entry.flags & MARK else "")
 
 
 def place(part):

@@ -253,11 +253,17 @@ fn paged(alloc: Global, findings: &Findings<'_>) -> Result<Vec<u8>, AllocError>
     requires lines { findings.now.work.now.lines ≡ lines_of findings.now.task.now }
     ensures { IfOk result (λ bytes. TellsTask tells.Page findings.now.task.now bytes.items) }
 {
+    let text = printed_text(alloc, &findings.work.lines)?;
     let marks = findings.work.lines.marks(alloc)?;
     let head = head_of_run(alloc, findings.task, false)?;
     // A law of the failing lines, which does nothing: they are in their order, and so are those of each program.
     lines_are_set();
-    page_bytes(alloc, &head, findings, marks.as_slice())
+    let reading = Reading {
+        findings,
+        text: text.as_str(),
+        marks: marks.as_slice(),
+    };
+    page_bytes(alloc, &head, &reading)
 }
 
 /// What is to be told of what was found.
