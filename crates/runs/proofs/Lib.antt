@@ -5,4 +5,5 @@ pub mod Faultless
 pub mod Fitting
 pub mod Runs
 pub mod Explained
+pub mod Missed
 pub mod Pages
