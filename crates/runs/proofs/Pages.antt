@@ -17,7 +17,7 @@ use Rattle.cure.specs.Text.{is_of, is_uncured}
 use Rattle.lines.specs.declared.marks.Mark.{Mark}
 use Rattle.lines.specs.Line.{FailingLine}
 use Rattle.lines.specs.Marks.{marks_of}
-use Rattle.outcomes.specs.Outcomes.{is_marked, outcomes_failing}
+use Rattle.outcomes.specs.Outcomes.{outcomes_failing}
 use Rattle.report.specs.declared.head.ProgramHead.{ProgramHead}
 use Rattle.report.specs.Report.{HeadValue, options_text, totals_line}
 use Rattle.crash_page.specs.declared.program.ProgramFailures.{ProgramFailures}
@@ -80,16 +80,6 @@ pub missing_of_own : (program : ℕ) (fs own : List Failure) (ws now : List Wind
     → AreMissing now ms → AreMissing (windows_in (own_failures program fs)) ms
 missing_of_own program fs own ws now ms owns of is are = subst (λ (vs : List Window). AreMissing vs ms) (is ∙ of ∙ ap windows_in owns) are
 
--- a program fails on as many images as lines are its own
-pub marked_many : (program : ℕ) (ms : List Mark) → length (images_marked ms program) ≡ length (filter (is_marked program) ms)
-marked_many program [] = refl
-marked_many program (m ∷ ms) = step (marked_many program ms) (m.program == program) refl
-  where
-    step : length (images_marked ms program) ≡ length (filter (is_marked program) ms) → (b : Bool) → (m.program == program) ≡ b
-        → length (images_marked (m ∷ ms) program) ≡ length (filter (is_marked program) (m ∷ ms))
-    step was true e = rw e (ap (λ (n : ℕ). suc n) was)
-    step was false e = rw e was
-
 pub failing_none : (s : StartsValue) (failing : ℕ → List ℕ) (ls : List FailingLine) (hs : List ProgramHead) (fs : List Failure) (programs : List ProgramFailures) → programs ≡ []
     → AreFailing s failing ls hs fs 0 programs
 failing_none s failing ls hs fs programs none =
@@ -118,6 +108,9 @@ failing_more s failing ls hs fs count programs f was head is =
             (subst (λ (h : ProgramFailures). IsFailing s (failing count) (outcomes_failing count ls) count fs h) (sym here.1) is)
       ];
     }
+
+pub taken_none : (s : StartsValue) (programs : List ProgramFailures) → programs ≡ [] → All (AreOfRun s) programs
+taken_none s programs none = subst (λ (gs : List ProgramFailures). All (AreOfRun s) gs) (sym none) (λ k d lt. absurd (omega (arith, lt)))
 
 -- what is taken, with one more
 pub taken_more : (s : StartsValue) (programs : List ProgramFailures) (f : ProgramFailures) → All (AreOfRun s) programs → AreOfRun s f → All (AreOfRun s) (programs ++ f ∷ [])
