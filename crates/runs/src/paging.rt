@@ -132,7 +132,7 @@ fn push_failures<'x>(
     found: &mut Vec<ProgramFailures<'x>>,
     failures: ProgramFailures<'x>,
 ) -> Result<(), AllocError>
-    ensures { OnOk result (found.new.items ≡ found.old.items ++ failures ∷ []) }
+    ensures { OnOk result (found.new.items ≡ found.old.items ++ failures.entry ∷ []) }
 {
     found.push(failures)?;
     Ok(())

@@ -1,5 +1,6 @@
 use Rattle.std.proofs.Common.{◌≡◌, ◌∙◌, List, ℕ, length, map, sym, ap, subst, arith, rules}
 use Rattle.std.proofs.lemmas.List.{length-map}
+use Rattle.logfmt.specs.declared.entry.Entry.{Entry}
 use Rattle.flushes.specs.Places.{AreWindows}
 use Rattle.cure.specs.Failures.{windows_in}
 use Rattle.why.specs.Failures.{AreImages, AreCuts}
@@ -22,14 +23,14 @@ failures-requires-clause-outcomes c =
 
 pub missing_for-requires-clause-inside : goal.missing_for-requires-clause-inside
 missing_for-requires-clause-inside c =
-    let long : c.len-entries.result ≡ length c.args.reading.now.findings.now.task.now.log.now.entries = search rules in
-    subst (λ (n : ℕ). AreWindows n (windows_in c.args.failures_of_run.now)) (sym long) c.requires.inside
+    let same : c.entries-entries.result.now ≡ c.args.reading.now.findings.now.task.now.log.now.entries = search rules in
+    subst (λ (es : List Entry). AreWindows (length es) (windows_in c.args.failures_of_run.now)) (sym same) c.requires.inside
 
 pub returns-clause-failing : goal.returns-clause-failing
 returns-clause-failing c =
     let reading = c.args.reading.now in
     let s = reading.findings.now.starts.now in
-    let ends = c.in_ok-outcomes.ensures.read reading.findings.now.work.now.lines reading.text_is reading.marks_are in
+    let ends = c.in_ok-outcomes.ensures.read.read reading.findings.now.work.now.lines reading.text_is reading.marks_are in
     let many : c.len.result ≡ length c.in_ok-images.images.items = search rules in
     record {
       failing = many ∙ ap (λ (ns : List ℕ). length ns) c.in_ok-images.ensures;
