@@ -9,8 +9,8 @@ pub missing_flushes-requires-clause-windows : goal.missing_flushes-requires-clau
 missing_flushes-requires-clause-windows c =
     let same : c.as_slice-2.result.now ≡ windows_in c.in_ok-failures.failures.items =
     c.as_slice-2.ensures.value ∙ c.in_ok-windows.ensures ∙ ap windows_in c.as_slice.ensures.value in
-    let long : c.len.result ≡ length c.args.findings.now.task.now.log.now.entries = search rules in
-    subst (λ (ws : List Window). AreWindows c.len.result ws) (sym same) (subst (λ (n : ℕ). AreWindows n (windows_in c.in_ok-failures.failures.items)) (sym long) c.in_ok-failures.ensures.inside)
+    let long : length c.entries.result.now ≡ length c.args.findings.now.task.now.log.now.entries = search rules in
+    subst (λ (ws : List Window). AreWindows (length c.entries.result.now) ws) (sym same) (subst (λ (n : ℕ). AreWindows n (windows_in c.in_ok-failures.failures.items)) (sym long) c.in_ok-failures.ensures.inside)
 
 pub returns : goal.returns
 returns c =
