@@ -243,40 +243,89 @@ def groups(failing):
     return sorted(count.items(), key=lambda it: it[0].number)
 
 
-def cut_causes(run, cut, failing):
-    """The lines of `why` for a cut at which some images fail."""
-    text = f"cut {cut} images {sum(1 for _choice in run.choices(cut))} failing {len(failing)}\n"
-    for image, count in groups(failing):
-        text += f"group image {image.number} choice {image.choice()} failing {count}\n"
-    return text
+# Where a flush helps
 
 
-def explaining_pairs(run, failing):
-    """The lines of the pairs of entries of which the earlier one didn't arrive whole and the later one did: the first 16, by how
-    many of the failing images this is so, then by their entries."""
-    count = {}
-    for image in failing:
-        departed = {part.entry for part, _fate in image.departures}
-        for earlier in departed:
-            for later in range(earlier + 1, image.cut):
-                if run.entries[later].count and later not in departed:
-                    count[earlier, later] = count.get((earlier, later), 0) + 1
-    first = sorted(count.items(), key=lambda it: (-it[1], it[0]))[:16]
-    return "".join(f"pair {earlier} {later} failing {number}\n" for (earlier, later), number in first)
+def window_of(image):
+    """The first and the last entry before which a flush takes an image away; none where no flush does."""
+    if not image.departures:
+        return None
+    run, first = image.run, image.departures[0][0].entry
+    lost = [part.entry for part, fate in image.departures if fate == "drop"]
+
+    def may_end(number):
+        entry = run.entries[number]
+        return bool(entry.flags & MARK) or len(parts_of(number, entry, run.by)) > lost.count(number)
+
+    ends = [number for number in range(first + 1, image.cut) if may_end(number)]
+    return (first + 1, ends[-1]) if ends else None
 
 
-def causes(run, checkers):
-    """What `why` prints."""
-    images = list(run.images())
-    failing = [[it for it in images if checker.judge(it)[0] != 0] for checker in checkers]
-    text = "crash causes 1\n" + head(run, checkers, False)
-    for number, own in enumerate(failing):
-        text += f"program {number} failing {len(own)}\n"
-        for cut in sorted({it.cut for it in own}):
-            text += cut_causes(run, cut, [it for it in own if it.cut == cut])
-        text += explaining_pairs(run, own)
-    failed = {it.number for own in failing for it in own}
-    return text + f"images {len(images)} failing {len(failed)} lines {sum(len(own) for own in failing)}\n"
+def holds(window, place):
+    return window[0] <= place <= window[1]
+
+
+def missing_flushes(windows):
+    """The places that are picked for windows, rising: each with the first entry before which its flush may stand, and how many
+    windows are counted there."""
+    places = []
+    for window in sorted(windows, key=lambda it: it[1]):
+        if not any(holds(window, place) for place in places):
+            places.append(window[1])
+    counted = [[] for _place in places]
+    for window in windows:
+        counted[next(number for number, place in enumerate(places) if holds(window, place))].append(window)
+    return [(place, max(first for first, _last in own), len(own)) for place, own in zip(places, counted)]
+
+
+def failures_of(run, checkers):
+    """The failing lines of a run, each with the number of its program and the window of its image, and how many images fail."""
+    found, failing = [], 0
+    for image in run.images():
+        window, before = window_of(image), len(found)
+        for number, checker in enumerate(checkers):
+            answer, codes = checker.judge(image)
+            if answer != 0:
+                found.append((failing_line(image, number, answer, codes), number, window))
+        failing += 1 if len(found) > before else 0
+    return found, failing
+
+
+def with_flushes(run, places):
+    """The same run of the log with these flushes besides."""
+    flush = (*run.flush, *places)
+    return Run(run.recorded, run.sectors, run.cuts, run.bound, run.tears, run.by, flush, run.first, run.last)
+
+
+def cure_rounds(run, checkers):
+    """The runs of a cure: each with its failures, how many images fail, and the places that are picked, none in the last."""
+    places = [None]
+    while places:
+        found, failing = failures_of(run, checkers)
+        places = missing_flushes([window for _line, _program, window in found if window is not None])
+        yield run, found, failing, places
+        run = with_flushes(run, [place for place, _first, _count in places])
+
+
+def uncured_text(found, programs):
+    """How the programs fail, and the first failure that no flush takes away."""
+    text = ""
+    for number in range(programs):
+        windows = [window for _line, program, window in found if program == number]
+        text += f"program {number} failing {len(windows)} uncured {windows.count(None)}\n"
+    uncured = [line for line, _program, window in found if window is None]
+    return text + (f"no flush cures {uncured[0]}\n" if uncured else "")
+
+
+def cured(run, checkers):
+    """What `cure` prints, where no run has too many images."""
+    rounds = list(cure_rounds(run, checkers))
+    text = "crash cure 1\n" + head(run, checkers, False) + uncured_text(rounds[0][1], len(checkers))
+    for number, (_run, _found, _failing, places) in enumerate(rounds, 1):
+        for place, first, count in places:
+            text += f"round {number} flush before {place} from {first} failing {count}\n"
+    last, found, failing, _places = rounds[-1]
+    return text + f"images {sum(1 for _image in last.images())} failing {failing} lines {len(found)}\n"
 
 
 # Where a flush helps
@@ -369,6 +418,11 @@ def cured(run, checkers):
 FLAGS = [(FLUSH, "flush"), (FUA, "fua"), (DISCARD, "discard"), (MARK, "mark"), (16, "metadata")]
 
 
+def escaped(text):
+    """Bytes of a foreign text: printable ASCII but `"` and `\\` as it is, any other byte by its number."""
+    return "".join(chr(it) if 32 <= it < 127 and it not in b'"\\' else f"\\x{{{it:x}}}" for it in text)
+
+
 def entry_line(run, number):
     """An entry as `log` prints it."""
     entry = run.entries[number]
@@ -376,7 +430,7 @@ def entry_line(run, number):
     text += " write" if entry.count and not entry.flags & DISCARD else ""
     text += "".join(f" {word}" for flag, word in FLAGS if entry.flags & flag)
     text += f" sector {entry.sector} count {entry.count}" if entry.count else ""
-    return text + (f' text "{entry.text.decode()}"' if entry.flags & MARK else "")
+    return text + (f' text "{escaped(entry.text)}"' if entry.flags & MARK else "")
 
 
 def place(part):

@@ -1,20 +1,27 @@
-"""The page of `page` once more, in the plainest form, written from docs/REPORT.md, 'The page of `page`'.
+"""The page of `page` once more, in the plainest form, written from docs/REPORT.md, 'The page of `page`', and of what docs/CRASH-MODEL.md
+says of flushes that are missing.
 
-The parts that are the same on each page, its style, its legend and its script, are taken from where they stand
+The parts that are the same on each page, its style, the keys of its entries and its script, are taken from where they stand
 (crates/crash_page/src/dress.rt); nothing else is taken from the program under test.
 """
 import re
 
-from model import FLAGS, entry_line, groups, head, shown
+from model import FLAGS, entry_line, escaped, head, missing_flushes, shown, window_of
 from notation import DISCARD, MARK, TOP
+from why_model import folded_groups, judged
 
-# How many groups of a cut and of a program are shown, and how long a text may be.
-OF_CUT, OF_PROGRAM, LONGEST = 8, 500, 16384
+# How many groups of a cut and of a program are shown, how long a text may be, and how many flushes are named.
+OF_CUT, OF_PROGRAM, LONGEST, NAMED = 8, 500, 16384, 16
 
 # Above how many entries their cells are narrow.
 MANY = 400
 
 NAMES = {"&": "&amp;", "<": "&lt;", ">": "&gt;", '"': "&quot;", "'": "&#39;"}
+
+# The shares of failing images: class, words, and at most one in how many.
+NONE = ("s0", "no image fails", None)
+BOUNDED = [(f"s{number + 1}", f"up to 1 in {most}", most) for number, most in enumerate((100, 10, 2))]
+MORE, ALL = ("s4", "more", None), ("s5", "all of them", None)
 
 DRESS = (TOP / "crates/crash_page/src/dress.rt").read_text()
 
@@ -29,6 +36,16 @@ def html(text):
     return "".join(NAMES.get(it, it) for it in text)
 
 
+def mark_label(text):
+    """The text of a mark: its characters where it is UTF-8, else its bytes as `log` shows them."""
+    try:
+        characters = text.decode()
+    except UnicodeDecodeError:
+        return html(escaped(text))
+    odd = [chr(it) for it in (*range(32), *range(127, 160), 92)]
+    return "".join(f"\\x{{{ord(it):x}}}" if it in odd else html(it) for it in characters)
+
+
 def shade(run, place):
     return " o" if run.epoch(place) % 2 else ""
 
@@ -38,94 +55,148 @@ def entry_cell(run, number):
     words = ["write"] if entry.count and not entry.flags & DISCARD else []
     words += [word for flag, word in FLAGS if entry.flags & flag and word != "metadata"]
     words = [word for word in ("write", "flush", "fua", "discard", "mark") if word in words]
-    label = f" {html(entry.text.decode())}" if entry.flags & MARK else ""
+    label = f" {mark_label(entry.text)}" if entry.flags & MARK else ""
     classes = "".join(f" {word}" for word in words)
-    return f"<a class='e{shade(run, number)}{classes}' href='#e{number}'>{number}{label}</a>\n"
+    return f"<a tabindex='-1' class='e{shade(run, number)}{classes}' href='#e{number}'>{number}{label}</a>\n"
 
 
 def share(images, failing):
     """Which share of the images of a cut fails."""
-    if failing == images:
-        return 5
-    return next((place for place, part in ((1, 100), (2, 10), (3, 2)) if failing * part <= images), 4)
+    if failing in (0, images):
+        return ALL if failing else NONE
+    return next((it for it in BOUNDED if failing * it[2] <= images), MORE)
+
+
+def legend():
+    keys = "".join(f"<span><b class='{it[0]}'></b>{it[1]}</span>" for it in (NONE, *BOUNDED, MORE, ALL))
+    return dress("LEGEND") + keys + "</p>\n"
+
+
+def flush_cell(program, flush):
+    last, first, count = flush
+    place = f"{last}" if first == last else f"{last}, or any from {first} on"
+    title = f"a flush is missing before entry {place}; failing images: {count}"
+    return f"<a tabindex='-1' class='lack' id='p{program}f{last}' href='#e{last}' title='{title}'>flush missing</a>\n"
+
+
+def advice(program, flushes, uncured):
+    """What flushes would do."""
+    text = ""
+    if flushes:
+        named = [f"<a href='#p{program}f{last}'>{last}</a>" for last, _first, _count in flushes]
+        named = named[:NAMED] + ([f"{len(named) - NAMED} more"] if len(named) > NAMED else [])
+        listed = ", ".join(named[:-1]) + " and " + named[-1] if len(named) > 1 else named[0]
+        entries = "each of the entries" if len(named) > 1 else "entry"
+        text += f"<p class='cure'>A flush right before {entries} {listed} takes every failing image away that a flush can."
+        text += " This isn't tried here: crashbpf cure tries it.</p>\n"
+    if uncured:
+        text += f"<p class='order'>No flush takes {uncured} of the failing images away: there the order of the writes is wrong.</p>\n"
+    return text
 
 
 class Cut:
-    """A wanted cut: how many images it has, and those on which a program fails."""
+    """A wanted cut: how many images it has, and those on which a program fails, with what it ends in on each."""
 
     def __init__(self, run, number, failing):
         self.run, self.number, self.failing = run, number, failing
         self.images = sum(1 for _choice in run.choices(number))
 
+    def share(self):
+        return share(self.images, len(self.failing))[0]
+
     def count(self):
         return f"{len(self.failing)} of {self.images} images fail"
 
     def cell(self, program):
+        classes = f"c {self.share()}{shade(self.run, self.number)}"
         if not self.failing:
-            return f"<i class='c{shade(self.run, self.number)}'></i>\n"
-        classes = f"c s{share(self.images, len(self.failing))}{shade(self.run, self.number)}"
-        return f"<a class='{classes}' href='#p{program}c{self.number}' title='cut {self.number}: {self.count()}'></a>\n"
+            return f"<i class='{classes}'></i>\n"
+        title = f"cut {self.number}: {self.count()}"
+        return f"<a tabindex='-1' class='{classes}' href='#p{program}c{self.number}' title='{title}'></a>\n"
 
-    def text(self, program, left):
+    def text(self, program, left, is_open):
         """What is said of it, where so many groups may be shown, and how many are."""
-        found = groups(self.failing)
+        found = folded_groups(self.failing)
         some = found[: min(OF_CUT, left)]
         run, number = self.run, self.number
-        text = f"<details class='cut s{share(self.images, len(self.failing))}'><summary><b>cut {number}</b>"
+        text = f"<details class='cut {self.share()}'{' open' if is_open else ''}><summary><b>cut {number}</b>"
         text += f" <span>epoch {run.epoch(number)}, marks {run.marks(number)}</span> <span>{self.count()}</span>"
         text += f" <progress max='{self.images}' value='{len(self.failing)}'></progress> "
-        text += f"<code>{found[0][0].choice()}</code> <small>first of {len(found)}</small>"
-        text += f"</summary>\n<div id='p{program}c{number}'>\n" + "".join(group(run, *it) for it in some)
+        text += f"<code>{found[0][0].image.choice()}</code> <small>first of {len(found)}</small>"
+        text += f"</summary>\n<div id='p{program}c{number}'>\n"
+        text += "".join(group(run, it, is_open and at == 0) for at, it in enumerate(some))
         if len(found) > len(some):
-            text += f"<p class='about'>{len(found) - len(some)} more smallest failing choices of this cut: crashbpf why lists them.</p>\n"
+            text += f"<p class='about'>{len(found) - len(some)} more groups of this cut: crashbpf why lists them.</p>\n"
         return text + "</div></details>\n", len(some)
 
 
-def group(run, image, count):
-    text = f"<details><summary><code>{image.choice()}</code> <small>image {image.number}, group of {count}</small></summary>\n"
+def sided(text):
+    """The lines of a text, each marked by its side."""
+    sides = {"<": " class='whole'", ">": " class='wrong'"}
+    return "".join(f"<span{sides.get(it[0], '')}>{html(it)}</span>" for it in text.splitlines(keepends=True))
+
+
+def group(run, own, is_open):
+    """A group: its example, and how many images stand under it."""
+    image, ends = own[0].image, own[0].outcome
+    said = "all" if all(it.outcome == ends for it in own) else "some"
+    text = f"<details{' open' if is_open else ''}><summary><code>{image.choice()}</code>"
+    text += f" <small>image {image.number}, group of {len(own)}, {said}: {html(ends)}</small></summary>\n"
+    if image.departures:
+        text += "<p class='sides'><span class='whole'>&lt; where nothing is lost</span>"
+        text += " <span class='wrong'>&gt; this image, which fails</span></p>\n"
     words = shown(run, image)
     if len(words) <= LONGEST:
-        text += f"<pre>{html(words)}</pre>\n"
+        text += f"<pre>{sided(words)}</pre>\n"
     else:
         text += f"<p class='about'>Its text has {len(words)} bytes: crashbpf show prints it.</p>\n"
     return text + "</details>\n"
 
 
-def strip(run, program, cuts):
-    """The row of entries and cuts."""
+def strip(run, program, flushes, cuts):
+    """The row of entries and cuts, with the flushes that are missing."""
     cells = {cut.number: cut.cell(program) for cut in cuts}
+    lacking = {it[0]: flush_cell(program, it) for it in flushes}
     narrow = " many" if len(run.entries) > MANY else ""
-    text = f"<div class='log{narrow}'>\n"
+    text = f"<div tabindex='0' role='group' aria-label='The log: arrow keys move' class='log{narrow}'>\n"
     for number in range(len(run.entries)):
-        text += cells.get(number, "") + entry_cell(run, number)
+        text += cells.get(number, "") + lacking.get(number, "") + entry_cell(run, number)
     return text + cells.get(len(run.entries), "") + "</div>\n"
 
 
-def program_text(run, program, cuts):
-    failing = sum(len(cut.failing) for cut in cuts)
+def verdict(cuts):
     bad = [cut for cut in cuts if cut.failing]
-    text = f"<h2>Program {program}</h2>\n"
-    if failing:
-        text += f"<p class='bad'>{failing} images fail, at {len(bad)} of {len(cuts)} cuts.</p>\n"
-    else:
-        text += f"<p class='good'>No image fails, at {len(cuts)} cuts.</p>\n"
-    text += strip(run, program, cuts) + dress("LEGEND")
-    left = OF_PROGRAM
-    for cut in bad:
-        more, some = cut.text(program, left)
-        text, left = text + more, left - some
-    return text
+    if not cuts:
+        return "<p class='none'>The log has no wanted cut: no image was judged.</p>\n"
+    if bad:
+        return f"<p class='bad'>{sum(len(cut.failing) for cut in bad)} images fail, at {len(bad)} of {len(cuts)} cuts.</p>\n"
+    return f"<p class='good'>No image fails, at {len(cuts)} cuts.</p>\n"
+
+
+def program_text(run, program, checker, cuts):
+    windows = [window_of(it.image) for cut in cuts for it in cut.failing]
+    flushes = missing_flushes([it for it in windows if it])
+    text = f"<section aria-labelledby='p{program}'>\n<h2 id='p{program}'>Program {program}: {checker.about}</h2>\n" + verdict(cuts)
+    text += advice(program, flushes, windows.count(None)) + strip(run, program, flushes, cuts) + legend()
+    left, is_open = OF_PROGRAM, True
+    for cut in cuts:
+        if cut.failing:
+            more, some = cut.text(program, left, is_open)
+            text, left, is_open = text + more, left - some, False
+    return text + "</section>\n"
 
 
 def page(run, checkers):
     """What `page` prints."""
     images = list(run.images())
-    failing = [[it for it in images if checker.judge(it)[0] != 0] for checker in checkers]
-    failed = {it.number for own in failing for it in own}
+    failing = [[own for own in (judged(it, checker) for it in images) if own] for checker in checkers]
+    failed = {it.image.number for own in failing for it in own}
     about = head(run, checkers, False) + f"images {len(images)} failing {len(failed)} lines {sum(len(own) for own in failing)}\n"
-    text = dress("OPENING") + f"<pre class='about'>{html(about)}</pre>\n"
+    name = f"entries {len(run.entries)}, sectors {run.sectors}"
+    text = f"{dress('OPENING')}{name}{dress('STYLE')}{name}</h1>\n<pre class='about'>{html(about)}</pre>\n</header>\n<main>\n"
     for program, own in enumerate(failing):
-        cuts = [Cut(run, number, [it for it in own if it.cut == number]) for number in run.wanted_cuts()]
-        text += program_text(run, program, cuts)
+        cuts = [Cut(run, number, [it for it in own if it.image.cut == number]) for number in run.wanted_cuts()]
+        text += program_text(run, program, checkers[program], cuts)
     rows = "".join(f"<li id='e{it}'>{html(entry_line(run, it))}\n</li>\n" for it in range(len(run.entries)))
-    return text + f"<h2>Entries</h2>\n<ol>\n{rows}</ol>\n" + dress("CLOSING")
+    listed = f"<section aria-labelledby='entries'>\n<h2 id='entries'>Entries</h2>\n<ol>\n{rows}</ol>\n</section>\n"
+    return text + listed + dress("CLOSING")

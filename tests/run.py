@@ -52,6 +52,7 @@ Where the rows stand
     designs.py          the designs of examples/: their logs entry by entry, their checkers, the runs whose texts are stored
     stored.py           writes these texts by the models
     page_model.py       the page, written from docs/REPORT.md alone but for its style and script
+    contrast.py         the contrast of the text on a page, by the colours of its style
     model.py            the crash model and the report, written from docs/CRASH-MODEL.md and docs/REPORT.md alone
     programs/           programs as assembly texts
 
@@ -74,6 +75,7 @@ from pathlib import Path
 
 sys.dont_write_bytecode = True
 
+import contrast
 from notation import SECONDS, TOP, Assembly, Folder, Hole, Long, Something
 from rows import (
     answers,
@@ -307,8 +309,8 @@ def main(words):
     assembler = Assembler(program)
     with ThreadPoolExecutor(os.cpu_count()) as pool:
         results = list(pool.map(lambda row: run_row(program, row, assembler), rows))
-    names = [row.name for row in rows] + ["the man page is the program's help"]
-    results.append(manual_differs(program))
+    names = [row.name for row in rows] + ["the man page is the program's help", "text on a page has enough contrast"]
+    results += [manual_differs(program), contrast.too_low()]
     failed = 0
     for name, found in zip(names, results):
         if found:

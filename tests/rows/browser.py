@@ -2,7 +2,7 @@
 from dataclasses import replace
 
 from model import Checker, Run
-from notation import FLUSH, Long, M, W, explore
+from notation import FLUSH, MARK, Entry, Long, M, W, explore
 from page_model import page
 
 from rows.examples import EXAMPLES, JOURNAL_RIGHT, JOURNAL_WRONG, data, pages, two_slots
@@ -11,6 +11,13 @@ from rows.why import FEW, PAGES, RECORDS, SLOTS, TWO_TORN
 
 # A mark whose text would be markup, and a write of which the text of an image is too long.
 MARKUP = [W(0, 1, 1), M("</a><script>alert('1')</script> & more"), W(0, 60, 2), M("behind")]
+
+
+# Marks that are UTF-8, with control characters and without, and one that isn't.
+MARKS = [W(0, 1, 1), M("gr\u00fc\u00dfe, \u65e5\u672c\u8a9e \\ \u202e\x85\x00<"), Entry(flags=MARK, text=b"\xff<\x00\""), W(1, 1, 2)]
+
+# A write that is lost and a later one that arrived, so often that not all missing flushes are named.
+OFTEN = [W(number % 2, 1, number + 1) for number in range(40)]
 
 
 # Each so many of the runs are looked at.
@@ -45,5 +52,8 @@ ROWS = [
     design("pages/wrong", Run(pages(0), 24, by="write", **TWO_TORN), *PAGES, 1),
     modelled("markup in a mark", Run(MARKUP, 64)),
     modelled("markup in a mark, by write", Run(MARKUP, 64, by="write")),
+    modelled("marks in UTF-8", Run(MARKS, 4)),
+    modelled("no wanted cut", Run(OFTEN, 4, cuts="flush", first=0, last=1)),
+    modelled("flushes missing often", Run(OFTEN, 4)),
     *(modelled(name, run) for name, run in list(runs())[::STEP] if sum(1 for _image in run.images()) <= FEW),
 ]

@@ -1,9 +1,10 @@
-"""Why checkers fail: what `why` prints of many logs, compared with the model (model.py), and of the designs of examples/."""
+"""Why checkers fail: what `why` prints of many logs, compared with the model (why_model.py), and of the designs of examples/."""
 from dataclasses import replace
 
 import model
-from model import Checker, Run, causes
+from model import Checker, Run
 from notation import FLUSH, Long, explore
+from why_model import causes
 
 from rows.examples import EXAMPLES, JOURNAL_RIGHT, JOURNAL_WRONG, data, pages, two_slots
 from rows.modelled import CHECKERS, PROGRAMS, any_fails, narrowed, runs

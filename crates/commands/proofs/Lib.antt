@@ -6,7 +6,7 @@ pub mod OwnRun
 pub mod Once
 pub mod Alike
 pub mod OneCause
-pub mod OnePairs
+pub mod OneMissing
 pub mod OneText
 pub mod OnePage
 pub mod OneCure

@@ -9,7 +9,8 @@ use Rattle.logfmt.specs.Bounds.{LogValue}
 use Rattle.lines.specs.Line.{FailingLine}
 use Rattle.lines.specs.Marks.{marks_of}
 use Rattle.why.specs.declared.cut.CutFailures.{CutFailures}
-use Rattle.why.specs.Failures.{AreImages, IsCut, AreCuts, numbers_in, first_at, failing_at}
+use Rattle.outcomes.specs.Outcomes.{outcomes_failing}
+use Rattle.why.specs.Failures.{AreImages, IsCut, AreCuts, numbers_in, first_at, failing_before, failing_at}
 use Rattle.why.specs.Laws.{EachStandsOnce, AllStand}
 use Rattle.why.proofs.Between.{of_cut}
 use Rattle.why.proofs.Ordered.{are_choices}
@@ -30,24 +31,26 @@ run_images law s value checkers program =
     (are_images law s value checkers (starts_of s value) ls (marks_of ls) program refl refl refl)
 
 -- those of a cut stand once in its groups
-stand_at_cut : ListIsSet → EachStandsOnce → (s : StartsValue) (images : List ℕ) (place : ℕ) (c : CutFailures) → AreImages s images → IsCut s images place c
-    → StandAtCut s images place c
-stand_at_cut listed law s images place c are is =
+stand_at_cut : ListIsSet → EachStandsOnce → (s : StartsValue) (images : List ℕ) (outcomes : List (List ℕ)) (place : ℕ) (c : CutFailures) → AreImages s images
+    → IsCut s images outcomes place c → StandAtCut s images outcomes place c
+stand_at_cut listed law s images outcomes place c are is =
     let own : List ℕ = failing_at s images place in
     let more = before_more s.plan s.bound s.tears place c.cut is.wanted in
     let choices =
     are_choices listed s c.cut (first_at s place) own
     (of_cut s images own c.cut (first_at s place) (first_at s (place + 1)) are refl more) in
-    let once = law own (map (numbers_in s c.cut (first_at s place)) own) c.groups.items choices (length-map own (numbers_in s c.cut (first_at s place))) is.grouped in
+    let once = law outcomes (failing_before s images place) own (map (numbers_in s c.cut (first_at s place)) own) c.groups.items choices
+        (length-map own (numbers_in s c.cut (first_at s place))) is.grouped in
     record { numbers = once.adds_up ∙ sym is.fails; once = once }
 
 -- and all of them at the cuts
-pub stand_at_cuts : ListIsSet → EachStandsOnce → AllStand → (s : StartsValue) (images : List ℕ) (cs : List CutFailures) → AreImages s images → AreCuts s images cs
-    → StandAtCuts s images cs
-stand_at_cuts listed law all s images cs are cuts =
-    record { all = all s images cs are cuts; each = λ place c at. stand_at_cut listed law s images place c are (cuts.each place c at) }
+pub stand_at_cuts : ListIsSet → EachStandsOnce → AllStand → (s : StartsValue) (images : List ℕ) (outcomes : List (List ℕ)) (cs : List CutFailures) → AreImages s images
+    → AreCuts s images outcomes cs → StandAtCuts s images outcomes cs
+stand_at_cuts listed law all s images outcomes cs are cuts =
+    record { all = all s images outcomes cs are cuts; each = λ place c at. stand_at_cut listed law s images outcomes place c are (cuts.each place c at) }
 
 pub each_image_stands_once : LinesAreSet → ListIsSet → EachStandsOnce → AllStand → EachImageStandsOnce
-each_image_stands_once set listed law all text files s bytes failing e program c at =
-    stand_at_cuts listed law all (starts_of s e.value) (images_failing program (failing_lines (subject_of s e.value e.checkers))) c.cuts
-    (run_images set s e.value e.checkers program) (e.causes.each program c at).cuts
+each_image_stands_once set listed law all text files s bytes failing e program cuts at =
+    let ls : List FailingLine = failing_lines (subject_of s e.value e.checkers) in
+    stand_at_cuts listed law all (starts_of s e.value) (images_failing program ls) (outcomes_failing program ls) cuts
+    (run_images set s e.value e.checkers program) (e.causes.each program cuts at)

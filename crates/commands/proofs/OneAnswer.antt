@@ -59,7 +59,7 @@ explained_once laws text files s bytes others failing fails h k =
     let lines : failing_lines (subject_of s h.value h.checkers) ≡ failing_lines (subject_of s k.value k.checkers) = λ i. failing_lines (subject_of s (value i) (checkers i)) in
     let by_value = subst (λ (v : LogValue). TellsOfLines s v k.checkers (failing_lines (subject_of s v k.checkers)) others) (sym value) k.causes in
     let causes = subst (λ (cs : List CheckerValue). TellsOfLines s h.value cs (failing_lines (subject_of s h.value cs)) others) (sym checkers) by_value in
-    (one_explanation _ _ _ _ bytes others h.causes causes, same_test failing fails _ _ h.fails k.fails lines)
+    (one_explanation _ _ _ bytes others h.causes causes, same_test failing fails _ _ h.fails k.fails lines)
 
 paged_once : Laws → (text : List ℕ) (files : List (List ℕ)) (s : Settings) (bytes others : List ℕ) (failing fails : Bool)
     → IsPaged text files s bytes failing → IsPaged text files s others fails → (bytes ≡ others) × (failing ≡ fails)

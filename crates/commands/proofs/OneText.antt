@@ -1,18 +1,22 @@
 -- Causes that are alike have one text.
-use Rattle.std.proofs.Common.{ℕ, ◌≡◌, ◌+◌, ◌==◌, if◌then◌else◌, List, [], ◌∷◌, ◌++◌, codes, length, refl, sym, ◌∙◌, ap}
+use Rattle.std.proofs.Common.{ℕ, ◌≡◌, ◌+◌, ◌==◌, if◌then◌else◌, List, [], ◌∷◌, ◌++◌, length, refl, sym, ◌∙◌, ap, subst}
 use Rattle.std.specs.List.{flat_map}
-use Rattle.std.specs.Fmt.{decimal}
 use Rattle.epochs.specs.declared.part.By.{By}
 use Rattle.choices.specs.Sums.{StartsValue}
+use Rattle.flushes.specs.declared.window.Window.{Window}
+use Rattle.flushes.specs.declared.counted.MissingFlush.{MissingFlush}
+use Rattle.flushes.specs.Counted.{AreMissing}
 use Rattle.lines.specs.Line.{FailingLine}
-use Rattle.report.specs.Report.{HeadValue, options_text, totals_line}
+use Rattle.report.specs.Report.{HeadValue}
+use Rattle.cure.specs.declared.failure.Failure.{Failure}
+use Rattle.cure.specs.Failures.{windows_in}
+use Rattle.outcomes.specs.Outcomes.{outcomes_failing}
 use Rattle.why.specs.declared.cut.CutFailures.{CutFailures}
-use Rattle.why.specs.PairsText.{pair_line}
-use Rattle.why.specs.Text.{group_line, cut_head, cut_text, program_text}
-use Rattle.runs.specs.Why.{Cause, IsCause, cause_text, causes_from, why_text, TellsCauses}
+use Rattle.why.specs.Text.{group_line, cut_head, cut_text, cuts_text}
+use Rattle.runs.specs.Why.{images_failing, causes_from, why_head, missing_text, why_text, TellsCauses}
 use Rattle.commands.proofs.Alike.{AreAlike, alike, same_text}
 use Rattle.commands.proofs.OneCause.{SameCut, same_cuts}
-use Rattle.commands.proofs.OnePairs.{one_list}
+use Rattle.commands.proofs.OneMissing.{same_failures, same_missing}
 
 -- the numbers of the first cut, with the groups of the second
 abbrev pub with_groups_of : CutFailures → CutFailures → CutFailures
@@ -27,40 +31,38 @@ by_groups f c d h part =
     let numbers : with_groups_of c d ≡ d = λ i. record { cut = cut i; images = images i; failing = failing i; groups = d.groups } in
     part ∙ ap f numbers
 
-same_lines : (way : By) (s : StartsValue) (c d : CutFailures) → SameCut c d → cut_text way s c ≡ cut_text way s d
+same_lines : (way : By) (s : StartsValue) (outcomes : List (List ℕ)) (program : ℕ) (c d : CutFailures) → SameCut c d
+    → cut_text way s outcomes program c ≡ cut_text way s outcomes program d
 unfolding cut_head
-same_lines way s c d h = by_groups (cut_text way s) c d h (ap (λ gs. if c.failing == 0 then [] else cut_head c ++ flat_map (group_line way s) gs) h.groups)
+same_lines way s outcomes program c d h =
+    by_groups (cut_text way s outcomes program) c d h
+    (ap (λ gs. if c.failing == 0 then [] else cut_head program c ++ flat_map (group_line way s outcomes) gs) h.groups)
 
--- causes with the same cuts and the same pairs
-pub record SameCause (c d : Cause) : Type 0 where
-  pub cuts : AreAlike SameCut c.cuts d.cuts
-  pub pairs : c.pairs ≡ d.pairs
+same_cause : (s : StartsValue) (outcomes : List (List ℕ)) (program : ℕ) (cs ds : List CutFailures) → AreAlike SameCut cs ds
+    → cuts_text s.plan.by s outcomes program cs ≡ cuts_text s.plan.by s outcomes program ds
+same_cause s outcomes program cs ds h = same_text SameCut (cut_text s.plan.by s outcomes program) (same_lines s.plan.by s outcomes program) cs ds h
 
-same_program : (s : StartsValue) (number failing : ℕ) (c d : Cause) → SameCause c d → cause_text s number failing c ≡ cause_text s number failing d
-unfolding cause_text program_text
-same_program s number failing c d h =
-    let lines = same_text SameCut (cut_text s.plan.by s) (same_lines s.plan.by s) c.cuts d.cuts h.cuts in
-    let pairs = h.pairs in
-    λ i. (codes "program " ++ decimal number ++ codes " failing " ++ decimal failing ++ codes "\n" ++ lines i) ++ flat_map pair_line (pairs i)
-
-same_programs : (s : StartsValue) (failing : ℕ → List ℕ) (number : ℕ) (cs ds : List Cause) → AreAlike SameCause cs ds
-    → causes_from s failing number cs ≡ causes_from s failing number ds
-same_programs s failing number [] [] h = refl
-same_programs s failing number [] (d ∷ ds) h = absurd h
-same_programs s failing number (c ∷ cs) [] h = absurd h
-same_programs s failing number (c ∷ cs) (d ∷ ds) h =
-    let first = same_program s number (length (failing number)) c d h.0 in
-    let rest = same_programs s failing (number + 1) cs ds h.1 in
+same_programs : (s : StartsValue) (ls : List FailingLine) (number : ℕ) (cs ds : List (List CutFailures)) → AreAlike (AreAlike SameCut) cs ds
+    → causes_from s ls number cs ≡ causes_from s ls number ds
+same_programs s ls number [] [] h = refl
+same_programs s ls number [] (d ∷ ds) h = absurd h
+same_programs s ls number (c ∷ cs) [] h = absurd h
+same_programs s ls number (c ∷ cs) (d ∷ ds) h =
+    let first = same_cause s (outcomes_failing number ls) number c d h.0 in
+    let rest = same_programs s ls (number + 1) cs ds h.1 in
     λ i. first i ++ rest i
 
-same_cause : (s : StartsValue) (images : List ℕ) (c d : Cause) → IsCause s images c → IsCause s images d → SameCause c d
-same_cause s images c d a b =
-    record { cuts = same_cuts s images c.cuts d.cuts a.cuts b.cuts; pairs = one_list _ _ c.pairs d.pairs a.pairs b.pairs }
-
-pub one_explanation : (h : HeadValue) (s : StartsValue) (failing : ℕ → List ℕ) (ls : List FailingLine) (bytes others : List ℕ)
-    → TellsCauses h s failing ls bytes → TellsCauses h s failing ls others → bytes ≡ others
+pub one_explanation : (h : HeadValue) (s : StartsValue) (ls : List FailingLine) (bytes others : List ℕ) → TellsCauses h s ls bytes → TellsCauses h s ls others → bytes ≡ others
 unfolding why_text
-one_explanation h s failing ls bytes others a b =
-    let causes = alike SameCause a.causes b.causes (a.all ∙ sym b.all) (λ i c d p q. same_cause s (failing i) c d (a.each i c p) (b.each i d q)) in
-    let same = same_programs s failing 0 a.causes b.causes causes in
-    a.text ∙ ap (λ text. codes "crash causes 1\n" ++ options_text h ++ text ++ totals_line h.images ls) same ∙ sym b.text
+one_explanation h s ls bytes others a b =
+    let failures : a.failures ≡ b.failures = same_failures s.plan.by s.plan.log.entries ls a.failures b.failures a.are_missing.failures b.are_missing.failures in
+    let windows : windows_in a.failures ≡ windows_in b.failures = ap windows_in failures in
+    let missing : a.missing ≡ b.missing =
+    same_missing (windows_in a.failures) a.missing b.missing a.are_missing.missing (subst (λ (ws : List Window). AreMissing ws b.missing) (sym windows) b.are_missing.missing) in
+    let causes = alike (AreAlike SameCut) a.causes b.causes (a.all ∙ sym b.all)
+        (λ program c d p q. same_cuts s (images_failing program ls) (outcomes_failing program ls) c d (a.each program c p) (b.each program d q)) in
+    let same = same_programs s ls 0 a.causes b.causes causes in
+    let text : why_head h ls ++ missing_text (length h.programs) a.failures a.missing ++ causes_from s ls 0 a.causes
+        ≡ why_head h ls ++ missing_text (length h.programs) b.failures b.missing ++ causes_from s ls 0 b.causes =
+    λ i. why_head h ls ++ missing_text (length h.programs) (failures i) (missing i) ++ same i in
+    a.text ∙ text ∙ sym b.text

@@ -79,7 +79,8 @@ pub fn report_or_refusal()
 }
 
 /// Each image on which a program fails, by the lines of the report, stands once in what `why` says of it: at one cut, and there
-/// in one group, of whose choice no other failing choice of the cut is a part.
+/// under one group, that of the example in which the same parts are lost and the same parts are torn as in a failing choice that is a
+/// part of its own. The example is smallest: no other failing choice of the cut is a part of it.
 pub fn each_image_stands_once()
     ensures { EachImageStandsOnce }
 {

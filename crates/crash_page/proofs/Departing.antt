@@ -1,5 +1,5 @@
 -- Choices of a plan, and those where nothing departs.
-use Rattle.std.proofs.Common.{ℕ, suc, ◌≡◌, ◌≤◌, Bool, List, [], ◌∷◌, length, map, slice_get, None, Some, refl, sym, ◌∙◌, ap, subst, arith}
+use Rattle.std.proofs.Common.{ℕ, suc, ◌≡◌, ◌<◌, ◌≤◌, Bool, All, List, [], ◌∷◌, length, map, slice_get, None, Some, refl, sym, ◌∙◌, ap, subst, arith}
 use Rattle.logfmt.specs.Bounds.{LogValue, IsLog}
 use Rattle.epochs.specs.Plan.{PlanValue}
 use Rattle.choices.specs.declared.choice.Departure.{Departure}
@@ -9,6 +9,9 @@ use Rattle.choices.proofs.CrashModel.{ranked_is_model}
 use Rattle.images.specs.Views.{ViewValue, IsMember, view_of, sectors_of}
 use Rattle.images.specs.Laws.{ImagesAreDevices}
 use Rattle.images.proofs.Members.{member_cut as cut_of_member}
+use Rattle.choices.specs.Sums.{StartsValue}
+use Rattle.why.specs.declared.group.Group.{Group}
+use Rattle.why.specs.Text.{IsNumbered}
 
 pub member_of : (plan : PlanValue) (bound : ℕ) (tears : Bool) (n : ℕ) (c : ChoiceValue) → slice_get (ranked plan bound tears) n ≡ Some c → IsMember plan c
 member_of plan bound tears n c there = record { bound = bound; tears = tears; number = n; there = there }
@@ -46,3 +49,7 @@ small plan history l view c devices bounds own same is =
     let count = (devices view fits).count in
     let most = fits.device in
     omega (arith, count, most)
+
+-- the images of groups are those of the run
+pub images_within : (s : StartsValue) (lines : ℕ) (gs : List Group) → All (IsNumbered s lines) gs → All (λ (g : Group). g.image < length (ranked s.plan s.bound s.tears)) gs
+images_within s lines gs are = λ k d lt. (are k d lt).image

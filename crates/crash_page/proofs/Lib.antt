@@ -3,3 +3,4 @@ pub mod Departing
 pub mod Rows
 pub mod Markup
 pub mod Taken
+pub mod Labels

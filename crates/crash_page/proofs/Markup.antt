@@ -1,7 +1,15 @@
 -- Text is no markup.
-use Rattle.std.proofs.Common.{ℕ, zero, suc, ◌≡◌, ◌==◌, Bool, true, false, List, [], ◌∷◌, ◌++◌, slice_get, Some, None, nat_lt, refl, sym, ◌∙◌, ap}
+use Rattle.std.proofs.Common.{ℕ, zero, suc, ◌≡◌, ◌<◌, ◌≤◌, ◌==◌, Bool, length, get_or, chars, inl, inr, arith, true, false, List, [], ◌∷◌, ◌++◌, slice_get, Some, None, nat_lt, refl, sym, ◌∙◌, ap}
 use Rattle.std.proofs.lemmas.Option.{same_Some}
-use Rattle.crash_page.specs.Html.{plain_byte, html_byte, html}
+use Rattle.std.proofs.lemmas.Bool.{cases_lt}
+use Rattle.std.proofs.lemmas.Bool.Decides.{nat_tests}
+use Rattle.std.proofs.lemmas.List.{append-nil}
+use Rattle.std.proofs.lemmas.Str.{inside_one}
+use Rattle.std.specs.Char.{encode_utf8}
+use Rattle.std.specs.List.{flat_map}
+use Rattle.std.specs.Str.{is_utf8}
+use Rattle.notes.specs.Escaped.{escaped}
+use Rattle.crash_page.specs.Html.{plain_byte, html_byte, html, is_odd, low_char, mark_char, mark_label}
 use Rattle.crash_page.specs.Laws.{is_markup, TextIsNoMarkup}
 
 -- no byte of some bytes is markup
@@ -39,5 +47,45 @@ unfolding Clean
 all [] = tt
 all (x ∷ bytes) = both (html_byte x) (html bytes) (one x (x == 38) (x == 60) (x == 62) (x == 34) (x == 39) refl refl refl refl refl) (all bytes)
 
+-- a byte above those of ASCII is none
+high : (x : ℕ) → 128 ≤ x → is_markup x ≡ false
+high x is =
+    let a : (x == 60) ≡ false = grind (arith, nat_tests) in
+    let b : (x == 62) ≡ false = grind (arith, nat_tests) in
+    let c : (x == 34) ≡ false = grind (arith, nat_tests) in
+    let d : (x == 39) ≡ false = grind (arith, nat_tests) in
+    rw (a, b, c, d) refl
+
+highs : (xs : List ℕ) → ((k : ℕ) → k < length xs → 128 ≤ get_or xs k 0) → Clean xs
+unfolding Clean
+highs [] are = tt
+highs (x ∷ xs) are =
+    let first : 128 ≤ x = are 0 (omega arith) in
+    (high x first, highs xs (λ k below. are (suc k) (omega (arith, below))))
+
+-- the bytes of a character above those of ASCII
+encoded : (c : ℕ) → 160 ≤ c → Clean (encode_utf8 c)
+encoded c big = highs (encode_utf8 c) each
+  where
+    each : (k : ℕ) → k < length (encode_utf8 c) → 128 ≤ get_or (encode_utf8 c) k 0
+    each k below = elim (cases_lt (get_or (encode_utf8 c) k 0) 128) [
+      | inl low ↦ absurd (let one : c ≡ get_or (encode_utf8 c) k 0 = inside_one c [] (encode_utf8 c) k (sym (append-nil (encode_utf8 c))) below low in omega (arith, one, low, big))
+      | inr h ↦ h
+    ]
+
+marked : (c : ℕ) (low odd : Bool) → nat_lt c 160 ≡ low → is_odd c ≡ odd → Clean (mark_char c)
+marked c true true small is = rw (small, is) (all (escaped (c ∷ [])))
+marked c true false small is = rw (small, is) (one c (c == 38) (c == 60) (c == 62) (c == 34) (c == 39) refl refl refl refl refl)
+marked c false odd big is = let high : 160 ≤ c = grind (arith, nat_tests) in rw big (encoded c high)
+
+all_marked : (cs : List ℕ) → Clean (flat_map mark_char cs)
+unfolding Clean
+all_marked [] = tt
+all_marked (c ∷ cs) = both (mark_char c) (flat_map mark_char cs) (marked c (nat_lt c 160) (is_odd c) refl refl) (all_marked cs)
+
+labelled : (text : List ℕ) (is : Bool) → is_utf8 text ≡ is → Clean (mark_label text)
+labelled text true e = rw e (all_marked (chars text))
+labelled text false e = rw e (all (escaped text))
+
 pub text_is_no_markup : TextIsNoMarkup
-text_is_no_markup = λ bytes i b there. at (html bytes) i b (all bytes) there
+text_is_no_markup = λ bytes i b. (at (html bytes) i b (all bytes), at (mark_label bytes) i b (labelled bytes (is_utf8 bytes) refl))

@@ -1,5 +1,5 @@
 -- Texts of a list, element after element: what is written, before what is still to come.
-use Rattle.std.proofs.Common.{ℕ, zero, suc, ◌≡◌, ◌+◌, ◌-◌, ◌<◌, ◌≤◌, List, [], ◌∷◌, ◌++◌, length, length-append, append_assoc, filter, take, drop, get_or, slice_get, Some, None, refl, sym, ap, ◌∙◌, arith}
+use Rattle.std.proofs.Common.{ℕ, zero, suc, ◌≡◌, ◌+◌, ◌-◌, ◌<◌, ◌≤◌, ◌==◌, ◌&&◌, Bool, true, All, List, [], ◌∷◌, ◌++◌, length, length-append, append_assoc, filter, take, drop, get_or, slice_get, Some, None, refl, sym, ap, ◌∙◌, arith}
 use Rattle.std.proofs.lemmas.Option.{same_Some, slice_get_read}
 use Rattle.std.proofs.lemmas.List.{take_more}
 use Rattle.std.proofs.lemmas.List.Elements.{filter-append}
@@ -7,11 +7,15 @@ use Rattle.std.proofs.lemmas.List.{append-nil}
 use Rattle.logfmt.specs.declared.entry.Entry.{Entry}
 use Rattle.logfmt.specs.Bounds.{LogValue}
 use Rattle.choices.specs.Sums.{StartsValue}
+use Rattle.flushes.specs.declared.counted.MissingFlush.{MissingFlush}
 use Rattle.why.specs.declared.cut.CutFailures.{CutFailures}
+use Rattle.crash_page.specs.declared.cut.Showing.{Showing}
 use Rattle.crash_page.specs.declared.program.ProgramFailures.{ProgramFailures}
+use Rattle.crash_page.specs.Html.{sided_byte, sided_from}
+use Rattle.crash_page.specs.Lacking.{named_text, named_from}
 use Rattle.crash_page.specs.Cells.{cut_cell, strip_from}
 use Rattle.crash_page.specs.Entries.{cells_text}
-use Rattle.crash_page.specs.Groups.{shown_of, cut_text, cuts_text}
+use Rattle.crash_page.specs.Groups.{shown_of, showing, cut_text, cuts_text}
 use Rattle.crash_page.specs.Page.{fails, program_text, programs_text, IsOfRun}
 
 drop_next : {A : Type 0} → (xs : List A) (n : ℕ) (x : A) → slice_get xs n ≡ Some x → drop n xs ≡ x ∷ drop (n + 1) xs
@@ -25,43 +29,74 @@ drop_all [] (suc n) past = refl
 drop_all (x ∷ xs) zero past = absurd (omega (arith, past))
 drop_all (x ∷ xs) (suc n) past = drop_all xs n (omega (arith, past))
 
--- a cut of a run is one of its log
-pub cut_within : (s : StartsValue) (l : LogValue) (c : CutFailures) → s.plan.log ≡ l → IsOfRun s c → c.cut ≤ length l.entries
-cut_within s l c same is = let cut = is.cut in let long = ap (λ (x : LogValue). length x.entries) same in omega (arith, cut, long)
+-- the cuts of a run are cuts of its log
+pub cuts_within : (s : StartsValue) (lines : ℕ) (l : LogValue) (cs : List CutFailures) → s.plan.log ≡ l → All (IsOfRun s lines) cs → All (λ (c : CutFailures). c.cut ≤ length l.entries) cs
+cuts_within s lines l cs same are = λ k d lt. let cut = (are k d lt).cut in let long = ap (λ (x : LogValue). length x.entries) same in omega (arith, cut, long)
 
 -- what is written and what is to come are the whole text, with one piece more written
 next_piece : (start before piece now rest all : List ℕ) → before ++ (piece ++ rest) ≡ start ++ all → now ≡ before ++ piece → now ++ rest ≡ start ++ all
 next_piece start before piece now rest all so_far is = ap (λ (text : List ℕ). text ++ rest) is ∙ append_assoc before piece rest ∙ so_far
 
-pub strip_more : (es : List Entry) (program from n : ℕ) (cs : List CutFailures) (c : CutFailures) (start before cells now : List ℕ) → n < length cs → c ≡ get_or cs n c
-    → before ++ strip_from es program from (drop n cs) ≡ start ++ strip_from es program 0 cs → cells ≡ before ++ cells_text es from c.cut → now ≡ cells ++ cut_cell es program c
-    → now ++ strip_from es program c.cut (drop (n + 1) cs) ≡ start ++ strip_from es program 0 cs
-strip_more es program from n cs c start before cells now within is so_far first second =
+pub strip_more : (es : List Entry) (program : ℕ) (ms : List MissingFlush) (from n : ℕ) (cs : List CutFailures) (c : CutFailures) (start before cells now : List ℕ)
+    → n < length cs → c ≡ get_or cs n c → before ++ strip_from es program ms from (drop n cs) ≡ start ++ strip_from es program ms 0 cs
+    → cells ≡ before ++ cells_text es program ms from c.cut → now ≡ cells ++ cut_cell es program c
+    → now ++ strip_from es program ms c.cut (drop (n + 1) cs) ≡ start ++ strip_from es program ms 0 cs
+strip_more es program ms from n cs c start before cells now within is so_far first second =
     let split : drop n cs ≡ c ∷ drop (n + 1) cs = drop_next cs n c (slice_get_read cs (length cs) n c refl within is) in
-    let opened : before ++ (cells_text es from c.cut ++ cut_cell es program c ++ strip_from es program c.cut (drop (n + 1) cs)) ≡ start ++ strip_from es program 0 cs =
-    ap (λ (rest : List CutFailures). before ++ strip_from es program from rest) (sym split) ∙ so_far in
-    next_piece start before (cells_text es from c.cut ++ cut_cell es program c) now _ _ opened
-    (second ∙ ap (λ (text : List ℕ). text ++ cut_cell es program c) first ∙ append_assoc before (cells_text es from c.cut) (cut_cell es program c))
+    let opened : before ++ (cells_text es program ms from c.cut ++ cut_cell es program c ++ strip_from es program ms c.cut (drop (n + 1) cs)) ≡ start ++ strip_from es program ms 0 cs =
+    ap (λ (rest : List CutFailures). before ++ strip_from es program ms from rest) (sym split) ∙ so_far in
+    next_piece start before (cells_text es program ms from c.cut ++ cut_cell es program c) now _ _ opened
+    (second ∙ ap (λ (text : List ℕ). text ++ cut_cell es program c) first ∙ append_assoc before (cells_text es program ms from c.cut) (cut_cell es program c))
 
-pub strip_end : (es : List Entry) (program from n : ℕ) (cs : List CutFailures) (start before now : List ℕ) → length cs ≤ n
-    → before ++ strip_from es program from (drop n cs) ≡ start ++ strip_from es program 0 cs → now ≡ before ++ cells_text es from (length es) → now ≡ start ++ strip_from es program 0 cs
-strip_end es program from n cs start before now past so_far is =
-    is ∙ ap (λ (rest : List CutFailures). before ++ strip_from es program from rest) (sym (drop_all cs n past)) ∙ so_far
+pub strip_end : (es : List Entry) (program : ℕ) (ms : List MissingFlush) (from n : ℕ) (cs : List CutFailures) (start before now : List ℕ) → length cs ≤ n
+    → before ++ strip_from es program ms from (drop n cs) ≡ start ++ strip_from es program ms 0 cs → now ≡ before ++ cells_text es program ms from (length es)
+    → now ≡ start ++ strip_from es program ms 0 cs
+strip_end es program ms from n cs start before now past so_far is =
+    is ∙ ap (λ (rest : List CutFailures). before ++ strip_from es program ms from rest) (sym (drop_all cs n past)) ∙ so_far
 
-pub cuts_more : (s : StartsValue) (program left shown less n : ℕ) (cs : List CutFailures) (c : CutFailures) (start before now : List ℕ) → n < length cs → c ≡ get_or cs n c
-    → shown ≡ shown_of left c → less ≡ left - shown
-    → before ++ cuts_text s program left (drop n cs) ≡ start ++ cuts_text s program 500 cs → now ≡ before ++ cut_text s program shown c
-    → now ++ cuts_text s program less (drop (n + 1) cs) ≡ start ++ cuts_text s program 500 cs
-cuts_more s program left shown less n cs c start before now within is told lower so_far written =
+pub cuts_more : (s : StartsValue) (outcomes : List (List ℕ)) (program : ℕ) (is_first next_first : Bool) (left less n : ℕ) (cs : List CutFailures) (c : CutFailures) (how : Showing) (start before now : List ℕ)
+    → n < length cs → c ≡ get_or cs n c → how ≡ showing program is_first left c → less ≡ left - how.groups → next_first ≡ (is_first && c.failing == 0)
+    → before ++ cuts_text s outcomes program is_first left (drop n cs) ≡ start ++ cuts_text s outcomes program true 500 cs → now ≡ before ++ cut_text s outcomes how c
+    → now ++ cuts_text s outcomes program next_first less (drop (n + 1) cs) ≡ start ++ cuts_text s outcomes program true 500 cs
+cuts_more s outcomes program is_first next_first left less n cs c how start before now within is told lower later so_far written =
     let split : drop n cs ≡ c ∷ drop (n + 1) cs = drop_next cs n c (slice_get_read cs (length cs) n c refl within is) in
-    let opened : before ++ (cut_text s program (shown_of left c) c ++ cuts_text s program (left - shown_of left c) (drop (n + 1) cs)) ≡ start ++ cuts_text s program 500 cs =
-    ap (λ (rest : List CutFailures). before ++ cuts_text s program left rest) (sym split) ∙ so_far in
-    rw (lower ∙ ap (λ (k : ℕ). left - k) told) (next_piece start before (cut_text s program (shown_of left c) c) now _ _ opened (written ∙ ap (λ (k : ℕ). before ++ cut_text s program k c) told))
+    let opened : before ++ (cut_text s outcomes (showing program is_first left c) c ++ cuts_text s outcomes program (is_first && c.failing == 0) (left - shown_of left c) (drop (n + 1) cs)) ≡ start ++ cuts_text s outcomes program true 500 cs =
+    ap (λ (rest : List CutFailures). before ++ cuts_text s outcomes program is_first left rest) (sym split) ∙ so_far in
+    rw (lower ∙ ap (λ (h : Showing). left - h.groups) told, later)
+    (next_piece start before (cut_text s outcomes (showing program is_first left c) c) now _ _ opened (written ∙ ap (λ (h : Showing). before ++ cut_text s outcomes h c) told))
 
-pub cuts_end : (s : StartsValue) (program left n : ℕ) (cs : List CutFailures) (start before : List ℕ) → length cs ≤ n
-    → before ++ cuts_text s program left (drop n cs) ≡ start ++ cuts_text s program 500 cs → before ≡ start ++ cuts_text s program 500 cs
-cuts_end s program left n cs start before past so_far =
-    sym (ap (λ (rest : List CutFailures). before ++ cuts_text s program left rest) (drop_all cs n past) ∙ append-nil before) ∙ so_far
+pub cuts_end : (s : StartsValue) (outcomes : List (List ℕ)) (program : ℕ) (is_first : Bool) (left n : ℕ) (cs : List CutFailures) (start before : List ℕ) → length cs ≤ n
+    → before ++ cuts_text s outcomes program is_first left (drop n cs) ≡ start ++ cuts_text s outcomes program true 500 cs → before ≡ start ++ cuts_text s outcomes program true 500 cs
+cuts_end s outcomes program is_first left n cs start before past so_far =
+    sym (ap (λ (rest : List CutFailures). before ++ cuts_text s outcomes program is_first left rest) (drop_all cs n past) ∙ append-nil before) ∙ so_far
+
+pub named_more : (program count n : ℕ) (ms : List MissingFlush) (m : MissingFlush) (start before now : List ℕ) → n < length ms → m ≡ get_or ms n m
+    → before ++ named_from program count n (drop n ms) ≡ start ++ named_from program count 0 ms → now ≡ before ++ named_text program count n m
+    → now ++ named_from program count (n + 1) (drop (n + 1) ms) ≡ start ++ named_from program count 0 ms
+named_more program count n ms m start before now within is so_far written =
+    let split : drop n ms ≡ m ∷ drop (n + 1) ms = drop_next ms n m (slice_get_read ms (length ms) n m refl within is) in
+    let opened : before ++ (named_text program count n m ++ named_from program count (n + 1) (drop (n + 1) ms)) ≡ start ++ named_from program count 0 ms =
+    ap (λ (rest : List MissingFlush). before ++ named_from program count n rest) (sym split) ∙ so_far in
+    next_piece start before (named_text program count n m) now _ _ opened written
+
+pub named_end : (program count n : ℕ) (ms : List MissingFlush) (start before : List ℕ) → length ms ≤ n
+    → before ++ named_from program count n (drop n ms) ≡ start ++ named_from program count 0 ms → before ≡ start ++ named_from program count 0 ms
+named_end program count n ms start before past so_far =
+    sym (ap (λ (rest : List MissingFlush). before ++ named_from program count n rest) (drop_all ms n past) ∙ append-nil before) ∙ so_far
+
+pub sided_more : (begins next : Bool) (n : ℕ) (bs : List ℕ) (b : ℕ) (start before now : List ℕ) → n < length bs → b ≡ get_or bs n b → next ≡ (b == 10)
+    → before ++ sided_from begins (drop n bs) ≡ start ++ sided_from true bs → now ≡ before ++ sided_byte begins b
+    → now ++ sided_from next (drop (n + 1) bs) ≡ start ++ sided_from true bs
+sided_more begins next n bs b start before now within is later so_far written =
+    let split : drop n bs ≡ b ∷ drop (n + 1) bs = drop_next bs n b (slice_get_read bs (length bs) n b refl within is) in
+    let opened : before ++ (sided_byte begins b ++ sided_from (b == 10) (drop (n + 1) bs)) ≡ start ++ sided_from true bs =
+    ap (λ (rest : List ℕ). before ++ sided_from begins rest) (sym split) ∙ so_far in
+    rw later (next_piece start before (sided_byte begins b) now _ _ opened written)
+
+pub sided_end : (begins : Bool) (n : ℕ) (bs : List ℕ) (start before : List ℕ) → length bs ≤ n
+    → before ++ sided_from begins (drop n bs) ≡ start ++ sided_from true bs → before ≡ start ++ sided_from true bs
+sided_end begins n bs start before past so_far =
+    sym (ap (λ (rest : List ℕ). before ++ sided_from begins rest) (drop_all bs n past) ∙ append-nil before) ∙ so_far
 
 pub programs_more : (s : StartsValue) (n : ℕ) (fs : List ProgramFailures) (f : ProgramFailures) (start before now : List ℕ) → n < length fs → f ≡ get_or fs n f
     → before ++ programs_text s n (drop n fs) ≡ start ++ programs_text s 0 fs → now ≡ before ++ program_text s n f

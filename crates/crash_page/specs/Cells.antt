@@ -1,17 +1,15 @@
--- The cuts between the entries of a log: which share of their images fails, and a cell for each.
-use Rattle.std.specs.Prelude.{ℕ, ◌/◌, ◌==◌, nat_le, if◌then◌else◌, List, [], ◌∷◌, ◌++◌, codes, length}
+-- The cuts between the entries of a log, a cell for each.
+use Rattle.std.specs.Prelude.{ℕ, ◌==◌, if◌then◌else◌, List, [], ◌∷◌, ◌++◌, codes, length}
 use Rattle.std.specs.Fmt.{decimal}
 use Rattle.logfmt.specs.declared.entry.Entry.{Entry}
 use Rattle.epochs.specs.Units.{epoch_at}
+use Rattle.flushes.specs.declared.counted.MissingFlush.{MissingFlush}
 use Rattle.why.specs.declared.cut.CutFailures.{CutFailures}
 use Rattle.crash_page.specs.declared.pieces.Piece.TheVariants as piece
 use Rattle.crash_page.specs.Pieces.{piece_text}
+use Rattle.crash_page.specs.declared.share.Share.TheVariants as share
+use Rattle.crash_page.specs.Shares.{share_of, share_class}
 use Rattle.crash_page.specs.Entries.{shade_text, cells_text}
-
--- the share of the images of a cut that fail: none, at most a hundredth, at most a tenth, at most half, more, all
-abbrev pub share_of : ℕ → ℕ → ℕ
-share_of images failing =
-    if failing == 0 then 0 else if nat_le images failing then 5 else if nat_le failing (images / 100) then 1 else if nat_le failing (images / 10) then 2 else if nat_le failing (images / 2) then 3 else 4
 
 -- the name of a cut's place on the page
 unfoldable pub place_name : ℕ → ℕ → List ℕ
@@ -23,11 +21,11 @@ count_text c = decimal c.failing ++ piece_text piece.Of ++ decimal c.images ++ p
 
 -- a cut at which no image fails
 unfoldable pub passing_text : ℕ → List ℕ
-passing_text epoch = piece_text piece.PassingOpen ++ shade_text epoch ++ piece_text piece.PassingClose
+passing_text epoch = piece_text piece.PassingOpen ++ share_class share.No ++ shade_text epoch ++ piece_text piece.PassingClose
 
 -- a cut at which some do: its colour, where it leads to, and what stands beside the pointer
 unfoldable pub failing_class : ℕ → CutFailures → List ℕ
-failing_class epoch c = piece_text piece.FailingOpen ++ decimal (share_of c.images c.failing) ++ shade_text epoch
+failing_class epoch c = piece_text piece.FailingOpen ++ share_class (share_of c.images c.failing) ++ shade_text epoch
 
 unfoldable pub failing_link : ℕ → CutFailures → List ℕ
 failing_link program c = piece_text piece.FailingLink ++ place_name program c.cut
@@ -41,7 +39,7 @@ failing_text program epoch c = failing_class epoch c ++ failing_link program c +
 abbrev pub cut_cell : List Entry → ℕ → CutFailures → List ℕ
 cut_cell es program c = if c.failing == 0 then passing_text (epoch_at es c.cut) else failing_text program (epoch_at es c.cut) c
 
--- the entries from `from` on, and each of the cuts before the entry of its number
-abbrev pub strip_from : List Entry → ℕ → ℕ → List CutFailures → List ℕ
-strip_from es program from [] = cells_text es from (length es)
-strip_from es program from (c ∷ cs) = cells_text es from c.cut ++ cut_cell es program c ++ strip_from es program c.cut cs
+-- the entries from `from` on with the flushes that are missing, and each of the cuts before the entry of its number
+abbrev pub strip_from : List Entry → ℕ → List MissingFlush → ℕ → List CutFailures → List ℕ
+strip_from es program ms from [] = cells_text es program ms from (length es)
+strip_from es program ms from (c ∷ cs) = cells_text es program ms from c.cut ++ cut_cell es program c ++ strip_from es program ms c.cut cs

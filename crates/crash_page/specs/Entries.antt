@@ -4,12 +4,13 @@ use Rattle.std.specs.List.{flat_map, range_with_len}
 use Rattle.std.specs.Option.{option_map_or}
 use Rattle.std.specs.Fmt.{decimal}
 use Rattle.logfmt.specs.declared.entry.Entry.{Entry}
+use Rattle.flushes.specs.declared.counted.MissingFlush.{MissingFlush}
 use Rattle.epochs.specs.Units.{epoch_at}
-use Rattle.notes.specs.Escaped.{escaped}
 use Rattle.notes.specs.LogTable.{word_text, is_write, line_at}
 use Rattle.crash_page.specs.declared.pieces.Piece.TheVariants as piece
 use Rattle.crash_page.specs.Pieces.{piece_text}
-use Rattle.crash_page.specs.Html.{html}
+use Rattle.crash_page.specs.Html.{html, mark_label}
+use Rattle.crash_page.specs.Lacking.{lack_at}
 
 -- every other epoch is shaded
 abbrev pub shade_text : ℕ → List ℕ
@@ -23,7 +24,7 @@ class_text e =
 
 -- the text of a mark
 abbrev pub label_text : Entry → List ℕ
-label_text e = if e.flags.mark then codes " " ++ html (escaped e.text) else []
+label_text e = if e.flags.mark then codes " " ++ mark_label e.text else []
 
 unfoldable pub link_text : ℕ → List ℕ
 link_text n = piece_text piece.CellLink ++ decimal n ++ piece_text piece.LinkEnd ++ decimal n
@@ -38,9 +39,13 @@ cell_text n epoch e = cell_class epoch e ++ link_text n ++ label_text e ++ piece
 abbrev pub cell_at : List Entry → ℕ → List ℕ
 cell_at es n = option_map_or (cell_text n (epoch_at es n)) (slice_get es n) []
 
+-- the flush that is missing before entry n, and its cell
+unfoldable pub place_at : List Entry → ℕ → List MissingFlush → ℕ → List ℕ
+place_at es program ms n = lack_at program ms n ++ cell_at es n
+
 -- the cells of the entries from `from` to before `to`
-unfoldable pub cells_text : List Entry → ℕ → ℕ → List ℕ
-cells_text es from to = flat_map (cell_at es) (range_with_len from (to - from))
+unfoldable pub cells_text : List Entry → ℕ → List MissingFlush → ℕ → ℕ → List ℕ
+cells_text es program ms from to = flat_map (place_at es program ms) (range_with_len from (to - from))
 
 -- the line of entry n, as `log` prints it
 unfoldable pub row_text : List Entry → ℕ → List ℕ

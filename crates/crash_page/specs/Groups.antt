@@ -1,5 +1,5 @@
--- What is said of a cut at which images fail: its first smallest failing choices, each with its image in words.
-use Rattle.std.specs.Prelude.{ℕ, ◌-◌, ◌==◌, nat_le, if◌then◌else◌, List, [], ◌∷◌, ◌++◌, length, take, slice_get}
+-- What is said of a cut at which images fail: its first groups, each with the image of its example in words.
+use Rattle.std.specs.Prelude.{ℕ, ◌-◌, ◌==◌, ◌&&◌, nat_le, Bool, false, if◌then◌else◌, List, [], ◌∷◌, ◌++◌, length, take, slice_get}
 use Rattle.std.specs.Fmt.{decimal}
 use Rattle.std.specs.List.{flat_map}
 use Rattle.std.specs.Option.{option_map_or}
@@ -11,10 +11,13 @@ use Rattle.images.specs.Views.{ViewValue, view_of, sectors_of}
 use Rattle.crash_text.specs.Shown.{shown_text}
 use Rattle.why.specs.declared.cut.CutFailures.{CutFailures}
 use Rattle.why.specs.declared.group.Group.{Group}
+use Rattle.why.specs.Groups.{ends_at}
 use Rattle.crash_page.specs.declared.pieces.Piece.TheVariants as piece
 use Rattle.crash_page.specs.Pieces.{piece_text}
-use Rattle.crash_page.specs.Html.{html}
-use Rattle.crash_page.specs.Cells.{share_of, place_name, count_text}
+use Rattle.crash_page.specs.declared.cut.Showing.{Showing}
+use Rattle.crash_page.specs.Html.{html, sided}
+use Rattle.crash_page.specs.Shares.{share_of, share_class}
+use Rattle.crash_page.specs.Cells.{place_name, count_text}
 
 -- the image of a choice's cut where nothing departs
 abbrev pub whole_view : StartsValue → ChoiceValue → ViewValue
@@ -31,27 +34,50 @@ longest = 16384
 -- a text, or how long it is where it is too long
 unfoldable pub block_text : List ℕ → List ℕ
 block_text text =
-    if nat_le (length text) longest then piece_text piece.TextOpen ++ html text ++ piece_text piece.TextClose
+    if nat_le (length text) longest then piece_text piece.TextOpen ++ sided text ++ piece_text piece.TextClose
     else piece_text piece.LongOpen ++ decimal (length text) ++ piece_text piece.LongClose
 
 -- the choice of an image
 abbrev pub choice_at : StartsValue → ℕ → List ℕ
 choice_at s image = option_map_or (λ (c : ChoiceValue). departures_text s.plan.by c.departures) (slice_get (ranked s.plan s.bound s.tears) image) []
 
--- a group: its choice, its image, and how many failing images stand in it
-unfoldable pub group_choice : StartsValue → ChoiceValue → List ℕ
-group_choice s choice = piece_text piece.GroupOpen ++ departures_text s.plan.by choice.departures
+-- what the sides of its differences are, where something departs
+abbrev pub sides_text : ChoiceValue → List ℕ
+sides_text choice = if length choice.departures == 0 then [] else piece_text piece.Sides
+
+-- a group, open or not: the choice of its example, its image, and how many failing images stand in it
+abbrev pub group_open : Bool → List ℕ
+group_open is_open = if is_open then piece_text piece.GroupOpened else piece_text piece.GroupOpen
+
+unfoldable pub group_choice : StartsValue → Bool → ChoiceValue → List ℕ
+group_choice s is_open choice = group_open is_open ++ departures_text s.plan.by choice.departures
 
 unfoldable pub group_size : Group → List ℕ
-group_size g = piece_text piece.GroupImage ++ decimal g.image ++ piece_text piece.GroupSize ++ decimal g.failing ++ piece_text piece.GroupLineEnd
+group_size g = piece_text piece.GroupImage ++ decimal g.image ++ piece_text piece.GroupSize ++ decimal g.failing
 
-unfoldable pub chosen_text : StartsValue → Group → ChoiceValue → List ℕ
-chosen_text s g choice = group_choice s choice ++ group_size g ++ block_text (image_text s choice) ++ piece_text piece.GroupClose
+-- what the program ends in on its image, and whether on all images of the group
+abbrev pub same_text : Bool → List ℕ
+same_text same = if same then piece_text piece.GroupAll else piece_text piece.GroupSome
 
-abbrev pub group_text : StartsValue → Group → List ℕ
-group_text s g = option_map_or (chosen_text s g) (slice_get (ranked s.plan s.bound s.tears) g.image) []
+unfoldable pub group_end : List (List ℕ) → Group → List ℕ
+group_end outcomes g = same_text g.same ++ html (ends_at outcomes g.line) ++ piece_text piece.GroupLineEnd
 
--- the first of the choices of a cut, and how many there are
+unfoldable pub group_line : StartsValue → List (List ℕ) → Bool → Group → ChoiceValue → List ℕ
+group_line s outcomes is_open g choice = group_choice s is_open choice ++ group_size g ++ group_end outcomes g
+
+unfoldable pub chosen_text : StartsValue → List (List ℕ) → Bool → Group → ChoiceValue → List ℕ
+chosen_text s outcomes is_open g choice =
+    group_line s outcomes is_open g choice ++ sides_text choice ++ block_text (image_text s choice) ++ piece_text piece.GroupClose
+
+abbrev pub group_text : StartsValue → List (List ℕ) → Bool → Group → List ℕ
+group_text s outcomes is_open g = option_map_or (chosen_text s outcomes is_open g) (slice_get (ranked s.plan s.bound s.tears) g.image) []
+
+-- groups, of which the first may be open
+unfoldable pub groups_text : StartsValue → List (List ℕ) → Bool → List Group → List ℕ
+groups_text s outcomes is_open [] = []
+groups_text s outcomes is_open (g ∷ gs) = group_text s outcomes is_open g ++ flat_map (group_text s outcomes false) gs
+
+-- the choice of the first group of a cut, and how many there are
 unfoldable pub first_text : StartsValue → List Group → List ℕ
 first_text s [] = []
 first_text s (g ∷ gs) = piece_text piece.FirstOpen ++ choice_at s g.image ++ piece_text piece.FirstOf ++ decimal (length (g ∷ gs)) ++ piece_text piece.FirstClose
@@ -67,14 +93,17 @@ unfoldable pub bar_text : CutFailures → List ℕ
 bar_text c =
     piece_text piece.BarOpen ++ count_text c ++ piece_text piece.BarMost ++ decimal c.images ++ piece_text piece.BarValue ++ decimal c.failing ++ piece_text piece.BarClose
 
-unfoldable pub cut_open : CutFailures → List ℕ
-cut_open c = piece_text piece.CutOpen ++ decimal (share_of c.images c.failing) ++ piece_text piece.CutLine
+abbrev pub cut_line : Bool → List ℕ
+cut_line is_open = if is_open then piece_text piece.CutOpened else piece_text piece.CutLine
+
+unfoldable pub cut_open : Bool → CutFailures → List ℕ
+cut_open is_open c = piece_text piece.CutOpen ++ share_class (share_of c.images c.failing) ++ cut_line is_open
 
 unfoldable pub cut_body : ℕ → CutFailures → List ℕ
 cut_body program c = piece_text piece.CutBody ++ place_name program c.cut ++ piece_text piece.OpenEnd
 
-unfoldable pub cut_head : StartsValue → ℕ → CutFailures → List ℕ
-cut_head s program c = cut_open c ++ stand_text s c ++ bar_text c ++ first_text s c.groups.items ++ cut_body program c
+unfoldable pub cut_head : StartsValue → Showing → CutFailures → List ℕ
+cut_head s how c = cut_open how.is_open c ++ stand_text s c ++ bar_text c ++ first_text s c.groups.items ++ cut_body how.program c
 
 -- how many groups aren't shown
 unfoldable pub rest_text : ℕ → List ℕ
@@ -87,16 +116,22 @@ most_of_cut = 8
 abbrev pub shown_of : ℕ → CutFailures → ℕ
 shown_of left c = length (take left (take most_of_cut c.groups.items))
 
--- a cut, with so many of its groups
-unfoldable pub cut_shown : StartsValue → ℕ → ℕ → CutFailures → List ℕ
-cut_shown s program shown c =
-    cut_head s program c ++ flat_map (group_text s) (take shown c.groups.items) ++ rest_text (length c.groups.items - shown) ++ piece_text piece.CutClose
+-- a cut, with so many of its groups; where it is open, the first of them is, too
+unfoldable pub cut_shown : StartsValue → List (List ℕ) → Showing → CutFailures → List ℕ
+cut_shown s outcomes how c =
+    cut_head s how c ++ groups_text s outcomes how.is_open (take how.groups c.groups.items) ++ rest_text (length c.groups.items - how.groups)
+    ++ piece_text piece.CutClose
 
 -- a cut, where images fail
-abbrev pub cut_text : StartsValue → ℕ → ℕ → CutFailures → List ℕ
-cut_text s program shown c = if c.failing == 0 then [] else cut_shown s program shown c
+abbrev pub cut_text : StartsValue → List (List ℕ) → Showing → CutFailures → List ℕ
+cut_text s outcomes how c = if c.failing == 0 then [] else cut_shown s outcomes how c
 
--- the cuts of a program, where so many groups may be shown
-abbrev pub cuts_text : StartsValue → ℕ → ℕ → List CutFailures → List ℕ
-cuts_text s program left [] = []
-cuts_text s program left (c ∷ cs) = cut_text s program (shown_of left c) c ++ cuts_text s program (left - shown_of left c) cs
+-- how a cut is shown, where so many groups may still be, and no cut before it failed or one did
+abbrev pub showing : ℕ → Bool → ℕ → CutFailures → Showing
+showing program is_first left c = record { program = program; is_open = is_first; groups = shown_of left c }
+
+-- the cuts of a program, of which the first failing one is open
+abbrev pub cuts_text : StartsValue → List (List ℕ) → ℕ → Bool → ℕ → List CutFailures → List ℕ
+cuts_text s outcomes program is_first left [] = []
+cuts_text s outcomes program is_first left (c ∷ cs) =
+    cut_text s outcomes (showing program is_first left c) c ++ cuts_text s outcomes program (is_first && c.failing == 0) (left - shown_of left c) cs

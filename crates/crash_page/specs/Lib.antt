@@ -1,6 +1,8 @@
 -- Crash images as a page for a browser.
 pub mod Html
 pub mod Pieces
+pub mod Shares
+pub mod Lacking
 pub mod Entries
 pub mod Cells
 pub mod Groups

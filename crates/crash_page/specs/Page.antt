@@ -1,17 +1,21 @@
 -- The page of a run (docs/REPORT.md, The page of `page`).
-use Rattle.std.specs.Prelude.{ℕ, ◌+◌, ◌<◌, ◌≤◌, ◌==◌, not, nat_lt, Bool, if◌then◌else◌, List, [], ◌∷◌, ◌++◌, All, codes, length, filter}
+use Rattle.std.specs.Prelude.{ℕ, ◌+◌, ◌≤◌, ◌==◌, not, nat_lt, Bool, true, if◌then◌else◌, List, [], ◌∷◌, ◌++◌, All, codes, length, map, filter}
 use Rattle.std.specs.Fmt.{decimal}
 use Rattle.logfmt.specs.declared.entry.Entry.{Entry}
+use Rattle.logfmt.specs.Bounds.{LogValue}
 use Rattle.notes.specs.LogTable.{word_text}
-use Rattle.choices.specs.Choices.{ranked}
 use Rattle.choices.specs.Sums.{StartsValue}
+use Rattle.report.specs.declared.head.ProgramHead.{ProgramHead}
+use Rattle.report.specs.Report.{steps_word}
 use Rattle.why.specs.declared.cut.CutFailures.{CutFailures}
-use Rattle.why.specs.declared.group.Group.{Group}
+use Rattle.why.specs.Text.{IsNumbered}
 use Rattle.crash_page.specs.declared.pieces.Piece.TheVariants as piece
 use Rattle.crash_page.specs.Pieces.{piece_text}
 use Rattle.crash_page.specs.declared.program.ProgramFailures.{ProgramFailures}
 use Rattle.crash_page.specs.Html.{html}
 use Rattle.crash_page.specs.Entries.{rows_text}
+use Rattle.crash_page.specs.Shares.{legend_text}
+use Rattle.crash_page.specs.Lacking.{advice_text}
 use Rattle.crash_page.specs.Cells.{strip_from}
 use Rattle.crash_page.specs.Groups.{cuts_text}
 
@@ -23,25 +27,47 @@ fails c = not (c.failing == 0)
 unfoldable pub bad_text : ProgramFailures → List ℕ
 bad_text f = piece_text piece.BadOpen ++ decimal f.failing ++ piece_text piece.BadCuts ++ decimal (length (filter fails f.cuts.items)) ++ piece_text piece.Of
 
-unfoldable pub verdict_text : ProgramFailures → List ℕ
-verdict_text f =
+unfoldable pub judged_text : ProgramFailures → List ℕ
+judged_text f =
     (if f.failing == 0 then piece_text piece.GoodOpen else bad_text f) ++ decimal (length f.cuts.items) ++ piece_text piece.GoodClose
 
+-- what a program comes to; without a wanted cut nothing was judged
+abbrev pub verdict_text : ProgramFailures → List ℕ
+verdict_text f = if length f.cuts.items == 0 then piece_text piece.NoCuts else judged_text f
+
 -- the row of entries and cuts, narrow where there are many entries
-unfoldable pub strip_text : List Entry → ℕ → List CutFailures → List ℕ
-strip_text es program cs = piece_text piece.StripOpen ++ word_text (nat_lt 400 (length es)) (codes "many") ++ piece_text piece.OpenEnd ++ strip_from es program 0 cs ++ piece_text piece.StripClose
+unfoldable pub strip_open : List Entry → List ℕ
+strip_open es = piece_text piece.StripOpen ++ word_text (nat_lt 400 (length es)) (codes "many") ++ piece_text piece.OpenEnd
+
+unfoldable pub strip_text : List Entry → ℕ → ProgramFailures → List ℕ
+strip_text es program f = strip_open es ++ strip_from es program f.missing.items 0 f.cuts.items ++ piece_text piece.StripClose
 
 -- how many groups of a program are shown
 abbrev pub most_of_program : ℕ
 most_of_program = 500
 
-unfoldable pub title_text : ℕ → List ℕ
-title_text program = piece_text piece.ProgramOpen ++ decimal program ++ piece_text piece.ProgramClose
+-- the program: its number, how many slots it has, and the most steps of a run
+unfoldable pub name_text : ℕ → ProgramHead → List ℕ
+name_text program p = decimal program ++ codes ": slots " ++ decimal p.slots ++ codes " " ++ steps_word p.verified ++ codes " " ++ decimal p.limit
+
+unfoldable pub title_text : ℕ → ProgramHead → List ℕ
+title_text program p =
+    piece_text piece.ProgramOpen ++ decimal program ++ piece_text piece.ProgramId ++ decimal program ++ piece_text piece.ProgramName ++ name_text program p
+    ++ piece_text piece.ProgramClose
+
+-- what it comes to, and what flushes would do
+unfoldable pub summary_text : ℕ → ProgramFailures → List ℕ
+summary_text program f = title_text program f.head ++ verdict_text f ++ advice_text program f.missing.items f.uncured
+
+-- what it ends in on each image on which it fails
+abbrev pub outcomes_of : ProgramFailures → List (List ℕ)
+outcomes_of f = map (λ o. o.now) f.outcomes.items
 
 -- a program: what it comes to, the log with its cuts, and what is said of the cuts at which it fails
 unfoldable pub program_text : StartsValue → ℕ → ProgramFailures → List ℕ
 program_text s program f =
-    title_text program ++ verdict_text f ++ strip_text s.plan.log.entries program f.cuts.items ++ piece_text piece.Legend ++ cuts_text s program most_of_program f.cuts.items
+    summary_text program f ++ strip_text s.plan.log.entries program f ++ legend_text ++ cuts_text s (outcomes_of f) program true most_of_program f.cuts.items
+    ++ piece_text piece.SectionClose
 
 -- programs, of which the first has that number
 abbrev pub programs_text : StartsValue → ℕ → List ProgramFailures → List ℕ
@@ -49,19 +75,27 @@ programs_text s program [] = []
 programs_text s program (f ∷ fs) = program_text s program f ++ programs_text s (program + 1) fs
 
 unfoldable pub about_text : List ℕ → List ℕ
-about_text about = piece_text piece.AboutOpen ++ html about ++ piece_text piece.TextClose
+about_text about = piece_text piece.AboutOpen ++ html about ++ piece_text piece.AboutClose
 
 unfoldable pub list_text : List Entry → List ℕ
 list_text es = piece_text piece.ListOpen ++ rows_text es ++ piece_text piece.ListClose
 
+-- the log: how many entries it has, and of how many sectors its device is
+unfoldable pub log_name : LogValue → List ℕ
+log_name l = codes "entries " ++ decimal (length l.entries) ++ codes ", sectors " ++ decimal l.sectors
+
+-- the head of the page, which names the log in its title and in its first line
+unfoldable pub head_text : LogValue → List ℕ
+head_text l = piece_text piece.Opening ++ log_name l ++ piece_text piece.Style ++ log_name l ++ piece_text piece.HeadClose
+
 -- the page, with a text about the run at its head
 unfoldable pub page_text : List ℕ → StartsValue → List ProgramFailures → List ℕ
-page_text about s fs = piece_text piece.Opening ++ about_text about ++ programs_text s 0 fs ++ list_text s.plan.log.entries ++ piece_text piece.Closing
+page_text about s fs = head_text s.plan.log ++ about_text about ++ programs_text s 0 fs ++ list_text s.plan.log.entries ++ piece_text piece.Closing
 
--- what fails at a cut is of the images of a run
-pub record IsOfRun (s : StartsValue) (c : CutFailures) : Type 0 where
+-- what fails at a cut is of the images of a run, of which so many fail
+pub record IsOfRun (s : StartsValue) (lines : ℕ) (c : CutFailures) : Type 0 where
   pub cut : c.cut ≤ length s.plan.log.entries
-  pub images : All (λ (g : Group). g.image < length (ranked s.plan s.bound s.tears)) c.groups.items
+  pub groups : All (IsNumbered s lines) c.groups.items
 
 abbrev pub AreOfRun : StartsValue → ProgramFailures → Type 0
-AreOfRun s f = All (IsOfRun s) f.cuts.items
+AreOfRun s f = All (IsOfRun s (length f.outcomes.items)) f.cuts.items

@@ -1,26 +1,39 @@
 //! What is said of a cut at which images fail.
 
-ghost use Rattle.std.specs.Prelude.{◌≡◌, ◌<◌, ◌≤◌, ◌++◌, ◌-◌, All, length, take, OnOk, string_bytes};
+ghost use Rattle.std.specs.Prelude.{◌≡◌, ◌<◌, ◌≤◌, ◌++◌, ◌-◌, All, false, length, map, take, OnOk, string_bytes};
 ghost use Rattle.std.specs.List.{flat_map};
 ghost use Rattle.choices.specs.Choices.{ranked};
-ghost use Rattle.why.specs.declared.group.Group.{Group};
-ghost use Rattle.crash_page.specs.Groups.{group_text, first_text, stand_text, bar_text, cut_open, cut_body, cut_head, rest_text, most_of_cut, shown_of, cut_shown, cut_text};
+ghost use Rattle.why.specs.declared.group.Group.{Group as GroupValue};
+ghost use Rattle.why.specs.Text.{IsNumbered};
+ghost use Rattle.crash_page.specs.Groups.{group_text, groups_text, first_text, stand_text, bar_text, cut_line, cut_open, cut_body, cut_head, rest_text, most_of_cut, shown_of, cut_shown, cut_text};
 ghost use Rattle.crash_page.specs.Page.{IsOfRun};
 
 use crate::group::{put_choice_at, put_group};
 use crate::pieces::{Piece, put, put_number};
 use crate::run::Run;
-use crate::strip::{put_count, put_place_name, share_of};
+use crate::share::{put_class, share_of};
+use crate::strip::{put_count, put_place_name};
 use std::alloc::{AllocError, Global};
 use why::{CutFailures, Group};
 
 /// How many groups of a cut are shown.
 const MOST_GROUPS_OF_CUT: usize = 8;
 
+/// How a cut is shown.
+#[derive(Clone, Copy)]
+pub(crate) struct Showing {
+    /// The number of the program.
+    pub(crate) program: usize,
+    /// Whether it and its first group are open.
+    pub(crate) is_open: bool,
+    /// How many of its groups are shown.
+    pub(crate) groups: usize,
+}
+
 /// Appends the first of the choices of a cut, and how many there are.
 #[tactic(auto, unfolding(crate::specs::Groups::first_text))]
 fn put_first(out: &mut String, run: &Run<'_>, groups: &[Group]) -> Result<(), AllocError>
-    requires images { All (λ (g : Group). g.image < length (ranked run.now.starts.now.plan run.now.starts.now.bound run.now.starts.now.tears)) groups.now }
+    requires images { All (λ (g : GroupValue). g.image < length (ranked run.now.starts.now.plan run.now.starts.now.bound run.now.starts.now.tears)) groups.now }
     ensures { OnOk result (string_bytes out.new ≡ string_bytes out.old ++ first_text run.now.starts.now groups.now) }
 {
     match groups {
@@ -65,15 +78,26 @@ fn put_bar(out: &mut String, cut: &CutFailures) -> Result<(), AllocError>
     put(out, Piece::BarClose)
 }
 
+/// Appends what begins the line of a cut, open or not.
+fn put_line(out: &mut String, is_open: bool) -> Result<(), AllocError>
+    ensures { OnOk result (string_bytes out.new ≡ string_bytes out.old ++ cut_line is_open) }
+{
+    if is_open {
+        put(out, Piece::CutOpened)
+    } else {
+        put(out, Piece::CutLine)
+    }
+}
+
 /// Appends what begins a cut.
 #[tactic(auto, unfolding(crate::specs::Groups::cut_open))]
-fn put_open(out: &mut String, cut: &CutFailures) -> Result<(), AllocError>
-    ensures { OnOk result (string_bytes out.new ≡ string_bytes out.old ++ cut_open cut.now) }
+fn put_open(out: &mut String, is_open: bool, cut: &CutFailures) -> Result<(), AllocError>
+    ensures { OnOk result (string_bytes out.new ≡ string_bytes out.old ++ cut_open is_open cut.now) }
 {
     let share = share_of(cut.images, cut.failing as u64);
     put(out, Piece::CutOpen)?;
-    put_number(out, u64::from(share))?;
-    put(out, Piece::CutLine)
+    put_class(out, share)?;
+    put_line(out, is_open)
 }
 
 /// Appends what stands between the line of a cut and its groups.
@@ -91,17 +115,18 @@ fn put_body(out: &mut String, program: usize, cut: &CutFailures) -> Result<(), A
 fn put_head(
     out: &mut String,
     run: &Run<'_>,
-    program: usize,
+    how: Showing,
     cut: &CutFailures,
 ) -> Result<(), AllocError>
-    requires cut { IsOfRun run.now.starts.now cut.now }
-    ensures { OnOk result (string_bytes out.new ≡ string_bytes out.old ++ cut_head run.now.starts.now program cut.now) }
+    requires cut { cut.now.cut ≤ length run.now.starts.now.plan.log.entries }
+    requires images { All (λ (g : GroupValue). g.image < length (ranked run.now.starts.now.plan run.now.starts.now.bound run.now.starts.now.tears)) cut.now.groups.items }
+    ensures { OnOk result (string_bytes out.new ≡ string_bytes out.old ++ cut_head run.now.starts.now how cut.now) }
 {
-    put_open(out, cut)?;
+    put_open(out, how.is_open, cut)?;
     put_stand(out, run, cut)?;
     put_bar(out, cut)?;
     put_first(out, run, cut.groups.as_slice())?;
-    put_body(out, program, cut)
+    put_body(out, how.program, cut)
 }
 
 /// Appends how many groups aren't shown.
@@ -117,20 +142,43 @@ fn put_rest(out: &mut String, count: usize) -> Result<(), AllocError>
     put(out, Piece::RestClose)
 }
 
-/// Appends groups.
+/// Appends groups that aren't open.
+fn put_closed(
+    alloc: Global,
+    out: &mut String,
+    run: &Run<'_>,
+    outcomes: &[&str],
+    groups: &[Group],
+) -> Result<(), AllocError>
+    requires groups { All (IsNumbered run.now.starts.now (length outcomes.now)) groups.now }
+    ensures { OnOk result (string_bytes out.new ≡ string_bytes out.old ++ flat_map (group_text run.now.starts.now (map (λ o. o.now) outcomes.now) false) groups.now) }
+{
+    for group in groups {
+        put_group(alloc, out, run, outcomes, false, *group)?;
+    }
+    Ok(())
+}
+
+/// Appends groups, of which the first may be open.
+#[tactic(auto, unfolding(crate::specs::Groups::groups_text))]
 fn put_groups(
     alloc: Global,
     out: &mut String,
     run: &Run<'_>,
+    outcomes: &[&str],
+    is_open: bool,
     groups: &[Group],
 ) -> Result<(), AllocError>
-    requires images { All (λ (g : Group). g.image < length (ranked run.now.starts.now.plan run.now.starts.now.bound run.now.starts.now.tears)) groups.now }
-    ensures { OnOk result (string_bytes out.new ≡ string_bytes out.old ++ flat_map (group_text run.now.starts.now) groups.now) }
+    requires groups { All (IsNumbered run.now.starts.now (length outcomes.now)) groups.now }
+    ensures { OnOk result (string_bytes out.new ≡ string_bytes out.old ++ groups_text run.now.starts.now (map (λ o. o.now) outcomes.now) is_open groups.now) }
 {
-    for group in groups {
-        put_group(alloc, out, run, *group)?;
+    match groups {
+        [] => Ok(()),
+        [group, rest @ ..] => {
+            put_group(alloc, out, run, outcomes, is_open, *group)?;
+            put_closed(alloc, out, run, outcomes, rest)
+        }
     }
-    Ok(())
 }
 
 /// How many groups of a cut are shown, where so many may still be.
@@ -142,42 +190,49 @@ pub(crate) fn shown_of(left: usize, cut: &CutFailures) -> usize
     cut.groups.len().min(MOST_GROUPS_OF_CUT).min(left)
 }
 
-/// Appends a cut, with so many of its groups.
-#[tactic(auto, unfolding(crate::specs::Groups::cut_shown))]
+/// Appends a cut with some of its groups.
+#[tactic(auto, using(crate::proofs::Departing::images_within), unfolding(crate::specs::Groups::cut_shown))]
 fn put_shown_cut(
     alloc: Global,
     out: &mut String,
     run: &Run<'_>,
-    program: usize,
-    shown: usize,
+    outcomes: &[&str],
+    how: Showing,
     cut: &CutFailures,
 ) -> Result<(), AllocError>
-    requires shown { shown ≤ length cut.now.groups.items }
-    requires cut { IsOfRun run.now.starts.now cut.now }
-    ensures { OnOk result (string_bytes out.new ≡ string_bytes out.old ++ cut_shown run.now.starts.now program shown cut.now) }
+    requires shown { how.groups ≤ length cut.now.groups.items }
+    requires cut { IsOfRun run.now.starts.now (length outcomes.now) cut.now }
+    ensures { OnOk result (string_bytes out.new ≡ string_bytes out.old ++ cut_shown run.now.starts.now (map (λ o. o.now) outcomes.now) how cut.now) }
 {
     let groups = cut.groups.as_slice();
-    put_head(out, run, program, cut)?;
-    put_groups(alloc, out, run, &groups[..shown])?;
-    put_rest(out, groups.len() - shown)?;
+    put_head(out, run, how, cut)?;
+    put_groups(
+        alloc,
+        out,
+        run,
+        outcomes,
+        how.is_open,
+        &groups[..how.groups],
+    )?;
+    put_rest(out, groups.len() - how.groups)?;
     put(out, Piece::CutClose)
 }
 
-/// Appends a cut with so many of its groups, where images fail.
+/// Appends a cut, where images fail.
 pub(crate) fn put_cut(
     alloc: Global,
     out: &mut String,
     run: &Run<'_>,
-    program: usize,
-    shown: usize,
+    outcomes: &[&str],
+    how: Showing,
     cut: &CutFailures,
 ) -> Result<(), AllocError>
-    requires shown { shown ≤ length cut.now.groups.items }
-    requires cut { IsOfRun run.now.starts.now cut.now }
-    ensures { OnOk result (string_bytes out.new ≡ string_bytes out.old ++ cut_text run.now.starts.now program shown cut.now) }
+    requires shown { how.groups ≤ length cut.now.groups.items }
+    requires cut { IsOfRun run.now.starts.now (length outcomes.now) cut.now }
+    ensures { OnOk result (string_bytes out.new ≡ string_bytes out.old ++ cut_text run.now.starts.now (map (λ o. o.now) outcomes.now) how cut.now) }
 {
     if cut.failing == 0 {
         return Ok(());
     }
-    put_shown_cut(alloc, out, run, program, shown, cut)
+    put_shown_cut(alloc, out, run, outcomes, how, cut)
 }

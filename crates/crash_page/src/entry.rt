@@ -1,16 +1,17 @@
 //! The entries of a log: a cell for each in the row of entries, and a line for each in the list of entries.
 
 ghost use Rattle.std.specs.Prelude.{◌≡◌, ◌<◌, ◌≤◌, ◌++◌, length, IfOk, OnOk, string_bytes};
-ghost use Rattle.notes.specs.Escaped.{escaped};
 ghost use Rattle.notes.specs.LogTable.{word_text, is_write, line_at};
 ghost use Rattle.crash_page.specs.Html.{html};
-ghost use Rattle.crash_page.specs.Entries.{shade_text, class_text, label_text, link_text, cell_class, cell_text, cell_at, cells_text, row_text, rows_text};
+ghost use Rattle.crash_page.specs.Entries.{shade_text, class_text, label_text, link_text, cell_class, cell_text, cell_at, place_at, cells_text, row_text, rows_text};
 
-use crate::html::put_html;
+use crate::html::{put_html, put_mark_label};
+use crate::lacking::{Lacking, put_lacking};
 use crate::pieces::{Piece, put, put_number};
+use crate::run::Run;
 use epochs::Plan;
 use logfmt::{Entry, Log};
-use notes::{put_entry_line, put_escaped};
+use notes::put_entry_line;
 use std::alloc::{AllocError, Global};
 
 /// Appends a class where something is so.
@@ -50,15 +51,6 @@ fn put_classes(out: &mut String, entry: &Entry) -> Result<(), AllocError>
     put_word(out, entry.flags.mark, "mark")
 }
 
-/// Bytes of a foreign text, printable.
-fn printable(alloc: Global, bytes: &[u8]) -> Result<String, AllocError>
-    ensures { IfOk result (λ text. string_bytes text ≡ escaped bytes.now) }
-{
-    let mut text = String::new(alloc);
-    put_escaped(&mut text, bytes)?;
-    Ok(text)
-}
-
 /// Appends the text of a mark.
 fn put_label(alloc: Global, out: &mut String, entry: &Entry) -> Result<(), AllocError>
     ensures { OnOk result (string_bytes out.new ≡ string_bytes out.old ++ label_text entry.now) }
@@ -66,9 +58,8 @@ fn put_label(alloc: Global, out: &mut String, entry: &Entry) -> Result<(), Alloc
     if !entry.flags.mark {
         return Ok(());
     }
-    let text = printable(alloc, entry.text.as_slice())?;
     out.push_str(" ")?;
-    put_html(out, text.as_bytes())
+    put_mark_label(alloc, out, entry.text.as_slice())
 }
 
 /// Appends to where the cell of an entry leads, and its number.
@@ -113,14 +104,13 @@ fn put_cell(
 fn put_cell_of(
     alloc: Global,
     out: &mut String,
-    plan: &Plan<'_>,
-    log: &Log,
+    run: &Run<'_>,
     number: u32,
 ) -> Result<(), AllocError>
-    requires log { plan.now.log ≡ log.now }
-    requires there { number < length log.now.entries }
-    ensures { OnOk result (string_bytes out.new ≡ string_bytes out.old ++ cell_at log.now.entries number) }
+    requires there { number < length run.now.numbering.log.now.entries }
+    ensures { OnOk result (string_bytes out.new ≡ string_bytes out.old ++ cell_at run.now.numbering.log.now.entries number) }
 {
+    let (plan, log) = (run.starts.plan(), run.numbering.log);
     put_cell(
         alloc,
         out,
@@ -130,22 +120,37 @@ fn put_cell_of(
     )
 }
 
-/// Appends the cells of the entries from `from` to before `to`.
+/// Appends the flush that is missing before an entry, if there is one, and its cell.
+#[tactic(auto, unfolding(crate::specs::Entries::place_at))]
+fn put_place(
+    alloc: Global,
+    out: &mut String,
+    run: &Run<'_>,
+    lacking: &Lacking<'_>,
+    number: u32,
+) -> Result<(), AllocError>
+    requires there { number < length run.now.numbering.log.now.entries }
+    ensures { OnOk result (string_bytes out.new ≡ string_bytes out.old ++ place_at run.now.numbering.log.now.entries lacking.now.program lacking.now.flushes.now number) }
+{
+    put_lacking(out, lacking, number)?;
+    put_cell_of(alloc, out, run, number)
+}
+
+/// Appends the cells of the entries from `from` to before `to`, with the flushes that are missing.
 #[tactic(auto, using(crash_text::proofs::Steps::text_more), unfolding(crate::specs::Entries::cells_text))]
 pub(crate) fn put_cells(
     alloc: Global,
     out: &mut String,
-    plan: &Plan<'_>,
-    log: &Log,
+    run: &Run<'_>,
+    lacking: &Lacking<'_>,
     from: u32,
     to: u32,
 ) -> Result<(), AllocError>
-    requires log { plan.now.log ≡ log.now }
-    requires to { to ≤ length log.now.entries }
-    ensures { OnOk result (string_bytes out.new ≡ string_bytes out.old ++ cells_text log.now.entries from to) }
+    requires to { to ≤ length run.now.numbering.log.now.entries }
+    ensures { OnOk result (string_bytes out.new ≡ string_bytes out.old ++ cells_text run.now.numbering.log.now.entries lacking.now.program lacking.now.flushes.now from to) }
 {
     for step in 0..to.saturating_sub(from) {
-        put_cell_of(alloc, out, plan, log, from + step)?;
+        put_place(alloc, out, run, lacking, from + step)?;
     }
     Ok(())
 }

@@ -1,11 +1,12 @@
-//! A smallest failing choice of a cut, with its image in words.
+//! A group of a cut: the choice of its example, with its image in words.
 
-ghost use Rattle.std.specs.Prelude.{◌≡◌, ◌<◌, ◌++◌, [], length, IfOk, OnOk, string_bytes};
+ghost use Rattle.std.specs.Prelude.{◌≡◌, ◌<◌, ◌++◌, [], length, map, IfOk, OnOk, string_bytes};
 ghost use Rattle.choices.specs.Choices.{ranked};
 ghost use Rattle.images.specs.Views.{IsMember};
-ghost use Rattle.crash_page.specs.Groups.{image_text, block_text, choice_at, group_choice, group_size, group_text};
+ghost use Rattle.why.specs.Text.{IsNumbered};
+ghost use Rattle.crash_page.specs.Groups.{image_text, block_text, choice_at, sides_text, group_open, group_choice, group_size, same_text, group_end, group_line, chosen_text, group_text};
 
-use crate::html::put_html;
+use crate::html::{put_html, put_sided};
 use crate::pieces::{Piece, put, put_number};
 use crate::run::Run;
 use choice_text::put_departures;
@@ -62,7 +63,7 @@ fn put_block(out: &mut String, text: &str) -> Result<(), AllocError>
 {
     if text.len() <= LONGEST {
         put(out, Piece::TextOpen)?;
-        put_html(out, text.as_bytes())?;
+        put_sided(out, text.as_bytes())?;
         return put(out, Piece::TextClose);
     }
     put(out, Piece::LongOpen)?;
@@ -79,12 +80,39 @@ pub(crate) fn put_choice_at(out: &mut String, run: &Run<'_>, image: u64) -> Resu
     put_departures(out, run.numbering.by, choice.departures())
 }
 
+/// Appends what the sides of the differences of an image are, where something departs.
+fn put_sides(out: &mut String, choice: &Choice) -> Result<(), AllocError>
+    ensures { OnOk result (string_bytes out.new ≡ string_bytes out.old ++ sides_text choice.now) }
+{
+    if choice.departures().is_empty() {
+        Ok(())
+    } else {
+        put(out, Piece::Sides)
+    }
+}
+
+/// Appends what begins a group, open or not.
+fn put_group_open(out: &mut String, is_open: bool) -> Result<(), AllocError>
+    ensures { OnOk result (string_bytes out.new ≡ string_bytes out.old ++ group_open is_open) }
+{
+    if is_open {
+        put(out, Piece::GroupOpened)
+    } else {
+        put(out, Piece::GroupOpen)
+    }
+}
+
 /// Appends the choice of a group.
 #[tactic(auto, unfolding(crate::specs::Groups::group_choice))]
-fn put_group_choice(out: &mut String, run: &Run<'_>, choice: &Choice) -> Result<(), AllocError>
-    ensures { OnOk result (string_bytes out.new ≡ string_bytes out.old ++ group_choice run.now.starts.now choice.now) }
+fn put_group_choice(
+    out: &mut String,
+    run: &Run<'_>,
+    is_open: bool,
+    choice: &Choice,
+) -> Result<(), AllocError>
+    ensures { OnOk result (string_bytes out.new ≡ string_bytes out.old ++ group_choice run.now.starts.now is_open choice.now) }
 {
-    put(out, Piece::GroupOpen)?;
+    put_group_open(out, is_open)?;
     put_departures(out, run.numbering.by, choice.departures())
 }
 
@@ -96,8 +124,47 @@ fn put_group_size(out: &mut String, group: Group) -> Result<(), AllocError>
     put(out, Piece::GroupImage)?;
     put_number(out, group.image)?;
     put(out, Piece::GroupSize)?;
-    put_number(out, group.failing as u64)?;
+    put_number(out, group.failing as u64)
+}
+
+/// Appends whether a program ends on all images of a group as on its example.
+fn put_same(out: &mut String, same: bool) -> Result<(), AllocError>
+    ensures { OnOk result (string_bytes out.new ≡ string_bytes out.old ++ same_text same) }
+{
+    if same {
+        put(out, Piece::GroupAll)
+    } else {
+        put(out, Piece::GroupSome)
+    }
+}
+
+/// Appends what a program ends in on the example of a group.
+#[tactic(auto, unfolding(crate::specs::Groups::group_end))]
+fn put_group_end(out: &mut String, outcomes: &[&str], group: Group) -> Result<(), AllocError>
+    requires { group.line < length outcomes.now }
+    ensures { OnOk result (string_bytes out.new ≡ string_bytes out.old ++ group_end (map (λ o. o.now) outcomes.now) group) }
+{
+    put_same(out, group.same)?;
+    put_html(out, outcomes[group.line].as_bytes())?;
     put(out, Piece::GroupLineEnd)
+}
+
+/// Appends the line of a group.
+#[tactic(auto, unfolding(crate::specs::Groups::group_line))]
+fn put_group_line(
+    out: &mut String,
+    run: &Run<'_>,
+    outcomes: &[&str],
+    is_open: bool,
+    group: Group,
+    choice: &Choice,
+) -> Result<(), AllocError>
+    requires { group.line < length outcomes.now }
+    ensures { OnOk result (string_bytes out.new ≡ string_bytes out.old ++ group_line run.now.starts.now (map (λ o. o.now) outcomes.now) is_open group choice.now) }
+{
+    put_group_choice(out, run, is_open, choice)?;
+    put_group_size(out, group)?;
+    put_group_end(out, outcomes, group)
 }
 
 /// Appends a group.
@@ -106,15 +173,17 @@ pub(crate) fn put_group(
     alloc: Global,
     out: &mut String,
     run: &Run<'_>,
+    outcomes: &[&str],
+    is_open: bool,
     group: Group,
 ) -> Result<(), AllocError>
-    requires image { group.image < length (ranked run.now.starts.now.plan run.now.starts.now.bound run.now.starts.now.tears) }
-    ensures { OnOk result (string_bytes out.new ≡ string_bytes out.old ++ group_text run.now.starts.now group) }
+    requires group { IsNumbered run.now.starts.now (length outcomes.now) group }
+    ensures { OnOk result (string_bytes out.new ≡ string_bytes out.old ++ group_text run.now.starts.now (map (λ o. o.now) outcomes.now) is_open group) }
 {
     let choice = run.starts.nth(group.image);
     let text = image_text(alloc, run, &choice)?;
-    put_group_choice(out, run, &choice)?;
-    put_group_size(out, group)?;
+    put_group_line(out, run, outcomes, is_open, group, &choice)?;
+    put_sides(out, &choice)?;
     put_block(out, text.as_str())?;
     put(out, Piece::GroupClose)
 }

@@ -3,7 +3,6 @@
 ghost use Rattle.crash_page.specs.Laws.{TextIsNoMarkup, FailuresAreOfRun};
 
 /// No byte of a text on a page is `<`, `>`, `"` or `'`, whatever the text is.
-#[tactic(auto, using(crate::proofs::Markup::text_is_no_markup))]
 pub fn text_is_no_markup()
     ensures { TextIsNoMarkup }
 {}

@@ -1,10 +1,12 @@
-//! crash_page, a run as a page for a browser: the log as a row of entries with the cuts between them, and of each cut at which
-//! images fail its smallest failing choices, each with its image in words (docs/REPORT.md, The page of `page`).
+//! crash_page, a run as a page for a browser: the log as a row of entries with the cuts between them and the flushes that are
+//! missing, and of each cut at which images fail its groups, each with the image of its example in words (docs/REPORT.md, The page
+//! of `page`).
 //!
 //! # Place
 //!
-//! On `why`, whose groups it shows, on `crash_text` for the text of an image, on `images`, which forms the two images that this
-//! text compares, and on `notes` for the lines of entries. It judges nothing: `commands` hands it what fails.
+//! On `why`, whose groups it shows, on `flushes`, whose missing flushes it draws, on `crash_text` for the text of an image, on `images`,
+//! which forms the two images that this text compares, on `report` for what it says of a program at its head, and on `notes` for the
+//! lines of entries. It judges nothing: `runs` hands it what fails.
 //!
 //! | Call | Appends |
 //! |---|---|
@@ -13,14 +15,16 @@
 //! # What is proved
 //!
 //! `put_page` appends exactly the text of its definition (`page_text` in `specs/Page.antt`) over the log, the plan and what fails
-//! at each cut. The parts that are the same on each page are constants of `dress`, of which nothing is claimed. Text that comes
-//! from a log stands on the page by `html` alone: no byte of it is `<`, `>`, `"` or `'` (`text_is_no_markup`). What `put_page` asks of
-//! the failures that it is given holds of what `why::failures` answers (`failures_are_of_run`).
+//! at each cut. The parts that are the same on each page are constants of `dress`, of which nothing is claimed. Which share of failing
+//! images has which colour is one definition (`specs/Shares.antt`), of which the cells and the legend are made. Text that comes from a
+//! log stands on the page by `html` or `mark_label` alone: no byte of it is `<`, `>`, `"` or `'` (`text_is_no_markup`). What `put_page`
+//! asks of the failures that it is given holds of what `why::failures` answers (`failures_are_of_run`).
 //!
 //! # How it is written
 //!
 //! Each call appends to the page, piece after piece, as its definition is composed. `entry` has the cells and lines of entries,
-//! `strip` the cells of cuts between them, `cut` and `group` what stands behind a click on a cut.
+//! `lacking` the flushes that are missing, in the row and in words, `strip` the cells of cuts between entries, `share` their colours,
+//! `cut` and `group` what stands behind a click on a cut.
 #![tactic(auto)]
 
 mod cut;
@@ -28,11 +32,13 @@ mod dress;
 mod entry;
 mod group;
 mod html;
+mod lacking;
 mod laws;
 mod page;
 mod pieces;
 mod program;
 mod run;
+mod share;
 mod strip;
 
 pub use laws::{failures_are_of_run, text_is_no_markup};

@@ -2,14 +2,36 @@
 
 ghost use Rattle.std.specs.Prelude.{◌≡◌, ◌++◌, All, OnOk, string_bytes};
 ghost use Rattle.crash_page.specs.Html.{html};
-ghost use Rattle.crash_page.specs.Page.{programs_text, about_text, list_text, page_text, AreOfRun};
+ghost use Rattle.crash_page.specs.Page.{log_name, head_text, programs_text, about_text, list_text, page_text, AreOfRun};
 
 use crate::entry::put_rows;
 use crate::html::put_html;
 use crate::pieces::{Piece, put};
 use crate::program::{ProgramFailures, put_program};
 use crate::run::Run;
+use logfmt::Log;
 use std::alloc::{AllocError, Global};
+
+/// Appends what names the log: how many entries it has, and of how many sectors its device is.
+#[tactic(auto, unfolding(crate::specs::Page::log_name))]
+fn put_log_name(out: &mut String, log: &Log) -> Result<(), AllocError>
+    ensures { OnOk result (string_bytes out.new ≡ string_bytes out.old ++ log_name log.now) }
+{
+    let (entries, sectors) = (log.entries().len(), log.sectors());
+    write!(out, "entries {entries}, sectors {sectors}")
+}
+
+/// Appends the head of the page.
+#[tactic(auto, unfolding(crate::specs::Page::head_text))]
+fn put_head(out: &mut String, log: &Log) -> Result<(), AllocError>
+    ensures { OnOk result (string_bytes out.new ≡ string_bytes out.old ++ head_text log.now) }
+{
+    put(out, Piece::Opening)?;
+    put_log_name(out, log)?;
+    put(out, Piece::Style)?;
+    put_log_name(out, log)?;
+    put(out, Piece::HeadClose)
+}
 
 /// Appends the text about the run.
 #[tactic(auto, unfolding(crate::specs::Page::about_text))]
@@ -18,7 +40,7 @@ fn put_about(out: &mut String, about: &str) -> Result<(), AllocError>
 {
     put(out, Piece::AboutOpen)?;
     put_html(out, about.as_bytes())?;
-    put(out, Piece::TextClose)
+    put(out, Piece::AboutClose)
 }
 
 /// Appends the list of entries.
@@ -37,7 +59,7 @@ fn put_programs(
     alloc: Global,
     out: &mut String,
     run: &Run<'_>,
-    programs: &[ProgramFailures],
+    programs: &[ProgramFailures<'_>],
 ) -> Result<(), AllocError>
     requires programs { All (AreOfRun run.now.starts.now) programs.now }
     ensures { OnOk result (string_bytes out.new ≡ string_bytes out.old ++ programs_text run.now.starts.now 0 programs.now) }
@@ -62,12 +84,12 @@ pub fn put_page(
     out: &mut String,
     about: &str,
     run: &Run<'_>,
-    programs: &[ProgramFailures],
+    programs: &[ProgramFailures<'_>],
 ) -> Result<(), AllocError>
     requires programs { All (AreOfRun run.now.starts.now) programs.now }
     ensures { OnOk result (string_bytes out.new ≡ string_bytes out.old ++ page_text about.now run.now.starts.now programs.now) }
 {
-    put(out, Piece::Opening)?;
+    put_head(out, run.numbering.log)?;
     put_about(out, about)?;
     put_programs(alloc, out, run, programs)?;
     put_list(alloc, out, run)?;

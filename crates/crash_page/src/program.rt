@@ -1,16 +1,22 @@
 //! What is said of a program.
 
-ghost use Rattle.std.specs.Prelude.{◌≡◌, ◌==◌, if◌then◌else◌, ◌≤◌, ◌++◌, [], ◌∷◌, All, length, filter, OnOk, string_bytes};
+ghost use Rattle.std.specs.Prelude.{◌≡◌, ◌==◌, if◌then◌else◌, ◌≤◌, ◌++◌, [], ◌∷◌, All, true, length, map, filter, OnOk, string_bytes};
 ghost use Rattle.crash_page.specs.declared.pieces.Piece.TheVariants as piece;
 ghost use Rattle.crash_page.specs.Pieces.{piece_text};
 ghost use Rattle.crash_page.specs.Groups.{cuts_text};
-ghost use Rattle.crash_page.specs.Page.{fails, bad_text, verdict_text, strip_text, title_text, most_of_program, program_text, IsOfRun, AreOfRun};
+ghost use Rattle.report.specs.Report.{steps_word};
+ghost use Rattle.crash_page.specs.Page.{fails, bad_text, judged_text, verdict_text, strip_open, strip_text, name_text, title_text, summary_text, most_of_program, program_text, IsOfRun, AreOfRun};
 
-use crate::cut::{put_cut, shown_of};
+use crate::cut::{Showing, put_cut, shown_of};
 use crate::entry::put_word;
+use crate::lacking::{Lacking, put_advice};
 use crate::pieces::{Piece, put, put_number};
 use crate::run::Run;
+use crate::share::put_legend;
 use crate::strip::put_strip;
+use flushes::MissingFlush;
+use logfmt::Log;
+use report::ProgramHead;
 use std::alloc::{AllocError, Global};
 use why::CutFailures;
 
@@ -22,11 +28,19 @@ const MANY: usize = 400;
 
 /// On which images a program fails.
 #[derive(Drop)]
-pub struct ProgramFailures {
-    /// On how many.
+pub struct ProgramFailures<'a> {
+    /// What the report says of the program.
+    pub head: ProgramHead,
+    /// On how many images it fails.
     pub failing: usize,
+    /// What it ends in on each of these images.
+    pub outcomes: Vec<&'a str>,
     /// What fails at each wanted cut.
     pub cuts: Vec<CutFailures>,
+    /// The flushes that are missing for these images.
+    pub missing: Vec<MissingFlush>,
+    /// How many of these images no flush takes away.
+    pub uncured: usize,
 }
 
 /// One where images fail at a cut, else none.
@@ -51,7 +65,7 @@ fn failing_cuts(cuts: &[CutFailures]) -> usize
 
 /// Appends on how many images a program fails, and at how many cuts.
 #[tactic(auto, unfolding(crate::specs::Page::bad_text))]
-fn put_bad(out: &mut String, failures: &ProgramFailures) -> Result<(), AllocError>
+fn put_bad(out: &mut String, failures: &ProgramFailures<'_>) -> Result<(), AllocError>
     ensures { OnOk result (string_bytes out.new ≡ string_bytes out.old ++ bad_text failures.now) }
 {
     put(out, Piece::BadOpen)?;
@@ -62,7 +76,7 @@ fn put_bad(out: &mut String, failures: &ProgramFailures) -> Result<(), AllocErro
 }
 
 /// Appends whether a program fails.
-fn put_failing(out: &mut String, failures: &ProgramFailures) -> Result<(), AllocError>
+fn put_failing(out: &mut String, failures: &ProgramFailures<'_>) -> Result<(), AllocError>
     ensures { OnOk result (string_bytes out.new ≡ string_bytes out.old ++ (if failures.now.failing == 0 then piece_text piece.GoodOpen else bad_text failures.now)) }
 {
     if failures.failing == 0 {
@@ -73,31 +87,51 @@ fn put_failing(out: &mut String, failures: &ProgramFailures) -> Result<(), Alloc
 }
 
 /// Appends what a program comes to, of so many cuts.
-#[tactic(auto, unfolding(crate::specs::Page::verdict_text))]
-fn put_verdict(out: &mut String, failures: &ProgramFailures) -> Result<(), AllocError>
-    ensures { OnOk result (string_bytes out.new ≡ string_bytes out.old ++ verdict_text failures.now) }
+#[tactic(auto, unfolding(crate::specs::Page::judged_text))]
+fn put_judged(out: &mut String, failures: &ProgramFailures<'_>) -> Result<(), AllocError>
+    ensures { OnOk result (string_bytes out.new ≡ string_bytes out.old ++ judged_text failures.now) }
 {
     put_failing(out, failures)?;
     put_number(out, failures.cuts.len() as u64)?;
     put(out, Piece::GoodClose)
 }
 
-/// Appends the row of entries and cuts.
-#[tactic(auto, unfolding(crate::specs::Page::strip_text))]
+/// Appends what a program comes to, or that nothing was judged.
+fn put_verdict(out: &mut String, failures: &ProgramFailures<'_>) -> Result<(), AllocError>
+    ensures { OnOk result (string_bytes out.new ≡ string_bytes out.old ++ verdict_text failures.now) }
+{
+    if failures.cuts.is_empty() {
+        put(out, Piece::NoCuts)
+    } else {
+        put_judged(out, failures)
+    }
+}
+
+/// Appends what begins a row of so many entries.
+#[tactic(auto, unfolding(crate::specs::Page::strip_open))]
+fn put_strip_open(out: &mut String, log: &Log) -> Result<(), AllocError>
+    ensures { OnOk result (string_bytes out.new ≡ string_bytes out.old ++ strip_open log.now.entries) }
+{
+    put(out, Piece::StripOpen)?;
+    put_word(out, log.entries().len() > MANY, "many")?;
+    put(out, Piece::OpenEnd)
+}
+
+/// Appends the row of entries and cuts, with the flushes that are missing.
+#[tactic(auto, using(crate::proofs::Rows::cuts_within), unfolding(crate::specs::Page::strip_text))]
 fn put_row(
     alloc: Global,
     out: &mut String,
     run: &Run<'_>,
     program: usize,
-    cuts: &[CutFailures],
+    failures: &ProgramFailures<'_>,
 ) -> Result<(), AllocError>
-    requires cuts { All (IsOfRun run.now.starts.now) cuts.now }
-    ensures { OnOk result (string_bytes out.new ≡ string_bytes out.old ++ strip_text run.now.numbering.log.now.entries program cuts.now) }
+    requires cuts { AreOfRun run.now.starts.now failures.now }
+    ensures { OnOk result (string_bytes out.new ≡ string_bytes out.old ++ strip_text run.now.numbering.log.now.entries program failures.now) }
 {
-    put(out, Piece::StripOpen)?;
-    put_word(out, run.numbering.log.entries().len() > MANY, "many")?;
-    put(out, Piece::OpenEnd)?;
-    put_strip(alloc, out, run, program, cuts)?;
+    let lacking = lacking_of(program, failures);
+    put_strip_open(out, run.numbering.log)?;
+    put_strip(alloc, out, run, &lacking, failures.cuts.as_slice())?;
     put(out, Piece::StripClose)
 }
 
@@ -108,28 +142,81 @@ fn put_cuts(
     out: &mut String,
     run: &Run<'_>,
     program: usize,
+    outcomes: &[&str],
     cuts: &[CutFailures],
 ) -> Result<(), AllocError>
-    requires cuts { All (IsOfRun run.now.starts.now) cuts.now }
-    ensures { OnOk result (string_bytes out.new ≡ string_bytes out.old ++ cuts_text run.now.starts.now program most_of_program cuts.now) }
+    requires cuts { All (IsOfRun run.now.starts.now (length outcomes.now)) cuts.now }
+    ensures { OnOk result (string_bytes out.new ≡ string_bytes out.old ++ cuts_text run.now.starts.now (map (λ o. o.now) outcomes.now) program true most_of_program cuts.now) }
 {
     let mut left = MOST_GROUPS_OF_PROGRAM;
+    let mut is_first = true;
     for cut in cuts {
-        let shown = shown_of(left, cut);
-        put_cut(alloc, out, run, program, shown, cut)?;
-        left -= shown;
+        let how = Showing {
+            program,
+            is_open: is_first,
+            groups: shown_of(left, cut),
+        };
+        put_cut(alloc, out, run, outcomes, how, cut)?;
+        is_first = is_first && cut.failing == 0;
+        left -= how.groups;
     }
     Ok(())
 }
 
+/// The flushes that are missing for a program.
+fn lacking_of<'a>(program: usize, failures: &'a ProgramFailures<'_>) -> Lacking<'a>
+    ensures program { result.program ≡ program }
+    ensures flushes { result.flushes.now ≡ failures.now.missing.items }
+{
+    Lacking {
+        program,
+        flushes: failures.missing.as_slice(),
+    }
+}
+
+/// What the most steps of a run are called.
+fn steps_name(verified: bool) -> &'static str
+    ensures { result.now ≡ steps_word verified }
+{
+    if verified { "budget" } else { "limit" }
+}
+
+/// Appends the number of a program, how many slots it has, and the most steps of a run.
+#[tactic(auto, unfolding(crate::specs::Page::name_text))]
+fn put_name(out: &mut String, program: usize, head: ProgramHead) -> Result<(), AllocError>
+    ensures { OnOk result (string_bytes out.new ≡ string_bytes out.old ++ name_text program head) }
+{
+    write!(out, "{program}: slots {}", head.slots)?;
+    write!(out, " {} {}", steps_name(head.verified), head.limit)
+}
+
 /// Appends the title of a program.
 #[tactic(auto, unfolding(crate::specs::Page::title_text))]
-fn put_title(out: &mut String, program: usize) -> Result<(), AllocError>
-    ensures { OnOk result (string_bytes out.new ≡ string_bytes out.old ++ title_text program) }
+fn put_title(out: &mut String, program: usize, head: ProgramHead) -> Result<(), AllocError>
+    ensures { OnOk result (string_bytes out.new ≡ string_bytes out.old ++ title_text program head) }
 {
     put(out, Piece::ProgramOpen)?;
     put_number(out, program as u64)?;
+    put(out, Piece::ProgramId)?;
+    put_number(out, program as u64)?;
+    put(out, Piece::ProgramName)?;
+    put_name(out, program, head)?;
     put(out, Piece::ProgramClose)
+}
+
+/// Appends what a program comes to, and what flushes would do.
+#[tactic(auto, unfolding(crate::specs::Page::summary_text))]
+fn put_summary(
+    out: &mut String,
+    program: usize,
+    failures: &ProgramFailures<'_>,
+) -> Result<(), AllocError>
+    ensures { OnOk result (string_bytes out.new ≡ string_bytes out.old ++ summary_text program failures.now) }
+{
+    let lacking = lacking_of(program, failures);
+    put_title(out, program, failures.head)?;
+    put_verdict(out, failures)?;
+    put_advice(out, &lacking, failures.uncured)
 }
 
 /// Appends a program.
@@ -139,15 +226,15 @@ pub(crate) fn put_program(
     out: &mut String,
     run: &Run<'_>,
     program: usize,
-    failures: &ProgramFailures,
+    failures: &ProgramFailures<'_>,
 ) -> Result<(), AllocError>
     requires cuts { AreOfRun run.now.starts.now failures.now }
     ensures { OnOk result (string_bytes out.new ≡ string_bytes out.old ++ program_text run.now.starts.now program failures.now) }
 {
-    let cuts = failures.cuts.as_slice();
-    put_title(out, program)?;
-    put_verdict(out, failures)?;
-    put_row(alloc, out, run, program, cuts)?;
-    put(out, Piece::Legend)?;
-    put_cuts(alloc, out, run, program, cuts)
+    put_summary(out, program, failures)?;
+    put_row(alloc, out, run, program, failures)?;
+    put_legend(out)?;
+    let (outcomes, cuts) = (failures.outcomes.as_slice(), failures.cuts.as_slice());
+    put_cuts(alloc, out, run, program, outcomes, cuts)?;
+    put(out, Piece::SectionClose)
 }

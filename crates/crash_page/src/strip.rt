@@ -1,36 +1,18 @@
 //! The log as a row of entries, with a cell for each wanted cut.
 
 ghost use Rattle.std.specs.Prelude.{◌≡◌, ◌≤◌, ◌++◌, All, length, OnOk, string_bytes};
-ghost use Rattle.crash_page.specs.Cells.{share_of, place_name, count_text, passing_text, failing_class, failing_link, failing_title, failing_text, cut_cell, strip_from};
-ghost use Rattle.crash_page.specs.Page.{IsOfRun};
+ghost use Rattle.crash_page.specs.Cells.{place_name, count_text, passing_text, failing_class, failing_link, failing_title, failing_text, cut_cell, strip_from};
+ghost use Rattle.why.specs.declared.cut.CutFailures.{CutFailures as CutValue};
 
 use crate::entry::{put_cells, put_shade};
+use crate::lacking::Lacking;
 use crate::pieces::{Piece, put, put_number};
 use crate::run::Run;
+use crate::share::{Share, put_class, share_of};
 use epochs::Plan;
 use logfmt::Log;
 use std::alloc::{AllocError, Global};
 use why::CutFailures;
-
-/// Which share of the images of a cut fails: 0 for none, then 1 to 3 for at most a hundredth, a tenth and half of them, 4 for
-/// more, and 5 for all.
-pub(crate) fn share_of(images: u64, failing: u64) -> u8
-    ensures { result ≡ share_of images failing }
-{
-    if failing == 0 {
-        0
-    } else if images <= failing {
-        5
-    } else if failing <= images / 100 {
-        1
-    } else if failing <= images / 10 {
-        2
-    } else if failing <= images / 2 {
-        3
-    } else {
-        4
-    }
-}
 
 /// Appends the name of a cut's place on the page.
 #[tactic(auto, unfolding(crate::specs::Cells::place_name))]
@@ -57,6 +39,7 @@ fn put_passing(out: &mut String, epoch: u32) -> Result<(), AllocError>
     ensures { OnOk result (string_bytes out.new ≡ string_bytes out.old ++ passing_text epoch) }
 {
     put(out, Piece::PassingOpen)?;
+    put_class(out, Share::No)?;
     put_shade(out, epoch)?;
     put(out, Piece::PassingClose)
 }
@@ -68,7 +51,7 @@ fn put_failing_class(out: &mut String, epoch: u32, cut: &CutFailures) -> Result<
 {
     let share = share_of(cut.images, cut.failing as u64);
     put(out, Piece::FailingOpen)?;
-    put_number(out, u64::from(share))?;
+    put_class(out, share)?;
     put_shade(out, epoch)
 }
 
@@ -129,25 +112,25 @@ fn put_cut_cell(
     }
 }
 
-/// Appends the entries of a log, and each of the cuts before the entry of its number.
-#[tactic(auto, using(crate::proofs::Rows::cut_within, crate::proofs::Rows::strip_more, crate::proofs::Rows::strip_end))]
+/// Appends the entries of a log with the flushes that are missing, and each of the cuts before the entry of its number.
+#[tactic(auto, using(crate::proofs::Rows::strip_more, crate::proofs::Rows::strip_end))]
 pub(crate) fn put_strip(
     alloc: Global,
     out: &mut String,
     run: &Run<'_>,
-    program: usize,
+    lacking: &Lacking<'_>,
     cuts: &[CutFailures],
 ) -> Result<(), AllocError>
-    requires cuts { All (IsOfRun run.now.starts.now) cuts.now }
-    ensures { OnOk result (string_bytes out.new ≡ string_bytes out.old ++ strip_from run.now.numbering.log.now.entries program 0 cuts.now) }
+    requires cuts { All (λ (c : CutValue). c.cut ≤ length run.now.numbering.log.now.entries) cuts.now }
+    ensures { OnOk result (string_bytes out.new ≡ string_bytes out.old ++ strip_from run.now.numbering.log.now.entries lacking.now.program lacking.now.flushes.now 0 cuts.now) }
 {
     let (plan, log) = (run.starts.plan(), run.numbering.log);
     let mut from = 0;
     for cut in cuts {
-        put_cells(alloc, out, plan, log, from, cut.cut)?;
-        put_cut_cell(out, plan, log, program, cut)?;
+        put_cells(alloc, out, run, lacking, from, cut.cut)?;
+        put_cut_cell(out, plan, log, lacking.program, cut)?;
         from = cut.cut;
     }
     let end = log.entries().len() as u32;
-    put_cells(alloc, out, plan, log, from, end)
+    put_cells(alloc, out, run, lacking, from, end)
 }

@@ -39,13 +39,17 @@ abbrev pub uncured_text : List FailingLine → List Failure → List ℕ
 uncured_text ls fs =
     option_map_or (λ (l : FailingLine). codes "no flush cures " ++ line_text l) (option_and_then (λ (n : ℕ). slice_get ls n) (uncured_at fs)) []
 
--- a flush of a round: the entry that was picked, and the first one before which it may stand
-unfoldable pub flush_place : ℕ → MissingFlush → List ℕ
-flush_place round m = codes "round " ++ decimal round ++ codes " flush before " ++ decimal m.at ++ codes " from " ++ decimal m.from
+-- a flush that is missing: the entry that was picked, and the first one before which it may stand
+unfoldable pub missing_place : MissingFlush → List ℕ
+missing_place m = codes "flush before " ++ decimal m.at ++ codes " from " ++ decimal m.from
 
 -- and how many failures are counted there
+unfoldable pub missing_line : MissingFlush → List ℕ
+missing_line m = missing_place m ++ codes " failing " ++ decimal m.failing ++ codes "\n"
+
+-- of a round
 unfoldable pub flush_line : ℕ → MissingFlush → List ℕ
-flush_line round m = flush_place round m ++ codes " failing " ++ decimal m.failing ++ codes "\n"
+flush_line round m = codes "round " ++ decimal round ++ codes " " ++ missing_line m
 
 -- the flushes of rounds, of which the first has that number
 abbrev pub rounds_text : ℕ → List (List MissingFlush) → List ℕ

@@ -12,6 +12,8 @@
 //! | `put_begin(out, head, failures)` | appends title, options, and of each program how many of its failures no flush takes away |
 //! | `uncured_line(alloc, lines, failures)` | the line that names the first failure without a window |
 //! | `put_round(out, number, flushes)` | appends a line for each flush of a round |
+//! | `put_programs(out, programs, failures)` | appends of each program how many of its failures no flush takes away |
+//! | `put_missing(out, flushes)` | appends a line for each flush, without a round |
 //! | `put_refused(out, at)` | appends that a run has too many images |
 //!
 //! # Place
@@ -54,4 +56,4 @@ pub use adding::{Added, add_missing};
 pub use failure::Failure;
 pub use failures::{failures_of, windows_of};
 pub use printed::uncured_line;
-pub use text::{put_begin, put_refused, put_round};
+pub use text::{put_begin, put_missing, put_programs, put_refused, put_round};

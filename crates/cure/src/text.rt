@@ -2,7 +2,7 @@
 
 ghost use Rattle.std.specs.Prelude.{◌≡◌, ◌++◌, ◌≤◌, ◌<◌, ℕ, length, filter, map, OnOk, string_bytes};
 ghost use Rattle.std.specs.List.{flat_map, range_with_len};
-ghost use Rattle.cure.specs.Text.{is_of, is_uncured, program_line, programs_text, begin_text, flush_place, flush_line, refused_line};
+ghost use Rattle.cure.specs.Text.{is_of, is_uncured, program_line, programs_text, begin_text, missing_place, missing_line, flush_line, refused_line};
 
 use crate::failure::Failure;
 use flushes::MissingFlush;
@@ -56,8 +56,16 @@ fn put_program(out: &mut String, program: usize, failures: &[Failure]) -> Result
     write!(out, " uncured {uncured}\n")
 }
 
-/// Appends this of each of so many programs.
-fn put_programs(out: &mut String, programs: usize, failures: &[Failure]) -> Result<(), AllocError>
+/// Appends a line for each of so many programs: on how many images it fails, and on how many of these no flush helps.
+///
+/// # Errors
+///
+/// Memory was refused.
+pub fn put_programs(
+    out: &mut String,
+    programs: usize,
+    failures: &[Failure],
+) -> Result<(), AllocError>
     ensures { OnOk result (string_bytes out.new ≡ string_bytes out.old ++ programs_text programs failures.now) }
 {
     for program in 0..programs {
@@ -81,13 +89,35 @@ pub fn put_begin(out: &mut String, head: &Head, failures: &[Failure]) -> Result<
     put_programs(out, head.programs.len(), failures)
 }
 
-/// Appends where a flush of a round stands.
-#[tactic(auto, unfolding(crate::specs::Text::flush_place))]
-fn put_place(out: &mut String, round: u64, flush: MissingFlush) -> Result<(), AllocError>
-    ensures { OnOk result (string_bytes out.new ≡ string_bytes out.old ++ flush_place round flush) }
+/// Appends where a flush is missing.
+#[tactic(auto, unfolding(crate::specs::Text::missing_place))]
+fn put_place(out: &mut String, flush: MissingFlush) -> Result<(), AllocError>
+    ensures { OnOk result (string_bytes out.new ≡ string_bytes out.old ++ missing_place flush) }
 {
-    write!(out, "round {round} flush before {}", flush.at)?;
-    write!(out, " from {}", flush.from)
+    write!(out, "flush before {} from {}", flush.at, flush.from)
+}
+
+/// Appends the line of a flush that is missing.
+#[tactic(auto, unfolding(crate::specs::Text::missing_line))]
+fn put_missing_flush(out: &mut String, flush: MissingFlush) -> Result<(), AllocError>
+    ensures { OnOk result (string_bytes out.new ≡ string_bytes out.old ++ missing_line flush) }
+{
+    put_place(out, flush)?;
+    write!(out, " failing {}\n", flush.failing)
+}
+
+/// Appends a line for each flush that is missing.
+///
+/// # Errors
+///
+/// Memory was refused.
+pub fn put_missing(out: &mut String, flushes: &[MissingFlush]) -> Result<(), AllocError>
+    ensures { OnOk result (string_bytes out.new ≡ string_bytes out.old ++ flat_map missing_line flushes.now) }
+{
+    for flush in flushes {
+        put_missing_flush(out, *flush)?;
+    }
+    Ok(())
 }
 
 /// Appends the line of a flush of a round.
@@ -95,8 +125,8 @@ fn put_place(out: &mut String, round: u64, flush: MissingFlush) -> Result<(), Al
 fn put_flush(out: &mut String, round: u64, flush: MissingFlush) -> Result<(), AllocError>
     ensures { OnOk result (string_bytes out.new ≡ string_bytes out.old ++ flush_line round flush) }
 {
-    put_place(out, round, flush)?;
-    write!(out, " failing {}\n", flush.failing)
+    write!(out, "round {round} ")?;
+    put_missing_flush(out, flush)
 }
 
 /// Appends a line for each flush of the round of that number.

@@ -1,10 +1,8 @@
 -- Keys of choices: they rise in the order of choices, and the parts of a choice have the listed ones.
-use Rattle.std.proofs.Common.{ℕ, zero, suc, ◌≡◌, ◌+◌, ◌-◌, ◌*◌, ◌<◌, ◌≤◌, ◌⊎◌, List, [], ◌∷◌, ◌++◌, length, map, take, slice_get, slice_index_or, None, Some, refl, sym, ◌∙◌, ap, subst, inl, inr, arith}
-use Rattle.std.specs.List.Sorted.{IsNonDecreasing}
-use Rattle.std.proofs.lemmas.Bool.{cases_lt}
-use Rattle.groups.specs.Groups.{IsPartOf, AreRising, DiffersBelow, Precedes, AreChoices, IsPart, IsGroup}
-use Rattle.groups.specs.Keys.{key_of, other_parts, part_keys, AreWords, Lacks, IsFirstFound}
-use Rattle.groups.proofs.Parts.{Leaves, left_out, no_longer}
+use Rattle.std.proofs.Common.{ℕ, zero, suc, ◌≡◌, ◌+◌, ◌*◌, ◌<◌, ◌≤◌, ◌⊎◌, List, [], ◌∷◌, length, slice_get, None, Some, refl, sym, ◌∙◌, ap, subst, inl, inr, arith}
+use Rattle.groups.specs.Groups.{AreRising, Precedes}
+use Rattle.groups.specs.Keys.{key_of, other_parts, part_keys, AreWords}
+use Rattle.groups.proofs.Parts.{Leaves}
 
 -- the key of a choice of that form
 one : (a : ℕ) → key_of (a ∷ []) ≡ a + 1

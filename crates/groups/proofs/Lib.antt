@@ -2,3 +2,4 @@
 pub mod Parts
 pub mod Keyed
 pub mod Progress
+pub mod Folds

@@ -1,8 +1,8 @@
 -- Parts of choices: a part of a rising list is got by leaving numbers out.
-use Rattle.std.proofs.Common.{ℕ, zero, suc, ◌≡◌, ◌+◌, ◌<◌, ◌≤◌, ◌⊎◌, List, [], ◌∷◌, length, slice_get, None, Some, refl, sym, ◌∙◌, ap, subst, inl, inr, arith}
+use Rattle.std.proofs.Common.{ℕ, zero, suc, ◌≡◌, ◌<◌, ◌≤◌, ◌⊎◌, List, [], ◌∷◌, length, slice_get, None, Some, refl, sym, ◌∙◌, ap, subst, inl, inr, arith}
 use Rattle.std.proofs.lemmas.Bool.{cases_lt}
-use Rattle.groups.specs.Groups.{IsPartOf, AreRising, DiffersBelow, Precedes, AreChoices, IsPart, IsSmallest, IsGroup}
-use Rattle.groups.specs.Laws.{IsFirstSmallest, GroupIsSmallest}
+use Rattle.groups.specs.Groups.{IsPartOf, AreRising, DiffersBelow, Precedes, AreChoices, IsPart}
+use Rattle.groups.specs.Laws.{GroupIsSmallest}
 
 -- the second without some of its numbers is the first
 abbrev pub Leaves : List ℕ → List ℕ → Type 0

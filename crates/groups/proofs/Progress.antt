@@ -1,12 +1,12 @@
 -- The groups of the first choices.
-use Rattle.std.proofs.Common.{ℕ, zero, suc, ◌≡◌, ◌+◌, ◌<◌, ◌≤◌, ◌⊎◌, Option, option_map, List, [], ◌∷◌, ◌++◌, length, length-append, map, take, slice_get, slice_index_or, None, Some, MatchOption, refl, sym, ◌∙◌, ap, subst, inl, inr, arith}
+use Rattle.std.proofs.Common.{ℕ, zero, suc, ◌≡◌, ◌+◌, ◌<◌, ◌≤◌, option_map, List, [], ◌∷◌, ◌++◌, length, length-append, map, slice_get, slice_index_or, None, Some, refl, sym, ◌∙◌, ap, subst, inl, inr, arith}
 use Rattle.std.specs.List.Sorted.{IsNonDecreasing}
 use Rattle.std.proofs.lemmas.Bool.{cases_lt}
 use Rattle.std.proofs.lemmas.Option.{slice_get_within, slice_get-get_or, slice_get-map}
 use Rattle.base.proofs.Lists.{slice_get-append_left, slice_get-push, slice_get_of_push}
-use Rattle.groups.specs.Groups.{IsPartOf, AreRising, Precedes, AreChoices, IsPart, IsGroup, AreGroups}
+use Rattle.groups.specs.Groups.{IsPartOf, AreChoices, IsPart, IsGroup, AreGroups}
 use Rattle.groups.specs.Keys.{key_of, other_parts, part_keys, AreWords, Lacks, IsFirstFound}
-use Rattle.groups.proofs.Parts.{Leaves, left_out, leaves_part, no_longer, not_behind, part_of_itself, part_is_before}
+use Rattle.groups.proofs.Parts.{left_out, leaves_part, no_longer, not_behind, part_of_itself}
 use Rattle.groups.proofs.Keyed.{keys_rise, key_tells, listed, listed_leaves, part_keys_rise}
 
 -- a choice with a key: at most three numbers of 32 bits

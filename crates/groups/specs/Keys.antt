@@ -1,5 +1,5 @@
 -- Keys of choices with at most three departures: numbers that rise in the order of choices.
-use Rattle.std.specs.Prelude.{ℕ, ◌+◌, ◌*◌, ◌≡◌, ◌<◌, List, [], ◌∷◌, map, slice_get, Some}
+use Rattle.std.specs.Prelude.{ℕ, ◌+◌, ◌*◌, ◌==◌, ◌≡◌, ◌<◌, ◌≤◌, if◌then◌else◌, List, [], ◌∷◌, length, map, slice_get, Option, Some, unwrap_or}
 
 -- the digits are one more than the numbers, at most 2^32
 unfoldable pub key_of : List ℕ → ℕ
@@ -33,3 +33,13 @@ pub record IsFirstFound (ks sought : List ℕ) (place : ℕ) : Type 0 where
   pub sought_there : slice_get sought number ≡ Some key
   pub there : slice_get ks place ≡ Some key
   pub before : (i other : ℕ) → i < number → slice_get sought i ≡ Some other → Lacks ks other
+
+-- of a map from keys to places: the place at a key, where there was none, and everything else as it was
+abbrev pub Remembers : (ℕ → Option ℕ) → (ℕ → Option ℕ) → ℕ → ℕ → Type 0
+Remembers old new key place = (q : ℕ) → new q ≡ (if q == key then Some (unwrap_or (old key) place) else old q)
+
+-- the example of the choice behind those of which the examples have these places: where its part is one of those, the example of that
+-- one; else the place that is known by its key, or its own
+pub record Takes (old new : ℕ → Option ℕ) (key : ℕ) (places : List ℕ) (part e : ℕ) : Type 0 where
+  pub of_part : part < length places → (slice_get places part ≡ Some e) × ((q : ℕ) → new q ≡ old q)
+  pub own : length places ≤ part → (e ≡ unwrap_or (old key) part) × Remembers old new key part

@@ -1,4 +1,5 @@
 -- Groups of failing choices.
 pub mod Groups
 pub mod Keys
+pub mod Folded
 pub mod Laws

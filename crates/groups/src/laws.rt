@@ -1,9 +1,14 @@
-//! The law of groups. The function does nothing; its contract is a theorem.
+//! The laws of groups. The functions do nothing; each contract is a theorem.
 
-ghost use Rattle.groups.specs.Laws.{GroupIsSmallest};
+ghost use Rattle.groups.specs.Laws.{GroupIsSmallest, StandsUnderOne};
 
-/// The choice in whose group a failing choice stands is smallest: no other failing choice is a part of it. It is the
+/// The first failing choice that is a part of a failing choice is smallest: no other failing choice is a part of it. It is the
 /// first of the smallest ones that are a part of that choice.
 pub fn group_is_smallest()
     ensures { GroupIsSmallest }
+{}
+
+/// A failing choice stands under one example alone.
+pub fn stands_under_one()
+    ensures { StandsUnderOne }
 {}

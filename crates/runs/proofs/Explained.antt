@@ -1,4 +1,4 @@
--- Why programs fail, of the marks and of the failing lines of a run.
+-- Why programs fail, by the marks of the failing lines.
 use Rattle.std.proofs.Common.{ℕ, zero, suc, ◌≡◌, ◌+◌, ◌<◌, ◌==◌, Bool, true, false, if◌then◌else◌, List, [], ◌∷◌, ◌++◌, codes, length, length-append, map, filter, slice_get, None, Some, append_assoc, append-nil, refl, sym, ◌∙◌, ap, subst, inl, inr, arith}
 use Rattle.std.specs.List.{flat_map}
 use Rattle.std.proofs.lemmas.Bool.Decides.{eqb_tells}
@@ -10,98 +10,63 @@ use Rattle.epochs.specs.Plan.{PlanValue}
 use Rattle.choices.specs.Choices.{ranked}
 use Rattle.choices.specs.Sums.{StartsValue}
 use Rattle.checker.specs.Checker.{CheckerValue}
+use Rattle.flushes.specs.declared.counted.MissingFlush.{MissingFlush}
 use Rattle.lines.specs.declared.marks.Mark.{Mark}
 use Rattle.lines.specs.Line.{FailingLine}
 use Rattle.lines.specs.Marks.{mark_of, marks_of}
-use Rattle.pairs.specs.declared.pair.Pair.{Pair}
-use Rattle.pairs.specs.Pairs.{ArePairs}
+use Rattle.outcomes.specs.Outcomes.{outcomes_failing, is_marked, AreOutcomes}
 use Rattle.report.specs.Report.{HeadValue, options_text, totals_line}
+use Rattle.cure.specs.declared.failure.Failure.{Failure}
 use Rattle.why.specs.declared.cut.CutFailures.{CutFailures}
 use Rattle.why.specs.Failures.{AreInOrder, AreImages, AreCuts}
-use Rattle.why.specs.Pairs.{is_write, failure_at}
-use Rattle.why.specs.PairsText.{pair_line}
-use Rattle.why.specs.Text.{program_text}
+use Rattle.why.specs.Text.{cuts_text}
 use Rattle.workers.specs.Failing.{Subject, failing_lines}
 use Rattle.workers.specs.Laws.{Precedes, LinesAreSet, ListsFailing}
 use Rattle.request.specs.declared.settings.Settings.{Settings}
 use Rattle.request.specs.Source.{plan_of}
 use Rattle.runs.specs.Explore.{subject_of, head_of}
-use Rattle.runs.specs.Why.{images_failing, starts_of, Cause, IsCause, ArePairsOf, AreCauses, cause_text, causes_from, why_text, TellsCauses, TellsOfLines, with_first}
-use Rattle.runs.specs.Marked.{own_image, images_marked, TellsCuts, TellsPairs, TellsProgram, TellsPrograms}
+use Rattle.runs.specs.Why.{images_failing, starts_of, IsMissing, IsCause, AreCauses, causes_from, why_head, missing_text, why_text, TellsCauses, TellsOfLines, with_first}
+use Rattle.runs.specs.Marked.{own_image, images_marked, TellsProgram, TellsPrograms}
 
 -- the text of one program more
-causes_more : (s : StartsValue) (failing : ℕ → List ℕ) (n : ℕ) (causes : List Cause) (last : Cause)
-    → causes_from s failing n (causes ++ last ∷ []) ≡ causes_from s failing n causes ++ cause_text s (n + length causes) (length (failing (n + length causes))) last
-causes_more s failing n [] last =
+causes_more : (s : StartsValue) (ls : List FailingLine) (n : ℕ) (causes : List (List CutFailures)) (last : List CutFailures)
+    → causes_from s ls n (causes ++ last ∷ []) ≡ causes_from s ls n causes ++ cuts_text s.plan.by s (outcomes_failing (n + length causes) ls) (n + length causes) last
+causes_more s ls n [] last =
     let here : n + 0 ≡ n = omega arith in
-    append-nil (cause_text s n (length (failing n)) last) ∙ sym (ap (λ k. cause_text s k (length (failing k)) last) here)
-causes_more s failing n (c ∷ causes) last =
+    append-nil (cuts_text s.plan.by s (outcomes_failing n ls) n last) ∙ sym (ap (λ (k : ℕ). cuts_text s.plan.by s (outcomes_failing k ls) k last) here)
+causes_more s ls n (c ∷ causes) last =
     let on : n + 1 + length causes ≡ n + length (c ∷ causes) = omega arith in
-    ap (λ (bs : List ℕ). cause_text s n (length (failing n)) c ++ bs)
-    (causes_more s failing (n + 1) causes last ∙ ap (λ k. causes_from s failing (n + 1) causes ++ cause_text s k (length (failing k)) last) on)
-    ∙ simp append_assoc
+    let own : List ℕ = cuts_text s.plan.by s (outcomes_failing n ls) n c in
+    ap (λ (bs : List ℕ). own ++ bs)
+    (causes_more s ls (n + 1) causes last ∙ ap (λ (k : ℕ). causes_from s ls (n + 1) causes ++ cuts_text s.plan.by s (outcomes_failing k ls) k last) on)
+    ∙ sym (append_assoc own (causes_from s ls (n + 1) causes) (cuts_text s.plan.by s (outcomes_failing (n + length (c ∷ causes)) ls) (n + length (c ∷ causes)) last))
 
-pub tells_none : (s : StartsValue) (failing : ℕ → List ℕ) (old : List ℕ) → TellsPrograms s failing 0 old old
-tells_none s failing old =
-    record { causes = []; all = refl; each = λ program cause at. absurd (let bad : None ≡ Some cause = at in cc); text = sym (append-nil old) }
+pub tells_none : (s : StartsValue) (ls : List FailingLine) (old : List ℕ) → TellsPrograms s ls 0 old old
+tells_none s ls old =
+    record { causes = []; all = refl; each = λ program cuts at. absurd (let bad : None ≡ Some cuts = at in cc); text = sym (append-nil old) }
 
-pub tells_more : (s : StartsValue) (failing : ℕ → List ℕ) (count : ℕ) (old mid new : List ℕ) → TellsPrograms s failing count old mid
-    → TellsProgram s count (failing count) mid new → TellsPrograms s failing (count + 1) old new
-tells_more s failing count old mid new was is =
+pub tells_more : (s : StartsValue) (ls : List FailingLine) (count : ℕ) (old mid new : List ℕ) → TellsPrograms s ls count old mid
+    → TellsProgram s ls count mid new → TellsPrograms s ls (count + 1) old new
+tells_more s ls count old mid new was is =
     let all = was.all in
     let last : 0 + length was.causes ≡ count = omega (arith, all) in
+    let own : List ℕ = cuts_text s.plan.by s (outcomes_failing count ls) count is.cuts in
     record {
-      causes = was.causes ++ is.cause ∷ [];
-      all = omega (arith, all, length-append was.causes (is.cause ∷ []));
-      each = λ program cause at. elim (slice_get_of_push was.causes is.cause program cause at) [
-        | inl there ↦ was.each program cause there
+      causes = was.causes ++ is.cuts ∷ [];
+      all = omega (arith, all, length-append was.causes (is.cuts ∷ []));
+      each = λ program cuts at. elim (slice_get_of_push was.causes is.cuts program cuts at) [
+        | inl there ↦ was.each program cuts there
         | inr here ↦
             let same : program ≡ count = here.0 ∙ all in
-            subst (λ p. IsCause s (failing p) cause) (sym same) (subst (λ (c : Cause). IsCause s (failing count) c) (sym here.1) is.is)
+            subst (λ (p : ℕ). IsCause s ls p cuts) (sym same) (subst (λ (c : List CutFailures). IsCause s ls count c) (sym here.1) is.is)
       ];
       text = is.text
-          ∙ ap (λ (bs : List ℕ). bs ++ cause_text s count (length (failing count)) is.cause) was.text
-          ∙ append_assoc old (causes_from s failing 0 was.causes) (cause_text s count (length (failing count)) is.cause)
+          ∙ ap (λ (bs : List ℕ). bs ++ own) was.text
+          ∙ append_assoc old (causes_from s ls 0 was.causes) own
           ∙ ap (λ (bs : List ℕ). old ++ bs)
-          (sym (causes_more s failing 0 was.causes is.cause ∙ ap (λ k. causes_from s failing 0 was.causes ++ cause_text s k (length (failing k)) is.cause) last));
+          (sym (causes_more s ls 0 was.causes is.cuts
+          ∙ ap (λ (k : ℕ). causes_from s ls 0 was.causes ++ cuts_text s.plan.by s (outcomes_failing k ls) k is.cuts) last));
     }
-
--- what was appended of the cuts of a program
-pub tells_cuts : (s : StartsValue) (way : By) (program count : ℕ) (images : List ℕ) (cuts now : List CutFailures) (old new : List ℕ) → way ≡ s.plan.by
-    → count ≡ length images → now ≡ cuts → AreCuts s images cuts → new ≡ old ++ program_text way s program count now → TellsCuts s program images old new
-tells_cuts s way program count images cuts now old new kind many same are text =
-    record {
-      cuts = cuts;
-      are = are;
-      text = text
-          ∙ ap (λ w. old ++ program_text w s program count now) kind
-          ∙ ap (λ k. old ++ program_text s.plan.by s program k now) many
-          ∙ ap (λ (cs : List CutFailures). old ++ program_text s.plan.by s program (length images) cs) same;
-    }
-
--- and of its pairs, by the log of the plan
-pub tells_pairs : (s : StartsValue) (log : LogValue) (images : List ℕ) (pairs now : List Pair) (old new : List ℕ) → s.plan.log ≡ log → now ≡ pairs
-    → ArePairs (map is_write log.entries) (map (failure_at s) images) pairs → new ≡ old ++ flat_map pair_line now → TellsPairs s images old new
-tells_pairs s log images pairs now old new own same are text =
-    record {
-      pairs = pairs;
-      are = subst (λ (l : LogValue). ArePairs (map is_write l.entries) (map (failure_at s) images) pairs) (sym own) are;
-      text = text ∙ ap (λ (ps : List Pair). old ++ flat_map pair_line ps) same;
-    }
-
--- and of both, where the images are those of the program
-pub tells_program : (s : StartsValue) (program : ℕ) (images own now again : List ℕ) (old mid new : List ℕ) → own ≡ images → now ≡ own → again ≡ own
-    → TellsCuts s program now old mid → TellsPairs s again mid new → TellsProgram s program images old new
-unfolding cause_text
-tells_program s program images own now again old mid new is same alike cuts pairs =
-    subst (λ (ns : List ℕ). TellsProgram s program ns old new) (same ∙ is)
-    (record {
-      cause = record { cuts = cuts.cuts; pairs = pairs.pairs };
-      is = record { cuts = cuts.are; pairs = subst (λ (ns : List ℕ). ArePairsOf s ns pairs.pairs) (alike ∙ sym same) pairs.are };
-      text = pairs.text
-          ∙ ap (λ (bs : List ℕ). bs ++ flat_map pair_line pairs.pairs) cuts.text
-          ∙ append_assoc old (program_text s.plan.by s program (length now) cuts.cuts) (flat_map pair_line pairs.pairs);
-    })
 
 -- the marks of a program are of the images of its lines
 pub marked_are_failing : (program : ℕ) (ls : List FailingLine) → images_marked (marks_of ls) program ≡ images_failing program ls
@@ -184,38 +149,72 @@ are_images law s value checkers starts ls ms program is found marks =
     ap (images_failing program) (sym found) ∙ sym (marked_are_failing program ls) ∙ ap (λ (ks : List Mark). images_marked ks program) (sym marks) in
     subst (λ (t : StartsValue). AreImages t (images_marked ms program)) (sym is) (subst (AreImages (starts_of s value)) here own)
 
--- the text by marks is that by the failing lines
-pub causes_of_lines : (s : Settings) (value : LogValue) (checkers : List CheckerValue) (head : HeadValue) (starts : StartsValue) (ls : List FailingLine) (ms : List Mark) (bytes : List ℕ)
-    → head ≡ head_of (with_first false s) value checkers → starts ≡ starts_of s value → ls ≡ failing_lines (subject_of s value checkers) → ms ≡ marks_of ls
-    → TellsCauses head starts (images_marked ms) ls bytes → TellsOfLines s value checkers (failing_lines (subject_of s value checkers)) bytes
-causes_of_lines s value checkers head starts ls ms bytes heads is found marks tells =
-    let failing : images_marked ms ≡ (λ program. images_failing program ls) =
-    λ i program. (ap (λ (ks : List Mark). images_marked ks program) marks ∙ marked_are_failing program ls) i in
-    subst (λ (fs : List FailingLine). TellsCauses (head_of (with_first false s) value checkers) (starts_of s value) (λ program. images_failing program fs) fs bytes) found
-    (subst (λ (t : StartsValue). TellsCauses (head_of (with_first false s) value checkers) t (λ program. images_failing program ls) ls bytes) is
-    (subst (λ (h : HeadValue). TellsCauses h starts (λ program. images_failing program ls) ls bytes) heads
-    (subst (λ (f : ℕ → List ℕ). TellsCauses head starts f ls bytes) failing tells)))
+-- a program fails on as many images as lines are its own
+pub as_many : (program : ℕ) (ms : List Mark) → length (images_marked ms program) ≡ length (filter (is_marked program) ms)
+as_many program [] = refl
+as_many program (m ∷ ms) = by_test (m.program == program) (as_many program ms)
+  where
+    by_test : (b : Bool) → length (images_marked ms program) ≡ length (filter (is_marked program) ms)
+        → length ((if b then m.image ∷ [] else []) ++ images_marked ms program) ≡ length (if b then m ∷ filter (is_marked program) ms else filter (is_marked program) ms)
+    by_test true rest = ap (λ (n : ℕ). suc n) rest
+    by_test false rest = rest
+
+-- what was appended of the cuts of a program, by what it ends in on its images
+pub tells_program : (s : StartsValue) (ls : List FailingLine) (ms : List Mark) (way : By) (program : ℕ) (text : List ℕ) (images : List ℕ) (given outcomes now : List (List ℕ))
+    (cuts told : List CutFailures) (old new : List ℕ) → way ≡ s.plan.by → text ≡ flat_map Rattle.lines.specs.Text.line_text ls → ms ≡ marks_of ls
+    → images ≡ images_marked ms program → AreOutcomes text ms program outcomes → given ≡ outcomes → now ≡ outcomes → told ≡ cuts → AreCuts s images given cuts
+    → new ≡ old ++ cuts_text way s now program told → TellsProgram s ls program old new
+tells_program s ls ms way program text images given outcomes now cuts told old new kind texts marks own read first second same are is =
+    let said : outcomes ≡ outcomes_failing program ls = read.read ls texts marks in
+    let mine : images ≡ images_failing program ls = own ∙ ap (λ (ks : List Mark). images_marked ks program) marks ∙ marked_are_failing program ls in
+    record {
+      cuts = cuts;
+      is = subst (λ (os : List (List ℕ)). AreCuts s (images_failing program ls) os cuts) (first ∙ said) (subst (λ (ns : List ℕ). AreCuts s ns given cuts) mine are);
+      text = is
+          ∙ ap (λ (w : By). old ++ cuts_text w s now program told) kind
+          ∙ ap (λ (os : List (List ℕ)). old ++ cuts_text s.plan.by s os program told) (second ∙ said)
+          ∙ ap (λ (cs : List CutFailures). old ++ cuts_text s.plan.by s (outcomes_failing program ls) program cs) same;
+    }
+
+-- the text by what a run makes is that by its settings
+pub causes_of_lines : (s : Settings) (value : LogValue) (checkers : List CheckerValue) (head : HeadValue) (starts : StartsValue) (ls : List FailingLine) (bytes : List ℕ)
+    → head ≡ head_of (with_first false s) value checkers → starts ≡ starts_of s value → ls ≡ failing_lines (subject_of s value checkers)
+    → TellsCauses head starts ls bytes → TellsOfLines s value checkers (failing_lines (subject_of s value checkers)) bytes
+causes_of_lines s value checkers head starts ls bytes heads is found tells =
+    subst (λ (fs : List FailingLine). TellsCauses (head_of (with_first false s) value checkers) (starts_of s value) fs bytes) found
+    (subst (λ (t : StartsValue). TellsCauses (head_of (with_first false s) value checkers) t ls bytes) is
+    (subst (λ (h : HeadValue). TellsCauses h starts ls bytes) heads tells))
 
 -- the table that a run makes
 pub starts_made : (s : Settings) (value : LogValue) (plan : PlanValue) (bound : ℕ) (tears : Bool) (starts : StartsValue) → plan ≡ plan_of s value → bound ≡ s.bound → tears ≡ s.tears
     → starts ≡ record { plan = plan; bound = bound; tears = tears } → starts ≡ starts_of s value
 starts_made s value plan bound tears starts e f g is = is ∙ (λ i. record { plan = e i; bound = f i; tears = g i })
 
+-- how the text begins
+pub head_told : (h : HeadValue) (ls : List FailingLine) (images : ℕ) (old title options all : List ℕ) → title ≡ old ++ codes "crash why 2\n" → options ≡ title ++ options_text h
+    → images ≡ h.images → all ≡ options ++ totals_line images ls → all ≡ old ++ why_head h ls
+unfolding why_head
+head_told h ls images old title options all begins goes same ends =
+    ends ∙ ap (λ (i : ℕ). options ++ totals_line i ls) same ∙ ap (λ (bs : List ℕ). bs ++ totals_line h.images ls) (goes ∙ ap (λ (bs : List ℕ). bs ++ options_text h) begins)
+    ∙ append_assoc (old ++ codes "crash why 2\n") (options_text h) (totals_line h.images ls)
+    ∙ append_assoc old (codes "crash why 2\n") (options_text h ++ totals_line h.images ls)
+    ∙ ap (λ (bs : List ℕ). old ++ bs) (sym (append_assoc (codes "crash why 2\n") (options_text h) (totals_line h.images ls)))
+
 -- the whole text, part after part
-pub causes_told : (h : HeadValue) (s : StartsValue) (failing : ℕ → List ℕ) (ls : List FailingLine) (count images : ℕ) (none title options programs all bytes : List ℕ)
-    → none ≡ [] → title ≡ none ++ codes "crash causes 1\n" → options ≡ title ++ options_text h → TellsPrograms s failing count options programs → count ≡ length h.programs
-    → images ≡ h.images → all ≡ programs ++ totals_line images ls → bytes ≡ all → TellsCauses h s failing ls bytes
+pub causes_told : (h : HeadValue) (s : StartsValue) (ls : List FailingLine) (fs : List Failure) (ms : List MissingFlush) (count : ℕ) (none begun missing all bytes : List ℕ)
+    → IsMissing s ls fs ms → none ≡ [] → begun ≡ none ++ why_head h ls → missing ≡ begun ++ missing_text count fs ms → TellsPrograms s ls count missing all
+    → count ≡ length h.programs → bytes ≡ all → TellsCauses h s ls bytes
 unfolding why_text
-causes_told h s failing ls count images none title options programs all bytes empty begins goes_on tells many same ends is =
+causes_told h s ls fs ms count none begun missing all bytes are empty begins goes tells many is =
     record {
+      failures = fs;
+      missing = ms;
+      are_missing = are;
       causes = tells.causes;
       all = tells.all ∙ many;
       each = tells.each;
-      text = is
-          ∙ ends
-          ∙ ap (λ (i : ℕ). programs ++ totals_line i ls) same
-          ∙ ap (λ (bs : List ℕ). bs ++ totals_line h.images ls)
-          (tells.text ∙ ap (λ (bs : List ℕ). bs ++ causes_from s failing 0 tells.causes)
-          (goes_on ∙ ap (λ (bs : List ℕ). bs ++ options_text h) (begins ∙ ap (λ (bs : List ℕ). bs ++ codes "crash causes 1\n") empty)))
-          ∙ simp append_assoc;
+      text = is ∙ tells.text
+          ∙ ap (λ (bs : List ℕ). bs ++ causes_from s ls 0 tells.causes)
+          (goes ∙ ap (λ (bs : List ℕ). bs ++ missing_text count fs ms) (begins ∙ ap (λ (bs : List ℕ). bs ++ why_head h ls) empty)
+          ∙ ap (λ (n : ℕ). why_head h ls ++ missing_text n fs ms) many);
     }

@@ -5,6 +5,7 @@ pub mod Faultless
 pub mod Fitting
 pub mod Runs
 pub mod Explained
+pub mod Missed
 pub mod Pages
 pub mod Tried
 pub mod Leading

@@ -5,14 +5,16 @@ use Rattle.logfmt.specs.Bounds.{LogValue}
 use Rattle.choices.specs.Sums.{StartsValue}
 use Rattle.checker.specs.Checker.{CheckerValue}
 use Rattle.lines.specs.Line.{FailingLine}
-use Rattle.pairs.specs.declared.pair.Pair.{Pair}
-use Rattle.pairs.specs.Pairs.{ArePairs}
+use Rattle.flushes.specs.declared.counted.MissingFlush.{MissingFlush}
+use Rattle.flushes.specs.Counted.{AreMissing}
 use Rattle.report.specs.Report.{HeadValue, options_text, totals_line}
 use Rattle.why.specs.declared.cut.CutFailures.{CutFailures}
 use Rattle.why.specs.Failures.{AreCuts}
-use Rattle.why.specs.Pairs.{is_write, failure_at}
-use Rattle.why.specs.PairsText.{pair_line}
-use Rattle.why.specs.Text.{program_text}
+use Rattle.why.specs.Text.{cuts_text}
+use Rattle.cure.specs.declared.failure.Failure.{Failure}
+use Rattle.cure.specs.Failures.{AreFailures, windows_in}
+use Rattle.cure.specs.Text.{programs_text, missing_line}
+use Rattle.outcomes.specs.Outcomes.{outcomes_failing}
 use Rattle.workers.specs.Failing.{failing_lines}
 use Rattle.runs.specs.Paged.{IsPageOf}
 use Rattle.request.specs.declared.settings.Settings.{Settings}
@@ -29,43 +31,45 @@ images_failing program ls = map (λ (l : FailingLine). l.image) (filter (λ (l :
 abbrev pub starts_of : Settings → LogValue → StartsValue
 starts_of s value = record { plan = plan_of s value; bound = s.bound; tears = s.tears }
 
--- what is said of a program: what fails at each wanted cut, and the pairs of entries that explain the most of it
-pub record Cause : Type 0 where
-  pub cuts : List CutFailures
-  pub pairs : List Pair
+-- the failures of failing lines, and the flushes that are missing for them: those of the first round of a cure
+pub record IsMissing (s : StartsValue) (ls : List FailingLine) (fs : List Failure) (ms : List MissingFlush) : Type 0 where
+  pub failures : AreFailures s.plan.by s.plan.log.entries ls fs
+  pub missing : AreMissing (windows_in fs) ms
 
--- the pairs of entries that explain these images, by the entries of the log
-abbrev pub ArePairsOf : StartsValue → List ℕ → List Pair → Type 0
-ArePairsOf s images ps = ArePairs (map is_write s.plan.log.entries) (map (failure_at s) images) ps
+-- what fails at each wanted cut of a program, by the failing lines
+abbrev pub IsCause : StartsValue → List FailingLine → ℕ → List CutFailures → Type 0
+IsCause s ls program cuts = AreCuts s (images_failing program ls) (outcomes_failing program ls) cuts
 
--- of a program that fails on these images
-pub record IsCause (s : StartsValue) (images : List ℕ) (c : Cause) : Type 0 where
-  pub cuts : AreCuts s images c.cuts
-  pub pairs : ArePairsOf s images c.pairs
+-- of each program
+abbrev pub AreCauses : StartsValue → List FailingLine → List (List CutFailures) → Type 0
+AreCauses s ls causes = (program : ℕ) (cuts : List CutFailures) → slice_get causes program ≡ Some cuts → IsCause s ls program cuts
 
--- of each program, where these are the images on which each fails
-abbrev pub AreCauses : StartsValue → (ℕ → List ℕ) → List Cause → Type 0
-AreCauses s failing causes = (program : ℕ) (c : Cause) → slice_get causes program ≡ Some c → IsCause s (failing program) c
+-- the text of the cuts of the programs from that number on
+abbrev pub causes_from : StartsValue → List FailingLine → ℕ → List (List CutFailures) → List ℕ
+causes_from s ls number [] = []
+causes_from s ls number (cuts ∷ causes) = cuts_text s.plan.by s (outcomes_failing number ls) number cuts ++ causes_from s ls (number + 1) causes
 
--- the text of the program of that number, which fails on so many images: the lines of its cuts, and those of its pairs
-unfoldable pub cause_text : StartsValue → ℕ → ℕ → Cause → List ℕ
-cause_text s number failing c = program_text s.plan.by s number failing c.cuts ++ flat_map pair_line c.pairs
+-- how the text begins: the options and the programs as in the report, and the totals of the report
+unfoldable pub why_head : HeadValue → List FailingLine → List ℕ
+why_head h ls = codes "crash why 2\n" ++ options_text h ++ totals_line h.images ls
 
--- the text of the programs from that number on
-abbrev pub causes_from : StartsValue → (ℕ → List ℕ) → ℕ → List Cause → List ℕ
-causes_from s failing number [] = []
-causes_from s failing number (c ∷ causes) = cause_text s number (length (failing number)) c ++ causes_from s failing (number + 1) causes
+-- of each program how many of its failing images no flush takes away, and then the flushes that are missing
+unfoldable pub missing_text : ℕ → List Failure → List MissingFlush → List ℕ
+missing_text programs fs ms = programs_text programs fs ++ flat_map missing_line ms
 
--- the whole text: the options and the programs as in the report, what is said of each program, and the totals of the report
-unfoldable pub why_text : HeadValue → StartsValue → (ℕ → List ℕ) → List FailingLine → List Cause → List ℕ
-why_text h s failing ls causes = codes "crash causes 1\n" ++ options_text h ++ causes_from s failing 0 causes ++ totals_line h.images ls
+-- the whole text
+unfoldable pub why_text : HeadValue → StartsValue → List FailingLine → List Failure → List MissingFlush → List (List CutFailures) → List ℕ
+why_text h s ls fs ms causes = why_head h ls ++ missing_text (length h.programs) fs ms ++ causes_from s ls 0 causes
 
--- the bytes say of each program what fails at each cut, and which pairs of entries explain it
-pub record TellsCauses (h : HeadValue) (s : StartsValue) (failing : ℕ → List ℕ) (ls : List FailingLine) (bytes : List ℕ) : Type 0 where
-  pub causes : List Cause
+-- the bytes say which flushes are missing, and of each program what fails at each cut
+pub record TellsCauses (h : HeadValue) (s : StartsValue) (ls : List FailingLine) (bytes : List ℕ) : Type 0 where
+  pub failures : List Failure
+  pub missing : List MissingFlush
+  pub are_missing : IsMissing s ls failures missing
+  pub causes : List (List CutFailures)
   pub all : length causes ≡ length h.programs
-  pub each : AreCauses s failing causes
-  pub text : bytes ≡ why_text h s failing ls causes
+  pub each : AreCauses s ls causes
+  pub text : bytes ≡ why_text h s ls failures missing causes
 
 -- the same settings, with the first failing image alone or all of them
 abbrev pub with_first : Bool → Settings → Settings
@@ -84,7 +88,7 @@ with_first first s = record {
 -- the bytes say why the programs fail on the images of the log, by the failing lines
 abbrev pub TellsOfLines : Settings → LogValue → List CheckerValue → List FailingLine → List ℕ → Type 0
 TellsOfLines s value checkers ls bytes =
-    TellsCauses (head_of (with_first false s) value checkers) (starts_of s value) (λ program. images_failing program ls) ls bytes
+    TellsCauses (head_of (with_first false s) value checkers) (starts_of s value) ls bytes
 
 -- the bytes are the page of where the programs fail on the images of the log, by the failing lines
 abbrev pub PageOfLines : Settings → LogValue → List CheckerValue → List FailingLine → List ℕ → Type 0

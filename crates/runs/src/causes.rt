@@ -1,16 +1,20 @@
 //! Why programs fail, as a text (docs/REPORT.md, The text of `why`).
 
-ghost use Rattle.std.specs.Prelude.{◌≡◌, ◌++◌, ℕ, map, IfOk, OnOk, string_bytes};
+ghost use Rattle.std.specs.Prelude.{◌≡◌, ◌++◌, ℕ, map, length, IfOk, OnOk, string_bytes};
 ghost use Rattle.std.specs.List.Sorted.{IsNonDecreasing};
 ghost use Rattle.why.specs.Failures.{AreImages};
-ghost use Rattle.runs.specs.Why.{TellsCauses};
-ghost use Rattle.runs.specs.Marked.{own_image, images_marked, TellsCuts, TellsPairs, TellsProgram, TellsPrograms};
+ghost use Rattle.runs.specs.Why.{IsMissing, why_head, missing_text, TellsCauses};
+ghost use Rattle.runs.specs.Marked.{own_image, images_marked, TellsProgram, TellsPrograms};
+ghost use Rattle.runs.specs.Tasks.{lines_of};
 
-use crate::task::Findings;
-use lines::Mark;
+use crate::missing::{Missing, missing_of};
+use crate::reading::Reading;
+use cure::{put_missing, put_programs};
+use lines::{Lines, Mark};
+use outcomes::outcomes_of;
 use report::{Head, put_options, put_totals};
 use std::alloc::{AllocError, Global};
-use why::{failures, pairs_of, put_pairs, put_program};
+use why::{failures, put_cuts};
 
 /// Appends the image of a mark, if it is of that program.
 fn push_image(images: &mut Vec<u64>, program: usize, mark: Mark) -> Result<(), AllocError>
@@ -37,84 +41,77 @@ pub(crate) fn images_of_program(
     Ok(images)
 }
 
-/// Appends what fails of the program of that number, which fails on these images, at each cut.
-fn put_cuts(
-    alloc: Global,
-    out: &mut String,
-    findings: &Findings<'_>,
-    program: usize,
-    images: &[u64],
-) -> Result<(), AllocError>
-    requires { AreImages findings.now.starts.now images.now }
-    ensures { OnOk result (TellsCuts findings.now.starts.now program images.now (string_bytes out.old) (string_bytes out.new)) }
-{
-    let (by, starts) = (findings.task.options.by(), findings.starts);
-    let cuts = failures(alloc, starts, images)?;
-    put_program(out, by, starts, program, images.len(), cuts.as_slice())
-}
-
-/// Appends the pairs of entries that explain these images.
-fn put_pairs_of(
-    alloc: Global,
-    out: &mut String,
-    findings: &Findings<'_>,
-    images: &[u64],
-) -> Result<(), AllocError>
-    requires { AreImages findings.now.starts.now images.now }
-    ensures { OnOk result (TellsPairs findings.now.starts.now images.now (string_bytes out.old) (string_bytes out.new)) }
-{
-    let pairs = pairs_of(alloc, findings.starts, findings.task.log, images)?;
-    put_pairs(out, pairs.as_slice())
-}
-
-/// Appends what fails of the program of that number, and the pairs of entries that explain it.
+/// Appends what fails of the program of that number at each cut.
 fn put_causes(
     alloc: Global,
     out: &mut String,
-    findings: &Findings<'_>,
-    marks: &[Mark],
+    reading: &Reading<'_>,
     program: usize,
 ) -> Result<(), AllocError>
-    requires { AreImages findings.now.starts.now (images_marked marks.now program) }
-    ensures { OnOk result (TellsProgram findings.now.starts.now program (images_marked marks.now program) (string_bytes out.old) (string_bytes out.new)) }
+    requires { AreImages reading.now.findings.now.starts.now (images_marked reading.now.marks.now program) }
+    ensures { OnOk result (TellsProgram reading.now.findings.now.starts.now reading.now.findings.now.work.now.lines program (string_bytes out.old) (string_bytes out.new)) }
 {
-    let images = images_of_program(alloc, marks, program)?;
-    put_cuts(alloc, out, findings, program, images.as_slice())?;
-    put_pairs_of(alloc, out, findings, images.as_slice())
+    let findings = reading.findings;
+    let (by, starts) = (findings.task.options.by(), findings.starts);
+    let images = images_of_program(alloc, reading.marks, program)?;
+    let outcomes = outcomes_of(alloc, reading.text, reading.marks, program)?;
+    let cuts = failures(alloc, starts, images.as_slice(), outcomes.as_slice())?;
+    put_cuts(out, by, starts, outcomes.as_slice(), program, cuts.as_slice())
 }
 
-/// Appends what fails of each program.
+/// Appends what fails of each program at each cut.
 fn put_all(
     alloc: Global,
     out: &mut String,
-    findings: &Findings<'_>,
-    marks: &[Mark],
+    reading: &Reading<'_>,
     programs: usize,
 ) -> Result<(), AllocError>
-    requires images { (program : ℕ) → AreImages findings.now.starts.now (images_marked marks.now program) }
-    ensures { OnOk result (TellsPrograms findings.now.starts.now (images_marked marks.now) programs (string_bytes out.old) (string_bytes out.new)) }
+    requires images { (program : ℕ) → AreImages reading.now.findings.now.starts.now (images_marked reading.now.marks.now program) }
+    ensures { OnOk result (TellsPrograms reading.now.findings.now.starts.now reading.now.findings.now.work.now.lines programs (string_bytes out.old) (string_bytes out.new)) }
 {
     for program in 0..programs {
-        put_causes(alloc, out, findings, marks, program)?;
+        put_causes(alloc, out, reading, program)?;
     }
     Ok(())
 }
 
-/// Why programs fail, by the marks of all failing lines.
+/// Appends the title, the options, the programs and the totals.
+#[tactic(auto, unfolding(crate::specs::Why::why_head))]
+fn put_head(out: &mut String, head: &Head, lines: &Lines) -> Result<(), AllocError>
+    requires { IsNonDecreasing (map (λ l. l.image) lines.now) }
+    ensures { OnOk result (string_bytes out.new ≡ string_bytes out.old ++ why_head head.now lines.now) }
+{
+    write!(out, "crash why 2\n")?;
+    put_options(out, head)?;
+    put_totals(out, head.images, lines)
+}
+
+/// Appends of each program how many of its failing images no flush takes away, and the flushes that are missing.
+#[tactic(auto, unfolding(crate::specs::Why::missing_text))]
+fn put_flushes(out: &mut String, programs: usize, missing: &Missing) -> Result<(), AllocError>
+    ensures { OnOk result (string_bytes out.new ≡ string_bytes out.old ++ missing_text programs missing.now.failures.items missing.now.flushes.items) }
+{
+    put_programs(out, programs, missing.failures.as_slice())?;
+    put_missing(out, missing.flushes.as_slice())
+}
+
+/// Why programs fail, by all failing lines.
 pub(crate) fn causes_text(
     alloc: Global,
     head: &Head,
-    findings: &Findings<'_>,
-    marks: &[Mark],
+    reading: &Reading<'_>,
 ) -> Result<Vec<u8>, AllocError>
-    requires order { IsNonDecreasing (map (λ l. l.image) findings.now.work.now.lines) }
-    requires images { (program : ℕ) → AreImages findings.now.starts.now (images_marked marks.now program) }
-    ensures { IfOk result (λ bytes. TellsCauses head.now findings.now.starts.now (images_marked marks.now) findings.now.work.now.lines bytes.items) }
+    requires order { IsNonDecreasing (map (λ l. l.image) reading.now.findings.now.work.now.lines) }
+    requires lines { reading.now.findings.now.work.now.lines ≡ lines_of reading.now.findings.now.task.now }
+    requires images { (program : ℕ) → AreImages reading.now.findings.now.starts.now (images_marked reading.now.marks.now program) }
+    ensures { IfOk result (λ bytes. TellsCauses head.now reading.now.findings.now.starts.now reading.now.findings.now.work.now.lines bytes.items) }
 {
+    let findings = reading.findings;
+    let programs = head.programs.len();
+    let missing = missing_of(alloc, findings, reading.marks)?;
     let mut out = String::new(alloc);
-    write!(out, "crash causes 1\n")?;
-    put_options(&mut out, head)?;
-    put_all(alloc, &mut out, findings, marks, head.programs.len())?;
-    put_totals(&mut out, head.images, &findings.work.lines)?;
+    put_head(&mut out, head, &findings.work.lines)?;
+    put_flushes(&mut out, programs, &missing)?;
+    put_all(alloc, &mut out, reading, programs)?;
     Ok(out.into_bytes())
 }

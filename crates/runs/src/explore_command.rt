@@ -17,6 +17,7 @@ ghost use Rattle.runs.specs.Programs.{IsRunWithin, IsCodeFault, IsUnaccepted, co
 use crate::basis::{Basis, worked};
 use crate::causes::causes_text;
 use crate::paging::page_bytes;
+use crate::reading::Reading;
 use crate::task::{Findings, Task};
 use base::refusal::{Cause, Refusal};
 use bpf_isa::codec::decode;
@@ -25,6 +26,7 @@ use bpf_shape::Fault;
 use checker::Checker;
 use choices::Starts;
 use images::History;
+use outcomes::printed_text;
 use report::{Head, ProgramHead, write_report};
 use request::{MOST_PROGRAMS, OptionPlace, Options, Telling, option_refusal_of, planned, read_log};
 use std::alloc::{AllocError, Global};
@@ -231,11 +233,17 @@ fn explained(alloc: Global, findings: &Findings<'_>) -> Result<Vec<u8>, AllocErr
     requires lines { findings.now.work.now.lines ≡ lines_of findings.now.task.now }
     ensures { IfOk result (λ bytes. TellsTask tells.Causes findings.now.task.now bytes.items) }
 {
+    let text = printed_text(alloc, &findings.work.lines)?;
     let marks = findings.work.lines.marks(alloc)?;
     let head = head_of_run(alloc, findings.task, false)?;
     // A law of the failing lines, which does nothing: they are in their order, and so are those of each program.
     lines_are_set();
-    causes_text(alloc, &head, findings, marks.as_slice())
+    let reading = Reading {
+        findings,
+        text: text.as_str(),
+        marks: marks.as_slice(),
+    };
+    causes_text(alloc, &head, &reading)
 }
 
 /// Where the programs fail, as a page, by what was found.
@@ -244,11 +252,17 @@ fn paged(alloc: Global, findings: &Findings<'_>) -> Result<Vec<u8>, AllocError>
     requires lines { findings.now.work.now.lines ≡ lines_of findings.now.task.now }
     ensures { IfOk result (λ bytes. TellsTask tells.Page findings.now.task.now bytes.items) }
 {
+    let text = printed_text(alloc, &findings.work.lines)?;
     let marks = findings.work.lines.marks(alloc)?;
     let head = head_of_run(alloc, findings.task, false)?;
     // A law of the failing lines, which does nothing: they are in their order, and so are those of each program.
     lines_are_set();
-    page_bytes(alloc, &head, findings, marks.as_slice())
+    let reading = Reading {
+        findings,
+        text: text.as_str(),
+        marks: marks.as_slice(),
+    };
+    page_bytes(alloc, &head, &reading)
 }
 
 /// What is to be told of what was found.
@@ -403,9 +417,9 @@ pub fn explore_with<G: Gate + Sync, R: Threads + Wait + Sync>(
     run_with(rt, alloc, gate, &question)
 }
 
-/// Says why programs fail on the crash images of a log: of each program how many images of each cut fail, and under which
-/// smallest failing choices they stand (docs/REPORT.md, The text of `why`). It judges each image once, as `explore_with` does,
-/// whether or not the first failing image alone is asked for.
+/// Says why programs fail on the crash images of a log: how many images fail and where flushes are missing, and of each program how
+/// many images of each cut fail and in which groups they stand (docs/REPORT.md, The text of `why`). It judges each image once, as
+/// `explore_with` does, whether or not the first failing image alone is asked for.
 ///
 /// # Errors
 ///

@@ -5,7 +5,8 @@
 //!
 //! Below `commands`, which performs `explore`, `why` and `page` by `run_with`. `request` reads the log and counts its images,
 //! `bpf_isa` decodes the programs, `verifier` accepts them, `workers` judges the images by `checker`, `report` writes the lines
-//! and what stands at the head of each text, `why` tells what fails of a program at each cut, and `crash_page` writes the page.
+//! and what stands at the head of each text, `why` tells what fails of a program at each cut, `cure` which flushes are missing, and
+//! `crash_page` writes the page.
 //!
 //! | Call | Answers |
 //! |---|---|
@@ -27,8 +28,8 @@
 //! run has a fault or spends its budget, and no line says so (`IsFaultless` in `specs/Explore.antt`), by the
 //! soundness of the verifier.
 //!
-//! `why` answers, of the same failing lines, what fails of each program at each cut (`IsExplained` in `specs/Why.antt`), and
-//! `page` the page of it (`IsPaged`). Where one of them answers `Err`, the refusal is the first in the order of docs/REPORT.md
+//! `why` answers, of the same failing lines, which flushes are missing and what fails of each program at each cut (`IsExplained` in
+//! `specs/Why.antt`), and `page` the page of it (`IsPaged`). Where one of them answers `Err`, the refusal is the first in the order of docs/REPORT.md
 //! (`Refuses` in `specs/Explore.antt`): the number of programs, the log, the number of its images, then each program; or memory
 //! ran out.
 //!
@@ -51,7 +52,9 @@ mod basis;
 mod causes;
 mod curing;
 mod explore_command;
+mod missing;
 mod paging;
+mod reading;
 mod task;
 
 pub use curing::cured;

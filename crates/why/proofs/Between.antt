@@ -7,7 +7,7 @@ use Rattle.std.proofs.lemmas.Bool.Decides.{nat_tests}
 use Rattle.std.proofs.lemmas.Option.{slice_get-get_or}
 use Rattle.choices.specs.Choices.{ranked_at}
 use Rattle.choices.specs.Sums.{StartsValue}
-use Rattle.why.specs.Failures.{is_between, AreInOrder, AreImages, AreOfCut}
+use Rattle.why.specs.Failures.{is_below, is_between, AreInOrder, AreImages, AreOfCut}
 
 -- so many numbers are below the bound, and no others
 pub record AreBelow (xs : List ℕ) (bound count : ℕ) : Type 0 where
@@ -67,6 +67,46 @@ between_is (x ∷ xs) first end (suc n) (suc m) le low high =
     let out = outside_low first end x (low.before 0 0 (omega arith)) in
     let so : suc m - suc n ≡ m - n = omega arith in
     ap (λ k. take k (drop n xs)) so ∙ between_is xs first end n m le (later x xs first n low) (later x xs end m high) ∙ leaves (is_between first end) x xs out
+
+-- and so many are below the first bound
+pub below_is : (xs : List ℕ) (bound count : ℕ) → AreBelow xs bound count → count ≡ length (filter (is_below bound) xs)
+below_is [] bound count are = let w = are.within in omega (arith, w)
+below_is (x ∷ xs) bound zero are =
+    let high = are.behind 0 0 (omega arith) (omega arith) in
+    let out : is_below bound x ≡ false = grind (arith, nat_tests, high) in
+    let rest = below_is xs bound zero (none_later x xs bound are) in
+    rest ∙ ap (λ (ys : List ℕ). length ys) (leaves (is_below bound) x xs out)
+below_is (x ∷ xs) bound (suc n) are =
+    let low = are.before 0 0 (omega arith) in
+    let in_it : is_below bound x ≡ true = grind (arith, nat_tests, low) in
+    let rest = below_is xs bound n (later x xs bound n are) in
+    let more = ap (λ (ys : List ℕ). length ys) (stays (is_below bound) x xs in_it) in
+    let one : suc n ≡ length (x ∷ filter (is_below bound) xs) = omega (arith, rest) in
+    one ∙ more
+
+-- those below a bound and those behind it are no more than all
+pub parts_few : (first end : ℕ) (xs : List ℕ) → length (filter (is_below first) xs) + length (filter (is_between first end) xs) ≤ length xs
+parts_few first end [] = omega arith
+parts_few first end (x ∷ xs) =
+    let rest = parts_few first end xs in
+    elim (cases_lt x first) [
+      | inl low ↦
+          let is : is_below first x ≡ true = grind (arith, nat_tests, low) in
+          let a = ap (λ (ys : List ℕ). length ys) (stays (is_below first) x xs is) in
+          let b = ap (λ (ys : List ℕ). length ys) (leaves (is_between first end) x xs (outside_low first end x low)) in
+          omega (arith, rest, a, b)
+      | inr ge ↦
+          let is : is_below first x ≡ false = grind (arith, nat_tests, ge) in
+          let a = ap (λ (ys : List ℕ). length ys) (leaves (is_below first) x xs is) in
+          elim (cases_lt x end) [
+            | inl less ↦
+                let b = ap (λ (ys : List ℕ). length ys) (stays (is_between first end) x xs (inside first end x ge less)) in
+                omega (arith, rest, a, b)
+            | inr past ↦
+                let b = ap (λ (ys : List ℕ). length ys) (leaves (is_between first end) x xs (outside_high first end x past)) in
+                omega (arith, rest, a, b)
+          ]
+    ]
 
 -- numbers that rise don't fall
 pub not_falling : (xs : List ℕ) → AreInOrder xs → IsNonDecreasing xs

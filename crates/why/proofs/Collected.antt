@@ -5,16 +5,16 @@ use Rattle.choices.specs.Sums.{StartsValue}
 use Rattle.why.specs.declared.cut.CutFailures.{CutFailures}
 use Rattle.why.specs.Failures.{IsCut}
 
-pub record AreFirstCuts (s : StartsValue) (failing : List ℕ) (count : ℕ) (cs : List CutFailures) : Type 0 where
+pub record AreFirstCuts (s : StartsValue) (failing : List ℕ) (outcomes : List (List ℕ)) (count : ℕ) (cs : List CutFailures) : Type 0 where
   pub long : length cs ≡ count
-  pub each : (place : ℕ) (c : CutFailures) → slice_get cs place ≡ Some c → IsCut s failing place c
+  pub each : (place : ℕ) (c : CutFailures) → slice_get cs place ≡ Some c → IsCut s failing outcomes place c
 
-pub none_yet : (s : StartsValue) (failing : List ℕ) → AreFirstCuts s failing 0 []
-none_yet s failing = record { long = refl; each = λ place c at. absurd (let bad : None ≡ Some c = at in cc) }
+pub none_yet : (s : StartsValue) (failing : List ℕ) (outcomes : List (List ℕ)) → AreFirstCuts s failing outcomes 0 []
+none_yet s failing outcomes = record { long = refl; each = λ place c at. absurd (let bad : None ≡ Some c = at in cc) }
 
-pub one_more : (s : StartsValue) (failing : List ℕ) (count : ℕ) (cs more : List CutFailures) (c : CutFailures) → AreFirstCuts s failing count cs
-    → IsCut s failing count c → more ≡ cs ++ c ∷ [] → AreFirstCuts s failing (count + 1) more
-one_more s failing count cs more c are is e =
+pub one_more : (s : StartsValue) (failing : List ℕ) (outcomes : List (List ℕ)) (count : ℕ) (cs more : List CutFailures) (c : CutFailures) → AreFirstCuts s failing outcomes count cs
+    → IsCut s failing outcomes count c → more ≡ cs ++ c ∷ [] → AreFirstCuts s failing outcomes (count + 1) more
+one_more s failing outcomes count cs more c are is e =
     let long = are.long in
     rw e (record {
       long = omega (arith, long, length-append cs (c ∷ []));
@@ -22,6 +22,6 @@ one_more s failing count cs more c are is e =
         | inl was ↦ are.each place d was
         | inr last ↦
             let same : place ≡ count = last.0 ∙ long in
-            subst (λ p. IsCut s failing p d) (sym same) (subst (λ x. IsCut s failing count x) (sym last.1) is)
+            subst (λ p. IsCut s failing outcomes p d) (sym same) (subst (λ x. IsCut s failing outcomes count x) (sym last.1) is)
       ];
     })

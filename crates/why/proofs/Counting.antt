@@ -54,11 +54,12 @@ count_more ns counts i place new are lt is within was =
         get_or-set_other counts place k (new + 1) 0 away ∙ omega (arith, own, more, none)
 
 -- the groups of one image more
-pub group_more : (images places : List ℕ) (i : ℕ) (g : Group) (groups more : List Group) → groups ≡ filter has_images (map (group_at images places) (range_with_len 0 i))
-    → g ≡ group_at images places i → more ≡ groups ++ filter has_images (g ∷ [])
-    → more ≡ filter has_images (map (group_at images places) (range_with_len 0 (i + 1)))
-group_more images places i g groups more are is on =
-    let f : ℕ → Group = group_at images places in
+pub group_more : (outcomes : List (List ℕ)) (begin : ℕ) (images places : List ℕ) (i : ℕ) (g : Group) (groups more : List Group)
+    → groups ≡ filter has_images (map (group_at outcomes begin images places) (range_with_len 0 i))
+    → g ≡ group_at outcomes begin images places i → more ≡ groups ++ filter has_images (g ∷ [])
+    → more ≡ filter has_images (map (group_at outcomes begin images places) (range_with_len 0 (i + 1)))
+group_more outcomes begin images places i g groups more are is on =
+    let f : ℕ → Group = group_at outcomes begin images places in
     let zero_first : 0 + i ≡ i = omega arith in
     let ranges = range_with_len-more 0 i ∙ ap (λ k. range_with_len 0 i ++ k ∷ []) zero_first in
     on ∙ ap (λ gs. gs ++ filter has_images (g ∷ [])) are ∙ ap (λ x. filter has_images (map f (range_with_len 0 i)) ++ filter has_images (x ∷ [])) is

@@ -11,7 +11,8 @@ use Rattle.choices.specs.Choices.{choice_of, choices_at, ranked_at}
 use Rattle.choices.specs.Numbers.{number_of, numbers_of, numbers_at}
 use Rattle.choices.specs.Laws.{AreRising as PicksRise, IsChoice, Before, Precedes as PicksPrecede, ListsChoices, ListIsSet}
 use Rattle.choices.specs.Sums.{StartsValue}
-use Rattle.groups.specs.Groups.{AreRising, DiffersBelow, Precedes, AreChoices, AreGroups}
+use Rattle.groups.specs.Groups.{AreRising, DiffersBelow, Precedes, AreChoices}
+use Rattle.groups.specs.Folded.{AreFolded}
 use Rattle.why.specs.Failures.{numbers_in, AreOfCut}
 
 fates_few : (tears : Bool) → fates_of tears ≤ 15
@@ -103,9 +104,9 @@ are_choices law s cut first images are =
           (numbers_precede m s.bound v p.picks r.picks (fates_few s.tears) (lists.sound _ _ p.there) (lists.ordered _ _ p.picks r.picks rests p.there r.there)));
     }
 
--- the group of a choice is one of the choices
-pub place_within : (cs : List (List ℕ)) (places : List ℕ) → AreGroups cs places → (i place : ℕ) → slice_get places i ≡ Some place → place < length places
+-- the example of a choice is one of the choices
+pub place_within : (cs : List (List ℕ)) (places : List ℕ) → AreFolded cs places → (i place : ℕ) → slice_get places i ≡ Some place → place < length places
 place_within cs places are i place at =
-    let is = (are.each i place at).is_part in
-    let within = slice_get_within cs place is.part is.part_there in
+    let alike = (are.each i place at).example.is_alike in
+    let within = slice_get_within cs place alike.example alike.example_there in
     omega (arith, within, are.each_once)

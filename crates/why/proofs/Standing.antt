@@ -10,13 +10,13 @@ use Rattle.base.proofs.Lists.{range_with_len-push}
 use Rattle.epochs.specs.Cuts.{cuts_of}
 use Rattle.choices.specs.Sums.{StartsValue}
 use Rattle.choices.proofs.Plans.{before_none, before_more, before_all}
-use Rattle.groups.specs.Groups.{AreChoices, IsSmallest, IsGroup}
-use Rattle.groups.proofs.Parts.{group_is_smallest}
+use Rattle.groups.specs.Folded.{StandsUnder}
 use Rattle.why.specs.declared.group.Group.{Group}
 use Rattle.why.specs.declared.cut.CutFailures.{CutFailures}
 use Rattle.why.specs.Groups.{times, group_at, has_images, groups_of}
 use Rattle.why.specs.Failures.{is_between, first_at, IsCut}
-use Rattle.why.specs.Laws.{EachStandsOnce, AllStand}
+use Rattle.why.specs.Laws.{IsGroupOf, HasGroup, HasExample, EachStandsOnce, AllStand}
+use Rattle.why.proofs.Sames.{same_tells}
 
 -- how many numbers pass a test, with one more in front
 count_cons : (p : ℕ → Bool) (x : ℕ) (xs : List ℕ) → length (filter p (x ∷ xs)) ≡ cond (p x) 1 0 + length (filter p xs)
@@ -94,11 +94,12 @@ sum_of_those (g ∷ gs) = by_test (sum_of_those gs) (g.failing == 0) refl
         omega (arith, rest, all, those)
 
 -- the groups of the first places
-first_sum : (images places : List ℕ) (n : ℕ) → sum_by (λ (g : Group). g.failing) (map (group_at images places) (range_with_len 0 n)) ≡ length (filter (λ x. nat_lt x n) places)
-first_sum images places zero = sym (below_none places)
-first_sum images places (suc n) =
-    let f : ℕ → Group = group_at images places in
-    let rest = first_sum images places n in
+first_sum : (outcomes : List (List ℕ)) (begin : ℕ) (images places : List ℕ) (n : ℕ)
+    → sum_by (λ (g : Group). g.failing) (map (group_at outcomes begin images places) (range_with_len 0 n)) ≡ length (filter (λ x. nat_lt x n) places)
+first_sum outcomes begin images places zero = sym (below_none places)
+first_sum outcomes begin images places (suc n) =
+    let f : ℕ → Group = group_at outcomes begin images places in
+    let rest = first_sum outcomes begin images places n in
     let more = below_more n places in
     let last : 0 + n ≡ n = omega arith in
     let ranges = range_with_len-push 0 n ∙ ap (λ k. range_with_len 0 n ++ k ∷ []) last in
@@ -138,34 +139,110 @@ positive : (n : ℕ) → not (n == 0) ≡ true → 0 < n
 positive zero h = absurd (let bad : false ≡ true = h in cc)
 positive (suc n) h = omega arith
 
-group_of_choice : (images : List ℕ) (cs : List (List ℕ)) (places : List ℕ) → AreChoices cs → length cs ≡ length images
-    → ((i place : ℕ) → slice_get places i ≡ Some place → IsGroup cs i place) → (i : ℕ) (g : Group) → slice_get (groups_of images places) i ≡ Some g
-    → (k : ℕ) × (slice_get images k ≡ Some g.image) × IsSmallest cs k
-group_of_choice images cs places are long each i g at =
-    let left = left_of_groups (map (group_at images places) (range_with_len 0 (length images))) i g at in
-    let made = of_range (group_at images places) 0 (length images) left.0 g left.1 in
+-- a group with images stands among those that are left
+stands_left : (gs : List Group) (k : ℕ) (g : Group) → slice_get gs k ≡ Some g → has_images g ≡ true → (number : ℕ) × (slice_get (filter has_images gs) number ≡ Some g)
+stands_left [] k g at has = absurd (let bad : None ≡ Some g = at in cc)
+stands_left (h ∷ gs) zero g at has =
+    let same : Some h ≡ Some g = at in
+    let is : h ≡ g = cc in
+    let test : has_images h ≡ true = ap has_images is ∙ has in
+    (0, ap (λ (b : Bool). slice_get (cond b (h ∷ filter has_images gs) (filter has_images gs)) 0) test ∙ same)
+stands_left (h ∷ gs) (suc k) g at has = by_test (has_images h) (stands_left gs k g at has)
+  where
+    by_test : (b : Bool) → ((number : ℕ) × (slice_get (filter has_images gs) number ≡ Some g))
+        → (number : ℕ) × (slice_get (cond b (h ∷ filter has_images gs) (filter has_images gs)) number ≡ Some g)
+    by_test true was = (suc was.0, was.1)
+    by_test false was = was
+
+-- what is made of a range, at a place
+made_at : (f : ℕ → Group) (a n k : ℕ) → k < n → slice_get (map f (range_with_len a n)) k ≡ Some (f (a + k))
+made_at f a zero k lt = absurd (omega (arith, lt))
+made_at f a (suc n) zero lt = let same : a ≡ a + 0 = omega arith in ap (λ (i : ℕ). Some (f i)) same
+made_at f a (suc n) (suc k) lt =
+    let same : a + 1 + k ≡ a + suc k = omega arith in
+    made_at f (a + 1) n k (omega (arith, lt)) ∙ ap (λ (i : ℕ). Some (f i)) same
+
+-- what stands in a list stands there at least once
+stands_there : (k : ℕ) (xs : List ℕ) (i : ℕ) → slice_get xs i ≡ Some k → 0 < times k xs
+stands_there k [] i at = absurd (let bad : None ≡ Some k = at in cc)
+stands_there k (x ∷ xs) zero at =
+    let same : Some x ≡ Some k = at in
+    let is : x ≡ k = cc in
+    let one = one_if (x == k) (grind (arith, nat_tests, is)) in
+    let all = count_cons (λ (n : ℕ). n == k) x xs in
+    omega (arith, one, all)
+stands_there k (x ∷ xs) (suc i) at =
+    let rest = stands_there k xs i at in
+    let all = count_cons (λ (n : ℕ). n == k) x xs in
+    omega (arith, rest, all)
+
+not_none : (n : ℕ) → 0 < n → not (n == 0) ≡ true
+not_none n lt = grind (arith, nat_tests, lt)
+
+-- the group at a place is that of the example there
+group_is : (outcomes : List (List ℕ)) (begin : ℕ) (images places : List ℕ) (k : ℕ) → k < length images
+    → IsGroupOf outcomes begin images places k (group_at outcomes begin images places k)
+group_is outcomes begin images places k lt =
+    record {
+      image = slice_get-get_or images k 0 lt;
+      line = refl;
+      failing = refl;
+      same = same_tells outcomes begin places k;
+    }
+
+has_group : (outcomes : List (List ℕ)) (begin : ℕ) (images places : List ℕ) (groups : List Group) → groups ≡ groups_of outcomes begin images places
+    → (i k : ℕ) → slice_get places i ≡ Some k → k < length images → HasGroup outcomes begin images places groups k
+has_group outcomes begin images places groups listed i k at lt =
+    let f : ℕ → Group = group_at outcomes begin images places in
+    let zero_first : 0 + k ≡ k = omega arith in
+    let made : slice_get (map f (range_with_len 0 (length images))) k ≡ Some (f k) = made_at f 0 (length images) k lt ∙ ap (λ (j : ℕ). Some (f j)) zero_first in
+    let left = stands_left (map f (range_with_len 0 (length images))) k (f k) made (not_none (times k places) (stands_there k places i at)) in
+    record {
+      number = left.0;
+      group = f k;
+      there = ap (λ (gs : List Group). slice_get gs left.0) listed ∙ left.1;
+      is_of = group_is outcomes begin images places k lt;
+    }
+
+has_example : (outcomes : List (List ℕ)) (begin : ℕ) (images : List ℕ) (cs : List (List ℕ)) (places : List ℕ) (groups : List Group)
+    → groups ≡ groups_of outcomes begin images places → ((i k : ℕ) → slice_get places i ≡ Some k → StandsUnder cs i k)
+    → (number : ℕ) (g : Group) → slice_get groups number ≡ Some g → HasExample outcomes begin images places cs g
+has_example outcomes begin images cs places groups listed each number g at =
+    let f : ℕ → Group = group_at outcomes begin images places in
+    let left = left_of_groups (map f (range_with_len 0 (length images))) number g (ap (λ (gs : List Group). slice_get gs number) (sym listed) ∙ at) in
+    let made = of_range f 0 (length images) left.0 g left.1 in
     let k : ℕ = made.0 in
     let within : k < length images = let lt = made.1 in omega (arith, lt) in
-    let number : g.failing ≡ times k places = ap (λ (h : Group). h.failing) made.2 in
+    let count : g.failing ≡ times k places = ap (λ (h : Group). h.failing) made.2 in
     let has = left.2 in
     let some : 0 < g.failing = positive g.failing has in
-    let place = some_place k places (omega (arith, some, number)) in
-    let smallest = (group_is_smallest cs place.0 k are (each place.0 k place.1)).smallest in
-    (k, slice_get-get_or images k 0 within ∙ ap (λ n. Some n) (sym (ap (λ (h : Group). h.image) made.2)), smallest)
+    let place = some_place k places (omega (arith, some, count)) in
+    record {
+      place = k;
+      smallest = (each place.0 k place.1).example.smallest;
+      is_of = subst (λ (h : Group). IsGroupOf outcomes begin images places k h) (sym made.2) (group_is outcomes begin images places k within);
+    }
+
+-- an example is one of the choices
+example_within : (cs : List (List ℕ)) (i k : ℕ) → StandsUnder cs i k → k < length cs
+example_within cs i k under = let alike = under.example.is_alike in slice_get_within cs k alike.example alike.example_there
 
 pub each_stands_once : EachStandsOnce
-each_stands_once images cs groups are long is =
+each_stands_once outcomes begin images cs groups are long is =
     let few : (i x : ℕ) → slice_get is.places i ≡ Some x → x < length images = λ i x at.
-    let part = (is.grouped.each i x at).is_part in
-    let within = slice_get_within cs x part.part part.part_there in
+    let within = example_within cs i x (is.folded.each i x at) in
     omega (arith, within, long) in
     let sums = ap (λ gs. sum_by (λ (g : Group). g.failing) gs) is.listed
-    ∙ sum_of_those (map (group_at images is.places) (range_with_len 0 (length images)))
-    ∙ first_sum images is.places (length images) ∙ all_below (length images) is.places few in
-    let many = is.grouped.each_once in
+    ∙ sum_of_those (map (group_at outcomes begin images is.places) (range_with_len 0 (length images)))
+    ∙ first_sum outcomes begin images is.places (length images) ∙ all_below (length images) is.places few in
+    let many = is.folded.each_once in
     record {
+      places = is.places;
+      each_once = omega (arith, many, long);
+      stands = is.folded.each;
+      has_group = λ i k at. has_group outcomes begin images is.places groups is.listed i k at (few i k at);
+      has_example = has_example outcomes begin images cs is.places groups is.listed is.folded.each;
       adds_up = omega (arith, sums, many, long);
-      smallest = λ i g at. group_of_choice images cs is.places are long is.grouped.each i g (ap (λ gs. slice_get gs i) (sym is.listed) ∙ at);
     }
 
 -- numbers between two bounds, and behind them
@@ -208,22 +285,22 @@ all_between a b (x ∷ xs) zero_first below =
     omega (arith, all, one, rest)
 
 -- the cuts from one on
-cuts_from : (s : StartsValue) (failing : List ℕ) (cs : List CutFailures) (i : ℕ)
-    → ((place : ℕ) (c : CutFailures) → slice_get cs place ≡ Some c → IsCut s failing (i + place) c)
+cuts_from : (s : StartsValue) (failing : List ℕ) (outcomes : List (List ℕ)) (cs : List CutFailures) (i : ℕ)
+    → ((place : ℕ) (c : CutFailures) → slice_get cs place ≡ Some c → IsCut s failing outcomes (i + place) c)
     → (first_at s i ≤ first_at s (i + length cs))
     × (sum_by (λ (c : CutFailures). c.failing) cs ≡ length (filter (is_between (first_at s i) (first_at s (i + length cs))) failing))
-cuts_from s failing [] i each =
+cuts_from s failing outcomes [] i each =
     let here : i + 0 ≡ i = omega arith in
     let at = ap (first_at s) here in
     let none = ap (λ k. length (filter (is_between (first_at s i) k) failing)) at ∙ between_none (first_at s i) failing in
     (omega (arith, at), sym none)
-cuts_from s failing (c ∷ cs) i each =
-    let own : IsCut s failing i c = let here : i + 0 ≡ i = omega arith in subst (λ k. IsCut s failing k c) here (each 0 c refl) in
+cuts_from s failing outcomes (c ∷ cs) i each =
+    let own : IsCut s failing outcomes i c = let here : i + 0 ≡ i = omega arith in subst (λ k. IsCut s failing outcomes k c) here (each 0 c refl) in
     let more = before_more s.plan s.bound s.tears i c.cut own.wanted in
     let step : first_at s i ≤ first_at s (i + 1) = omega (arith, more) in
-    let rest = cuts_from s failing cs (i + 1) (λ place d at.
+    let rest = cuts_from s failing outcomes cs (i + 1) (λ place d at.
     let on : i + suc place ≡ i + 1 + place = omega arith in
-    subst (λ k. IsCut s failing k d) on (each (suc place) d at)) in
+    subst (λ k. IsCut s failing outcomes k d) on (each (suc place) d at)) in
     let end : i + 1 + length cs ≡ i + length (c ∷ cs) = omega arith in
     let ends = ap (first_at s) end in
     let reach = rest.0 in
@@ -235,8 +312,8 @@ cuts_from s failing (c ∷ cs) i each =
     (omega (arith, step, far), omega (arith, sums, tail, both, count))
 
 pub all_stand : AllStand
-all_stand s failing cs are of_cuts =
-    let sums = cuts_from s failing cs 0 (λ place c at. let here : 0 + place ≡ place = omega arith in subst (λ k. IsCut s failing k c) (sym here) (of_cuts.each place c at)) in
+all_stand s failing outcomes cs are of_cuts =
+    let sums = cuts_from s failing outcomes cs 0 (λ place c at. let here : 0 + place ≡ place = omega arith in subst (λ k. IsCut s failing outcomes k c) (sym here) (of_cuts.each place c at)) in
     let none = before_none s.plan s.bound s.tears in
     let reach : length (cuts_of s.plan.kind s.plan.log.entries) ≤ 0 + length cs = let all = of_cuts.all in omega (arith, all) in
     let end = ap length (before_all s.plan s.bound s.tears (0 + length cs) reach) in

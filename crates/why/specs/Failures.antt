@@ -21,9 +21,16 @@ pub record AreImages (s : StartsValue) (failing : List ℕ) : Type 0 where
 abbrev pub first_at : StartsValue → ℕ → ℕ
 first_at s place = length (ranked_before s.plan s.bound s.tears place)
 
--- the images that are numbered from `first` to below `end`
+-- the images that are numbered below `end`, and those from `first` on to below `end`
+abbrev pub is_below : ℕ → ℕ → Bool
+is_below end n = nat_lt n end
+
 abbrev pub is_between : ℕ → ℕ → ℕ → Bool
 is_between first end n = nat_le first n && nat_lt n end
+
+-- on how many images before the wanted cut of that place the program fails
+abbrev pub failing_before : StartsValue → List ℕ → ℕ → ℕ
+failing_before s failing place = length (filter (is_below (first_at s place)) failing)
 
 -- the images on which the program fails, at the wanted cut of that place
 abbrev pub failing_at : StartsValue → List ℕ → ℕ → List ℕ
@@ -40,13 +47,13 @@ pub record AreOfCut (s : StartsValue) (cut first : ℕ) (images : List ℕ) : Ty
   pub high : (i n : ℕ) → slice_get images i ≡ Some n → n < first + length (ranked_at s.plan s.bound s.tears cut)
 
 -- what fails at the wanted cut of a place
-pub record IsCut (s : StartsValue) (failing : List ℕ) (place : ℕ) (c : CutFailures) : Type 0 where
+pub record IsCut (s : StartsValue) (failing : List ℕ) (outcomes : List (List ℕ)) (place : ℕ) (c : CutFailures) : Type 0 where
   pub wanted : slice_get (cuts_of s.plan.kind s.plan.log.entries) place ≡ Some c.cut
   pub images : c.images ≡ length (ranked_at s.plan s.bound s.tears c.cut)
   pub fails : c.failing ≡ length (failing_at s failing place)
-  pub grouped : AreGrouped (failing_at s failing place) (map (numbers_in s c.cut (first_at s place)) (failing_at s failing place)) c.groups.items
+  pub grouped : AreGrouped outcomes (failing_before s failing place) (failing_at s failing place) (map (numbers_in s c.cut (first_at s place)) (failing_at s failing place)) c.groups.items
 
 -- at each wanted cut
-pub record AreCuts (s : StartsValue) (failing : List ℕ) (cs : List CutFailures) : Type 0 where
+pub record AreCuts (s : StartsValue) (failing : List ℕ) (outcomes : List (List ℕ)) (cs : List CutFailures) : Type 0 where
   pub all : length cs ≡ length (cuts_of s.plan.kind s.plan.log.entries)
-  pub each : (place : ℕ) (c : CutFailures) → slice_get cs place ≡ Some c → IsCut s failing place c
+  pub each : (place : ℕ) (c : CutFailures) → slice_get cs place ≡ Some c → IsCut s failing outcomes place c

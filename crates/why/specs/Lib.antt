@@ -3,5 +3,3 @@ pub mod Groups
 pub mod Failures
 pub mod Laws
 pub mod Text
-pub mod Pairs
-pub mod PairsText

@@ -3,13 +3,13 @@
 ghost use Rattle.std.specs.Prelude.{◌≡◌, ◌+◌, ◌<◌, ◌≤◌, ◌∷◌, ℕ, length, map, slice_get, Some, IfOk};
 ghost use Rattle.choices.specs.Choices.{ranked_at};
 ghost use Rattle.groups.specs.Groups.{AreChoices};
-ghost use Rattle.why.specs.Groups.{AreGrouped};
+ghost use Rattle.groups.specs.Folded.{AreFolded};
 ghost use Rattle.why.specs.Failures.{numbers_in, AreOfCut};
 
-use crate::group::{Group, groups_of};
+use crate::group::Group;
 use arrayvec::ArrayVec;
 use choices::{Starts, list_is_set, numbers_at};
-use groups::groups;
+use groups::folded;
 use std::alloc::{AllocError, Global};
 
 /// What fails at a cut.
@@ -45,21 +45,20 @@ fn numbers_of(
     Ok(numbers)
 }
 
-/// The groups of some failing images of a cut, whose images begin with `first`.
-pub(crate) fn grouped(
+/// For each of some failing images of a cut, whose images begin with `first`, the place of the example under which it stands.
+pub(crate) fn examples_of(
     alloc: Global,
     starts: &Starts<'_>,
     cut: u32,
     first: u64,
     images: &[u64],
-) -> Result<Vec<Group>, AllocError>
+) -> Result<Vec<usize>, AllocError>
     requires cut { cut ≤ length starts.now.plan.log.entries }
     requires images { AreOfCut starts.now cut first images.now }
-    ensures { IfOk result (λ groups. AreGrouped images.now (map (numbers_in starts.now cut first) images.now) groups.items) }
+    ensures { IfOk result (λ places. AreFolded (map (numbers_in starts.now cut first) images.now) places.items) }
 {
     // A law of the choices at a cut, which does nothing: they are listed in their order.
     list_is_set();
     let numbers = numbers_of(alloc, starts, cut, first, images)?;
-    let places = groups(alloc, numbers.as_slice())?;
-    groups_of(alloc, images, places.as_slice())
+    folded(alloc, numbers.as_slice())
 }

@@ -4,10 +4,11 @@ ghost use Rattle.std.specs.Prelude.{◌≡◌, ◌+◌, ◌<◌, ◌≤◌, ◌�
 ghost use Rattle.std.specs.List.{slice_index_or};
 ghost use Rattle.std.specs.List.Sorted.{IsNonDecreasing};
 ghost use Rattle.epochs.specs.Cuts.{cuts_of};
-ghost use Rattle.why.specs.Failures.{AreImages, AreCuts, IsCut, is_between, AreInOrder};
+ghost use Rattle.why.specs.Failures.{AreImages, AreCuts, IsCut, is_below, is_between, AreInOrder};
 ghost use Rattle.why.specs.Text.{AreAllNumbered};
 
-use crate::cut::{CutFailures, grouped};
+use crate::cut::{CutFailures, examples_of};
+use crate::group::groups_of;
 use choices::Starts;
 use std::alloc::{AllocError, Global};
 
@@ -21,15 +22,17 @@ fn below(numbers: &[u64], bound: u64) -> usize
     numbers.partition_point(|number| *number < bound)
 }
 
-/// The numbers from `first` to below `end`, of numbers in their order.
-fn between(numbers: &[u64], first: u64, end: u64) -> &[u64]
+/// How many numbers are below `first`, and those from it to below `end`, of numbers in their order.
+fn between(numbers: &[u64], first: u64, end: u64) -> (usize, &[u64])
     requires order { IsNonDecreasing numbers.now }
     requires rising { first ≤ end }
-    ensures { result.now ≡ filter (is_between first end) numbers.now }
+    ensures before { result.0 ≡ length (filter (is_below first) numbers.now) }
+    ensures own { result.1.now ≡ filter (is_between first end) numbers.now }
+    ensures within { result.0 + length result.1.now ≤ length numbers.now }
 {
     let begin = below(numbers, first);
     let behind = below(numbers, end);
-    &numbers[begin..behind]
+    (begin, &numbers[begin..behind])
 }
 
 /// What fails at the wanted cut of a place.
@@ -39,26 +42,30 @@ fn cut_failures(
     place: usize,
     cut: u32,
     failing: &[u64],
+    outcomes: &[&str],
 ) -> Result<CutFailures, AllocError>
     requires cut { cut ≤ length starts.now.plan.log.entries }
     requires wanted { slice_get (cuts_of starts.now.plan.kind starts.now.plan.log.entries) place ≡ Some cut }
     requires failing { AreImages starts.now failing.now }
-    ensures { IfOk result (IsCut starts.now failing.now place) }
+    requires outcomes { length outcomes.now ≡ length failing.now }
+    ensures { IfOk result (IsCut starts.now failing.now (map (λ o. o.now) outcomes.now) place) }
 {
     let (first, end) = starts.range_of(place);
-    let own = between(failing, first, end);
+    let (begin, own) = between(failing, first, end);
+    let places = examples_of(alloc, starts, cut, first, own)?;
     Ok(CutFailures {
         cut,
         images: end - first,
         failing: own.len(),
-        groups: grouped(alloc, starts, cut, first, own)?,
+        groups: groups_of(alloc, own, places.as_slice(), outcomes, begin)?,
     })
 }
 
-/// What fails at each wanted cut, of a program that fails on the images with those numbers, rising.
+/// What fails at each wanted cut, of a program that fails on the images with those numbers, rising, and ends on each in the outcome
+/// at the same place.
 ///
-/// For each failing image it takes the search of its choice and one for each part of it, and 40 bytes for each at the cut at
-/// hand.
+/// For each failing image it takes the search of its choice and one for each part of it, and some 100 bytes for each at the cut
+/// at hand.
 ///
 /// # Errors
 ///
@@ -67,15 +74,17 @@ pub fn failures(
     alloc: Global,
     starts: &Starts<'_>,
     failing: &[u64],
+    outcomes: &[&str],
 ) -> Result<Vec<CutFailures>, AllocError>
-    requires { AreImages starts.now failing.now }
-    ensures cuts { IfOk result (λ cuts. AreCuts starts.now failing.now cuts.items) }
-    ensures numbered { IfOk result (λ cuts. AreAllNumbered starts.now cuts.items) }
+    requires images { AreImages starts.now failing.now }
+    requires outcomes { length outcomes.now ≡ length failing.now }
+    ensures cuts { IfOk result (λ cuts. AreCuts starts.now failing.now (map (λ o. o.now) outcomes.now) cuts.items) }
+    ensures numbered { IfOk result (λ cuts. AreAllNumbered starts.now (length failing.now) cuts.items) }
 {
     let cuts = starts.plan().cuts();
     let mut found = Vec::with_capacity(alloc, cuts.len())?;
     for (place, cut) in cuts.iter().enumerate() {
-        found.push(cut_failures(alloc, starts, place, *cut, failing)?)?;
+        found.push(cut_failures(alloc, starts, place, *cut, failing, outcomes)?)?;
     }
     Ok(found)
 }

@@ -2,8 +2,9 @@
 
 ghost use Rattle.why.specs.Laws.{EachStandsOnce, AllStand};
 
-/// Each failing image of a cut stands in one group: their numbers add up. The choice of each group is that of a failing image,
-/// and it is smallest: no other failing choice of the cut is a part of it.
+/// Each failing image of a cut stands under one group, that of the example in which the same parts are lost and the same parts are
+/// torn as in a choice that is a part of its own; their numbers add up. The choice of each example is that of a failing image, and
+/// it is smallest: no other failing choice of the cut is a part of it. A group is said to end alike where all its images do.
 pub fn each_stands_once()
     ensures { EachStandsOnce }
 {}

@@ -1,51 +1,45 @@
-//! Why a program fails: how many images of each cut, and under which smallest failing choices they stand.
+//! Why a program fails: how many images of each cut, and in which groups they stand.
 //!
 //! A report of many failing lines doesn't tell its reader what to fix. A program that fails where one write is lost mostly
-//! fails too where others are lost besides, so a few of the failing choices of a cut tell all.
+//! fails too where others are lost besides, and where it is torn mostly fails wherever it is torn. So a few groups tell all.
 //!
 //! | Call | Answer |
 //! |---|---|
-//! | `failures(alloc, starts, failing)` | for each wanted cut how many images it has, how many of them fail, and the groups |
-//! | `put_program(out, by, starts, number, failing, cuts)` | appends this as a text |
-//! | `pairs_of(alloc, starts, log, failing)` | the pairs of entries that explain the most of the failing images |
-//! | `put_pairs(out, pairs)` | appends the lines of these pairs |
+//! | `failures(alloc, starts, failing, outcomes)` | for each wanted cut how many images it has, how many of them fail, and the groups |
+//! | `put_cuts(out, by, starts, outcomes, program, cuts)` | appends this as a text |
 //!
 //! # Place
 //!
-//! On `choices`, which numbers the images of a plan, on `groups`, which finds the group of a failing choice, on `pairs`, which
-//! finds the pairs of entries, and on `choice_text`, which prints a choice. It is given the numbers of the images on which a
-//! program fails, and judges nothing.
+//! On `choices`, which numbers the images of a plan, on `groups`, which finds the example under which a failing choice stands, and on
+//! `choice_text`, which prints a choice. It is given the numbers of the images on which a program fails and what it ends in on
+//! each (`outcomes`), and judges nothing.
 //!
 //! # What is proved
 //!
 //! `failures` answers one element for each wanted cut (`AreCuts` in `specs/Failures.antt`): the number of its images, the
-//! number of those that fail, and a group for each smallest failing choice, with the number of failing images that stand under
-//! it. Two laws stand above (`specs/Laws.antt`): of images with choices in their order the numbers of the groups add up to that
-//! of the images (`each_stands_once`), and those of the cuts to that of all failing images (`all_stand`). `put_program` appends
-//! the text of `specs/Text.antt`: a line for each cut at which something fails, and one for each of its groups.
-//!
-//! `pairs_of` answers the first pairs of entries of which the earlier one didn't arrive whole and the later one did, by how
-//! many of the failing images this is so (`ArePairs` of `pairs`, for the images of `specs/Pairs.antt`). `put_pairs` appends
-//! exactly a line for each (`specs/PairsText.antt`).
+//! number of those that fail, and the groups. A group has an example, of the smallest failing choices in which the same parts are
+//! lost and the same parts are torn the first; the number of failing images that stand under it; and whether the program ends on
+//! all of these as on the example. Two laws stand above (`specs/Laws.antt`): each failing image of a cut stands under one group,
+//! of a choice that is a part of its own, and the numbers of the groups add up (`each_stands_once`); those of the cuts add up to
+//! that of all failing images (`all_stand`). `put_cuts` appends the text of `specs/Text.antt`: a line for each cut at which
+//! something fails, and one for each of its groups.
 //!
 //! # How it is written
 //!
 //! The images of a cut are numbered in a row, so the failing ones of a cut are found by two searches by halves. Their departures
-//! are taken as numbers (`numbers_at` of `choices`), by which `groups` finds the group of each.
+//! are taken as numbers (`numbers_at` of `choices`), by which `folded` of `groups` finds the example of each. Then each image is
+//! counted at its example (`group`), and its outcome is compared with that of the example (`same`).
 #![tactic(auto)]
 
 mod cut;
 mod cuts;
-mod failing_pairs;
 mod group;
 mod laws;
-mod pairs_text;
+mod same;
 mod text;
 
 pub use cut::CutFailures;
 pub use cuts::failures;
-pub use failing_pairs::pairs_of;
 pub use group::Group;
 pub use laws::{all_stand, each_stands_once};
-pub use pairs_text::put_pairs;
-pub use text::put_program;
+pub use text::put_cuts;

@@ -1,9 +1,9 @@
-use Rattle.std.proofs.Common.{rules, ◌≡◌, ◌≤◌, ℕ, length, map, slice_get, Some, List, [], ◌∷◌, ◌++◌, refl, sym, ◌∙◌, ap, subst}
+use Rattle.std.proofs.Common.{rules, ◌≡◌, ℕ, map, slice_get, Some, List, sym, subst}
 use Rattle.std.specs.List.Sorted.{IsNonDecreasing}
 use Rattle.std.proofs.lemmas.Option.{slice_get_read}
 use Rattle.groups.specs.Groups.{IsGroup}
 use Rattle.groups.specs.Keys.{AreWords, part_keys, Lacks, IsFirstFound}
-use Rattle.groups.proofs.Progress.{IsSmall, Grouped, keys_in_order, alone, in_group, go_on, numbers_at}
+use Rattle.groups.proofs.Progress.{IsSmall, keys_in_order, alone, in_group, go_on, numbers_at}
 use Rattle.groups.proofs.grouping.groups.Goals as goal
 use Rattle.groups.proofs.grouping.groups.Goals.{in-Some, in-None}
 

@@ -1,4 +1,4 @@
-use Rattle.std.proofs.Common.{ℕ, ◌≡◌, map}
+use Rattle.std.proofs.Common.{map}
 use Rattle.groups.proofs.Progress.{Grouped}
 use Rattle.groups.proofs.grouping.groups.Given as goal
 

@@ -3,6 +3,13 @@ use Rattle.request.proofs.Results.{both_ok}
 use Rattle.runs.proofs.Explained.{are_images, causes_of_lines}
 use Rattle.runs.proofs.explore_command.explained.Goals as goal
 
+pub invariant_of-reading : goal.invariant_of-reading
+invariant_of-reading c =
+    record {
+      text_is = c.as_str.ensures.value ∙ c.in_ok-text.ensures;
+      marks_are = c.as_slice.ensures.value ∙ c.in_ok-marks.ensures;
+    }
+
 pub causes_text-requires-clause-images : goal.causes_text-requires-clause-images
 causes_text-requires-clause-images c =
     λ program.
@@ -17,5 +24,5 @@ returns c =
     let task = found.task.now in
     both_ok c.causes_text.result _ _ _ c.causes_text.ensures c.causes_text.ensures
     (λ bytes tells again.
-    causes_of_lines task.options.now task.log.now task.checkers.now c.in_ok-head.head found.starts.now found.work.now.lines c.as_slice.result.now bytes.items
-    c.in_ok-head.ensures found.starts_are c.requires.lines (c.as_slice.ensures.value ∙ c.in_ok-marks.ensures) tells)
+    causes_of_lines task.options.now task.log.now task.checkers.now c.in_ok-head.head found.starts.now found.work.now.lines bytes.items
+    c.in_ok-head.ensures found.starts_are c.requires.lines tells)

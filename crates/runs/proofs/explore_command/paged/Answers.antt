@@ -4,6 +4,13 @@ use Rattle.runs.proofs.Explained.{are_images}
 use Rattle.runs.proofs.Pages.{page_of_lines}
 use Rattle.runs.proofs.explore_command.paged.Goals as goal
 
+pub invariant_of-reading : goal.invariant_of-reading
+invariant_of-reading c =
+    record {
+      text_is = c.as_str.ensures.value ∙ c.in_ok-text.ensures;
+      marks_are = c.as_slice.ensures.value ∙ c.in_ok-marks.ensures;
+    }
+
 pub page_bytes-requires-clause-images : goal.page_bytes-requires-clause-images
 page_bytes-requires-clause-images c =
     λ program.

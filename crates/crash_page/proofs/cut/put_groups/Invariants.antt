@@ -1,7 +1,0 @@
-use Rattle.std.proofs.Common.{◌≡◌, ◌++◌, take, string_bytes}
-use Rattle.std.specs.List.{flat_map}
-use Rattle.crash_page.specs.Groups.{group_text}
-use Rattle.crash_page.proofs.cut.put_groups.Given as goal
-
-abbrev pub invariant-loop-group : goal.invariant-loop-group
-invariant-loop-group l = string_bytes l.out ≡ string_bytes l.initial.out ++ flat_map (group_text l.run.starts.now) (take l.group-index l.groups)

@@ -1,0 +1,48 @@
+-- Which share of the images of a cut fails: of it the cells of cuts have their colour, and the legend its words.
+use Rattle.std.specs.Prelude.{ℕ, ◌/◌, ◌==◌, nat_le, Bool, if◌then◌else◌, List, ◌++◌, codes}
+use Rattle.std.specs.Fmt.{decimal}
+use Rattle.crash_page.specs.declared.share.Share.{Share}
+use Rattle.crash_page.specs.declared.share.Share.TheVariants as share
+use Rattle.crash_page.specs.declared.pieces.Piece.TheVariants as piece
+use Rattle.crash_page.specs.Pieces.{piece_text}
+
+-- a share with a bound is at most one image in so many
+abbrev pub one_in : Share → ℕ
+one_in share.Hundredth = 100
+one_in share.Tenth = 10
+one_in share.Half = 2
+one_in _ = 1
+
+abbrev pub is_within : ℕ → ℕ → Share → Bool
+is_within images failing s = nat_le failing (images / one_in s)
+
+-- the share of so many failing images among those of a cut: none, all, the first bound that holds, or more
+abbrev pub share_of : ℕ → ℕ → Share
+share_of images failing =
+    if failing == 0 then share.No else if nat_le images failing then share.All else if is_within images failing share.Hundredth then share.Hundredth
+    else if is_within images failing share.Tenth then share.Tenth else if is_within images failing share.Half then share.Half else share.More
+
+-- the class of a share, which has its colour
+unfoldable pub share_class : Share → List ℕ
+share_class share.No = codes "s0"
+share_class share.Hundredth = codes "s1"
+share_class share.Tenth = codes "s2"
+share_class share.Half = codes "s3"
+share_class share.More = codes "s4"
+share_class share.All = codes "s5"
+
+-- and its words
+unfoldable pub share_words : Share → List ℕ
+share_words share.No = codes "no image fails"
+share_words share.More = codes "more"
+share_words share.All = codes "all of them"
+share_words s = codes "up to 1 in " ++ decimal (one_in s)
+
+-- a share in the legend
+unfoldable pub key_text : Share → List ℕ
+key_text s = piece_text piece.KeyOpen ++ share_class s ++ piece_text piece.KeyColour ++ share_words s ++ piece_text piece.KeyClose
+
+unfoldable pub legend_text : List ℕ
+legend_text =
+    piece_text piece.Legend ++ key_text share.No ++ key_text share.Hundredth ++ key_text share.Tenth ++ key_text share.Half
+    ++ key_text share.More ++ key_text share.All ++ piece_text piece.LegendClose

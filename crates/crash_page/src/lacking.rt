@@ -1,0 +1,216 @@
+//! The flushes that are missing: in the row of entries, and in words above it.
+
+ghost use Rattle.std.specs.Prelude.{◌≡◌, ◌<◌, ◌≤◌, ◌==◌, ◌++◌, length, OnOk, string_bytes};
+ghost use Rattle.std.specs.List.{position};
+ghost use Rattle.flushes.specs.declared.counted.MissingFlush.{MissingFlush as FlushValue};
+ghost use Rattle.crash_page.specs.Lacking.{flush_name, from_text, flush_title, flush_link, flush_text, lack_at, between_text, named_text, named_from, more_text, entries_word, flushes_text, cure_text, uncured_text, advice_text};
+
+use crate::pieces::{Piece, put, put_number};
+use flushes::MissingFlush;
+use std::alloc::AllocError;
+
+/// How many flushes are named in words.
+const MOST_NAMED: usize = 16;
+
+/// The flushes that are missing for the program of that number.
+#[derive(Clone, Copy)]
+pub(crate) struct Lacking<'a> {
+    pub(crate) program: usize,
+    pub(crate) flushes: &'a [MissingFlush],
+}
+
+/// Appends the name of the place of a flush before that entry.
+#[tactic(auto, unfolding(crate::specs::Lacking::flush_name))]
+fn put_name(out: &mut String, program: usize, entry: u32) -> Result<(), AllocError>
+    ensures { OnOk result (string_bytes out.new ≡ string_bytes out.old ++ flush_name program entry) }
+{
+    write!(out, "p{program}f{entry}")
+}
+
+/// Appends from which entry on a flush may stand as well, where that is another than its own.
+#[tactic(auto, unfolding(crate::specs::Lacking::from_text))]
+fn put_from(out: &mut String, flush: MissingFlush) -> Result<(), AllocError>
+    ensures { OnOk result (string_bytes out.new ≡ string_bytes out.old ++ from_text flush) }
+{
+    if flush.from == flush.at {
+        return Ok(());
+    }
+    put(out, Piece::LackFrom)?;
+    put_number(out, u64::from(flush.from))?;
+    put(out, Piece::LackOn)
+}
+
+/// Appends what stands beside the pointer at a flush: where it may stand, and how many failing images it takes away.
+#[tactic(auto, unfolding(crate::specs::Lacking::flush_title))]
+fn put_flush_title(out: &mut String, flush: MissingFlush) -> Result<(), AllocError>
+    ensures { OnOk result (string_bytes out.new ≡ string_bytes out.old ++ flush_title flush) }
+{
+    put(out, Piece::LackTitle)?;
+    put_number(out, u64::from(flush.at))?;
+    put_from(out, flush)?;
+    put(out, Piece::LackImages)?;
+    put_number(out, flush.failing as u64)
+}
+
+/// Appends the place of a flush in the row, and to which line it leads.
+#[tactic(auto, unfolding(crate::specs::Lacking::flush_link))]
+fn put_flush_link(out: &mut String, program: usize, entry: u32) -> Result<(), AllocError>
+    ensures { OnOk result (string_bytes out.new ≡ string_bytes out.old ++ flush_link program entry) }
+{
+    put(out, Piece::LackOpen)?;
+    put_name(out, program, entry)?;
+    put(out, Piece::CellLink)?;
+    put_number(out, u64::from(entry))
+}
+
+/// Appends a flush in the row.
+#[tactic(auto, unfolding(crate::specs::Lacking::flush_text))]
+fn put_flush(out: &mut String, program: usize, flush: MissingFlush) -> Result<(), AllocError>
+    ensures { OnOk result (string_bytes out.new ≡ string_bytes out.old ++ flush_text program flush) }
+{
+    put_flush_link(out, program, flush.at)?;
+    put_flush_title(out, flush)?;
+    put(out, Piece::LackClose)
+}
+
+/// The number of the flush before an entry, if there is one.
+fn flush_before(flushes: &[MissingFlush], entry: u32) -> Option<usize>
+    ensures { result ≡ position (λ (m : FlushValue). m.at == entry) flushes.now }
+{
+    flushes.iter().position(|flush| flush.at == entry)
+}
+
+/// Appends the flush that is missing before an entry, if there is one.
+pub(crate) fn put_lacking(
+    out: &mut String,
+    lacking: &Lacking<'_>,
+    entry: u32,
+) -> Result<(), AllocError>
+    ensures { OnOk result (string_bytes out.new ≡ string_bytes out.old ++ lack_at lacking.now.program lacking.now.flushes.now entry) }
+{
+    match flush_before(lacking.flushes, entry) {
+        Some(number) => put_flush(out, lacking.program, lacking.flushes[number]),
+        None => Ok(()),
+    }
+}
+
+/// Appends what stands before the entry of that number, of so many that are named.
+fn put_between(out: &mut String, count: usize, number: usize) -> Result<(), AllocError>
+    requires { number < count }
+    ensures { OnOk result (string_bytes out.new ≡ string_bytes out.old ++ between_text count number) }
+{
+    if number == 0 {
+        Ok(())
+    } else if number + 1 == count {
+        out.push_str(" and ")
+    } else {
+        out.push_str(", ")
+    }
+}
+
+/// Appends an entry before which a flush is missing, by a link to its place in the row.
+#[tactic(auto, unfolding(crate::specs::Lacking::named_text))]
+fn put_named(
+    out: &mut String,
+    program: usize,
+    count: usize,
+    number: usize,
+    flush: MissingFlush,
+) -> Result<(), AllocError>
+    requires { number < count }
+    ensures { OnOk result (string_bytes out.new ≡ string_bytes out.old ++ named_text program count number flush) }
+{
+    put_between(out, count, number)?;
+    put(out, Piece::NamedOpen)?;
+    put_name(out, program, flush.at)?;
+    put(out, Piece::LinkEnd)?;
+    put_number(out, u64::from(flush.at))?;
+    put(out, Piece::NamedClose)
+}
+
+/// Appends the first of so many flushes.
+#[tactic(auto, using(crate::proofs::Rows::named_more, crate::proofs::Rows::named_end))]
+fn put_names(
+    out: &mut String,
+    program: usize,
+    count: usize,
+    flushes: &[MissingFlush],
+) -> Result<(), AllocError>
+    requires { length flushes.now ≤ count }
+    ensures { OnOk result (string_bytes out.new ≡ string_bytes out.old ++ named_from program count 0 flushes.now) }
+{
+    for (number, flush) in flushes.iter().enumerate() {
+        put_named(out, program, count, number, *flush)?;
+    }
+    Ok(())
+}
+
+/// Appends how many more there are.
+#[tactic(auto, unfolding(crate::specs::Lacking::more_text))]
+fn put_more(out: &mut String, count: usize) -> Result<(), AllocError>
+    ensures { OnOk result (string_bytes out.new ≡ string_bytes out.old ++ more_text count) }
+{
+    if count == 0 {
+        return Ok(());
+    }
+    write!(out, " and {count} more")
+}
+
+/// Appends the words before the entries that are named.
+fn put_entries_word(out: &mut String, count: usize) -> Result<(), AllocError>
+    ensures { OnOk result (string_bytes out.new ≡ string_bytes out.old ++ entries_word count) }
+{
+    if count == 1 {
+        put(out, Piece::CureEntry)
+    } else {
+        put(out, Piece::CureEntries)
+    }
+}
+
+/// Appends the flushes that take every failing image away that a flush can.
+#[tactic(auto, unfolding(crate::specs::Lacking::flushes_text))]
+fn put_flushes(out: &mut String, lacking: &Lacking<'_>) -> Result<(), AllocError>
+    ensures { OnOk result (string_bytes out.new ≡ string_bytes out.old ++ flushes_text lacking.now.program lacking.now.flushes.now) }
+{
+    let count = lacking.flushes.len();
+    let named = count.min(MOST_NAMED);
+    put_entries_word(out, count)?;
+    put_names(out, lacking.program, count, &lacking.flushes[..named])?;
+    put_more(out, count - named)?;
+    put(out, Piece::CureClose)
+}
+
+/// Appends where a flush is missing, if one is.
+fn put_cure(out: &mut String, lacking: &Lacking<'_>) -> Result<(), AllocError>
+    ensures { OnOk result (string_bytes out.new ≡ string_bytes out.old ++ cure_text lacking.now.program lacking.now.flushes.now) }
+{
+    if lacking.flushes.is_empty() {
+        return Ok(());
+    }
+    put_flushes(out, lacking)
+}
+
+/// Appends how many failing images no flush takes away, if there are any.
+#[tactic(auto, unfolding(crate::specs::Lacking::uncured_text))]
+fn put_uncured(out: &mut String, count: usize) -> Result<(), AllocError>
+    ensures { OnOk result (string_bytes out.new ≡ string_bytes out.old ++ uncured_text count) }
+{
+    if count == 0 {
+        return Ok(());
+    }
+    put(out, Piece::UncuredOpen)?;
+    put_number(out, count as u64)?;
+    put(out, Piece::UncuredClose)
+}
+
+/// Appends what flushes would do: which are missing, and how many failing images none takes away.
+pub(crate) fn put_advice(
+    out: &mut String,
+    lacking: &Lacking<'_>,
+    uncured: usize,
+) -> Result<(), AllocError>
+    ensures { OnOk result (string_bytes out.new ≡ string_bytes out.old ++ advice_text lacking.now.program lacking.now.flushes.now uncured) }
+{
+    put_cure(out, lacking)?;
+    put_uncured(out, uncured)
+}

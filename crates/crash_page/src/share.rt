@@ -1,0 +1,119 @@
+//! Which share of the images of a cut fails, with its colour, and the legend.
+
+ghost use Rattle.std.specs.Prelude.{◌≡◌, ◌≤◌, ◌++◌, OnOk, string_bytes};
+ghost use Rattle.crash_page.specs.Shares.{one_in, is_within, share_of, share_class, share_words, key_text, legend_text};
+
+use crate::pieces::{Piece, put};
+use std::alloc::AllocError;
+
+/// Which share of the images of a cut fails: none, at most a hundredth, a tenth or half of them, more, or all.
+#[derive(Clone, Copy)]
+pub(crate) enum Share {
+    No,
+    Hundredth,
+    Tenth,
+    Half,
+    More,
+    All,
+}
+
+/// Of how many images at most one fails, in a share with a bound.
+fn one_in(share: Share) -> u64
+    ensures value { result ≡ one_in share }
+    ensures some { 1 ≤ result }
+{
+    match share {
+        Share::Hundredth => 100,
+        Share::Tenth => 10,
+        Share::Half => 2,
+        _ => 1,
+    }
+}
+
+/// Whether so many images of a cut are within the bound of a share.
+fn is_within(images: u64, failing: u64, share: Share) -> bool
+    ensures { result ≡ is_within images failing share }
+{
+    failing <= images / one_in(share)
+}
+
+/// Which share of the images of a cut so many failing ones are.
+pub(crate) fn share_of(images: u64, failing: u64) -> Share
+    ensures { result ≡ share_of images failing }
+{
+    if failing == 0 {
+        Share::No
+    } else if images <= failing {
+        Share::All
+    } else if is_within(images, failing, Share::Hundredth) {
+        Share::Hundredth
+    } else if is_within(images, failing, Share::Tenth) {
+        Share::Tenth
+    } else if is_within(images, failing, Share::Half) {
+        Share::Half
+    } else {
+        Share::More
+    }
+}
+
+/// The class of a share.
+#[tactic(auto, unfolding(crate::specs::Shares::share_class))]
+fn class_of(share: Share) -> &'static str
+    ensures { result.now ≡ share_class share }
+{
+    match share {
+        Share::No => "s0",
+        Share::Hundredth => "s1",
+        Share::Tenth => "s2",
+        Share::Half => "s3",
+        Share::More => "s4",
+        Share::All => "s5",
+    }
+}
+
+/// Appends the class of a share.
+pub(crate) fn put_class(out: &mut String, share: Share) -> Result<(), AllocError>
+    ensures { OnOk result (string_bytes out.new ≡ string_bytes out.old ++ share_class share) }
+{
+    out.push_str(class_of(share))
+}
+
+/// Appends the words of a share.
+#[tactic(auto, unfolding(crate::specs::Shares::share_words))]
+fn put_words(out: &mut String, share: Share) -> Result<(), AllocError>
+    ensures { OnOk result (string_bytes out.new ≡ string_bytes out.old ++ share_words share) }
+{
+    match share {
+        Share::No => out.push_str("no image fails"),
+        Share::More => out.push_str("more"),
+        Share::All => out.push_str("all of them"),
+        _ => write!(out, "up to 1 in {}", one_in(share)),
+    }
+}
+
+/// Appends a share to the legend.
+#[tactic(auto, unfolding(crate::specs::Shares::key_text))]
+fn put_key(out: &mut String, share: Share) -> Result<(), AllocError>
+    ensures { OnOk result (string_bytes out.new ≡ string_bytes out.old ++ key_text share) }
+{
+    put(out, Piece::KeyOpen)?;
+    put_class(out, share)?;
+    put(out, Piece::KeyColour)?;
+    put_words(out, share)?;
+    put(out, Piece::KeyClose)
+}
+
+/// Appends what the colours and lines in a row of entries mean.
+#[tactic(auto, unfolding(crate::specs::Shares::legend_text))]
+pub(crate) fn put_legend(out: &mut String) -> Result<(), AllocError>
+    ensures { OnOk result (string_bytes out.new ≡ string_bytes out.old ++ legend_text) }
+{
+    put(out, Piece::Legend)?;
+    put_key(out, Share::No)?;
+    put_key(out, Share::Hundredth)?;
+    put_key(out, Share::Tenth)?;
+    put_key(out, Share::Half)?;
+    put_key(out, Share::More)?;
+    put_key(out, Share::All)?;
+    put(out, Piece::LegendClose)
+}

@@ -1,0 +1,4 @@
+-- Lemmas of the crate.
+pub mod Plain
+pub mod Words
+pub mod Read

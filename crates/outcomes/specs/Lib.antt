@@ -1,0 +1,2 @@
+-- What programs end in.
+pub mod Outcomes

@@ -1,3 +1,0 @@
--- Pairs of entries that explain failing images.
-pub mod Pairs
-pub mod Offers

@@ -1,0 +1,56 @@
+//! The flushes that are missing for the failing lines of a run: those of the first round of a cure (docs/CRASH-MODEL.md, Where a
+//! flush helps).
+
+ghost use Rattle.std.specs.Prelude.{◌≡◌, length, IfOk};
+ghost use Rattle.flushes.specs.Places.{AreWindows};
+ghost use Rattle.cure.specs.Failures.{AreFailures, windows_in};
+ghost use Rattle.lines.specs.Marks.{marks_of};
+ghost use Rattle.runs.specs.Why.{IsMissing};
+ghost use Rattle.runs.specs.Tasks.{lines_of};
+
+use crate::task::Findings;
+use cure::{Failure, failures_of, windows_of};
+use flushes::{MissingFlush, missing_flushes};
+use lines::Mark;
+use std::alloc::{AllocError, Global};
+use workers::lines_are_set;
+
+/// The failures of a run, and the flushes that are missing for them.
+#[derive(Drop)]
+pub(crate) struct Missing {
+    pub(crate) failures: Vec<Failure>,
+    pub(crate) flushes: Vec<MissingFlush>,
+}
+
+/// The failures of what was found, by the marks of its failing lines.
+pub(crate) fn failures_found(
+    alloc: Global,
+    findings: &Findings<'_>,
+    marks: &[Mark],
+) -> Result<Vec<Failure>, AllocError>
+    requires lines { findings.now.work.now.lines ≡ lines_of findings.now.task.now }
+    requires marks { marks.now ≡ marks_of findings.now.work.now.lines }
+    ensures failures { IfOk result (λ fs. AreFailures findings.now.starts.now.plan.by findings.now.starts.now.plan.log.entries findings.now.work.now.lines fs.items) }
+    ensures inside { IfOk result (λ fs. AreWindows (length findings.now.task.now.log.now.entries) (windows_in fs.items)) }
+{
+    // A law of the failing lines, which does nothing: each is of an image of the run.
+    lines_are_set();
+    let task = findings.task;
+    failures_of(alloc, task.options.by(), findings.starts, task.log, marks)
+}
+
+/// The failures of what was found, by the marks of its failing lines, and the flushes that are missing for them.
+pub(crate) fn missing_of(
+    alloc: Global,
+    findings: &Findings<'_>,
+    marks: &[Mark],
+) -> Result<Missing, AllocError>
+    requires lines { findings.now.work.now.lines ≡ lines_of findings.now.task.now }
+    requires marks { marks.now ≡ marks_of findings.now.work.now.lines }
+    ensures { IfOk result (λ m. IsMissing findings.now.starts.now findings.now.work.now.lines m.failures.items m.flushes.items) }
+{
+    let failures = failures_found(alloc, findings, marks)?;
+    let windows = windows_of(alloc, failures.as_slice())?;
+    let flushes = missing_flushes(alloc, windows.as_slice(), findings.task.log.entries().len())?;
+    Ok(Missing { failures, flushes })
+}

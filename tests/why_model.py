@@ -1,0 +1,76 @@
+"""What `why` prints once more, in the plainest form, written from docs/REPORT.md, 'The text of `why`'."""
+from dataclasses import dataclass
+
+from model import departures_of, failures_of, head, missing_flushes
+
+
+@dataclass(frozen=True)
+class Failing:
+    """A failing image, and what the program ends in on it."""
+
+    image: object
+    outcome: str
+
+    def folded(self):
+        """Which parts are lost and which are torn, however much of them."""
+        return tuple(f"{part.name} {'lost' if fate == 'drop' else 'torn'}" for part, fate in self.image.departures)
+
+
+def judged(image, checker):
+    """The failing image, or none where the program doesn't fail on it."""
+    answer, codes = checker.judge(image)
+    if answer == 0:
+        return None
+    return Failing(image, f"answer {answer} codes {','.join(str(it) for it in codes) or '-'}")
+
+
+def first_part(failing, it):
+    """The first of the failing images of a cut whose departures are some of those of this one."""
+    return next(other for other in failing if departures_of(other.image) <= departures_of(it.image))
+
+
+def folded_groups(failing):
+    """The groups of the failing images of a cut, by their examples: a list of the images of each, the example first."""
+    smallest = [it for it in failing if first_part(failing, it) is it]
+    found = {}
+    for it in failing:
+        own = first_part(failing, it).folded()
+        example = next(other for other in smallest if other.folded() == own)
+        found.setdefault(example, []).append(it)
+    for example, own in found.items():
+        own.sort(key=lambda it: it is not example)
+    return sorted(found.values(), key=lambda own: own[0].image.number)
+
+
+def group_line(own):
+    example = own[0]
+    lost = ", ".join(example.folded()) or "where nothing is lost"
+    count = "1 image" if len(own) == 1 else f"{len(own)} images"
+    same = "all" if all(it.outcome == example.outcome for it in own) else "some"
+    image = example.image
+    return f"group {lost}: {count}, {same} {example.outcome}, as image {image.number} choice {image.choice()}\n"
+
+
+def cut_text(run, cut, program, failing):
+    """The lines of a cut at which a program fails on some images."""
+    text = f"cut {cut} program {program} images {sum(1 for _choice in run.choices(cut))} failing {len(failing)}\n"
+    return text + "".join(group_line(own) for own in folded_groups(failing))
+
+
+def causes(run, checkers):
+    """What `why` prints."""
+    images = list(run.images())
+    failing = [[own for own in (judged(it, checker) for it in images) if own] for checker in checkers]
+    failed = {it.image.number for own in failing for it in own}
+    lines, _failing = failures_of(run, checkers)
+    text = "crash why 2\n" + head(run, checkers, False)
+    text += f"images {len(images)} failing {len(failed)} lines {len(lines)}\n"
+    for number, own in enumerate(failing):
+        uncured = sum(1 for _line, program, window in lines if program == number and window is None)
+        text += f"program {number} failing {len(own)} uncured {uncured}\n"
+    for place, first, count in missing_flushes([window for _line, _program, window in lines if window is not None]):
+        text += f"flush before {place} from {first} failing {count}\n"
+    for number, own in enumerate(failing):
+        for cut in sorted({it.image.cut for it in own}):
+            text += cut_text(run, cut, number, [it for it in own if it.image.cut == cut])
+    return text
