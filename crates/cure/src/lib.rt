@@ -19,7 +19,7 @@
 //! # Place
 //!
 //! On `flushes`, whose windows and places it takes, on `lines`, whose marks tell of which image a failing line is, and on `report`,
-//! whose head it prints. Whoever makes the runs goes on until no failure has a window. No command does that yet.
+//! whose head it prints. `runs` makes the runs, until no failure has a window.
 //!
 //! # The text
 //!
