@@ -14,6 +14,7 @@ ghost use Rattle.runs.specs.Tasks.{lines_of, TellsTask};
 ghost use Rattle.runs.specs.Found.{AreFound};
 ghost use Rattle.runs.specs.Programs.{IsRunWithin, IsCodeFault, IsUnaccepted, code_refusal, verifier_refusal, AreDecoded, AreFirstMade, RefusesOneOf};
 
+use crate::basis::{Basis, worked};
 use crate::causes::causes_text;
 use crate::paging::page_bytes;
 use crate::task::{Findings, Task};
@@ -30,9 +31,7 @@ use std::alloc::{AllocError, Global};
 use std::sync::Wait;
 use std::thread::Threads;
 use verifier::verify;
-use workers::{
-    Asked, Gate, Input, OpenGate, accepted_checkers_run_safely, explore_all, lines_are_set,
-};
+use workers::{Gate, OpenGate, accepted_checkers_run_safely, lines_are_set};
 
 /// What a run answers.
 #[derive(Drop)]
@@ -289,7 +288,7 @@ fn judged<'x, G: Gate + Sync, R: Threads + Wait + Sync>(
     ensures failing { IfOk result (λ e. IsTrue e.failing ↔ (lines_of task.now ≢ [])) }
     ensures refused { IfErr result (RefusesPlan task.now.options.now task.now.log.now) }
 {
-    let (plan, checkers, options, images) = (task.plan, task.checkers, task.options, task.images);
+    let (plan, options) = (task.plan, task.options);
     let history = match History::new(alloc, &*plan, &*task.log) {
         Ok(history) => history,
         Err(_error) => return Err(Refusal::of_memory()),
@@ -299,23 +298,13 @@ fn judged<'x, G: Gate + Sync, R: Threads + Wait + Sync>(
         Ok(starts) => starts,
         Err(_error) => return Err(Refusal::of_memory()),
     };
+    let basis = Basis {
+        task: &*task,
+        starts: &starts,
+        history: &history,
+    };
     let first = is_first_asked(telling, options);
-    let input = Input::new(
-        &*plan,
-        &starts,
-        &history,
-        &*checkers,
-        options.by(),
-        Asked {
-            bound,
-            tears,
-            first,
-            workers: options.workers(),
-            cache: options.cache(),
-            images,
-        },
-    );
-    let work = explore_all(rt, alloc, gate, &input)?;
+    let work = worked(rt, alloc, gate, &basis, first)?;
     let findings = Findings {
         task: &*task,
         starts: &starts,

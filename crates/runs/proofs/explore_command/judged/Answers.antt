@@ -1,14 +1,11 @@
-use Rattle.std.proofs.Common.{◌∙◌, Bool, ap, sym, subst}
+use Rattle.std.proofs.Common.{Bool, subst}
 use Rattle.std.proofs.lemmas.Result.{err_from_is_err_and}
-use Rattle.epochs.specs.Plan.{PlanValue}
 use Rattle.request.specs.Source.{no_plan_memory}
 use Rattle.workers.specs.Failing.{failing_lines}
 use Rattle.runs.specs.Explore.{subject_of}
 use Rattle.runs.specs.Found.{AreFound}
-use Rattle.runs.proofs.Findings.{found_of, fails_of_found}
+use Rattle.runs.proofs.Findings.{fails_of_found}
 use Rattle.runs.proofs.Explained.{starts_made}
-use Rattle.runs.proofs.Fitting.{fit_plan}
-use Rattle.request.proofs.Plans.{counted_of}
 use Rattle.runs.proofs.explore_command.judged.Goals as goal
 
 pub returns-in-Err-clause-refused : goal.returns-in-Err-clause-refused
@@ -17,20 +14,14 @@ returns-in-Err-clause-refused g c = rw c.of_memory.ensures no_plan_memory
 pub returns-in-Err-new-clause-refused : goal.returns-in-Err-new-clause-refused
 returns-in-Err-new-clause-refused g c = rw c.of_memory-in-Err-new.ensures no_plan_memory
 
-pub new-input-requires-clause-by : goal.new-input-requires-clause-by
-new-input-requires-clause-by g c =
+pub invariant_of-basis : goal.invariant_of-basis
+invariant_of-basis g c =
     let task = c.args.task.now in
-    c.by.ensures ∙ sym (ap (λ (p : PlanValue). p.by) task.plan_is)
-
-pub new-input-requires-clause-images : goal.new-input-requires-clause-images
-new-input-requires-clause-images g c =
-    let task = c.args.task.now in
-    counted_of _ _ _ _ _ _ task.images task.plan_is c.bound-bound.ensures.value c.tears-tears.ensures task.count
-
-pub new-input-requires-clause-device : goal.new-input-requires-clause-device
-new-input-requires-clause-device g c =
-    let task = c.args.task.now in
-    fit_plan task.options.now task.log.now task.plan.now task.checkers.now task.plan_is task.device c.requires.verified
+    record {
+      starts_are = starts_made task.options.now task.log.now task.plan.now c.bound-bound.result c.tears-tears.result _ task.plan_is c.bound-bound.ensures.value c.tears-tears.ensures
+          c.in-Ok-new.ensures;
+      history_is = c.in-Ok.ensures;
+    }
 
 pub returns-in_err-work-clause-refused : goal.returns-in_err-work-clause-refused
 returns-in_err-work-clause-refused g c =
@@ -50,8 +41,7 @@ pub told-requires-clause-lines : goal.told-requires-clause-lines
 told-requires-clause-lines g c =
     let task = c.args.task.now in
     subst (λ (b : Bool). AreFound b (failing_lines (subject_of task.options.now task.log.now task.checkers.now)) c.in_ok-work.work.lines) c.is_first_asked-first.ensures
-    (found_of task.options.now task.log.now task.checkers.now _ _ _ _ c.new-input.result c.in_ok-work.work.lines
-    task.plan_is c.bound-bound.ensures.value c.tears-tears.ensures c.new-input.ensures c.in_ok-work.ensures.whole c.in_ok-work.ensures.first)
+    c.in_ok-work.ensures.lines
 
 pub returns-clause-refused : goal.returns-clause-refused
 returns-clause-refused g c = rw c.of_memory-in-Err-told.ensures no_plan_memory
@@ -59,7 +49,4 @@ returns-clause-refused g c = rw c.of_memory-in-Err-told.ensures no_plan_memory
 pub returns-in-Ok-told-clause-failing : goal.returns-in-Ok-told-clause-failing
 returns-in-Ok-told-clause-failing g c =
     let task = c.args.task.now in
-    fails_of_found task.options.now task.log.now task.checkers.now _ c.in_ok-work.work.lines c.is_empty.result
-    (found_of task.options.now task.log.now task.checkers.now _ _ _ _ c.new-input.result c.in_ok-work.work.lines
-    task.plan_is c.bound-bound.ensures.value c.tears-tears.ensures c.new-input.ensures c.in_ok-work.ensures.whole c.in_ok-work.ensures.first)
-    c.is_empty.ensures
+    fails_of_found task.options.now task.log.now task.checkers.now _ c.in_ok-work.work.lines c.is_empty.result c.in_ok-work.ensures.lines c.is_empty.ensures
