@@ -56,8 +56,8 @@ Exit status: 0 where no image fails, 1 where one does, 2 for a refusal.";
 
 /// What stands behind the help of `why`.
 const AFTER_WHY: &str =
-    "For each program the cuts at which it fails, and of each the smallest failing choices: those of which
-no part fails. Each failing image is counted under the first of them that is a part of its own choice.
+    "The flushes that are missing, and for each program the cuts at which it fails. The failing images of a cut
+stand in groups: in the images of a group the same parts are lost and the same parts are torn.
 
 Example: crashbpf why disk.log check.bpf --sectors 64 --cuts flush --bound 2 --tears
 
