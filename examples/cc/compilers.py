@@ -17,6 +17,7 @@ AS_WRITTEN = ["-mllvm", "-disable-lsr"]
 
 
 def run(words, **how):
+    how["env"] = {**os.environ, "LC_ALL": "C"}
     return subprocess.run([str(it) for it in words], capture_output=True, text=True, **how)
 
 
@@ -75,9 +76,9 @@ class Clang:
             f'if (0) {{ spent_: __asm__ volatile("r1 = {code}\\n\\tcall 4\\n\\tr0 = {answer}\\n\\texit" : : : {clobbered}); }}'
         )
 
-    def lines(self, path, section):
-        """For each slot the file, the line and the instruction."""
-        done = run([self.objdump, "-d", "-l", "--no-show-raw-insn", "-j", section, path])
+    def lines(self, path, object_, section):
+        """For each slot of a section, given by its number, the file, the line and the instruction."""
+        done = run([self.objdump, "-d", "-l", "--no-show-raw-insn", "-j", object_.sections[section].name, path])
         found, file, line = {}, "", 0
         for it in done.stdout.split("\n"):
             place = re.match(r"; (.*):(\d+)$", it)
@@ -124,21 +125,46 @@ class Gcc:
             f'if (0) {{ spent_: __asm__ volatile("mov %%r1,{code}\\n\\tcall 4\\n\\tmov %%r0,{answer}\\n\\texit" : : : {clobbered}); }}'
         )
 
-    def lines(self, path, section):
-        """As of clang. The places are those of all sections, which begin at 0; a checker's file has one, mostly."""
-        places = {}
-        for it in run([self.readelf, "-W", "--debug-dump=decodedline", path]).stdout.split("\n"):
-            row = re.match(r"(\S+)\s+(\d+)\s+(0x[0-9a-f]+|0)\b", it)
-            if row:
-                places[int(row[3], 16) // SLOT] = (row[1], int(row[2]))
+    def lines(self, path, object_, section):
+        """As of clang."""
+        listing = run([self.readelf, "-W", "--debug-dump=decodedline", path]).stdout
+        places = places_of(object_, section, runs_of_rows(listing))
         found, place = {}, ("", 0)
-        for it in run([self.objdump, "-d", "--no-show-raw-insn", "-j", section, path]).stdout.split("\n"):
+        listing = run([self.objdump, "-d", "--no-show-raw-insn", "-j", object_.sections[section].name, path]).stdout
+        for it in listing.split("\n"):
             instruction = re.match(r"\s*([0-9a-f]+):\s+(.*)", it)
             if instruction:
                 slot = int(instruction[1], 16) // SLOT
                 place = places.get(slot, place)
                 found[slot] = (*place, " ".join(instruction[2].split()))
         return found
+
+
+def runs_of_rows(listing):
+    """The runs of rows of a line table, one for each function: the places at their slots, and where it ends."""
+    found, rows = [], {}
+    for it in listing.split("\n"):
+        row = re.match(r"(\S+)\s+(\d+|-)\s+(0x[0-9a-f]+|0)\b", it)
+        if row and row[2] != "-":
+            rows[int(row[3], 16) // SLOT] = (row[1], int(row[2]))
+        elif row and rows:
+            found.append((rows, int(row[3], 16) // SLOT))
+            rows = {}
+    return found
+
+
+def places_of(object_, section, runs):
+    """The places of a section's slots. Its addresses aren't filled in, so a function's run is told by where it begins and
+    ends, and of several such runs by the order of the sections."""
+    places = {}
+    for it in sorted(object_.functions(), key=lambda it: (it.section, it.value)):
+        ends = it.value // SLOT, (it.value + it.size) // SLOT
+        own = next((at for at, (rows, end) in enumerate(runs) if (min(rows), end) == ends), None)
+        if own is not None:
+            rows, _ = runs.pop(own)
+            if it.section == section:
+                places.update(rows)
+    return places
 
 
 def same_file(one, other):
