@@ -12,13 +12,12 @@ use Rattle.report.specs.declared.head.ProgramHead.{ProgramHead}
 use Rattle.report.specs.Report.{HeadValue}
 use Rattle.why.specs.declared.cut.CutFailures.{CutFailures}
 use Rattle.why.specs.declared.group.Group.{Group}
-use Rattle.crash_page.specs.declared.cut.Showing.{Showing}
 use Rattle.crash_page.specs.declared.program.ProgramFailures.{ProgramFailures}
 use Rattle.crash_page.specs.Shares.{legend_text}
 use Rattle.crash_page.specs.Lacking.{advice_text}
 use Rattle.crash_page.specs.Entries.{cells_text}
 use Rattle.crash_page.specs.Cells.{count_text, failing_class, failing_link, failing_title, failing_text, cut_cell, strip_from}
-use Rattle.crash_page.specs.Groups.{groups_text, first_text, stand_text, bar_text, cut_open, cut_body, cut_head, rest_text, shown_of, most_of_cut, cut_shown, cut_text, showing, cuts_text}
+use Rattle.crash_page.specs.Groups.{groups_text, first_text, stand_text, bar_text, cut_open, cut_body, cut_head, rest_text, shown_of, most_of_cut, cut_shown, cut_text, cuts_text}
 use Rattle.crash_page.specs.Page.{fails, bad_text, judged_text, verdict_text, strip_open, strip_text, title_text, summary_text, outcomes_of, most_of_program, program_text, programs_text, page_text}
 use Rattle.runs.specs.Paged.{own_failures, IsFailing, AreFailing, about_run, IsPageOf}
 use Rattle.commands.proofs.Alike.{AreAlike, alike}
@@ -64,24 +63,28 @@ join_three : (a b c d e f : List ℕ) → a ≡ b → c ≡ d → e ≡ f → a 
 join_three a b c d e f first second third = λ i. first i ++ second i ++ third i
 
 -- the head of a cut, by its groups
-same_head : (s : StartsValue) (how : Showing) (c d : CutFailures) → SameCut c d → cut_head s how c ≡ cut_head s how d
+same_head : (s : StartsValue) (program : ℕ) (is_open : Bool) (groups : ℕ) (c d : CutFailures) → SameCut c d
+    → cut_head s (record { program = program; is_open = is_open; groups = groups }) c ≡ cut_head s (record { program = program; is_open = is_open; groups = groups }) d
 unfolding count_text stand_text bar_text cut_open cut_body cut_head
-same_head s how c d h =
-    by_groups (cut_head s how) c d h
-    (join_row (cut_open how.is_open c) (stand_text s c) (bar_text c) (first_text s c.groups.items) (first_text s d.groups.items) (cut_body how.program c) (ap (first_text s) h.groups))
+same_head s program is_open groups c d h =
+    by_groups (cut_head s (record { program = program; is_open = is_open; groups = groups })) c d h
+    (join_row (cut_open is_open c) (stand_text s c) (bar_text c) (first_text s c.groups.items) (first_text s d.groups.items) (cut_body program c) (ap (first_text s) h.groups))
 
 -- a cut with so many of its groups
-same_shown : (s : StartsValue) (outcomes : List (List ℕ)) (how : Showing) (c d : CutFailures) → SameCut c d → cut_shown s outcomes how c ≡ cut_shown s outcomes how d
+same_shown : (s : StartsValue) (outcomes : List (List ℕ)) (program : ℕ) (is_open : Bool) (groups : ℕ) (c d : CutFailures) → SameCut c d
+    → cut_shown s outcomes (record { program = program; is_open = is_open; groups = groups }) c ≡ cut_shown s outcomes (record { program = program; is_open = is_open; groups = groups }) d
 unfolding cut_shown
-same_shown s outcomes how c d h =
-    join_shown (cut_head s how c) (cut_head s how d) (groups_text s outcomes how.is_open (take how.groups c.groups.items)) (groups_text s outcomes how.is_open (take how.groups d.groups.items))
-    (rest_text (length c.groups.items - how.groups)) (rest_text (length d.groups.items - how.groups)) _ (same_head s how c d h)
-    (ap (λ (gs : List Group). groups_text s outcomes how.is_open (take how.groups gs)) h.groups) (ap (λ (gs : List Group). rest_text (length gs - how.groups)) h.groups)
+same_shown s outcomes program is_open groups c d h =
+    join_shown (cut_head s (record { program = program; is_open = is_open; groups = groups }) c) (cut_head s (record { program = program; is_open = is_open; groups = groups }) d)
+    (groups_text s outcomes is_open (take groups c.groups.items)) (groups_text s outcomes is_open (take groups d.groups.items))
+    (rest_text (length c.groups.items - groups)) (rest_text (length d.groups.items - groups)) _ (same_head s program is_open groups c d h)
+    (ap (λ (gs : List Group). groups_text s outcomes is_open (take groups gs)) h.groups) (ap (λ (gs : List Group). rest_text (length gs - groups)) h.groups)
 
-same_cut_text : (s : StartsValue) (outcomes : List (List ℕ)) (how : Showing) (c d : CutFailures) → SameCut c d → cut_text s outcomes how c ≡ cut_text s outcomes how d
-same_cut_text s outcomes how c d h =
+same_cut_text : (s : StartsValue) (outcomes : List (List ℕ)) (program : ℕ) (is_open : Bool) (groups : ℕ) (c d : CutFailures) → SameCut c d
+    → cut_text s outcomes (record { program = program; is_open = is_open; groups = groups }) c ≡ cut_text s outcomes (record { program = program; is_open = is_open; groups = groups }) d
+same_cut_text s outcomes program is_open groups c d h =
     let failing : c.failing ≡ d.failing = h.failing in
-    let text = same_shown s outcomes how c d h in
+    let text = same_shown s outcomes program is_open groups c d h in
     λ i. if failing i == 0 then [] else text i
 
 same_cuts_text : (s : StartsValue) (outcomes : List (List ℕ)) (program : ℕ) (is_first : Bool) (left : ℕ) (cs ds : List CutFailures) → AreAlike SameCut cs ds
@@ -91,8 +94,9 @@ same_cuts_text s outcomes program is_first left [] (d ∷ ds) h = absurd h
 same_cuts_text s outcomes program is_first left (c ∷ cs) [] h = absurd h
 same_cuts_text s outcomes program is_first left (c ∷ cs) (d ∷ ds) h =
     let shown : shown_of left c ≡ shown_of left d = ap (λ (gs : List Group). length (take left (take most_of_cut gs))) h.0.groups in
-    let how : showing program is_first left c ≡ showing program is_first left d = λ i. record { program = program; is_open = is_first; groups = shown i } in
-    let first = same_cut_text s outcomes (showing program is_first left c) c d h.0 ∙ ap (λ (w : Showing). cut_text s outcomes w d) how in
+    let first =
+    same_cut_text s outcomes program is_first (shown_of left c) c d h.0
+    ∙ ap (λ n. cut_text s outcomes (record { program = program; is_open = is_first; groups = n }) d) shown in
     let rest =
     same_cuts_text s outcomes program (is_first && c.failing == 0) (left - shown_of left c) cs ds h.1
     ∙ ap (λ n. cuts_text s outcomes program (is_first && c.failing == 0) (left - n) ds) shown

@@ -106,7 +106,15 @@ told_alone telling.Causes text files s bytes failing h =
       source = images_alone h.source;
       checkers = h.checkers;
       made = checkers_alone s files h.checkers h.made;
-      causes = record { causes = h.causes.causes; all = h.causes.all; each = h.causes.each; text = h.causes.text };
+      causes = record {
+        failures = h.causes.failures;
+        missing = h.causes.missing;
+        are_missing = record { failures = h.causes.are_missing.failures; missing = h.causes.are_missing.missing };
+        causes = h.causes.causes;
+        all = h.causes.all;
+        each = h.causes.each;
+        text = h.causes.text;
+      };
       fails = h.fails;
       faultless = h.faultless;
     }
@@ -117,7 +125,13 @@ told_alone telling.Page text files s bytes failing h =
       source = images_alone h.source;
       checkers = h.checkers;
       made = checkers_alone s files h.checkers h.made;
-      page = record { programs = h.page.programs; are = record { all = h.page.are.all; each = h.page.are.each }; page = h.page.page };
+      page = record {
+        failures = h.page.failures;
+        are_failures = h.page.are_failures;
+        programs = h.page.programs;
+        are = record { all = h.page.are.all; named = h.page.are.named; each = h.page.are.each };
+        page = h.page.page;
+      };
       fails = h.fails;
       faultless = h.faultless;
     }
