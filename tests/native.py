@@ -37,6 +37,8 @@ SPENT = 1000000
 # How many images are judged between two looks at what they answered, and how many stand in one log.
 ROUND, LOG = 50, 250
 SECONDS = 120
+# How many answers of a checker are told.
+TOLD = 12
 
 
 @dataclass
@@ -274,7 +276,8 @@ def main():
         for checker, code in jobs(asked, program, folder):
             wrong, answers = compare(program, checker, code, asked.images, folder)
             wrong += known(checker, folder)
-            told = " ".join(f"{answer}:{count}" for answer, count in sorted(answers.items()))
+            told = " ".join(f"{answer}:{times}" for answer, times in answers.most_common(TOLD))
+            told += f" and {len(answers) - TOLD} more" if len(answers) > TOLD else ""
             print(f"    {checker.name()}: answers {told}")
             for line in wrong[:5]:
                 print("FAILED", line, flush=True)
