@@ -12,7 +12,8 @@ sys.dont_write_bytecode = True
 
 from cure_model import cure
 from designs import DESIGNS, EXAMPLES, EXPLAINED, IN_WORDS, checker_of
-from model import causes, explored, shown
+from model import explored, shown
+from why_model import causes
 
 
 def texts():
