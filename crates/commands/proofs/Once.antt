@@ -40,7 +40,7 @@ stand_at_cut listed law s images outcomes place c are is =
     are_choices listed s c.cut (first_at s place) own
     (of_cut s images own c.cut (first_at s place) (first_at s (place + 1)) are refl more) in
     let once = law outcomes (failing_before s images place) own (map (numbers_in s c.cut (first_at s place)) own) c.groups.items choices
-        (length-map own (numbers_in s c.cut (first_at s place))) is.grouped in
+    (length-map own (numbers_in s c.cut (first_at s place))) is.grouped in
     record { numbers = once.adds_up ∙ sym is.fails; once = once }
 
 -- and all of them at the cuts

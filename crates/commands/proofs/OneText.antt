@@ -60,9 +60,9 @@ one_explanation h s ls bytes others a b =
     let missing : a.missing ≡ b.missing =
     same_missing (windows_in a.failures) a.missing b.missing a.are_missing.missing (subst (λ (ws : List Window). AreMissing ws b.missing) (sym windows) b.are_missing.missing) in
     let causes = alike (AreAlike SameCut) a.causes b.causes (a.all ∙ sym b.all)
-        (λ program c d p q. same_cuts s (images_failing program ls) (outcomes_failing program ls) c d (a.each program c p) (b.each program d q)) in
+    (λ program c d p q. same_cuts s (images_failing program ls) (outcomes_failing program ls) c d (a.each program c p) (b.each program d q)) in
     let same = same_programs s ls 0 a.causes b.causes causes in
     let text : why_head h ls ++ missing_text (length h.programs) a.failures a.missing ++ causes_from s ls 0 a.causes
-        ≡ why_head h ls ++ missing_text (length h.programs) b.failures b.missing ++ causes_from s ls 0 b.causes =
+    ≡ why_head h ls ++ missing_text (length h.programs) b.failures b.missing ++ causes_from s ls 0 b.causes =
     λ i. why_head h ls ++ missing_text (length h.programs) (failures i) (missing i) ++ same i in
     a.text ∙ text ∙ sym b.text

@@ -56,7 +56,14 @@ fn put_causes(
     let images = images_of_program(alloc, reading.marks, program)?;
     let outcomes = outcomes_of(alloc, reading.text, reading.marks, program)?;
     let cuts = failures(alloc, starts, images.as_slice(), outcomes.as_slice())?;
-    put_cuts(out, by, starts, outcomes.as_slice(), program, cuts.as_slice())
+    put_cuts(
+        out,
+        by,
+        starts,
+        outcomes.as_slice(),
+        program,
+        cuts.as_slice(),
+    )
 }
 
 /// Appends what fails of each program at each cut.

@@ -11,9 +11,10 @@ use Rattle.runs.proofs.paging.all_failures.Goals as goal
 pub loop-program-init : goal.loop-program-init
 loop-program-init c =
     let none : c.new-found.result.items ≡ [] = search rules in
-    let s = c.args.reading.now.findings.now.starts.now in
-    (failing_none s (images_marked c.args.reading.now.marks.now) c.args.reading.now.findings.now.work.now.lines c.args.heads.now c.args.failures.now c.new-found.result.items none,
-    taken_none s c.new-found.result.items none)
+    let s = c.args.reading.now.findings.now.starts.now in (
+      failing_none s (images_marked c.args.reading.now.marks.now) c.args.reading.now.findings.now.work.now.lines c.args.heads.now c.args.failures.now c.new-found.result.items none,
+      taken_none s c.new-found.result.items none,
+    )
 
 pub loop-program-preserved : goal.loop-program-preserved
 loop-program-preserved c =
@@ -24,9 +25,10 @@ loop-program-preserved c =
     let f : ProgramFailures = c.in_ok-failing.failing in
     let head : slice_get c.args.heads.now n ≡ Some f.head =
     slice_get-get_or c.args.heads.now n _ c.loop-program-test.true ∙ sym (ap (λ (h : ProgramHead). Some h) c.in_ok-failing.ensures.head) in
-    subst (λ (fs : List ProgramFailures). AreFailing s (images_marked reading.marks.now) ls c.args.heads.now c.args.failures.now (n + 1) fs × All (AreOfRun s) fs) (sym c.in_ok-push_failures.ensures)
-    (failing_more s (images_marked reading.marks.now) ls c.args.heads.now c.args.failures.now n c.loop-program.found.items f c.loop-program.invariant.0 head c.in_ok-failing.ensures.failing,
-    taken_more s c.loop-program.found.items f c.loop-program.invariant.1 c.in_ok-failing.ensures.taken)
+    subst (λ (fs : List ProgramFailures). AreFailing s (images_marked reading.marks.now) ls c.args.heads.now c.args.failures.now (n + 1) fs × All (AreOfRun s) fs) (sym c.in_ok-push_failures.ensures) (
+      failing_more s (images_marked reading.marks.now) ls c.args.heads.now c.args.failures.now n c.loop-program.found.items f c.loop-program.invariant.0 head c.in_ok-failing.ensures.failing,
+      taken_more s c.loop-program.found.items f c.loop-program.invariant.1 c.in_ok-failing.ensures.taken,
+    )
 
 pub program_failures-requires-clause-images : goal.program_failures-requires-clause-images
 program_failures-requires-clause-images c = c.requires.images c.loop-program.program
