@@ -5,8 +5,8 @@ _crashbpf() {
     [ "$word" != = ] || word=
     [ "$before" != = ] || before=${COMP_WORDS[COMP_CWORD - 2]}
     case "$COMP_CWORD ${COMP_WORDS[1]} $before" in
-    1\ *) words='explore why page images image show log verify asm list help -h --help -V --version' ;;
-    *\ help\ *) words='explore why page images image show log verify asm list help' ;;
+    1\ *) words='explore why cure page images image show log verify asm list help -h --help -V --version' ;;
+    *\ help\ *) words='explore why cure page images image show log verify asm list help' ;;
     *\ explore\ --cuts) words='all flush mark' ;;
     *\ explore\ --by) words='sector write' ;;
     *\ explore\ --sectors|*\ explore\ --flush|*\ explore\ --from|*\ explore\ --to|*\ explore\ --bound|*\ explore\ --workers|*\ explore\ --cache|*\ explore\ --checked) return ;;
@@ -15,6 +15,10 @@ _crashbpf() {
     *\ why\ --by) words='sector write' ;;
     *\ why\ --sectors|*\ why\ --flush|*\ why\ --from|*\ why\ --to|*\ why\ --bound|*\ why\ --workers|*\ why\ --cache|*\ why\ --checked) return ;;
     *\ why\ *) [[ $word != -* ]] || words='--sectors --flush --cuts --from --to --bound --tears --by --workers --cache --checked --progress -h --help' ;;
+    *\ cure\ --cuts) words='all flush mark' ;;
+    *\ cure\ --by) words='sector write' ;;
+    *\ cure\ --sectors|*\ cure\ --flush|*\ cure\ --from|*\ cure\ --to|*\ cure\ --bound|*\ cure\ --workers|*\ cure\ --cache|*\ cure\ --checked) return ;;
+    *\ cure\ *) [[ $word != -* ]] || words='--sectors --flush --cuts --from --to --bound --tears --by --workers --cache --checked --progress -h --help' ;;
     *\ page\ --cuts) words='all flush mark' ;;
     *\ page\ --by) words='sector write' ;;
     *\ page\ --sectors|*\ page\ --flush|*\ page\ --from|*\ page\ --to|*\ page\ --bound|*\ page\ --workers|*\ page\ --cache|*\ page\ --checked) return ;;
