@@ -158,7 +158,7 @@ def first_crash():
     text = (TOP / "README.md").read_text()
     checker = re.search(r"<<'END'\n(.*?)\nEND\n", text, re.S)
     command = re.search(r"why (?:\S*/)?wrong\.log (?:\S*/)?check\.bpf (--[^)\n]*)", text)
-    printed = re.search(r"(?:^    .*\n)*^    crash causes (?:.*\n)(?:^    .*\n)*", text, re.M)
+    printed = re.search(r"(?:^    .*\n)*^    crash why (?:.*\n)(?:^    .*\n)*", text, re.M)
     if not (checker and command and printed):
         sys.exit("README.md has no first crash as this test looks for it: see first_crash")
     return checker[1], command[1].split(), printed[0].replace("\n    ", "\n").removeprefix("    ")
