@@ -187,16 +187,16 @@ def runs(path, install, prefix, folder):
         shutil.copy(library, root / library[1:])
     checker, options, printed = first_crash()
     examples = root / prefix / "share/crashbpf/examples"
-    (root / "tmp").mkdir()
+    (root / "home").mkdir()
     if shutil.which("clang"):
-        (root / "tmp/check.c").write_text(checker)
-        done = run([root / prefix / "bin/crashbpf-cc", root / "tmp/check.c", "check", root / "tmp/check.bpf"], cwd=folder)
+        (root / "home/check.c").write_text(checker)
+        done = run([root / prefix / "bin/crashbpf-cc", root / "home/check.c", "check", root / "home/check.bpf"], cwd=folder)
         found += [] if done.returncode == 0 else [f"crashbpf-cc ended with {done.returncode}: {done.stderr}"]
     else:
         print("not run: crashbpf-cc, since there is no clang; the stored bytes are taken")
-        shutil.copy(examples / "two_slots/checker_c.bpf", root / "tmp/check.bpf")
+        shutil.copy(examples / "two_slots/checker_c.bpf", root / "home/check.bpf")
     log = f"/{prefix}/share/crashbpf/examples/two_slots/wrong.log"
-    done = run(in_root(root, [f"/{prefix}/bin/crashbpf", "why", log, "/tmp/check.bpf", *options]), env={})
+    done = run(in_root(root, [f"/{prefix}/bin/crashbpf", "why", log, "/home/check.bpf", *options]), env={})
     without = [[it for it in text.splitlines() if not it.startswith("program 0 slots")] for text in (done.stdout, printed)]
     return found + differs("the output", *without) + differs("the status", done.returncode, 1)
 
