@@ -36,6 +36,7 @@ def stored():
     """The sources, functions and stored bytes."""
     for folder in ["two_slots", "tree", "double_write"]:
         yield f"examples/{folder}/checker.c", "check", TOP / f"examples/{folder}/checker_c.bpf"
+    yield TOP / "examples/tree/root.c", "check", TOP / "examples/tree/root.bpf"
     for path in sorted((TOP / "examples/checkers").glob("*.c")):
         yield path, "check", path.with_suffix(".bpf")
     yield TOP / "examples/recording/ext4.c", "check", TOP / "examples/recording/ext4.bpf"

@@ -8,9 +8,9 @@ its files and another mask of modes, and have to be the same bytes.
 
 Then each is installed in a clean root, a folder with nothing else but the C libraries that the package asks for: the Debian
 package by dpkg, or unpacked where there is no dpkg, and the tar file below usr/local. From the installed files alone the first
-crash of README.md is run there, by chroot. Its checker is compiled by the installed `crashbpf-cc` where clang is there, and
-else the stored bytes are taken. What it prints has to be what README.md says, but for the line with the checker's slots and
-budget, which the compiler decides. Where there is no right to call chroot the program is run by its path.
+crash of README.md is run there, by chroot, and then its commands for the built program. Each line that README.md shows has to
+be printed. Where clang is there the checker is compiled once more by the installed `crashbpf-cc`, and has to find the same: only
+its numbers of slots and steps are the compiler's. Where there is no right to call chroot the program is run by its path.
 
 Of the completions bash is asked what it completes; zsh and fish, where they are there, read theirs alone. For what isn't there
 a line says so.
@@ -110,7 +110,8 @@ def holds(made):
     found += differs("what one of both alone holds", names[".deb"] ^ names[".gz"], set())
     wanted = {"bin/crashbpf", "bin/crashbpf-cc", "share/man/man1/crashbpf.1.gz", "share/doc/crashbpf/copyright"}
     wanted |= {"share/bash-completion/completions/crashbpf", "share/fish/vendor_completions.d/crashbpf.fish", "share/zsh/site-functions/_crashbpf"}
-    wanted |= {f"share/crashbpf/{it}" for it in ("README.md", "docs/REPORT.md", "examples/checker.h", "examples/two_slots/wrong.log")}
+    shown = ("README.md", "docs/REPORT.md", "docs/page.png", "examples/checker.h", "examples/tree/root.c", "examples/tree/wrong.log")
+    wanted |= {f"share/crashbpf/{it}" for it in shown}
     return found + differs("what is missing", wanted - names[".gz"], set())
 
 
@@ -153,15 +154,30 @@ def install_tar(path, root):
     return differs("tar's status", done.returncode, 0)
 
 
+def column(text, head):
+    """Returns the code in the first column of the table of README.md with this head."""
+    rows = re.search(rf"(?m)^\| {head} \|.*\n\|--.*\n((?:\|.*\n)+)", text)
+    return re.findall(r"(?m)^\| `(.*?)` \|", rows[1]) if rows else []
+
+
 def first_crash():
-    """Returns the checker, the options and what is printed, as README.md has them."""
+    """Returns the words of the first crash as README.md has them, the lines that it prints first, and the commands that follow."""
     text = (TOP / "README.md").read_text()
-    checker = re.search(r"<<'END'\n(.*?)\nEND\n", text, re.S)
-    command = re.search(r"why (?:\S*/)?wrong\.log (?:\S*/)?check\.bpf (--[^)\n]*)", text)
-    printed = re.search(r"(?:^    .*\n)*^    crash why (?:.*\n)(?:^    .*\n)*", text, re.M)
-    if not (checker and command and printed):
+    checker = re.search(r"```c\n(.*?)```", text, re.S)
+    command = re.search(r"-- (why wrong\.log root\.bpf --[^)\n]*)", text)
+    printed = column(text, "Line")
+    follow = re.findall(r"(?m)^    crashbpf (.*?)(?: > \S*)?$", text)
+    if not (checker and command and printed and follow):
         sys.exit("README.md has no first crash as this test looks for it: see first_crash")
-    return checker[1], command[1].split(), printed[0].replace("\n    ", "\n").removeprefix("    ")
+    if checker[1] not in (TOP / "examples/tree/root.c").read_text():
+        sys.exit("the checker of README.md isn't that of examples/tree/root.c")
+    return command[1].split(), printed, [it.split() for it in follow]
+
+
+def not_begun(lines, wanted):
+    """What is wrong with the first lines of an output, but for the checker's slots and steps, which are the compiler's."""
+    without = [[it for it in list(text)[: len(wanted)] if not it.startswith("program 0 slots")] for text in (lines, wanted)]
+    return differs("the output", *without)
 
 
 def in_root(root, words):
@@ -185,20 +201,34 @@ def runs(path, install, prefix, folder):
     for library in libraries(program):
         (root / library[1:]).parent.mkdir(parents=True, exist_ok=True)
         shutil.copy(library, root / library[1:])
-    checker, options, printed = first_crash()
-    examples = root / prefix / "share/crashbpf/examples"
+    words, printed, follow = first_crash()
+    examples = f"/{prefix}/share/crashbpf/examples"
     (root / "home").mkdir()
-    if shutil.which("clang"):
-        (root / "home/check.c").write_text(checker)
-        done = run([root / prefix / "bin/crashbpf-cc", root / "home/check.c", "check", root / "home/check.bpf"], cwd=folder)
-        found += [] if done.returncode == 0 else [f"crashbpf-cc ended with {done.returncode}: {done.stderr}"]
-    else:
-        print("not run: crashbpf-cc, since there is no clang; the stored bytes are taken")
-        shutil.copy(examples / "two_slots/checker_c.bpf", root / "home/check.bpf")
-    log = f"/{prefix}/share/crashbpf/examples/two_slots/wrong.log"
-    done = run(in_root(root, [f"/{prefix}/bin/crashbpf", "why", log, "/home/check.bpf", *options]), env={})
-    without = [[it for it in text.splitlines() if not it.startswith("program 0 slots")] for text in (done.stdout, printed)]
-    return found + differs("the output", *without) + differs("the status", done.returncode, 1)
+    places = {"wrong.log": f"{examples}/tree/wrong.log", "root.bpf": f"{examples}/tree/root.bpf"}
+    places |= {"$LOGS/wrong.log": places["wrong.log"], "examples/tree/root.bpf": places["root.bpf"]}
+
+    def call(words, **other):
+        return run(in_root(root, [f"/{prefix}/bin/crashbpf", *((places | other).get(it, it) for it in words)]), env={})
+
+    done = call(words)
+    found += differs("the first lines", done.stdout.splitlines()[: len(printed)], printed) + differs("the status", done.returncode, 1)
+    told = done.stdout
+    for words_of in follow:
+        done = call(words_of)
+        found += differs(f"the status of {words_of[0]}", done.returncode, int(words_of[0] != "show"))
+        told += done.stdout
+    for line in column((TOP / "README.md").read_text(), "It prints"):
+        begun = line.removesuffix("..")
+        if not any(it == line or begun != line and it.startswith(begun) for it in told.splitlines()):
+            found.append(f"nothing prints {line!r}")
+    if not shutil.which("clang"):
+        print("not run: crashbpf-cc, since there is no clang")
+        return found
+    tool, source = root / prefix / "bin/crashbpf-cc", root / examples[1:] / "tree/root.c"
+    done = run([tool, source, "check", root / "home/check.bpf"], cwd=folder)
+    if done.returncode:
+        return [*found, f"crashbpf-cc ended with {done.returncode}: {done.stderr}"]
+    return found + not_begun(call(words, **{"root.bpf": "/home/check.bpf"}).stdout.splitlines(), printed)
 
 
 # What bash completes behind words, the last of which is begun; as the help of the commands has it.

@@ -6,15 +6,12 @@
 
 u64 check(const struct context *context)
 {
-	const u64 *header = sector(0), *root;
+	const u64 *header = SECTOR(0, return 2), *root = sector(header[1]);
 
-	if (!header)
-		return 2;			/* the device has no sector */
 	if (header[0] == 0)
-		return 0;			/* nothing was committed yet */
-	root = sector(header[1]);
+		return 0;		/* nothing was committed yet */
 	if (root && mix(header[1]) == 1 && root[0] == header[0])
-		return 0;			/* the root node is whole, and of this commit */
+		return 0;		/* the root node is whole, and of this commit */
 	report(header[0]);
-	return 1;				/* this commit is broken */
+	return 1;			/* this commit is broken */
 }
