@@ -10,8 +10,8 @@ The documents are the files *.md at the top (the folder above this one, or TOP) 
 - A document that is named by its file, as docs/MAP.md or MAP.md, exists. This is asked of the crates' sources and
   definitions too.
 - Each run of table rows begins with a head and a line of dashes, so no blank line cuts a table in two.
-- README.md has at most 160 lines.
-- README.md and the documents in docs/ and examples/ have no more long sentences than LONG allows. With --long they are
+- README.md has at most 130 lines of at most 100 characters, and at most 1,300 words with code and tables.
+- The documents at the top and in docs/ and examples/ have no more long sentences than LONG allows. With --long they are
   printed, each with its file, line and number of words, and nothing else is looked at. A name or a piece of code in
   backticks is one word. The numbers of LONG only fall: whoever shortens sentences writes down what is left.
 
@@ -21,6 +21,8 @@ In README.md and docs/PROVED.md, moreover, for what stands in backticks and has 
 - A name (identifiers joined by :: or a dot, with -- before it for an option) is known: each of its identifiers is a
   word of the crates' sources or definitions, of their file names, or of crates.txt.
 - Names in parentheses behind a name of a function, as in `read` (`found`, `clean`), are clauses of that function.
+
+In docs/PROVED.md each call and clause that a table names is one of the sources, as tools/ledger.py says it.
 
 docs/PROVED.md lists each definition to which those of ROOTS lead by their `use` lines.
 
@@ -37,10 +39,12 @@ from pathlib import Path
 sys.dont_write_bytecode = True
 
 import completions
+import ledger
 
-LIMIT = 160
+# The most lines of README.md, the most characters of each, and its most words.
+LINES, CHARACTERS, WORDS = 130, 100, 1300
 # How many sentences have more words than the number before it.
-LONG = {40: 98, 60: 21}
+LONG = {40: 28, 60: 0}
 # What stands for a space and a bar of a piece of code, so that it is one word of one cell.
 HIDDEN = {ord(" "): "\0", ord("|"): "\1"}
 SHOWN = {ord("\0"): " ", ord("\1"): "|"}
@@ -126,8 +130,8 @@ def long_sentences(lines, limit):
 
 
 def documents(top):
-    """Returns the documents that people read: README.md, those in docs/, and the pages of the examples."""
-    return [top / "README.md", *sorted((top / "docs").glob("*.md")), *sorted((top / "examples").glob("*.md"))]
+    """Returns the documents that people read: those at the top and in docs/, and the pages of the examples."""
+    return [it for folder in (top, top / "docs", top / "examples") for it in sorted(folder.glob("*.md"))]
 
 
 def clauses_by_function(texts):
@@ -155,6 +159,16 @@ def unknown_names(top, line, words, clauses):
             yield from (f"{function} has no clause {name}" for name in re.findall(r"\w+", names) if name not in known)
 
 
+def too_long(text):
+    """Returns what README.md has too much of, with the number of a line."""
+    lines = text.splitlines()
+    if len(lines) > LINES:
+        yield LINES + 1, f"{len(lines)} lines, and at most {LINES} are allowed"
+    yield from ((number, f"more than {CHARACTERS} characters") for number, line in enumerate(lines, 1) if len(line) > CHARACTERS)
+    if len(text.split()) > WORDS:
+        yield 1, f"{len(text.split())} words, and at most {WORDS} are allowed"
+
+
 def believed(top):
     """Returns the files of definitions to which those of ROOTS lead by their `use` lines."""
     found, last = set(), [it for root in ROOTS for it in (top / "crates" / root / "specs").glob("*.antt") if it.stem != "Lib"]
@@ -177,6 +191,7 @@ def old_completions(top):
 def findings(top):
     """Returns all findings, each with its file and line."""
     yield from ((path, 1, "isn't what tools/completions.py writes") for path in old_completions(top))
+    yield from ((top / "docs/PROVED.md", number, it) for number, it in ledger.findings(top))
     files = list(sources(top))
     texts = [file.read_text() for file in files]
     words = set(re.findall(r"\w+", (top / "crates.txt").read_text()))
@@ -192,8 +207,8 @@ def findings(top):
             yield top / "docs", 1, f"{count} sentences have more than {limit} words, and at most {allowed} are allowed (--long shows them)"
     for path in sorted(it for folder in ("", "docs", "examples", "bench") for it in (top / folder).glob("*.md")):
         lines = prose(path.read_text())
-        if path == top / "README.md" and len(lines) > LIMIT:
-            yield path, LIMIT + 1, f"{len(lines)} lines, and at most {LIMIT} are allowed"
+        if path == top / "README.md":
+            yield from ((path, number, it) for number, it in too_long(path.read_text()))
         yield from ((path, number, "table rows without a head") for number in cut_tables(lines))
         if path == top / "docs" / "PROVED.md":
             text = "\n".join(lines)

@@ -13,8 +13,8 @@ tools/check_documents.py does the same. Of a table with a column named 'Carried 
 
     `crate`: `call` (`clause`, `clause`), `call`; `crate`: `call`
 
-and each call is a public one of its crate with these clauses, or a definition of the crate's specs/, whose fields stand in
-parentheses. Each crate in crates.txt that has a public call with a clause is named in some such cell or in ALONE.
+and each call is a public one of its crate with these clauses, or a definition of the crate's specs/ with a capital letter, whose
+fields stand in parentheses. Each crate in crates.txt that has a public call with a clause is named in some such cell or in ALONE.
 """
 import re
 import sys
@@ -29,7 +29,7 @@ ITEMS = re.compile(r"`([\w:]+)`(?: \(([^)]*)\))?")
 FUNCTION = re.compile(r"(pub(?:\(\w+\))? )?(?:const |unsafe )*fn (\w+)")
 CLAUSE = re.compile(r"ensures(?: (\w+))? \{")
 FIELD = re.compile(r"\s+pub (\w+) :")
-DEFINED = re.compile(r"(?:[a-z]+ )*pub (?:[a-z]+ )*(\w+)(?= |$)")
+DEFINED = re.compile(r"(?:[a-z]+ )*pub (?:[a-z]+ )*([A-Z]\w*)(?= |$)")
 
 
 def crates(top):
@@ -85,7 +85,7 @@ def ledger(top):
 
 
 def definitions(top, crate):
-    """Returns the public definitions of a crate with their fields."""
+    """Returns the public definitions of a crate that begin with a capital letter, with their fields."""
     found, last = {}, None
     for path in sorted((top / "crates" / crate / "specs").glob("*.antt")):
         for line in path.read_text().splitlines():
