@@ -17,7 +17,7 @@ The documents are the files *.md at the top (the folder above this one, or TOP) 
 
 In README.md and docs/PROVED.md, moreover, for what stands in backticks and has no space in it:
 
-- A path (with a slash) exists, seen from the top. A folder out/ is made by a build, and isn't looked into.
+- A path (with a slash, not in front) exists, seen from the top. A folder out/ is made by a build, and isn't looked into.
 - A name (identifiers joined by :: or a dot, with -- before it for an option) is known: each of its identifiers is a
   word of the crates' sources or definitions, of their file names, or of crates.txt.
 - Names in parentheses behind a name of a function, as in `read` (`found`, `clean`), are clauses of that function.
@@ -147,7 +147,7 @@ def clauses_by_function(texts):
 def unknown_names(top, line, words, clauses):
     """Returns the paths, names and clauses of a line that the crates don't have."""
     for span in re.findall(r"`([^`\s]+)`", line):
-        if (top / span).exists() or "/out/" in f"/{span}":
+        if (top / span).exists() or "/out/" in f"/{span}" or span.startswith("/"):
             continue
         if "/" in span and re.fullmatch(r"[\w./-]+", span):
             yield f"no file {span}"
