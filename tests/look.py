@@ -1,9 +1,10 @@
 #!/usr/bin/env python3
-"""Pictures of pages, to be looked at by hand: light, dark, and 500 pixels wide.
+"""Pictures of pages, to be looked at by hand: light, dark, 500 pixels wide, and as README.md shows one.
 
     tests/look.py FOLDER PAGE ..
 
-writes three pictures of each page into the folder, by a headless Chromium (Debian's package `chromium`). examples/ has pages.
+writes four pictures of each page into the folder, by a headless Chromium (Debian's package `chromium`). examples/ has pages.
+docs/page.png is the last one, in its 64 most frequent colours, of the page of README.md's first crash.
 """
 import subprocess
 import sys
@@ -14,6 +15,7 @@ LOOKS = [
     ("light", 1200, 1400, []),
     ("dark", 1200, 1400, ["--blink-settings=preferredColorScheme=0"]),
     ("narrow", 500, 1600, []),
+    ("front", 1000, 530, []),
 ]
 
 
