@@ -24,6 +24,8 @@ In README.md and docs/PROVED.md, moreover, for what stands in backticks and has 
 
 In docs/PROVED.md each call and clause that a table names is one of the sources, as tools/ledger.py says it.
 
+docs/MAP.md has a row for each crate of crates.txt in its table of layers, and for no other.
+
 docs/PROVED.md lists each definition to which those of ROOTS lead by their `use` lines.
 
 The files in docs/completions/ are what tools/completions.py writes of docs/crashbpf.1, which tests/run.py compares with what
@@ -179,6 +181,14 @@ def believed(top):
     return found
 
 
+def wrong_layers(top):
+    """Returns what is wrong with the crates in the table of layers of docs/MAP.md."""
+    crates = ledger.crates(top)
+    rows = re.findall(r"(?m)^\| (?:\d+|aside) \| `(\w+)` \|", (top / "docs/MAP.md").read_text())
+    yield from (f"no row for the crate {it}" for it in crates if it not in rows)
+    yield from (f"no crate {it}" for it in rows if it not in crates)
+
+
 def old_completions(top):
     """Returns the files of completions that aren't what the man page makes of them."""
     page = top / "docs/crashbpf.1"
@@ -192,6 +202,7 @@ def findings(top):
     """Returns all findings, each with its file and line."""
     yield from ((path, 1, "isn't what tools/completions.py writes") for path in old_completions(top))
     yield from ((top / "docs/PROVED.md", number, it) for number, it in ledger.findings(top))
+    yield from ((top / "docs/MAP.md", 1, it) for it in wrong_layers(top))
     files = list(sources(top))
     texts = [file.read_text() for file in files]
     words = set(re.findall(r"\w+", (top / "crates.txt").read_text()))
