@@ -301,6 +301,12 @@ def manual_differs(program):
     return output_differs("the man page", (TOP / "docs/crashbpf.1").read_bytes(), made.stdout)
 
 
+def tables_differ():
+    """What is wrong with the tables of docs/REPORT.md that are made of the man page and of the sources."""
+    looked = subprocess.run([sys.executable, TOP / "tools/report_tables.py", "--check"], capture_output=True, timeout=SECONDS, text=True)
+    return looked.stdout.splitlines() or looked.stderr.splitlines()[-1:]
+
+
 def main(words):
     program = str(Path(words[0] if words else TOP / "crates/crashbpf/out/crashbpf").resolve())
     if not os.access(program, os.X_OK):
@@ -309,8 +315,10 @@ def main(words):
     assembler = Assembler(program)
     with ThreadPoolExecutor(os.cpu_count()) as pool:
         results = list(pool.map(lambda row: run_row(program, row, assembler), rows))
-    names = [row.name for row in rows] + ["the man page is the program's help", "text on a page has enough contrast"]
-    results += [manual_differs(program), contrast.too_low()]
+    names = [row.name for row in rows]
+    names += ["the man page is the program's help", "the tables of docs/REPORT.md are those of the help and the sources"]
+    names += ["text on a page has enough contrast"]
+    results += [manual_differs(program), tables_differ(), contrast.too_low()]
     failed = 0
     for name, found in zip(names, results):
         if found:
