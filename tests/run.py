@@ -306,7 +306,8 @@ def manual_differs(program):
 
 def tables_differ():
     """What is wrong with the tables of docs/REPORT.md that are made of the man page and of the sources."""
-    looked = subprocess.run([sys.executable, TOP / "tools/report_tables.py", "--check"], capture_output=True, timeout=SECONDS, text=True)
+    command = [sys.executable, TOP / "tools/report_tables.py", "--check"]
+    looked = subprocess.run(command, capture_output=True, timeout=SECONDS, text=True)
     return looked.stdout.splitlines() or looked.stderr.splitlines()[-1:]
 
 

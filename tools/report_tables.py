@@ -39,23 +39,25 @@ def in_order(names):
     return list(dict.fromkeys(names))
 
 
+def uses_of_options(helps):
+    """Returns, for each option as a help shows it, the commands that take it, each with what goes without the option."""
+    uses = {}
+    for command in completions.commands_in(helps):
+        usage = re.search(r"Usage: .*", helps.get(command.name, ""))
+        for option in command.options:
+            name = option.names[-1]
+            says, default = re.fullmatch(r"(.*?)(?: \[default: (.*)\])?", option.says).groups()
+            absent = "required" if f"{name} <" in usage[0] else default or ("none" if option.value else "off")
+            shown = f"{', '.join(option.names)} {option.value or ''}".strip()
+            if name != "--help":
+                uses.setdefault((shown, says), []).append((command.name, absent))
+    return uses
+
+
 def options_table():
     """Returns the table of options: what the help says of each, what goes without it, and which commands take it."""
-    helps = man_page.helps_in(PAGE.read_text())
-    taken = {}
-    for command in completions.commands_in(helps):
-        if command.name not in helps:
-            continue
-        usage = re.search(r"Usage: (.*)", helps[command.name])[1]
-        for option in command.options:
-            if option.names[-1] != "--help":
-                says, _, default = option.says.removesuffix("]").partition(" [default: ")
-                required = f"{option.names[-1]} <" in usage
-                absent = "required" if required else default or ("none" if option.value else "off")
-                shown = " ".join([*option.names, *[option.value] * bool(option.value)])
-                taken.setdefault((shown, says), []).append((command.name, absent))
     rows = []
-    for (shown, says), uses in taken.items():
+    for (shown, says), uses in uses_of_options(man_page.helps_in(PAGE.read_text())).items():
         most, *others = in_order(absent for _, absent in uses)
         fewer = [f"{other} for " + ", ".join(name for name, absent in uses if absent == other) for other in others]
         rows.append([f"`{shown}`", says, "; ".join([most, *fewer]), ", ".join(name for name, _ in uses)])
