@@ -112,7 +112,7 @@ def places_table():
     body = re.search(r"pub enum OptionPlace \{\n(.*?)\n\}", source, re.S)[1]
     numbers = [int(it) for it in re.findall(r"(?m)^\s*\w+ = (\d+),", body)]
     rule = re.search(r"fn option_rule\(.*?\n\}", RULES.read_text(), re.S)[0]
-    says = dict(re.findall(r'(?m)^\s*(\d+|_) => "([^"]*)",', rule))
+    says = dict(re.findall(r'(?m)^\s*(\d+|_) => (?:\{\s*)?"([^"]*)"', rule))
     return table(["Place", "Says"], [[str(number), lowered(says.get(str(number), says["_"]))] for number in sorted(numbers)])
 
 
