@@ -9,14 +9,17 @@ files and words. It needs Python 3.9 or later, nothing but its own library, and 
 
 A row is one run of the program: the words behind its name, the files that lie in its folder (a fresh one for each row),
 and what is expected: standard output byte by byte, the status, and standard error, which is either empty or the one line
-of a refusal, with notes behind it, and before it what `--progress` says. A row fails where one of these differs, or where the run takes too long (`seconds` of notation.py). Rows run
-side by side.
+of a refusal, with notes behind it, and before it what `--progress` says. A row fails where one of these differs, or where
+the run takes too long (`seconds` of notation.py). Rows run side by side.
+
+Behind the rows it looks whether docs/crashbpf.1 is what the program's help says, whether the tables of docs/REPORT.md that
+tools/report_tables.py makes are those of the help and the sources, and whether text on a page has enough contrast.
 
 What is printed is a line for each row that failed, with what differed, and last
 
     N passed, M failed
 
-alone on its line. The status is 1 if any row failed, or if the program isn't there, else 0. All rows together take some
+alone on its line. The status is 1 if any row failed, or if the program isn't there, else 0. All rows together take
 about a minute of processor time.
 
 Where the rows stand
@@ -301,6 +304,13 @@ def manual_differs(program):
     return output_differs("the man page", (TOP / "docs/crashbpf.1").read_bytes(), made.stdout)
 
 
+def tables_differ():
+    """What is wrong with the tables of docs/REPORT.md that are made of the man page and of the sources."""
+    command = [sys.executable, TOP / "tools/report_tables.py", "--check"]
+    looked = subprocess.run(command, capture_output=True, timeout=SECONDS, text=True)
+    return looked.stdout.splitlines() or looked.stderr.splitlines()[-1:]
+
+
 def main(words):
     program = str(Path(words[0] if words else TOP / "crates/crashbpf/out/crashbpf").resolve())
     if not os.access(program, os.X_OK):
@@ -309,8 +319,10 @@ def main(words):
     assembler = Assembler(program)
     with ThreadPoolExecutor(os.cpu_count()) as pool:
         results = list(pool.map(lambda row: run_row(program, row, assembler), rows))
-    names = [row.name for row in rows] + ["the man page is the program's help", "text on a page has enough contrast"]
-    results += [manual_differs(program), contrast.too_low()]
+    names = [row.name for row in rows]
+    names += ["the man page is the program's help", "the tables of docs/REPORT.md are those of the help and the sources"]
+    names += ["text on a page has enough contrast"]
+    results += [manual_differs(program), tables_differ(), contrast.too_low()]
     failed = 0
     for name, found in zip(names, results):
         if found:

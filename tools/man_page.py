@@ -5,7 +5,8 @@
 
 runs PROGRAM (crates/crashbpf/out/crashbpf where it isn't given) with `--help`, and with each command's `--help`, and prints
 the page. docs/crashbpf.1 holds it; `man -l docs/crashbpf.1` shows it. tests/run.py compares the two, so help and page stay
-the same words. tools/completions.py makes of the page what shells complete.
+the same words. tools/completions.py makes of the page what shells complete, and tools/report_tables.py the tables of
+docs/REPORT.md.
 """
 import re
 import subprocess

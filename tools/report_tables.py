@@ -1,0 +1,153 @@
+#!/usr/bin/env python3
+"""Writes the tables of docs/REPORT.md that the program's help and the sources say already.
+
+    tools/report_tables.py [--check]
+
+writes what stands there between each two marks `<!-- made: NAME -->` and `<!-- end: NAME -->`. The options are taken from the
+helps in docs/crashbpf.1, which tests/run.py compares with the program's own. The refusals, the places of refused options and
+the faults of the machine are taken from the crates' sources: a number, and the sentence that its note says, or else that of
+its docstring. With --check nothing is written: each table that isn't as it would be written is named, and the status is then
+1. tests/run.py looks at the same.
+"""
+import re
+import sys
+from pathlib import Path
+
+sys.dont_write_bytecode = True
+
+import completions
+import man_page
+
+TOP = Path(__file__).resolve().parent.parent
+REPORT = TOP / "docs/REPORT.md"
+PAGE = TOP / "docs/crashbpf.1"
+CAUSES = TOP / "crates/base/src/causes.rt"
+PLACES = TOP / "crates/request/src/settings.rt"
+RULES = TOP / "crates/command_notes/src/behind.rt"
+# The types of causes, with what each refuses, in the order of their numbers.
+KINDS = {"Log": "log", "Request": "request", "Code": "program", "Asm": "text", "Verifier": "verifier", "Work": "work"}
+
+
+def table(head, rows):
+    """Returns a table, with options in backticks."""
+    shown = [[re.sub(r"(?<!\S)(--[a-z]+)", r"`\1`", cell) for cell in row] for row in rows]
+    lines = [f"| {' | '.join(row)} |\n".replace("|  |", "| |") for row in [head, *shown]]
+    return "".join([lines[0], "|---" * len(head) + "|\n", *lines[1:]])
+
+
+def in_order(names):
+    return list(dict.fromkeys(names))
+
+
+def uses_of_options(helps):
+    """Returns, for each option as a help shows it, the commands that take it, each with what goes without the option."""
+    uses = {}
+    for command in completions.commands_in(helps):
+        usage = re.search(r"Usage: .*", helps.get(command.name, ""))
+        for option in command.options:
+            name = option.names[-1]
+            says, default = re.fullmatch(r"(.*?)(?: \[default: (.*)\])?", option.says).groups()
+            absent = "required" if f"{name} <" in usage[0] else default or ("none" if option.value else "off")
+            shown = f"{', '.join(option.names)} {option.value or ''}".strip()
+            if name != "--help":
+                uses.setdefault((shown, says), []).append((command.name, absent))
+    return uses
+
+
+def options_table():
+    """Returns the table of options: what the help says of each, what goes without it, and which commands take it."""
+    rows = []
+    for (shown, says), uses in uses_of_options(man_page.helps_in(PAGE.read_text())).items():
+        most, *others = in_order(absent for _, absent in uses)
+        fewer = [f"{other} for " + ", ".join(name for name, absent in uses if absent == other) for other in others]
+        rows.append([f"`{shown}`", says, "; ".join([most, *fewer]), ", ".join(name for name, _ in uses)])
+    return table(["Option", "The help says", "If absent", "Taken by"], rows)
+
+
+def text_of(source, name):
+    return re.search(rf'const {name}: &str =\s*"([^"]*)";', source)[1]
+
+
+def variants(source, name):
+    """Returns the variants of an enum of numbers: each number with its sentence, by its note or by its docstring."""
+    body = re.search(rf"pub enum {name} \{{\n(.*?)\n\}}", source, re.S)[1]
+    found, says = [], ""
+    for line in map(str.strip, body.split("\n")):
+        noted = re.fullmatch(r'#\[error\("([^"]*)"(?:, (\w+))?\)\]', line)
+        if noted:
+            says = text_of(source, noted[2]) if noted[2] else noted[1]
+        elif line.startswith("///"):
+            says = line.removeprefix("///").strip()
+        elif line:
+            found.append((int(re.fullmatch(r"\w+ = (\d+),", line)[1]), says))
+            says = ""
+    return found
+
+
+def split(says):
+    """Returns a sentence without what stands behind it in parentheses, and that as a link to the section of the document."""
+    found = re.fullmatch(r"(.*?)\.? \(docs/([A-Z-]+\.md), (.*)\)", says)
+    if not found:
+        return says.rstrip("."), ""
+    anchor = re.sub(r"[^\w\- ]", "", found[3].lower()).replace(" ", "-")
+    return found[1], f"[{found[2]}, {found[3]}]({found[2]}#{anchor})"
+
+
+def lowered(says):
+    return says[:1].lower() + says[1:]
+
+
+def refusals_table():
+    source = CAUSES.read_text()
+    rows = [
+        [str(number), kind, *split(lowered(says))]
+        for name, kind in KINDS.items()
+        for number, says in variants(source, f"{name}Cause")
+    ]
+    return table(["No", "Of", "Says", "Rule"], sorted(rows, key=lambda row: int(row[0])))
+
+
+def places_table():
+    source = PLACES.read_text()
+    body = re.search(r"pub enum OptionPlace \{\n(.*?)\n\}", source, re.S)[1]
+    numbers = [int(it) for it in re.findall(r"(?m)^\s*\w+ = (\d+),", body)]
+    rule = re.search(r"fn option_rule\(.*?\n\}", RULES.read_text(), re.S)[0]
+    says = dict(re.findall(r'(?m)^\s*(\d+|_) => (?:\{\s*)?"([^"]*)"', rule))
+    return table(["Place", "Says"], [[str(number), lowered(says.get(str(number), says["_"]))] for number in sorted(numbers)])
+
+
+def faults_table():
+    found = variants(CAUSES.read_text(), "MachineFault")
+    return table(["No", "Fault"], [[str(number), split(lowered(says))[0]] for number, says in found])
+
+
+TABLES = {"options": options_table, "refusals": refusals_table, "places": places_table, "faults": faults_table}
+
+
+def made(text):
+    """Returns the document with its tables written anew, and the names of those that change."""
+    old = []
+    for name, make in TABLES.items():
+        before, mark, rest = text.partition(f"<!-- made: {name} -->\n")
+        stands, end, after = rest.partition(f"<!-- end: {name} -->\n")
+        if not mark or not end:
+            sys.exit(f"{REPORT.name} has no two marks for {name}")
+        new = f"\n{make()}\n"
+        if new != stands:
+            old.append(name)
+        text = before + mark + new + end + after
+    return text, old
+
+
+def main(words):
+    text, old = made(REPORT.read_text())
+    if words == ["--check"]:
+        for name in old:
+            print(f"docs/REPORT.md: the table {name} isn't what tools/report_tables.py writes")
+        return 1 if old else 0
+    REPORT.write_text(text)
+    return 0
+
+
+if __name__ == "__main__":
+    sys.exit(main(sys.argv[1:]))
