@@ -46,7 +46,7 @@ import ledger
 # The most lines of README.md, the most characters of each, and its most words.
 LINES, CHARACTERS, WORDS = 130, 100, 1300
 # How many sentences have more words than the number before it.
-LONG = {40: 28, 60: 0}
+LONG = {40: 0, 60: 0}
 # What stands for a space and a bar of a piece of code, so that it is one word of one cell.
 HIDDEN = {ord(" "): "\0", ord("|"): "\1"}
 SHOWN = {ord("\0"): " ", ord("\1"): "|"}
@@ -94,7 +94,7 @@ def bad_links(path, line):
 def unknown_documents(top, line):
     """Returns the documents that a line names and that don't exist."""
     for name in re.findall(r"\b[A-Z][A-Z-]+\.md\b", line):
-        if not (top / name).exists() and not (top / "docs" / name).exists():
+        if not any((top / folder / name).exists() for folder in ("", "docs", "bench")):
             yield f"no document {name}"
 
 
