@@ -109,7 +109,7 @@ def damaged(chance, whole):
     return content
 
 
-IMAGES = ["sectors", "cuts", "bound", "by"]
+IMAGES = ["sectors", "flush", "cuts", "from", "to", "bound", "by"]
 RUN = [*IMAGES, "checked", "workers", "cache"]
 
 # The options with a value that each command takes, and how often those without one are given.
@@ -121,7 +121,7 @@ TAKEN = {
     "images": IMAGES,
     "image": IMAGES,
     "show": IMAGES,
-    "log": ["sectors"],
+    "log": ["sectors", "flush"],
     "verify": ["sectors"],
     "asm": [],
     "list": [],
@@ -155,7 +155,10 @@ def options_of(chance, command):
     """Some options of a command, each mostly within its range."""
     picked = {
         "sectors": chance.choice([1, 2, 3, 4, 8, 8, 64, 64, 16384, 16385, 0]),
+        "flush": chance.choice(["0", "1", "2", "0,3", "5,2,2", "65535", "4294967296", "1,", ",".join("0" * 64), ",".join("0" * 65)]),
         "cuts": chance.choice(["all", "flush", "mark"]),
+        "from": chance.choice([0, 0, 1, 2, 65537, 1 << 63]),
+        "to": chance.choice([1, 2, 3, 5, 8, 65537, 0]),
         "bound": chance.choice([0, 1, 1, 2, 3, 4]),
         "checked": chance.choice([0, 1, 2, 100, 10000, 1000000001]),
         "workers": chance.choice([1, 1, 2, 4, 64, 65, 0]),
