@@ -32,7 +32,7 @@ sys.dont_write_bytecode = True
 
 from notation import TOP
 
-# The folders of the repository that tools/package reads, beside README.md.
+# The folders of the repository that tools/package reads, beside README.md and CONTRIBUTING.md.
 READ = ("docs", "examples", "crates/aside/data", "tools")
 PATH = f"{os.environ['PATH']}:/usr/sbin:/sbin"
 INSTALLED = """\
@@ -67,7 +67,8 @@ def same_again(made, folder, program):
     """What is wrong with the packages that a copy of the repository makes of the program."""
     top = Path(folder, "copy")
     top.mkdir()
-    shutil.copyfile(TOP / "README.md", top / "README.md")
+    for name in ("README.md", "CONTRIBUTING.md"):
+        shutil.copyfile(TOP / name, top / name)
     for name in READ:
         shutil.copytree(TOP / name, top / name)
     for path in top.rglob("*"):
@@ -110,7 +111,7 @@ def holds(made):
     found += differs("what one of both alone holds", names[".deb"] ^ names[".gz"], set())
     wanted = {"bin/crashbpf", "bin/crashbpf-cc", "share/man/man1/crashbpf.1.gz", "share/doc/crashbpf/copyright"}
     wanted |= {"share/bash-completion/completions/crashbpf", "share/fish/vendor_completions.d/crashbpf.fish", "share/zsh/site-functions/_crashbpf"}
-    shown = ("README.md", "docs/REPORT.md", "docs/page.png", "examples/checker.h", "examples/tree/root.c", "examples/tree/wrong.log")
+    shown = ("README.md", "CONTRIBUTING.md", "docs/REPORT.md", "docs/page.png", "examples/checker.h", "examples/tree/root.c", "examples/tree/wrong.log")
     wanted |= {f"share/crashbpf/{it}" for it in shown}
     return found + differs("what is missing", wanted - names[".gz"], set())
 
