@@ -11,6 +11,8 @@ KIND is one of
     callee    the same in a local function that a loop calls
     turned    the first loop, its branches laid out backwards: each in front of the one before
     backward  no loop: branches in a row, laid out so, in which each way adds less than those before it
+    spread    the first loop, its numbers widening up and then down, and their sum in all registers and groups that are left
+    heads     up to five numbers, and loops that share one body: each widens only where all loops before it have settled
 
 SLOTS is how many slots it has at most, NUMBERS how many numbers widen, and REFUSED is `no`, `first` for one that reads an
 unset register before the loop, or `last` for one that does behind it. FILE is written.
@@ -19,6 +21,7 @@ import struct
 import sys
 
 LIMIT = (1 << 55) - 1
+REGISTERS = (3, 4, 6, 7, 8)
 
 
 def slot(opcode, dst=0, src=0, offset=0, immediate=0):
@@ -50,6 +53,66 @@ def widened(number):
     if number == 0:
         return raised
     return [slot(0x79, 4, 10, place(number - 1)), slot(0xAD, 4, 5, len(raised)), *raised]
+
+
+def wide(register, number):
+    low, high = struct.unpack("<ii", struct.pack("<q", number))
+    return [slot(0x18, register, 0, 0, low), slot(0, 0, 0, 0, high)]
+
+
+def widened_both_ways(number):
+    """Raises a number, and then lowers it, where the one before it was lowered: r5 to r8 are the limits."""
+    raised = [slot(0x79, 2, 10, place(number)), slot(0x07, 2, 0, 0, 1), slot(0x6D, 2, 5, 1), slot(0x7B, 10, 2, place(number))]
+    lowered = [slot(0x79, 2, 10, place(number)), slot(0x17, 2, 0, 0, 1), slot(0xCD, 2, 6, 1), slot(0x7B, 10, 2, place(number))]
+    made = [*raised, slot(0x79, 4, 10, place(number)), slot(0xDD, 4, 7, len(lowered)), *lowered]
+    if number == 0:
+        return made
+    return [slot(0x79, 4, 10, place(number - 1)), slot(0x7D, 4, 8, len(made)), *made]
+
+
+def spread(numbers, room):
+    """A loop in which as much as can be changes with each step."""
+    body = [*wide(5, LIMIT), *wide(6, -LIMIT), *wide(7, LIMIT // 2), *wide(8, -LIMIT // 2), put(3, 0)]
+    for number in range(numbers):
+        body += widened_both_ways(number)
+    for number in range(numbers):
+        body += [slot(0x79, 2, 10, place(number)), slot(0x0F, 3, 2)]
+    body += [slot(0x7B, 10, 3, place(number)) for number in range(numbers, 63)]
+    body += [slot(0xBF, register, 3) for register in (0, 1, 2, 4, 6, 7, 8)]
+    while len(body) + len(WAYS) + 10 <= room:
+        body += WAYS
+    body += [put(register, 0) for register in (0, 2, 3, 4, 6, 7, 8)]
+    return body + again(len(body))
+
+
+def heads(begin, slots, numbers, last):
+    """A body to which many heads lead, each with less taken off the numbers than the one before, and from which each is led to."""
+    numbers = min(numbers, len(REGISTERS))
+    count = slots // 30
+    size = 3 * numbers + 1
+    first = len(begin) + numbers + 2 * count + 1
+    shared = first + count * size
+    made = [*begin, *clear(numbers)]
+    for turn in range(count):
+        made += [slot(0x45, 9, 0, 1, 1), slot(0x05, 0, 0, first + turn * size - len(made) - 2)]
+    made += [slot(0x05, 0, 0, first - len(made) - 1)]
+    body = wide(5, LIMIT + 1)
+    for number, register in zip(range(numbers), REGISTERS):
+        raised = [slot(0xBF, 2, register), slot(0x07, 2, 0, 0, 1), slot(0x6D, 2, 5, 1), slot(0x7B, 10, 2, place(number))]
+        if number:
+            raised = [slot(0x79, 0, 10, place(number - 1)), slot(0xDD, 0, 5, len(raised)), *raised]
+        body += raised
+    body = WAYS * ((slots - shared - len(body) - 3 * count - len(last)) // len(WAYS)) + body
+    end = shared + len(body) + 3 * count
+    for turn in range(count):
+        for number, register in zip(range(numbers), REGISTERS):
+            made += [slot(0x79, register, 10, place(number)), slot(0x07, register, 0, 0, turn + 1 - count)]
+            made += [slot(0xC5, register, 0, end - len(made) - 1)]
+        made += [slot(0x05, 0, 0, shared - len(made) - 1)]
+    made += body
+    for turn in range(count):
+        made += again(len(made) - (first + turn * size))
+    return made + last
 
 
 def backwards(room, added):
@@ -106,6 +169,11 @@ def program(kind, slots, numbers, refused):
         own = [slot(0xBF, 9, 1), *clear(numbers)]
         function = [*own, *loop(numbers, room - len(own) - 7, WAYS), *END]
         return [*begin, *call, *last, *function]
+    if kind == "spread":
+        cleared = clear(63)
+        return [*begin, *cleared, *spread(numbers, room - len(cleared)), *last]
+    if kind == "heads":
+        return heads(begin, slots, numbers, last)
     if kind == "backward":
         return [*begin, put(3, 0), *backwards(room - 2, lambda behind: 1 << min(24, behind)), *last]
     sys.exit(__doc__)

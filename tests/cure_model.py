@@ -118,7 +118,7 @@ def too_many_at(run):
 def with_flushes(run, places):
     """The run of the log with a flush at each of these places as well."""
     flush = (*run.flush, *places)
-    return Run(run.recorded, run.sectors, run.cuts, run.bound, run.tears, run.by, flush, run.first, run.last)
+    return Run(run.recorded, run.sectors, run.cuts, run.bound, run.tears, run.by, flush, run.first, run.last, run.base)
 
 
 def last_line(run, found):

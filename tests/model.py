@@ -14,6 +14,9 @@ ZEROS = bytes(SECTOR)
 HEADS = [f"head{eighths}" for eighths in range(1, 8)]
 TAILS = [f"tail{eighths}" for eighths in range(1, 8)]
 
+# By which the mixes of lanes, and of the sectors of a device, are joined to one number.
+JOIN_FACTOR = 16777619
+
 # What may become of a part that isn't whole, in order, without tears and with them.
 LOST = ["drop"]
 LOST_OR_TORN = [*LOST, *HEADS, *TAILS]
@@ -53,7 +56,7 @@ class Image:
     def sector(self, number):
         """The 512 bytes of a sector."""
         fates = {part.name: fate for part, fate in self.departures}
-        found = ZEROS
+        found = self.run.initial_sector(number)
         for part in self.run.parts:
             if part.entry < self.cut and part.covers(number):
                 found = written(part, number, found, fates.get(part.name, "whole"))
@@ -103,13 +106,14 @@ def departures(parts, count, fates):
 
 
 class Run:
-    """A log, the size of the device, and which images are wanted. `recorded` is the log without the flushes that are added."""
+    """A log, the size of the device, and which images are wanted. `recorded` is the log without the flushes that are added,
+    `base` the first bytes of what the device held before entry 0."""
 
-    def __init__(self, entries, sectors=4, cuts="all", bound=1, tears=False, by="sector", flush=(), first=None, last=None):
+    def __init__(self, entries, sectors=4, cuts="all", bound=1, tears=False, by="sector", flush=(), first=None, last=None, base=b""):
         self.recorded = entries
         entries = [replace(it, flags=it.flags | FLUSH) if number in flush else it for number, it in enumerate(entries)]
         self.entries, self.sectors, self.cuts, self.bound, self.tears, self.by = entries, sectors, cuts, bound, tears, by
-        self.flush, self.first, self.last = flush, first, last
+        self.flush, self.first, self.last, self.base = flush, first, last, base
         self.parts = [part for number, entry in enumerate(entries) for part in parts_of(number, entry, by)]
 
     def options(self):
@@ -118,7 +122,19 @@ class Run:
         words += " --by write" if self.by == "write" else ""
         words += f" --flush {','.join(str(it) for it in self.flush)}" if self.flush else ""
         words += f" --from {self.first}" if self.first is not None else ""
-        return words + (f" --to {self.last}" if self.last is not None else "")
+        words += f" --to {self.last}" if self.last is not None else ""
+        return words + (" --base base" if self.base else "")
+
+    def initial_sector(self, number):
+        """What a sector held before entry 0."""
+        return self.base[SECTOR * number : SECTOR * (number + 1)].ljust(SECTOR, b"\0")
+
+    def told_of_base(self):
+        """What is told of the initial content, where some is given: its number."""
+        joined = 0
+        for number in range(self.sectors):
+            joined = (joined * JOIN_FACTOR + mix(self.initial_sector(number))) % 2**64
+        return f" base {joined}" if self.base else ""
 
     def told(self):
         """What is told of the cuts behind their kind: the flushes that were added, and the range."""
@@ -211,7 +227,7 @@ def failing_lines(image, checkers):
 def head(run, checkers, first):
     text = f"sectors {run.sectors} entries {len(run.entries)} cuts {run.cuts} bound {run.bound}"
     text += f" tears {'yes' if run.tears else 'no'} first {'yes' if first else 'no'}"
-    text += (" by write" if run.by == "write" else "") + run.told() + "\n"
+    text += (" by write" if run.by == "write" else "") + run.told() + run.told_of_base() + "\n"
     return text + "".join(f"program {number} {it.about}\n" for number, it in enumerate(checkers))
 
 
@@ -294,7 +310,7 @@ def failures_of(run, checkers):
 def with_flushes(run, places):
     """The same run of the log with these flushes besides."""
     flush = (*run.flush, *places)
-    return Run(run.recorded, run.sectors, run.cuts, run.bound, run.tears, run.by, flush, run.first, run.last)
+    return Run(run.recorded, run.sectors, run.cuts, run.bound, run.tears, run.by, flush, run.first, run.last, run.base)
 
 
 def cure_rounds(run, checkers):
@@ -418,7 +434,7 @@ def mix(sector):
         of_lane = 0
         for row in range(8):
             of_lane = (of_lane * 1000003 + words[8 * row + lane]) % 2**64
-        mixed = (mixed * 16777619 + of_lane) % 2**64
+        mixed = (mixed * JOIN_FACTOR + of_lane) % 2**64
     return mixed
 
 

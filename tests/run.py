@@ -31,6 +31,7 @@ Where the rows stand
     rows/process.py     files that can't be read, a standard output that can't be written
     rows/surroundings.py    files without end, and pipes
     rows/logs.py        logs that lie: cut ones, each cause of a refusal
+    rows/raw_logs.py    raw logs, and what is imported of them
     rows/encodings.py   each instruction as bytes and as text, and bytes that are no program
     rows/texts.py       assembly texts, and texts that are refused
     rows/answers.py     what programs answer: arithmetic, memory, helpers, faults
@@ -43,6 +44,7 @@ Where the rows stand
     rows/shown.py       images in words, by number and by cut and choice, against the model
     rows/why.py         why checkers fail, of many logs and of the designs, against the model
     rows/cure.py        where flushes are missing, of many logs and of the designs, against the model
+    rows/based.py       devices that held something before entry 0, in all commands, against the model
     rows/browser.py     runs as a page for a browser, of many logs and of the designs, against the model
     rows/ranges.py      flushes that are added and ranges of cuts, in `log`, in `page`, and of the designs, against the model
     rows/flushes.py     where flushes are missing: the designs, marks, forced writes, discards, refusals, against cure_model.py
@@ -83,6 +85,7 @@ from notation import SECONDS, TOP, Assembly, Folder, Hole, Long, Something
 from rows import (
     answers,
     arithmetic,
+    based,
     browser,
     checkers,
     commands,
@@ -97,6 +100,7 @@ from rows import (
     options,
     process,
     ranges,
+    raw_logs,
     recording,
     refusals,
     shown,
@@ -118,6 +122,7 @@ TABLES = [
     process,
     surroundings,
     logs,
+    raw_logs,
     encodings,
     texts,
     answers,
@@ -132,6 +137,7 @@ TABLES = [
     cure,
     browser,
     ranges,
+    based,
     flushes,
     workers,
     recording,

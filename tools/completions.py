@@ -20,7 +20,7 @@ sys.dont_write_bytecode = True
 import man_page
 
 TOP = Path(__file__).resolve().parent.parent
-FILES = ("LOG", "PROGRAM", "SOURCE", "FILE", "IMAGE", "BASE", "REPORT", "PATH")
+FILES = ("LOG", "RAW", "PROGRAM", "SOURCE", "FILE", "IMAGE", "BASE", "REPORT", "PATH")
 NOTE = "Made by tools/completions.py of the program's help."
 
 

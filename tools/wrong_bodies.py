@@ -58,7 +58,8 @@ class Function:
         if self.of and not (parts and parts[0].startswith(self.of)):
             return False
         inner = parts[1:] if self.of else parts
-        return inner[:1] == [self.name] or inner[: len(words) + 1] == [*words, self.name]
+        # A function that calls itself has its proof in a folder with a plus before its name.
+        return inner[:1] in ([self.name], [f"+{self.name}"]) or inner[: len(words) + 1] == [*words, self.name]
 
 
 def end_of(text, at, closes):

@@ -8,15 +8,17 @@ complete -c crashbpf -n __fish_use_subcommand -a images -d 'Tells how many crash
 complete -c crashbpf -n __fish_use_subcommand -a image -d 'Writes the bytes of one crash image, sector after sector'
 complete -c crashbpf -n __fish_use_subcommand -a show -d 'Tells one crash image in words: its cut, what departed, and which bytes differ'
 complete -c crashbpf -n __fish_use_subcommand -a log -d 'Prints the entries of a log'
+complete -c crashbpf -n __fish_use_subcommand -a import -d 'Makes a log of one with sectors of 512 or 4,096 bytes'
 complete -c crashbpf -n __fish_use_subcommand -a verify -d 'Says with which budget of steps the verifier accepts a program'
 complete -c crashbpf -n __fish_use_subcommand -a asm -d 'Writes the program that an assembly text says'
 complete -c crashbpf -n __fish_use_subcommand -a list -d 'Prints the listing of a program, which assembles to it again'
 complete -c crashbpf -n __fish_use_subcommand -a help -d 'Print this message or the help of the given subcommand(s)'
 complete -c crashbpf -n '__fish_use_subcommand' -s h -l help -d 'Print help'
 complete -c crashbpf -n '__fish_use_subcommand' -s V -l version -d 'Print version'
-complete -c crashbpf -n '__fish_seen_subcommand_from help' -a 'explore why cure page images image show log verify asm list help'
+complete -c crashbpf -n '__fish_seen_subcommand_from help' -a 'explore why cure page images image show log import verify asm list help'
 complete -c crashbpf -n '__fish_seen_subcommand_from explore' -l sectors -x -d 'Sectors of the device, 1 to 16384'
 complete -c crashbpf -n '__fish_seen_subcommand_from explore' -l flush -x -d 'Go as if a flush stood right before each of these entries, up to 64'
+complete -c crashbpf -n '__fish_seen_subcommand_from explore' -l base -r -F -d 'What the device held before entry 0, from sector 0 on [default: zeros]'
 complete -c crashbpf -n '__fish_seen_subcommand_from explore' -l cuts -x -a 'all flush mark' -d 'Cuts: all; flush, before each flush and at the end; mark, behind each mark [default: all]'
 complete -c crashbpf -n '__fish_seen_subcommand_from explore' -l from -x -d 'The first of the cuts [default: 0]'
 complete -c crashbpf -n '__fish_seen_subcommand_from explore' -l to -x -d 'The last of the cuts [default: the last of the log]'
@@ -32,6 +34,7 @@ complete -c crashbpf -n '__fish_seen_subcommand_from explore' -s h -l help -d 'P
 complete -c crashbpf -n '__fish_seen_subcommand_from explore' -F
 complete -c crashbpf -n '__fish_seen_subcommand_from why' -l sectors -x -d 'Sectors of the device, 1 to 16384'
 complete -c crashbpf -n '__fish_seen_subcommand_from why' -l flush -x -d 'Go as if a flush stood right before each of these entries, up to 64'
+complete -c crashbpf -n '__fish_seen_subcommand_from why' -l base -r -F -d 'What the device held before entry 0, from sector 0 on [default: zeros]'
 complete -c crashbpf -n '__fish_seen_subcommand_from why' -l cuts -x -a 'all flush mark' -d 'Cuts: all; flush, before each flush and at the end; mark, behind each mark [default: all]'
 complete -c crashbpf -n '__fish_seen_subcommand_from why' -l from -x -d 'The first of the cuts [default: 0]'
 complete -c crashbpf -n '__fish_seen_subcommand_from why' -l to -x -d 'The last of the cuts [default: the last of the log]'
@@ -46,6 +49,7 @@ complete -c crashbpf -n '__fish_seen_subcommand_from why' -s h -l help -d 'Print
 complete -c crashbpf -n '__fish_seen_subcommand_from why' -F
 complete -c crashbpf -n '__fish_seen_subcommand_from cure' -l sectors -x -d 'Sectors of the device, 1 to 16384'
 complete -c crashbpf -n '__fish_seen_subcommand_from cure' -l flush -x -d 'Go as if a flush stood right before each of these entries, up to 64'
+complete -c crashbpf -n '__fish_seen_subcommand_from cure' -l base -r -F -d 'What the device held before entry 0, from sector 0 on [default: zeros]'
 complete -c crashbpf -n '__fish_seen_subcommand_from cure' -l cuts -x -a 'all flush mark' -d 'Cuts: all; flush, before each flush and at the end; mark, behind each mark [default: all]'
 complete -c crashbpf -n '__fish_seen_subcommand_from cure' -l from -x -d 'The first of the cuts [default: 0]'
 complete -c crashbpf -n '__fish_seen_subcommand_from cure' -l to -x -d 'The last of the cuts [default: the last of the log]'
@@ -60,6 +64,7 @@ complete -c crashbpf -n '__fish_seen_subcommand_from cure' -s h -l help -d 'Prin
 complete -c crashbpf -n '__fish_seen_subcommand_from cure' -F
 complete -c crashbpf -n '__fish_seen_subcommand_from page' -l sectors -x -d 'Sectors of the device, 1 to 16384'
 complete -c crashbpf -n '__fish_seen_subcommand_from page' -l flush -x -d 'Go as if a flush stood right before each of these entries, up to 64'
+complete -c crashbpf -n '__fish_seen_subcommand_from page' -l base -r -F -d 'What the device held before entry 0, from sector 0 on [default: zeros]'
 complete -c crashbpf -n '__fish_seen_subcommand_from page' -l cuts -x -a 'all flush mark' -d 'Cuts: all; flush, before each flush and at the end; mark, behind each mark [default: all]'
 complete -c crashbpf -n '__fish_seen_subcommand_from page' -l from -x -d 'The first of the cuts [default: 0]'
 complete -c crashbpf -n '__fish_seen_subcommand_from page' -l to -x -d 'The last of the cuts [default: the last of the log]'
@@ -74,6 +79,7 @@ complete -c crashbpf -n '__fish_seen_subcommand_from page' -s h -l help -d 'Prin
 complete -c crashbpf -n '__fish_seen_subcommand_from page' -F
 complete -c crashbpf -n '__fish_seen_subcommand_from images' -l sectors -x -d 'Sectors of the device, 1 to 16384'
 complete -c crashbpf -n '__fish_seen_subcommand_from images' -l flush -x -d 'Go as if a flush stood right before each of these entries, up to 64'
+complete -c crashbpf -n '__fish_seen_subcommand_from images' -l base -r -F -d 'What the device held before entry 0, from sector 0 on [default: zeros]'
 complete -c crashbpf -n '__fish_seen_subcommand_from images' -l cuts -x -a 'all flush mark' -d 'Cuts: all; flush, before each flush and at the end; mark, behind each mark [default: all]'
 complete -c crashbpf -n '__fish_seen_subcommand_from images' -l from -x -d 'The first of the cuts [default: 0]'
 complete -c crashbpf -n '__fish_seen_subcommand_from images' -l to -x -d 'The last of the cuts [default: the last of the log]'
@@ -84,6 +90,7 @@ complete -c crashbpf -n '__fish_seen_subcommand_from images' -s h -l help -d 'Pr
 complete -c crashbpf -n '__fish_seen_subcommand_from images' -F
 complete -c crashbpf -n '__fish_seen_subcommand_from image' -l sectors -x -d 'Sectors of the device, 1 to 16384'
 complete -c crashbpf -n '__fish_seen_subcommand_from image' -l flush -x -d 'Go as if a flush stood right before each of these entries, up to 64'
+complete -c crashbpf -n '__fish_seen_subcommand_from image' -l base -r -F -d 'What the device held before entry 0, from sector 0 on [default: zeros]'
 complete -c crashbpf -n '__fish_seen_subcommand_from image' -l cuts -x -a 'all flush mark' -d 'Cuts: all; flush, before each flush and at the end; mark, behind each mark [default: all]'
 complete -c crashbpf -n '__fish_seen_subcommand_from image' -l from -x -d 'The first of the cuts [default: 0]'
 complete -c crashbpf -n '__fish_seen_subcommand_from image' -l to -x -d 'The last of the cuts [default: the last of the log]'
@@ -96,6 +103,7 @@ complete -c crashbpf -n '__fish_seen_subcommand_from image' -s h -l help -d 'Pri
 complete -c crashbpf -n '__fish_seen_subcommand_from image' -F
 complete -c crashbpf -n '__fish_seen_subcommand_from show' -l sectors -x -d 'Sectors of the device, 1 to 16384'
 complete -c crashbpf -n '__fish_seen_subcommand_from show' -l flush -x -d 'Go as if a flush stood right before each of these entries, up to 64'
+complete -c crashbpf -n '__fish_seen_subcommand_from show' -l base -r -F -d 'What the device held before entry 0, from sector 0 on [default: zeros]'
 complete -c crashbpf -n '__fish_seen_subcommand_from show' -l cuts -x -a 'all flush mark' -d 'Cuts: all; flush, before each flush and at the end; mark, behind each mark [default: all]'
 complete -c crashbpf -n '__fish_seen_subcommand_from show' -l from -x -d 'The first of the cuts [default: 0]'
 complete -c crashbpf -n '__fish_seen_subcommand_from show' -l to -x -d 'The last of the cuts [default: the last of the log]'
@@ -108,8 +116,11 @@ complete -c crashbpf -n '__fish_seen_subcommand_from show' -s h -l help -d 'Prin
 complete -c crashbpf -n '__fish_seen_subcommand_from show' -F
 complete -c crashbpf -n '__fish_seen_subcommand_from log' -l sectors -x -d 'Sectors of the device, 1 to 16384 [default: 16384]'
 complete -c crashbpf -n '__fish_seen_subcommand_from log' -l flush -x -d 'Go as if a flush stood right before each of these entries, up to 64'
+complete -c crashbpf -n '__fish_seen_subcommand_from log' -l base -r -F -d 'What the device held before entry 0, from sector 0 on [default: zeros]'
 complete -c crashbpf -n '__fish_seen_subcommand_from log' -s h -l help -d 'Print help'
 complete -c crashbpf -n '__fish_seen_subcommand_from log' -F
+complete -c crashbpf -n '__fish_seen_subcommand_from import' -s h -l help -d 'Print help'
+complete -c crashbpf -n '__fish_seen_subcommand_from import' -F
 complete -c crashbpf -n '__fish_seen_subcommand_from verify' -l sectors -x -d 'Sectors of the device, 1 to 16384'
 complete -c crashbpf -n '__fish_seen_subcommand_from verify' -s h -l help -d 'Print help'
 complete -c crashbpf -n '__fish_seen_subcommand_from verify' -F

@@ -39,6 +39,7 @@ LOGS = [
         "refused 4 at 0",
         f"the log's sectors don't have 512 bytes {SUPER}",
         "record over a device with sectors of 512 bytes",
+        "'crashbpf import' makes a log of one with sectors of 4096 bytes",
     ),
     bad_log(
         "a log that is cut short in a header",

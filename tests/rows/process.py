@@ -112,6 +112,7 @@ UNWRITTEN = [
     *unwritten("image", "image log 0 --sectors 4", files(LOG)),
     *unwritten("an image of 8 MiB", "image log 0 --sectors 16384", files(LOG)),
     *unwritten("verify", "verify p --sectors 4", {"p": GOOD}),
+    *unwritten("import", "import log", files(LOG)),
     *unwritten("asm", "asm s", {"s": "exit\n"}),
     *unwritten("list", "list p", {"p": code("9500000000000000")}),
     *unwritten("help", "--help", {}),

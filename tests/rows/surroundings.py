@@ -60,6 +60,7 @@ WITHOUT_END = [
     *endless("verify FILE --sectors 4", "refused 21 at 0"),
     *endless("list FILE", "refused 21 at 0"),
     *endless("asm FILE", "refused 14 at 0", NO_TEXT),
+    *endless("import FILE", "refused 2 at 0"),
     # what is refused before
     *endless("explore FILE good --sectors 0", "refused 13 at 1"),
     *endless("explore log FILE gone --sectors 4", "refused 14 at 2"),

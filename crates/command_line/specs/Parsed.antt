@@ -35,6 +35,7 @@ command_named name =
     else if bytes_eq name (codes "image") then Some verb.Image
     else if bytes_eq name (codes "show") then Some verb.Show
     else if bytes_eq name (codes "log") then Some verb.Log
+    else if bytes_eq name (codes "import") then Some verb.Import
     else if bytes_eq name (codes "verify") then Some verb.Verify
     else if bytes_eq name (codes "asm") then Some verb.Asm
     else if bytes_eq name (codes "list") then Some verb.List
@@ -105,6 +106,7 @@ Asks p (Some verb.Image) r = (options : OptionWords) × (meant : Which) × AreOp
 Asks p (Some verb.Show) r = (options : OptionWords) × (meant : Which) × AreOptions p options × IsWhich p meant × (r ≡ asks.Show options meant)
 Asks p (Some verb.Log) r = (options : OptionWords) × AreOptions p options × (r ≡ asks.Log options)
 Asks p (Some verb.Verify) r = (options : OptionWords) × AreOptions p options × (r ≡ asks.Verify options)
+Asks p (Some verb.Import) r = r ≡ asks.Import
 Asks p (Some verb.Asm) r = r ≡ asks.Asm
 Asks p (Some verb.List) r = r ≡ asks.List p.slots
 Asks p None r = r ≡ asks.StoredRun
@@ -138,6 +140,7 @@ pub record IsRead (found : Found) (p : Parsed) : Type 0 where
   pub programs : option_map (λ ws. map (λ w. w.now) ws.now) p.programs ≡ option_map raw_values (matched_of found (codes "programs"))
   pub sectors : IsNumberOf found (codes "sectors") p.sectors
   pub flush : written p.flush ≡ first_value found (codes "flush")
+  pub base : written p.base ≡ first_value found (codes "base")
   pub cuts : written p.cuts ≡ first_value found (codes "cuts")
   pub from : IsNumberOf found (codes "from") p.from
   pub to : IsNumberOf found (codes "to") p.to

@@ -1,5 +1,5 @@
 -- What the words of the command line ask for (docs/REPORT.md, Commands).
-use Rattle.std.specs.Prelude.{ℕ, ◌≡◌, ◌⊎◌, Bool, false, List, [], None, Some, option_map}
+use Rattle.std.specs.Prelude.{ℕ, ◌≡◌, ◌⊎◌, Bool, false, List, [], Option, None, Some, option_map}
 use Rattle.clap.specs.Words.{app_of, found_of, subcommand_name_of, subcommand_rows_of, HasMatchesOf}
 use Rattle.clap.specs.Walk.{rows_of}
 use Rattle.clap.specs.declared.builder.command.Command.{Command}
@@ -7,22 +7,40 @@ use Rattle.clap.specs.declared.parser.matches.ArgMatches.{ArgMatches}
 use Rattle.request.specs.declared.command.Request.{Request}
 use Rattle.request.specs.declared.command.Request.TheVariants as asks
 use Rattle.command_line.specs.declared.parsed.Parsed.{Parsed}
-use Rattle.command_line.specs.Parsed.{Asks, command_named, files_named, IsRead}
+use Rattle.command_line.specs.Parsed.{Asks, command_named, files_named, written, IsRead}
 
--- the request, the names of its files in order, and whether it is to be said how far an exploration is
+-- the request, the names of its files in order and of that behind --base, and whether it is to be said how far an exploration is
 pub record WordsValue : Type 0 where
   pub request : Request
   pub files : List (List ℕ)
+  pub base : Option (List ℕ)
   pub progress : Bool
+
+-- the number of sectors of the device that is asked for; 0 where the command takes none
+abbrev pub sectors_asked : Request → ℕ
+sectors_asked asks.StoredRun = 0
+sectors_asked (asks.Explore w) = w.sectors
+sectors_asked (asks.Why w) = w.sectors
+sectors_asked (asks.Cure w) = w.sectors
+sectors_asked (asks.Page w) = w.sectors
+sectors_asked (asks.Images w) = w.sectors
+sectors_asked (asks.Log w) = w.sectors
+sectors_asked (asks.Image w which) = w.sectors
+sectors_asked (asks.Show w which) = w.sectors
+sectors_asked (asks.Verify w) = w.sectors
+sectors_asked asks.Import = 0
+sectors_asked asks.Asm = 0
+sectors_asked (asks.List numbered) = 0
 
 -- without a command the stored run is asked for
 abbrev pub stored_run : WordsValue
-stored_run = record { request = asks.StoredRun; files = []; progress = false }
+stored_run = record { request = asks.StoredRun; files = []; base = None; progress = false }
 
 -- what was read of the words asks for this
 pub record AreAsked (p : Parsed) (w : WordsValue) : Type 0 where
   pub request : Asks p (command_named p.command.now) w.request
   pub files : w.files ≡ files_named p
+  pub base : w.base ≡ written p.base
   pub progress : w.progress ≡ p.progress
 
 -- what `clap` found behind the name of a command, each word and option under its own name, asks for this

@@ -2,7 +2,7 @@
 
 ghost use Rattle.std.specs.Prelude.{◌≡◌, ◌<◌, ◌++◌, length, map, option_map, string_bytes, IfOk, MatchOption, OnOk};
 ghost use Rattle.clap.specs.Words.{found_of};
-ghost use Rattle.command_line.specs.Parsed.{Asks, AreFlushes, AreOptions, command_named, cuts_named, files_named, options_with, parts_named, IsFlagOf, IsNumberOf, IsRead, IsWhich};
+ghost use Rattle.command_line.specs.Parsed.{Asks, AreFlushes, AreOptions, command_named, cuts_named, files_named, options_with, parts_named, written, IsFlagOf, IsNumberOf, IsRead, IsWhich};
 
 use crate::flush_list::flushes_in;
 use arrayvec::ArrayString;
@@ -25,6 +25,8 @@ pub struct Parsed<'a> {
     pub sectors: Option<u64>,
     /// The word behind `--flush`.
     pub flush: Option<&'a str>,
+    /// The name behind `--base`.
+    pub base: Option<&'a str>,
     /// The word behind `--cuts`.
     pub cuts: Option<&'a str>,
     /// The number behind `--from`.
@@ -68,6 +70,7 @@ pub(crate) enum Verb {
     Image,
     Show,
     Log,
+    Import,
     Verify,
     Asm,
     List,
@@ -86,6 +89,7 @@ fn verb_of(name: &str) -> Option<Verb>
         "image" => Some(Verb::Image),
         "show" => Some(Verb::Show),
         "log" => Some(Verb::Log),
+        "import" => Some(Verb::Import),
         "verify" => Some(Verb::Verify),
         "asm" => Some(Verb::Asm),
         "list" => Some(Verb::List),
@@ -172,6 +176,7 @@ impl<'a> Parsed<'a> {
             programs: matches.get_strs("programs"),
             sectors: number_of(matches, "sectors"),
             flush: matches.get_str("flush"),
+            base: matches.get_str("base"),
             cuts: matches.get_str("cuts"),
             from: number_of(matches, "from"),
             to: number_of(matches, "to"),
@@ -243,6 +248,7 @@ impl<'a> Parsed<'a> {
             Some(Verb::Image) => Request::Image(self.options(), self.which()),
             Some(Verb::Show) => Request::Show(self.options(), self.which()),
             Some(Verb::Log) => Request::Log(self.options()),
+            Some(Verb::Import) => Request::Import,
             Some(Verb::Verify) => Request::Verify(self.options()),
             Some(Verb::Asm) => Request::Asm,
             Some(Verb::List) => Request::List {
@@ -268,5 +274,19 @@ impl<'a> Parsed<'a> {
             put_names(alloc, &mut files, programs)?;
         }
         Ok(files)
+    }
+
+    /// The file behind `--base`, where that stands there.
+    ///
+    /// # Errors
+    ///
+    /// Want of memory.
+    pub fn base_file(&self, alloc: Global) -> Result<Option<String>, AllocError>
+        ensures { IfOk result (λ file. option_map string_bytes file ≡ written self.now.base) }
+    {
+        match self.base {
+            Some(name) => Ok(Some(name.to_string(alloc)?)),
+            None => Ok(None),
+        }
     }
 }

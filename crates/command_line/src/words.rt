@@ -1,7 +1,7 @@
 //! The words of the command line, and what they ask for.
 
-ghost use Rattle.std.specs.Prelude.{◌≡◌, ◌≢◌, [], IfOk, IsOkAnd, map, string_bytes};
-ghost use Rattle.command_line.specs.Words.{stored_run, AreAsked, AreFound, AreTaken};
+ghost use Rattle.std.specs.Prelude.{◌≡◌, ◌≢◌, [], IfOk, IsOkAnd, map, option_map, string_bytes};
+ghost use Rattle.command_line.specs.Words.{sectors_asked, stored_run, AreAsked, AreFound, AreTaken};
 
 use crate::parsed::Parsed;
 use clap::{Arg, ArgAction, ArgMatches, Command, Error};
@@ -14,16 +14,17 @@ use std::marker::Model;
 pub struct Words {
     request: Request,
     files: Vec<String>,
+    base: Option<String>,
     progress: bool,
 }
 
 impl Model for Words {
-    ghost use Rattle.std.specs.Prelude.{map, string_bytes};
+    ghost use Rattle.std.specs.Prelude.{map, option_map, string_bytes};
     ghost use Rattle.command_line.specs.Words.{WordsValue};
 
     ghost Value = { WordsValue };
 
-    ghost view = { λ w. record { request = w.request; files = map string_bytes w.files.items; progress = w.progress } };
+    ghost view = { λ w. record { request = w.request; files = map string_bytes w.files.items; base = option_map string_bytes w.base; progress = w.progress } };
 }
 
 /// The version of the program, and the kit that it is proved with.
@@ -102,6 +103,15 @@ Example: crashbpf log disk.log
 
 Exit status: 0, or 2 for a refusal: 1 to 10 at the entry.";
 
+/// What stands behind the help of `import`.
+const AFTER_IMPORT: &str =
+    "RAW is a log, or a whole log device, with sectors of 512 or 4,096 bytes; what its entries don't need isn't
+read. Each sector of 4,096 bytes becomes eight of 512, with the same bytes at the same places of the device.
+
+Example: crashbpf import /dev/vdb > disk.log
+
+Exit status: 0, or 2 for a refusal: 1 to 10 at the entry.";
+
 /// What stands behind the help of `image`.
 const AFTER_IMAGE: &str =
     "The number is that of a line of the report, with the same options. With --cut and --choice, as a line
@@ -167,6 +177,13 @@ fn flush_option<'a>(alloc: Global) -> Arg<'a> {
         .help("Go as if a flush stood right before each of these entries, up to 64")
 }
 
+/// The option that says what the device held before entry 0.
+fn base_option<'a>(alloc: Global) -> Arg<'a> {
+    Arg::new(alloc, "base").long("base").value_name("FILE").help(
+        "What the device held before entry 0, from sector 0 on [default: zeros]",
+    )
+}
+
 /// An option that says where the wanted cuts begin or end.
 fn range_option<'a>(alloc: Global, name: &'a str, help: &'a str) -> Arg<'a> {
     Arg::new(alloc, name)
@@ -207,6 +224,7 @@ fn log_command<'a>(alloc: Global, name: &'a str) -> Result<Command<'a>, AllocErr
     Command::new(alloc, name)
         .arg(sectors_option(alloc))?
         .arg(flush_option(alloc))?
+        .arg(base_option(alloc))?
         .arg(cuts)?
         .arg(range_option(alloc, "from", "The first of the cuts [default: 0]"))?
         .arg(range_option(
@@ -347,7 +365,22 @@ fn table_command<'a>(alloc: Global) -> Result<Command<'a>, AllocError> {
         .after_help(AFTER_LOG)
         .arg(sectors)?
         .arg(flush_option(alloc))?
+        .arg(base_option(alloc))?
         .arg(log_file(alloc))
+}
+
+/// The command `import`.
+fn import_command<'a>(alloc: Global) -> Result<Command<'a>, AllocError> {
+    Ok(
+        file_command(
+            alloc,
+            "import",
+            "RAW",
+            "A log, or a log device, as Linux's dm-log-writes target writes it",
+        )?
+        .about("Makes a log of one with sectors of 512 or 4,096 bytes")
+        .after_help(AFTER_IMPORT),
+    )
 }
 
 /// A command on one file and without options.
@@ -410,6 +443,7 @@ fn commands<'a>(alloc: Global) -> Result<Command<'a>, AllocError> {
         .subcommand(image_command(alloc)?)?
         .subcommand(show_command(alloc)?)?
         .subcommand(table_command(alloc)?)?
+        .subcommand(import_command(alloc)?)?
         .subcommand(verify_command(alloc)?)?
         .subcommand(asm_command(alloc)?)?
         .subcommand(list_command(alloc)?)
@@ -423,6 +457,7 @@ impl Words {
         Words {
             request: Request::StoredRun,
             files: Vec::new(alloc),
+            base: None,
             progress: false,
         }
     }
@@ -434,6 +469,7 @@ impl Words {
         Ok(Words {
             request: parsed.request(),
             files: parsed.files(alloc)?,
+            base: parsed.base_file(alloc)?,
             progress: parsed.progress,
         })
     }
@@ -469,6 +505,30 @@ impl Words {
         ensures { map string_bytes result.now ≡ self.now.files }
     {
         self.files.as_slice()
+    }
+
+    /// The file that holds what the device held before entry 0, where one is named.
+    pub fn base(&self) -> Option<&str>
+        ensures { option_map (λ b. b.now) result ≡ self.now.base }
+    {
+        match &self.base {
+            Some(name) => Some(name.as_str()),
+            None => None,
+        }
+    }
+
+    /// The number of sectors of the device that is asked for; 0 where the command takes none.
+    pub fn sectors(&self) -> u64
+        ensures { result ≡ sectors_asked self.now.request }
+    {
+        match self.request {
+            Request::Explore(words) | Request::Why(words) => words.sectors,
+            Request::Cure(words) | Request::Page(words) => words.sectors,
+            Request::Images(words) | Request::Log(words) => words.sectors,
+            Request::Image(words, _) | Request::Show(words, _) => words.sectors,
+            Request::Verify(words) => words.sectors,
+            Request::StoredRun | Request::Import | Request::Asm | Request::List { .. } => 0,
+        }
     }
 
     /// Whether an exploration is to say how far it is.

@@ -6,7 +6,6 @@ use crate::headers::{put_end, put_header};
 use base::causes::{CodeCause, LogCause, RequestCause, VerifierCause};
 use base::refusal::{Cause, Refusal};
 use bpf_isa::codec::decode;
-use bpf_isa::program::Program;
 use choices::count;
 use command_line::Words;
 use epochs::{By, CutKind, Cuts, Plan};
@@ -18,7 +17,7 @@ use notes::{
 use request::{MOST_SECTORS, OptionWords, Options, Request, options_of, read_log};
 use std::alloc::{AllocError, Global};
 use std::fmt::Display;
-use verifier::inferred;
+use verifier::Known;
 
 /// With what a log begins.
 const LOG_MAGIC: &[u8] = b"rhswfsj\0";
@@ -45,10 +44,18 @@ fn put_cause<C: Display>(
     put_refused(out, rule.as_str(), cure)
 }
 
+/// The name of the file at a place: of one that the command names by itself, or behind these of the one behind `--base`.
+fn name_at(words: &Words, place: usize) -> Option<&str> {
+    match words.files().get(place) {
+        Some(name) => Some(name.as_str()),
+        None => words.base(),
+    }
+}
+
 /// Appends a note with the name of a file.
 fn put_name(out: &mut String, words: &Words, place: usize, what: &str) -> Result<(), AllocError> {
     out.push_str("note: ")?;
-    if let Some(name) = words.files().get(place) {
+    if let Some(name) = name_at(words, place) {
         put_escaped(out, name.as_bytes())?;
     }
     write!(out, " {what}\n")
@@ -112,6 +119,17 @@ fn put_broken_entry(
     }
 }
 
+/// Appends, where a log has other sectors, that there is a command for such logs.
+fn put_import(out: &mut String, request: Request) -> Result<(), AllocError> {
+    match request {
+        Request::Import => Ok(()),
+        _ => put_note(
+            out,
+            "'crashbpf import' makes a log of one with sectors of 4096 bytes",
+        ),
+    }
+}
+
 /// Appends what is wrong with a log.
 fn put_log_notes(
     alloc: Global,
@@ -128,6 +146,7 @@ fn put_log_notes(
             None => Ok(()),
         },
         LogCause::Short | LogCause::Magic => put_kind(out, words, files, 1),
+        LogCause::SectorSize => put_import(out, words.request()),
         _ => put_broken_entry(out, files, cause, at),
     }
 }
@@ -178,53 +197,27 @@ fn run_options(request: Request) -> Option<OptionWords> {
     }
 }
 
-/// The options that a command takes, where it verifies programs.
-fn verifier_options(request: Request) -> Option<OptionWords> {
-    match request {
-        Request::Verify(words) => Some(words),
-        _ => run_options(request),
-    }
+/// What is said of the place of a refusal by the verifier.
+#[derive(Clone, Copy)]
+struct Place<'x> {
+    files: &'x [Option<Vec<u8>>],
+    refusal: &'x Refusal,
+    known: &'x Known,
 }
 
-/// Appends what is known of the registers that the instruction at a slot reads, in a program of right shape.
-fn put_known_at(
-    alloc: Global,
-    out: &mut String,
-    program: &Program,
-    sectors: u32,
-    slot: usize,
-) -> Result<(), AllocError> {
-    let Ok(table) = inferred(alloc, program, sectors) else {
-        return Ok(());
-    };
-    match (program.at(slot), table.state(slot)) {
-        (Some(instr), Some(state)) => put_known(out, &instr, state),
-        _ => Ok(()),
-    }
-}
-
-/// Appends the instruction at which a program is refused, and what is known there.
-fn put_refused_slot(
-    alloc: Global,
-    out: &mut String,
-    words: &Words,
-    files: &[Option<Vec<u8>>],
-    refusal: &Refusal,
-) -> Result<(), AllocError> {
-    let Some(bytes) = bytes_of(files, place_of(refusal.program)) else {
+/// Appends the instruction at which a program is refused, and what is known there of the registers that it reads.
+fn put_refused_slot(alloc: Global, out: &mut String, place: &Place<'_>) -> Result<(), AllocError> {
+    let Some(bytes) = bytes_of(place.files, place_of(place.refusal.program)) else {
         return Ok(());
     };
     let Ok(program) = decode(alloc, bytes) else {
         return Ok(());
     };
-    let slot = refusal.at as usize;
+    let slot = place.refusal.at as usize;
     put_slot(out, &program, slot)?;
-    let Some(options) = verifier_options(words.request()) else {
-        return Ok(());
-    };
-    match options_of(options) {
-        Ok(options) => put_known_at(alloc, out, &program, options.sectors(), slot),
-        Err(_refusal) => Ok(()),
+    match (program.at(slot), &place.known.refused) {
+        (Some(instr), Some(state)) => put_known(out, &instr, state),
+        _ => Ok(()),
     }
 }
 
@@ -232,13 +225,11 @@ fn put_refused_slot(
 fn put_verifier_notes(
     alloc: Global,
     out: &mut String,
-    words: &Words,
-    files: &[Option<Vec<u8>>],
     cause: VerifierCause,
-    refusal: &Refusal,
+    place: &Place<'_>,
 ) -> Result<(), AllocError> {
     if names_instruction(cause) {
-        put_refused_slot(alloc, out, words, files, refusal)?;
+        put_refused_slot(alloc, out, place)?;
     }
     put_cause(alloc, out, &cause, verifier_cure(cause))
 }
@@ -307,7 +298,7 @@ fn put_fewer(
     let Ok(options) = options_of(words) else {
         return Ok(());
     };
-    let Ok(log) = read_log(alloc, bytes, &options) else {
+    let Ok(log) = read_log(alloc, bytes, &[], &options) else {
         return Ok(());
     };
     put_fewer_cuts(alloc, out, &log, &options)?;
@@ -367,6 +358,7 @@ fn option_rule(place: u64) -> &'static str {
         11 => "no image of that cut has that choice, as the report prints it with the same options",
         12 => "--flush is 1 to 64 numbers of entries, with commas between",
         13 => "--from isn't above --to",
+        14 => "the file behind --base has no more bytes than the device, 512 for each sector",
         _ => "the log has no image of that number; 'crashbpf images' tells how many it has",
     }
 }
@@ -399,17 +391,19 @@ fn put_work_notes(out: &mut String, words: &Words) -> Result<(), AllocError> {
 }
 
 /// The notes behind the line of a refusal: what its number means there, the instruction, entry, option or file that is
-/// meant, and what most likely helps, where that is known. Each line begins with `note: ` (docs/REPORT.md, Notes).
+/// meant, and what most likely helps, where that is known; of a program that the verifier refuses also what it knew there. Each
+/// line begins with `note: ` (docs/REPORT.md, Notes).
 pub fn notes_behind(
     alloc: Global,
     words: &Words,
     files: &[Option<Vec<u8>>],
     refusal: &Refusal,
+    known: &Known,
 ) -> Result<String, AllocError> {
     let mut out = String::new(alloc);
-    let place = refusal.at as usize;
+    let at = refusal.at as usize;
     match refusal.code {
-        Cause::Log(cause) => put_log_notes(alloc, &mut out, words, files, cause, place)?,
+        Cause::Log(cause) => put_log_notes(alloc, &mut out, words, files, cause, at)?,
         Cause::Code(cause) => put_code_notes(
             alloc,
             &mut out,
@@ -419,15 +413,20 @@ pub fn notes_behind(
             refusal.program,
         )?,
         Cause::Asm(cause) => put_cause(alloc, &mut out, &cause, asm_cure(cause))?,
-        Cause::Verifier(cause) => put_verifier_notes(
-            alloc, &mut out, words, files, cause, refusal,
-        )?,
+        Cause::Verifier(cause) => {
+            let place = Place {
+                files,
+                refusal,
+                known,
+            };
+            put_verifier_notes(alloc, &mut out, cause, &place)?
+        }
         Cause::Request(RequestCause::TooManyImages) => {
             put_images_notes(alloc, &mut out, words, files)?
         }
         Cause::Request(RequestCause::Option) => put_note(&mut out, option_rule(refusal.at))?,
         Cause::Request(RequestCause::NotInLog) => put_note(&mut out, NOT_IN_LOG)?,
-        Cause::Request(RequestCause::File) => put_file_notes(&mut out, words, files, place)?,
+        Cause::Request(RequestCause::File) => put_file_notes(&mut out, words, files, at)?,
         Cause::Work(_cause) => put_work_notes(&mut out, words)?,
     }
     Ok(out)

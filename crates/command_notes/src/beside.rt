@@ -1,68 +1,19 @@
 //! The notes beside an answer.
 
-ghost use Rattle.std.specs.Prelude.{◌≤◌};
-
 use crate::behind::bytes_of;
 use crate::unreached::put_unreached;
-use bpf_isa::codec::decode;
 use command_line::Words;
 use epochs::By;
 use logfmt::Log;
 use notes::{put_large, put_note};
 use request::{MOST_PROGRAMS, OptionWords, Request, options_of, read_log};
 use std::alloc::{AllocError, Global};
-use verifier::verify;
+use verifier::Known;
 
-/// Appends what no run of an accepted program reaches, which may be one of several.
-fn put_reached_notes(
-    alloc: Global,
-    out: &mut String,
-    whose: Option<u8>,
-    sectors: u32,
-    bytes: &[u8],
-) -> Result<(), AllocError>
-    requires some { 1 ≤ sectors }
-    requires device { sectors ≤ 16384 }
-{
-    let Ok(program) = decode(alloc, bytes) else {
-        return Ok(());
-    };
-    match verify(alloc, &program, sectors) {
-        Ok(verified) => put_unreached(alloc, out, whose, &verified),
-        Err(_fault) => Ok(()),
-    }
-}
-
-/// Appends what no run of an accepted program reaches.
-fn put_verified_notes(
-    alloc: Global,
-    out: &mut String,
-    words: OptionWords,
-    bytes: &[u8],
-) -> Result<(), AllocError> {
-    match options_of(words) {
-        Ok(options) => put_reached_notes(alloc, out, None, options.sectors(), bytes),
-        Err(_refusal) => Ok(()),
-    }
-}
-
-/// Appends what no run of the programs reaches that were verified for a run. They are verified once more.
-fn put_explored_notes(
-    alloc: Global,
-    out: &mut String,
-    words: OptionWords,
-    files: &[Option<Vec<u8>>],
-) -> Result<(), AllocError> {
-    let Ok(options) = options_of(words) else {
-        return Ok(());
-    };
-    if options.checked().is_some() {
-        return Ok(());
-    }
+/// Appends what no run reaches of the programs that were verified for a run, by their numbers.
+fn put_explored_notes(out: &mut String, known: &Known) -> Result<(), AllocError> {
     for number in 0..MOST_PROGRAMS {
-        if let Some(bytes) = bytes_of(files, usize::from(number) + 1) {
-            put_reached_notes(alloc, out, Some(number), options.sectors(), bytes)?;
-        }
+        put_unreached(out, Some(number), known.unreached[usize::from(number)])?;
     }
     Ok(())
 }
@@ -90,7 +41,7 @@ fn put_survey_notes(
     if options.by() == By::Write || options.bound() == 0 {
         return Ok(());
     }
-    match read_log(alloc, bytes, &options) {
+    match read_log(alloc, bytes, &[], &options) {
         Ok(log) => put_large_notes(out, &log, options.bound()),
         Err(_refusal) => Ok(()),
     }
@@ -103,12 +54,11 @@ pub fn notes_beside(
     alloc: Global,
     words: &Words,
     files: &[Option<Vec<u8>>],
+    known: &Known,
 ) -> Result<String, AllocError> {
     let mut out = String::new(alloc);
     match (words.request(), bytes_of(files, 0)) {
-        (Request::Verify(options), Some(bytes)) => {
-            put_verified_notes(alloc, &mut out, options, bytes)?
-        }
+        (Request::Verify(_options), _) => put_unreached(&mut out, None, known.unreached[0])?,
         (
             Request::Explore(options)
             | Request::Why(options)
@@ -116,7 +66,7 @@ pub fn notes_beside(
             | Request::Page(options),
             Some(log),
         ) => {
-            put_explored_notes(alloc, &mut out, options, files)?;
+            put_explored_notes(&mut out, known)?;
             put_survey_notes(alloc, &mut out, options, log)?
         }
         (Request::Images(options), Some(bytes)) => {

@@ -1,6 +1,8 @@
-//! The header of an entry of a log that is refused (docs/LOG-FORMAT.md, Entry header).
+//! The header of an entry of a log, or of a raw log, that is refused (docs/LOG-FORMAT.md, Entry header).
 
-use base::numbers::u64_at;
+ghost use Rattle.std.specs.Prelude.{◌≤◌};
+
+use base::numbers::{u32_at, u64_at};
 use std::alloc::AllocError;
 
 /// The bytes of the super block, and of a header.
@@ -31,24 +33,35 @@ fn header_at(bytes: &[u8], at: usize) -> Option<Header> {
     })
 }
 
-/// How many bytes a header and its data take.
-fn extent(header: &Header) -> Option<u64> {
-    if header.flags / DISCARD % 2 == 1 {
-        return Some(512);
+/// How many bytes a sector of the log has.
+fn sector_of(bytes: &[u8]) -> usize
+    ensures { result ≤ 4096 }
+{
+    if bytes.len() >= SECTOR && u32_at(bytes, 24) == 4096 {
+        4096
+    } else {
+        SECTOR
     }
-    header.count.checked_add(1)?.checked_mul(512)
+}
+
+/// How many bytes a header and its data take, in sectors of that many bytes.
+fn extent(header: &Header, sector: usize) -> Option<u64> {
+    if header.flags / DISCARD % 2 == 1 {
+        return Some(sector as u64);
+    }
+    header.count.checked_add(1)?.checked_mul(sector as u64)
 }
 
 /// The byte behind the entry whose header begins at a byte.
 fn end_of(bytes: &[u8], at: usize) -> Option<usize> {
     let header = header_at(bytes, at)?;
-    let extent = extent(&header)?;
+    let extent = extent(&header, sector_of(bytes))?;
     at.checked_add(extent as usize)
 }
 
 /// The byte at which the header of the entry of that number begins.
 fn place_of(bytes: &[u8], number: usize) -> Option<usize> {
-    let mut at = SECTOR;
+    let mut at = sector_of(bytes);
     for _ in 0..number {
         at = end_of(bytes, at)?;
     }

@@ -3,14 +3,14 @@
 //! # Place
 //!
 //! On `notes`, which has the parts: sentences, entries, instructions and what is known of registers. Here it is chosen which of
-//! them are said of a command, of its `Words` (`command_line`), its options (`request`) and what its files hold. A file is read
-//! and a program verified once more for that, after the answer. `commands` hands both calls to the program, whose status and
-//! standard output they don't touch.
+//! them are said of a command, of its `Words` (`command_line`), its options (`request`), what its files hold, and what the
+//! verifier knew of its programs (`Known`). A log is read once more for that, after the answer, and no program is verified again.
+//! `commands` hands both calls to the program, whose status and standard output they don't touch.
 //!
 //! | Call | Answers |
 //! |---|---|
-//! | `notes_behind(alloc, words, files, refusal)` | what the number of a refusal means there, the instruction, entry, option or file that is meant, and what most likely helps |
-//! | `notes_beside(alloc, words, files)` | beside an answer: what no run of a program reaches, and how many writes never depart as a whole |
+//! | `notes_behind(alloc, words, files, refusal, known)` | what the number of a refusal means there, the instruction, entry, option or file that is meant, and what most likely helps |
+//! | `notes_beside(alloc, words, files, known)` | beside an answer: what no run of a program reaches, and how many writes never depart as a whole |
 //!
 //! `behind.rt` and `beside.rt` have the two, `headers.rt` the header of an entry that is refused for it, and `unreached.rt` the
 //! instructions that no path reaches.
@@ -18,13 +18,13 @@
 //! # What is proved
 //!
 //! Which notes are said is no part of a contract; their parts are those of `notes`, whose texts are proved. The note of what no
-//! run reaches is exactly that of `specs/Unreached.antt`: how many instructions of an accepted program have no state in its
-//! table, and the slot of the first. Runs of the built program have a row for each note.
+//! run reaches is exactly that of `specs/Unreached.antt`: how many instructions of an accepted program no run reaches, and
+//! the slot of the first, as `unreached_of` of `verifier` answers them. Runs of the built program have a row for each note.
 //!
 //! # Example
 //!
 //! ```text
-//! notes_behind(alloc, &words, files, &refusal)?
+//! notes_behind(alloc, &words, files, &refusal, &known)?
 //! // note: --bound is 0 to 3
 //! ```
 #![tactic(auto)]

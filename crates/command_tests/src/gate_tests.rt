@@ -159,6 +159,7 @@ fn tells_the_gate_of_each_block(rt: HostRuntime) -> Result<(), Fail> {
         alloc,
         &gate,
         &flushes(alloc, 64)?,
+        &[],
         programs.as_slice(),
         &options,
     )
@@ -179,6 +180,7 @@ fn refuses_a_run_without_programs(rt: HostRuntime) -> Result<(), Fail> {
         &rt,
         alloc,
         &flushes(alloc, 0)?,
+        &[],
         programs.as_slice(),
         &options,
     )
@@ -241,7 +243,7 @@ fn held<R: Threads + Wait + Sync + Abort>(
         ended: AtomicU64::new(0),
         workers: AtomicU64::new(0),
     };
-    let explored = explore_with(rt, alloc, &gate, log, programs.as_slice(), &options)
+    let explored = explore_with(rt, alloc, &gate, log, &[], programs.as_slice(), &options)
         .ok()
         .ok_or("a report")?;
     assert_eq!(rt; gate.ended.load(Ordering::SeqCst), blocks);
@@ -286,7 +288,7 @@ fn block_1_ends_while_block_0_is_held(rt: HostRuntime) -> Result<(), Fail> {
     .ok_or("options")?;
     let mut programs = Vec::new(alloc);
     programs.push(ANSWER_1.to_vec(alloc)?)?;
-    let alone = explore(&rt, alloc, &log, programs.as_slice(), &options)
+    let alone = explore(&rt, alloc, &log, &[], programs.as_slice(), &options)
         .ok()
         .ok_or("a report")?;
     for workers in [2, 64] {
@@ -408,7 +410,7 @@ fn sixty_four_workers_hold_a_block_each(rt: HostRuntime) -> Result<(), Fail> {
         here: AtomicU64::new(0),
         alone: AtomicU64::new(0),
     };
-    let explored = explore_with(&rt, alloc, &gate, &log, programs.as_slice(), &options)
+    let explored = explore_with(&rt, alloc, &gate, &log, &[], programs.as_slice(), &options)
         .ok()
         .ok_or("a report")?;
     assert_eq!(rt; gate.images.load(Ordering::SeqCst), 4096);
@@ -448,9 +450,17 @@ fn hits_of<R: Threads + Wait + Sync>(
         programs.push(BYTE_64.to_vec(alloc)?)?;
     }
     let log = writes(alloc, items)?;
-    let explored = explore_with(rt, alloc, &OpenGate, &log, programs.as_slice(), &options)
-        .ok()
-        .ok_or("a report")?;
+    let explored = explore_with(
+        rt,
+        alloc,
+        &OpenGate,
+        &log,
+        &[],
+        programs.as_slice(),
+        &options,
+    )
+    .ok()
+    .ok_or("a report")?;
     Ok(explored.hits)
 }
 

@@ -9,11 +9,20 @@ use Rattle.base.specs.Refusals.{memory_refusal}
 use Rattle.request.specs.declared.settings.Settings.{Settings}
 use Rattle.request.specs.Refusals.{file_refusal}
 use Rattle.runs.specs.Explore.{Refuses}
-use Rattle.commands.specs.Acting.{Files, first_held, unread, RefusesFile, for_file, RefusesFiles, for_unread, for_run, for_memory, AnswersFiles, AnswersRun}
+use Rattle.request.specs.Source.{Recording}
+use Rattle.commands.specs.Acting.{Files, first_held, initial_of, unread, RefusesFile, for_file, RefusesRecording, for_log_file, for_base_file, RefusesFiles, for_unread, for_base, for_run, for_memory, AnswersFiles, AnswersRun}
 
 -- the first file can't be read
 pub unread_file : (files : Files) (Rest : List ℕ → Refusal → Type 0) (r : Refusal) → (first_held files ≡ None) × (r ≡ file_refusal 0) → RefusesFile files Rest r
 unread_file files Rest r h = rw h.1 (for_file h.0)
+
+pub unread_log : (files : Files) (Rest : Recording → Refusal → Type 0) (r : Refusal) → (first_held files ≡ None) × (r ≡ file_refusal 0) → RefusesRecording files Rest r
+unread_log files Rest r h = rw h.1 (for_log_file h.0)
+
+-- the file of the initial content can't be read
+pub unread_base : (files : Files) (Rest : Recording → Refusal → Type 0) (r : Refusal) → (initial_of files.base ≡ None) × (r ≡ file_refusal (length files.named))
+    → RefusesRecording files Rest r
+unread_base files Rest r h = rw h.1 (for_base_file h.0)
 
 -- no file passes the test where the place of the first is the end
 none_by : (q n : ℕ) (b : Bool) → nat_lt q n ≡ b → cond b (Some q) None ≡ None → n ≤ q
@@ -34,14 +43,14 @@ pub all_read : {V : Type 0} (items : V → List ℕ) (files : List (Option V)) �
     → map (option_map items) files ≡ map Some (filter_map (option_map items) files)
 all_read items files h = readable items files (none_within is_none files h)
 
+same_length : {V : Type 0} (items : V → List ℕ) (files : List (Option V)) → length (map (option_map items) files) ≡ length files
+same_length items [] = refl
+same_length items (file ∷ files) = ap suc (same_length items files)
+
 same_place : {V : Type 0} (items : V → List ℕ) (files : List (Option V)) → position_or_len is_none (map (option_map items) files) ≡ position_or_len is_none files
 same_place items [] = refl
 same_place items (None ∷ files) = refl
 same_place items (Some v ∷ files) = ap (λ n. 1 + n) (same_place items files)
-
-same_length : {V : Type 0} (items : V → List ℕ) (files : List (Option V)) → length (map (option_map items) files) ≡ length files
-same_length items [] = refl
-same_length items (file ∷ files) = ap suc (same_length items files)
 
 next_by : (q n place : ℕ) (b : Bool) → nat_lt q n ≡ b → cond b (Some q) None ≡ Some place → cond (nat_lt (1 + q) (suc n)) (Some (1 + q)) None ≡ Some (place + 1)
 next_by q n place true e h =
@@ -93,20 +102,21 @@ none_next items files n file programs lt here is before =
     rw (add-one n, more, is, before, append-nil) refl
 
 -- why `explore` is refused by its files
-pub no_file : {V : Type 0} (items : V → List ℕ) (files : List (Option V)) (s : Settings) (r : Refusal) → length files ≡ 0 → r ≡ file_refusal 0
-    → RefusesFiles (map (option_map items) files) s r
-no_file items [] s r none same = rw same (for_unread 0 refl)
-no_file items (file ∷ files) s r none same = absurd (let bad : suc (length files) ≡ 0 = none in omega (arith, bad))
+pub no_file : {V : Type 0} (items : V → List ℕ) (files : List (Option V)) (base : Option (Option (List ℕ))) (s : Settings) (r : Refusal) → length files ≡ 0 → r ≡ file_refusal 0
+    → RefusesFiles (record { named = map (option_map items) files; base = base }) s r
+no_file items [] base s r none same = rw same (for_unread 0 refl)
+no_file items (file ∷ files) base s r none same = absurd (let bad : suc (length files) ≡ 0 = none in omega (arith, bad))
 
-pub no_log : {V : Type 0} (items : V → List ℕ) (files : List (Option V)) (first : Option V) (others : List (Option V)) (s : Settings) (r : Refusal)
-    → files ≡ first ∷ others → first ≡ None → r ≡ file_refusal 0 → RefusesFiles (map (option_map items) files) s r
-no_log items files first others s r split is same =
+pub no_log : {V : Type 0} (items : V → List ℕ) (files : List (Option V)) (first : Option V) (others : List (Option V)) (base : Option (Option (List ℕ))) (s : Settings) (r : Refusal)
+    → files ≡ first ∷ others → first ≡ None → r ≡ file_refusal 0 → RefusesFiles (record { named = map (option_map items) files; base = base }) s r
+no_log items files first others base s r split is same =
     let some : nat_lt 0 (suc (length (map (option_map items) others))) ≡ true = grind (arith, nat_tests) in
     rw (split, is, same) (for_unread 0 (rw some refl))
 
-pub no_program : {V : Type 0} (items : V → List ℕ) (files : List (Option V)) (first : Option V) (others : List (Option V)) (v : V) (place : ℕ) (s : Settings) (r : Refusal)
-    → files ≡ first ∷ others → first ≡ Some v → position is_none others ≡ Some place → r ≡ file_refusal (place + 1) → RefusesFiles (map (option_map items) files) s r
-no_program items files first others v place s r split is there same =
+pub no_program : {V : Type 0} (items : V → List ℕ) (files : List (Option V)) (first : Option V) (others : List (Option V)) (v : V) (place : ℕ) (base : Option (Option (List ℕ))) (s : Settings)
+    (r : Refusal) → files ≡ first ∷ others → first ≡ Some v → position is_none others ≡ Some place → r ≡ file_refusal (place + 1)
+    → RefusesFiles (record { named = map (option_map items) files; base = base }) s r
+no_program items files first others v place base s r split is there same =
     rw (split, is, same) (for_unread (place + 1) (unread_next items v others place there))
 
 -- what was read of the files
@@ -116,7 +126,15 @@ pub files_read : {V : Type 0} (items : V → List ℕ) (files : List (Option V))
 files_read items files first others v log programs split is readable same all =
     rw (split, is, same, all) (ap (λ rest. Some (items v) ∷ rest) (all_read items others readable))
 
-pub memory_wanting : {V : Type 0} (items : V → List ℕ) (files : List (Option V)) (first : Option V) (others : List (Option V)) (v : V) (s : Settings) (r : Refusal)
-    → files ≡ first ∷ others → first ≡ Some v → position is_none others ≡ None → r ≡ memory_refusal → RefusesFiles (map (option_map items) files) s r
-memory_wanting items files first others v s r split is readable same =
+pub memory_wanting : {V : Type 0} (items : V → List ℕ) (files : List (Option V)) (first : Option V) (others : List (Option V)) (v : V) (base : Option (Option (List ℕ))) (s : Settings) (r : Refusal)
+    → files ≡ first ∷ others → first ≡ Some v → position is_none others ≡ None → r ≡ memory_refusal → RefusesFiles (record { named = map (option_map items) files; base = base }) s r
+memory_wanting items files first others v base s r split is readable same =
     rw (split, is, same) (for_memory (none_unread items v others readable))
+
+-- all files that are named can be read, and that of the initial content can't be
+pub no_base : {V : Type 0} (items : V → List ℕ) (files : List (Option V)) (first : Option V) (others : List (Option V)) (v : V) (base : Option (Option (List ℕ))) (s : Settings) (r : Refusal)
+    → files ≡ first ∷ others → first ≡ Some v → position is_none others ≡ None → (initial_of base ≡ None) × (r ≡ file_refusal (length (map (option_map items) files)))
+    → RefusesFiles (record { named = map (option_map items) files; base = base }) s r
+no_base items files first others v base s r split is readable h =
+    let all : unread (map (option_map items) files) ≡ None = rw (split, is) (none_unread items v others readable) in
+    rw h.1 (for_base all h.0)

@@ -18,7 +18,7 @@ use Rattle.crash_text.specs.Sectors.{differs, differences, difference_head, diff
 use Rattle.crash_text.specs.Shown.{numbered_text, chosen_text, choice_shown, cut_shown, shown_text}
 use Rattle.request.specs.declared.settings.Settings.{Settings}
 use Rattle.request.specs.declared.command.Which.{Which}
-use Rattle.request.specs.Source.{plan_of}
+use Rattle.request.specs.Source.{Recording, plan_of}
 use Rattle.looks.specs.Show.{whole_view, IsShown}
 use Rattle.commands.specs.Differences.{image_shown, image_beside, NamesSector, NamesNone, ShowNamesDifferences}
 use Rattle.commands.proofs.OneReport.{same_log}
@@ -175,26 +175,26 @@ same_devices size lefts rights bytes long wide each silent = same_by_place right
     ]
 
 -- of what `show` answers
-of_sector : (text : List ℕ) (s : Settings) (which : Which) (bytes : List ℕ) (h : IsShown text s which bytes) (n : ℕ) (whole image : List ℕ)
+of_sector : (text : Recording) (s : Settings) (which : Which) (bytes : List ℕ) (h : IsShown text s which bytes) (n : ℕ) (whole image : List ℕ)
     → slice_get (image_beside text s which bytes h) n ≡ Some whole → slice_get (image_shown text s which bytes h) n ≡ Some image
     → (whole ≡ image) ⊎ NamesSector bytes n
 of_sector text s which bytes h n whole image left right =
     same_or_named (plan_of s h.value) s.bound s.tears h.choice (image_beside text s which bytes h) (image_shown text s which bytes h) bytes n whole image h.shown left right
     (device.whole_view (whole_view h.value h.choice.cut) n whole left) (device.whole_view (view_of (plan_of s h.value) h.choice) n image right)
 
-each_named : (text : List ℕ) (s : Settings) (which : Which) (bytes : List ℕ) (h : IsShown text s which bytes) (n : ℕ) (whole image : List ℕ)
+each_named : (text : Recording) (s : Settings) (which : Which) (bytes : List ℕ) (h : IsShown text s which bytes) (n : ℕ) (whole image : List ℕ)
     → slice_get (image_beside text s which bytes h) n ≡ Some whole → slice_get (image_shown text s which bytes h) n ≡ Some image → whole ≢ image
     → NamesSector bytes n
 each_named text s which bytes h n whole image left right differ =
     elim (of_sector text s which bytes h n whole image left right) [ inl same ↦ absurd (differ same) | inr named ↦ named ]
 
-none_named : (text : List ℕ) (s : Settings) (which : Which) (bytes : List ℕ) (h : IsShown text s which bytes) → NamesNone bytes
+none_named : (text : Recording) (s : Settings) (which : Which) (bytes : List ℕ) (h : IsShown text s which bytes) → NamesNone bytes
     → image_shown text s which bytes h ≡ image_beside text s which bytes h
 none_named text s which bytes h silent =
     same_devices h.value.sectors (image_beside text s which bytes h) (image_shown text s which bytes h) bytes (device.length_view (whole_view h.value h.choice.cut))
     (device.length_view (view_of (plan_of s h.value) h.choice)) (of_sector text s which bytes h) silent
 
-two_alike : TextOfOneLog → (text : List ℕ) (s : Settings) (which other : Which) (bytes others : List ℕ) (h : IsShown text s which bytes) (k : IsShown text s other others)
+two_alike : TextOfOneLog → (text : Recording) (s : Settings) (which other : Which) (bytes others : List ℕ) (h : IsShown text s which bytes) (k : IsShown text s other others)
     → h.choice.cut ≡ k.choice.cut → NamesNone bytes → NamesNone others → image_shown text s which bytes h ≡ image_shown text s other others k
 two_alike texts text s which other bytes others h k cut silent quiet =
     let value : h.value ≡ k.value = same_log texts text s h.value k.value h.source k.source in

@@ -21,10 +21,13 @@ use Rattle.request.specs.declared.command.Which.{Which}
 use Rattle.request.specs.declared.command.Request.{Request}
 use Rattle.request.specs.declared.command.Request.TheVariants as request
 use Rattle.request.specs.OptionWords.{AskFor}
-use Rattle.request.specs.Source.{plan_of}
+use Rattle.request.specs.Source.{Recording, plan_of}
 use Rattle.runs.specs.Explore.{subject_of}
 use Rattle.runs.specs.Why.{TellsOfLines, PageOfLines, IsExplained, IsPaged, IsTold}
 use Rattle.runs.specs.Cured.{TellsCure, IsCured}
+use Rattle.raw_log.specs.Imported.{IsImported}
+use Rattle.raw_log.proofs.Profile.{one_import}
+use Rattle.looks.specs.Import.{most_sectors}
 use Rattle.looks.specs.Which.{IsMeant, IsOnly}
 use Rattle.looks.specs.Image.{joined, IsImage}
 use Rattle.looks.specs.Show.{whole_view, IsShown}
@@ -34,7 +37,7 @@ use Rattle.looks.specs.Verifying.{accepted_text, IsAcceptedText}
 use Rattle.looks.specs.Assembly.{listing_text, IsAssembled, IsListed}
 use Rattle.commands.specs.declared.action.Wanted.{Wanted}
 use Rattle.commands.specs.declared.action.Wanted.TheVariants as wanted
-use Rattle.commands.specs.Acting.{Files, status_of, IsAnswered, AnswersRun, AnswersFiles, AnswersExplore, AnswersFile, AnswersWith, Answers}
+use Rattle.commands.specs.Acting.{Files, initial_of, recording, status_of, IsAnswered, AnswersRun, AnswersFiles, AnswersExplore, AnswersFile, AnswersLog, AnswersOf, AnswersWith, Answers}
 use Rattle.commands.proofs.OneReport.{same_log, same_asked, same_checkers, same_test, one_report}
 use Rattle.commands.proofs.OneText.{one_explanation}
 use Rattle.commands.proofs.OnePage.{one_page}
@@ -51,7 +54,7 @@ pub record Laws : Type 0 where
 abbrev pub Same : List ℕ → List ℕ → ℕ → ℕ → Type 0
 Same bytes others status ended = (bytes ≡ others) × (status ≡ ended)
 
-explained_once : Laws → (text : List ℕ) (files : List (List ℕ)) (s : Settings) (bytes others : List ℕ) (failing fails : Bool)
+explained_once : Laws → (text : Recording) (files : List (List ℕ)) (s : Settings) (bytes others : List ℕ) (failing fails : Bool)
     → IsExplained text files s bytes failing → IsExplained text files s others fails → (bytes ≡ others) × (failing ≡ fails)
 explained_once laws text files s bytes others failing fails h k =
     let value = same_log laws.texts text s h.value k.value h.source k.source in
@@ -61,7 +64,7 @@ explained_once laws text files s bytes others failing fails h k =
     let causes = subst (λ (cs : List CheckerValue). TellsOfLines s h.value cs (failing_lines (subject_of s h.value cs)) others) (sym checkers) by_value in
     (one_explanation _ _ _ bytes others h.causes causes, same_test failing fails _ _ h.fails k.fails lines)
 
-paged_once : Laws → (text : List ℕ) (files : List (List ℕ)) (s : Settings) (bytes others : List ℕ) (failing fails : Bool)
+paged_once : Laws → (text : Recording) (files : List (List ℕ)) (s : Settings) (bytes others : List ℕ) (failing fails : Bool)
     → IsPaged text files s bytes failing → IsPaged text files s others fails → (bytes ≡ others) × (failing ≡ fails)
 paged_once laws text files s bytes others failing fails h k =
     let value = same_log laws.texts text s h.value k.value h.source k.source in
@@ -71,13 +74,13 @@ paged_once laws text files s bytes others failing fails h k =
     let page = subst (λ (cs : List CheckerValue). PageOfLines s h.value cs (failing_lines (subject_of s h.value cs)) others) (sym checkers) by_value in
     (one_page _ _ _ _ bytes others h.page page, same_test failing fails _ _ h.fails k.fails lines)
 
-told_once : Laws → (t : Telling) (text : List ℕ) (files : List (List ℕ)) (s : Settings) (bytes others : List ℕ) (failing fails : Bool)
+told_once : Laws → (t : Telling) (text : Recording) (files : List (List ℕ)) (s : Settings) (bytes others : List ℕ) (failing fails : Bool)
     → IsTold t text files s bytes failing → IsTold t text files s others fails → (bytes ≡ others) × (failing ≡ fails)
 told_once laws telling.Report text files s bytes others failing fails h k = one_report laws.texts laws.programs laws.verdicts text files s bytes others failing fails h k
 told_once laws telling.Causes text files s bytes others failing fails h k = explained_once laws text files s bytes others failing fails h k
 told_once laws telling.Page text files s bytes others failing fails h k = paged_once laws text files s bytes others failing fails h k
 
-cured_once : Laws → (text : List ℕ) (files : List (List ℕ)) (s : Settings) (bytes others : List ℕ) (failing fails : Bool)
+cured_once : Laws → (text : Recording) (files : List (List ℕ)) (s : Settings) (bytes others : List ℕ) (failing fails : Bool)
     → IsCured text files s bytes failing → IsCured text files s others fails → (bytes ≡ others) × (failing ≡ fails)
 cured_once laws text files s bytes others failing fails h k =
     let value = same_log laws.texts text s h.value k.value h.source k.source in
@@ -87,19 +90,19 @@ cured_once laws text files s bytes others failing fails h k =
     let cure = subst (λ (cs : List CheckerValue). TellsCure s h.value cs others) (sym checkers) by_value in
     (one_cure s h.value h.checkers bytes others h.cure cure, same_test failing fails _ _ h.fails k.fails lines)
 
-answered_once : Laws → (t : Wanted) (text : List ℕ) (files : List (List ℕ)) (s : Settings) (bytes others : List ℕ) (failing fails : Bool)
+answered_once : Laws → (t : Wanted) (text : Recording) (files : List (List ℕ)) (s : Settings) (bytes others : List ℕ) (failing fails : Bool)
     → IsAnswered t text files s bytes failing → IsAnswered t text files s others fails → (bytes ≡ others) × (failing ≡ fails)
 answered_once laws (wanted.Told t) text files s bytes others failing fails h k = told_once laws t text files s bytes others failing fails h k
 answered_once laws wanted.Cured text files s bytes others failing fails h k = cured_once laws text files s bytes others failing fails h k
 
-run_once : Laws → (t : Wanted) (s : Settings) (log : List ℕ) (programs : List (List ℕ)) (bytes others : List ℕ) (status ended : ℕ)
+run_once : Laws → (t : Wanted) (s : Settings) (log : Recording) (programs : List (List ℕ)) (bytes others : List ℕ) (status ended : ℕ)
     → AnswersRun t s log programs bytes status → AnswersRun t s log programs others ended → Same bytes others status ended
 run_once laws t s log programs bytes others status ended a b =
     let same = answered_once laws t log programs s bytes others a.failing b.failing a.told b.told in
     (same.0, a.ends ∙ ap status_of same.1 ∙ sym b.ends)
 
 -- what files that can be read hold
-abbrev contents : Files → List (List ℕ)
+abbrev contents : List (Option (List ℕ)) → List (List ℕ)
 contents [] = []
 contents (None ∷ files) = contents files
 contents (Some held ∷ files) = held ∷ contents files
@@ -108,17 +111,23 @@ contents_are : (xs : List (List ℕ)) → contents (map Some xs) ≡ xs
 contents_are [] = refl
 contents_are (x ∷ xs) = ap (λ (ys : List (List ℕ)). x ∷ ys) (contents_are xs)
 
-pub same_files : (files : Files) (xs ys : List (List ℕ)) → files ≡ map Some xs → files ≡ map Some ys → xs ≡ ys
+pub same_files : (files : List (Option (List ℕ))) (xs ys : List (List ℕ)) → files ≡ map Some xs → files ≡ map Some ys → xs ≡ ys
 same_files files xs ys a b = sym (contents_are xs) ∙ ap contents (sym a ∙ b) ∙ contents_are ys
+
+-- the initial content of a command's files is one
+pub same_initial : (files : Files) (xs ys : List ℕ) → initial_of files.base ≡ Some xs → initial_of files.base ≡ Some ys → xs ≡ ys
+same_initial files xs ys a b = let both : Some xs ≡ Some ys = sym a ∙ b in cc
 
 files_once : Laws → (t : Wanted) (s : Settings) (files : Files) (bytes others : List ℕ) (status ended : ℕ)
     → AnswersFiles t s files bytes status → AnswersFiles t s files others ended → Same bytes others status ended
 files_once laws t s files bytes others status ended a b =
-    let all : b.log ∷ b.programs ≡ a.log ∷ a.programs = same_files files (b.log ∷ b.programs) (a.log ∷ a.programs) b.read a.read in
+    let all : b.log ∷ b.programs ≡ a.log ∷ a.programs = same_files files.named (b.log ∷ b.programs) (a.log ∷ a.programs) b.read a.read in
     let log : b.log ≡ a.log = cc in
     let programs : b.programs ≡ a.programs = cc in
-    let by_log = subst (λ (text : List ℕ). AnswersRun t s text b.programs others ended) log b.answers in
-    run_once laws t s a.log a.programs bytes others status ended a.answers (subst (λ (ps : List (List ℕ)). AnswersRun t s a.log ps others ended) programs by_log)
+    let both : recording b.log b.initial ≡ recording a.log a.initial = λ i. recording (log i) (same_initial files b.initial a.initial b.based a.based i) in
+    let by_log = subst (λ (text : Recording). AnswersRun t s text b.programs others ended) both b.answers in
+    run_once laws t s (recording a.log a.initial) a.programs bytes others status ended a.answers
+    (subst (λ (ps : List (List ℕ)). AnswersRun t s (recording a.log a.initial) ps others ended) programs by_log)
 
 pub same_settings : (w : OptionWords) (s t : Settings) → AskFor w s → AskFor w t → s ≡ t
 same_settings w s t a b = let both : Some s ≡ Some t = sym a.asked ∙ b.asked in cc
@@ -146,11 +155,29 @@ with_once w Is one files bytes others status ended a b =
     let same = same_settings w b.settings a.settings b.asked a.asked in
     file_once (Is a.settings) (one a.settings) files bytes others status ended a.answers (subst (λ (s : Settings). AnswersFile (Is s) files others ended) same b.answers)
 
-one_survey : Laws → (s : Settings) → IsOne (λ text bytes. IsSurvey text s bytes)
+-- the same of a command on a log
+abbrev IsOneOf : (Recording → List ℕ → Type 0) → Type 0
+IsOneOf Is = (held : Recording) (bytes others : List ℕ) → Is held bytes → Is held others → bytes ≡ others
+
+log_once : (Is : Recording → List ℕ → Type 0) → IsOneOf Is → (files : Files) (bytes others : List ℕ) (status ended : ℕ)
+    → AnswersLog Is files bytes status → AnswersLog Is files others ended → Same bytes others status ended
+log_once Is one files bytes others status ended a b =
+    let both : Some b.held ≡ Some a.held = sym b.read ∙ a.read in
+    let held : b.held ≡ a.held = cc in
+    let same : recording b.held b.initial ≡ recording a.held a.initial = λ i. recording (held i) (same_initial files b.initial a.initial b.based a.based i) in
+    (one (recording a.held a.initial) bytes others a.is (subst (λ (h : Recording). Is h others) same b.is), a.ends ∙ sym b.ends)
+
+of_once : (w : OptionWords) (Is : Settings → Recording → List ℕ → Type 0) → ((s : Settings) → IsOneOf (Is s)) → (files : Files) (bytes others : List ℕ) (status ended : ℕ)
+    → AnswersOf w Is files bytes status → AnswersOf w Is files others ended → Same bytes others status ended
+of_once w Is one files bytes others status ended a b =
+    let same = same_settings w b.settings a.settings b.asked a.asked in
+    log_once (Is a.settings) (one a.settings) files bytes others status ended a.answers (subst (λ (s : Settings). AnswersLog (Is s) files others ended) same b.answers)
+
+one_survey : Laws → (s : Settings) → IsOneOf (λ text bytes. IsSurvey text s bytes)
 one_survey laws s text bytes others a b =
     a.told ∙ ap (λ v. survey_text (plan_of s v) s.bound s.tears) (same_log laws.texts text s a.value b.value a.source b.source) ∙ sym b.told
 
-one_table : Laws → (s : Settings) → IsOne (λ text bytes. IsTable text s bytes)
+one_table : Laws → (s : Settings) → IsOneOf (λ text bytes. IsTable text s bytes)
 one_table laws s text bytes others a b =
     let value = same_asked laws.texts text s a.value b.value a.reads b.reads in
     a.shown ∙ ap (λ (v : LogValue). log_table v.entries) value ∙ sym b.shown
@@ -160,7 +187,7 @@ same_choice : (s : Settings) (which : Which) (v w : LogValue) (c d : ChoiceValue
     → IsOnly (IsMeant (plan_of s w) s.bound s.tears which) d → c ≡ d
 same_choice s which v w c d same a b = sym (a.only d (subst (λ (x : LogValue). IsMeant (plan_of s x) s.bound s.tears which d) (sym same) b.is))
 
-one_image : Laws → (which : Which) (s : Settings) → IsOne (λ text bytes. IsImage text s which bytes)
+one_image : Laws → (which : Which) (s : Settings) → IsOneOf (λ text bytes. IsImage text s which bytes)
 one_image laws which s text bytes others a b =
     let value = same_log laws.texts text s a.value b.value a.source b.source in
     let choice = same_choice s which a.value b.value a.choice b.choice value a.meant b.meant in
@@ -172,7 +199,7 @@ one_image laws which s text bytes others a b =
 abbrev text_shown : Settings → LogValue → ChoiceValue → List ℕ
 text_shown s v c = shown_text (plan_of s v) s.bound s.tears c (sectors_of (whole_view v c.cut)) (sectors_of (view_of (plan_of s v) c))
 
-one_show : Laws → (which : Which) (s : Settings) → IsOne (λ text bytes. IsShown text s which bytes)
+one_show : Laws → (which : Which) (s : Settings) → IsOneOf (λ text bytes. IsShown text s which bytes)
 one_show laws which s text bytes others a b =
     let value = same_log laws.texts text s a.value b.value a.source b.source in
     let choice = same_choice s which a.value b.value a.choice b.choice value a.meant b.meant in
@@ -193,6 +220,9 @@ one_assembled laws text bytes others a b =
 one_listed : Laws → (numbered : Bool) → IsOne (IsListed numbered)
 one_listed laws numbered code bytes others a b = a.listed ∙ ap (listing_text numbered) (laws.programs code a.slots b.slots a.spelled b.spelled) ∙ sym b.listed
 
+one_imported : IsOne (λ raw text. IsImported raw most_sectors text)
+one_imported raw text other a b = one_import raw text other most_sectors a b
+
 pub one_answer : Laws → (r : Request) (files : Files) (bytes others : List ℕ) (status ended : ℕ)
     → Answers r files bytes status → Answers r files others ended → (bytes ≡ others) × (status ≡ ended)
 one_answer laws request.StoredRun files bytes others status ended a b = run_once laws (wanted.Told telling.Report) _ _ _ bytes others status ended a b
@@ -200,10 +230,11 @@ one_answer laws (request.Explore w) files bytes others status ended a b = explor
 one_answer laws (request.Why w) files bytes others status ended a b = explore_once laws (wanted.Told telling.Causes) w files bytes others status ended a b
 one_answer laws (request.Cure w) files bytes others status ended a b = explore_once laws wanted.Cured w files bytes others status ended a b
 one_answer laws (request.Page w) files bytes others status ended a b = explore_once laws (wanted.Told telling.Page) w files bytes others status ended a b
-one_answer laws (request.Images w) files bytes others status ended a b = with_once w (λ s text. IsSurvey text s) (one_survey laws) files bytes others status ended a b
-one_answer laws (request.Log w) files bytes others status ended a b = with_once w (λ s text. IsTable text s) (one_table laws) files bytes others status ended a b
-one_answer laws (request.Image w which) files bytes others status ended a b = with_once w (λ s text. IsImage text s which) (one_image laws which) files bytes others status ended a b
-one_answer laws (request.Show w which) files bytes others status ended a b = with_once w (λ s text. IsShown text s which) (one_show laws which) files bytes others status ended a b
+one_answer laws (request.Images w) files bytes others status ended a b = of_once w (λ s text. IsSurvey text s) (one_survey laws) files bytes others status ended a b
+one_answer laws (request.Log w) files bytes others status ended a b = of_once w (λ s text. IsTable text s) (one_table laws) files bytes others status ended a b
+one_answer laws (request.Image w which) files bytes others status ended a b = of_once w (λ s text. IsImage text s which) (one_image laws which) files bytes others status ended a b
+one_answer laws (request.Show w which) files bytes others status ended a b = of_once w (λ s text. IsShown text s which) (one_show laws which) files bytes others status ended a b
 one_answer laws (request.Verify w) files bytes others status ended a b = with_once w (λ s code. IsAcceptedText code s.sectors) (one_verified laws) files bytes others status ended a b
+one_answer laws request.Import files bytes others status ended a b = file_once (λ raw. IsImported raw most_sectors) one_imported files bytes others status ended a b
 one_answer laws request.Asm files bytes others status ended a b = file_once IsAssembled (one_assembled laws) files bytes others status ended a b
 one_answer laws (request.List numbered) files bytes others status ended a b = file_once (IsListed numbered) (one_listed laws numbered) files bytes others status ended a b

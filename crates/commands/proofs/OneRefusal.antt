@@ -22,11 +22,14 @@ use Rattle.request.specs.declared.command.Request.{Request}
 use Rattle.request.specs.declared.command.Request.TheVariants as request
 use Rattle.request.specs.Settings.{option_refusal, settings_refusal}
 use Rattle.request.specs.OptionWords.{AskFor, settings_with, words_refusal}
-use Rattle.request.specs.Source.{plan_of, HasImages}
+use Rattle.request.specs.Source.{Recording, plan_of, HasImages}
 use Rattle.runs.specs.Explore.{report_of, Refuses}
 use Rattle.runs.specs.Why.{IsTold}
 use Rattle.commands.specs.declared.action.Wanted.{Wanted}
 use Rattle.commands.specs.declared.action.Wanted.TheVariants as wanted
+use Rattle.raw_log.specs.Imported.{IsImported}
+use Rattle.raw_log.proofs.NoFault.{imported_has_no_fault}
+use Rattle.looks.specs.Import.{most_sectors, RefusesImport, with_raw_fault, no_raw_memory}
 use Rattle.looks.specs.Which.{IsMeant}
 use Rattle.looks.specs.Image as image
 use Rattle.looks.specs.Image.{IsImage, RefusesImage}
@@ -38,10 +41,10 @@ use Rattle.looks.specs.Table.{IsTable, RefusesTable}
 use Rattle.looks.specs.Verifying.{IsAcceptedText, RefusesVerified, with_code_fault, no_code_memory, with_verifier_fault, no_verifier_memory, no_text_memory}
 use Rattle.looks.specs.Assembly as assembly
 use Rattle.looks.specs.Assembly.{IsAssembled, IsListed, RefusesText, RefusesBytes}
-use Rattle.commands.specs.Acting.{Files, first_held, unread, IsAnswered, AnswersRun, AnswersFiles, AnswersExplore, AnswersFile, AnswersWith, Answers, RefusesWith, for_words, for_settings, RefusesFile, for_file, for_held, RefusesFiles, for_unread, for_run, for_memory, RefusesToAct}
+use Rattle.commands.specs.Acting.{Files, initial_of, recording, first_held, unread, IsAnswered, AnswersRun, AnswersFiles, AnswersExplore, AnswersFile, AnswersOf, AnswersWith, Answers, RefusesWith, for_words, for_settings, RefusesFile, for_file, for_held, RefusesRecording, for_log_file, for_base_file, for_recording, RefusesFiles, for_unread, for_base, for_run, for_memory, RefusesToAct}
 use Rattle.commands.specs.Laws.{IsOfMemory}
 use Rattle.commands.proofs.OneReport.{Below, same_log, of_log, of_source, report_or_refusal}
-use Rattle.commands.proofs.OneAnswer.{same_files, same_settings}
+use Rattle.commands.proofs.OneAnswer.{same_files, same_initial, same_settings}
 
 -- words that ask for settings are not refused
 asked_by : (w : OptionWords) (cuts : Option CutKind) (way : Option By) (added : Option Flushes) (s : Settings) (r : Refusal)
@@ -80,12 +83,31 @@ of_with w Is Rest one files bytes status r h why =
     of_words w h.settings (λ s. RefusesFile files (Rest s)) r h.asked
     (λ q. of_file files h.answers.held (Rest h.settings) q h.answers.read (λ p. one h.settings h.answers.held bytes p h.answers.is)) why
 
+of_recording : (files : Files) (held initial : List ℕ) (Rest : Recording → Refusal → Type 0) (r : Refusal) → first_held files ≡ Some held → initial_of files.base ≡ Some initial
+    → ((q : Refusal) → Rest (recording held initial) q → IsOfMemory q.code) → RefusesRecording files Rest r → IsOfMemory r.code
+of_recording files held initial Rest _ read based rest (for_log_file none) = absurd (let bad : None ≡ Some held = sym none ∙ read in cc)
+of_recording files held initial Rest _ read based rest (for_base_file none) = absurd (let bad : None ≡ Some initial = sym none ∙ based in cc)
+of_recording files held initial Rest _ read based rest (for_recording other first r there from why) =
+    let both : Some other ≡ Some held = sym there ∙ read in
+    let text : other ≡ held = cc in
+    let same : recording other first ≡ recording held initial = λ i. recording (text i) (same_initial files first initial from based i) in
+    rest r (subst (λ (x : Recording). Rest x r) same why)
+
+of_log_with : (w : OptionWords) (Is : Settings → Recording → List ℕ → Type 0) (Rest : Settings → Recording → Refusal → Type 0)
+    → ((s : Settings) (held : Recording) (bytes : List ℕ) (r : Refusal) → Is s held bytes → Rest s held r → IsOfMemory r.code)
+    → (files : Files) (bytes : List ℕ) (status : ℕ) (r : Refusal) → AnswersOf w Is files bytes status → RefusesWith w (λ s. RefusesRecording files (Rest s)) r
+    → IsOfMemory r.code
+of_log_with w Is Rest one files bytes status r h why =
+    let own = h.answers in
+    of_words w h.settings (λ s. RefusesRecording files (Rest s)) r h.asked
+    (λ q. of_recording files own.held own.initial (Rest h.settings) q own.read own.based (λ p. one h.settings (recording own.held own.initial) bytes p own.is)) why
+
 of_alone : (Is : List ℕ → List ℕ → Type 0) (Rest : List ℕ → Refusal → Type 0) → ((held bytes : List ℕ) (r : Refusal) → Is held bytes → Rest held r → IsOfMemory r.code)
     → (files : Files) (bytes : List ℕ) (status : ℕ) (r : Refusal) → AnswersFile Is files bytes status → RefusesFile files Rest r → IsOfMemory r.code
 of_alone Is Rest one files bytes status r h why = of_file files h.held Rest r h.read (λ q. one h.held bytes q h.is) why
 
 -- a run that is told has a report
-of_told : Below → (t : Telling) (text : List ℕ) (files : List (List ℕ)) (s : Settings) (bytes : List ℕ) (failing : Bool) (r : Refusal)
+of_told : Below → (t : Telling) (text : Recording) (files : List (List ℕ)) (s : Settings) (bytes : List ℕ) (failing : Bool) (r : Refusal)
     → IsTold t text files s bytes failing → Refuses text files s r → IsOfMemory r.code
 of_told below telling.Report text files s bytes failing r h why = report_or_refusal below text files s bytes failing r h why
 of_told below telling.Causes text files s bytes failing r h why =
@@ -96,7 +118,7 @@ of_told below telling.Page text files s bytes failing r h why =
     (record { count = h.count; value = h.value; source = h.source; checkers = h.checkers; made = h.made; report = refl; fails = h.fails; faultless = h.faultless }) why
 
 -- a run that is answered has a report
-of_answered : Below → (t : Wanted) (text : List ℕ) (files : List (List ℕ)) (s : Settings) (bytes : List ℕ) (failing : Bool) (r : Refusal)
+of_answered : Below → (t : Wanted) (text : Recording) (files : List (List ℕ)) (s : Settings) (bytes : List ℕ) (failing : Bool) (r : Refusal)
     → IsAnswered t text files s bytes failing → Refuses text files s r → IsOfMemory r.code
 of_answered below (wanted.Told t) text files s bytes failing r h why = of_told below t text files s bytes failing r h why
 of_answered below wanted.Cured text files s bytes failing r h why =
@@ -127,13 +149,16 @@ none_unread x xs place h =
 of_files : Below → (t : Wanted) (files : Files) (s : Settings) (bytes : List ℕ) (status : ℕ) (r : Refusal) → AnswersFiles t s files bytes status → RefusesFiles files s r
     → IsOfMemory r.code
 of_files below t files s bytes status _ h (for_unread place unreadable) =
-    absurd (none_unread h.log h.programs place (subst (λ (fs : Files). unread fs ≡ Some place) h.read unreadable))
-of_files below t files s bytes status _ h (for_run log programs r read why) =
-    let all : log ∷ programs ≡ h.log ∷ h.programs = same_files files (log ∷ programs) (h.log ∷ h.programs) read h.read in
-    let same : log ≡ h.log = cc in
+    absurd (none_unread h.log h.programs place (subst (λ (fs : List (Option (List ℕ))). unread fs ≡ Some place) h.read unreadable))
+of_files below t files s bytes status _ h (for_base readable none) = absurd (let bad : None ≡ Some h.initial = sym none ∙ h.based in cc)
+of_files below t files s bytes status _ h (for_run log programs initial r read based why) =
+    let all : log ∷ programs ≡ h.log ∷ h.programs = same_files files.named (log ∷ programs) (h.log ∷ h.programs) read h.read in
+    let text : log ≡ h.log = cc in
     let others : programs ≡ h.programs = cc in
-    let by_log = subst (λ (text : List ℕ). Refuses text programs s r) same why in
-    of_answered below t h.log h.programs s bytes h.answers.failing r h.answers.told (subst (λ (ps : List (List ℕ)). Refuses h.log ps s r) others by_log)
+    let same : recording log initial ≡ recording h.log h.initial = λ i. recording (text i) (same_initial files initial h.initial based h.based i) in
+    let by_log = subst (λ (held : Recording). Refuses held programs s r) same why in
+    of_answered below t (recording h.log h.initial) h.programs s bytes h.answers.failing r h.answers.told
+    (subst (λ (ps : List (List ℕ)). Refuses (recording h.log h.initial) ps s r) others by_log)
 of_files below t files s bytes status _ h (for_memory readable) = refl
 
 of_explore : Below → (t : Wanted) (w : OptionWords) (files : Files) (bytes : List ℕ) (status : ℕ) (r : Refusal) → AnswersExplore t w files bytes status
@@ -141,21 +166,21 @@ of_explore : Below → (t : Wanted) (w : OptionWords) (files : Files) (bytes : L
 of_explore below t w files bytes status r h why =
     of_words w h.settings (RefusesFiles files) r h.asked (λ q. of_files below t files h.settings bytes status q h.answers) why
 
-of_stored : Below → (t : Wanted) (text : List ℕ) (files : List (List ℕ)) (s : Settings) (bytes : List ℕ) (status : ℕ) (r : Refusal) → AnswersRun t s text files bytes status
+of_stored : Below → (t : Wanted) (text : Recording) (files : List (List ℕ)) (s : Settings) (bytes : List ℕ) (status : ℕ) (r : Refusal) → AnswersRun t s text files bytes status
     → (r ≡ memory_refusal) ⊎ Refuses text files s r → IsOfMemory r.code
 of_stored below t text files s bytes status r h (inl same) = subst (λ (q : Refusal). IsOfMemory q.code) (sym same) refl
 of_stored below t text files s bytes status r h (inr why) = of_answered below t text files s bytes h.failing r h.told why
 
-of_survey : Below → (s : Settings) (text bytes : List ℕ) (r : Refusal) → IsSurvey text s bytes → RefusesSurvey text s r → IsOfMemory r.code
+of_survey : Below → (s : Settings) (text : Recording) (bytes : List ℕ) (r : Refusal) → IsSurvey text s bytes → RefusesSurvey text s r → IsOfMemory r.code
 of_survey below s text bytes _ h (survey.for_source r why) = of_source below text s h.value r h.source why
 of_survey below s text bytes _ h (survey.for_memory value source) = refl
 
-of_table : Below → (s : Settings) (text bytes : List ℕ) (r : Refusal) → IsTable text s bytes → RefusesTable text s r → IsOfMemory r.code
+of_table : Below → (s : Settings) (text : Recording) (bytes : List ℕ) (r : Refusal) → IsTable text s bytes → RefusesTable text s r → IsOfMemory r.code
 of_table below s text bytes _ h (table.for_log r why) = of_log below text s h.value r h.reads why
 of_table below s text bytes _ h (table.for_memory value reads) = refl
 
 -- the image that is meant is there
-of_meant : Below → (which : Which) (s : Settings) (text : List ℕ) (value : LogValue) (choice : ChoiceValue) (r : Refusal) → HasImages text s value
+of_meant : Below → (which : Which) (s : Settings) (text : Recording) (value : LogValue) (choice : ChoiceValue) (r : Refusal) → HasImages text s value
     → IsMeant (plan_of s value) s.bound s.tears which choice → RefusesImage text s which r → IsOfMemory r.code
 of_meant below which s text value choice _ source meant (image.for_source r why) = of_source below text s value r source why
 of_meant below which s text value choice _ source meant (image.for_number other images none) =
@@ -183,6 +208,10 @@ of_listed below numbered code bytes _ h (assembly.with_bytes_fault cause slot fa
 of_listed below numbered code bytes _ h assembly.no_program_memory = refl
 of_listed below numbered code bytes _ h assembly.no_listing_memory = refl
 
+of_imported : (raw text : List ℕ) (r : Refusal) → IsImported raw most_sectors text → RefusesImport raw r → IsOfMemory r.code
+of_imported raw text _ h (with_raw_fault cause at fault) = absurd (imported_has_no_fault raw text most_sectors cause at h fault)
+of_imported raw text _ h no_raw_memory = refl
+
 pub answer_or_refusal : Below → (r : Request) (files : Files) (bytes : List ℕ) (status : ℕ) (refusal : Refusal) → Answers r files bytes status → RefusesToAct r files refusal
     → IsOfMemory refusal.code
 answer_or_refusal below request.StoredRun files bytes status refusal h why = of_stored below (wanted.Told telling.Report) _ _ _ bytes status refusal h why
@@ -191,17 +220,18 @@ answer_or_refusal below (request.Why w) files bytes status refusal h why = of_ex
 answer_or_refusal below (request.Cure w) files bytes status refusal h why = of_explore below wanted.Cured w files bytes status refusal h why
 answer_or_refusal below (request.Page w) files bytes status refusal h why = of_explore below (wanted.Told telling.Page) w files bytes status refusal h why
 answer_or_refusal below (request.Images w) files bytes status refusal h why =
-    of_with w (λ s text. IsSurvey text s) (λ s text. RefusesSurvey text s) (of_survey below) files bytes status refusal h why
+    of_log_with w (λ s text. IsSurvey text s) (λ s text. RefusesSurvey text s) (of_survey below) files bytes status refusal h why
 answer_or_refusal below (request.Log w) files bytes status refusal h why =
-    of_with w (λ s text. IsTable text s) (λ s text. RefusesTable text s) (of_table below) files bytes status refusal h why
+    of_log_with w (λ s text. IsTable text s) (λ s text. RefusesTable text s) (of_table below) files bytes status refusal h why
 answer_or_refusal below (request.Image w which) files bytes status refusal h why =
-    of_with w (λ s text. IsImage text s which) (λ s text. RefusesImage text s which)
+    of_log_with w (λ s text. IsImage text s which) (λ s text. RefusesImage text s which)
     (λ s text shown r k. of_meant below which s text k.value k.choice r k.source k.meant.is) files bytes status refusal h why
 answer_or_refusal below (request.Show w which) files bytes status refusal h why =
-    of_with w (λ s text. IsShown text s which) (λ s text. RefusesImage text s which)
+    of_log_with w (λ s text. IsShown text s which) (λ s text. RefusesImage text s which)
     (λ s text shown r k. of_meant below which s text k.value k.choice r k.source k.meant.is) files bytes status refusal h why
 answer_or_refusal below (request.Verify w) files bytes status refusal h why =
     of_with w (λ s code. IsAcceptedText code s.sectors) (λ s code. RefusesVerified code s.sectors) (of_verified below) files bytes status refusal h why
+answer_or_refusal below request.Import files bytes status refusal h why = of_alone (λ raw. IsImported raw most_sectors) RefusesImport of_imported files bytes status refusal h why
 answer_or_refusal below request.Asm files bytes status refusal h why = of_alone IsAssembled RefusesText of_assembled files bytes status refusal h why
 answer_or_refusal below (request.List numbered) files bytes status refusal h why =
     of_alone (IsListed numbered) RefusesBytes (of_listed below numbered) files bytes status refusal h why

@@ -22,19 +22,19 @@ use Rattle.workers.specs.Failing.{failing_lines}
 use Rattle.request.specs.declared.settings.Settings.{Settings}
 use Rattle.logfmt.specs.Flushed.{flushed}
 use Rattle.epochs.specs.Flushes.{places_of}
-use Rattle.request.specs.Source.{plan_of, images_of, HasImages, IsLogOf, IsRecorded, lacking, RefusesLog, with_fault, no_memory, lacks, RefusesPlan, too_many, no_plan_memory, RefusesSource, for_log, for_plan}
+use Rattle.request.specs.Source.{Recording, plan_of, images_of, HasImages, IsLogOf, IsRecorded, lacking, RefusesLog, past_device, with_fault, no_memory, lacks, RefusesPlan, too_many, no_plan_memory, RefusesSource, for_log, for_plan}
 use Rattle.runs.specs.Programs.{IsRunWithin, IsCodeFault, IsVerifierFault}
 use Rattle.runs.specs.Explore as explore
 use Rattle.runs.specs.Explore.{IsCheckerOf, AreCheckersOf, subject_of, report_of, IsReport, RefusesProgram, with_code_fault, with_verifier_fault, no_code_memory, no_verifier_memory, no_list_memory, Refuses, for_count, for_program}
 use Rattle.commands.specs.Laws.{IsOfMemory}
 
-same_recorded : TextOfOneLog → (text : List ℕ) (s : Settings) (v w : LogValue) → IsRecorded text s v → IsRecorded text s w → v ≡ w
-same_recorded texts text s v w h k = texts text v w h.of_log k.of_log (h.device ∙ sym k.device)
+same_recorded : TextOfOneLog → (text : Recording) (s : Settings) (v w : LogValue) → IsRecorded text s v → IsRecorded text s w → v ≡ w
+same_recorded texts text s v w h k = texts text.text v w h.of_log k.of_log (h.device ∙ sym k.device) (h.initial ∙ sym k.initial)
 
-pub same_asked : TextOfOneLog → (text : List ℕ) (s : Settings) (v w : LogValue) → IsLogOf text s v → IsLogOf text s w → v ≡ w
+pub same_asked : TextOfOneLog → (text : Recording) (s : Settings) (v w : LogValue) → IsLogOf text s v → IsLogOf text s w → v ≡ w
 same_asked texts text s v w h k = h.added ∙ ap (flushed (places_of s.cuts.flushes)) (same_recorded texts text s h.read k.read h.recorded k.recorded) ∙ sym k.added
 
-pub same_log : TextOfOneLog → (text : List ℕ) (s : Settings) (v w : LogValue) → HasImages text s v → HasImages text s w → v ≡ w
+pub same_log : TextOfOneLog → (text : Recording) (s : Settings) (v w : LogValue) → HasImages text s v → HasImages text s w → v ≡ w
 same_log texts text s v w h k = same_asked texts text s v w h.reads k.reads
 
 -- a program runs within one limit
@@ -66,7 +66,7 @@ same_test false false ls ms h k same = refl
 same_test true false ls ms h k same = absurd (false≢true (k.1 (λ none. h.0 refl (same ∙ none))))
 same_test false true ls ms h k same = absurd (false≢true (h.1 (λ none. k.0 refl (sym same ∙ none))))
 
-pub one_report : TextOfOneLog → OneProgram → OneVerdict → (text : List ℕ) (files : List (List ℕ)) (s : Settings) (bytes others : List ℕ) (failing fails : Bool)
+pub one_report : TextOfOneLog → OneProgram → OneVerdict → (text : Recording) (files : List (List ℕ)) (s : Settings) (bytes others : List ℕ) (failing fails : Bool)
     → IsReport text files s bytes failing → IsReport text files s others fails → (bytes ≡ others) × (failing ≡ fails)
 one_report texts programs verdicts text files s bytes others failing fails h k =
     let value = same_log texts text s h.value k.value h.source k.source in
@@ -113,9 +113,14 @@ pub record Below : Type 0 where
   pub spelled : NoFaultInSpelled
   pub verdicts : OneVerdict
 
-pub of_log : Below → (text : List ℕ) (s : Settings) (value : LogValue) (r : Refusal) → IsLogOf text s value → RefusesLog text s r → IsOfMemory r.code
-of_log below text s value r h (with_fault cause at fault) =
-    absurd (below.clean text h.read cause at h.recorded.of_log (subst (λ n. log_fault.FirstFault text n cause at) (sym h.recorded.device) fault))
+pub of_log : Below → (text : Recording) (s : Settings) (value : LogValue) (r : Refusal) → IsLogOf text s value → RefusesLog text s r → IsOfMemory r.code
+of_log below text s value _ h (past_device long) =
+    let fits = h.recorded.of_log.bounds.held in
+    let device = h.recorded.device in
+    let initial = ap (λ (xs : List ℕ). length xs) h.recorded.initial in
+    absurd (omega (arith, long, fits, device, initial))
+of_log below text s value r h (with_fault cause at fits fault) =
+    absurd (below.clean text.text h.read cause at h.recorded.of_log (subst (λ n. log_fault.FirstFault text.text n cause at) (sym h.recorded.device) fault))
 of_log below text s value r h no_memory = refl
 of_log below text s value r h (lacks read place recorded at) =
     let same : read ≡ h.read = same_recorded below.texts text s read h.read recorded h.recorded in
@@ -127,7 +132,7 @@ of_plan : Below → (s : Settings) (value : LogValue) (r : Refusal) → length (
 of_plan below s value r few (too_many cut past) = absurd (not_past s value cut few past)
 of_plan below s value r few no_plan_memory = refl
 
-pub of_source : Below → (text : List ℕ) (s : Settings) (value : LogValue) (r : Refusal) → HasImages text s value → RefusesSource text s r → IsOfMemory r.code
+pub of_source : Below → (text : Recording) (s : Settings) (value : LogValue) (r : Refusal) → HasImages text s value → RefusesSource text s r → IsOfMemory r.code
 of_source below text s value _ h (for_log r why) = of_log below text s value r h.reads why
 of_source below text s value _ h (for_plan r other reads why) =
     let same : other ≡ value = same_asked below.texts text s other value reads h.reads in
@@ -151,7 +156,7 @@ of_program below s files checkers r made (no_code_memory program bytes before fi
 of_program below s files checkers r made (no_verifier_memory program bytes slots before first there spelled unlimited) = refl
 of_program below s files checkers r made no_list_memory = refl
 
-pub report_or_refusal : Below → (text : List ℕ) (files : List (List ℕ)) (s : Settings) (bytes : List ℕ) (failing : Bool) (r : Refusal)
+pub report_or_refusal : Below → (text : Recording) (files : List (List ℕ)) (s : Settings) (bytes : List ℕ) (failing : Bool) (r : Refusal)
     → IsReport text files s bytes failing → Refuses text files s r → IsOfMemory r.code
 report_or_refusal below text files s bytes failing r h (for_count none) = absurd (none h.count)
 report_or_refusal below text files s bytes failing _ h (explore.for_source r count why) = of_source below text s h.value r h.source why

@@ -15,7 +15,7 @@ use Rattle.request.specs.declared.command.Request.{Request}
 use Rattle.request.specs.declared.command.Request.TheVariants as request
 use Rattle.request.specs.Settings.{is_ordered, option_refusal, option_checks, settings_refusal}
 use Rattle.request.specs.OptionWords.{settings_with, AskFor}
-use Rattle.request.specs.Source.{IsLogOf, HasImages}
+use Rattle.request.specs.Source.{Recording, IsLogOf, HasImages}
 use Rattle.runs.specs.Explore.{AreCheckersOf, head_of}
 use Rattle.checker.specs.Checker.{CheckerValue}
 use Rattle.runs.specs.Why.{IsTold}
@@ -30,7 +30,7 @@ use Rattle.looks.specs.Show.{IsShown}
 use Rattle.looks.specs.Survey.{IsSurvey}
 use Rattle.looks.specs.Table.{IsTable}
 use Rattle.looks.specs.Verifying.{IsAcceptedText}
-use Rattle.commands.specs.Acting.{Files, IsAnswered, AnswersExplore, AnswersWith, Answers}
+use Rattle.commands.specs.Acting.{Files, recording, IsAnswered, AnswersExplore, AnswersOf, AnswersWith, Answers}
 use Rattle.commands.specs.OneAnswer.{OneAnswer, alone, asked_alone, WorkChangesNothing}
 
 -- the same settings for one worker without a cache
@@ -78,10 +78,10 @@ good_alone s h =
 ask_alone : (w : OptionWords) (s : Settings) → AskFor w s → AskFor (alone w) (set_alone s)
 ask_alone w s h = record { asked = alone_of w w.cuts w.by w.flushes s h.asked; good = good_alone s h.good }
 
-log_alone : {text : List ℕ} {s : Settings} {v : LogValue} → IsLogOf text s v → IsLogOf text (set_alone s) v
-log_alone h = record { read = h.read; recorded = record { device = h.recorded.device; of_log = h.recorded.of_log }; has = h.has; added = h.added }
+log_alone : {text : Recording} {s : Settings} {v : LogValue} → IsLogOf text s v → IsLogOf text (set_alone s) v
+log_alone h = record { read = h.read; recorded = record { device = h.recorded.device; of_log = h.recorded.of_log; initial = h.recorded.initial }; has = h.has; added = h.added }
 
-images_alone : {text : List ℕ} {s : Settings} {v : LogValue} → HasImages text s v → HasImages text (set_alone s) v
+images_alone : {text : Recording} {s : Settings} {v : LogValue} → HasImages text s v → HasImages text (set_alone s) v
 images_alone h = record { reads = log_alone h.reads; few = h.few }
 
 checkers_alone : (s : Settings) (files : List (List ℕ)) (cs : List CheckerValue) → AreCheckersOf s files cs → AreCheckersOf (set_alone s) files cs
@@ -91,7 +91,7 @@ checkers_alone s (bytes ∷ files) [] h = h
 checkers_alone s (bytes ∷ files) (c ∷ cs) h =
     (record { spelled = h.0.spelled; clean = h.0.clean; within = h.0.within }, checkers_alone s files cs h.1)
 
-told_alone : (t : Telling) (text : List ℕ) (files : List (List ℕ)) (s : Settings) (bytes : List ℕ) (failing : Bool)
+told_alone : (t : Telling) (text : Recording) (files : List (List ℕ)) (s : Settings) (bytes : List ℕ) (failing : Bool)
     → IsTold t text files s bytes failing → IsTold t text files (set_alone s) bytes failing
 unfolding head_of
 told_alone telling.Report text files s bytes failing h =
@@ -151,7 +151,7 @@ ends_alone : {s : Settings} {cs : List CheckerValue} {v : LogValue} {end : List 
 ends_alone (with_totals failures few fail none) = with_totals failures few fail none
 ends_alone (with_refusal cut past) = with_refusal cut (record { place = past.place; wanted = past.wanted; before = past.before; past = past.past })
 
-answered_alone : (t : Wanted) (text : List ℕ) (files : List (List ℕ)) (s : Settings) (bytes : List ℕ) (failing : Bool)
+answered_alone : (t : Wanted) (text : Recording) (files : List (List ℕ)) (s : Settings) (bytes : List ℕ) (failing : Bool)
     → IsAnswered t text files s bytes failing → IsAnswered t text files (set_alone s) bytes failing
 unfolding head_of
 answered_alone (wanted.Told t) text files s bytes failing h = told_alone t text files s bytes failing h
@@ -190,8 +190,10 @@ explore_alone t w files bytes status h =
       answers = record {
         log = h.answers.log;
         programs = h.answers.programs;
+        initial = h.answers.initial;
         read = h.answers.read;
-        answers = record { failing = run.failing; told = answered_alone t h.answers.log h.answers.programs h.settings bytes run.failing run.told; ends = run.ends };
+        based = h.answers.based;
+        answers = record { failing = run.failing; told = answered_alone t (recording h.answers.log h.answers.initial) h.answers.programs h.settings bytes run.failing run.told; ends = run.ends };
       };
     }
 
@@ -206,6 +208,24 @@ with_alone w Is keeps files bytes status h =
       answers = record { held = own.held; read = own.read; is = keeps h.settings own.held bytes own.is; ends = own.ends };
     }
 
+-- the same of a command on a log
+of_alone : (w : OptionWords) (Is : Settings → Recording → List ℕ → Type 0) → ((s : Settings) (held : Recording) (bytes : List ℕ) → Is s held bytes → Is (set_alone s) held bytes)
+    → (files : Files) (bytes : List ℕ) (status : ℕ) → AnswersOf w Is files bytes status → AnswersOf (alone w) Is files bytes status
+of_alone w Is keeps files bytes status h =
+    let own = h.answers in
+    record {
+      settings = set_alone h.settings;
+      asked = ask_alone w h.settings h.asked;
+      answers = record {
+        held = own.held;
+        initial = own.initial;
+        read = own.read;
+        based = own.based;
+        is = keeps h.settings (recording own.held own.initial) bytes own.is;
+        ends = own.ends;
+      };
+    }
+
 pub answers_alone : (r : Request) (files : Files) (bytes : List ℕ) (status : ℕ) → Answers r files bytes status → Answers (asked_alone r) files bytes status
 answers_alone request.StoredRun files bytes status h = h
 answers_alone (request.Explore w) files bytes status h = explore_alone (wanted.Told telling.Report) w files bytes status h
@@ -213,19 +233,20 @@ answers_alone (request.Why w) files bytes status h = explore_alone (wanted.Told 
 answers_alone (request.Cure w) files bytes status h = explore_alone wanted.Cured w files bytes status h
 answers_alone (request.Page w) files bytes status h = explore_alone (wanted.Told telling.Page) w files bytes status h
 answers_alone (request.Images w) files bytes status h =
-    with_alone w (λ s text. IsSurvey text s)
+    of_alone w (λ s text. IsSurvey text s)
     (λ s held shown k. record { value = k.value; source = images_alone k.source; told = k.told }) files bytes status h
 answers_alone (request.Log w) files bytes status h =
-    with_alone w (λ s text. IsTable text s)
+    of_alone w (λ s text. IsTable text s)
     (λ s held shown k. record { value = k.value; reads = log_alone k.reads; shown = k.shown }) files bytes status h
 answers_alone (request.Image w which) files bytes status h =
-    with_alone w (λ s text. IsImage text s which)
+    of_alone w (λ s text. IsImage text s which)
     (λ s held shown k. record { value = k.value; source = images_alone k.source; choice = k.choice; meant = k.meant; shown = k.shown }) files bytes status h
 answers_alone (request.Show w which) files bytes status h =
-    with_alone w (λ s text. IsShown text s which)
+    of_alone w (λ s text. IsShown text s which)
     (λ s held shown k. record { value = k.value; source = images_alone k.source; choice = k.choice; meant = k.meant; shown = k.shown }) files bytes status h
 answers_alone (request.Verify w) files bytes status h =
     with_alone w (λ s code. IsAcceptedText code s.sectors) (λ s held shown k. k) files bytes status h
+answers_alone request.Import files bytes status h = h
 answers_alone request.Asm files bytes status h = h
 answers_alone (request.List numbered) files bytes status h = h
 

@@ -1,8 +1,10 @@
 -- What a command answers on what its files hold, and when it is refused (docs/REPORT.md, Commands and Refusals
 -- in their order).
-use Rattle.std.specs.Prelude.{ℕ, ◌≡◌, ◌⊎◌, Bool, if◌then◌else◌, List, [], ◌∷◌, map, position, is_none, Option, None, Some}
+use Rattle.std.specs.Prelude.{ℕ, ◌≡◌, ◌⊎◌, Bool, if◌then◌else◌, List, [], ◌∷◌, length, map, position, is_none, Option, None, Some}
+use Rattle.std.specs.Option.{option_map}
 use Rattle.base.specs.declared.refusal.Refusal.{Refusal}
 use Rattle.base.specs.Refusals.{memory_refusal}
+use Rattle.commands.specs.declared.action.Held.{Held}
 use Rattle.commands.specs.declared.action.Wanted.{Wanted}
 use Rattle.commands.specs.declared.action.Wanted.TheVariants as wanted
 use Rattle.commands.specs.Stored.{stored_log, stored_programs, stored_settings}
@@ -12,10 +14,13 @@ use Rattle.request.specs.declared.command.Request.{Request}
 use Rattle.request.specs.declared.command.Request.TheVariants as request
 use Rattle.request.specs.OptionWords.{AskFor, words_refusal}
 use Rattle.request.specs.Refusals.{file_refusal}
+use Rattle.request.specs.Source.{Recording}
 use Rattle.request.specs.declared.settings.Telling.TheVariants as telling
 use Rattle.runs.specs.Explore.{Refuses}
 use Rattle.runs.specs.Why.{IsTold}
 use Rattle.runs.specs.Cured.{IsCured}
+use Rattle.raw_log.specs.Imported.{IsImported}
+use Rattle.looks.specs.Import.{most_sectors, RefusesImport}
 use Rattle.looks.specs.Image.{IsImage, RefusesImage}
 use Rattle.looks.specs.Show.{IsShown}
 use Rattle.looks.specs.Survey.{IsSurvey, RefusesSurvey}
@@ -23,31 +28,51 @@ use Rattle.looks.specs.Table.{IsTable, RefusesTable}
 use Rattle.looks.specs.Verifying.{IsAcceptedText, RefusesVerified}
 use Rattle.looks.specs.Assembly.{IsAssembled, RefusesText, IsListed, RefusesBytes}
 
--- what each file of a command holds, none where it can't be read
-abbrev pub Files : Type 0
-Files = List (Option (List ℕ))
+-- what each file of a command holds, none where it can't be read: those that it names by themselves, and the one behind --base,
+-- where that stands there
+pub record Files : Type 0 where
+  pub named : List (Option (List ℕ))
+  pub base : Option (Option (List ℕ))
+
+abbrev pub files_of : {V : Type 0} → (V → List ℕ) → List (Option V) → Option (Option V) → Files
+files_of items named base = record { named = map (option_map items) named; base = option_map (option_map items) base }
+
+abbrev pub held_by : Held → Files
+held_by held = files_of (λ f. f.items) held.named.now held.base.now
 
 -- the place of the first file that can't be read; without any file the first can't be read
-abbrev pub unread : Files → Option ℕ
+abbrev pub unread : List (Option (List ℕ)) → Option ℕ
 unread [] = Some 0
 unread (file ∷ files) = position is_none (file ∷ files)
 
 -- what the first file holds
+abbrev pub first_file : List (Option (List ℕ)) → Option (List ℕ)
+first_file [] = None
+first_file (file ∷ files) = file
+
 abbrev pub first_held : Files → Option (List ℕ)
-first_held [] = None
-first_held (file ∷ files) = file
+first_held files = first_file files.named
+
+-- of what the device held before entry 0 the bytes, none of them without --base; none where the file can't be read
+abbrev pub initial_of : Option (Option (List ℕ)) → Option (List ℕ)
+initial_of None = Some []
+initial_of (Some held) = held
+
+-- a log over initial content
+abbrev pub recording : List ℕ → List ℕ → Recording
+recording log initial = record { text = log; initial = initial }
 
 -- the status of a run is 1 exactly where it found a failing image
 abbrev pub status_of : Bool → ℕ
 status_of failing = if failing then 1 else 0
 
 -- what a run answers that is asked for this: what is told of it, or where flushes are missing, run by run
-abbrev pub IsAnswered : Wanted → List ℕ → List (List ℕ) → Settings → List ℕ → Bool → Type 0
+abbrev pub IsAnswered : Wanted → Recording → List (List ℕ) → Settings → List ℕ → Bool → Type 0
 IsAnswered (wanted.Told t) log programs s bytes failing = IsTold t log programs s bytes failing
 IsAnswered wanted.Cured log programs s bytes failing = IsCured log programs s bytes failing
 
 -- what a run answers, and its status
-pub record AnswersRun (t : Wanted) (s : Settings) (log : List ℕ) (programs : List (List ℕ)) (bytes : List ℕ) (status : ℕ) : Type 0 where
+pub record AnswersRun (t : Wanted) (s : Settings) (log : Recording) (programs : List (List ℕ)) (bytes : List ℕ) (status : ℕ) : Type 0 where
   pub failing : Bool
   pub told : IsAnswered t log programs s bytes failing
   pub ends : status ≡ status_of failing
@@ -56,8 +81,10 @@ pub record AnswersRun (t : Wanted) (s : Settings) (log : List ℕ) (programs : L
 pub record AnswersFiles (t : Wanted) (s : Settings) (files : Files) (bytes : List ℕ) (status : ℕ) : Type 0 where
   pub log : List ℕ
   pub programs : List (List ℕ)
-  pub read : files ≡ map Some (log ∷ programs)
-  pub answers : AnswersRun t s log programs bytes status
+  pub initial : List ℕ
+  pub read : files.named ≡ map Some (log ∷ programs)
+  pub based : initial_of files.base ≡ Some initial
+  pub answers : AnswersRun t s (recording log initial) programs bytes status
 
 -- the same of the settings that the words ask for
 pub record AnswersExplore (t : Wanted) (w : OptionWords) (files : Files) (bytes : List ℕ) (status : ℕ) : Type 0 where
@@ -72,7 +99,22 @@ pub record AnswersFile (Is : List ℕ → List ℕ → Type 0) (files : Files) (
   pub is : Is held bytes
   pub ends : status ≡ 0
 
--- the same of a command that takes options
+-- the same of a command on a log
+pub record AnswersLog (Is : Recording → List ℕ → Type 0) (files : Files) (bytes : List ℕ) (status : ℕ) : Type 0 where
+  pub held : List ℕ
+  pub initial : List ℕ
+  pub read : first_held files ≡ Some held
+  pub based : initial_of files.base ≡ Some initial
+  pub is : Is (recording held initial) bytes
+  pub ends : status ≡ 0
+
+-- the same of the settings that the words ask for
+pub record AnswersOf (w : OptionWords) (Is : Settings → Recording → List ℕ → Type 0) (files : Files) (bytes : List ℕ) (status : ℕ) : Type 0 where
+  pub settings : Settings
+  pub asked : AskFor w settings
+  pub answers : AnswersLog (Is settings) files bytes status
+
+-- the same of a command that takes options, but no log
 pub record AnswersWith (w : OptionWords) (Is : Settings → List ℕ → List ℕ → Type 0) (files : Files) (bytes : List ℕ) (status : ℕ) : Type 0 where
   pub settings : Settings
   pub asked : AskFor w settings
@@ -80,16 +122,17 @@ pub record AnswersWith (w : OptionWords) (Is : Settings → List ℕ → List �
 
 -- the bytes for standard output, and the status, of what the command line asks for
 abbrev pub Answers : Request → Files → List ℕ → ℕ → Type 0
-Answers request.StoredRun files bytes status = AnswersRun (wanted.Told telling.Report) stored_settings stored_log stored_programs bytes status
+Answers request.StoredRun files bytes status = AnswersRun (wanted.Told telling.Report) stored_settings (recording stored_log []) stored_programs bytes status
 Answers (request.Explore w) files bytes status = AnswersExplore (wanted.Told telling.Report) w files bytes status
 Answers (request.Why w) files bytes status = AnswersExplore (wanted.Told telling.Causes) w files bytes status
 Answers (request.Cure w) files bytes status = AnswersExplore wanted.Cured w files bytes status
 Answers (request.Page w) files bytes status = AnswersExplore (wanted.Told telling.Page) w files bytes status
-Answers (request.Images w) files bytes status = AnswersWith w (λ s text. IsSurvey text s) files bytes status
-Answers (request.Log w) files bytes status = AnswersWith w (λ s text. IsTable text s) files bytes status
-Answers (request.Image w which) files bytes status = AnswersWith w (λ s text. IsImage text s which) files bytes status
-Answers (request.Show w which) files bytes status = AnswersWith w (λ s text. IsShown text s which) files bytes status
+Answers (request.Images w) files bytes status = AnswersOf w (λ s text. IsSurvey text s) files bytes status
+Answers (request.Log w) files bytes status = AnswersOf w (λ s text. IsTable text s) files bytes status
+Answers (request.Image w which) files bytes status = AnswersOf w (λ s text. IsImage text s which) files bytes status
+Answers (request.Show w which) files bytes status = AnswersOf w (λ s text. IsShown text s which) files bytes status
 Answers (request.Verify w) files bytes status = AnswersWith w (λ s code. IsAcceptedText code s.sectors) files bytes status
+Answers request.Import files bytes status = AnswersFile (λ raw. IsImported raw most_sectors) files bytes status
 Answers request.Asm files bytes status = AnswersFile IsAssembled files bytes status
 Answers (request.List numbered) files bytes status = AnswersFile (IsListed numbered) files bytes status
 
@@ -103,24 +146,35 @@ pub data RefusesFile (files : Files) (Rest : List ℕ → Refusal → Type 0) : 
   for_file : first_held files ≡ None → RefusesFile files Rest (file_refusal 0)
   for_held : (held : List ℕ) (r : Refusal) → first_held files ≡ Some held → Rest held r → RefusesFile files Rest r
 
--- the refusals of a run's command behind its options: the first file that can't be read, then those of the run; or
--- want of memory
+-- the refusals of a command on a log: that it can't be read, then that the file of its initial content can't be, then those of
+-- what they hold
+pub data RefusesRecording (files : Files) (Rest : Recording → Refusal → Type 0) : Refusal → Type 0 where
+  for_log_file : first_held files ≡ None → RefusesRecording files Rest (file_refusal 0)
+  for_base_file : initial_of files.base ≡ None → RefusesRecording files Rest (file_refusal (length files.named))
+  for_recording : (held initial : List ℕ) (r : Refusal) → first_held files ≡ Some held → initial_of files.base ≡ Some initial
+      → Rest (recording held initial) r → RefusesRecording files Rest r
+
+-- the refusals of a run's command behind its options: the first file that can't be read, that of the initial content last, then
+-- those of the run; or want of memory
 pub data RefusesFiles (files : Files) (s : Settings) : Refusal → Type 0 where
-  for_unread : (place : ℕ) → unread files ≡ Some place → RefusesFiles files s (file_refusal place)
-  for_run : (log : List ℕ) (programs : List (List ℕ)) (r : Refusal) → files ≡ map Some (log ∷ programs) → Refuses log programs s r → RefusesFiles files s r
-  for_memory : unread files ≡ None → RefusesFiles files s memory_refusal
+  for_unread : (place : ℕ) → unread files.named ≡ Some place → RefusesFiles files s (file_refusal place)
+  for_base : unread files.named ≡ None → initial_of files.base ≡ None → RefusesFiles files s (file_refusal (length files.named))
+  for_run : (log : List ℕ) (programs : List (List ℕ)) (initial : List ℕ) (r : Refusal) → files.named ≡ map Some (log ∷ programs)
+      → initial_of files.base ≡ Some initial → Refuses (recording log initial) programs s r → RefusesFiles files s r
+  for_memory : unread files.named ≡ None → RefusesFiles files s memory_refusal
 
 -- when what the command line asks for is refused
 abbrev pub RefusesToAct : Request → Files → Refusal → Type 0
-RefusesToAct request.StoredRun files r = (r ≡ memory_refusal) ⊎ Refuses stored_log stored_programs stored_settings r
+RefusesToAct request.StoredRun files r = (r ≡ memory_refusal) ⊎ Refuses (recording stored_log []) stored_programs stored_settings r
 RefusesToAct (request.Explore w) files r = RefusesWith w (RefusesFiles files) r
 RefusesToAct (request.Why w) files r = RefusesWith w (RefusesFiles files) r
 RefusesToAct (request.Cure w) files r = RefusesWith w (RefusesFiles files) r
 RefusesToAct (request.Page w) files r = RefusesWith w (RefusesFiles files) r
-RefusesToAct (request.Images w) files r = RefusesWith w (λ s. RefusesFile files (λ text. RefusesSurvey text s)) r
-RefusesToAct (request.Log w) files r = RefusesWith w (λ s. RefusesFile files (λ text. RefusesTable text s)) r
-RefusesToAct (request.Image w which) files r = RefusesWith w (λ s. RefusesFile files (λ text. RefusesImage text s which)) r
-RefusesToAct (request.Show w which) files r = RefusesWith w (λ s. RefusesFile files (λ text. RefusesImage text s which)) r
+RefusesToAct (request.Images w) files r = RefusesWith w (λ s. RefusesRecording files (λ text. RefusesSurvey text s)) r
+RefusesToAct (request.Log w) files r = RefusesWith w (λ s. RefusesRecording files (λ text. RefusesTable text s)) r
+RefusesToAct (request.Image w which) files r = RefusesWith w (λ s. RefusesRecording files (λ text. RefusesImage text s which)) r
+RefusesToAct (request.Show w which) files r = RefusesWith w (λ s. RefusesRecording files (λ text. RefusesImage text s which)) r
 RefusesToAct (request.Verify w) files r = RefusesWith w (λ s. RefusesFile files (λ code. RefusesVerified code s.sectors)) r
+RefusesToAct request.Import files r = RefusesFile files RefusesImport r
 RefusesToAct request.Asm files r = RefusesFile files RefusesText r
 RefusesToAct (request.List numbered) files r = RefusesFile files RefusesBytes r

@@ -9,11 +9,12 @@ use Rattle.base.specs.declared.refusal.Cause.{Cause}
 use Rattle.base.specs.declared.refusal.Cause.TheVariants.{Log, Request, Code, Asm, Verifier, Work}
 use Rattle.base.specs.declared.refusal.Refusal.{Refusal}
 use Rattle.request.specs.declared.settings.Settings.{Settings}
+use Rattle.request.specs.Source.{Recording}
 use Rattle.runs.specs.Explore.{IsReport, Refuses}
 
 -- for given bytes and options there is at most one report, and it tells whether an image fails
 abbrev pub OneReport : Type 0
-OneReport = (text : List ℕ) (files : List (List ℕ)) (s : Settings) (bytes others : List ℕ) (failing fails : Bool)
+OneReport = (text : Recording) (files : List (List ℕ)) (s : Settings) (bytes others : List ℕ) (failing fails : Bool)
     → IsReport text files s bytes failing → IsReport text files s others fails → (bytes ≡ others) × (failing ≡ fails)
 
 -- the cause says that memory was wanting
@@ -27,5 +28,5 @@ IsOfMemory (Work cause) = cause ≡ work.Memory
 
 -- where there is a report, a run is refused for want of memory alone
 abbrev pub ReportOrRefusal : Type 0
-ReportOrRefusal = (text : List ℕ) (files : List (List ℕ)) (s : Settings) (bytes : List ℕ) (failing : Bool) (r : Refusal)
+ReportOrRefusal = (text : Recording) (files : List (List ℕ)) (s : Settings) (bytes : List ℕ) (failing : Bool) (r : Refusal)
     → IsReport text files s bytes failing → Refuses text files s r → IsOfMemory r.code

@@ -9,6 +9,7 @@ use Rattle.why.specs.Failures.{numbers_in, first_at, failing_before, failing_at}
 use Rattle.why.specs.Laws.{StandOnce}
 use Rattle.workers.specs.Failing.{failing_lines}
 use Rattle.request.specs.declared.settings.Settings.{Settings}
+use Rattle.request.specs.Source.{Recording}
 use Rattle.runs.specs.Explore.{subject_of}
 use Rattle.runs.specs.Why.{images_failing, starts_of, IsExplained}
 
@@ -26,6 +27,6 @@ pub record StandAtCuts (s : StartsValue) (images : List ℕ) (outcomes : List (L
 
 -- The images on which a program fails, by the lines of the report, stand once in what `why` says of it.
 abbrev pub EachImageStandsOnce : Type 0
-EachImageStandsOnce = (text : List ℕ) (files : List (List ℕ)) (s : Settings) (bytes : List ℕ) (failing : Bool) (e : IsExplained text files s bytes failing) (program : ℕ)
+EachImageStandsOnce = (text : Recording) (files : List (List ℕ)) (s : Settings) (bytes : List ℕ) (failing : Bool) (e : IsExplained text files s bytes failing) (program : ℕ)
     (cuts : List CutFailures) → slice_get e.causes.causes program ≡ Some cuts
     → StandAtCuts (starts_of s e.value) (images_failing program (failing_lines (subject_of s e.value e.checkers))) (outcomes_failing program (failing_lines (subject_of s e.value e.checkers))) cuts

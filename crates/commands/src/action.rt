@@ -1,25 +1,26 @@
 //! Performing a command.
 
-ghost use Rattle.std.specs.Prelude.{◌≡◌, ◌⊎◌, ◌∷◌, map, option_map, position, is_none, Some, None, MatchResult, IfOk, IfErr, OnOk};
+ghost use Rattle.std.specs.Prelude.{◌≡◌, ◌⊎◌, ◌∷◌, [], length, map, option_map, position, is_none, Some, None, MatchResult, IfOk, IfErr, OnOk};
 ghost use Rattle.std.specs.List.{filter_map};
 ghost use Rattle.base.specs.Refusals.{memory_refusal};
 ghost use Rattle.request.specs.declared.command.Request.TheVariants as asks;
 ghost use Rattle.runs.specs.Explore.{Refuses};
 ghost use Rattle.request.specs.Refusals.{file_refusal};
 ghost use Rattle.commands.specs.declared.action.Wanted.TheVariants as wants;
-ghost use Rattle.commands.specs.Acting.{first_held, unread, status_of, IsAnswered, AnswersRun, AnswersFiles, AnswersExplore, Answers, RefusesWith, RefusesToAct, RefusesFiles};
+ghost use Rattle.commands.specs.Acting.{first_held, files_of, held_by, initial_of, recording, status_of, IsAnswered, AnswersRun, AnswersFiles, AnswersExplore, Answers, RefusesWith, RefusesToAct, RefusesFiles};
 ghost use Rattle.commands.specs.Stored.{stored_log, stored_programs, stored_settings};
 ghost use Rattle.request.specs.declared.settings.Telling.TheVariants as tells;
 
 use crate::stored::{stored_files, stored_options};
 use base::refusal::Refusal;
 use command_line::Words;
-use looks::{assembled, image, listed, show, shown_log, survey, verified};
+use looks::{assembled, image, imported, listed, show, shown_log, survey, verified};
 use request::{OptionWords, Options, Request, Telling, Which, options_of, unreadable};
 use runs::{Explored, Question, cured, run_with};
 use std::alloc::{AllocError, Global};
 use std::sync::Wait;
 use std::thread::Threads;
+use verifier::Known;
 use workers::Gate;
 
 /// What a command asks a run for.
@@ -31,10 +32,63 @@ pub(crate) enum Wanted {
     Cured,
 }
 
+/// What each file of a command holds, none where it could not be read: those that it names by themselves, and the one behind
+/// `--base`, where that stands there.
+#[derive(Clone, Copy)]
+pub(crate) struct Held<'x> {
+    pub named: &'x [Option<Vec<u8>>],
+    pub base: &'x Option<Option<Vec<u8>>>,
+}
+
+impl<'x> Held<'x> {
+    /// What the first file holds: a log, a source text or a program.
+    fn first(&self) -> Result<&'x [u8], Refusal>
+        ensures { MatchResult result (λ bytes. first_held (held_by self.now) ≡ Some bytes.now)
+            (λ r. (first_held (held_by self.now) ≡ None) × (r ≡ file_refusal 0)) }
+    {
+        match self.named {
+            [Some(bytes), ..] => Ok(bytes.as_slice()),
+            _ => Err(unreadable(0)),
+        }
+    }
+
+    /// What the device held before entry 0: what the file behind `--base` holds, and no bytes without it.
+    fn initial(&self) -> Result<&'x [u8], Refusal>
+        ensures { MatchResult result (λ bytes. initial_of (held_by self.now).base ≡ Some bytes.now)
+            (λ r. (initial_of (held_by self.now).base ≡ None) × (r ≡ file_refusal (length (held_by self.now).named))) }
+    {
+        match self.base {
+            None => Ok(&[]),
+            Some(Some(bytes)) => Ok(bytes.as_slice()),
+            Some(None) => Err(unreadable(self.named.len())),
+        }
+    }
+
+    /// A run's command of such words on these files.
+    fn asked(&'x self, wanted: Wanted, words: OptionWords) -> Asked<'x>
+        ensures { result ≡ record { wanted = wanted; words = words; files = self.entry } }
+    {
+        Asked {
+            wanted,
+            words,
+            files: self,
+        }
+    }
+}
+
+/// What a command asks of a run: for what, by which words, and of which files.
+#[derive(Clone, Copy)]
+struct Asked<'x> {
+    wanted: Wanted,
+    words: OptionWords,
+    files: &'x Held<'x>,
+}
+
 /// A log and programs, and the options of their run.
 #[derive(Clone, Copy)]
 struct Run<'x> {
     log: &'x [u8],
+    initial: &'x [u8],
     programs: &'x [Vec<u8>],
     options: &'x Options,
 }
@@ -42,11 +96,12 @@ struct Run<'x> {
 impl<'x> Run<'x> {
     /// The question of it, of which that is to be told.
     fn question(self, telling: Telling) -> Question<'x>
-        ensures { result ≡ record { telling = telling; log = self.entry.log; programs = self.entry.programs; options = self.entry.options } }
+        ensures { result ≡ record { telling = telling; log = self.entry.log; initial = self.entry.initial; programs = self.entry.programs; options = self.entry.options } }
     {
         Question {
             telling,
             log: self.log,
+            initial: self.initial,
             programs: self.programs,
             options: self.options,
         }
@@ -80,13 +135,14 @@ fn answered<G: Gate + Sync, R: Threads + Wait + Sync>(
     gate: &G,
     wanted: Wanted,
     run: &Run<'_>,
+    known: &mut Known,
 ) -> Result<Explored, Refusal>
-    ensures answers { IfOk result (λ e. IsAnswered wanted run.now.log.now (map (λ f. f.items) run.now.programs.now) run.now.options.now e.bytes.items e.failing) }
-    ensures refused { IfErr result (Refuses run.now.log.now (map (λ f. f.items) run.now.programs.now) run.now.options.now) }
+    ensures answers { IfOk result (λ e. IsAnswered wanted (recording run.now.log.now run.now.initial.now) (map (λ f. f.items) run.now.programs.now) run.now.options.now e.bytes.items e.failing) }
+    ensures refused { IfErr result (Refuses (recording run.now.log.now run.now.initial.now) (map (λ f. f.items) run.now.programs.now) run.now.options.now) }
 {
     match wanted {
-        Wanted::Told(telling) => run_with(rt, alloc, gate, &run.question(telling)),
-        Wanted::Cured => cured(rt, alloc, gate, &run.question(Telling::Report)),
+        Wanted::Told(telling) => run_with(rt, alloc, gate, &run.question(telling), known),
+        Wanted::Cured => cured(rt, alloc, gate, &run.question(Telling::Report), known),
     }
 }
 
@@ -97,24 +153,14 @@ fn explore_files<G: Gate + Sync, R: Threads + Wait + Sync>(
     gate: &G,
     wanted: Wanted,
     run: &Run<'_>,
+    known: &mut Known,
 ) -> Result<(Vec<u8>, u8), Refusal>
-    ensures answers { IfOk result (λ answer. AnswersRun wanted run.now.options.now run.now.log.now (map (λ f. f.items) run.now.programs.now) answer.0.items answer.1) }
-    ensures refused { IfErr result (Refuses run.now.log.now (map (λ f. f.items) run.now.programs.now) run.now.options.now) }
+    ensures answers { IfOk result (λ answer. AnswersRun wanted run.now.options.now (recording run.now.log.now run.now.initial.now) (map (λ f. f.items) run.now.programs.now) answer.0.items answer.1) }
+    ensures refused { IfErr result (Refuses (recording run.now.log.now run.now.initial.now) (map (λ f. f.items) run.now.programs.now) run.now.options.now) }
 {
-    let explored = answered(rt, alloc, gate, wanted, run)?;
+    let explored = answered(rt, alloc, gate, wanted, run, known)?;
     let status = if explored.failing { 1 } else { 0 };
     Ok((explored.bytes, status))
-}
-
-/// What the first file holds: a log, a source text or a program.
-fn first_of(files: &[Option<Vec<u8>>]) -> Result<&[u8], Refusal>
-    ensures { MatchResult result (λ held. first_held (map (option_map (λ f. f.items)) files.now) ≡ Some held.now)
-        (λ r. (first_held (map (option_map (λ f. f.items)) files.now) ≡ None) × (r ≡ file_refusal 0)) }
-{
-    match files {
-        [Some(log), ..] => Ok(log.as_slice()),
-        _ => Err(unreadable(0)),
-    }
 }
 
 /// Explores the files of a command, of which the first is the log.
@@ -122,15 +168,14 @@ fn act_explore<G: Gate + Sync, R: Threads + Wait + Sync>(
     rt: &R,
     alloc: Global,
     gate: &G,
-    wanted: Wanted,
-    words: OptionWords,
-    files: &[Option<Vec<u8>>],
+    asked: &Asked<'_>,
+    known: &mut Known,
 ) -> Result<(Vec<u8>, u8), Refusal>
-    ensures answers { IfOk result (λ answer. AnswersExplore wanted words (map (option_map (λ f. f.items)) files.now) answer.0.items answer.1) }
-    ensures refused { IfErr result (RefusesWith words (RefusesFiles (map (option_map (λ f. f.items)) files.now))) }
+    ensures answers { IfOk result (λ answer. AnswersExplore asked.now.wanted asked.now.words (held_by asked.now.files.now) answer.0.items answer.1) }
+    ensures refused { IfErr result (RefusesWith asked.now.words (RefusesFiles (held_by asked.now.files.now))) }
 {
-    let options = options_of(words)?;
-    explore_readable(rt, alloc, gate, wanted, &options, files)
+    let options = options_of(asked.words)?;
+    explore_readable(rt, alloc, gate, asked, &options, known)
 }
 
 /// Explores files, each of which has to be readable.
@@ -138,14 +183,14 @@ fn explore_readable<G: Gate + Sync, R: Threads + Wait + Sync>(
     rt: &R,
     alloc: Global,
     gate: &G,
-    wanted: Wanted,
+    asked: &Asked<'_>,
     options: &Options,
-    files: &[Option<Vec<u8>>],
+    known: &mut Known,
 ) -> Result<(Vec<u8>, u8), Refusal>
-    ensures answers { IfOk result (λ answer. AnswersFiles wanted options.now (map (option_map (λ f. f.items)) files.now) answer.0.items answer.1) }
-    ensures refused { IfErr result (RefusesFiles (map (option_map (λ f. f.items)) files.now) options.now) }
+    ensures answers { IfOk result (λ answer. AnswersFiles asked.now.wanted options.now (held_by asked.now.files.now) answer.0.items answer.1) }
+    ensures refused { IfErr result (RefusesFiles (held_by asked.now.files.now) options.now) }
 {
-    let Some((first, others)) = files.split_first() else {
+    let Some((first, others)) = asked.files.named.split_first() else {
         return Err(unreadable(0));
     };
     let Some(log) = first else {
@@ -154,14 +199,16 @@ fn explore_readable<G: Gate + Sync, R: Threads + Wait + Sync>(
     if let Some(place) = first_unreadable(others) {
         return Err(unreadable(place + 1));
     }
+    let initial = asked.files.initial()?;
     match programs_of(alloc, others) {
         Ok(programs) => {
             let run = Run {
                 log: log.as_slice(),
+                initial,
                 programs: programs.as_slice(),
                 options,
             };
-            explore_files(rt, alloc, gate, wanted, &run)
+            explore_files(rt, alloc, gate, asked.wanted, &run, known)
         }
         Err(_error) => Err(Refusal::of_memory()),
     }
@@ -172,52 +219,58 @@ fn act_stored<G: Gate + Sync, R: Threads + Wait + Sync>(
     rt: &R,
     alloc: Global,
     gate: &G,
+    known: &mut Known,
 ) -> Result<(Vec<u8>, u8), Refusal>
-    ensures answers { IfOk result (λ answer. AnswersRun (wants.Told tells.Report) stored_settings stored_log stored_programs answer.0.items answer.1) }
-    ensures refused { IfErr result (λ r. (r ≡ memory_refusal) ⊎ Refuses stored_log stored_programs stored_settings r) }
+    ensures answers { IfOk result (λ answer. AnswersRun (wants.Told tells.Report) stored_settings (recording stored_log []) stored_programs answer.0.items answer.1) }
+    ensures refused { IfErr result (λ r. (r ≡ memory_refusal) ⊎ Refuses (recording stored_log []) stored_programs stored_settings r) }
 {
     let options = stored_options();
     match stored_files(alloc) {
         Ok((log, programs)) => {
             let run = Run {
                 log: log.as_slice(),
+                initial: &[],
                 programs: programs.as_slice(),
                 options: &options,
             };
-            explore_files(rt, alloc, gate, Wanted::Told(Telling::Report), &run)
+            explore_files(rt, alloc, gate, Wanted::Told(Telling::Report), &run, known)
         }
         Err(_error) => Err(Refusal::of_memory()),
     }
 }
 
 /// The survey of a log's crash images.
-fn act_images(
-    alloc: Global,
-    words: OptionWords,
-    files: &[Option<Vec<u8>>],
-) -> Result<(Vec<u8>, u8), Refusal>
-    ensures answers { IfOk result (λ answer. Answers (asks.Images words) (map (option_map (λ f. f.items)) files.now) answer.0.items answer.1) }
-    ensures refused { IfErr result (RefusesToAct (asks.Images words) (map (option_map (λ f. f.items)) files.now)) }
+fn act_images(alloc: Global, words: OptionWords, files: &Held<'_>) -> Result<(Vec<u8>, u8), Refusal>
+    ensures answers { IfOk result (λ answer. Answers (asks.Images words) (held_by files.now) answer.0.items answer.1) }
+    ensures refused { IfErr result (RefusesToAct (asks.Images words) (held_by files.now)) }
 {
     let options = options_of(words)?;
-    let log = first_of(files)?;
-    let bytes = survey(alloc, log, &options)?;
+    let log = files.first()?;
+    let initial = files.initial()?;
+    let bytes = survey(alloc, log, initial, &options)?;
     Ok((bytes, 0))
 }
 
 /// A log as a table.
-fn act_log(
-    alloc: Global,
-    words: OptionWords,
-    files: &[Option<Vec<u8>>],
-) -> Result<(Vec<u8>, u8), Refusal>
-    ensures answers { IfOk result (λ answer. Answers (asks.Log words) (map (option_map (λ f. f.items)) files.now) answer.0.items answer.1) }
-    ensures refused { IfErr result (RefusesToAct (asks.Log words) (map (option_map (λ f. f.items)) files.now)) }
+fn act_log(alloc: Global, words: OptionWords, files: &Held<'_>) -> Result<(Vec<u8>, u8), Refusal>
+    ensures answers { IfOk result (λ answer. Answers (asks.Log words) (held_by files.now) answer.0.items answer.1) }
+    ensures refused { IfErr result (RefusesToAct (asks.Log words) (held_by files.now)) }
 {
     let options = options_of(words)?;
-    let log = first_of(files)?;
-    let bytes = shown_log(alloc, log, &options)?;
+    let log = files.first()?;
+    let initial = files.initial()?;
+    let bytes = shown_log(alloc, log, initial, &options)?;
     Ok((bytes, 0))
+}
+
+/// The log that is imported of a raw log.
+fn act_import(alloc: Global, files: &Held<'_>) -> Result<(Vec<u8>, u8), Refusal>
+    ensures answers { IfOk result (λ answer. Answers asks.Import (held_by files.now) answer.0.items answer.1) }
+    ensures refused { IfErr result (RefusesToAct asks.Import (held_by files.now)) }
+{
+    let raw = files.first()?;
+    let text = imported(alloc, raw)?;
+    Ok((text, 0))
 }
 
 /// One crash image of a log.
@@ -225,14 +278,15 @@ fn act_image(
     alloc: Global,
     words: OptionWords,
     which: Which,
-    files: &[Option<Vec<u8>>],
+    files: &Held<'_>,
 ) -> Result<(Vec<u8>, u8), Refusal>
-    ensures answers { IfOk result (λ answer. Answers (asks.Image words which) (map (option_map (λ f. f.items)) files.now) answer.0.items answer.1) }
-    ensures refused { IfErr result (RefusesToAct (asks.Image words which) (map (option_map (λ f. f.items)) files.now)) }
+    ensures answers { IfOk result (λ answer. Answers (asks.Image words which) (held_by files.now) answer.0.items answer.1) }
+    ensures refused { IfErr result (RefusesToAct (asks.Image words which) (held_by files.now)) }
 {
     let options = options_of(words)?;
-    let log = first_of(files)?;
-    let bytes = image(alloc, log, which, &options)?;
+    let log = files.first()?;
+    let initial = files.initial()?;
+    let bytes = image(alloc, log, initial, which, &options)?;
     Ok((bytes, 0))
 }
 
@@ -241,14 +295,15 @@ fn act_show(
     alloc: Global,
     words: OptionWords,
     which: Which,
-    files: &[Option<Vec<u8>>],
+    files: &Held<'_>,
 ) -> Result<(Vec<u8>, u8), Refusal>
-    ensures answers { IfOk result (λ answer. Answers (asks.Show words which) (map (option_map (λ f. f.items)) files.now) answer.0.items answer.1) }
-    ensures refused { IfErr result (RefusesToAct (asks.Show words which) (map (option_map (λ f. f.items)) files.now)) }
+    ensures answers { IfOk result (λ answer. Answers (asks.Show words which) (held_by files.now) answer.0.items answer.1) }
+    ensures refused { IfErr result (RefusesToAct (asks.Show words which) (held_by files.now)) }
 {
     let options = options_of(words)?;
-    let log = first_of(files)?;
-    let bytes = show(alloc, log, which, &options)?;
+    let log = files.first()?;
+    let initial = files.initial()?;
+    let bytes = show(alloc, log, initial, which, &options)?;
     Ok((bytes, 0))
 }
 
@@ -256,43 +311,82 @@ fn act_show(
 fn act_verify(
     alloc: Global,
     words: OptionWords,
-    files: &[Option<Vec<u8>>],
+    files: &Held<'_>,
+    known: &mut Known,
 ) -> Result<(Vec<u8>, u8), Refusal>
-    ensures answers { IfOk result (λ answer. Answers (asks.Verify words) (map (option_map (λ f. f.items)) files.now) answer.0.items answer.1) }
-    ensures refused { IfErr result (RefusesToAct (asks.Verify words) (map (option_map (λ f. f.items)) files.now)) }
+    ensures answers { IfOk result (λ answer. Answers (asks.Verify words) (held_by files.now) answer.0.items answer.1) }
+    ensures refused { IfErr result (RefusesToAct (asks.Verify words) (held_by files.now)) }
 {
     let options = options_of(words)?;
-    let code = first_of(files)?;
-    let text = verified(alloc, code, &options)?;
+    let code = files.first()?;
+    let text = verified(alloc, code, &options, known)?;
     Ok((text, 0))
 }
 
 /// The program of a source text, as bytes.
-fn act_asm(alloc: Global, files: &[Option<Vec<u8>>]) -> Result<(Vec<u8>, u8), Refusal>
-    ensures answers { IfOk result (λ answer. Answers asks.Asm (map (option_map (λ f. f.items)) files.now) answer.0.items answer.1) }
-    ensures refused { IfErr result (RefusesToAct asks.Asm (map (option_map (λ f. f.items)) files.now)) }
+fn act_asm(alloc: Global, files: &Held<'_>) -> Result<(Vec<u8>, u8), Refusal>
+    ensures answers { IfOk result (λ answer. Answers asks.Asm (held_by files.now) answer.0.items answer.1) }
+    ensures refused { IfErr result (RefusesToAct asks.Asm (held_by files.now)) }
 {
-    let source = first_of(files)?;
+    let source = files.first()?;
     let bytes = assembled(alloc, source)?;
     Ok((bytes, 0))
 }
 
 /// The listing of a program.
-fn act_list(
-    alloc: Global,
-    numbered: bool,
-    files: &[Option<Vec<u8>>],
-) -> Result<(Vec<u8>, u8), Refusal>
-    ensures answers { IfOk result (λ answer. Answers (asks.List numbered) (map (option_map (λ f. f.items)) files.now) answer.0.items answer.1) }
-    ensures refused { IfErr result (RefusesToAct (asks.List numbered) (map (option_map (λ f. f.items)) files.now)) }
+fn act_list(alloc: Global, numbered: bool, files: &Held<'_>) -> Result<(Vec<u8>, u8), Refusal>
+    ensures answers { IfOk result (λ answer. Answers (asks.List numbered) (held_by files.now) answer.0.items answer.1) }
+    ensures refused { IfErr result (RefusesToAct (asks.List numbered) (held_by files.now)) }
 {
-    let code = first_of(files)?;
+    let code = files.first()?;
     let text = listed(alloc, code, numbered)?;
     Ok((text, 0))
 }
 
+/// What `act` answers; what the verifier knows of the programs is put into `known`.
+pub(crate) fn act_known<G: Gate + Sync, R: Threads + Wait + Sync>(
+    rt: &R,
+    alloc: Global,
+    gate: &G,
+    words: &Words,
+    files: &Held<'_>,
+    known: &mut Known,
+) -> Result<(Vec<u8>, u8), Refusal>
+    ensures answers { IfOk result (λ answer. Answers words.now.request (held_by files.now) answer.0.items answer.1) }
+    ensures refused { IfErr result (RefusesToAct words.now.request (held_by files.now)) }
+{
+    match words.request() {
+        Request::StoredRun => act_stored(rt, alloc, gate, known),
+        Request::Explore(words) => {
+            let asked = files.asked(Wanted::Told(Telling::Report), words);
+            act_explore(rt, alloc, gate, &asked, known)
+        }
+        Request::Why(words) => {
+            let asked = files.asked(Wanted::Told(Telling::Causes), words);
+            act_explore(rt, alloc, gate, &asked, known)
+        }
+        Request::Cure(words) => {
+            let asked = files.asked(Wanted::Cured, words);
+            act_explore(rt, alloc, gate, &asked, known)
+        }
+        Request::Page(words) => {
+            let asked = files.asked(Wanted::Told(Telling::Page), words);
+            act_explore(rt, alloc, gate, &asked, known)
+        }
+        Request::Images(words) => act_images(alloc, words, files),
+        Request::Log(words) => act_log(alloc, words, files),
+        Request::Import => act_import(alloc, files),
+        Request::Image(words, which) => act_image(alloc, words, which, files),
+        Request::Show(words, which) => act_show(alloc, words, which, files),
+        Request::Verify(words) => act_verify(alloc, words, files, known),
+        Request::Asm => act_asm(alloc, files),
+        Request::List { numbered } => act_list(alloc, numbered, files),
+    }
+}
+
 /// Performs a command on what its files hold, one for each of `Words::files`, none where a file could
-/// not be read; with no file at all the first cannot be read. Answers the bytes for standard output and
+/// not be read, and `base` that of `Words::base`, where there is one; with no file at all the first cannot
+/// be read. Answers the bytes for standard output and
 /// the status: 0 where the command succeeded and no image fails, 1 where some do. An exploration waits
 /// until its workers are back; `gate` is told of its blocks as by `explore_with`, and changes nothing.
 ///
@@ -306,28 +400,11 @@ pub fn act<G: Gate + Sync, R: Threads + Wait + Sync>(
     gate: &G,
     words: &Words,
     files: &[Option<Vec<u8>>],
+    base: &Option<Option<Vec<u8>>>,
 ) -> Result<(Vec<u8>, u8), Refusal>
-    ensures answers { IfOk result (λ answer. Answers words.now.request (map (option_map (λ f. f.items)) files.now) answer.0.items answer.1) }
-    ensures refused { IfErr result (RefusesToAct words.now.request (map (option_map (λ f. f.items)) files.now)) }
+    ensures answers { IfOk result (λ answer. Answers words.now.request (files_of (λ f. f.items) files.now base.now) answer.0.items answer.1) }
+    ensures refused { IfErr result (RefusesToAct words.now.request (files_of (λ f. f.items) files.now base.now)) }
 {
-    match words.request() {
-        Request::StoredRun => act_stored(rt, alloc, gate),
-        Request::Explore(asked) => {
-            act_explore(rt, alloc, gate, Wanted::Told(Telling::Report), asked, files)
-        }
-        Request::Why(asked) => {
-            act_explore(rt, alloc, gate, Wanted::Told(Telling::Causes), asked, files)
-        }
-        Request::Cure(asked) => act_explore(rt, alloc, gate, Wanted::Cured, asked, files),
-        Request::Page(asked) => {
-            act_explore(rt, alloc, gate, Wanted::Told(Telling::Page), asked, files)
-        }
-        Request::Images(asked) => act_images(alloc, asked, files),
-        Request::Log(asked) => act_log(alloc, asked, files),
-        Request::Image(asked, which) => act_image(alloc, asked, which, files),
-        Request::Show(asked, which) => act_show(alloc, asked, which, files),
-        Request::Verify(asked) => act_verify(alloc, asked, files),
-        Request::Asm => act_asm(alloc, files),
-        Request::List { numbered } => act_list(alloc, numbered, files),
-    }
+    let held = Held { named: files, base };
+    act_known(rt, alloc, gate, words, &held, &mut Known::new())
 }

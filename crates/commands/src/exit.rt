@@ -1,14 +1,16 @@
 //! How the process ends.
 
-ghost use Rattle.std.specs.Prelude.{◌≡◌, map, option_map};
+ghost use Rattle.std.specs.Prelude.{◌≡◌};
+ghost use Rattle.commands.specs.Acting.{files_of};
 ghost use Rattle.commands.specs.Exits.{Exits};
 
-use crate::action::act;
+use crate::action::{Held, act_known};
 use base::refusal::Refusal;
 use command_line::Words;
 use std::alloc::Global;
 use std::sync::Wait;
 use std::thread::Threads;
+use verifier::Known;
 use workers::Gate;
 
 /// The status of a process that was refused.
@@ -23,6 +25,8 @@ pub struct Exit {
     pub refusal: Option<Refusal>,
     /// The status of the process.
     pub status: u8,
+    /// What is known of the programs, for the notes.
+    pub known: Known,
 }
 
 /// Performs a command on what its files hold, as `act` does, and tells how the process ends: with an answer on standard output
@@ -33,19 +37,24 @@ pub fn perform<G: Gate + Sync, R: Threads + Wait + Sync>(
     gate: &G,
     words: &Words,
     files: &[Option<Vec<u8>>],
+    base: &Option<Option<Vec<u8>>>,
 ) -> Exit
-    ensures { Exits words.now.request (map (option_map (λ f. f.items)) files.now) result.output.items result.refusal result.status }
+    ensures { Exits words.now.request (files_of (λ f. f.items) files.now base.now) result.output.items result.refusal result.status }
 {
-    match act(rt, alloc, gate, words, files) {
+    let held = Held { named: files, base };
+    let mut known = Known::new();
+    match act_known(rt, alloc, gate, words, &held, &mut known) {
         Ok((output, status)) => Exit {
             output,
             refusal: None,
             status,
+            known,
         },
         Err(refusal) => Exit {
             output: Vec::new(alloc),
             refusal: Some(refusal),
             status: REFUSED,
+            known,
         },
     }
 }

@@ -21,7 +21,8 @@
 //! What stands here:
 //!
 //! - `action`: `act`, what a command answers on what its files hold, and with which status.
-//! - `exit`: `perform`, which does the same and says how the process ends: its standard output, its refusal and its status.
+//! - `exit`: `perform`, which does the same and says how the process ends: its standard output, its refusal and its status,
+//!   with what the verifier knows of the programs.
 //! - `stored`: the run that the program holds itself.
 //! - `laws`: that there is one answer at most to what is asked, and no refusal beside it but for memory; that workers, cache
 //!   and progress change nothing of it; that `show` names each sector that differs; that each failing image stands once in what
@@ -50,7 +51,7 @@
 //!
 //! ```text
 //! let words = Words::of(alloc, &["explore", "disk.log", "check.bpf", "--sectors", "64"])?;
-//! let (bytes, status) = act(rt, alloc, &OpenGate, &words, &[Some(log), Some(program)])?;
+//! let (bytes, status) = act(rt, alloc, &OpenGate, &words, &[Some(log), Some(program)], &None)?;
 //! // bytes: the report; status: 1 where an image fails
 //! ```
 #![tactic(auto)]
@@ -75,5 +76,6 @@ pub use looks::{choices_are_short, image, report_prints_choices, show, survey};
 pub use progress::Progress;
 pub use request::{OptionPlace, Options, Settings, Telling, Which, fault_line};
 pub use runs::{Explored, Question, cured, explore, explore_with, page, why};
+pub use verifier::Known;
 pub use workers::{Gate, OpenGate};
 pub use writing::{Output, emit};

@@ -22,7 +22,9 @@
 
 use base::refusal::Refusal;
 use clap::error::ErrorKind as WordsFault;
-use commands::{Output, Progress, Words, emit, fault_line, notes_behind, notes_beside, perform};
+use commands::{
+    Known, Output, Progress, Words, emit, fault_line, notes_behind, notes_beside, perform,
+};
 use input_files::Inputs;
 use std::alloc::AllocError;
 use std::io::ErrorKind;
@@ -78,7 +80,7 @@ fn run<R: AllocGlobal + Print + Eprint + Clock + Threads + Wait + Sync>(
 ) -> u8 {
     let files = inputs.held();
     let progress = Progress::new(rt, words.progress());
-    let exit = perform(rt, rt.alloc(), &progress, words, files);
+    let exit = perform(rt, rt.alloc(), &progress, words, files, inputs.base());
     progress.end();
     match exit.refusal {
         None => {
@@ -86,12 +88,15 @@ fn run<R: AllocGlobal + Print + Eprint + Clock + Threads + Wait + Sync>(
             if emit(&mut output, exit.output.as_slice()).is_err() {
                 return stopped(rt, UNWRITTEN);
             }
-            print_notes(rt, notes_beside(rt.alloc(), words, files));
+            print_notes(rt, notes_beside(rt.alloc(), words, files, &exit.known));
         }
         Some(refusal) => {
             let refusal = inputs.refusal(refusal);
             refused(rt, &refusal);
-            print_notes(rt, notes_behind(rt.alloc(), words, files, &refusal));
+            print_notes(
+                rt,
+                notes_behind(rt.alloc(), words, files, &refusal, &exit.known),
+            );
             rt.eprint(inputs.note(&refusal)).ok();
         }
     }
@@ -104,11 +109,14 @@ fn read_and_run<R: Files + AllocGlobal + Print + Eprint + Clock + Threads + Wait
     command: &str,
     words: &Words,
 ) -> u8 {
-    match Inputs::read(rt, command, words.files()) {
+    match Inputs::read(rt, command, words.files(), words.base(), words.sectors()) {
         Ok(inputs) => run(rt, words, &inputs),
         Err(refusal) => {
             let status = refused(rt, &refusal);
-            print_notes(rt, notes_behind(rt.alloc(), words, &[], &refusal));
+            print_notes(
+                rt,
+                notes_behind(rt.alloc(), words, &[], &refusal, &Known::new()),
+            );
             status
         }
     }

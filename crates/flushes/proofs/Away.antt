@@ -1,9 +1,9 @@
 -- What a flush in the window of an image takes away, and what one elsewhere leaves.
 use Rattle.std.proofs.Common.{ℕ, zero, suc, ◌≡◌, ◌==◌, ◌||◌, ◌+◌, ◌<◌, ◌≤◌, nat_le, Bool, true, false, not, if◌then◌else◌, List, [], ◌∷◌, length, filter, slice_get, Some, None, refl, sym, ◌∙◌, ap, arith, inl, inr}
 use Rattle.std.specs.Option.{option_map_or}
-use Rattle.std.proofs.lemmas.Bool.Decides.{leb_tells, eqb_tells, nat_tests}
+use Rattle.std.proofs.lemmas.Bool.Decides.{eqb_tells, nat_tests}
 use Rattle.std.proofs.lemmas.List.Filters.{length-filter_both}
-use Rattle.std.proofs.lemmas.Option.{slice_get_cases, slice_get_within}
+use Rattle.std.proofs.lemmas.Option.{slice_get_cases}
 use Rattle.logfmt.specs.declared.entry.Entry.{Entry}
 use Rattle.logfmt.specs.Flushed.{with_flush, flushed_at, is_place}
 use Rattle.logfmt.proofs.Flushed.{entry-flushed, entry-before, own-count}
@@ -15,8 +15,7 @@ use Rattle.epochs.specs.Laws.{IsVolatile}
 use Rattle.choices.specs.declared.choice.Departure.{Departure}
 use Rattle.choices.specs.CrashModel.{IsAdmissible}
 use Rattle.flushes.specs.declared.window.Window.{Window}
-use Rattle.flushes.specs.Windows.{IsWindow, is_end, arrived}
-use Rattle.flushes.specs.Places.{Holds}
+use Rattle.flushes.specs.Windows.{IsWindow, arrived}
 use Rattle.flushes.specs.Laws.{up_to, FlushTakesAway, FlushElsewhereLeaves}
 
 -- with a flush between its entry and the cut a part isn't volatile

@@ -1,12 +1,11 @@
 -- Windows counted at the first place that they hold.
-use Rattle.std.proofs.Common.{ℕ, zero, suc, ◌≡◌, ◌≢◌, ◌==◌, ◌+◌, ◌<◌, ◌≤◌, nat_lt, Bool, true, false, not, List, [], ◌∷◌, ◌++◌, length, map, filter, take, slice_get, slice_index_or, slice_set, Some, None, refl, sym, ◌∙◌, ap, arith, inl, inr, length-append}
+use Rattle.std.proofs.Common.{ℕ, zero, suc, ◌≡◌, ◌≢◌, ◌==◌, ◌+◌, ◌<◌, ◌≤◌, nat_lt, true, false, not, List, [], ◌∷◌, ◌++◌, length, filter, slice_index_or, slice_set, refl, sym, ◌∙◌, ap, arith, inl, inr, length-append}
 use Rattle.std.specs.Prelude.{max}
 use Rattle.std.proofs.lemmas.List.{ext_get_or, get_or-set_other, length-set}
 use Rattle.std.proofs.lemmas.List.Filters.{length-filter_both}
 use Rattle.std.proofs.lemmas.Grind.{get_or-set_at}
 use Rattle.std.proofs.lemmas.List.Elements.{filter-append}
 use Rattle.std.proofs.lemmas.List.FromFn.{length-map-range_with_len, get_or-map-range_with_len}
-use Rattle.std.specs.List.{range_with_len}
 use Rattle.std.proofs.lemmas.Bool.Decides.{nat_tests, eqb_tells}
 use Rattle.flushes.specs.declared.window.Window.{Window}
 use Rattle.flushes.specs.declared.counted.MissingFlush.{MissingFlush}

@@ -1,9 +1,9 @@
 -- No fewer places have one in each window: each place ends a window of its own, behind the place before it.
-use Rattle.std.proofs.Common.{ℕ, zero, suc, ◌≡◌, ◌+◌, ◌<◌, ◌≤◌, nat_le, Bool, true, false, if◌then◌else◌, List, [], ◌∷◌, length, filter, take, slice_get, slice_index_or, Some, None, refl, sym, ◌∙◌, ap, arith, inl, inr}
+use Rattle.std.proofs.Common.{ℕ, zero, suc, ◌≡◌, ◌+◌, ◌<◌, ◌≤◌, nat_le, Bool, true, false, if◌then◌else◌, List, [], ◌∷◌, length, slice_get, slice_index_or, Some, None, arith, inl, inr}
 use Rattle.std.proofs.lemmas.Bool.Decides.{leb_tells}
 use Rattle.std.proofs.lemmas.Option.{slice_get_cases, slice_get_within, slice_get-get_or}
 use Rattle.flushes.specs.declared.window.Window.{Window}
-use Rattle.flushes.specs.Places.{AreWindows, ArePlaces, Covers, HoldsOne, Holds}
+use Rattle.flushes.specs.Places.{AreWindows, ArePlaces, Covers}
 use Rattle.flushes.specs.Laws.{PlacesAreFewest}
 use Rattle.flushes.proofs.Walked.{behind_earlier}
 

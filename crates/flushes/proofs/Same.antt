@@ -1,13 +1,15 @@
 -- What departs up to the end of a window leaves, right behind it, what all departures leave at the cut.
-use Rattle.std.proofs.Common.{ℕ, zero, suc, ◌≡◌, ◌==◌, ◌+◌, ◌-◌, ◌*◌, ◌<◌, ◌≤◌, nat_le, nat_lt, Bool, true, false, not, ◌&&◌, ◌||◌, if◌then◌else◌, List, [], ◌∷◌, ◌++◌, length, map, filter, count_by, take, slice_get, slice_index, Some, None, refl, sym, ◌∙◌, ap, arith, inl, inr}
+use Rattle.std.proofs.Common.{ℕ, zero, suc, ◌≡◌, ◌==◌, ◌+◌, ◌-◌, ◌<◌, ◌≤◌, nat_le, nat_lt, Bool, true, false, not, ◌&&◌, ◌||◌, if◌then◌else◌, List, [], ◌∷◌, ◌++◌, length, map, filter, count_by, take, slice_get, slice_index, Some, None, refl, sym, ◌∙◌, ap, arith, inl, inr}
 use Rattle.std.specs.List.{list_all, range_with_len, last_or}
 use Rattle.std.specs.Option.{option_map_or}
-use Rattle.std.proofs.lemmas.Bool.Decides.{leb_tells, eqb_tells, nat_tests}
+use Rattle.std.proofs.lemmas.Bool.Decides.{eqb_tells, nat_tests}
 use Rattle.std.proofs.lemmas.List.{append-nil}
 use Rattle.std.proofs.lemmas.List.Elements.{filter-append}
 use Rattle.std.proofs.lemmas.Option.{slice_get_cases, slice_get_within}
 use Rattle.base.proofs.Lists.{filter-map_alike, take-suc_place, count_by-push}
 use Rattle.logfmt.specs.declared.entry.Entry.{Entry}
+use Rattle.logfmt.specs.Bounds.{LogValue}
+use Rattle.logfmt.specs.Initial.{initial_byte}
 use Rattle.epochs.specs.declared.part.By.{By}
 use Rattle.epochs.specs.declared.part.By.TheVariants as by
 use Rattle.epochs.specs.declared.unit.Unit.{Unit as LogUnit}
@@ -19,7 +21,7 @@ use Rattle.choices.specs.declared.fate.Fate.{Fate}
 use Rattle.choices.specs.declared.fate.Fate.TheVariants as fate
 use Rattle.choices.specs.declared.choice.Departure.{Departure}
 use Rattle.choices.specs.CrashModel.{IsAdmissible}
-use Rattle.images.specs.Images.{keeps, is_in, byte_in, survives, writes, byte_after, sector_after, device_after, crash_image}
+use Rattle.images.specs.Images.{keeps, is_in, byte_in, survives, writes, byte_after, sector_after, device_after}
 use Rattle.flushes.specs.declared.window.Window.{Window}
 use Rattle.flushes.specs.Windows.{is_drop, drops, arrived, is_end, IsWindow}
 use Rattle.flushes.specs.Laws.{up_to, SameIsLeft}
@@ -269,11 +271,12 @@ map_same f g [] same = refl
 map_same f g (x ∷ xs) same = rw (same x, map_same f g xs same) refl
 
 -- byte for byte
-byte : (way : By) (es : List Entry) (cut bound : ℕ) (tears : Bool) (ds : List Departure) (w : Window) (s i : ℕ)
-    → cut ≤ length es → IsWindow way es cut ds w → IsAdmissible way es cut bound tears ds
-    → byte_after es (units_before es (w.end + 1)) (up_to w.end ds) s i ≡ byte_after es (units_before es cut) ds s i
+byte : (way : By) (log : LogValue) (cut bound : ℕ) (tears : Bool) (ds : List Departure) (w : Window) (s i : ℕ)
+    → cut ≤ length log.entries → IsWindow way log.entries cut ds w → IsAdmissible way log.entries cut bound tears ds
+    → byte_after log (units_before log.entries (w.end + 1)) (up_to w.end ds) s i ≡ byte_after log (units_before log.entries cut) ds s i
 unfolding byte_after
-byte way es cut bound tears ds w s i inside is admissible =
+byte way log cut bound tears ds w s i inside is admissible =
+    let es = log.entries in
     let before = is.before in
     let n : ℕ = cut - (w.end + 1) in
     let end : w.end + 1 + n ≡ cut = omega (arith, before) in
@@ -281,16 +284,17 @@ byte way es cut bound tears ds w s i inside is admissible =
     let rest = behind way es cut bound tears ds w s i n inside is admissible (omega (arith, end)) in
     let all : filter (writes (up_to w.end ds) s i) (units_before es (w.end + 1)) ≡ filter (writes ds s i) (units_before es cut) =
     up ∙ sym rest ∙ ap (λ k. filter (writes ds s i) (units_before es k)) end in
-    ap (λ us. option_map_or (λ (u : LogUnit). slice_index (unit_content es u) i) (last_or None us) 0) all
+    ap (λ us. option_map_or (λ (u : LogUnit). slice_index (unit_content es u) i) (last_or None us) (initial_byte log.initial s i)) all
 
 pub same_is_left : SameIsLeft
 unfolding device_after sector_after
-same_is_left way es sectors cut bound tears ds w inside is admissible =
+same_is_left way log cut bound tears ds w inside is admissible =
+    let es = log.entries in
     let before = is.before in
     let n : ℕ = cut - (w.end + 1) in
     let end : w.end + 1 + n ≡ cut = omega (arith, before) in (
-      map_same (sector_after es (units_before es (w.end + 1)) (up_to w.end ds)) (sector_after es (units_before es cut) ds) (range_with_len 0 sectors)
-          (λ s. map_same (byte_after es (units_before es (w.end + 1)) (up_to w.end ds) s) (byte_after es (units_before es cut) ds s) (range_with_len 0 512)
-          (λ i. byte way es cut bound tears ds w s i inside is admissible)),
+      map_same (sector_after log (units_before es (w.end + 1)) (up_to w.end ds)) (sector_after log (units_before es cut) ds) (range_with_len 0 log.sectors)
+          (λ s. map_same (byte_after log (units_before es (w.end + 1)) (up_to w.end ds) s) (byte_after log (units_before es cut) ds s) (range_with_len 0 512)
+          (λ i. byte way log cut bound tears ds w s i inside is admissible)),
       sym (marks way es cut ds w n inside is (omega (arith, end))) ∙ ap (marks_at es) end,
     )

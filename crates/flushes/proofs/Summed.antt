@@ -1,15 +1,14 @@
 -- Each window is counted at one of the flushes.
-use Rattle.std.proofs.Common.{ℕ, zero, suc, ◌≡◌, ◌==◌, ◌+◌, ◌<◌, ◌≤◌, nat_lt, Bool, true, false, not, if◌then◌else◌, List, [], ◌∷◌, ◌++◌, length, map, filter, slice_get, Some, None, refl, sym, ◌∙◌, ap, arith, inl, inr}
+use Rattle.std.proofs.Common.{ℕ, zero, suc, ◌≡◌, ◌+◌, ◌<◌, ◌≤◌, nat_lt, Bool, true, false, not, List, [], ◌∷◌, ◌++◌, length, map, filter, slice_get, Some, None, refl, sym, ◌∙◌, ap, arith, inl, inr}
 use Rattle.std.specs.List.{range_with_len, sum_by}
 use Rattle.std.proofs.lemmas.Bool.Decides.{leb_tells, eqb_tells, nat_tests}
-use Rattle.std.proofs.lemmas.List.Sums.{sum_by_push, sum_by-cons}
+use Rattle.std.proofs.lemmas.List.Sums.{sum_by_push}
 use Rattle.std.proofs.lemmas.List.{map_push}
 use Rattle.std.proofs.lemmas.List.Filters.{length-filter_both}
 use Rattle.base.proofs.Lists.{range_with_len-more}
 use Rattle.flushes.specs.declared.window.Window.{Window}
 use Rattle.flushes.specs.declared.counted.MissingFlush.{MissingFlush}
-use Rattle.flushes.specs.Places.{AreWindows, ArePlaces, HoldsOne}
-use Rattle.flushes.specs.Counted.{AreMissing, places_before, counted_at, missing_at, missing}
+use Rattle.flushes.specs.Counted.{places_before, counted_at, missing_at}
 use Rattle.flushes.specs.Laws.{EachIsCountedOnce}
 
 -- the windows with fewer than n places before them

@@ -1,5 +1,5 @@
 -- The walk along the table of starts: the places so far.
-use Rattle.std.proofs.Common.{ℕ, zero, suc, ◌≡◌, ◌+◌, ◌<◌, ◌≤◌, ◌⊎◌, List, [], ◌∷◌, ◌++◌, length, take, slice_get, Some, None, refl, sym, ◌∙◌, ap, arith, inl, inr, Ok, Err, Result, Vec, Global, IfOk}
+use Rattle.std.proofs.Common.{ℕ, zero, suc, ◌≡◌, ◌+◌, ◌<◌, ◌≤◌, List, [], ◌∷◌, ◌++◌, length, take, slice_get, Some, None, refl, ◌∙◌, ap, arith, inl, inr, Ok, Err, Result, Vec, Global, IfOk}
 use Rattle.std.specs.declared.alloc.AllocError.{AllocError}
 use Rattle.std.proofs.lemmas.List.{take-append-le, take_all}
 use Rattle.std.proofs.lemmas.Bool.Decides.{leb_tells}
@@ -7,7 +7,7 @@ use Rattle.std.proofs.lemmas.Option.{slice_get_within, slice_get-get_or}
 use Rattle.base.proofs.Lists.{slice_get_of_push, slice_get-push, slice_get-append_left}
 use Rattle.std.specs.List.Sorted.{IsNonDecreasing}
 use Rattle.flushes.specs.declared.window.Window.{Window}
-use Rattle.flushes.specs.Places.{Holds, HoldsOne, HoldsNone, IsNext, AreWindows, AreStarts, ArePlaces}
+use Rattle.flushes.specs.Places.{HoldsOne, HoldsNone, IsNext, AreWindows, AreStarts, ArePlaces}
 
 -- the entries below e were walked along, and `last` is the last place, or 0
 pub record Walked (ws : List Window) (e last : ℕ) (ps : List ℕ) : Type 0 where

@@ -1,7 +1,8 @@
 -- What holds of windows and of the flushes that are picked for them.
-use Rattle.std.specs.Prelude.{ℕ, ◌+◌, ◌≡◌, ◌<◌, ◌≤◌, ◌==◌, nat_le, Bool, true, List, length, filter, slice_get, Some}
+use Rattle.std.specs.Prelude.{ℕ, ◌+◌, ◌≡◌, ◌<◌, ◌≤◌, ◌==◌, nat_le, Bool, true, List, length, filter}
 use Rattle.std.specs.List.{sum_by}
 use Rattle.logfmt.specs.declared.entry.Entry.{Entry}
+use Rattle.logfmt.specs.Bounds.{LogValue}
 use Rattle.logfmt.specs.Flushed.{flushed_at, is_place}
 use Rattle.epochs.specs.declared.part.By.{By}
 use Rattle.choices.specs.declared.choice.Departure.{Departure}
@@ -39,9 +40,9 @@ FlushElsewhereLeaves =
 -- many marks
 abbrev pub SameIsLeft : Type 0
 SameIsLeft =
-    (way : By) (es : List Entry) (sectors cut bound : ℕ) (tears : Bool) (ds : List Departure) (w : Window)
-    → cut ≤ length es → IsWindow way es cut ds w → IsAdmissible way es cut bound tears ds
-    → (crash_image sectors es (w.end + 1) (up_to w.end ds) ≡ crash_image sectors es cut ds) × (marks_at es (w.end + 1) ≡ marks_at es cut)
+    (way : By) (log : LogValue) (cut bound : ℕ) (tears : Bool) (ds : List Departure) (w : Window)
+    → cut ≤ length log.entries → IsWindow way log.entries cut ds w → IsAdmissible way log.entries cut bound tears ds
+    → (crash_image log (w.end + 1) (up_to w.end ds) ≡ crash_image log cut ds) × (marks_at log.entries (w.end + 1) ≡ marks_at log.entries cut)
 
 -- no fewer places have one in each window
 abbrev pub PlacesAreFewest : Type 0

@@ -1,6 +1,6 @@
 -- Which places of flushes are picked for some windows (docs/CRASH-MODEL.md, Where a flush helps). A place is the entry right before
 -- which the flush stands.
-use Rattle.std.specs.Prelude.{ℕ, ◌≡◌, ◌<◌, ◌≤◌, ◌⊎◌, List, length, take, slice_get, Some}
+use Rattle.std.specs.Prelude.{ℕ, ◌≡◌, ◌<◌, ◌≤◌, List, length, take, slice_get, Some}
 use Rattle.flushes.specs.declared.window.Window.{Window}
 
 -- the window holds the place

@@ -1,5 +1,6 @@
 -- Cuts of one epoch have one base.
-use Rattle.std.proofs.Common.{ℕ, zero, suc, ◌≡◌, ◌+◌, ◌≤◌, Bool, true, false, if◌then◌else◌, List, [], take, count_by, replicate, refl, sym, ◌∙◌, ap, inl, inr, arith}
+use Rattle.std.proofs.Common.{ℕ, zero, suc, ◌≡◌, ◌+◌, ◌≤◌, Bool, true, false, if◌then◌else◌, List, [], map, take, count_by, refl, sym, ◌∙◌, ap, inl, inr, arith}
+use Rattle.std.specs.List.{range_with_len}
 use Rattle.std.specs.Option.{option_map_or}
 use Rattle.std.proofs.lemmas.Bool.{cases_lt}
 use Rattle.std.proofs.lemmas.List.{take_all}
@@ -7,13 +8,14 @@ use Rattle.std.proofs.lemmas.Option.{slice_get_cases}
 use Rattle.base.proofs.Lists.{take-suc_place, count_by-push}
 use Rattle.logfmt.specs.declared.entry.Entry.{Entry}
 use Rattle.logfmt.specs.Bounds.{LogValue}
+use Rattle.logfmt.specs.Initial.{initial_sector}
 use Rattle.epochs.specs.Units.{epoch_at}
 use Rattle.epochs.specs.Cuts.{is_flush_at}
 use Rattle.epochs.specs.Laws.{last_flush}
 use Rattle.images.specs.Images.{crash_image}
 use Rattle.images.specs.Keys.{base_of}
 use Rattle.images.specs.Laws.{EpochHasBase}
-use Rattle.images.proofs.Blank.{zero_device}
+use Rattle.images.proofs.Blank.{first_device, zero_device}
 
 is_flush : Entry → Bool
 is_flush entry = entry.flags.flush
@@ -71,11 +73,16 @@ one_flush_of es j k same = elim (cases_lt j k) [
 
 pub one_base : (log : LogValue) (j k : ℕ) → epoch_at log.entries j ≡ epoch_at log.entries k → base_of log j ≡ base_of log k
 unfolding base_of
-one_base log j k same = ap (λ f. crash_image log.sectors log.entries f []) (one_flush_of log.entries j k same)
+one_base log j k same = ap (λ f. crash_image log f []) (one_flush_of log.entries j k same)
 
-first_base : (log : LogValue) → base_of log 0 ≡ replicate log.sectors (replicate {A = ℕ} 512 0)
+first_base : (log : LogValue) (k : ℕ) → epoch_at log.entries k ≡ 0 → base_of log k ≡ map (initial_sector log.initial) (range_with_len 0 log.sectors)
 unfolding base_of
-first_base log = sym (zero_device log.sectors log.entries [])
+first_base log k none = one_base log k 0 none ∙ first_device log []
 
 pub epoch_has_base : EpochHasBase
-epoch_has_base = record { one = one_base; zeros = λ log k none. one_base log k 0 none ∙ first_base log }
+epoch_has_base = record {
+  one = one_base;
+  first = first_base;
+  zeros = λ log k blank none.
+      first_base log k none ∙ ap (λ (initial : List ℕ). map (initial_sector initial) (range_with_len 0 log.sectors)) blank ∙ zero_device log.sectors;
+}

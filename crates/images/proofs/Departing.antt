@@ -1,20 +1,19 @@
 -- What the departures of an image change: their sectors alone.
-use Rattle.std.proofs.Common.{ℕ, zero, suc, ◌≡◌, ◌≢◌, ◌+◌, ◌-◌, ◌*◌, ◌<◌, ◌≤◌, ◌⊎◌, ◌==◌, Bool, true, false, not, ◌&&◌, ◌||◌, cond, if◌then◌else◌, List, [], ◌∷◌, ◌++◌, length, map, filter, take, drop, get_or, slice_get, Some, None, refl, sym, subst, ◌∙◌, ap, inl, inr, arith, add-one}
+use Rattle.std.proofs.Common.{ℕ, zero, suc, ◌≡◌, ◌+◌, ◌*◌, ◌<◌, ◌≤◌, ◌⊎◌, ◌==◌, Bool, true, false, ◌&&◌, cond, if◌then◌else◌, List, [], ◌∷◌, length, map, filter, take, drop, get_or, slice_get, Some, None, refl, sym, subst, ◌∙◌, ap, inl, inr, arith, add-one}
 use Rattle.std.specs.Prelude.{sum_by}
 use Rattle.std.proofs.lemmas.List.Sums.{sum_by-cons, sum_by_more}
 use Rattle.std.specs.List.{All, last_or, slice_index, range_with_len}
 use Rattle.std.specs.Option.{option_map_or}
-use Rattle.std.proofs.lemmas.Bool.{cases_lt, eq-eqb, eqb-true, ne_eqb}
-use Rattle.std.proofs.lemmas.Bool.Decides.{eqb_tells}
+use Rattle.std.proofs.lemmas.Bool.{cases_lt, eq-eqb, ne_eqb}
 use Rattle.std.proofs.lemmas.Option.{slice_get_cases, slice_get_within, same_Some, get_or_from_slice_get}
-use Rattle.logfmt.specs.declared.entry.Entry.{Entry}
 use Rattle.logfmt.specs.Bounds.{LogValue, IsLog}
+use Rattle.logfmt.specs.Initial.{initial_byte}
 use Rattle.epochs.specs.declared.unit.Unit.{Unit as LogUnit}
 use Rattle.epochs.specs.Laws.{last_flush}
 use Rattle.epochs.specs.Plan.{IsUnit}
 use Rattle.epochs.specs.Units.{unit_of, units_before, unit_content}
 use Rattle.choices.specs.declared.choice.Departure.{Departure}
-use Rattle.images.specs.Images.{is_in, keeps, survives, writes, byte_after, sector_after}
+use Rattle.images.specs.Images.{survives, writes, byte_after, sector_after}
 use Rattle.images.specs.Table.{AreParts}
 use Rattle.images.specs.Views.{ViewValue, sectors_of}
 use Rattle.images.specs.Whole.{length_view}
@@ -68,11 +67,11 @@ writes_alike log ds n i u bounds unit parts others =
 
 pub departed_elsewhere : (log : LogValue) (cut : ℕ) (ds : List Departure) (n : ℕ) → IsLog log → cut ≤ length log.entries → AreParts log ds
     → ((j : ℕ) (d : Departure) → slice_get ds j ≡ Some d → Covers d n → ⊥)
-    → sector_after log.entries (units_before log.entries cut) [] n ≡ sector_after log.entries (units_before log.entries cut) ds n
+    → sector_after log (units_before log.entries cut) [] n ≡ sector_after log (units_before log.entries cut) ds n
 unfolding sector_after byte_after
 departed_elsewhere log cut ds n bounds le parts others =
     ap (λ (f : ℕ → ℕ). map f (range_with_len 0 512))
-    (λ j i. ap (λ (vs : List LogUnit). option_map_or (λ (u : LogUnit). slice_index (unit_content log.entries u) i) (last_or None vs) 0)
+    (λ j i. ap (λ (vs : List LogUnit). option_map_or (λ (u : LogUnit). slice_index (unit_content log.entries u) i) (last_or None vs) (initial_byte log.initial n i))
     (filter_within (writes [] n i) (writes ds n i) (units_before log.entries cut)
     (all_units (λ u. writes [] n i u ≡ writes ds n i u) log.entries cut le
     (λ e x p lt there within. writes_alike log ds n i (unit_of e x p) bounds (unit_of_entry log e x p bounds there within) parts others))) j)

@@ -7,7 +7,8 @@ use Rattle.std.proofs.lemmas.List.Sums.{count_by-le-length}
 use Rattle.std.proofs.lemmas.Option.{same_Some}
 use Rattle.base.specs.Numbers.{zeros}
 use Rattle.logfmt.specs.declared.entry.Entry.{Entry}
-use Rattle.logfmt.specs.Bounds.{AreBytes}
+use Rattle.logfmt.specs.Bounds.{LogValue, IsLog, AreBytes}
+use Rattle.logfmt.specs.Initial.{initial_byte}
 use Rattle.logfmt.proofs.DataBytes.{range_bytes, zero_bytes}
 use Rattle.epochs.specs.declared.unit.Unit.{Unit as LogUnit}
 use Rattle.epochs.specs.Units.{units_before, unit_content}
@@ -37,34 +38,34 @@ unit_bytes es u h = of_entry (slice_get es u.entry) refl
     of_entry (Some entry) there = either entry.flags.discard entry.content u.place (h u.entry entry there)
 
 -- so each byte of a sector is one
-byte_fits : (es : List Entry) (us : List LogUnit) (ds : List Departure) (s i : ℕ) → HaveBytes es → byte_after es us ds s i < 256
+byte_fits : (log : LogValue) (us : List LogUnit) (ds : List Departure) (s i : ℕ) → IsLog log → byte_after log us ds s i < 256
 unfolding byte_after
-byte_fits es us ds s i h = of_unit (last_or None (filter (writes ds s i) us))
+byte_fits log us ds s i is = of_unit (last_or None (filter (writes ds s i) us))
   where
-    of_unit : (o : Option LogUnit) → option_map_or (λ (u : LogUnit). slice_index (unit_content es u) i) o 0 < 256
-    of_unit None = omega arith
-    of_unit (Some u) = unit_bytes es u h i
+    of_unit : (o : Option LogUnit) → option_map_or (λ (u : LogUnit). slice_index (unit_content log.entries u) i) o (initial_byte log.initial s i) < 256
+    of_unit None = is.initial (512 * s + i)
+    of_unit (Some u) = unit_bytes log.entries u (λ j e there. (is.entries j e there).bytes) i
 
 mapped_bytes : (f : ℕ → ℕ) (xs : List ℕ) → ((x : ℕ) → f x < 256) → AreBytes (map f xs)
 mapped_bytes f [] h i = omega arith
 mapped_bytes f (x ∷ xs) h zero = h x
 mapped_bytes f (x ∷ xs) h (suc i) = mapped_bytes f xs h i
 
-sector_bytes : (es : List Entry) (us : List LogUnit) (ds : List Departure) (s : ℕ) → HaveBytes es → AreBytes (sector_after es us ds s)
+sector_bytes : (log : LogValue) (us : List LogUnit) (ds : List Departure) (s : ℕ) → IsLog log → AreBytes (sector_after log us ds s)
 unfolding sector_after
-sector_bytes es us ds s h = mapped_bytes (byte_after es us ds s) (range_with_len 0 512) (λ i. byte_fits es us ds s i h)
+sector_bytes log us ds s is = mapped_bytes (byte_after log us ds s) (range_with_len 0 512) (λ i. byte_fits log us ds s i is)
 
 mapped_sectors : (f : ℕ → List ℕ) (xs : List ℕ) (n : ℕ) (sector : List ℕ) → ((x : ℕ) → AreBytes (f x)) → slice_get (map f xs) n ≡ Some sector → AreBytes sector
 mapped_sectors f [] n sector h there = absurd (let bad : None ≡ Some sector = there in cc)
 mapped_sectors f (x ∷ xs) zero sector h there = subst AreBytes (same_Some (f x) sector there) (h x)
 mapped_sectors f (x ∷ xs) (suc n) sector h there = mapped_sectors f xs n sector h there
 
-image_bytes : (view : ViewValue) → HaveBytes view.log.entries → (n : ℕ) (sector : List ℕ) → slice_get (sectors_of view) n ≡ Some sector → AreBytes sector
+image_bytes : (view : ViewValue) → IsLog view.log → (n : ℕ) (sector : List ℕ) → slice_get (sectors_of view) n ≡ Some sector → AreBytes sector
 unfolding sectors_of device_after
-image_bytes view h n sector there =
+image_bytes view is n sector there =
     let us = units_before view.log.entries view.cut in
-    mapped_sectors (sector_after view.log.entries us view.departures) (range_with_len 0 view.log.sectors) n sector
-    (λ s. sector_bytes view.log.entries us view.departures s h) there
+    mapped_sectors (sector_after view.log us view.departures) (range_with_len 0 view.log.sectors) n sector
+    (λ s. sector_bytes view.log us view.departures s is) there
 
 -- as many of the first entries are few, where there are few entries
 few_before : (p : Entry → Bool) (es : List Entry) (k : ℕ) → length es ≤ 65536 → count_by p (take k es) ≤ 65536
@@ -74,7 +75,7 @@ pub images_are_devices : ImagesAreDevices
 images_are_devices view is = record {
   count = length_view view;
   long = whole_view view;
-  bytes = image_bytes view (λ i e there. (is.entries i e there).bytes);
+  bytes = image_bytes view is;
   fits = record {
     epoch = few_before (λ (entry : Entry). entry.flags.flush) view.log.entries view.cut is.count;
     marks = few_before (λ (entry : Entry). entry.flags.mark) view.log.entries view.cut is.count;

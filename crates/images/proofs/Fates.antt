@@ -1,10 +1,9 @@
 -- What a unit changes, by its fate.
-use Rattle.std.proofs.Common.{ℕ, ◌≡◌, ◌+◌, ◌-◌, ◌*◌, ◌<◌, ◌≤◌, Bool, true, false, if◌then◌else◌, cond, not, ◌&&◌, ◌||◌, nat_eq, nat_le, Option, Some, None, List, [], ◌∷◌, ◌++◌, length, map, take, drop, refl, sym, subst, ◌∙◌, ap, arith}
+use Rattle.std.proofs.Common.{ℕ, ◌≡◌, ◌-◌, ◌*◌, ◌<◌, ◌≤◌, Bool, true, false, cond, not, ◌&&◌, ◌||◌, nat_eq, Option, Some, None, List, [], ◌∷◌, ◌++◌, length, map, take, drop, refl, sym, subst, ◌∙◌, ap, arith}
 use Rattle.std.specs.List.{list_all, range_with_len}
 use Rattle.std.proofs.lemmas.Bool.{lt-ltb}
 use Rattle.std.proofs.lemmas.List.{append-nil, take_all, drop_all}
 use Rattle.std.proofs.lemmas.Option.{same_Some}
-use Rattle.logfmt.specs.declared.entry.Entry.{Entry}
 use Rattle.logfmt.specs.Bounds.{LogValue, IsLog}
 use Rattle.epochs.specs.declared.unit.Unit.{Unit as LogUnit}
 use Rattle.epochs.specs.Units.{unit_content}
@@ -95,42 +94,42 @@ pub fated_survives : (ds : List Departure) (u : LogUnit) (i : ℕ) (f : Fate) �
 fated_survives ds u i f lt once at = fate_survives ds u i f lt (once u) at
 
 pub whole_shows : (log : LogValue) (us : List LogUnit) (u : LogUnit) (ds : List Departure) → IsLog log → IsUnit log u → departures_of ds u ≡ []
-    → sector_after log.entries (us ++ u ∷ []) ds u.sector ≡ unit_content log.entries u
+    → sector_after log (us ++ u ∷ []) ds u.sector ≡ unit_content log.entries u
 whole_shows log us u ds is at none =
     let es = log.entries in
     let long : length (unit_content es u) ≡ 512 = unit_is_sector log u is at in
-    let old : List ℕ = sector_after es us ds u.sector in
-    let old_long : length old ≡ 512 = length-sector_after es us ds u.sector in
-    let spliced = sector_head es us u ds (unit_content es u) old 512 (omega arith) refl long refl old_long (λ i lt. no_departure ds u i none ∙ sym (lt-ltb i 512 lt)) in
+    let old : List ℕ = sector_after log us ds u.sector in
+    let old_long : length old ≡ 512 = length-sector_after log us ds u.sector in
+    let spliced = sector_head log us u ds (unit_content es u) old 512 (omega arith) refl long refl old_long (λ i lt. no_departure ds u i none ∙ sym (lt-ltb i 512 lt)) in
     let front : take 512 (unit_content es u) ≡ unit_content es u = take_all 512 (unit_content es u) (omega (arith, long)) in
     let behind : drop 512 old ≡ [] = drop_all 512 old (omega (arith, old_long)) in
     sym spliced ∙ ap (λ xs. take 512 (unit_content es u) ++ xs) behind ∙ append-nil (take 512 (unit_content es u)) ∙ front
 
-dropped_stays : (es : List Entry) (us : List LogUnit) (u : LogUnit) (ds : List Departure) (s : ℕ) (d : Departure)
+dropped_stays : (log : LogValue) (us : List LogUnit) (u : LogUnit) (ds : List Departure) (s : ℕ) (d : Departure)
     → departures_of ds u ≡ d ∷ [] → d.fate ≡ fate.Drop
-    → sector_after es (us ++ u ∷ []) ds s ≡ sector_after es us ds s
+    → sector_after log (us ++ u ∷ []) ds s ≡ sector_after log us ds s
 unfolding sector_after writes
-dropped_stays es us u ds s d one is =
+dropped_stays log us u ds s d one is =
     ap (λ (f : ℕ → ℕ). map f (range_with_len 0 512))
-    (λ j i. byte_after_lost es us u ds s i (ap (λ b. nat_eq u.sector s && b) (one_departure ds u i d fate.Drop one is) ∙ and_false (nat_eq u.sector s)) j)
+    (λ j i. byte_after_lost log us u ds s i (ap (λ b. nat_eq u.sector s && b) (one_departure ds u i d fate.Drop one is) ∙ and_false (nat_eq u.sector s)) j)
 
 head_shows : (log : LogValue) (us : List LogUnit) (u : LogUnit) (ds : List Departure) (d : Departure) (t m : ℕ) → IsLog log → IsUnit log u
     → departures_of ds u ≡ d ∷ [] → d.fate ≡ fate.Head t → m ≡ 64 * (t * d.part.count) - 512 * (u.place - d.part.place) → m ≤ 512
-    → sector_after log.entries (us ++ u ∷ []) ds u.sector ≡ take m (unit_content log.entries u) ++ drop m (sector_after log.entries us ds u.sector)
+    → sector_after log (us ++ u ∷ []) ds u.sector ≡ take m (unit_content log.entries u) ++ drop m (sector_after log us ds u.sector)
 head_shows log us u ds d t m is at one head size le =
     let es = log.entries in
-    let old : List ℕ = sector_after es us ds u.sector in
-    sym (sector_head es us u ds (unit_content es u) old m le refl (unit_is_sector log u is at) refl (length-sector_after es us ds u.sector)
+    let old : List ℕ = sector_after log us ds u.sector in
+    sym (sector_head log us u ds (unit_content es u) old m le refl (unit_is_sector log u is at) refl (length-sector_after log us ds u.sector)
     (λ i below. one_departure ds u i d (fate.Head t) one head
     ∙ lt_alike (byte_in d.part u i) (64 * (t * d.part.count)) i m (λ h. omega (arith, h, size)) (λ h. omega (arith, h, size))))
 
 tail_shows : (log : LogValue) (us : List LogUnit) (u : LogUnit) (ds : List Departure) (d : Departure) (t m : ℕ) → IsLog log → IsUnit log u
     → departures_of ds u ≡ d ∷ [] → d.fate ≡ fate.Tail t → m ≡ 512 * d.part.count - 64 * (t * d.part.count) - 512 * (u.place - d.part.place) → m ≤ 512
-    → sector_after log.entries (us ++ u ∷ []) ds u.sector ≡ take m (sector_after log.entries us ds u.sector) ++ drop m (unit_content log.entries u)
+    → sector_after log (us ++ u ∷ []) ds u.sector ≡ take m (sector_after log us ds u.sector) ++ drop m (unit_content log.entries u)
 tail_shows log us u ds d t m is at one tail size le =
     let es = log.entries in
-    let old : List ℕ = sector_after es us ds u.sector in
-    sym (sector_tail es us u ds (unit_content es u) old m le refl (unit_is_sector log u is at) refl (length-sector_after es us ds u.sector)
+    let old : List ℕ = sector_after log us ds u.sector in
+    sym (sector_tail log us u ds (unit_content es u) old m le refl (unit_is_sector log u is at) refl (length-sector_after log us ds u.sector)
     (λ i below. one_departure ds u i d (fate.Tail t) one tail
     ∙ le_alike (512 * d.part.count - 64 * (t * d.part.count)) (byte_in d.part u i) m i (λ h. omega (arith, h, size)) (λ h. omega (arith, h, size))))
 
@@ -140,5 +139,5 @@ fates_show = record {
   dropped = dropped_stays;
   head = head_shows;
   tail = tail_shows;
-  elsewhere = λ es us u ds s other. sym (sector_elsewhere es us u ds s other);
+  elsewhere = λ log us u ds s other. sym (sector_elsewhere log us u ds s other);
 }

@@ -1,5 +1,5 @@
 -- The image where nothing departs, unit after unit and cut after cut.
-use Rattle.std.proofs.Common.{ℕ, ◌≡◌, ◌≢◌, ◌+◌, ◌<◌, ◌≤◌, ◌==◌, if◌then◌else◌, List, [], ◌∷◌, ◌++◌, length, refl, sym, ◌∙◌, ap, inl, inr, arith}
+use Rattle.std.proofs.Common.{ℕ, ◌≡◌, ◌≤◌, if◌then◌else◌, List, [], ◌∷◌, ◌++◌, length, refl, sym, ◌∙◌, ap, inl, inr, arith}
 use Rattle.std.proofs.lemmas.Bool.{eq-eqb, ne_eqb}
 use Rattle.std.proofs.lemmas.Bool.Decides.{eqb_tells}
 use Rattle.std.proofs.lemmas.List.{append-nil}
@@ -19,23 +19,23 @@ use Rattle.images.proofs.Laying.{sector_elsewhere}
 use Rattle.images.proofs.Listed.{nothing_changes, changes_alike}
 
 whole_unit : (log : LogValue) (us : List LogUnit) (u : LogUnit) → IsLog log → IsUnit log u
-    → unit_content log.entries u ≡ sector_after log.entries (us ++ u ∷ []) [] u.sector
+    → unit_content log.entries u ≡ sector_after log (us ++ u ∷ []) [] u.sector
 unfolding departures_of
 whole_unit log us u bounds unit = sym (whole_shows log us u [] bounds unit refl)
 
 -- one unit more changes its sector
 pub unit_more : (log : LogValue) (flush : ℕ) (us : List LogUnit) (u : LogUnit) (content : List ℕ) → IsLog log → IsUnit log u → content ≡ unit_content log.entries u
-    → changes (whole_image log flush) (with_sector (sector_after log.entries us []) u.sector content) 0 log.sectors
-    ≡ changes (whole_image log flush) (sector_after log.entries (us ++ u ∷ []) []) 0 log.sectors
+    → changes (whole_image log flush) (with_sector (sector_after log us []) u.sector content) 0 log.sectors
+    ≡ changes (whole_image log flush) (sector_after log (us ++ u ∷ []) []) 0 log.sectors
 unit_more log flush us u content bounds unit is =
-    let old : ℕ → List ℕ = sector_after log.entries us [] in
-    changes_alike (whole_image log flush) (whole_image log flush) (with_sector old u.sector content) (sector_after log.entries (us ++ u ∷ []) []) 0 log.sectors
+    let old : ℕ → List ℕ = sector_after log us [] in
+    changes_alike (whole_image log flush) (whole_image log flush) (with_sector old u.sector content) (sector_after log (us ++ u ∷ []) []) 0 log.sectors
     (λ n low high. refl)
     (λ n low high. elim (eqb_tells n u.sector) [
       | inl same ↦
           ap (λ b. if b then content else old n) (eq-eqb n u.sector same.1) ∙ is ∙ whole_unit log us u bounds unit
-          ∙ ap (sector_after log.entries (us ++ u ∷ []) []) (sym same.1)
-      | inr other ↦ ap (λ b. if b then content else old n) (ne_eqb n u.sector other.1) ∙ sector_elsewhere log.entries us u [] n other.1
+          ∙ ap (sector_after log (us ++ u ∷ []) []) (sym same.1)
+      | inr other ↦ ap (λ b. if b then content else old n) (ne_eqb n u.sector other.1) ∙ sector_elsewhere log us u [] n other.1
     ])
 
 -- nothing differs from itself
@@ -45,9 +45,9 @@ none_between log cut = sym (nothing_changes (whole_image log cut) (whole_image l
 
 -- by the units of a cut
 pub between_is : (log : LogValue) (flush cut : ℕ) (us : List LogUnit) → us ≡ units_before log.entries cut
-    → changes (whole_image log flush) (sector_after log.entries us []) 0 log.sectors ≡ changes_between log flush cut
+    → changes (whole_image log flush) (sector_after log us []) 0 log.sectors ≡ changes_between log flush cut
 unfolding changes_between
-between_is log flush cut us is = ap (λ (vs : List LogUnit). changes (whole_image log flush) (sector_after log.entries vs []) 0 log.sectors) is
+between_is log flush cut us is = ap (λ (vs : List LogUnit). changes (whole_image log flush) (sector_after log vs []) 0 log.sectors) is
 
 -- cut 0 is known
 pub first_known : (log : LogValue) (sectors : List ChangedValue) → sectors ≡ [] → IsKnown log 0 0 0 sectors

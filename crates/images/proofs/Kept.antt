@@ -1,5 +1,5 @@
 -- What of a unit reaches the device, by the fate that departures give it.
-use Rattle.std.proofs.Common.{ℕ, suc, ◌≡◌, ◌-◌, ◌<◌, ◌≤◌, Bool, true, false, if◌then◌else◌, not, ◌&&◌, ◌||◌, List, [], ◌∷◌, length, take, drop, slice_get, slice_index_or, Option, Some, None, refl, sym, ◌∙◌, ap, arith}
+use Rattle.std.proofs.Common.{ℕ, suc, ◌≡◌, ◌-◌, ◌<◌, ◌≤◌, Bool, true, false, not, ◌&&◌, ◌||◌, List, [], ◌∷◌, length, take, drop, slice_get, slice_index_or, Option, Some, None, refl, sym, ◌∙◌, ap, arith}
 use Rattle.std.proofs.lemmas.List.{take_all}
 use Rattle.epochs.specs.declared.unit.Unit.{Unit as LogUnit}
 use Rattle.choices.specs.declared.fate.Fate.{Fate}
@@ -7,7 +7,7 @@ use Rattle.choices.specs.declared.fate.Fate.TheVariants as fate
 use Rattle.choices.specs.declared.choice.Departure.{Departure}
 use Rattle.images.specs.Images.{is_in, keeps, byte_in, survives}
 use Rattle.images.specs.Table.{first_fate, share, fate_at, leaves, reaches}
-use Rattle.images.proofs.Shares.{kept_by, keeps_by_share, taken}
+use Rattle.images.proofs.Shares.{kept_by, keeps_by_share}
 
 pub and_false : (b : Bool) → (b && false) ≡ false
 and_false true = refl

@@ -1,11 +1,11 @@
 -- A unit that is laid over what the units before it have left.
-use Rattle.std.proofs.Common.{ℕ, ◌≡◌, ◌≢◌, ◌+◌, ◌-◌, ◌*◌, ◌<◌, ◌≤◌, Bool, false, nat_lt, nat_le, ◌&&◌, if◌then◌else◌, List, [], ◌∷◌, ◌++◌, length, map, take, drop, refl, sym, ◌∙◌, ap, arith, inl, inr}
+use Rattle.std.proofs.Common.{ℕ, ◌≡◌, ◌≢◌, ◌+◌, ◌-◌, ◌<◌, ◌≤◌, Bool, false, nat_lt, nat_le, ◌&&◌, if◌then◌else◌, List, [], ◌∷◌, ◌++◌, length, map, take, drop, refl, sym, ◌∙◌, ap, arith, inl, inr}
 use Rattle.std.specs.List.{range_with_len, slice_index}
 use Rattle.std.proofs.lemmas.Bool.{cases_lt, lt-ltb, le-ltb, lt-leb, le-leb, eq-eqb, ne_eqb}
 use Rattle.std.proofs.lemmas.Grind.{same_number_lists}
 use Rattle.std.proofs.lemmas.List.{length-append, length-take-le, length-drop, get_or-take, get_or-drop, get_or_append_left, get_or-append_right}
 use Rattle.std.proofs.lemmas.List.FromFn.{length-map-range_with_len, get_or-map-range_with_len}
-use Rattle.logfmt.specs.declared.entry.Entry.{Entry}
+use Rattle.logfmt.specs.Bounds.{LogValue}
 use Rattle.epochs.specs.declared.unit.Unit.{Unit as LogUnit}
 use Rattle.epochs.specs.Units.{unit_content}
 use Rattle.choices.specs.declared.choice.Departure.{Departure}
@@ -22,11 +22,11 @@ unfolding writes
 writes_here ds i u = ap (λ b. b && survives ds i u) (eq-eqb u.sector u.sector refl)
 
 -- another sector stays
-pub sector_elsewhere : (es : List Entry) (us : List LogUnit) (u : LogUnit) (ds : List Departure) (s : ℕ) → s ≢ u.sector
-    → sector_after es us ds s ≡ sector_after es (us ++ u ∷ []) ds s
+pub sector_elsewhere : (log : LogValue) (us : List LogUnit) (u : LogUnit) (ds : List Departure) (s : ℕ) → s ≢ u.sector
+    → sector_after log us ds s ≡ sector_after log (us ++ u ∷ []) ds s
 unfolding sector_after
-sector_elsewhere es us u ds s other =
-    ap (λ (f : ℕ → ℕ). map f (range_with_len 0 512)) (λ j i. sym (byte_after_lost es us u ds s i (writes_elsewhere ds s i u other)) j)
+sector_elsewhere log us u ds s other =
+    ap (λ (f : ℕ → ℕ). map f (range_with_len 0 512)) (λ j i. sym (byte_after_lost log us u ds s i (writes_elsewhere ds s i u other)) j)
 
 -- a byte of a spliced sector
 pub spliced_byte : (new old : List ℕ) (m i : ℕ) → m ≤ length new → slice_index (take m new ++ drop m old) i ≡ (if nat_lt i m then slice_index new i else slice_index old i)
@@ -43,24 +43,24 @@ spliced_byte new old m i le =
     ]
 
 -- its own sector has the bytes of the unit that survive, and else those of before
-pub sector_laid : (es : List Entry) (us : List LogUnit) (u : LogUnit) (ds : List Departure) (new old made : List ℕ) (kept : ℕ → Bool)
-    → new ≡ unit_content es u → old ≡ sector_after es us ds u.sector → length made ≡ 512
+pub sector_laid : (log : LogValue) (us : List LogUnit) (u : LogUnit) (ds : List Departure) (new old made : List ℕ) (kept : ℕ → Bool)
+    → new ≡ unit_content log.entries u → old ≡ sector_after log us ds u.sector → length made ≡ 512
     → ((i : ℕ) → i < 512 → survives ds i u ≡ kept i)
     → ((i : ℕ) → i < 512 → slice_index made i ≡ (if kept i then slice_index new i else slice_index old i))
-    → made ≡ sector_after es (us ++ u ∷ []) ds u.sector
+    → made ≡ sector_after log (us ++ u ∷ []) ds u.sector
 unfolding sector_after
-sector_laid es us u ds new old made kept content below size survived bytes =
-    let byte : ℕ → ℕ = byte_after es (us ++ u ∷ []) ds u.sector in
-    let old_byte : ℕ → ℕ = byte_after es us ds u.sector in
+sector_laid log us u ds new old made kept content below size survived bytes =
+    let byte : ℕ → ℕ = byte_after log (us ++ u ∷ []) ds u.sector in
+    let old_byte : ℕ → ℕ = byte_after log us ds u.sector in
     same_number_lists _ _ (size ∙ sym (length-map-range_with_len byte 0 512)) (λ i lt.
     let within : i < 512 = omega (arith, lt, size) in
     let here : 0 + i ≡ i = omega arith in
     bytes i within
     ∙ ap (λ x. if kept i then x else slice_index old i) (ap (λ xs. slice_index xs i) content)
-    ∙ ap (λ x. if kept i then slice_index (unit_content es u) i else x)
+    ∙ ap (λ x. if kept i then slice_index (unit_content log.entries u) i else x)
     (ap (λ xs. slice_index xs i) below ∙ get_or-map-range_with_len old_byte 0 512 i i 0 within here)
-    ∙ ap (λ b. if b then slice_index (unit_content es u) i else old_byte i) (sym (writes_here ds i u ∙ survived i within))
-    ∙ sym (byte_after-push es us u ds u.sector i)
+    ∙ ap (λ b. if b then slice_index (unit_content log.entries u) i else old_byte i) (sym (writes_here ds i u ∙ survived i within))
+    ∙ sym (byte_after-push log us u ds u.sector i)
     ∙ sym (get_or-map-range_with_len byte 0 512 i i 0 within here))
 
 -- two sectors spliced behind m bytes
@@ -79,24 +79,24 @@ pub tail_byte : (new old : List ℕ) (m i : ℕ) → m ≤ length old → slice_
 tail_byte new old m i le = spliced_byte old new m i le ∙ other_part m i (slice_index new i) (slice_index old i)
 
 -- its first m bytes survive
-pub sector_head : (es : List Entry) (us : List LogUnit) (u : LogUnit) (ds : List Departure) (new old : List ℕ) (m : ℕ) → m ≤ 512
-    → new ≡ unit_content es u → length new ≡ 512 → old ≡ sector_after es us ds u.sector → length old ≡ 512
+pub sector_head : (log : LogValue) (us : List LogUnit) (u : LogUnit) (ds : List Departure) (new old : List ℕ) (m : ℕ) → m ≤ 512
+    → new ≡ unit_content log.entries u → length new ≡ 512 → old ≡ sector_after log us ds u.sector → length old ≡ 512
     → ((i : ℕ) → i < 512 → survives ds i u ≡ nat_lt i m)
-    → take m new ++ drop m old ≡ sector_after es (us ++ u ∷ []) ds u.sector
-sector_head es us u ds new old m le content long below old_long kept =
-    sector_laid es us u ds new old (take m new ++ drop m old) (λ i. nat_lt i m) content below (spliced_size new old m le long old_long) kept
+    → take m new ++ drop m old ≡ sector_after log (us ++ u ∷ []) ds u.sector
+sector_head log us u ds new old m le content long below old_long kept =
+    sector_laid log us u ds new old (take m new ++ drop m old) (λ i. nat_lt i m) content below (spliced_size new old m le long old_long) kept
     (λ i lt. spliced_byte new old m i (omega (arith, long, le)))
 
 -- its bytes from m on survive
-pub sector_tail : (es : List Entry) (us : List LogUnit) (u : LogUnit) (ds : List Departure) (new old : List ℕ) (m : ℕ) → m ≤ 512
-    → new ≡ unit_content es u → length new ≡ 512 → old ≡ sector_after es us ds u.sector → length old ≡ 512
+pub sector_tail : (log : LogValue) (us : List LogUnit) (u : LogUnit) (ds : List Departure) (new old : List ℕ) (m : ℕ) → m ≤ 512
+    → new ≡ unit_content log.entries u → length new ≡ 512 → old ≡ sector_after log us ds u.sector → length old ≡ 512
     → ((i : ℕ) → i < 512 → survives ds i u ≡ nat_le m i)
-    → take m old ++ drop m new ≡ sector_after es (us ++ u ∷ []) ds u.sector
-sector_tail es us u ds new old m le content long below old_long kept =
-    sector_laid es us u ds new old (take m old ++ drop m new) (λ i. nat_le m i) content below (spliced_size old new m le old_long long) kept
+    → take m old ++ drop m new ≡ sector_after log (us ++ u ∷ []) ds u.sector
+sector_tail log us u ds new old m le content long below old_long kept =
+    sector_laid log us u ds new old (take m old ++ drop m new) (λ i. nat_le m i) content below (spliced_size old new m le old_long long) kept
     (λ i lt. tail_byte new old m i (omega (arith, old_long, le)))
 
 -- laying units keeps the number of sectors
-pub length-device_after : (sectors : ℕ) (es : List Entry) (us : List LogUnit) (ds : List Departure) → length (device_after sectors es us ds) ≡ sectors
+pub length-device_after : (log : LogValue) (us : List LogUnit) (ds : List Departure) → length (device_after log us ds) ≡ log.sectors
 unfolding device_after
-length-device_after sectors es us ds = length-map-range_with_len (sector_after es us ds) 0 sectors
+length-device_after log us ds = length-map-range_with_len (sector_after log us ds) 0 log.sectors

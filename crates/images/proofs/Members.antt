@@ -1,25 +1,19 @@
 -- The view of a choice: its cut is one of the log, and its parts are as they are to be.
-use Rattle.std.proofs.Common.{ℕ, suc, ◌≡◌, ◌+◌, ◌<◌, ◌≤◌, ◌==◌, Bool, true, false, cond, ◌&&◌, List, [], ◌∷◌, length, map, slice_get, slice_index_or, Some, None, refl, ap, sym, subst, ◌∙◌, inl, inr, arith}
-use Rattle.std.specs.Cmp.{first_so, second_so}
-use Rattle.std.specs.Option.{option_map}
-use Rattle.std.proofs.lemmas.Bool.{eqb-true, ne_eqb}
-use Rattle.std.proofs.lemmas.Option.{slice_get_cases, slice_get-map, slice_get-get_or, same_Some}
+use Rattle.std.proofs.Common.{ℕ, suc, ◌≡◌, ◌+◌, ◌<◌, ◌≤◌, Bool, true, false, cond, List, [], ◌∷◌, length, slice_get, Some, refl, ap, sym, subst, ◌∙◌, inl, inr, arith}
+use Rattle.std.proofs.lemmas.Option.{same_Some}
 use Rattle.logfmt.specs.declared.entry.Entry.{Entry}
 use Rattle.logfmt.specs.Bounds.{LogValue, IsLog}
 use Rattle.epochs.specs.declared.part.By.{By}
 use Rattle.epochs.specs.declared.part.Part.{Part}
 use Rattle.epochs.specs.declared.unit.Unit.{Unit as LogUnit}
 use Rattle.epochs.specs.Units.{epoch_at, marks_at}
-use Rattle.epochs.specs.Parts.{part_size, volatile_parts}
+use Rattle.epochs.specs.Parts.{part_size}
 use Rattle.epochs.specs.Laws.{IsVolatile, Precedes as PartPrecedes}
 use Rattle.epochs.specs.Plan.{PlanValue, IsPart}
 use Rattle.epochs.proofs.Parts.{parts_apart}
-use Rattle.epochs.proofs.Sets.{volatile_is_set}
-use Rattle.choices.specs.declared.pick.Pick.{Pick}
 use Rattle.epochs.specs.Cuts.{cuts_of}
-use Rattle.choices.specs.Choices.{ChoiceValue, choice_of, departure_of, nowhere, ranked}
-use Rattle.choices.specs.Picks.{fates_of, ArePicks}
-use Rattle.choices.proofs.Following.{fewer_picks}
+use Rattle.choices.specs.Choices.{ChoiceValue, choice_of, ranked}
+use Rattle.choices.specs.Picks.{fates_of}
 use Rattle.choices.proofs.Plans.{goes, Goes, fates_low, wanted_within}
 use Rattle.choices.proofs.CrashModel.{ranked_is_model}
 use Rattle.choices.specs.declared.choice.Departure.{Departure}
@@ -27,8 +21,7 @@ use Rattle.images.specs.declared.torn.TornSector.{TornSector}
 use Rattle.images.specs.Views.{IsMember}
 use Rattle.images.specs.Table.{AreParts, AreTorn, DepartOnce, IsView}
 use Rattle.images.specs.Images.{is_in, departures_of}
-use Rattle.images.proofs.Shares.{LiesIn, lies_in}
-use Rattle.images.proofs.Kept.{and_false}
+use Rattle.images.proofs.Shares.{lies_in}
 
 -- the cut of a choice of a plan is one of its log
 pub member_cut : (plan : PlanValue) (choice : ChoiceValue) → IsMember plan choice → choice.cut ≤ length plan.log.entries

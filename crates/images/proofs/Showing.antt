@@ -8,7 +8,8 @@ use Rattle.std.proofs.lemmas.List.Elements.{filter-append}
 use Rattle.std.proofs.lemmas.List.FromFn.{length-map-range_with_len, get_or-map-range_with_len}
 use Rattle.std.proofs.lemmas.Option.{slice_get_within, slice_get-get_or, same_Some}
 use Rattle.base.proofs.Lists.{slice_get-append_left, slice_get-push, take-suc_place}
-use Rattle.logfmt.specs.declared.entry.Entry.{Entry}
+use Rattle.logfmt.specs.Bounds.{LogValue}
+use Rattle.logfmt.specs.Initial.{initial_byte}
 use Rattle.epochs.specs.declared.unit.Unit.{Unit as LogUnit}
 use Rattle.epochs.specs.Units.{unit_content}
 use Rattle.choices.specs.declared.choice.Departure.{Departure}
@@ -86,30 +87,30 @@ none_left ds row left none was =
     nobody_shows ds ∙ sym (ap (λ n. showing ds (take n row)) end) ∙ was
 
 -- what the unit that shows leaves, of the units of a list that cover sector s
-pub record Shows (es : List Entry) (ds : List Departure) (s : ℕ) (vs : List LogUnit) : Type 0 where
-  pub nobody : showing ds (covering s vs) ≡ None → (i : ℕ) → i < 512 → byte_after es vs ds s i ≡ 0
-  pub whole : (u : LogUnit) → showing ds (covering s vs) ≡ Some u → fate_at ds u ≡ None → (i : ℕ) → i < 512 → byte_after es vs ds s i ≡ slice_index (unit_content es u) i
+pub record Shows (log : LogValue) (ds : List Departure) (s : ℕ) (vs : List LogUnit) : Type 0 where
+  pub nobody : showing ds (covering s vs) ≡ None → (i : ℕ) → i < 512 → byte_after log vs ds s i ≡ initial_byte log.initial s i
+  pub whole : (u : LogUnit) → showing ds (covering s vs) ≡ Some u → fate_at ds u ≡ None → (i : ℕ) → i < 512 → byte_after log vs ds s i ≡ slice_index (unit_content log.entries u) i
   pub there : (u : LogUnit) → showing ds (covering s vs) ≡ Some u → (j : ℕ) × (slice_get vs j ≡ Some u) × (u.sector ≡ s)
 
-lost : (es : List Entry) (ds : List Departure) (s : ℕ) (vs : List LogUnit) (v : LogUnit)
+lost : (log : LogValue) (ds : List Departure) (s : ℕ) (vs : List LogUnit) (v : LogUnit)
     → showing ds (covering s (vs ++ v ∷ [])) ≡ showing ds (covering s vs) → ((i : ℕ) → i < 512 → writes ds s i v ≡ false)
-    → Shows es ds s vs → Shows es ds s (vs ++ v ∷ [])
-lost es ds s vs v same off was = record {
-  nobody = λ none i lt. byte_after_lost es vs v ds s i (off i lt) ∙ was.nobody (sym same ∙ none) i lt;
-  whole = λ u at full i lt. byte_after_lost es vs v ds s i (off i lt) ∙ was.whole u (sym same ∙ at) full i lt;
+    → Shows log ds s vs → Shows log ds s (vs ++ v ∷ [])
+lost log ds s vs v same off was = record {
+  nobody = λ none i lt. byte_after_lost log vs v ds s i (off i lt) ∙ was.nobody (sym same ∙ none) i lt;
+  whole = λ u at full i lt. byte_after_lost log vs v ds s i (off i lt) ∙ was.whole u (sym same ∙ at) full i lt;
   there = λ u at.
       let old = was.there u (sym same ∙ at) in
       (old.0, slice_get-append_left vs (v ∷ []) old.0 (slice_get_within vs old.0 u old.1) ∙ old.1, old.2);
 }
 
-own : (es : List Entry) (ds : List Departure) (s : ℕ) (vs : List LogUnit) (v : LogUnit) → v.sector ≡ s
-    → showing ds (covering s (vs ++ v ∷ [])) ≡ Some v → ((i : ℕ) → writes ds s i v ≡ survives ds i v) → Shows es ds s (vs ++ v ∷ [])
-own es ds s vs v here shows on = record {
+own : (log : LogValue) (ds : List Departure) (s : ℕ) (vs : List LogUnit) (v : LogUnit) → v.sector ≡ s
+    → showing ds (covering s (vs ++ v ∷ [])) ≡ Some v → ((i : ℕ) → writes ds s i v ≡ survives ds i v) → Shows log ds s (vs ++ v ∷ [])
+own log ds s vs v here shows on = record {
   nobody = λ none i lt. absurd (let bad : None ≡ Some v = sym none ∙ shows in cc);
   whole = λ u at full i lt.
       let same : v ≡ u = same_Some v u (sym shows ∙ at) in
       let kept : survives ds i v ≡ true = whole_survives ds v i lt (ap (fate_at ds) same ∙ full) in
-      byte_after_written es vs v ds s i (on i ∙ kept) ∙ ap (λ x. slice_index (unit_content es x) i) same;
+      byte_after_written log vs v ds s i (on i ∙ kept) ∙ ap (λ x. slice_index (unit_content log.entries x) i) same;
   there = λ u at.
       let same : v ≡ u = same_Some v u (sym shows ∙ at) in
       (length vs, slice_get-push vs v ∙ ap (λ x. Some x) same, ap (λ (x : LogUnit). x.sector) (sym same) ∙ here);
@@ -124,42 +125,42 @@ writes_own : (ds : List Departure) (s i : ℕ) (v : LogUnit) → (v.sector == s)
 unfolding writes
 writes_own ds s i v here = ap (λ b. b && survives ds i v) here
 
-one_more : (es : List Entry) (ds : List Departure) (s : ℕ) (vs : List LogUnit) (v : LogUnit) → Shows es ds s vs → Shows es ds s (vs ++ v ∷ [])
-one_more es ds s vs v was = elim (eqb_tells v.sector s) [
+one_more : (log : LogValue) (ds : List Departure) (s : ℕ) (vs : List LogUnit) (v : LogUnit) → Shows log ds s vs → Shows log ds s (vs ++ v ∷ [])
+one_more log ds s vs v was = elim (eqb_tells v.sector s) [
   | inl here ↦
       let row : covering s (vs ++ v ∷ []) ≡ covering s vs ++ v ∷ [] = covering-push s vs v ∙ ap (λ b. covering s vs ++ cond b (v ∷ []) []) here.0 in
-      let by : (b : Bool) → reaches ds v ≡ b → Shows es ds s (vs ++ v ∷ []) =
-      λ b. elim b as (λ c. reaches ds v ≡ c → Shows es ds s (vs ++ v ∷ [])) [
-        | true ↦ λ e. own es ds s vs v here.1 (ap (showing ds) row ∙ showing_own ds (covering s vs) v e) (λ i. writes_own ds s i v here.0)
+      let by : (b : Bool) → reaches ds v ≡ b → Shows log ds s (vs ++ v ∷ []) =
+      λ b. elim b as (λ c. reaches ds v ≡ c → Shows log ds s (vs ++ v ∷ [])) [
+        | true ↦ λ e. own log ds s vs v here.1 (ap (showing ds) row ∙ showing_own ds (covering s vs) v e) (λ i. writes_own ds s i v here.0)
         | false ↦ λ e.
-            lost es ds s vs v (ap (showing ds) row ∙ showing_other ds (covering s vs) v e)
+            lost log ds s vs v (ap (showing ds) row ∙ showing_other ds (covering s vs) v e)
             (λ i lt. writes_own ds s i v here.0 ∙ dropped_lost ds v i lt e) was
       ] in
       by (reaches ds v) refl
   | inr other ↦
       let row : covering s (vs ++ v ∷ []) ≡ covering s vs =
       covering-push s vs v ∙ ap (λ b. covering s vs ++ cond b (v ∷ []) []) other.0 ∙ append-nil (covering s vs) in
-      lost es ds s vs v (ap (showing ds) row) (λ i lt. writes_other ds s i v other.0) was
+      lost log ds s vs v (ap (showing ds) row) (λ i lt. writes_other ds s i v other.0) was
 ]
 
-no_unit : (es : List Entry) (ds : List Departure) (s : ℕ) → Shows es ds s []
+no_unit : (log : LogValue) (ds : List Departure) (s : ℕ) → Shows log ds s []
 unfolding showing covering byte_after
-no_unit es ds s = record {
+no_unit log ds s = record {
   nobody = λ none i lt. refl;
   whole = λ u at full i lt. absurd (let bad : None ≡ Some u = at in cc);
   there = λ u at. absurd (let bad : None ≡ Some u = at in cc);
 }
 
 -- this holds of each list of units
-pub shows : (es : List Entry) (ds : List Departure) (s : ℕ) (vs : List LogUnit) → Shows es ds s vs
-shows es ds s vs = onto (λ us. Shows es ds s us) (one_more es ds s) [] vs (no_unit es ds s)
+pub shows : (log : LogValue) (ds : List Departure) (s : ℕ) (vs : List LogUnit) → Shows log ds s vs
+shows log ds s vs = onto (λ us. Shows log ds s us) (one_more log ds s) [] vs (no_unit log ds s)
 
 -- sectors by their bytes
-pub sector_by_bytes : (es : List Entry) (us : List LogUnit) (ds : List Departure) (s : ℕ) (bytes : List ℕ) → length bytes ≡ 512
-    → ((i : ℕ) → i < 512 → byte_after es us ds s i ≡ slice_index bytes i) → bytes ≡ sector_after es us ds s
+pub sector_by_bytes : (log : LogValue) (us : List LogUnit) (ds : List Departure) (s : ℕ) (bytes : List ℕ) → length bytes ≡ 512
+    → ((i : ℕ) → i < 512 → byte_after log us ds s i ≡ slice_index bytes i) → bytes ≡ sector_after log us ds s
 unfolding sector_after
-sector_by_bytes es us ds s bytes long each =
-    let byte : ℕ → ℕ = byte_after es us ds s in
+sector_by_bytes log us ds s bytes long each =
+    let byte : ℕ → ℕ = byte_after log us ds s in
     same_number_lists _ _ (long ∙ sym (length-map-range_with_len byte 0 512)) (λ i lt.
     let within : i < 512 = omega (arith, lt, long) in
     let here : 0 + i ≡ i = omega arith in

@@ -1,12 +1,13 @@
 -- What units that cover one sector leave on it: the last of them over what the others leave.
-use Rattle.std.proofs.Common.{ℕ, zero, suc, ◌≡◌, ◌<◌, ◌≤◌, ◌==◌, Bool, true, false, if◌then◌else◌, cond, List, [], ◌∷◌, ◌++◌, length, map, filter, take, replicate, slice_get, Some, None, refl, sym, subst, ◌∙◌, ap, arith}
+use Rattle.std.proofs.Common.{ℕ, zero, suc, ◌≡◌, ◌+◌, ◌<◌, ◌≤◌, ◌==◌, Bool, true, false, if◌then◌else◌, cond, List, [], ◌∷◌, ◌++◌, length, map, filter, take, slice_get, Some, None, refl, sym, subst, ◌∙◌, ap, arith}
 use Rattle.std.specs.List.{last_or, slice_index, range_with_len}
 use Rattle.std.specs.Option.{option_map_or, is_some}
-use Rattle.std.proofs.lemmas.List.{take_all, get_or-replicate, length-replicate}
+use Rattle.std.proofs.lemmas.List.{take_all}
+use Rattle.std.proofs.lemmas.List.FromFn.{length-map-range_with_len, get_or-map-range_with_len}
 use Rattle.std.proofs.lemmas.Option.{get_or_from_slice_get, slice_get_within}
 use Rattle.base.proofs.Lists.{take-suc_place}
-use Rattle.logfmt.specs.declared.entry.Entry.{Entry}
 use Rattle.logfmt.specs.Bounds.{LogValue, IsLog}
+use Rattle.logfmt.specs.Initial.{initial_byte, initial_sector}
 use Rattle.epochs.specs.declared.unit.Unit.{Unit as LogUnit}
 use Rattle.epochs.specs.Units.{units_before, unit_content}
 use Rattle.epochs.specs.Plan.{IsUnit}
@@ -14,7 +15,7 @@ use Rattle.choices.specs.declared.fate.Fate.{Fate}
 use Rattle.choices.specs.declared.choice.Departure.{Departure}
 use Rattle.images.specs.Images.{keeps, writes, byte_after, sector_after}
 use Rattle.images.specs.Table.{covering, versions, DepartOnce, fate_at, showing, is_torn}
-use Rattle.images.proofs.Blank.{zero_sector}
+use Rattle.images.proofs.Blank.{first_sector}
 use Rattle.images.proofs.Fates.{fated_survives}
 use Rattle.images.proofs.Kept.{whole_survives}
 use Rattle.images.proofs.Laying.{sector_laid}
@@ -26,30 +27,30 @@ in_front : (row : List LogUnit) (last : ℕ) (u : LogUnit) → suc last ≡ leng
 in_front row last u long there = sym (take-suc_place row last u there) ∙ take_all (suc last) row (omega (arith, long))
 
 -- the last unit has a fate: what it keeps stands over what the units before it leave
-pub spliced : (es : List Entry) (row : List LogUnit) (ds : List Departure) (s last : ℕ) (u : LogUnit) (f : Fate) (new old made : List ℕ)
+pub spliced : (log : LogValue) (row : List LogUnit) (ds : List Departure) (s last : ℕ) (u : LogUnit) (f : Fate) (new old made : List ℕ)
     → suc last ≡ length row → slice_get row last ≡ Some u → u.sector ≡ s → DepartOnce ds → fate_at ds u ≡ Some f
-    → new ≡ unit_content es u → old ≡ sector_after es (take last row) ds s → length made ≡ 512
+    → new ≡ unit_content log.entries u → old ≡ sector_after log (take last row) ds s → length made ≡ 512
     → ((i : ℕ) → i < 512 → slice_index made i ≡ (if keeps f 1 i then slice_index new i else slice_index old i))
-    → made ≡ sector_after es row ds s
-spliced es row ds s last u f new old made long there here once at content below size bytes =
-    sector_laid es (take last row) u ds new old made (keeps f 1) content (below ∙ ap (sector_after es (take last row) ds) (sym here)) size
+    → made ≡ sector_after log row ds s
+spliced log row ds s last u f new old made long there here once at content below size bytes =
+    sector_laid log (take last row) u ds new old made (keeps f 1) content (below ∙ ap (sector_after log (take last row) ds) (sym here)) size
     (λ i lt. fated_survives ds u i f lt once at) bytes
-    ∙ ap (sector_after es (take last row ++ u ∷ []) ds) here ∙ ap (λ us. sector_after es us ds s) (in_front row last u long there)
+    ∙ ap (sector_after log (take last row ++ u ∷ []) ds) here ∙ ap (λ us. sector_after log us ds s) (in_front row last u long there)
 
 -- the last unit is whole: its content stands
-pub whole_last : (es : List Entry) (row : List LogUnit) (ds : List Departure) (s last : ℕ) (u : LogUnit) (new : List ℕ)
+pub whole_last : (log : LogValue) (row : List LogUnit) (ds : List Departure) (s last : ℕ) (u : LogUnit) (new : List ℕ)
     → suc last ≡ length row → slice_get row last ≡ Some u → u.sector ≡ s → fate_at ds u ≡ None
-    → new ≡ unit_content es u → length new ≡ 512
-    → new ≡ sector_after es row ds s
-whole_last es row ds s last u new long there here whole content size =
-    sector_laid es (take last row) u ds new (sector_after es (take last row) ds u.sector) new (λ i. true) content refl size
+    → new ≡ unit_content log.entries u → length new ≡ 512
+    → new ≡ sector_after log row ds s
+whole_last log row ds s last u new long there here whole content size =
+    sector_laid log (take last row) u ds new (sector_after log (take last row) ds u.sector) new (λ i. true) content refl size
     (λ i lt. whole_survives ds u i lt whole) (λ i lt. refl)
-    ∙ ap (sector_after es (take last row ++ u ∷ []) ds) here ∙ ap (λ us. sector_after es us ds s) (in_front row last u long there)
+    ∙ ap (sector_after log (take last row ++ u ∷ []) ds) here ∙ ap (λ us. sector_after log us ds s) (in_front row last u long there)
 
--- no unit covers the sector: zeros stand
-pub nothing : (es : List Entry) (row : List LogUnit) (ds : List Departure) (s : ℕ) → length row ≡ 0 → replicate {A = ℕ} 512 0 ≡ sector_after es row ds s
-nothing es [] ds s none = sym (zero_sector es ds s)
-nothing es (u ∷ us) ds s none = absurd (omega (arith, none))
+-- no unit covers the sector: the initial content stands
+pub nothing : (log : LogValue) (row : List LogUnit) (ds : List Departure) (s : ℕ) → length row ≡ 0 → initial_sector log.initial s ≡ sector_after log row ds s
+nothing log [] ds s none = sym (first_sector log ds s)
+nothing log (u ∷ us) ds s none = absurd (omega (arith, none))
 
 -- an element of a prefix is one of the list
 pub in_take : (n : ℕ) (us : List LogUnit) (i : ℕ) (u : LogUnit) → slice_get (take n us) i ≡ Some u → slice_get us i ≡ Some u
@@ -75,35 +76,36 @@ unfolding writes
 no_writer ds s i v other = rw other refl
 
 -- units of other sectors do not change what is left of a sector
-pub sector_of_row : (es : List Entry) (us : List LogUnit) (ds : List Departure) (s : ℕ) → sector_after es (covering s us) ds s ≡ sector_after es us ds s
+pub sector_of_row : (log : LogValue) (us : List LogUnit) (ds : List Departure) (s : ℕ) → sector_after log (covering s us) ds s ≡ sector_after log us ds s
 unfolding sector_after byte_after covering
-sector_of_row es us ds s =
+sector_of_row log us ds s =
     ap (λ (f : ℕ → ℕ). map f (range_with_len 0 512))
-    (λ j i. ap (λ (vs : List LogUnit). option_map_or (λ (u : LogUnit). slice_index (unit_content es u) i) (last_or None vs) 0)
+    (λ j i. ap (λ (vs : List LogUnit). option_map_or (λ (u : LogUnit). slice_index (unit_content log.entries u) i) (last_or None vs) (initial_byte log.initial s i))
     (narrowed (writes ds s i) (λ (u : LogUnit). u.sector == s) (no_writer ds s i) us) j)
 
--- a sector that is lent
-pub lent_zeros : (es : List Entry) (k s : ℕ) (ds : List Departure) → showing ds (versions es k s) ≡ None
-    → replicate {A = ℕ} 512 0 ≡ sector_after es (units_before es k) ds s
-lent_zeros es k s ds none =
-    let zeros : List ℕ = replicate {A = ℕ} 512 0 in
-    let all = shows es ds s (units_before es k) in
-    sector_by_bytes es (units_before es k) ds s zeros (length-replicate {A = ℕ} 512 0)
-    (λ i lt. all.nobody none i lt ∙ sym (get_or-replicate {A = ℕ} 512 i 0 0 lt))
+-- a sector that is lent: nothing of a unit shows, and the initial content stands
+pub lent_initial : (log : LogValue) (k s : ℕ) (ds : List Departure) → showing ds (versions log.entries k s) ≡ None
+    → initial_sector log.initial s ≡ sector_after log (units_before log.entries k) ds s
+unfolding initial_sector
+lent_initial log k s ds none =
+    let byte : ℕ → ℕ = initial_byte log.initial s in
+    let all = shows log ds s (units_before log.entries k) in
+    sector_by_bytes log (units_before log.entries k) ds s (map byte (range_with_len 0 512)) (length-map-range_with_len byte 0 512)
+    (λ i lt. let here : 0 + i ≡ i = omega arith in all.nobody none i lt ∙ sym (get_or-map-range_with_len byte 0 512 i i 0 lt here))
 
 -- the unit that shows is whole: its content can be lent for the sector
-pub lent_whole : (es : List Entry) (k s : ℕ) (ds : List Departure) (u : LogUnit) (content : List ℕ) → showing ds (versions es k s) ≡ Some u
-    → fate_at ds u ≡ None → content ≡ unit_content es u → length content ≡ 512
-    → content ≡ sector_after es (units_before es k) ds s
-lent_whole es k s ds u content at whole is long =
-    let own = shows es ds s (units_before es k) in
-    sector_by_bytes es (units_before es k) ds s content long
+pub lent_whole : (log : LogValue) (k s : ℕ) (ds : List Departure) (u : LogUnit) (content : List ℕ) → showing ds (versions log.entries k s) ≡ Some u
+    → fate_at ds u ≡ None → content ≡ unit_content log.entries u → length content ≡ 512
+    → content ≡ sector_after log (units_before log.entries k) ds s
+lent_whole log k s ds u content at whole is long =
+    let own = shows log ds s (units_before log.entries k) in
+    sector_by_bytes log (units_before log.entries k) ds s content long
     (λ i lt. own.whole u at whole i lt ∙ ap (λ bytes. slice_index bytes i) (sym is))
 
 -- whether a torn unit shows
-pub not_torn_zeros : (ds : List Departure) (row : List LogUnit) → showing ds row ≡ None → false ≡ is_torn ds row
+pub not_torn_initial : (ds : List Departure) (row : List LogUnit) → showing ds row ≡ None → false ≡ is_torn ds row
 unfolding is_torn
-not_torn_zeros ds row none = sym (ap (λ o. option_map_or (λ (u : LogUnit). is_some (fate_at ds u)) o false) none)
+not_torn_initial ds row none = sym (ap (λ o. option_map_or (λ (u : LogUnit). is_some (fate_at ds u)) o false) none)
 
 torn_by : (ds : List Departure) (row : List LogUnit) (u : LogUnit) → showing ds row ≡ Some u → is_torn ds row ≡ is_some (fate_at ds u)
 unfolding is_torn
@@ -121,7 +123,7 @@ pub unit_showing : (log : LogValue) (k s : ℕ) (ds : List Departure) (u : LogUn
     → showing ds (versions log.entries k s) ≡ Some u → IsUnit log u × (u.sector ≡ s)
 unit_showing log k s ds u is le at =
     let us = units_before log.entries k in
-    let place = (shows log.entries ds s us).there u at in
+    let place = (shows log ds s us).there u at in
     let P : LogUnit → Type 0 = λ v. IsUnit log v × (v.entry < k) in
     let read = get_or_from_slice_get us place.0 u u place.1 in
     let unit = subst P read (units_of_log log k is le place.0 u (slice_get_within us place.0 u place.1)) in

@@ -1,5 +1,5 @@
 -- The sectors in which a torn unit shows: each has a departure of that unit.
-use Rattle.std.proofs.Common.{ℕ, suc, ◌≡◌, ◌+◌, ◌-◌, ◌<◌, ◌≤◌, ◌==◌, Bool, true, false, if◌then◌else◌, not, List, [], ◌∷◌, ◌++◌, length, slice_get, Option, Some, None, refl, sym, subst, ◌∙◌, ap, inl, inr, arith, length-append}
+use Rattle.std.proofs.Common.{ℕ, ◌≡◌, ◌+◌, ◌-◌, ◌<◌, ◌≤◌, true, false, List, [], ◌∷◌, ◌++◌, length, slice_get, Option, Some, None, refl, sym, subst, ◌∙◌, ap, inl, inr, arith, length-append}
 use Rattle.std.specs.Option.{option_map_or, is_some}
 use Rattle.std.proofs.lemmas.Bool.{cases_lt}
 use Rattle.std.proofs.lemmas.Option.{slice_get_within, same_Some}
@@ -28,7 +28,7 @@ tear_sector d = d.part.sector + tear_of d.fate d.part.count
 pub record TornSoFar (log : LogValue) (cut : ℕ) (ds : List Departure) (n : ℕ) (torn : List TornSector) : Type 0 where
   pub few : length torn ≤ n
   pub bytes : (j : ℕ) (t : TornSector) → slice_get torn j ≡ Some t
-      → t.content ≡ sector_after log.entries (units_before log.entries cut) ds t.number
+      → t.content ≡ sector_after log (units_before log.entries cut) ds t.number
   pub each : (i : ℕ) (d : Departure) → i < n → slice_get ds i ≡ Some d → leaves (Some d.fate) ≡ true → HasSector torn (tear_sector d)
 
 -- the loop over the departures: the torn sectors before it, with one more, and at its end
@@ -60,7 +60,7 @@ not_torn log cut ds n torn d was here dropped = record {
 
 pub one_torn : (log : LogValue) (cut : ℕ) (ds : List Departure) (n : ℕ) (torn more : List TornSector) (d : Departure) (t : TornSector)
     → TornSoFar log cut ds n torn → slice_get ds n ≡ Some d → more ≡ torn ++ t ∷ [] → t.number ≡ tear_sector d
-    → t.content ≡ sector_after log.entries (units_before log.entries cut) ds (tear_sector d) → TornSoFar log cut ds (n + 1) more
+    → t.content ≡ sector_after log (units_before log.entries cut) ds (tear_sector d) → TornSoFar log cut ds (n + 1) more
 one_torn log cut ds n torn more d t was here is number content =
     let long = ap length is ∙ length-append torn (t ∷ []) in
     record {
@@ -68,7 +68,7 @@ one_torn log cut ds n torn more d t was here is number content =
       bytes = λ j s there. elim (slice_get_of_push torn t j s (ap (λ ts. slice_get ts j) (sym is) ∙ there)) [
         | inl old ↦ was.bytes j s old
         | inr last ↦ ap (λ (x : TornSector). x.content) last.1 ∙ content
-            ∙ ap (sector_after log.entries (units_before log.entries cut) ds) (sym number ∙ ap (λ (x : TornSector). x.number) (sym last.1))
+            ∙ ap (sector_after log (units_before log.entries cut) ds) (sym number ∙ ap (λ (x : TornSector). x.number) (sym last.1))
       ];
       each = λ i e lt there tears. elim (cases_lt i n) [
         | inl less ↦

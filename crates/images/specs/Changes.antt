@@ -30,15 +30,15 @@ with_sectors image first count other n = if nat_le first n && nat_lt n (first + 
 
 -- the image of a cut where nothing departs
 abbrev pub whole_image : LogValue → ℕ → ℕ → List ℕ
-whole_image log cut n = sector_after log.entries (units_before log.entries cut) [] n
+whole_image log cut n = sector_after log (units_before log.entries cut) [] n
 
 -- the image of a view
 abbrev pub image_of : ViewValue → ℕ → List ℕ
-image_of view n = sector_after view.log.entries (units_before view.log.entries view.cut) view.departures n
+image_of view n = sector_after view.log (units_before view.log.entries view.cut) view.departures n
 
 -- the sectors in which what units leave, where nothing departs, differs from the image of a cut
 abbrev pub changes_by : LogValue → ℕ → List LogUnit → List ChangedValue
-changes_by log first us = changes (whole_image log first) (sector_after log.entries us []) 0 log.sectors
+changes_by log first us = changes (whole_image log first) (sector_after log us []) 0 log.sectors
 
 -- the sectors in which the image of a cut, where nothing departs, differs from that of an earlier one
 unfoldable pub changes_between : LogValue → ℕ → ℕ → List ChangedValue

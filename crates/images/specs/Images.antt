@@ -3,7 +3,8 @@
 use Rattle.std.specs.Prelude.{ℕ, ◌+◌, ◌-◌, ◌*◌, ◌==◌, nat_lt, nat_le, Bool, false, not, ◌&&◌, ◌||◌, List, map, filter, slice_index, None}
 use Rattle.std.specs.List.{list_all, last_or, range_with_len}
 use Rattle.std.specs.Option.{option_map_or}
-use Rattle.logfmt.specs.declared.entry.Entry.{Entry}
+use Rattle.logfmt.specs.Bounds.{LogValue}
+use Rattle.logfmt.specs.Initial.{initial_byte}
 use Rattle.epochs.specs.declared.part.Part.{Part}
 use Rattle.epochs.specs.declared.unit.Unit.{Unit as LogUnit}
 use Rattle.epochs.specs.Units.{units_before, unit_content}
@@ -39,17 +40,19 @@ survives ds i u = list_all (λ (d : Departure). not (is_in d.part u) || keeps d.
 unfoldable pub writes : List Departure → ℕ → ℕ → LogUnit → Bool
 writes ds s i u = (u.sector == s) && survives ds i u
 
--- byte i of sector s as units of a log leave it, in their order: that of the last one that writes it
-unfoldable pub byte_after : List Entry → List LogUnit → List Departure → ℕ → ℕ → ℕ
-byte_after es us ds s i = option_map_or (λ (u : LogUnit). slice_index (unit_content es u) i) (last_or None (filter (writes ds s i) us)) 0
+-- byte i of sector s as units of a log leave it, in their order: that of the last one that writes it, or where there is none the
+-- byte that the device held before entry 0
+unfoldable pub byte_after : LogValue → List LogUnit → List Departure → ℕ → ℕ → ℕ
+byte_after log us ds s i =
+    option_map_or (λ (u : LogUnit). slice_index (unit_content log.entries u) i) (last_or None (filter (writes ds s i) us)) (initial_byte log.initial s i)
 
-unfoldable pub sector_after : List Entry → List LogUnit → List Departure → ℕ → List ℕ
-sector_after es us ds s = map (byte_after es us ds s) (range_with_len 0 512)
+unfoldable pub sector_after : LogValue → List LogUnit → List Departure → ℕ → List ℕ
+sector_after log us ds s = map (byte_after log us ds s) (range_with_len 0 512)
 
--- a device of so many sectors as units of a log leave it
-unfoldable pub device_after : ℕ → List Entry → List LogUnit → List Departure → List (List ℕ)
-device_after sectors es us ds = map (sector_after es us ds) (range_with_len 0 sectors)
+-- the device as units of a log leave it
+unfoldable pub device_after : LogValue → List LogUnit → List Departure → List (List ℕ)
+device_after log us ds = map (sector_after log us ds) (range_with_len 0 log.sectors)
 
 -- the crash image of cut k, with those departures
-abbrev pub crash_image : ℕ → List Entry → ℕ → List Departure → List (List ℕ)
-crash_image sectors es k ds = device_after sectors es (units_before es k) ds
+abbrev pub crash_image : LogValue → ℕ → List Departure → List (List ℕ)
+crash_image log k ds = device_after log (units_before log.entries k) ds

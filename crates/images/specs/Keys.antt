@@ -11,9 +11,9 @@ use Rattle.images.specs.Images.{crash_image}
 use Rattle.images.specs.Views.{ViewValue, sectors_of}
 
 -- the base of cut k: the image of all units of entries before its last flush entry, each whole. Without a flush
--- entry there is no such unit, and the base is zeros
+-- entry there is no such unit, and the base is what the device held before entry 0
 unfoldable pub base_of : LogValue → ℕ → List (List ℕ)
-base_of log k = crash_image log.sectors log.entries (last_flush log.entries k) []
+base_of log k = crash_image log (last_flush log.entries k) []
 
 -- the content of sector n
 abbrev pub content_at : List (List ℕ) → ℕ → List ℕ

@@ -6,5 +6,6 @@ pub mod Whole
 pub mod Keys
 pub mod Contents
 pub mod Changes
+pub mod Number
 pub mod Equal
 pub mod Laws

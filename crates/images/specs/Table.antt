@@ -1,6 +1,6 @@
 -- The version table of a log: for each sector of the device the units that cover it, in order; and what a view keeps
 -- beside its log, cut and departures.
-use Rattle.std.specs.Prelude.{ℕ, ◌+◌, ◌-◌, ◌*◌, ◌/◌, ◌==◌, nat_lt, ◌≡◌, ◌<◌, ◌≤◌, Bool, true, false, if◌then◌else◌, List, [], ◌∷◌, length, map, filter, slice_get, Option, Some, None}
+use Rattle.std.specs.Prelude.{ℕ, ◌-◌, ◌*◌, ◌/◌, ◌==◌, nat_lt, ◌≡◌, ◌<◌, ◌≤◌, Bool, true, false, if◌then◌else◌, List, [], ◌∷◌, length, map, filter, slice_get, Option, Some, None}
 use Rattle.std.specs.List.{last_or, range_with_len}
 use Rattle.std.specs.Option.{option_map_or, is_some}
 use Rattle.logfmt.specs.declared.entry.Entry.{Entry}
@@ -95,7 +95,7 @@ HasSector torn n = (j : ℕ) × (t : TornSector) × (slice_get torn j ≡ Some t
 -- each has its bytes of the image, and each sector in which a torn unit shows is there
 pub record AreTorn (log : LogValue) (cut : ℕ) (ds : List Departure) (torn : List TornSector) : Type 0 where
   pub bytes : (j : ℕ) (t : TornSector) → slice_get torn j ≡ Some t
-      → t.content ≡ sector_after log.entries (units_before log.entries cut) ds t.number
+      → t.content ≡ sector_after log (units_before log.entries cut) ds t.number
   pub all : (n : ℕ) → n < log.sectors → is_torn ds (versions log.entries cut n) ≡ true → HasSector torn n
 
 -- departures of parts of a log

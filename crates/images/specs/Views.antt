@@ -28,7 +28,7 @@ pub record IsMember (plan : PlanValue) (choice : ChoiceValue) : Type 0 where
 
 -- the sectors of a view
 unfoldable pub sectors_of : ViewValue → List (List ℕ)
-sectors_of view = crash_image view.log.sectors view.log.entries view.cut view.departures
+sectors_of view = crash_image view.log view.cut view.departures
 
 -- the context of a cut
 abbrev pub context_at : LogValue → ℕ → Context

@@ -9,7 +9,7 @@ use std::alloc::{AllocError, Global};
 /// The bytes of a sector of an image.
 #[derive(Drop)]
 pub(crate) enum Content<'a> {
-    /// They lie in the log, or are the one sector of zeros.
+    /// They lie in the log or its initial content, or are a sector of zeros.
     Lent(&'a Sector),
     /// A torn unit shows in the sector.
     Torn(Box<Sector>),

@@ -2,6 +2,7 @@
 
 ghost use Rattle.std.specs.Prelude.{◌≡◌, ◌+◌, ◌-◌, ◌*◌, ◌<◌, ◌≤◌, ◌^◌, ℕ, if◌then◌else◌, length, slice_get, Some};
 ghost use Rattle.std.specs.List.{slice_index, slice_range};
+ghost use Rattle.logfmt.specs.Initial.{initial_sector};
 ghost use Rattle.epochs.specs.declared.unit.Unit.{Unit as LogUnit};
 ghost use Rattle.epochs.specs.Plan.{IsUnit};
 ghost use Rattle.epochs.specs.Units.{unit_content};
@@ -15,8 +16,8 @@ use logfmt::Log;
 /// The bytes of a sector.
 pub(crate) type Sector = [u8; 512];
 
-/// The sector that no unit has written, and the content of each unit of a discard.
-pub(crate) static ZEROS: Sector = [0; 512];
+/// The content of each unit of a discard.
+static ZEROS: Sector = [0; 512];
 
 /// How many eighths a sector has.
 const EIGHTHS: u8 = 8;
@@ -149,6 +150,15 @@ pub(crate) fn content_of(log: &Log, unit: Unit) -> &Sector
     }
 }
 
+/// What a sector held before entry 0. Behind the end of the initial content, and so for each sector of a
+/// log without any, it is one comparison more than to lend a sector of zeros.
+#[inline(always)]
+pub(crate) fn initial_of(log: &Log, number: u32) -> &Sector
+    ensures { result.now ≡ initial_sector log.now.initial number }
+{
+    log.initial().sector(number)
+}
+
 /// The unit that shows, of units that cover one sector: the last that is not dropped.
 pub(crate) fn showing(row: &[Unit], departures: &[Departure]) -> Option<Unit>
     ensures { result ≡ showing departures.now row.now }
@@ -177,15 +187,16 @@ fn laid(content: &Sector, earlier: &Sector, fate: Fate) -> Sector
     }
 }
 
-/// What units that cover one sector leave on it, formed anew. It goes back to the last whole unit.
-pub(crate) fn formed(log: &Log, row: &[Unit], departures: &[Departure]) -> Sector
+/// What units that cover one sector, of that number, leave on it, formed anew. It goes back to the last
+/// whole unit, or to the initial content.
+pub(crate) fn formed(log: &Log, number: u32, row: &[Unit], departures: &[Departure]) -> Sector
     requires units { (i : ℕ) (u : LogUnit) → slice_get row.now i ≡ Some u → IsUnit log.now u }
     requires once { DepartOnce departures.now }
-    ensures { (s : ℕ) → ((i : ℕ) (u : LogUnit) → slice_get row.now i ≡ Some u → u.sector ≡ s)
-        → result ≡ sector_after log.now.entries row.now departures.now s }
+    ensures { ((i : ℕ) (u : LogUnit) → slice_get row.now i ≡ Some u → u.sector ≡ number)
+        → result ≡ sector_after log.now row.now departures.now number }
 {
     if row.is_empty() {
-        return ZEROS;
+        return *initial_of(log, number);
     }
     let last = row.len() - 1;
     let unit = row[last];
@@ -193,5 +204,6 @@ pub(crate) fn formed(log: &Log, row: &[Unit], departures: &[Departure]) -> Secto
     let Some(fate) = fate_at(departures, unit) else {
         return *content;
     };
-    laid(content, &formed(log, &row[..last], departures), fate)
+    let earlier = formed(log, number, &row[..last], departures);
+    laid(content, &earlier, fate)
 }

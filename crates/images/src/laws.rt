@@ -15,7 +15,7 @@ pub fn fates_show()
     ensures { FatesShow }
 {}
 
-/// Cuts of one epoch have one base, and in epoch 0 it is zeros.
+/// Cuts of one epoch have one base, and in epoch 0 it is what the device held before entry 0.
 pub fn epoch_has_base()
     ensures { EpochHasBase }
 {}

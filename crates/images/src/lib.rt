@@ -3,7 +3,8 @@
 //!
 //! A crash image is what the device holds after a crash at a cut of a log, where a choice says which
 //! of the last writes were lost or torn. Each byte of it is that of the last unit before the cut which
-//! covers the sector and of which the byte reached the device, and 0 where there is none:
+//! covers the sector and of which the byte reached the device, and where there is none what the device
+//! held before entry 0, the initial content of the log:
 //!
 //! | A unit that is | leaves on its sector |
 //! |---|---|
@@ -13,12 +14,13 @@
 //! | torn, the last t eighths arrived | what the units before it left, and then its last 64 t bytes |
 //!
 //! A discard is a write of zeros, and can be dropped and torn as a write can. So the rest of a torn
-//! sector comes from an earlier write that reached the device, and that may be a torn one too.
+//! sector comes from an earlier write that reached the device, and that may be a torn one too, or from
+//! the initial content.
 //!
 //! A key stands for an image together with the program that is run on it: it has the number of the
 //! program, the epoch of the cut and the marks before it, and the sectors of the image that differ from
 //! the base of the cut. The base is what the last flush before the cut has made durable: the image of
-//! all units of entries before that flush entry, zeros where there is none. An image of which more than
+//! all units of entries before that flush entry, the initial content where there is none. An image of which more than
 //! 64 sectors differ has no key.
 //!
 //! | Call | Answer |
@@ -32,6 +34,7 @@
 //! | `key.set_program(program)`, `key.copy(alloc)` | the key of the image and another program; the same key |
 //! | `key.program()`, `key.epoch()`, `key.marks()`, `key.changed()` | the parts of a key |
 //! | `key.shard()` | which of 16 shards has the key |
+//! | `initial_number(log)` | the number by which a report tells the initial content of a log, or `None` |
 //!
 //! # Place
 //!
@@ -48,8 +51,9 @@
 //!
 //! - The sectors of a view are `crash_image` of the log, the cut and the departures
 //!   (`specs/Images.antt`): byte i of sector s is byte i of the last of the units before the cut that
-//!   write it, `filter (writes ..) (units_before ..)`, and 0 where no unit does. The definition is a
-//!   filter of a list of units, byte by byte; the code finds a unit and borrows its sector.
+//!   write it, `filter (writes ..) (units_before ..)`, and that of the initial content where no unit does.
+//!   The definition is a filter of a list of units, byte by byte; the code finds a unit and borrows its
+//!   sector.
 //! - `History::view` answers the view of exactly its choice, which has to be one of the plan
 //!   (`IsMember`, `specs/Views.antt`): such as `choices::nth` and `choices::next` give.
 //! - `View::context` is that of the cut: the log's number of sectors, its flush entries and its marks
@@ -65,7 +69,7 @@
 //!
 //! - A byte is that of its last writer (`last_writer_shows`), and what one more unit changes is the table
 //!   above (`fates_show`).
-//! - Cuts of one epoch have one base (`epoch_has_base`).
+//! - Cuts of one epoch have one base, and in epoch 0 it is the initial content (`epoch_has_base`).
 //! - Two keys of one log are the same exactly where program, context and image are (`keys_tell`).
 //! - `==` answers whether two keys are the same (`equal_keys_are_same`), so a map finds a key exactly
 //!   where it has that key.
@@ -82,7 +86,8 @@
 //! entries. A search by halves finds the units of a row before a cut.
 //!
 //! A view borrows the table. A sector of it is the content of the last of those units that is not
-//! dropped, where it lies in the log, or the one sector of zeros (`lent`). A part that departs has a
+//! dropped, where it lies in the log, or that of the initial content, which the log keeps, or a sector of
+//! zeros (`lent`). No image and no worker has a copy of it. A part that departs has a
 //! fate over all of its bytes; `share_of` in `image` says what that makes of one of its sectors: the
 //! sector is whole, dropped, or torn as a part of one sector is. Where the unit that shows is torn the
 //! view owns the sector: `torn` forms these when the view is made, one for each departure that tears its
@@ -125,6 +130,7 @@ mod image;
 mod key;
 mod laws;
 mod listing;
+mod number;
 mod torn;
 mod versions;
 mod view;
@@ -137,4 +143,5 @@ pub use laws::{
     epoch_has_base, equal_keys_are_same, fates_show, images_are_devices, keys_tell,
     last_writer_shows,
 };
+pub use number::initial_number;
 pub use view::View;

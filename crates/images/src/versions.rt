@@ -7,7 +7,7 @@ ghost use Rattle.epochs.specs.Plan.{IsUnit};
 ghost use Rattle.epochs.specs.Units.{units_before};
 ghost use Rattle.images.specs.Table.{rows_of, IsTable};
 
-use crate::image::{Sector, ZEROS, content_of, fate_at, formed, showing};
+use crate::image::{Sector, content_of, fate_at, formed, initial_of, showing};
 use choices::Departure;
 use epochs::Unit;
 use logfmt::Log;
@@ -78,16 +78,16 @@ impl<'a> Versions<'a> {
         &row[..count_before(row, cut)]
     }
 
-    /// A sector of a crash image, where the log or a sector of zeros has it; `None` where a torn unit
-    /// shows in it.
+    /// A sector of a crash image, where the log, its initial content or a sector of zeros has it; `None`
+    /// where a torn unit shows in it.
     pub(crate) fn lent(&self, number: u32, cut: u32, departures: &[Departure]) -> Option<&'a Sector>
         requires number { number < self.now.sectors }
         requires cut { cut ≤ length self.now.entries }
-        ensures lent { IfSome result (λ sector. sector.now ≡ sector_after self.now.entries (units_before self.now.entries cut) departures.now number) }
+        ensures lent { IfSome result (λ sector. sector.now ≡ sector_after self.now (units_before self.now.entries cut) departures.now number) }
         ensures torn { is_none result ≡ is_torn departures.now (versions self.now.entries cut number) }
     {
         let Some(unit) = showing(self.before(number, cut), departures) else {
-            return Some(&ZEROS);
+            return Some(initial_of(self.log, number));
         };
         match fate_at(departures, unit) {
             None => Some(content_of(self.log, unit)),
@@ -99,7 +99,7 @@ impl<'a> Versions<'a> {
     pub(crate) fn durable(&self, number: u32, cut: u32) -> &'a Sector
         requires number { number < self.now.sectors }
         requires cut { cut ≤ length self.now.entries }
-        ensures { result.now ≡ sector_after self.now.entries (units_before self.now.entries cut) [] number }
+        ensures { result.now ≡ sector_after self.now (units_before self.now.entries cut) [] number }
     {
         match self.lent(number, cut, &[]) {
             Some(sector) => sector,
@@ -112,9 +112,9 @@ impl<'a> Versions<'a> {
         requires number { number < self.now.sectors }
         requires cut { cut ≤ length self.now.entries }
         requires once { DepartOnce departures.now }
-        ensures { result ≡ sector_after self.now.entries (units_before self.now.entries cut) departures.now number }
+        ensures { result ≡ sector_after self.now (units_before self.now.entries cut) departures.now number }
     {
-        formed(self.log, self.before(number, cut), departures)
+        formed(self.log, number, self.before(number, cut), departures)
     }
 }
 

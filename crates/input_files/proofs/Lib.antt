@@ -1,2 +1,5 @@
+pub mod Kept
 pub mod Logs
+pub mod RawLogs
+pub mod Reaching
 pub mod Standing

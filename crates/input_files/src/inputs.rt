@@ -2,7 +2,7 @@
 
 use crate::cut::refusal_of_whole;
 use crate::kind::FileKind;
-use crate::reading::{Piece, read_file};
+use crate::reading::{Piece, read_base, read_file};
 use base::causes::RequestCause;
 use base::refusal::{Cause, Refusal};
 use std::alloc::AllocError;
@@ -18,6 +18,7 @@ const TOO_LONG: &str =
 pub struct Inputs {
     held: Vec<Option<Vec<u8>>>,
     lengths: Vec<u64>,
+    base: Option<Option<Vec<u8>>>,
 }
 
 /// What a file holds; nothing, of no length, where it can't be read.
@@ -40,8 +41,26 @@ fn read_one<R: Files + AllocGlobal>(
     }
 }
 
+/// What a device of so many sectors held, by the file of that name; nothing where that can't be read.
+///
+/// # Errors
+///
+/// There is no memory for it.
+fn base_of<R: Files + AllocGlobal>(
+    rt: &R,
+    name: &str,
+    sectors: u64,
+) -> Result<Option<Vec<u8>>, AllocError> {
+    match read_base(rt, name, sectors) {
+        Ok(bytes) => Ok(Some(bytes)),
+        Err(error) if error.kind() == ErrorKind::OutOfMemory => Err(AllocError),
+        Err(_error) => Ok(None),
+    }
+}
+
 impl Inputs {
-    /// Reads the files that the command of that name names, no more of each than it can use.
+    /// Reads the files that the command of that name names, no more of each than it can use; and, where one is named, the one
+    /// that holds what a device of so many sectors held before.
     ///
     /// # Errors
     ///
@@ -50,10 +69,13 @@ impl Inputs {
         rt: &R,
         command: &str,
         names: &[String],
+        base: Option<&str>,
+        sectors: u64,
     ) -> Result<Inputs, Refusal> {
         let mut inputs = Inputs {
             held: Vec::new(rt.alloc()),
             lengths: Vec::new(rt.alloc()),
+            base: None,
         };
         for (place, name) in names.iter().enumerate() {
             let kind = FileKind::of(command, place);
@@ -63,6 +85,12 @@ impl Inputs {
             if inputs.push(piece).is_err() {
                 return Err(Refusal::of_memory());
             }
+        }
+        if let Some(name) = base {
+            let Ok(held) = base_of(rt, name, sectors) else {
+                return Err(FileKind::Log.of_memory(0));
+            };
+            inputs.base = Some(held);
         }
         Ok(inputs)
     }
@@ -77,6 +105,11 @@ impl Inputs {
     /// What each file holds, or what stands for it; none where it can't be read.
     pub fn held(&self) -> &[Option<Vec<u8>>] {
         self.held.as_slice()
+    }
+
+    /// What the file holds that is named for what the device held before; none where it can't be read.
+    pub fn base(&self) -> &Option<Option<Vec<u8>>> {
+        &self.base
     }
 
     /// The refusal of the files, made of that of what stands for them.

@@ -10,6 +10,8 @@ use base::refusal::{Cause, Refusal};
 #[derive(Clone, Copy, Debug, PartialEq, Eq)]
 pub enum FileKind {
     Log,
+    /// A raw log, or a log device.
+    Raw,
     Program,
     /// An assembly text.
     Text,
@@ -22,30 +24,34 @@ impl FileKind {
     {
         match command {
             "asm" => FileKind::Text,
+            "import" => FileKind::Raw,
             "verify" | "list" => FileKind::Program,
             _ if place == 0 => FileKind::Log,
             _ => FileKind::Program,
         }
     }
 
-    /// How many bytes a file of this kind has at most: 64 MiB, 4,096 slots, 16 MiB.
+    /// How many bytes a file of this kind has at most: 64 MiB, 192 MiB, 4,096 slots, 16 MiB. Of a raw log that is how many its entries
+    /// may need.
     pub fn most(self) -> usize
         ensures { result ≡ most_of self }
     {
         match self {
             FileKind::Log => 67_108_864,
+            FileKind::Raw => 201_326_592,
             FileKind::Program => 32_768,
             FileKind::Text => 16_777_216,
         }
     }
 
     /// How many bytes are read of a file of this kind at most: as many as show that there are too many. Of a program that is
-    /// a slot more, so that a text of each length modulo 8 can stand for a longer one.
+    /// a slot more, so that a text of each length modulo 8 can stand for a longer one, and of a raw log no more.
     pub fn most_read(self) -> usize
         ensures { result ≡ read_of self }
     {
         match self {
             FileKind::Log => 67_108_865,
+            FileKind::Raw => 201_326_592,
             FileKind::Program => 32_776,
             FileKind::Text => 16_777_217,
         }
@@ -57,7 +63,7 @@ impl FileKind {
         ensures { result ≡ memory_of self place }
     {
         match self {
-            FileKind::Log => refusal_of(Cause::Log(LogCause::Memory), None),
+            FileKind::Log | FileKind::Raw => refusal_of(Cause::Log(LogCause::Memory), None),
             FileKind::Program => refusal_of(Cause::Code(CodeCause::Memory), program_at(place)),
             FileKind::Text => refusal_of(Cause::Asm(AsmCause::Memory), None),
         }

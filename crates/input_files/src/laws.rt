@@ -1,7 +1,8 @@
-//! What holds of the bytes that are read of a log, and of those that stand for a long program. The functions do nothing;
+//! What holds of the bytes that are read of a log or a raw log, and of those that stand for a long program. The functions do nothing;
 //! each contract is a theorem.
 
 ghost use Rattle.input_files.specs.Logs.{ShortLogIsRead, LongLogIsRefusedAlike};
+ghost use Rattle.input_files.specs.RawLogs.{RawIsImportedAlike, RawIsRefusedAlike, NoMoreIsRead, ReadRawIsShort};
 ghost use Rattle.input_files.specs.Standing.{ShortStandsForItself, LongIsRefusedAlike, LongIsRefused};
 
 /// A log of at most 64 MiB is read whole.
@@ -12,6 +13,26 @@ pub fn short_log_is_read()
 /// A longer one is refused for its length, and so is what is read of it.
 pub fn long_log_is_refused_alike()
     ensures { LongLogIsRefusedAlike }
+{}
+
+/// What is imported of the bytes that are read of a raw log is imported of the raw log.
+pub fn raw_is_imported_alike()
+    ensures { RawIsImportedAlike }
+{}
+
+/// Each first fault of the bytes that are read of a raw log is the first fault of the raw log.
+pub fn raw_is_refused_alike()
+    ensures { RawIsRefusedAlike }
+{}
+
+/// Of a raw log that can be imported no more is read than its entries need.
+pub fn no_more_is_read()
+    ensures { NoMoreIsRead }
+{}
+
+/// Of no file more is read as a raw log than 192 MiB.
+pub fn read_raw_is_short()
+    ensures { ReadRawIsShort }
 {}
 
 /// A program of at most 4,096 slots stands for itself.

@@ -5,15 +5,18 @@
 //!
 //! # Place
 //!
-//! On `base`, and on the definitions of `logfmt` and `bpf_isa`, below the program. `commands` says what a command answers on what its files hold; this crate reads them.
+//! On `base`, and on the definitions of `logfmt`, `raw_log` and `bpf_isa`, below the program. `commands` says what a command
+//! answers on what its files hold; this crate reads them.
 //!
 //! # What is read
 //!
 //! | File | Is read to | What is longer |
 //! |---|---|---|
 //! | a log | 64 MiB and a byte | has the refusal of its first 64 MiB and a byte, 10 at 0, whatever it holds |
+//! | a raw log | where its last entry ends, as its headers tell, at most 192 MiB | changes no answer |
 //! | a program | 4,097 slots, 32,776 bytes | stands for itself by a prefix of more than 4,096 slots which cuts a slot as it does |
 //! | an assembly text | 16 MiB and a byte | can't be read |
+//! | what a device held before | the device's size and a byte | is refused, 13 at 14 |
 //!
 //! How long a program is tells a regular file's length; of any other file what is behind the first 32,776 bytes is read and
 //! counted, but not kept, and one that doesn't end within 64 MiB counts as one of too many whole slots.
@@ -24,17 +27,20 @@
 //! `refusal_of_whole` what the refusal of these bytes says of the whole file. Laws (`laws`) tie them to what `logfmt` and
 //! `bpf_isa` say of a first fault. A log that isn't too long is read whole, and a longer one is refused for its length, as is
 //! what is read of it. A program that isn't too long stands for itself; what stands for a longer one has a fault; and that is
-//! the first fault of the longer one, at the place that `refusal_of_whole` makes of it.
+//! the first fault of the longer one, at the place that `refusal_of_whole` makes of it. What is imported of the bytes that are
+//! read of a raw log is imported of all of it, and their first fault is its first fault; of one that can be imported no more
+//! is read than its entries need, and of none more than 192 MiB.
 //!
 //! Of a reader whose bytes are known, what is kept are its first bytes, as many as that, and the length of one that isn't
-//! too long is told (`read_piece`). What a file of the system holds, and how long it says it is, no contract can say: runs of
-//! the built program show that it is read so (tests/rows/surroundings.py).
+//! too long is told (`read_piece`). How far a raw log is to be read is worked out header by header (`reach`). What a file of
+//! the system holds, and how long it says it is, no contract can say: runs of the built program show that it is read so
+//! (tests/rows/surroundings.py, tests/rows/raw_logs.py).
 //!
 //! # Example
 //!
 //! ```text
-//! let inputs = Inputs::read(rt, "explore", words.files())?;
-//! match act(rt, alloc, gate, words, inputs.held()) {
+//! let inputs = Inputs::read(rt, "explore", words.files(), words.base(), words.sectors())?;
+//! match act(rt, alloc, gate, words, inputs.held(), inputs.base()) {
 //!     Ok((bytes, status)) => ..
 //!     Err(refusal) => inputs.refusal(refusal)
 //! }
@@ -45,12 +51,14 @@ mod cut;
 mod inputs;
 mod kind;
 mod laws;
+mod reach;
 mod reading;
 
 pub use cut::{refusal_of_whole, standing_length};
 pub use inputs::Inputs;
 pub use kind::FileKind;
 pub use laws::{
-    long_is_refused, long_is_refused_alike, long_log_is_refused_alike, short_log_is_read,
+    long_is_refused, long_is_refused_alike, long_log_is_refused_alike, no_more_is_read,
+    raw_is_imported_alike, raw_is_refused_alike, read_raw_is_short, short_log_is_read,
     short_stands_for_itself,
 };

@@ -1,12 +1,15 @@
 //! Reading a file: no more than can be used.
 
-ghost use Rattle.std.specs.Prelude.{◌≡◌, ◌≢◌, ◌≤◌, ◌<◌, length, take, IfOk, IfSome, IsSome};
+ghost use Rattle.std.specs.Prelude.{ℕ, List, Option, true, false, ◌+◌, ◌≡◌, ◌≢◌, ◌≤◌, ◌<◌, length, take, IfOk, OnOk, IfSome, IsSome};
+ghost use Rattle.std.specs.Io.KnownBytes.{Consumes, IsAtEnd};
 ghost use Rattle.input_files.specs.declared.kind.FileKind.TheVariants as kinds;
-ghost use Rattle.input_files.specs.Kinds.{read_of};
+ghost use Rattle.input_files.specs.Kinds.{base_read, read_of};
+ghost use Rattle.input_files.specs.RawLogs.{read_raw};
 ghost use Rattle.input_files.specs.Standing.{kept_of};
 
 use crate::cut::standing_length;
 use crate::kind::FileKind;
+use crate::reach::Reach;
 use std::alloc::Global;
 use std::fs::OpenFile;
 use std::io::{ErrorKind, Read};
@@ -21,6 +24,12 @@ const UNCOUNTED: u64 = MOST_COUNTED + 8;
 
 /// How many bytes are counted at a time, as many as a pipe holds.
 const COUNTED_AT_ONCE: usize = 65_536;
+
+/// How many bytes of a raw log are read at a time.
+const READ_AT_ONCE: usize = 65_536;
+
+/// How many bytes of a raw log tell how long its sectors are.
+const SECTOR: usize = 512;
 
 /// What was read of a file.
 #[derive(Drop)]
@@ -44,6 +53,89 @@ fn read_first<F: Read>(
     let mut first = file.take(most as u64);
     first.read_to_end(&mut bytes)?;
     Ok(bytes)
+}
+
+/// Reads on, at most so many bytes, and answers whether the file is at its end.
+fn read_part<F: Read>(
+    alloc: Global,
+    file: &mut F,
+    bytes: &mut Vec<u8>,
+    most: usize,
+) -> io::Result<bool>
+    requires { 0 < most }
+    ensures read { OnOk result ((known : Option (List ℕ)) → Consumes known (F.remaining file.old) bytes.old.items → Consumes known (F.remaining file.new) bytes.new.items) }
+    ensures room { OnOk result (length bytes.new.items ≤ length bytes.old.items + most) }
+    ensures end { IfOk result (λ ended. ended ≡ true → IsAtEnd (F.remaining file.new)) }
+{
+    let mut part = Vec::new(alloc);
+    part.resize(most, 0)?;
+    match file.read(part.as_mut_slice()) {
+        Ok(more) => {
+            part.truncate(more);
+            bytes.extend_from_slice(part.as_slice())?;
+            Ok(more == 0)
+        }
+        Err(error) if error.kind() == ErrorKind::Interrupted => Ok(false),
+        Err(error) => Err(error),
+    }
+}
+
+/// Reads on to `needed` bytes, and answers whether they are there. Where they aren't, the file is at its end.
+fn read_on<F: Read>(
+    alloc: Global,
+    file: &mut F,
+    bytes: &mut Vec<u8>,
+    needed: usize,
+) -> io::Result<bool>
+    requires { length bytes.old.items ≤ needed }
+    ensures read { OnOk result ((known : Option (List ℕ)) → Consumes known (F.remaining file.old) bytes.old.items → Consumes known (F.remaining file.new) bytes.new.items) }
+    ensures room { OnOk result (length bytes.new.items ≤ needed) }
+    ensures there { IfOk result (λ there. there ≡ true → length bytes.new.items ≡ needed) }
+    ensures end { IfOk result (λ there. there ≡ false → IsAtEnd (F.remaining file.new)) }
+{
+    for _turn in 0..u64::MAX {
+        let lacking = needed - bytes.len();
+        if lacking == 0 {
+            return Ok(true);
+        }
+        if read_part(alloc, file, bytes, lacking.min(READ_AT_ONCE))? {
+            return Ok(false);
+        }
+    }
+    Err(io::Error::from(ErrorKind::Interrupted))
+}
+
+/// The first bytes of a raw log, as many as its entries need.
+fn read_raw<F: Read>(alloc: Global, file: &mut F) -> io::Result<Vec<u8>>
+    ensures { IfOk result (λ bytes. IfSome (F.remaining file.old) (λ xs. bytes.items ≡ read_raw xs)) }
+{
+    let mut bytes = Vec::new(alloc);
+    if !read_on(alloc, file, &mut bytes, SECTOR)? {
+        return Ok(bytes);
+    }
+    let mut reach = Reach::of_super(bytes.as_slice());
+    loop {
+        if !read_on(alloc, file, &mut bytes, reach.needed as usize)? {
+            return Ok(bytes);
+        }
+        if reach.left == 0 {
+            return Ok(bytes);
+        }
+        reach = reach.behind(bytes.as_slice());
+    }
+}
+
+/// Reads a raw log.
+fn read_raw_piece<F: Read>(alloc: Global, file: &mut F) -> io::Result<Piece>
+    ensures kept { IfOk result (λ piece. IfSome piece.bytes (λ bytes. IfSome (F.remaining file.old) (λ xs. bytes.items ≡ read_raw xs))) }
+    ensures some { IfOk result (λ piece. IsSome piece.bytes) }
+{
+    let bytes = read_raw(alloc, file)?;
+    let length = bytes.len() as u64;
+    Ok(Piece {
+        bytes: Some(bytes),
+        length,
+    })
 }
 
 /// How many more bytes a file has, counted until they are more than `most`.
@@ -105,7 +197,7 @@ fn expected_length(most: usize, said: Option<u64>) -> usize {
 }
 
 /// Reads a file of that kind, which is said to have so many bytes, where it is a regular one. What is kept of it is its
-/// first bytes, all of them where it isn't too long.
+/// first bytes, all of them where it isn't too long; of a raw log those that its entries need.
 ///
 /// # Errors
 ///
@@ -116,15 +208,19 @@ fn read_piece<F: Read>(
     kind: FileKind,
     said: Option<u64>,
 ) -> io::Result<Piece>
-    ensures kept { IfOk result (λ piece. IfSome piece.bytes (λ bytes. IfSome (F.remaining file.old) (λ xs. bytes.items ≡ take (kept_of kind piece.length) xs))) }
-    ensures whole { IfOk result (λ piece. IfSome (F.remaining file.old) (λ xs. length xs < read_of kind → piece.length ≡ length xs)) }
+    ensures kept { IfOk result (λ piece. kind ≢ kinds.Raw → IfSome piece.bytes (λ bytes. IfSome (F.remaining file.old) (λ xs. bytes.items ≡ take (kept_of kind piece.length) xs))) }
+    ensures raw { IfOk result (λ piece. kind ≡ kinds.Raw → IfSome piece.bytes (λ bytes. IfSome (F.remaining file.old) (λ xs. bytes.items ≡ read_raw xs))) }
+    ensures whole { IfOk result (λ piece. IfSome (F.remaining file.old) (λ xs. kind ≢ kinds.Raw → length xs < read_of kind → piece.length ≡ length xs)) }
     ensures some { IfOk result (λ piece. kind ≢ kinds.Text → IsSome piece.bytes) }
 {
+    if let FileKind::Raw = kind {
+        return read_raw_piece(alloc, file);
+    }
     let most = kind.most_read();
     let mut bytes = read_first(alloc, file, most, expected_length(most, said))?;
     let read = bytes.len();
     match kind {
-        FileKind::Log => Ok(Piece {
+        FileKind::Log | FileKind::Raw => Ok(Piece {
             bytes: Some(bytes),
             length: read as u64,
         }),
@@ -153,6 +249,29 @@ fn said_length<F: OpenFile>(file: &F) -> Option<u64> {
         Ok(metadata) if metadata.is_file() => Some(metadata.len()),
         _ => None,
     }
+}
+
+/// How many bytes are read of what a device of so many sectors held.
+fn most_of_base(sectors: u64) -> usize
+    ensures { result ≡ base_read sectors }
+{
+    512 * sectors.min(16_384) as usize + 1
+}
+
+/// The first bytes of the file of that name, one more than a device of so many sectors has.
+///
+/// # Errors
+///
+/// It can't be read, or there is no memory for it.
+pub(crate) fn read_base<R: Files + AllocGlobal>(
+    rt: &R,
+    name: &str,
+    sectors: u64,
+) -> io::Result<Vec<u8>> {
+    let mut file = fs::open(rt, name)?;
+    let said = said_length(&file);
+    let most = most_of_base(sectors);
+    read_first(rt.alloc(), &mut file, most, expected_length(most, said))
 }
 
 /// Reads the file of that name.

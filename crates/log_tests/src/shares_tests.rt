@@ -95,11 +95,13 @@ fn least_image_posted_is_read(rt: HostRuntime) -> Result<(), Fail> {
     Ok(())
 }
 
-/// Eight blocks are dealt out.
+/// Eight blocks are dealt out, to two workers.
 struct Eight;
 
 impl Deal for Eight {
     ghost blocks = { 8 };
+
+    ghost workers = { 2 };
 }
 
 /// Takes the blocks that are wanted by a hand, one after the other.

@@ -184,5 +184,5 @@ canonical_is_text log is recorded =
     }
 
 pub canonical_reads_back : CanonicalReadsBack
-canonical_reads_back log read is recorded text device =
-    text_of_one_log (canonical_text log.entries) read log text (canonical_is_text log is recorded) device
+canonical_reads_back log read is recorded text device held =
+    text_of_one_log (canonical_text log.entries) read log text (canonical_is_text log is recorded) device held

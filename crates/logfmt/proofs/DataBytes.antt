@@ -5,7 +5,8 @@ use Rattle.std.proofs.lemmas.List.{get_or-drop}
 use Rattle.base.specs.Numbers.{zeros}
 use Rattle.logfmt.specs.Bounds.{AreBytes}
 
-first_bytes : (n : ℕ) (bytes : List ℕ) (i : ℕ) → AreBytes bytes → slice_index (take n bytes) i < 256
+-- the first of bytes
+pub first_bytes : (n : ℕ) (bytes : List ℕ) (i : ℕ) → AreBytes bytes → slice_index (take n bytes) i < 256
 first_bytes zero bytes i h = omega arith
 first_bytes (suc n) [] i h = omega arith
 first_bytes (suc n) (b ∷ bytes) zero h = h 0

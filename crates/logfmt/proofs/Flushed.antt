@@ -160,4 +160,6 @@ log-flushed places log is =
       units = let few = is.units in omega (arith, units, few);
       entries = λ i x here. let was = entry-before (is_place places) es i x here in rw was.2 (own-entry (is_place places i) log.sectors was.0 (is.entries i was.0 was.1));
       size = rw end is.size;
+      held = is.held;
+      initial = is.initial;
     }

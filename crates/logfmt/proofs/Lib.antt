@@ -6,3 +6,4 @@ pub mod NoFault
 pub mod OneFault
 pub mod DataBytes
 pub mod Flushed
+pub mod KeptSectors

@@ -101,12 +101,12 @@ go_on bytes sectors es n p u e so passes stands fits recorded h has room d behin
 
 -- where all entries are read the bytes are the text of their log
 pub whole_text : (bytes : List ℕ) (sectors : ℕ) (es : List Entry) (n p u : ℕ) → SuperPasses bytes → 1 ≤ sectors → sectors ≤ 16384
-    → number_at 8 16 bytes ≡ n → Progress bytes sectors es n p u → LogText bytes (record { sectors = sectors; entries = es })
+    → number_at 8 16 bytes ≡ n → Progress bytes sectors es n p u → LogText bytes (record { sectors = sectors; entries = es; initial = [] })
 whole_text bytes sectors es n p u s some device count so = record {
   size = s.size;
   super = record { whole = s.whole; magic = s.magic; version = s.version; entries = count ∙ sym so.count; sector_size = s.sector_size };
   stands = so.stand;
-  bounds = record { some = some; device = device; count = omega (arith, s.count, count, so.count); units = omega (arith, so.sum, so.within); entries = so.entries; size = rw (so.count, so.placed) (omega (arith, so.inside, s.size)) };
+  bounds = record { some = some; device = device; count = omega (arith, s.count, count, so.count); units = omega (arith, so.sum, so.within); entries = so.entries; size = rw (so.count, so.placed) (omega (arith, so.inside, s.size)); held = omega arith; initial = λ i. omega arith };
   recorded = so.recorded;
 }
 

@@ -46,9 +46,9 @@ same_places bytes xs ys (suc i) sa sb long =
     rw (before, same) refl
 
 pub text_of_one_log : TextOfOneLog
-text_of_one_log bytes a b ta tb device =
+text_of_one_log bytes a b ta tb device held =
     let long : length a.entries ≡ length b.entries = sym ta.super.entries ∙ tb.super.entries in
     let entries : a.entries ≡ b.entries =
     same_by_place a.entries b.entries
     (λ i. same_at bytes a.entries b.entries i ta.stands tb.stands long (same_places bytes a.entries b.entries i ta.stands tb.stands long)) in
-    λ i. record { sectors = device i; entries = entries i }
+    λ i. record { sectors = device i; entries = entries i; initial = held i }

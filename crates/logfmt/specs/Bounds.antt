@@ -4,10 +4,12 @@ use Rattle.std.specs.List.{slice_index}
 use Rattle.std.specs.Option.{option_map_or}
 use Rattle.logfmt.specs.declared.entry.Entry.{Entry}
 
--- a log: the number of sectors of its device, and its entries in order
+-- a log: the number of sectors of its device, its entries in order, and what the device held before entry 0: its first bytes,
+-- with zeros behind them
 pub record LogValue : Type 0 where
   pub sectors : ℕ
   pub entries : List Entry
+  pub initial : List ℕ
 
 -- how many sectors of data follow the header of an entry: a discard has none
 abbrev pub data_of : Entry → ℕ
@@ -62,3 +64,5 @@ pub record IsLog (log : LogValue) : Type 0 where
   pub units : units_of log.entries ≤ 262144
   pub entries : AreEntries log.sectors log.entries
   pub size : 512 * place log.entries (length log.entries) ≤ 67108864
+  pub held : length log.initial ≤ 512 * log.sectors
+  pub initial : AreBytes log.initial

@@ -20,4 +20,4 @@ is_place places number = list_any (λ (place : ℕ). place == number) places
 
 -- the log with a flush right before each of these entries
 abbrev pub flushed : List ℕ → LogValue → LogValue
-flushed places log = record { sectors = log.sectors; entries = flushed_at (is_place places) log.entries }
+flushed places log = record { sectors = log.sectors; entries = flushed_at (is_place places) log.entries; initial = log.initial }

@@ -5,18 +5,19 @@ use Rattle.logfmt.specs.Bounds.{LogValue, IsLog, AreRecorded}
 use Rattle.logfmt.specs.LogText.{LogText, canonical_text}
 use Rattle.logfmt.specs.Faults.{FirstFault}
 
--- a text is the text of at most one log for a device
+-- a text is the text of at most one log for a device with what it held before
 abbrev pub TextOfOneLog : Type 0
-TextOfOneLog = (bytes : List ℕ) (a b : LogValue) → LogText bytes a → LogText bytes b → a.sectors ≡ b.sectors → a ≡ b
+TextOfOneLog = (bytes : List ℕ) (a b : LogValue) → LogText bytes a → LogText bytes b → a.sectors ≡ b.sectors → a.initial ≡ b.initial → a ≡ b
 
 -- the canonical text of a log as it is recorded is a text of it
 abbrev pub CanonicalIsText : Type 0
 CanonicalIsText = (log : LogValue) → IsLog log → AreRecorded log.entries → LogText (canonical_text log.entries) log
 
--- a log that is read from the canonical text of such a log, for the same device, is that log
+-- a log that is read from the canonical text of such a log, for the same device with the same initial content, is that log
 abbrev pub CanonicalReadsBack : Type 0
 CanonicalReadsBack =
-    (log read : LogValue) → IsLog log → AreRecorded log.entries → LogText (canonical_text log.entries) read → read.sectors ≡ log.sectors → read ≡ log
+    (log read : LogValue) → IsLog log → AreRecorded log.entries → LogText (canonical_text log.entries) read → read.sectors ≡ log.sectors
+    → read.initial ≡ log.initial → read ≡ log
 
 -- no check fails at a text of a log
 abbrev pub TextHasNoFault : Type 0

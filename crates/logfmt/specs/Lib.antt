@@ -5,4 +5,5 @@ pub mod LogText
 pub mod Faults
 pub mod Header
 pub mod Flushed
+pub mod Initial
 pub mod Laws

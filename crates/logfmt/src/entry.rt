@@ -1,9 +1,11 @@
 //! A log as a value: its device, and its entries in order.
 
-ghost use Rattle.std.specs.Prelude.{◌≡◌};
+ghost use Rattle.std.specs.Prelude.{◌≡◌, ◌*◌, ◌≤◌, length};
 ghost use Rattle.logfmt.specs.Bounds.{IsLog};
+ghost use Rattle.logfmt.specs.Initial.{over};
 
 use crate::flags::Flags;
+use crate::initial::InitialContent;
 use base::bytes::Bytes;
 use std::marker::Model;
 
@@ -28,11 +30,12 @@ pub struct Entry {
     pub content: Bytes,
 }
 
-/// A log within the limits. Only `read` makes one.
+/// A log within the limits. Only `read` makes one, of a device that held zeros; `over` says what it held instead.
 #[derive(Drop)]
 pub struct Log {
     sectors: u32,
     entries: Vec<Entry>,
+    initial: InitialContent,
 }
 
 impl Model for Log {
@@ -40,26 +43,43 @@ impl Model for Log {
 
     ghost Value = { LogValue };
 
-    ghost view = { λ l. record { sectors = l.sectors; entries = l.entries.items } };
+    ghost view = { λ l. record { sectors = l.sectors; entries = l.entries.items; initial = l.initial } };
 
-    ghost invariant = { λ l. IsLog (record { sectors = l.sectors; entries = l.entries.items }) };
+    ghost invariant = { λ l. IsLog (record { sectors = l.sectors; entries = l.entries.items; initial = l.initial }) };
 }
 
 impl Log {
-    /// The log of these entries.
-    pub(crate) fn of(sectors: u32, entries: Vec<Entry>) -> Log
-        requires { IsLog (record { sectors = sectors; entries = entries.items }) }
-        ensures { result ≡ record { sectors = sectors; entries = entries.items } }
+    /// The log of these entries, over this initial content.
+    pub(crate) fn of(sectors: u32, entries: Vec<Entry>, initial: InitialContent) -> Log
+        requires { IsLog (record { sectors = sectors; entries = entries.items; initial = initial }) }
+        ensures { result ≡ record { sectors = sectors; entries = entries.items; initial = initial } }
     {
-        Log { sectors, entries }
+        Log {
+            sectors,
+            entries,
+            initial,
+        }
     }
 
-    /// Its entries, taken out of it.
-    pub(crate) fn into_entries(self) -> Vec<Entry>
-        ensures value { result.items ≡ self.entries }
+    /// Its entries and its initial content, taken out of it.
+    pub(crate) fn into_parts(self) -> (Vec<Entry>, InitialContent)
+        ensures entries { result.0.items ≡ self.entries }
+        ensures initial { result.1 ≡ self.initial }
         ensures bounds { IsLog self }
     {
-        self.entries
+        (self.entries, self.initial)
+    }
+
+    /// The log over what its device held before entry 0 (docs/CRASH-MODEL.md, Terms), in place of what it had. It takes no
+    /// memory.
+    pub fn over(self, initial: InitialContent) -> Log
+        requires { length initial ≤ 512 * self.sectors }
+        ensures { result ≡ over initial self }
+    {
+        let sectors = self.sectors();
+        let (entries, _old) = self.into_parts();
+        let _count = initial.len();
+        Log::of(sectors, entries, initial)
     }
 
     /// The number of sectors of the device.
@@ -76,5 +96,14 @@ impl Log {
         ensures bounds { IsLog self.now }
     {
         self.entries.as_slice()
+    }
+
+    /// What the device held before entry 0.
+    #[inline]
+    pub fn initial(&self) -> &InitialContent
+        ensures value { result.now ≡ self.now.initial }
+        ensures bounds { IsLog self.now }
+    {
+        &self.initial
     }
 }

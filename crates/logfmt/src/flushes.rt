@@ -14,11 +14,11 @@ impl Log {
         ensures { result ≡ flushed places.now self }
     {
         let sectors = self.sectors();
-        let mut entries = self.into_entries();
+        let (mut entries, initial) = self.into_parts();
         for place in places {
             put_flush(&mut entries, *place as usize);
         }
-        Log::of(sectors, entries)
+        Log::of(sectors, entries, initial)
     }
 }
 

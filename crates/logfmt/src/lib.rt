@@ -9,17 +9,26 @@
 //! | `read(alloc, bytes, sectors)` | the log that the bytes are, for a device of so many sectors, or the first fault |
 //! | `write(alloc, log)` | the canonical text of a log |
 //!
+//! A log's bytes don't say what the device held before entry 0. That is its initial content, zeros where
+//! nothing is said of it:
+//!
+//! | Call | Answer |
+//! |---|---|
+//! | `InitialContent::of(alloc, bytes)` | these bytes from sector 0 on, and zeros behind them |
+//! | `log.over(initial)` | the log over that initial content |
+//! | `log.initial().sector(n)` | what a sector held, borrowed |
+//!
 //! A `Log` is a value that only `read` makes, so it keeps every bound of docs/LOG-FORMAT.md: each
 //! entry lies on the device, each content has its length, a mark has nothing but its text, and the
 //! counts of bytes, entries and units are within the limits. `Log::sectors` and `Log::entries` give
 //! it to the layers above, each `Entry` with its place on the device, its `Flags`, the text of a
-//! mark and its data.
+//! mark and its data. Its initial content is no longer than the device.
 //!
 //! # Place
 //!
 //! The second layer, on `base`, whose numbers in bytes and whose `LogCause` it takes. `epochs` makes
-//! units and cuts of a log's entries, and `images` takes their contents. What the entries do to a
-//! device is not known here (docs/CRASH-MODEL.md).
+//! units and cuts of a log's entries, and `images` takes their contents and the initial content. What the
+//! entries do to a device is not known here (docs/CRASH-MODEL.md).
 //!
 //! # What is proved
 //!
@@ -32,7 +41,7 @@
 //!   it is `Ok`, no check fails.
 //! - `write` gives `canonical_text`: zeros in all unused places, nothing behind the last entry.
 //! - Five laws stand above these (`specs/Laws.antt`): a text is the log text of at most one log for a
-//!   device (`text_of_one_log`), the canonical text of a log is a log text of it
+//!   device and its initial content (`text_of_one_log`), the canonical text of a log is a log text of it
 //!   (`canonical_is_text`), so what is written reads back (`canonical_reads_back`), no log text has a
 //!   fault (`text_has_no_fault`), so `read` refuses nothing that is a log text but for want of memory,
 //!   and bytes have at most one first fault for a device (`one_fault`).
@@ -64,6 +73,7 @@ mod fault;
 mod flags;
 mod flushes;
 mod header;
+mod initial;
 mod laws;
 mod reader;
 mod writer;
@@ -71,6 +81,7 @@ mod writer;
 pub use entry::{Entry, Log, SECTOR};
 pub use fault::LogFault;
 pub use flags::Flags;
+pub use initial::InitialContent;
 pub use laws::{
     canonical_is_text, canonical_reads_back, one_fault, text_has_no_fault, text_of_one_log,
 };

@@ -1,6 +1,6 @@
 //! From bytes to a log: one pass, in which each check is made once and in its order.
 
-ghost use Rattle.std.specs.Prelude.{true, false, ◌≡◌, ◌≤◌, ◌<◌, ◌+◌, ◌*◌, ◌⊎◌, length, IfOk, IfErr, IfNone, OnOk, if◌then◌else◌};
+ghost use Rattle.std.specs.Prelude.{true, false, ◌≡◌, ◌≤◌, ◌<◌, ◌+◌, ◌*◌, ◌⊎◌, [], length, IfOk, IfErr, IfNone, OnOk, if◌then◌else◌};
 ghost use Rattle.base.specs.Check.{first_failing};
 ghost use Rattle.base.specs.Numbers.{number_at};
 ghost use Rattle.base.specs.declared.causes.LogCause.TheVariants as cause;
@@ -13,6 +13,7 @@ ghost use Rattle.logfmt.specs.Header.{HeaderStands, HeaderFits};
 use crate::entry::{Entry, Log, SECTOR};
 use crate::fault::LogFault;
 use crate::header::{Header, checked_header};
+use crate::initial::InitialContent;
 use crate::{MAGIC, VERSION};
 use base::bytes::Bytes;
 use base::causes::LogCause;
@@ -97,7 +98,7 @@ fn entry_of(
     })
 }
 
-/// Reads a log for a device of `sectors` sectors of 512 bytes (docs/LOG-FORMAT.md).
+/// Reads a log for a device of `sectors` sectors of 512 bytes (docs/LOG-FORMAT.md), which held zeros before entry 0.
 ///
 /// # Errors
 ///
@@ -108,6 +109,7 @@ pub fn read(alloc: Global, bytes: &[u8], sectors: u32) -> Result<Log, LogFault>
     requires device { sectors ≤ 16384 }
     ensures found { IfOk result (LogText bytes.now) }
     ensures sectors { IfOk result (λ log. log.sectors ≡ sectors) }
+    ensures initial { IfOk result (λ log. log.initial ≡ []) }
     ensures clean { OnOk result (HasNoFault bytes.now sectors) }
     ensures fault { IfErr result (λ f. (f ≡ record { code = cause.Memory; at = 0 }) ⊎ FirstFault bytes.now sectors f.code f.at) }
 {
@@ -127,5 +129,5 @@ pub fn read(alloc: Global, bytes: &[u8], sectors: u32) -> Result<Log, LogFault>
         at += 1 + header.data_sectors() as usize;
         units += header.count;
     }
-    Ok(Log::of(sectors, entries))
+    Ok(Log::of(sectors, entries, InitialContent::none(alloc)))
 }

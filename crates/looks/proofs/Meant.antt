@@ -14,7 +14,7 @@ use Rattle.request.specs.declared.settings.Settings.{Settings}
 use Rattle.request.specs.declared.command.Which.{Which}
 use Rattle.request.specs.declared.command.Which.TheVariants as which
 use Rattle.request.specs.Settings.{option_refusal}
-use Rattle.request.specs.Source.{plan_of, HasImages}
+use Rattle.request.specs.Source.{Recording, plan_of, HasImages}
 use Rattle.looks.specs.Which.{IsPrinted, IsMeant, IsOnly, NoneIs, which_place}
 use Rattle.looks.specs.Image.{joined, IsImage, RefusesImage, for_number, for_memory}
 use Rattle.looks.specs.Show.{whole_view, IsShown}
@@ -41,7 +41,7 @@ meant_member plan bound tears (which.Printed cut None) c is = absurd is
 meant_member plan bound tears (which.Printed cut (Some text)) c is = record { bound = bound; tears = tears; number = is.number; there = is.there }
 
 -- why no image is shown where none is meant
-pub choice_refused : (text : List ℕ) (s : Settings) (value : LogValue) (plan : PlanValue) (w : Which) (r : Refusal) → HasImages text s value → plan ≡ plan_of s value
+pub choice_refused : (text : Recording) (s : Settings) (value : LogValue) (plan : PlanValue) (w : Which) (r : Refusal) → HasImages text s value → plan ≡ plan_of s value
     → (r ≡ memory_refusal) ⊎ ((r ≡ option_refusal (which_place w)) × NoneIs (IsMeant plan s.bound s.tears w)) → RefusesImage text s w r
 choice_refused text s value plan w r has same why =
     elim why [
@@ -50,7 +50,7 @@ choice_refused text s value plan w r has same why =
     ]
 
 -- what is answered where one is
-pub image_is : (text : List ℕ) (s : Settings) (value : LogValue) (plan : PlanValue) (w : Which) (c : ChoiceValue) (bytes : List ℕ) → HasImages text s value → plan ≡ plan_of s value
+pub image_is : (text : Recording) (s : Settings) (value : LogValue) (plan : PlanValue) (w : Which) (c : ChoiceValue) (bytes : List ℕ) → HasImages text s value → plan ≡ plan_of s value
     → IsOnly (IsMeant plan s.bound s.tears w) c → bytes ≡ joined (sectors_of (view_of plan c)) → IsImage text s w bytes
 image_is text s value plan w c bytes has same meant shown = record {
   value = value;
@@ -60,7 +60,7 @@ image_is text s value plan w c bytes has same meant shown = record {
   shown = shown ∙ ap (λ (p : PlanValue). joined (sectors_of (view_of p c))) same;
 }
 
-pub shown_is : (text : List ℕ) (s : Settings) (value : LogValue) (plan : PlanValue) (w : Which) (c : ChoiceValue) (bytes : List ℕ) → HasImages text s value → plan ≡ plan_of s value
+pub shown_is : (text : Recording) (s : Settings) (value : LogValue) (plan : PlanValue) (w : Which) (c : ChoiceValue) (bytes : List ℕ) → HasImages text s value → plan ≡ plan_of s value
     → IsOnly (IsMeant plan s.bound s.tears w) c
     → bytes ≡ shown_text plan s.bound s.tears c (sectors_of (whole_view plan.log c.cut)) (sectors_of (view_of plan c)) → IsShown text s w bytes
 shown_is text s value plan w c bytes has same meant shown = record {

@@ -2,6 +2,9 @@
 use Rattle.std.proofs.Common.{ℕ, ◌≡◌, ◌⊎◌, inl, inr, List, Option, subst}
 use Rattle.std.specs.Str.{IsUtf8}
 use Rattle.base.specs.declared.refusal.Refusal.{Refusal}
+use Rattle.base.specs.declared.causes.LogCause.TheVariants as log
+use Rattle.logfmt.specs.declared.fault.LogFault.{LogFault}
+use Rattle.raw_log.specs.Faults.{FirstRawFault}
 use Rattle.bpf_isa.specs.declared.program.CodeFault.{CodeFault}
 use Rattle.bpf_isa.specs.Decoding as code
 use Rattle.bpf_asm.specs.declared.fault.AsmFault.{AsmFault}
@@ -12,8 +15,15 @@ use Rattle.bpf_shape.specs.declared.fault.Fault.{Fault}
 use Rattle.bpf_shape.specs.Fault as shape
 use Rattle.verifier.specs.Verdicts.{Refused}
 use Rattle.request.specs.Refusals.{bytes_refusal}
+use Rattle.request.specs.Source.{log_refusal}
+use Rattle.looks.specs.Import.{most_sectors, RefusesImport, with_raw_fault, no_raw_memory}
 use Rattle.looks.specs.Verifying as verifying
 use Rattle.looks.specs.Assembly.{text_refusal, RefusesText, says_none, no_text_memory, RefusesBytes, with_bytes_fault, no_program_memory}
+
+pub import_refused : (raw : List ℕ) (f : LogFault) → (f ≡ record { code = log.Memory; at = 0 }) ⊎ FirstRawFault raw most_sectors f.code f.at
+    → RefusesImport raw (log_refusal f.code f.at)
+import_refused raw f (inl e) = rw e no_raw_memory
+import_refused raw f (inr h) = with_raw_fault f.code f.at h
 
 pub bytes_refused : (bytes : List ℕ) (f : CodeFault) → (f ≡ code.memory_fault) ⊎ FirstFault bytes f.code f.slot → RefusesBytes bytes (bytes_refusal f.code f.slot)
 bytes_refused bytes f (inl e) = rw e no_program_memory

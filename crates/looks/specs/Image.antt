@@ -10,14 +10,14 @@ use Rattle.request.specs.declared.command.Which.{Which}
 use Rattle.request.specs.declared.settings.Settings.{Settings}
 use Rattle.request.specs.Settings.{option_refusal}
 use Rattle.looks.specs.Which.{IsMeant, IsOnly, NoneIs, which_place}
-use Rattle.request.specs.Source.{plan_of, images_of, HasImages, RefusesSource}
+use Rattle.request.specs.Source.{Recording, plan_of, images_of, HasImages, RefusesSource}
 
 -- sectors one after the other
 abbrev pub joined : List (List ℕ) → List ℕ
 joined sectors = flat_map (λ (sector : List ℕ). sector) sectors
 
 -- the bytes are those of the image that is meant
-pub record IsImage (text : List ℕ) (s : Settings) (which : Which) (bytes : List ℕ) : Type 0 where
+pub record IsImage (text : Recording) (s : Settings) (which : Which) (bytes : List ℕ) : Type 0 where
   pub value : LogValue
   pub source : HasImages text s value
   pub choice : ChoiceValue
@@ -25,7 +25,7 @@ pub record IsImage (text : List ℕ) (s : Settings) (which : Which) (bytes : Lis
   pub shown : bytes ≡ joined (sectors_of (view_of (plan_of s value) choice))
 
 -- the refusals in their order: the log, the number of its images, then an image that there isn't
-pub data RefusesImage (text : List ℕ) (s : Settings) (which : Which) : Refusal → Type 0 where
+pub data RefusesImage (text : Recording) (s : Settings) (which : Which) : Refusal → Type 0 where
   for_source : (r : Refusal) → RefusesSource text s r → RefusesImage text s which r
   for_number : (value : LogValue) → HasImages text s value → NoneIs (IsMeant (plan_of s value) s.bound s.tears which) → RefusesImage text s which (option_refusal (which_place which))
   for_memory : (value : LogValue) → HasImages text s value → RefusesImage text s which memory_refusal

@@ -4,5 +4,6 @@ pub mod Image
 pub mod Show
 pub mod Survey
 pub mod Table
+pub mod Import
 pub mod Assembly
 pub mod Verifying

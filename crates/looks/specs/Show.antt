@@ -6,7 +6,7 @@ use Rattle.images.specs.Views.{ViewValue, view_of, sectors_of}
 use Rattle.crash_text.specs.Shown.{shown_text}
 use Rattle.request.specs.declared.settings.Settings.{Settings}
 use Rattle.request.specs.declared.command.Which.{Which}
-use Rattle.request.specs.Source.{plan_of, HasImages}
+use Rattle.request.specs.Source.{Recording, plan_of, HasImages}
 use Rattle.looks.specs.Which.{IsMeant, IsOnly}
 
 -- the image of a cut where nothing departs
@@ -14,7 +14,7 @@ abbrev pub whole_view : LogValue → ℕ → ViewValue
 whole_view log cut = record { log = log; cut = cut; departures = [] }
 
 -- the text is that of the image that is meant, beside the image of its cut where nothing departs
-pub record IsShown (text : List ℕ) (s : Settings) (which : Which) (bytes : List ℕ) : Type 0 where
+pub record IsShown (text : Recording) (s : Settings) (which : Which) (bytes : List ℕ) : Type 0 where
   pub value : LogValue
   pub source : HasImages text s value
   pub choice : ChoiceValue

@@ -11,7 +11,7 @@ use Rattle.epochs.specs.Cuts.{cuts_of}
 use Rattle.epochs.specs.Plan.{PlanValue}
 use Rattle.choices.specs.Choices.{ranked, ranked_at}
 use Rattle.request.specs.declared.settings.Settings.{Settings}
-use Rattle.request.specs.Source.{plan_of, HasImages, RefusesSource}
+use Rattle.request.specs.Source.{Recording, plan_of, HasImages, RefusesSource}
 
 -- the line of a cut, in two parts: where it stands, and what it leaves open
 unfoldable pub cut_text : PlanValue → ℕ → List ℕ
@@ -30,12 +30,12 @@ unfoldable pub survey_text : PlanValue → ℕ → Bool → List ℕ
 survey_text plan bound tears =
     flat_map (cut_line plan bound tears) (cuts_of plan.kind plan.log.entries) ++ codes "total " ++ decimal (length (ranked plan bound tears)) ++ codes "\n"
 
-pub record IsSurvey (text : List ℕ) (s : Settings) (bytes : List ℕ) : Type 0 where
+pub record IsSurvey (text : Recording) (s : Settings) (bytes : List ℕ) : Type 0 where
   pub value : LogValue
   pub source : HasImages text s value
   pub told : bytes ≡ survey_text (plan_of s value) s.bound s.tears
 
 -- the refusals in their order: the log, then the number of its images
-pub data RefusesSurvey (text : List ℕ) (s : Settings) : Refusal → Type 0 where
+pub data RefusesSurvey (text : Recording) (s : Settings) : Refusal → Type 0 where
   for_source : (r : Refusal) → RefusesSource text s r → RefusesSurvey text s r
   for_memory : (value : LogValue) → HasImages text s value → RefusesSurvey text s memory_refusal

@@ -61,11 +61,17 @@ fn shown<'x>(
 ///
 /// The first refusal in the order of docs/REPORT.md: the log, the number of its images, then a number that no
 /// image has, 13 at 9, or a cut and a choice that none has, 13 at 11; or want of memory.
-pub fn image(alloc: Global, log: &[u8], which: Which, options: &Options) -> Result<Vec<u8>, Refusal>
-    ensures shown { IfOk result (λ bytes. IsImage log.now options.now which bytes.items) }
-    ensures refused { IfErr result (RefusesImage log.now options.now which) }
+pub fn image(
+    alloc: Global,
+    log: &[u8],
+    initial: &[u8],
+    which: Which,
+    options: &Options,
+) -> Result<Vec<u8>, Refusal>
+    ensures shown { IfOk result (λ bytes. IsImage (record { text = log.now; initial = initial.now }) options.now which bytes.items) }
+    ensures refused { IfErr result (RefusesImage (record { text = log.now; initial = initial.now }) options.now which) }
 {
-    let log = read_log(alloc, log, options)?;
+    let log = read_log(alloc, log, initial, options)?;
     let (plan, images) = planned(alloc, &log, options)?;
     let choice = choice_meant(alloc, &plan, images, options, which)?;
     match shown(alloc, &log, &plan, &choice) {

@@ -88,11 +88,16 @@ fn text_of(
 ///
 /// The first refusal in the order of docs/REPORT.md: the log, then the number of its images; or want of
 /// memory.
-pub fn survey(alloc: Global, log: &[u8], options: &Options) -> Result<Vec<u8>, Refusal>
-    ensures told { IfOk result (λ bytes. IsSurvey log.now options.now bytes.items) }
-    ensures refused { IfErr result (RefusesSurvey log.now options.now) }
+pub fn survey(
+    alloc: Global,
+    log: &[u8],
+    initial: &[u8],
+    options: &Options,
+) -> Result<Vec<u8>, Refusal>
+    ensures told { IfOk result (λ bytes. IsSurvey (record { text = log.now; initial = initial.now }) options.now bytes.items) }
+    ensures refused { IfErr result (RefusesSurvey (record { text = log.now; initial = initial.now }) options.now) }
 {
-    let log = read_log(alloc, log, options)?;
+    let log = read_log(alloc, log, initial, options)?;
     let (plan, images) = planned(alloc, &log, options)?;
     match text_of(alloc, &plan, options.bound(), options.tears(), images) {
         Ok(bytes) => Ok(bytes),

@@ -3,7 +3,8 @@
 //! # Place
 //!
 //! Below `commands`, which performs these commands. `request` reads the log and counts its images, `choices` and `images` find
-//! and form an image, `choice_text` reads a choice, `crash_text` puts an image into words, `notes` has tables and listings,
+//! and form an image, `choice_text` reads a choice, `crash_text` puts an image into words, `notes` has tables and listings, `raw_log`
+//! imports,
 //! `bpf_isa`, `bpf_asm` and `verifier` decode, assemble, list and verify a program.
 //!
 //! | Call | Command | Answers |
@@ -12,7 +13,8 @@
 //! | `image(alloc, log, which, options)` | `image` | the bytes of one crash image |
 //! | `show(alloc, log, which, options)` | `show` | one crash image in words |
 //! | `shown_log(alloc, log, options)` | `log` | the log as a table |
-//! | `verified(alloc, code, options)` | `verify` | the budget with which a program is accepted |
+//! | `imported(alloc, raw)` | `import` | the log that is imported of a raw log |
+//! | `verified(alloc, code, options, known)` | `verify` | the budget with which a program is accepted; what else is known of it goes into `known` |
 //! | `assembled(alloc, source)` | `asm` | the program of a source text, as bytes |
 //! | `listed(alloc, code, numbered)` | `list` | the listing of a program, with its slots or without |
 //!
@@ -25,7 +27,7 @@
 //! the image of the same cut where nothing departs (`specs/Show.antt`). What the report prints of a choice, by which an image
 //! may be named, is what `show` prints of it, and no choice's text has more than 96 bytes (`report_prints_choices`,
 //! `choices_are_short`). `survey` answers the text of `specs/Survey.antt`, and `shown_log` the table of the log
-//! (`specs/Table.antt`).
+//! (`specs/Table.antt`). `imported` answers the text of `raw_log` for the largest device (`specs/Import.antt`).
 //!
 //! What `verified` answers is the budget of an accepted program (`specs/Verifying.antt`). What `assembled` answers spells the
 //! program that the source text says, and what `listed` answers is the listing of the program that the bytes spell
@@ -48,6 +50,7 @@
 mod asm_command;
 mod image_command;
 mod images_command;
+mod import_command;
 mod laws;
 mod list_command;
 mod log_command;
@@ -58,6 +61,7 @@ mod which;
 pub use asm_command::assembled;
 pub use image_command::image;
 pub use images_command::survey;
+pub use import_command::imported;
 pub use laws::{choices_are_short, report_prints_choices};
 pub use list_command::listed;
 pub use log_command::shown_log;

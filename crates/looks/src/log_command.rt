@@ -14,11 +14,16 @@ use std::alloc::Global;
 /// # Errors
 ///
 /// The first fault of the log; or want of memory.
-pub fn shown_log(alloc: Global, bytes: &[u8], options: &Options) -> Result<Vec<u8>, Refusal>
-    ensures shown { IfOk result (λ text. IsTable bytes.now options.now text.items) }
-    ensures refused { IfErr result (RefusesTable bytes.now options.now) }
+pub fn shown_log(
+    alloc: Global,
+    bytes: &[u8],
+    initial: &[u8],
+    options: &Options,
+) -> Result<Vec<u8>, Refusal>
+    ensures shown { IfOk result (λ text. IsTable (record { text = bytes.now; initial = initial.now }) options.now text.items) }
+    ensures refused { IfErr result (RefusesTable (record { text = bytes.now; initial = initial.now }) options.now) }
 {
-    let log = read_log(alloc, bytes, options)?;
+    let log = read_log(alloc, bytes, initial, options)?;
     match log_table(alloc, &log) {
         Ok(text) => Ok(text.into_bytes()),
         Err(_error) => Err(Refusal::of_memory()),

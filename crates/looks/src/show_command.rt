@@ -73,11 +73,17 @@ fn text_of<'x>(
 /// # Errors
 ///
 /// As of `image`.
-pub fn show(alloc: Global, log: &[u8], which: Which, options: &Options) -> Result<Vec<u8>, Refusal>
-    ensures shown { IfOk result (λ bytes. IsShown log.now options.now which bytes.items) }
-    ensures refused { IfErr result (RefusesImage log.now options.now which) }
+pub fn show(
+    alloc: Global,
+    log: &[u8],
+    initial: &[u8],
+    which: Which,
+    options: &Options,
+) -> Result<Vec<u8>, Refusal>
+    ensures shown { IfOk result (λ bytes. IsShown (record { text = log.now; initial = initial.now }) options.now which bytes.items) }
+    ensures refused { IfErr result (RefusesImage (record { text = log.now; initial = initial.now }) options.now which) }
 {
-    let log = read_log(alloc, log, options)?;
+    let log = read_log(alloc, log, initial, options)?;
     let (plan, images) = planned(alloc, &log, options)?;
     let choice = choice_meant(alloc, &plan, images, options, which)?;
     match text_of(alloc, &log, &plan, options, &choice) {

@@ -8,7 +8,7 @@ use bpf_isa::codec::decode;
 use bpf_shape::Fault;
 use request::{Options, bytes_refusal_of};
 use std::alloc::{AllocError, Global};
-use verifier::verify;
+use verifier::{Known, verify_known};
 
 /// The refusal of a program that the verifier does not accept.
 fn unaccepted_refusal_of(fault: Fault) -> Refusal
@@ -37,8 +37,13 @@ fn accepted_line(alloc: Global, budget: u64) -> Result<String, AllocError>
 /// # Errors
 ///
 /// The first fault of the bytes, then why the verifier refuses the program, each at its slot; or want of
-/// memory.
-pub fn verified(alloc: Global, bytes: &[u8], options: &Options) -> Result<Vec<u8>, Refusal>
+/// memory. What the verifier knows beside that is put into `known`.
+pub fn verified(
+    alloc: Global,
+    bytes: &[u8],
+    options: &Options,
+    known: &mut Known,
+) -> Result<Vec<u8>, Refusal>
     ensures accepted { IfOk result (λ text. IsAcceptedText bytes.now options.now.sectors text.items) }
     ensures refused { IfErr result (RefusesVerified bytes.now options.now.sectors) }
 {
@@ -46,10 +51,14 @@ pub fn verified(alloc: Global, bytes: &[u8], options: &Options) -> Result<Vec<u8
         Ok(program) => program,
         Err(fault) => return Err(bytes_refusal_of(fault)),
     };
-    let verified = match verify(alloc, &program, options.sectors()) {
+    let verified = match verify_known(alloc, &program, options.sectors()) {
         Ok(verified) => verified,
-        Err(fault) => return Err(unaccepted_refusal_of(fault)),
+        Err(unaccepted) => {
+            known.refuse(&unaccepted);
+            return Err(unaccepted_refusal_of(unaccepted.fault));
+        }
     };
+    known.accept(0, &verified);
     match accepted_line(alloc, verified.budget()) {
         Ok(text) => Ok(text.into_bytes()),
         Err(_error) => Err(Refusal::of_memory()),

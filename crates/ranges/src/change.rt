@@ -52,6 +52,7 @@ pub enum Effect {
 }
 
 /// What stands at a place where another place, or the same, was changed.
+#[inline(always)]
 fn value_behind(n: usize, value: Value, k: usize, other: Value) -> Value
     ensures { kind_of result ≡ (if n == k then kind_of value else kind_of other) }
 {
@@ -59,6 +60,7 @@ fn value_behind(n: usize, value: Value, k: usize, other: Value) -> Value
 }
 
 /// What register k holds behind a call.
+#[inline(always)]
 fn answer_behind(answer: Value, k: usize, other: Value) -> Value
     ensures { kind_of result ≡ (if k == 0 then kind_of answer else if nat_le k 5 then Unset else kind_of other) }
 {
@@ -72,6 +74,7 @@ fn answer_behind(answer: Value, k: usize, other: Value) -> Value
 }
 
 /// The same of a group.
+#[inline(always)]
 fn group_behind(n: usize, group: Group, k: usize, other: Group) -> Group
     ensures { group_of result ≡ (if n == k then group_of group else group_of other) }
 {
@@ -87,6 +90,7 @@ impl Change {
     ghost use Rattle.ranges.specs.SeenStates.{group_of, state_of};
 
     /// What register k of a state holds behind the change.
+    #[inline(always)]
     pub fn value_at(&self, state: &State, k: usize) -> Value
         requires { k < 11 }
         ensures { kind_of result ≡ value (changed (state_of state.now) self.now) k }
@@ -102,6 +106,7 @@ impl Change {
     }
 
     /// Group k of a state's stack behind the change.
+    #[inline(always)]
     pub fn group_at(&self, state: &State, k: usize) -> Group
         requires { k < 64 }
         ensures { group_of result ≡ slice_index_or (changed (state_of state.now) self.now).groups k (Marked []) }

@@ -102,6 +102,7 @@ impl Group {
     }
 
     /// Whether it knows no more than the other: the join of both is itself.
+    #[inline(always)]
     #[tactic(auto, unfolding(crate::specs::Groups::join_group))]
     pub fn contains(self, other: Group) -> bool
         ensures { IsTrue result ↔ GroupContains (group_of self) (group_of other) }

@@ -67,6 +67,7 @@ impl Value {
     }
 
     /// Whether it holds all that the other does: the join of both is itself.
+    #[inline(always)]
     #[tactic(auto, unfolding(crate::specs::Kinds::join))]
     pub fn contains(self, other: Value) -> bool
         ensures { IsTrue result ↔ Contains (kind_of self) (kind_of other) }

@@ -22,18 +22,28 @@ pub record HeadValue : Type 0 where
   pub first : Bool
   pub programs : List ProgramHead
   pub images : ℕ
+  pub base : Option ℕ
 
--- the line of the options, in two parts
+-- the number of what the device held before entry 0, where that is given
+abbrev pub base_words : Option ℕ → List ℕ
+base_words None = []
+base_words (Some number) = codes " base " ++ decimal number
+
+-- the line of the options, in three parts
 unfoldable pub device_text : HeadValue → List ℕ
 device_text h =
     codes "sectors " ++ decimal h.sectors ++ codes " entries " ++ decimal h.entries ++ codes " cuts " ++ cuts_word h.cuts.kind
 
 unfoldable pub choices_text : HeadValue → List ℕ
 choices_text h =
-    codes " bound " ++ decimal h.bound ++ codes " tears " ++ yes_or_no h.tears ++ codes " first " ++ yes_or_no h.first ++ by_words h.by ++ cuts_words h.cuts ++ codes "\n"
+    codes " bound " ++ decimal h.bound ++ codes " tears " ++ yes_or_no h.tears ++ codes " first " ++ yes_or_no h.first
+
+unfoldable pub given_text : HeadValue → List ℕ
+given_text h =
+    by_words h.by ++ cuts_words h.cuts ++ base_words h.base ++ codes "\n"
 
 abbrev pub options_line : HeadValue → List ℕ
-options_line h = device_text h ++ choices_text h
+options_line h = device_text h ++ choices_text h ++ given_text h
 
 -- what the most steps of a run are called
 abbrev pub steps_word : Bool → List ℕ

@@ -34,6 +34,8 @@ pub struct Head {
     pub programs: Vec<ProgramHead>,
     /// The number of images.
     pub images: u64,
+    /// The number of what the device held before entry 0, where that is given.
+    pub base: Option<u64>,
 }
 
 impl Model for Head {
@@ -41,5 +43,5 @@ impl Model for Head {
 
     ghost Value = { HeadValue };
 
-    ghost view = { λ h. record { sectors = h.sectors; entries = h.entries; cuts = h.cuts; bound = h.bound; tears = h.tears; by = h.by; first = h.first; programs = h.programs.items; images = h.images } };
+    ghost view = { λ h. record { sectors = h.sectors; entries = h.entries; cuts = h.cuts; bound = h.bound; tears = h.tears; by = h.by; first = h.first; programs = h.programs.items; images = h.images; base = h.base } };
 }

@@ -6,7 +6,7 @@ ghost use Rattle.std.specs.List.Sorted.{IsNonDecreasing};
 ghost use Rattle.lines.specs.Line.{first_lines};
 ghost use Rattle.lines.specs.Text.{line_text};
 ghost use Rattle.report.specs.Text.{yes_or_no, cuts_word, by_words};
-ghost use Rattle.report.specs.Report.{device_text, choices_text, steps_word, program_line, program_lines, totals_line, image_text, first_line, last_line, shown_lines, options_text, head_text, report_bytes};
+ghost use Rattle.report.specs.Report.{device_text, choices_text, given_text, base_words, steps_word, program_line, program_lines, totals_line, image_text, first_line, last_line, shown_lines, options_text, head_text, report_bytes};
 
 use crate::head::{Head, ProgramHead};
 use choice_text::put_cuts_words;
@@ -60,18 +60,36 @@ fn put_device(out: &mut String, head: &Head) -> Result<(), AllocError>
     )
 }
 
-/// Appends the bound, the tears, whether the first failing image is asked for, what departs as one where it isn't a sector, the
-/// flushes that were added and the range of the cuts.
+/// Appends the number of what the device held before entry 0, where that is given.
+fn put_base(out: &mut String, base: Option<u64>) -> Result<(), AllocError>
+    ensures { OnOk result (string_bytes out.new ≡ string_bytes out.old ++ base_words base) }
+{
+    match base {
+        Some(number) => write!(out, " base {number}"),
+        None => Ok(()),
+    }
+}
+
+/// Appends the bound, the tears and whether the first failing image is asked for.
 #[tactic(auto, unfolding(crate::specs::Report::choices_text))]
 fn put_choices(out: &mut String, head: &Head) -> Result<(), AllocError>
     ensures { OnOk result (string_bytes out.new ≡ string_bytes out.old ++ choices_text head.now) }
 {
     let tears = yes_or_no_word(head.tears);
     let first = yes_or_no_word(head.first);
-    write!(out, " bound {} tears {tears} first {first}", head.bound)?;
+    write!(out, " bound {} tears {tears} first {first}", head.bound)
+}
+
+/// Appends what departs as one where it isn't a sector, the flushes that were added, the range of the cuts, and the number of what
+/// the device held before entry 0.
+#[tactic(auto, unfolding(crate::specs::Report::given_text))]
+fn put_given(out: &mut String, head: &Head) -> Result<(), AllocError>
+    ensures { OnOk result (string_bytes out.new ≡ string_bytes out.old ++ given_text head.now) }
+{
     let by = words_of_by(head.by);
     write!(out, "{by}")?;
     put_cuts_words(out, &head.cuts)?;
+    put_base(out, head.base)?;
     write!(out, "\n")
 }
 
@@ -172,6 +190,7 @@ pub fn put_options(out: &mut String, head: &Head) -> Result<(), AllocError>
 {
     put_device(out, head)?;
     put_choices(out, head)?;
+    put_given(out, head)?;
     put_programs(out, head.programs.as_slice())
 }
 

@@ -1,8 +1,9 @@
 -- What was read of a log, by the settings.
-use Rattle.std.proofs.Common.{ℕ, ◌≡◌, ◌≤◌, ◌⊎◌, inl, inr, ◌<◌, List, [], length, slice_get, Option, None, Some, sym, ap, ◌∙◌, subst, arith}
+use Rattle.std.proofs.Common.{ℕ, ◌≡◌, ◌≤◌, ◌*◌, ◌⊎◌, inl, inr, ◌<◌, List, [], length, slice_get, Option, None, Some, refl, sym, ap, ◌∙◌, subst, arith}
 use Rattle.base.specs.declared.causes.LogCause.TheVariants as log
 use Rattle.logfmt.specs.declared.fault.LogFault.{LogFault}
-use Rattle.logfmt.specs.Bounds.{LogValue, IsLog}
+use Rattle.logfmt.specs.Bounds.{LogValue, IsLog, AreBytes}
+use Rattle.logfmt.specs.Initial.{over}
 use Rattle.logfmt.proofs.Flushed.{log-flushed}
 use Rattle.logfmt.specs.Faults as log_fault
 use Rattle.logfmt.specs.LogText.{LogText}
@@ -14,15 +15,43 @@ use Rattle.epochs.specs.Flushes.{places_of}
 use Rattle.choices.specs.Choices.{limit}
 use Rattle.request.proofs.Lacking.{none_lacks, entries_there}
 use Rattle.request.specs.declared.settings.Settings.{Settings}
-use Rattle.request.specs.Source.{IsLogOf, HasImages, images_of, lacking, log_refusal, lacking_refusal, lacks, RefusesLog, with_fault, no_memory}
+use Rattle.request.specs.Source.{Recording, FitsDevice, IsRecorded, IsLogOf, HasImages, images_of, lacking, log_refusal, lacking_refusal, lacks, RefusesLog, with_fault, no_memory}
 
--- what `read` answers
-pub log_refused : (text : List ℕ) (s : Settings) (sectors : ℕ) (f : LogFault) → sectors ≡ s.sectors
-    → (f ≡ record { code = log.Memory; at = 0 }) ⊎ log_fault.FirstFault text sectors f.code f.at → RefusesLog text s (log_refusal f.code f.at)
-log_refused text s sectors f same (inl e) = rw e no_memory
-log_refused text s sectors f same (inr h) = with_fault f.code f.at (subst (λ n. log_fault.FirstFault text n f.code f.at) same h)
+-- a log over other initial content, which fits its device, has the same text
+pub text_over : (text : List ℕ) (log : LogValue) (initial : List ℕ) → LogText text log → length initial ≤ 512 * log.sectors → AreBytes initial
+    → LogText text (over initial log)
+text_over text log initial is fits are = record {
+  size = is.size;
+  super = is.super;
+  stands = is.stands;
+  bounds = record {
+    some = is.bounds.some;
+    device = is.bounds.device;
+    count = is.bounds.count;
+    units = is.bounds.units;
+    entries = is.bounds.entries;
+    size = is.bounds.size;
+    held = fits;
+    initial = are;
+  };
+  recorded = is.recorded;
+}
 
-pub has_images : (text : List ℕ) (s : Settings) (log : LogValue) (images : ℕ) → IsLogOf text s log → images ≡ length (images_of s log) → images ≤ limit → HasImages text s log
+pub recorded_over : (r : Recording) (s : Settings) (log : LogValue) → LogText r.text log → log.sectors ≡ s.sectors → FitsDevice r s → AreBytes r.initial
+    → IsRecorded r s (over r.initial log)
+recorded_over r s log is device fits are = record {
+  device = device;
+  of_log = text_over r.text log r.initial is (let fit = fits in omega (arith, fit, device)) are;
+  initial = refl;
+}
+
+-- what `recorded` answers
+pub log_refused : (r : Recording) (s : Settings) (f : LogFault) → FitsDevice r s
+    → (f ≡ record { code = log.Memory; at = 0 }) ⊎ log_fault.FirstFault r.text s.sectors f.code f.at → RefusesLog r s (log_refusal f.code f.at)
+log_refused r s f fits (inl e) = rw e no_memory
+log_refused r s f fits (inr h) = with_fault f.code f.at fits h
+
+pub has_images : (text : Recording) (s : Settings) (log : LogValue) (images : ℕ) → IsLogOf text s log → images ≡ length (images_of s log) → images ≤ limit → HasImages text s log
 has_images text s log images reads count few = record { reads = reads; few = omega (arith, count, few) }
 
 -- nothing that is named is lacking
@@ -38,26 +67,26 @@ there cuts log es places first same are is none =
     (entries_there cuts (length log.entries) (nothing cuts log es first same is none))
 
 -- an entry or a cut is lacking
-pub lacks_place : (text : List ℕ) (s : Settings) (cuts : Cuts) (log : LogValue) (es : List Entry) (first : Option ℕ) (place : ℕ) → cuts ≡ s.cuts → log.sectors ≡ s.sectors → LogText text log
+pub lacks_place : (text : Recording) (s : Settings) (cuts : Cuts) (log : LogValue) (es : List Entry) (first : Option ℕ) (place : ℕ) → cuts ≡ s.cuts → IsRecorded text s log
     → es ≡ log.entries → first ≡ slice_get (lacking cuts (length es)) 0 → first ≡ Some place → RefusesLog text s (lacking_refusal place)
-lacks_place text s cuts log es first place asked device of_log same is found =
+lacks_place text s cuts log es first place asked recorded same is found =
     let at : slice_get (lacking cuts (length log.entries)) 0 ≡ Some place = subst (λ (xs : List Entry). slice_get (lacking cuts (length xs)) 0 ≡ Some place) same (sym is ∙ found) in
-    lacks log place (record { device = device; of_log = of_log }) (subst (λ (c : Cuts). slice_get (lacking c (length log.entries)) 0 ≡ Some place) asked at)
+    lacks log place recorded (subst (λ (c : Cuts). slice_get (lacking c (length log.entries)) 0 ≡ Some place) asked at)
 
 -- the log that is asked for
-pub log_of : (text : List ℕ) (s : Settings) (cuts : Cuts) (log value : LogValue) (es : List Entry) (places : List ℕ) (first : Option ℕ) → cuts ≡ s.cuts → log.sectors ≡ s.sectors
-    → LogText text log → es ≡ log.entries → places ≡ places_of cuts.flushes → first ≡ slice_get (lacking cuts (length es)) 0 → first ≡ None → value ≡ flushed places log
+pub log_of : (text : Recording) (s : Settings) (cuts : Cuts) (log value : LogValue) (es : List Entry) (places : List ℕ) (first : Option ℕ) → cuts ≡ s.cuts
+    → IsRecorded text s log → es ≡ log.entries → places ≡ places_of cuts.flushes → first ≡ slice_get (lacking cuts (length es)) 0 → first ≡ None → value ≡ flushed places log
     → IsLogOf text s value
-log_of text s cuts log value es places first asked device of_log same are is none added = record {
+log_of text s cuts log value es places first asked recorded same are is none added = record {
   read = log;
-  recorded = record { device = device; of_log = of_log };
+  recorded = recorded;
   has = subst (λ (c : Cuts). lacking c (length log.entries) ≡ []) asked (nothing cuts log es first same is none);
   added = added ∙ ap (λ ps. flushed ps log) (are ∙ ap (λ (c : Cuts). places_of c.flushes) asked);
 }
 
 -- a log that is asked for is one for the device, within the bounds of a log
-pub device_of : (text : List ℕ) (s : Settings) (value : LogValue) → IsLogOf text s value → value.sectors ≡ s.sectors
+pub device_of : (text : Recording) (s : Settings) (value : LogValue) → IsLogOf text s value → value.sectors ≡ s.sectors
 device_of text s value is = ap (λ (v : LogValue). v.sectors) is.added ∙ is.recorded.device
 
-pub bounds_of : (text : List ℕ) (s : Settings) (value : LogValue) → IsLogOf text s value → IsLog value
+pub bounds_of : (text : Recording) (s : Settings) (value : LogValue) → IsLogOf text s value → IsLog value
 bounds_of text s value is = subst IsLog (sym is.added) (log-flushed (places_of s.cuts.flushes) is.read is.recorded.of_log.bounds)

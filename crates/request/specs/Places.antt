@@ -16,3 +16,4 @@ place_number place.By = 10
 place_number place.Choice = 11
 place_number place.Flush = 12
 place_number place.Range = 13
+place_number place.Base = 14

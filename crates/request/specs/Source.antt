@@ -1,5 +1,5 @@
 -- What a command reads of a log: the log itself, and the crash images that are asked for of it.
-use Rattle.std.specs.Prelude.{ℕ, ◌≡◌, ◌≤◌, ◌++◌, nat_le, nat_lt, if◌then◌else◌, List, [], ◌∷◌, length, filter, slice_get, Option, None, Some}
+use Rattle.std.specs.Prelude.{ℕ, ◌≡◌, ◌<◌, ◌≤◌, ◌*◌, ◌++◌, nat_le, nat_lt, if◌then◌else◌, List, [], ◌∷◌, length, filter, slice_get, Option, None, Some}
 use Rattle.base.specs.declared.causes.LogCause.{LogCause}
 use Rattle.base.specs.declared.causes.LogCause.TheVariants as log
 use Rattle.base.specs.declared.causes.RequestCause.TheVariants as request
@@ -15,11 +15,20 @@ use Rattle.epochs.specs.Flushes.{places_of}
 use Rattle.epochs.specs.Plan.{PlanValue}
 use Rattle.choices.specs.Choices.{ChoiceValue, ranked, limit, IsFirstPast}
 use Rattle.request.specs.declared.settings.Settings.{Settings}
+use Rattle.request.specs.declared.settings.OptionPlace.TheVariants as place
+use Rattle.request.specs.Settings.{option_refusal}
 
--- the text is that of this log, for the device of the settings
-pub record IsRecorded (text : List ℕ) (s : Settings) (value : LogValue) : Type 0 where
+-- a recording: the bytes of a log, and of what the device held before entry 0 (docs/CRASH-MODEL.md, Terms), none where nothing
+-- is said of it
+pub record Recording : Type 0 where
+  pub text : List ℕ
+  pub initial : List ℕ
+
+-- the bytes of the log are those of this log, for the device of the settings, over that initial content
+pub record IsRecorded (r : Recording) (s : Settings) (value : LogValue) : Type 0 where
   pub device : value.sectors ≡ s.sectors
-  pub of_log : LogText text value
+  pub of_log : LogText r.text value
+  pub initial : value.initial ≡ r.initial
 
 -- the first of two, where there is one, and else the second
 abbrev pub either : Option ℕ → Option ℕ → Option ℕ
@@ -36,11 +45,11 @@ cut_past n (Some cut) = if nat_lt n cut then cut ∷ [] else []
 unfoldable pub lacking : Cuts → ℕ → List ℕ
 lacking cuts n = filter (λ entry. nat_le n entry) (places_of cuts.flushes) ++ (cut_past n cuts.from ++ cut_past n cuts.to)
 
--- the log that is asked for of this text: the one that it records, which has each entry and cut that is named, with the flushes
+-- the log that is asked for of this recording: the one that it is, which has each entry and cut that is named, with the flushes
 -- that are added
-pub record IsLogOf (text : List ℕ) (s : Settings) (value : LogValue) : Type 0 where
+pub record IsLogOf (r : Recording) (s : Settings) (value : LogValue) : Type 0 where
   pub read : LogValue
-  pub recorded : IsRecorded text s read
+  pub recorded : IsRecorded r s read
   pub has : lacking s.cuts (length read.entries) ≡ []
   pub added : value ≡ flushed (places_of s.cuts.flushes) read
 
@@ -52,9 +61,9 @@ plan_of s value = record { log = value; kind = s.cuts; by = s.by }
 abbrev pub images_of : Settings → LogValue → List ChoiceValue
 images_of s value = ranked (plan_of s value) s.bound s.tears
 
--- it is the log that is asked for of the text, and it has no more images than a run may have
-pub record HasImages (text : List ℕ) (s : Settings) (value : LogValue) : Type 0 where
-  pub reads : IsLogOf text s value
+-- it is the log that is asked for of the recording, and it has no more images than a run may have
+pub record HasImages (r : Recording) (s : Settings) (value : LogValue) : Type 0 where
+  pub reads : IsLogOf r s value
   pub few : length (images_of s value) ≤ limit
 
 abbrev pub log_refusal : LogCause → ℕ → Refusal
@@ -66,12 +75,18 @@ images_refusal cut = record { code = Request request.TooManyImages; at = cut; pr
 abbrev pub lacking_refusal : ℕ → Refusal
 lacking_refusal place = record { code = Request request.NotInLog; at = place; program = None }
 
--- the refusals of a log: its first fault, or want of memory; or the first entry or cut that is named and that it doesn't have
-pub data RefusesLog (text : List ℕ) (s : Settings) : Refusal → Type 0 where
-  with_fault : (cause : LogCause) (at : ℕ) → log_fault.FirstFault text s.sectors cause at → RefusesLog text s (log_refusal cause at)
-  no_memory : RefusesLog text s (log_refusal log.Memory 0)
-  lacks : (read : LogValue) (place : ℕ) → IsRecorded text s read → slice_get (lacking s.cuts (length read.entries)) 0 ≡ Some place
-      → RefusesLog text s (lacking_refusal place)
+-- the initial content is no longer than the device of the settings
+abbrev pub FitsDevice : Recording → Settings → Type 0
+FitsDevice r s = length r.initial ≤ 512 * s.sectors
+
+-- the refusals of a recording: initial content that is longer than the device; the log's first fault, or want of memory; or the
+-- first entry or cut that is named and that the log doesn't have
+pub data RefusesLog (r : Recording) (s : Settings) : Refusal → Type 0 where
+  past_device : 512 * s.sectors < length r.initial → RefusesLog r s (option_refusal place.Base)
+  with_fault : (cause : LogCause) (at : ℕ) → FitsDevice r s → log_fault.FirstFault r.text s.sectors cause at → RefusesLog r s (log_refusal cause at)
+  no_memory : RefusesLog r s (log_refusal log.Memory 0)
+  lacks : (read : LogValue) (at : ℕ) → IsRecorded r s read → slice_get (lacking s.cuts (length read.entries)) 0 ≡ Some at
+      → RefusesLog r s (lacking_refusal at)
 
 -- the refusals of a plan: it has too many images, by the cut with which their number passes the limit; or
 -- want of memory
@@ -79,7 +94,7 @@ pub data RefusesPlan (s : Settings) (value : LogValue) : Refusal → Type 0 wher
   too_many : (cut : ℕ) → IsFirstPast (plan_of s value) s.bound s.tears cut → RefusesPlan s value (images_refusal cut)
   no_plan_memory : RefusesPlan s value memory_refusal
 
--- both in their order: the log, then the number of its images
-pub data RefusesSource (text : List ℕ) (s : Settings) : Refusal → Type 0 where
+-- both in their order: the recording, then the number of its images
+pub data RefusesSource (text : Recording) (s : Settings) : Refusal → Type 0 where
   for_log : (r : Refusal) → RefusesLog text s r → RefusesSource text s r
   for_plan : (r : Refusal) (value : LogValue) → IsLogOf text s value → RefusesPlan s value r → RefusesSource text s r

@@ -74,6 +74,8 @@ pub enum Request {
     Image(OptionWords, Which),
     /// `show LOG N`, or the same.
     Show(OptionWords, Which),
+    /// `import RAW`
+    Import,
     /// `verify PROGRAM`, of which the number of sectors counts.
     Verify(OptionWords),
     /// `asm SOURCE`

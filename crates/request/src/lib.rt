@@ -10,7 +10,7 @@
 //! |---|---|
 //! | `Options::new(settings)` | tests what a run is asked, option by option, and keeps it |
 //! | `options_of(words)` | the same, of options as the words of a command line have them |
-//! | `read_log(alloc, bytes, options)` | the log that bytes are, for a device of that size, with the flushes that are added |
+//! | `read_log(alloc, bytes, initial, options)` | the log that bytes are, for a device of that size, over what it held before, with the flushes that are added |
 //! | `planned(alloc, log, options)` | the plan of a log by the options, with how many crash images it has |
 //! | `option_refusal_of(place)`, `unreadable(place)`, `bytes_refusal_of(fault)` | the refusal of an option, of a file, and of a program's bytes |
 //! | `fault_line(alloc, refusal)` | the line that a refusal prints |
@@ -27,8 +27,9 @@
 //! entries (`specs/OptionWords.antt`).
 //!
 //! Where `read_log` answers a log, the bytes are a text of a log for that device that has all entries and cuts that are named, and
-//! the answer is that log with the flushes that are added (`IsLogOf`). Where it refuses them, it names their first fault, or the
-//! first entry or cut that the log doesn't have. `planned` answers the plan of the log with the kinds of cuts and parts that are asked for, and the number of
+//! the answer is that log over the initial content that is given, with the flushes that are added (`IsLogOf`). Where it refuses
+//! them, the initial content is longer than the device, or it names the first fault of the bytes, or the first entry or cut that
+//! the log doesn't have. `planned` answers the plan of the log with the kinds of cuts and parts that are asked for, and the number of
 //! its crash images, at most 16,777,216; it refuses a log that has more, by the first cut with which there are more
 //! (`specs/Source.antt`). Memory may run out in both. `fault_line` is `refused`, the number of the cause, its place and, if one
 //! is at fault, the program (`specs/FaultLine.antt`).
@@ -37,7 +38,7 @@
 //!
 //! ```text
 //! let options = Options::new(&Settings { sectors: 1, cuts: Cuts::ALL, bound: 0, .. })?;
-//! let log = read_log(alloc, bytes, &options)?;
+//! let log = read_log(alloc, bytes, &[], &options)?;
 //! let (plan, images) = planned(alloc, &log, &options)?;
 //! // a log without entries has one cut, and of it one image
 //! let refusal = Options::new(&Settings { sectors: 0, .. });
@@ -55,4 +56,4 @@ pub use command::{OptionWords, Request, Which, options_of};
 pub use options::{MOST_PROGRAMS, MOST_SECTORS, Options};
 pub use refusals::{bytes_refusal_of, fault_line, option_refusal_of, unreadable};
 pub use settings::{OptionPlace, Settings, Telling};
-pub use source::{planned, read_log};
+pub use source::{log_refusal_of, planned, read_log};

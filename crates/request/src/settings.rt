@@ -60,6 +60,8 @@ pub enum OptionPlace {
     Flush = 12,
     /// The first and the last of the cuts.
     Range = 13,
+    /// What the device held before entry 0.
+    Base = 14,
 }
 
 impl OptionPlace {

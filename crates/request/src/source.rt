@@ -1,20 +1,24 @@
 //! What every command reads of a log: the log itself, and the number of the crash images that are
 //! asked for of it.
 
-ghost use Rattle.std.specs.Prelude.{◌≡◌, ◌≤◌, length, filter, nat_le, slice_get, IfOk, IfErr};
+ghost use Rattle.std.specs.Prelude.{◌≡◌, ◌≤◌, ◌*◌, ◌⊎◌, length, filter, nat_le, slice_get, IfOk, IfErr};
+ghost use Rattle.base.specs.declared.causes.LogCause.TheVariants as cause;
+ghost use Rattle.logfmt.specs.Faults.{FirstFault};
 ghost use Rattle.choices.specs.Choices.{ranked, limit};
-ghost use Rattle.request.specs.Source.{log_refusal, images_refusal, lacking_refusal, cut_past, either, lacking, plan_of, images_of, IsLogOf, RefusesLog, RefusesPlan};
+ghost use Rattle.request.specs.Source.{log_refusal, images_refusal, lacking_refusal, cut_past, either, lacking, plan_of, images_of, IsRecorded, IsLogOf, RefusesLog, RefusesPlan};
 
 use crate::options::Options;
-use base::causes::RequestCause;
+use crate::refusals::option_refusal_of;
+use crate::settings::OptionPlace;
+use base::causes::{LogCause, RequestCause};
 use base::refusal::{Cause, Refusal};
 use choices::{TooMany, count};
 use epochs::{Cuts, Plan};
-use logfmt::{Log, LogFault, read};
+use logfmt::{InitialContent, Log, LogFault, SECTOR, read};
 use std::alloc::Global;
 
 /// The refusal that says a fault of the log.
-fn log_refusal_of(fault: LogFault) -> Refusal
+pub fn log_refusal_of(fault: LogFault) -> Refusal
     ensures { result ≡ log_refusal fault.code fault.at }
 {
     Refusal {
@@ -92,16 +96,45 @@ fn first_lacking(cuts: &Cuts, count: usize) -> Option<u64>
     either(entry, either(first, last))
 }
 
-/// The log of these bytes by the options: for a device of their size, with the flushes that are added.
+/// The log of these bytes, for a device of the options' size, over what it held before entry 0.
+fn recorded(alloc: Global, bytes: &[u8], initial: &[u8], options: &Options) -> Result<Log, LogFault>
+    requires { length initial.now ≤ 512 * options.now.sectors }
+    ensures log { IfOk result (IsRecorded (record { text = bytes.now; initial = initial.now }) options.now) }
+    ensures fault { IfErr result (λ f. (f ≡ record { code = cause.Memory; at = 0 }) ⊎ FirstFault bytes.now options.now.sectors f.code f.at) }
+{
+    let log = match read(alloc, bytes, options.sectors()) {
+        Ok(log) => log,
+        Err(fault) => return Err(fault),
+    };
+    match InitialContent::of(alloc, initial) {
+        Ok(content) => Ok(log.over(content)),
+        Err(_error) => Err(LogFault {
+            code: LogCause::Memory,
+            at: 0,
+        }),
+    }
+}
+
+/// The log of these bytes by the options: for a device of their size, over what it held before entry 0, zeros behind the bytes
+/// of `initial`, with the flushes that are added.
 ///
 /// # Errors
 ///
-/// The first fault of the log; or want of memory; or 15 at the first entry or cut that is named and that the log doesn't have.
-pub fn read_log(alloc: Global, bytes: &[u8], options: &Options) -> Result<Log, Refusal>
-    ensures log { IfOk result (IsLogOf bytes.now options.now) }
-    ensures refused { IfErr result (RefusesLog bytes.now options.now) }
+/// 13 at 14 where `initial` has more bytes than the device; the first fault of the log; or want of memory; or 15 at the first
+/// entry or cut that is named and that the log doesn't have.
+pub fn read_log(
+    alloc: Global,
+    bytes: &[u8],
+    initial: &[u8],
+    options: &Options,
+) -> Result<Log, Refusal>
+    ensures log { IfOk result (IsLogOf (record { text = bytes.now; initial = initial.now }) options.now) }
+    ensures refused { IfErr result (RefusesLog (record { text = bytes.now; initial = initial.now }) options.now) }
 {
-    let log = match read(alloc, bytes, options.sectors()) {
+    if initial.len() > SECTOR * options.sectors() as usize {
+        return Err(option_refusal_of(OptionPlace::Base));
+    }
+    let log = match recorded(alloc, bytes, initial, options) {
         Ok(log) => log,
         Err(fault) => return Err(log_refusal_of(fault)),
     };

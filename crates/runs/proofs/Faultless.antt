@@ -10,7 +10,7 @@ use Rattle.workers.proofs.Sets.{listed}
 use Rattle.request.proofs.Logs.{bounds_of, device_of}
 use Rattle.request.specs.declared.settings.Settings.{Settings}
 use Rattle.runs.specs.Programs.{IsRunWithin}
-use Rattle.request.specs.Source.{HasImages}
+use Rattle.request.specs.Source.{Recording, HasImages}
 use Rattle.runs.specs.Explore.{AreCheckersOf, IsFaultless, subject_of}
 
 accepted_one : (checked : Option ℕ) (sectors : ℕ) (c : CheckerValue) → checked ≡ None → IsRunWithin checked sectors c → IsAccepted c.program sectors c.limit
@@ -27,7 +27,7 @@ accepted_all s (bytes ∷ files) (d ∷ checkers) zero c made free there =
 accepted_all s (bytes ∷ files) (d ∷ checkers) (suc n) c made free there = accepted_all s files checkers n c made.1 free there
 
 -- so the run has no fault
-pub faultless : AcceptedCheckersRunSafely → (text : List ℕ) (s : Settings) (files : List (List ℕ)) (log : LogValue) (checkers : List CheckerValue) → HasImages text s log
+pub faultless : AcceptedCheckersRunSafely → (text : Recording) (s : Settings) (files : List (List ℕ)) (log : LogValue) (checkers : List CheckerValue) → HasImages text s log
     → AreCheckersOf s files checkers → s.checked ≡ None → IsFaultless (subject_of s log checkers)
 faultless sound text s files log checkers source made free =
     let is : IsLog log = bounds_of text s log source.reads in

@@ -3,7 +3,7 @@ use Rattle.std.proofs.Common.{ℕ, ◌≡◌, ◌≢◌, ◌↔◌, Bool, IsTrue
 use Rattle.base.specs.declared.refusal.Refusal.{Refusal}
 use Rattle.logfmt.specs.Bounds.{LogValue}
 use Rattle.request.specs.declared.settings.Settings.{Settings}
-use Rattle.request.specs.Source.{HasImages, RefusesLog, for_log}
+use Rattle.request.specs.Source.{Recording, HasImages, RefusesLog, for_log}
 use Rattle.checker.specs.Checker.{CheckerValue}
 use Rattle.workers.specs.Failing.{failing_lines}
 use Rattle.workers.specs.Safe.{AcceptedCheckersRunSafely}
@@ -13,11 +13,11 @@ use Rattle.runs.specs.Why.{Tells, IsTold}
 use Rattle.runs.specs.Explore.{Refuses, for_source, AreCheckersOf, subject_of, report_of, IsProgramCount, IsReport}
 use Rattle.runs.proofs.Faultless.{faultless}
 
-pub of_log : (text : List ℕ) (files : List (List ℕ)) (s : Settings) (r : Refusal) → IsProgramCount (length files) → RefusesLog text s r → Refuses text files s r
+pub of_log : (text : Recording) (files : List (List ℕ)) (s : Settings) (r : Refusal) → IsProgramCount (length files) → RefusesLog text s r → Refuses text files s r
 of_log text files s r count h = for_source r count (for_log r h)
 
 -- the report of a run
-pub reported : AcceptedCheckersRunSafely → (text : List ℕ) (files : List (List ℕ)) (s : Settings) (log : LogValue) (checkers now : List CheckerValue) (bytes : List ℕ) (failing : Bool)
+pub reported : AcceptedCheckersRunSafely → (text : Recording) (files : List (List ℕ)) (s : Settings) (log : LogValue) (checkers now : List CheckerValue) (bytes : List ℕ) (failing : Bool)
     → IsProgramCount (length files) → HasImages text s log → AreCheckersOf s files checkers → now ≡ checkers → bytes ≡ report_of s log now
     → IsTrue failing ↔ (failing_lines (subject_of s log now) ≢ []) → IsReport text files s bytes failing
 reported sound text files s log checkers now bytes failing count source made same report fails =
@@ -33,7 +33,7 @@ reported sound text files s log checkers now bytes failing count source made sam
     }
 
 -- what is told of a run
-pub told_of : (t : Telling) → AcceptedCheckersRunSafely → (text : List ℕ) (files : List (List ℕ)) (s : Settings) (log : LogValue) (checkers now : List CheckerValue) (bytes : List ℕ)
+pub told_of : (t : Telling) → AcceptedCheckersRunSafely → (text : Recording) (files : List (List ℕ)) (s : Settings) (log : LogValue) (checkers now : List CheckerValue) (bytes : List ℕ)
     (failing : Bool) → IsProgramCount (length files) → HasImages text s log → AreCheckersOf s files checkers → now ≡ checkers → Tells t s log now bytes
     → IsTrue failing ↔ (failing_lines (subject_of s log now) ≢ []) → IsTold t text files s bytes failing
 told_of telling.Report sound text files s log checkers now bytes failing count source made same tells fails =

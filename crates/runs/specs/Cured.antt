@@ -13,7 +13,7 @@ use Rattle.cure.specs.Failures.{AreFailures, windows_in, places_in}
 use Rattle.cure.specs.Text.{begin_text, uncured_text, rounds_text, refused_line}
 use Rattle.workers.specs.Failing.{failing_lines}
 use Rattle.request.specs.declared.settings.Settings.{Settings}
-use Rattle.request.specs.Source.{plan_of, images_of, HasImages}
+use Rattle.request.specs.Source.{Recording, plan_of, images_of, HasImages}
 use Rattle.runs.specs.Explore.{IsProgramCount, AreCheckersOf, IsFaultless, subject_of, head_of}
 use Rattle.runs.specs.Why.{with_first}
 
@@ -66,7 +66,7 @@ pub record TellsCure (s : Settings) (value : LogValue) (checkers : List CheckerV
   pub text : bytes ≡ begin_text (head_of (with_first false s) value checkers) failures ++ uncured_text (run_lines s checkers value) failures ++ rounds
 
 -- the bytes tell where flushes are missing in the log, and what is left with them
-pub record IsCured (text : List ℕ) (files : List (List ℕ)) (s : Settings) (bytes : List ℕ) (failing : Bool) : Type 0 where
+pub record IsCured (text : Recording) (files : List (List ℕ)) (s : Settings) (bytes : List ℕ) (failing : Bool) : Type 0 where
   pub count : IsProgramCount (length files)
   pub value : LogValue
   pub source : HasImages text s value

@@ -5,6 +5,7 @@ use Rattle.base.specs.declared.causes.VerifierCause.TheVariants as verifier
 use Rattle.base.specs.declared.refusal.Refusal.{Refusal}
 use Rattle.base.specs.Refusals.{memory_refusal}
 use Rattle.logfmt.specs.Bounds.{LogValue}
+use Rattle.images.specs.Number.{initial_number}
 use Rattle.bpf_isa.specs.declared.instr.Instr.{Instr}
 use Rattle.bpf_isa.specs.Program as code_fault
 use Rattle.checker.specs.Checker.{CheckerValue}
@@ -17,7 +18,7 @@ use Rattle.request.specs.declared.settings.OptionPlace.TheVariants as place
 use Rattle.request.specs.declared.settings.Settings.{Settings}
 use Rattle.request.specs.Settings.{option_refusal}
 use Rattle.runs.specs.Programs.{IsRunWithin, code_refusal, IsCodeFault, verifier_refusal, IsVerifierFault}
-use Rattle.request.specs.Source.{plan_of, images_of, HasImages, RefusesSource}
+use Rattle.request.specs.Source.{Recording, plan_of, images_of, HasImages, RefusesSource}
 
 -- a run has one program to eight
 pub record IsProgramCount (n : ℕ) : Type 0 where
@@ -55,6 +56,7 @@ head_of s value checkers = record {
   first = s.first;
   programs = map program_head checkers;
   images = length (images_of s value);
+  base = initial_number value;
 }
 
 -- the report of a log and of checkers: of all failing lines, or of the first failing image alone
@@ -69,7 +71,7 @@ pub record IsFaultless (subject : Subject) : Type 0 where
 
 -- the bytes report every failing image of the log and no other, or the first alone where that is asked for;
 -- where no limit of steps is asked for, nothing has a fault or spends a limit
-pub record IsReport (text : List ℕ) (files : List (List ℕ)) (s : Settings) (bytes : List ℕ) (failing : Bool) : Type 0 where
+pub record IsReport (text : Recording) (files : List (List ℕ)) (s : Settings) (bytes : List ℕ) (failing : Bool) : Type 0 where
   pub count : IsProgramCount (length files)
   pub value : LogValue
   pub source : HasImages text s value
@@ -80,7 +82,7 @@ pub record IsReport (text : List ℕ) (files : List (List ℕ)) (s : Settings) (
   pub faultless : s.checked ≡ None → IsFaultless (subject_of s value checkers)
 
 -- the same, whether or not there is a failing image
-abbrev pub HasReport : List ℕ → List (List ℕ) → Settings → List ℕ → Type 0
+abbrev pub HasReport : Recording → List (List ℕ) → Settings → List ℕ → Type 0
 HasReport text files s bytes = (failing : Bool) × IsReport text files s bytes failing
 
 -- the refusals of the programs: of the first that can't be decoded or isn't accepted, or for which memory is wanting; or
@@ -100,7 +102,7 @@ pub data RefusesProgram (s : Settings) (files : List (List ℕ)) : Refusal → T
 
 -- the refusals in their order: the number of programs, the log, the number of its images, then each
 -- program. Want of memory may come wherever a list has to grow.
-pub data Refuses (text : List ℕ) (files : List (List ℕ)) (s : Settings) : Refusal → Type 0 where
+pub data Refuses (text : Recording) (files : List (List ℕ)) (s : Settings) : Refusal → Type 0 where
   for_count : (IsProgramCount (length files) → ⊥) → Refuses text files s (option_refusal place.Programs)
   for_source : (r : Refusal) → IsProgramCount (length files) → RefusesSource text s r → Refuses text files s r
   for_program : (r : Refusal) (value : LogValue) → IsProgramCount (length files) → HasImages text s value → RefusesProgram s files r → Refuses text files s r

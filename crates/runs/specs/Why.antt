@@ -20,7 +20,7 @@ use Rattle.runs.specs.Paged.{IsPageOf}
 use Rattle.request.specs.declared.settings.Settings.{Settings}
 use Rattle.request.specs.declared.settings.Telling.{Telling}
 use Rattle.request.specs.declared.settings.Telling.TheVariants as telling
-use Rattle.request.specs.Source.{plan_of, HasImages}
+use Rattle.request.specs.Source.{Recording, plan_of, HasImages}
 use Rattle.runs.specs.Explore.{IsProgramCount, AreCheckersOf, IsFaultless, IsReport, subject_of, head_of, report_of}
 
 -- the images on which a program fails, by the failing lines
@@ -102,7 +102,7 @@ Tells telling.Causes s value checkers bytes = TellsOfLines s value checkers (fai
 Tells telling.Page s value checkers bytes = PageOfLines s value checkers (failing_lines (subject_of s value checkers)) bytes
 
 -- the bytes say why the programs fail on the crash images of the log: what the report says of them, image by image
-pub record IsExplained (text : List ℕ) (files : List (List ℕ)) (s : Settings) (bytes : List ℕ) (failing : Bool) : Type 0 where
+pub record IsExplained (text : Recording) (files : List (List ℕ)) (s : Settings) (bytes : List ℕ) (failing : Bool) : Type 0 where
   pub count : IsProgramCount (length files)
   pub value : LogValue
   pub source : HasImages text s value
@@ -113,7 +113,7 @@ pub record IsExplained (text : List ℕ) (files : List (List ℕ)) (s : Settings
   pub faultless : s.checked ≡ None → IsFaultless (subject_of s value checkers)
 
 -- the bytes are the page of running the programs on the crash images of the log
-pub record IsPaged (text : List ℕ) (files : List (List ℕ)) (s : Settings) (bytes : List ℕ) (failing : Bool) : Type 0 where
+pub record IsPaged (text : Recording) (files : List (List ℕ)) (s : Settings) (bytes : List ℕ) (failing : Bool) : Type 0 where
   pub count : IsProgramCount (length files)
   pub value : LogValue
   pub source : HasImages text s value
@@ -124,7 +124,7 @@ pub record IsPaged (text : List ℕ) (files : List (List ℕ)) (s : Settings) (b
   pub faultless : s.checked ≡ None → IsFaultless (subject_of s value checkers)
 
 -- what a run answers
-abbrev pub IsTold : Telling → List ℕ → List (List ℕ) → Settings → List ℕ → Bool → Type 0
+abbrev pub IsTold : Telling → Recording → List (List ℕ) → Settings → List ℕ → Bool → Type 0
 IsTold telling.Report text files s bytes failing = IsReport text files s bytes failing
 IsTold telling.Causes text files s bytes failing = IsExplained text files s bytes failing
 IsTold telling.Page text files s bytes failing = IsPaged text files s bytes failing

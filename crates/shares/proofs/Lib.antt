@@ -5,4 +5,5 @@ pub mod Ends
 pub mod Seats
 pub mod Deques
 pub mod Takes
+pub mod Reunion
 pub mod Crossing

@@ -1,10 +1,10 @@
 -- What a hand keeps over its steps, and what they come to in a take.
-use Rattle.std.proofs.Common.{◌≡◌, ℕ, zero, suc, ◌+◌, ◌<◌, ◌≤◌, List, [], ◌∷◌, ◌++◌, length, flat_map, All, Option, None, Some, IfSome, IfNone, option_to_list, inl, inr, slice_get, slice_set, slice_index_or, sym, refl, ap, ◌∙◌, subst, ⊎_elim, append_assoc, append-nil, length-append, arith}
+use Rattle.std.proofs.Common.{◌≡◌, ℕ, zero, suc, ◌+◌, ◌<◌, ◌≤◌, List, [], ◌∷◌, ◌++◌, length, map, flat_map, All, Option, None, Some, IfSome, IfNone, option_to_list, inl, inr, slice_set, slice_index_or, sym, refl, ap, ◌∙◌, subst, ⊎_elim, append_assoc, append-nil, length-append, arith}
 use Rattle.std.proofs.lemmas.Bool.Decides.{leb_tells}
 use Rattle.std.proofs.lemmas.List.Elements.{All-append}
 use Rattle.shares.specs.declared.view.SeatStep.{SeatStep}
-use Rattle.shares.specs.declared.view.SeatStep.TheVariants.{Drew, SawNext}
-use Rattle.shares.specs.Steps.{posted_it, posts, late_draws}
+use Rattle.shares.specs.declared.view.SeatStep.TheVariants.{Drew}
+use Rattle.shares.specs.Steps.{posted_it, late_draws}
 use Rattle.shares.specs.Seats.{SeatValue, DrawsNone, taken, times}
 use Rattle.shares.specs.Hands.{HandValue, HasMore, PostsNothing, GivesOwn, KeepsBlock, IsStocked, IsTake}
 use Rattle.shares.proofs.Lists.{total_append, total_snoc}
@@ -179,6 +179,12 @@ flat_set f x (y ∷ ys) zero old new lt at = omega (arith, times_append x (f new
 flat_set f x (y ∷ ys) (suc place) old new lt at =
     let rest = flat_set f x ys place old new (omega (arith, lt)) at in
     omega (arith, times_append x (f y) (flat_map f (slice_set ys place new)), times_append x (f y) (flat_map f ys), rest)
+
+-- one element is replaced by one of the same name
+pub named_set : {X N : Type 0} (f : X → N) (xs : List X) (place : ℕ) (old new : X) → old ≡ slice_index_or xs place old → f new ≡ f old → map f (slice_set xs place new) ≡ map f xs
+named_set f [] place old new at same = refl
+named_set f (y ∷ ys) zero old new at same = ap (λ n. n ∷ map f ys) (same ∙ ap f at)
+named_set f (y ∷ ys) (suc place) old new at same = ap (λ ns. f y ∷ ns) (named_set f ys place old new at same)
 
 -- a list with one more block
 pub all_more : (blocks : ℕ) (list after : List ℕ) (block back : ℕ) → All (λ (b : ℕ). b < blocks) list → after ≡ list ++ back ∷ [] → back ≡ block → block < blocks → All (λ (b : ℕ). b < blocks) after

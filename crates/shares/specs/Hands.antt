@@ -1,17 +1,51 @@
 -- The hands of the workers, as contracts see them, and what a take is.
-use Rattle.std.specs.Prelude.{◌≡◌, ℕ, ◌+◌, ◌≤◌, ◌⊎◌, List, [], ◌∷◌, ◌++◌, length}
+use Rattle.std.specs.Prelude.{◌≡◌, ℕ, ◌+◌, ◌≤◌, ◌⊎◌, List, [], ◌∷◌, ◌++◌, length, map, take, drop, slice_get, Some, All}
 use Rattle.shares.specs.declared.view.SeatStep.{SeatStep}
-use Rattle.shares.specs.Steps.{posts}
+use Rattle.shares.specs.Steps.{posts, total}
 use Rattle.shares.specs.Seats.{SeatValue, taken, times}
+use Rattle.shares.specs.Deques.{DequeName}
 
--- a hand: its own list, the blocks that it pushed on its deque, in order, and those that it popped or stole
+-- which deque a hand has, how many parts its port has, and from which other deques it steals, in order
+pub record HandPlace : Type 0 where
+  pub deque : DequeName
+  pub parts : ℕ
+  pub others : List DequeName
+
+abbrev pub hand_place : DequeName → ℕ → List DequeName → HandPlace
+hand_place deque parts others = record { deque = deque; parts = parts; others = others }
+
+-- a hand: its place among the hands, its own list, the blocks that it pushed on its deque, in order, and those that it popped or stole
 pub record HandValue : Type 0 where
+  pub place : HandPlace
   pub list : List ℕ
   pub pushed : List ℕ
   pub got : List ℕ
 
-abbrev pub hand_value : List ℕ → List ℕ → List ℕ → HandValue
-hand_value list pushed got = record { list = list; pushed = pushed; got = got }
+abbrev pub hand_value : HandPlace → List ℕ → List ℕ → List ℕ → HandValue
+hand_value place list pushed got = record { place = place; list = list; pushed = pushed; got = got }
+
+-- a hand that holds no block and has moved none
+abbrev pub IsEmptyHand : HandValue → Type 0
+IsEmptyHand hand = hand ≡ hand_value hand.place [] [] []
+
+-- the deques from which the hand of that number steals: those behind its own first
+abbrev pub others_at : List DequeName → ℕ → List DequeName
+others_at names i = drop (i + 1) names ++ take i names
+
+-- for each of those deques, by number, the others
+abbrev pub AreOthers : List DequeName → List (List DequeName) → Type 0
+AreOthers names others = (i : ℕ) (own : List DequeName) → slice_get others i ≡ Some own → own ≡ others_at names i
+
+-- the places of all hands of that many workers, by number: each has one part of its own deque and one of each other
+pub record AreTogether (workers : ℕ) (places : List HandPlace) : Type 0 where
+  pub count : length places ≡ workers
+  pub one_part : All (λ (p : HandPlace). p.parts ≡ 1) places
+  pub others : AreOthers (map (λ (p : HandPlace). p.deque) places) (map (λ (p : HandPlace). p.others) places)
+
+-- what hands pushed and have in their lists is what they popped or stole, and what is left, each as often
+pub record AreLeft (hands : List HandValue) (left : List ℕ) : Type 0 where
+  pub together : (x : ℕ) → total (λ (h : HandValue). times x h.pushed) hands + total (λ (h : HandValue). times x h.list) hands
+      ≡ total (λ (h : HandValue). times x h.got) hands + times x left
 
 -- the second list has those blocks more, each as often
 abbrev pub HasMore : List ℕ → List ℕ → List ℕ → Type 0

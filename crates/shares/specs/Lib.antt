@@ -4,4 +4,6 @@ pub mod Board
 pub mod Moves
 pub mod Seats
 pub mod Deques
+pub mod Owned
 pub mod Hands
+pub mod Meeting

@@ -20,6 +20,7 @@
 //! | `board.gather(seats)` | | the end of the board: the least image posted, or a refusal |
 //! | `hands(alloc, workers)` | | a hand for each worker, which hold no block |
 //! | `hand.take(&board, &mut seat)` | some, of the board and of deques | the next block for this worker, or none where it found none |
+//! | `blocks_left(alloc, hands)` | | the blocks that are left in the hands, when all are back |
 //!
 //! # Place
 //!
@@ -57,21 +58,29 @@
 //!
 //! The rule of a deque (`DequeRule` in `specs/Deques.antt`) holds between any two steps of any threads:
 //! what it gave out and still holds is what its owner pushed, in that order; what it gave out is what its
-//! owner popped and the others stole, each as often; and each is below the number of blocks. Contracts see
-//! a hand as its list, the blocks that it pushed, and those that it popped or stole (`specs/Hands.antt`).
+//! owner popped and the others stole, each as often; and each is below the number of blocks. The right to
+//! know the whole lies in as many parts as there are workers. The owner has one, and each stealer one; a
+//! port without a part has got nothing. Contracts see a hand as its place among the hands, its list, the
+//! blocks that it pushed, and those that it popped or stole (`specs/Hands.antt`).
 //!
 //! - `take` speaks of its own hand and seat. The list before, the blocks that the seat drew, at most four,
 //!   and the block that the hand popped or stole, if any, are together, each as often, the answer, what it
 //!   pushed, and the list after. A block popped or stolen is the answer, and nothing is posted.
 //! - It gives none only where its list was empty and its draw found no block.
+//! - It keeps the hand's place: which deque it owns, and of which others it has a stealer. The hands that
+//!   `hands` makes are together (`AreTogether`): each has one part of its own deque and one of each other.
+//! - `blocks_left` takes such hands when they are back. Each owner takes its stealers back, has every part,
+//!   and pops until it finds nothing. What the hands pushed and have in their lists is, each as often, what
+//!   they popped or stole, and what is left (`AreLeft`). So a block that was pushed was got by one hand, once,
+//!   or is left.
 //!
-//! In which order it looks for a block, and that the other hands are asked, is tested. No clause speaks of
-//! two hands together.
+//! In which order `take` looks for a block, and that the other hands are asked, is tested.
 //!
 //! # How it is written
 //!
 //! `view` has what a seat knows, `rule` the rule and what each kind of step tells, and `board` the calls;
-//! `deque` has what a port of a deque knows, its rule and its steps, and `hand` the calls of hands.
+//! `deque` has what a port of a deque knows, its rule and its steps, `owned` a deque with its owner's port
+//! and a stealer of it, `hand` a hand and its takes, and `meeting` how hands are made and taken back.
 //! Each seat has one part of the right to know the whole. `gather` joins the seats into one, and who has
 //! every part knows that nobody else drew or posted: one load of each word then tells the rest.
 //!
@@ -98,10 +107,13 @@
 mod board;
 mod deque;
 mod hand;
+mod meeting;
+mod owned;
 mod rule;
 mod view;
 
 pub use board::{Board, Seat};
 pub use deque::{Deal, Port};
-pub use hand::{Hand, hands};
+pub use hand::Hand;
+pub use meeting::{blocks_left, hands};
 pub use view::SeatStep;

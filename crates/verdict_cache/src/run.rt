@@ -24,7 +24,7 @@ impl Run for Brand {
     ghost use Rattle.epochs.specs.Cuts.{all_cuts};
     ghost use Rattle.epochs.specs.declared.part.By.TheVariants.{Sector};
 
-    ghost plan = { record { log = record { sectors = 0; entries = [] }; kind = all_cuts; by = Sector } };
+    ghost plan = { record { log = record { sectors = 0; entries = []; initial = [] }; kind = all_cuts; by = Sector } };
 
     ghost checkers = { [] };
 

@@ -20,3 +20,4 @@ pub mod Stepping
 pub mod Learned
 pub mod Counting
 pub mod Ways
+pub mod Counted

@@ -1,12 +1,13 @@
 -- What is inferred of a program, accepted or not (docs/VERIFIER.md, Inference).
 use Rattle.std.specs.Prelude.{◌≡◌, ℕ, List, Option, None, Some}
 use Rattle.bpf_isa.specs.declared.instr.Instr.{Instr}
-use Rattle.bpf_shape.specs.Rules.{IsShaped}
+use Rattle.bpf_shape.specs.Fault.{memory_fault}
+use Rattle.bpf_shape.specs.Rules.{IsShaped, FirstBroken}
 use Rattle.bpf_shape.specs.declared.fault.Fault.{Fault}
 use Rattle.ranges.specs.States.{Abstract}
 use Rattle.verifier.specs.Rounds.{IsSettled}
 use Rattle.verifier.specs.Sought.{IsSought}
-use Rattle.verifier.specs.Tables.{rule_at}
+use Rattle.verifier.specs.Tables.{rule_at, state_at}
 use Rattle.verifier.specs.Visits.{NeedMore, most_visits}
 
 -- where the rounds need too many visits: a table to which a search comes, with a breach on it
@@ -25,3 +26,10 @@ pub record IsInferred (program : List (Option Instr)) (sectors : ℕ) (table : L
   pub shape : IsShaped program
   pub met : Option Fault
   pub found : IsFound program sectors table met
+
+-- What is told beside a fault of a program that isn't accepted: nothing for want of memory, nor where a shape rule is
+-- broken; else what the inferred table knows at the slot of the fault.
+pub data IsKnown (program : List (Option Instr)) (sectors : ℕ) (f : Fault) : Option Abstract → Type 0 where
+  without_memory : f ≡ memory_fault → IsKnown program sectors f None
+  without_shape : FirstBroken program f.code f.slot → IsKnown program sectors f None
+  on_table : (table : List (Option Abstract)) → IsInferred program sectors table → IsKnown program sectors f (state_at table f.slot)

@@ -15,3 +15,4 @@ pub mod Passing
 pub mod Ways
 pub mod Laws
 pub mod Inferred
+pub mod Reach

@@ -3,10 +3,15 @@
 //! Nothing that is proved rests on it: a table that is found with it is tested.
 
 use crate::order::Order;
-use crate::parts::Parts;
+use crate::parts::{Parts, looked_at};
 use crate::worklist::Worklist;
+use bpf_isa::instr::Instr;
 use bpf_isa::program::Program;
 use std::alloc::{AllocError, Global};
+
+/// Of so many steps the first half takes the first slot each time. The other half goes forward, so that where many
+/// loops share a body it isn't gone through for each of them alone.
+const TURN: u64 = 1 << 21;
 
 /// Which slots learned something, by their places in the order, and of what parts each is still to tell.
 #[derive(Drop)]
@@ -17,9 +22,13 @@ pub(crate) struct Agenda {
     /// The slots that passed something on to the next slot, and those that did to a target.
     nexts: Vec<bool>,
     targets: Vec<bool>,
-    /// The slot whose turn it is, and of what parts it tells.
+    /// How many steps were taken, the place of the last one and its slot, of what parts it tells, and whether its
+    /// instruction looks at one of them.
+    steps: u64,
+    place: usize,
     turn: usize,
     told: Parts,
+    is_seen: bool,
 }
 
 /// Whether a slot passed something on.
@@ -55,8 +64,11 @@ impl Agenda {
             parts,
             nexts: none_passed(alloc, program.slots())?,
             targets: none_passed(alloc, program.slots())?,
+            steps: 0,
+            place: 0,
             turn: 0,
             told: Parts::NONE,
+            is_seen: true,
         })
     }
 
@@ -69,9 +81,22 @@ impl Agenda {
         }
     }
 
-    /// Takes the first slot from the agenda. It is to tell of the parts of which it learned something.
+    /// Takes the first place that is on the agenda; in each other turn the next one, if there is one behind the last.
+    fn take_place(&mut self) -> Option<usize> {
+        self.steps = self.steps.wrapping_add(1);
+        if self.steps % TURN < TURN / 2 || 4096 <= self.place {
+            return self.places.take();
+        }
+        match self.places.take_from(self.place) {
+            Some(place) => Some(place),
+            None => self.places.take(),
+        }
+    }
+
+    /// Takes a slot from the agenda. It is to tell of the parts of which it learned something.
     pub(crate) fn take(&mut self) -> Option<usize> {
-        let slot = self.order.slot(self.places.take()?);
+        self.place = self.take_place()?;
+        let slot = self.order.slot(self.place);
         if self.parts.len() <= slot {
             return None;
         }
@@ -91,13 +116,29 @@ impl Agenda {
         has_told(&self.targets, self.turn)
     }
 
+    /// Whether the instruction at the slot whose turn it is looks at something that the slot tells of. Else it breaks
+    /// no other rule than before, and changes nothing in another way.
+    pub(crate) fn is_seen_by(&mut self, instr: &Instr) -> bool {
+        self.is_seen = self.told.meets(looked_at(instr));
+        self.is_seen
+    }
+
+    /// Of what parts the slot tells, where these changed.
+    fn told_with(&self, changed: Parts) -> Parts {
+        if self.is_seen {
+            self.told.and(changed)
+        } else {
+            self.told
+        }
+    }
+
     /// Of what parts the slot whose turn it is tells the next one, where these changed: of all, the first time
     /// that something is passed.
     pub(crate) fn told_next(&mut self, changed: Parts) -> Parts {
         if is_first(&mut self.nexts, self.turn) {
             return Parts::ALL;
         }
-        self.told.and(changed)
+        self.told_with(changed)
     }
 
     /// The same of what it tells a target.
@@ -105,6 +146,6 @@ impl Agenda {
         if is_first(&mut self.targets, self.turn) {
             return Parts::ALL;
         }
-        self.told.and(changed)
+        self.told_with(changed)
     }
 }

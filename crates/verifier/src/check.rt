@@ -2,7 +2,6 @@
 
 ghost use Rattle.std.specs.Prelude.{◌≡◌, ◌<◌, ◌↔◌, ℕ, IsTrue, OnOk, IfErr, IfSome, IfNone, Some};
 ghost use Rattle.std.specs.Option.{option_to_list};
-ghost use Rattle.bpf_shape.specs.Again.{heads};
 ghost use Rattle.bpf_shape.specs.Shape.{IsShapeOf};
 ghost use Rattle.ranges.specs.SeenStates.{state_of};
 ghost use Rattle.ranges.specs.States.{start};
@@ -12,6 +11,7 @@ ghost use Rattle.verifier.specs.Good.{IsGood, IsGoodAt};
 ghost use Rattle.verifier.specs.Breaches.{BreaksAt, FirstSlot, FirstBreach, FirstRule, KeepsRules};
 
 use crate::passing::{arrive_next, arrive_target, rule_at, target_of};
+use crate::scene::Scene;
 use crate::table::Table;
 use base::causes::VerifierCause;
 use bpf_isa::instr::Instr;
@@ -22,20 +22,19 @@ use ranges::State;
 /// Whether what is passed to the next slot, if there is one, is contained in what is known there. A state is changed in
 /// place in the room that is given, whatever stands there.
 fn covers_next(
-    shape: &Shape,
-    sectors: u32,
+    scene: &Scene,
     table: &Table,
     edge: Option<usize>,
     instr: &Instr,
     state: &State,
     room: &mut State,
 ) -> bool
-    ensures { IsTrue result ↔ CoversAll table.now (option_to_list (along shape.now.heads edge (next_state sectors (state_of state.now) instr.now))) }
+    ensures { IsTrue result ↔ CoversAll table.now (option_to_list (along scene.now.shape.now.heads edge (next_state scene.now.sectors (state_of state.now) instr.now))) }
 {
     match edge {
         Some(slot) => {
             *room = *state;
-            !arrive_next(shape, slot, sectors, instr, room) || table.covers(slot, room)
+            !arrive_next(scene.shape, slot, scene.sectors, instr, room) || table.covers(slot, room)
         }
         None => true,
     }
@@ -63,8 +62,7 @@ fn covers_target(
 
 /// Whether all that an instruction passes on is contained in what is known where it arrives.
 fn covers_edges(
-    shape: &Shape,
-    sectors: u32,
+    scene: &Scene,
     table: &Table,
     slot: usize,
     instr: &Instr,
@@ -72,57 +70,40 @@ fn covers_edges(
     room: &mut State,
 ) -> bool
     requires { slot < 4096 }
-    ensures { IsTrue result ↔ CoversAll table.now (passed_on shape.now.heads sectors slot (Some instr.now) (Some (state_of state.now))) }
+    ensures { IsTrue result ↔ CoversAll table.now (passed_on scene.now.shape.now.heads scene.now.sectors slot (Some instr.now) (Some (state_of state.now))) }
 {
-    covers_next(
-        shape,
-        sectors,
-        table,
-        edges_of(slot, instr).next,
-        instr,
-        state,
-        room,
-    ) && covers_target(shape, table, target_of(slot, instr), instr, state, room)
+    let next = edges_of(slot, instr).next;
+    covers_next(scene, table, next, instr, state, room)
+        && covers_target(
+            scene.shape,
+            table,
+            target_of(slot, instr),
+            instr,
+            state,
+            room,
+        )
 }
 
 /// Whether all that a slot passes on is contained in what a table knows where it arrives.
 #[tactic(auto, unfolding(crate::specs::Tables::sent_from))]
-fn covers_sent(
-    program: &Program,
-    shape: &Shape,
-    sectors: u32,
-    table: &Table,
-    slot: usize,
-    room: &mut State,
-) -> bool
-    requires { shape.now.heads ≡ heads program.now }
-    ensures { IsTrue result ↔ CoversAll table.now (sent_from program.now sectors table.now slot) }
+fn covers_sent(scene: &Scene, table: &Table, slot: usize, room: &mut State) -> bool
+    ensures { IsTrue result ↔ CoversAll table.now (sent_from scene.now.program.now scene.now.sectors table.now slot) }
 {
-    match (program.at(slot), table.state(slot)) {
-        (Some(instr), Some(state)) => covers_edges(
-            shape, sectors, table, slot, &instr, state, room,
-        ),
+    match (scene.program.at(slot), table.state(slot)) {
+        (Some(instr), Some(state)) => covers_edges(scene, table, slot, &instr, state, room),
         _ => true,
     }
 }
 
 /// What a slot breaks first: a rule, or an edge.
-fn breach_at(
-    program: &Program,
-    shape: &Shape,
-    sectors: u32,
-    table: &Table,
-    slot: usize,
-    room: &mut State,
-) -> Option<VerifierCause>
-    requires { IsShapeOf program.now shape.now }
-    ensures good { IfNone result (IsGoodAt program.now sectors table.now slot) }
-    ensures breach { IfSome result (λ cause. BreaksAt program.now sectors table.now slot cause) }
+fn breach_at(scene: &Scene, table: &Table, slot: usize, room: &mut State) -> Option<VerifierCause>
+    ensures good { IfNone result (IsGoodAt scene.now.program.now scene.now.sectors table.now slot) }
+    ensures breach { IfSome result (λ cause. BreaksAt scene.now.program.now scene.now.sectors table.now slot cause) }
 {
-    if let Some(cause) = rule_at(program, table, slot) {
+    if let Some(cause) = rule_at(scene.program, table, slot) {
         return Some(cause);
     }
-    if covers_sent(program, shape, sectors, table, slot, room) {
+    if covers_sent(scene, table, slot, room) {
         None
     } else {
         Some(VerifierCause::Unsettled)
@@ -130,23 +111,31 @@ fn breach_at(
 }
 
 /// Tests all slots, in rising order.
-fn check_slots(
-    program: &Program,
-    shape: &Shape,
-    sectors: u32,
-    table: &Table,
-    room: &mut State,
-) -> Result<(), Fault>
-    requires { IsShapeOf program.now shape.now }
-    ensures good { OnOk result ((slot : ℕ) → IsGoodAt program.now sectors table.now slot) }
-    ensures breach { IfErr result (λ f. FirstSlot program.now sectors table.now f.code f.slot) }
+fn check_slots(scene: &Scene, table: &Table, room: &mut State) -> Result<(), Fault>
+    ensures good { OnOk result ((slot : ℕ) → IsGoodAt scene.now.program.now scene.now.sectors table.now slot) }
+    ensures breach { IfErr result (λ f. FirstSlot scene.now.program.now scene.now.sectors table.now f.code f.slot) }
 {
-    for slot in 0..program.slots() {
-        if let Some(cause) = breach_at(program, shape, sectors, table, slot, room) {
+    for slot in 0..scene.program.slots() {
+        if let Some(cause) = breach_at(scene, table, slot, room) {
             return Err(refused(cause, slot));
         }
     }
     Ok(())
+}
+
+/// Whether a table is good; else its first breach.
+pub(crate) fn check_good(scene: &Scene, table: &Table) -> Result<(), Fault>
+    ensures good { OnOk result (IsGood scene.now.program.now scene.now.sectors table.now) }
+    ensures breach { IfErr result (λ f. FirstBreach scene.now.program.now scene.now.sectors table.now f.code f.slot) }
+{
+    if table.slots() != scene.program.slots() {
+        return Err(refused(VerifierCause::Unsettled, 0));
+    }
+    let mut room = State::start();
+    if !table.covers(0, &room) {
+        return Err(refused(VerifierCause::Unsettled, 0));
+    }
+    check_slots(scene, table, &mut room)
 }
 
 /// Whether a table is good for a program and its shape, on a device of so many sectors; else the
@@ -161,14 +150,12 @@ pub fn check_table(
     ensures good { OnOk result (IsGood program.now sectors table.now) }
     ensures breach { IfErr result (λ f. FirstBreach program.now sectors table.now f.code f.slot) }
 {
-    if table.slots() != program.slots() {
-        return Err(refused(VerifierCause::Unsettled, 0));
-    }
-    let mut room = State::start();
-    if !table.covers(0, &room) {
-        return Err(refused(VerifierCause::Unsettled, 0));
-    }
-    check_slots(program, shape, sectors, table, &mut room)
+    let scene = Scene {
+        program,
+        shape,
+        sectors,
+    };
+    check_good(&scene, table)
 }
 
 /// Whether each slot of a table keeps its rules, edges aside; else the lowest that doesn't.

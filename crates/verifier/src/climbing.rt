@@ -3,18 +3,19 @@
 //! Of the slots that learned something the first in the order of the ways passes on what it knows, until none is left or
 //! a rule is broken. So a slot is visited once where several ways meet, however they are laid out; a loop is gone through
 //! until it is settled before what stands behind its end is looked at; and a slot costs nothing while nothing that it
-//! knows changes. Each table on the way is below every good one. Whether the last one is good is not known here: its
-//! caller tests it.
+//! knows changes. Where that takes a million steps the next million goes forward in the order, and begins anew at its
+//! end, and so on in turn. Each table on the way is below every good one. Whether the last one is good is not known
+//! here: its caller tests it.
 //!
 //! Only those parts of what a slot knows are joined that changed since it passed them on last, or that its instruction
-//! changes. Where that is little, they go from slot to slot one by one (`way`). Else, and where nothing is known yet, the
-//! state is copied into one room for all steps, and led along the edge in place. No list of what is passed on is made.
+//! makes of these. Where it looks at none of them its rules aren't tested again. Where it changes little, they go from
+//! slot to slot one by one (`way`). Else, and where nothing is known yet, the state is copied into one room for all
+//! steps, and led along the edge in place. No list of what is passed on is made.
 
 ghost use Rattle.std.specs.Prelude.{◌≡◌, ◌<◌, OnOk, IfOk, IfErr, IfSome, Some, length, [], ◌∷◌};
 ghost use Rattle.std.specs.Option.{option_to_list};
 ghost use Rattle.bpf_isa.specs.Program.{IsProgram};
 ghost use Rattle.bpf_isa.specs.Slots.{at};
-ghost use Rattle.bpf_shape.specs.Shape.{IsShapeOf};
 ghost use Rattle.ranges.specs.Moving.{reached};
 ghost use Rattle.ranges.specs.SeenStates.{state_of};
 ghost use Rattle.verifier.specs.Sought.{TakesIn, IsSought};
@@ -30,8 +31,7 @@ use crate::scene::Scene;
 use crate::table::Table;
 use crate::way::{Way, learn_along};
 use bpf_isa::instr::Instr;
-use bpf_isa::program::Program;
-use bpf_shape::{Fault, Shape, edges_of};
+use bpf_shape::{Fault, edges_of};
 use ranges::{Effect, State};
 use std::alloc::{AllocError, Global};
 
@@ -179,7 +179,6 @@ fn pass_next(
     instr: &Instr,
     room: &mut State,
 )
-    requires shape { IsShapeOf scene.now.program.now scene.now.shape.now }
     requires long { length table.old ≡ length scene.now.program.now }
     requires small { slot < 4096 }
     requires instr { at scene.now.program.now slot ≡ Some instr.now }
@@ -210,7 +209,6 @@ fn pass_target(
     instr: &Instr,
     room: &mut State,
 )
-    requires shape { IsShapeOf scene.now.program.now scene.now.shape.now }
     requires long { length table.old ≡ length scene.now.program.now }
     requires small { slot < 4096 }
     requires instr { at scene.now.program.now slot ≡ Some instr.now }
@@ -231,21 +229,8 @@ fn pass_target(
     }
 }
 
-/// What a slot passes on arrives, along one edge after the other.
-#[tactic(auto, using(crate::proofs::Ascending::stays_self, crate::proofs::Ascending::stays_more))]
-fn pass_on(scene: &Scene, table: &mut Table, agenda: &mut Agenda, slot: usize, room: &mut State)
-    requires shape { IsShapeOf scene.now.program.now scene.now.shape.now }
-    requires long { length table.old ≡ length scene.now.program.now }
-    ensures { StaysSought scene.now.program.now scene.now.sectors table.old table.new }
-{
-    if let Some(instr) = scene.program.at(slot) {
-        pass_next(scene, table, agenda, slot, &instr, room);
-        pass_target(scene, table, agenda, slot, &instr, room);
-    }
-}
-
-/// Takes the first slot from the agenda, and passes on what it knows. Whether there was one. An error is a broken rule:
-/// then no table is good.
+/// Takes a slot from the agenda, and passes on what it knows. Whether there was one. An error is a broken rule: then no
+/// table is good.
 #[tactic(auto, using(crate::proofs::Ascending::stays_self, crate::proofs::Ascending::stays_more))]
 fn make_step(
     scene: &Scene,
@@ -253,7 +238,6 @@ fn make_step(
     agenda: &mut Agenda,
     room: &mut State,
 ) -> Result<bool, Fault>
-    requires shape { IsShapeOf scene.now.program.now scene.now.shape.now }
     requires long { length table.old ≡ length scene.now.program.now }
     ensures sought { StaysSought scene.now.program.now scene.now.sectors table.old table.new }
     ensures broken { IfErr result (λ f. rule_at scene.now.program.now table.new f.slot ≡ Some f.code) }
@@ -261,38 +245,32 @@ fn make_step(
     let Some(slot) = agenda.take() else {
         return Ok(false);
     };
-    if let Some(cause) = rule_at(scene.program, table, slot) {
+    let Some(instr) = scene.program.at(slot) else {
+        return Ok(true);
+    };
+    let is_seen = agenda.is_seen_by(&instr);
+    if is_seen && let Some(cause) = rule_at(scene.program, table, slot) {
         return Err(refused(cause, slot));
     }
-    pass_on(scene, table, agenda, slot, room);
+    pass_next(scene, table, agenda, slot, &instr, room);
+    pass_target(scene, table, agenda, slot, &instr, room);
     Ok(true)
 }
 
 /// The table at which the search ends: the least good one, where there is one, unless it takes too many steps; and the
 /// rule that is broken there, if the search met one.
 #[tactic(auto, using(crate::proofs::Ascending::more_climbed))]
-pub(crate) fn climb(
-    alloc: Global,
-    program: &Program,
-    shape: &Shape,
-    sectors: u32,
-) -> Result<(Table, Option<Fault>), AllocError>
-    requires shape { IsShapeOf program.now shape.now }
-    ensures sought { IfOk result (λ found. IsSought program.now sectors found.0) }
-    ensures met { IfOk result (λ found. IfSome found.1 (λ f. rule_at program.now found.0 f.slot ≡ Some f.code)) }
-    ensures program { OnOk result (IsProgram program.now) }
+pub(crate) fn climb(alloc: Global, scene: &Scene) -> Result<(Table, Option<Fault>), AllocError>
+    ensures sought { IfOk result (λ found. IsSought scene.now.program.now scene.now.sectors found.0) }
+    ensures met { IfOk result (λ found. IfSome found.1 (λ f. rule_at scene.now.program.now found.0 f.slot ≡ Some f.code)) }
+    ensures program { OnOk result (IsProgram scene.now.program.now) }
 {
-    let mut table = Table::first(alloc, program.slots())?;
-    let mut agenda = Agenda::new(alloc, program)?;
+    let mut table = Table::first(alloc, scene.program.slots())?;
+    let mut agenda = Agenda::new(alloc, scene.program)?;
     let mut room = State::start();
-    let scene = Scene {
-        program,
-        shape,
-        sectors,
-    };
     agenda.put(0, Parts::ALL);
     for _step in 0..MOST_STEPS {
-        match make_step(&scene, &mut table, &mut agenda, &mut room) {
+        match make_step(scene, &mut table, &mut agenda, &mut room) {
             Ok(true) => {}
             Ok(false) => return Ok((table, None)),
             Err(fault) => return Ok((table, Some(fault))),

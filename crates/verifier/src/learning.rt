@@ -12,6 +12,7 @@ use crate::parts::Parts;
 use ranges::{Group, State, Value};
 
 /// What register n holds.
+#[inline(always)]
 fn value_at(state: &State, n: usize) -> Value
     requires { n < 11 }
     ensures { kind_of result ≡ value (state_of state.now) n }
@@ -20,6 +21,7 @@ fn value_at(state: &State, n: usize) -> Value
 }
 
 /// Group n of the stack.
+#[inline(always)]
 fn group_at(state: &State, n: usize) -> Group
     requires { n < 64 }
     ensures { group_of result ≡ slice_index_or (state_of state.now).groups n (Marked []) }
@@ -28,6 +30,7 @@ fn group_at(state: &State, n: usize) -> Group
 }
 
 /// Puts another value into register n.
+#[inline(always)]
 fn put_value(state: &mut State, n: usize, value: Value)
     requires { n < 11 }
     ensures { state_of state.new ≡ with_value (state_of state.old) n (kind_of value) }
@@ -36,6 +39,7 @@ fn put_value(state: &mut State, n: usize, value: Value)
 }
 
 /// Puts another group n into a state.
+#[inline(always)]
 fn put_group(state: &mut State, n: usize, group: Group)
     requires { n < 64 }
     ensures { state_of state.new ≡ with_groups (state_of state.old) (slice_set (state_of state.old).groups n (group_of group)) }
@@ -44,6 +48,7 @@ fn put_group(state: &mut State, n: usize, group: Group)
 }
 
 /// Joins a value to register n of a known state. Whether that tells something.
+#[inline(always)]
 #[tactic(auto, using(crate::proofs::Ways::tells_no_value))]
 pub(crate) fn tell_value(known: &mut State, n: usize, new: Value) -> bool
     requires { n < 11 }
@@ -58,6 +63,7 @@ pub(crate) fn tell_value(known: &mut State, n: usize, new: Value) -> bool
 }
 
 /// Joins a group to group n of a known state's stack. Whether that tells something.
+#[inline(always)]
 #[tactic(auto, using(crate::proofs::Ways::tells_no_group))]
 pub(crate) fn tell_group(known: &mut State, n: usize, new: Group) -> bool
     requires { n < 64 }

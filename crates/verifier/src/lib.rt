@@ -11,7 +11,9 @@
 //! | Call | Answer |
 //! |---|---|
 //! | `verify(alloc, &program, sectors)` | the program with its budget and its table, or why it is refused |
-//! | `inferred(alloc, &program, sectors)` | the table on which `verify` looks for the first broken rule, also of a program that is refused |
+//! | `verify_known(alloc, &program, sectors)` | the same, and beside a refusal what is known at its slot |
+//! | `unreached_of(&verified)` | how many instructions no run reaches, and the first |
+//! | `Known`: `new`, `accept`, `refuse` | what is known of the programs of a command, filled in as they are verified |
 //! | `check_table(&program, &shape, sectors, &table)` | that a table is good, or its first breach; takes no memory |
 //! | `Verified`: `program`, `sectors`, `budget`, `table` | what was accepted, for which devices, how many steps a run takes at most, and what is known |
 //! | `raise(alloc, &table)` | what a table of the rules without signed bounds and spilled numbers, an `UnsignedTable`, is under those with them |
@@ -52,8 +54,8 @@
 //!   up to so many visits, and none is refused for a table that isn't settled (`laws`).
 //! - The rounds end: each that changes the table raises its sum, which stays below 2^96 (`laws`). So there is no
 //!   limit of rounds.
-//! - `inferred` answers the settled table of each program of right shape, also of one that breaks a rule; where the
-//!   rounds need too many visits, the table at which the search met a broken rule.
+//! - `verify_known` tells beside a broken rule what is known at its slot: by the settled table, or where the rounds need
+//!   too many visits, by the table at which the search met the broken rule.
 //!
 //! That the settled table is the least rests on `ranges`: a smaller state breaks no rule that a larger one keeps, and
 //! passes on smaller states. That a run of an accepted program meets no fault is proved in `soundness`.
@@ -61,18 +63,20 @@
 //! # How it is written
 //!
 //! - `table`: `Table`. `passing`: the rules and edges of one slot. `check`: `check_table`.
+//! - `scene`: a program of right shape, which the search, the test of a table and the rounds are given.
 //! - `climbing`: the search. Where little changes along an edge it passes on the changed parts alone (`way`); else it
-//!   leads a copy along the edge in place, in one room for all slots. `scene`: what all its steps are given. Of it only
-//!   is proved that one slot after the other passed on what it knew, so that each good table contains what it ends with;
-//!   that this one is good is tested by `check_table`, and then it is the least. So it is free which slot comes next
-//!   (`agenda`, by the `order` of the ways, in a `worklist`), and which parts of a state are joined (`parts`, `learning`).
-//!   `inferring`: the search, and the rounds where it finds nothing good.
+//!   leads a copy along the edge in place, in one room for all slots. Of it only is proved that one slot after the
+//!   other passed on what it knew, so that each good table contains what it ends with; that this one is good is tested
+//!   by `check_table`, and then it is the least. So it is free which slot comes next (`agenda`, by the `order` of the
+//!   ways, in a `worklist`), and which parts of a state are joined (`parts`, `learning`). `inferring`: the search, and
+//!   the rounds where it finds nothing good.
 //! - `rounds`: a round lists all that is passed on by the table as it is, and then lets it arrive, so no
 //!   copy of the table is made. What is known already is not joined again. Each slot that learns something
 //!   gets a mark, and only the marked slots pass on in the next round: what the others pass on is contained
 //!   where it arrives, so it would change nothing. The table after each round is still exactly that of the
 //!   definition, in which all slots pass on.
-//! - `verified`: `Verified` and `verify`. `laws`: the laws, contracts of functions that do nothing.
+//! - `verified`: `Verified`, `verify` and `verify_known`. `unreached`: what no run reaches. `known`: what is handed on to the
+//!   notes. `laws`: the laws, contracts of functions that do nothing.
 //!
 //! # Example
 //!
@@ -89,6 +93,7 @@ mod agenda;
 mod check;
 mod climbing;
 mod inferring;
+mod known;
 pub mod laws;
 mod learning;
 mod order;
@@ -98,14 +103,16 @@ mod raising;
 mod rounds;
 mod scene;
 mod table;
+mod unreached;
 mod unsigned_state;
 mod verified;
 mod way;
 mod worklist;
 
 pub use check::check_table;
-pub use inferring::inferred;
+pub use known::Known;
 pub use raising::{UnsignedTable, raise};
 pub use table::Table;
+pub use unreached::{Unreached, unreached_of};
 pub use unsigned_state::{Pointer, UnsignedGroup, UnsignedState, UnsignedValue};
-pub use verified::{Verified, verify};
+pub use verified::{Unaccepted, Verified, verify, verify_known};

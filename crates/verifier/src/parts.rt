@@ -31,6 +31,12 @@ impl Parts {
         groups: u64::MAX,
     };
 
+    /// The registers that a call may look at.
+    const ARGUMENTS: Parts = Parts {
+        values: 0x3e,
+        groups: 0,
+    };
+
     /// The registers that a call answers in or unsets.
     const CALLED: Parts = Parts {
         values: 0x3f,
@@ -48,6 +54,11 @@ impl Parts {
             values: self.values | other.values,
             groups: self.groups | other.groups,
         }
+    }
+
+    /// Whether a part is in both.
+    pub(crate) fn meets(self, other: Parts) -> bool {
+        self.values & other.values != 0 || self.groups & other.groups != 0
     }
 
     /// Whether there is a part.
@@ -132,6 +143,33 @@ fn stored(base: Register, offset: i16) -> Parts {
     }
     let distance = offset.cast_unsigned();
     group_at(distance).and(group_at(distance.wrapping_add(7)))
+}
+
+/// The parts at which an instruction looks: what it breaks and what changes behind it hangs on no others.
+pub(crate) fn looked_at(instr: &Instr) -> Parts {
+    match instr {
+        Instr::Arithmetic { dst, source, .. } | Instr::Branch { dst, source, .. } => {
+            Parts::of(*dst).and(second(source))
+        }
+        Instr::Negate { dst, .. } | Instr::ByteOrder { dst, .. } => Parts::of(*dst),
+        Instr::SignExtend { src, .. } => Parts::of(*src),
+        Instr::Load { base, offset, .. }
+        | Instr::LoadSigned { base, offset, .. }
+        | Instr::StoreImmediate { base, offset, .. } => Parts::of(*base).and(stored(
+            *base, *offset,
+        )),
+        Instr::Store {
+            base,
+            offset,
+            src,
+            ..
+        } => Parts::of(*base)
+            .and(Parts::of(*src))
+            .and(stored(*base, *offset)),
+        Instr::CallHelper { .. } | Instr::CallLocal { .. } => Parts::ARGUMENTS,
+        Instr::Exit => register(0),
+        Instr::Jump { .. } | Instr::LongJump { .. } | Instr::LoadImmediate { .. } => Parts::NONE,
+    }
 }
 
 /// The parts that change.

@@ -3,7 +3,6 @@
 ghost use Rattle.std.specs.Prelude.{◌≡◌, ◌<◌, ◌++◌, OnOk, Some, map};
 ghost use Rattle.std.specs.Option.{option_map, option_to_list};
 ghost use Rattle.base.specs.Check.{first_failing};
-ghost use Rattle.bpf_shape.specs.Again.{heads};
 ghost use Rattle.ranges.specs.SeenStates.{state_of};
 ghost use Rattle.ranges.specs.Rules.{rules};
 ghost use Rattle.ranges.specs.Changing.{Leaves};
@@ -12,6 +11,7 @@ ghost use Rattle.verifier.specs.Tables.{arriving, arrival, rule_at, sent_from, p
 ghost use Rattle.verifier.specs.Passing.{next_state, target_of, target_state, along};
 ghost use Rattle.verifier.specs.Seen.{arrival_of};
 
+use crate::scene::Scene;
 use crate::table::Table;
 use base::causes::VerifierCause;
 use bpf_isa::instr::Instr;
@@ -282,18 +282,17 @@ fn push_along_target(
 /// Appends what an instruction passes on, as it arrives.
 fn push_passed_on(
     waiting: &mut Vec<Arrival>,
-    shape: &Shape,
-    sectors: u32,
+    scene: &Scene,
     slot: usize,
     instr: &Instr,
     state: &State,
 ) -> Result<(), AllocError>
     requires { slot < 4096 }
-    ensures { OnOk result (map arrival_of waiting.new.items ≡ map arrival_of waiting.old.items ++ passed_on shape.now.heads sectors slot (Some instr.now) (Some (state_of state.now))) }
+    ensures { OnOk result (map arrival_of waiting.new.items ≡ map arrival_of waiting.old.items ++ passed_on scene.now.shape.now.heads scene.now.sectors slot (Some instr.now) (Some (state_of state.now))) }
 {
     let next = edges_of(slot, instr).next;
-    push_along_next(waiting, shape, next, sectors, instr, state)?;
-    push_along_target(waiting, shape, target_of(slot, instr), instr, state)?;
+    push_along_next(waiting, scene.shape, next, scene.sectors, instr, state)?;
+    push_along_target(waiting, scene.shape, target_of(slot, instr), instr, state)?;
     Ok(())
 }
 
@@ -301,17 +300,14 @@ fn push_passed_on(
 #[tactic(auto, unfolding(crate::specs::Tables::sent_from))]
 pub(crate) fn push_sent(
     waiting: &mut Vec<Arrival>,
-    program: &Program,
-    shape: &Shape,
-    sectors: u32,
+    scene: &Scene,
     table: &Table,
     slot: usize,
 ) -> Result<(), AllocError>
-    requires { shape.now.heads ≡ heads program.now }
-    ensures { OnOk result (map arrival_of waiting.new.items ≡ map arrival_of waiting.old.items ++ sent_from program.now sectors table.now slot) }
+    ensures { OnOk result (map arrival_of waiting.new.items ≡ map arrival_of waiting.old.items ++ sent_from scene.now.program.now scene.now.sectors table.now slot) }
 {
-    match (program.at(slot), table.state(slot)) {
-        (Some(instr), Some(state)) => push_passed_on(waiting, shape, sectors, slot, &instr, state),
+    match (scene.program.at(slot), table.state(slot)) {
+        (Some(instr), Some(state)) => push_passed_on(waiting, scene, slot, &instr, state),
         _ => Ok(()),
     }
 }

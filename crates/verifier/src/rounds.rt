@@ -5,7 +5,6 @@
 
 ghost use Rattle.std.specs.Prelude.{◌≡◌, ◌<◌, ◌≤◌, ◌++◌, [], ◌∷◌, OnOk, IfOk, IfSome, IfNone, true, false, get_or, length, map, replicate};
 ghost use Rattle.bpf_isa.specs.Program.{IsProgram};
-ghost use Rattle.bpf_shape.specs.Shape.{IsShapeOf};
 ghost use Rattle.verifier.specs.Tables.{sent_from};
 ghost use Rattle.verifier.specs.Seen.{arrival_of};
 ghost use Rattle.verifier.specs.Rounds.{passed_by, IsSettled};
@@ -13,9 +12,8 @@ ghost use Rattle.verifier.specs.Visits.{one_if, count_set, NeedMore};
 ghost use Rattle.verifier.specs.Passing.{Arrive, IsRound, Arrived, IsMarked, MadeRound, Kept, passed_if, passed_again};
 
 use crate::passing::{Arrival, push_sent, rule_at};
+use crate::scene::Scene;
 use crate::table::Table;
-use bpf_isa::program::Program;
-use bpf_shape::Shape;
 use std::alloc::{AllocError, Global};
 
 /// Whether a slot has a mark.
@@ -30,57 +28,48 @@ fn is_marked(marks: &[bool], slot: usize) -> bool
 #[inline(never)]
 fn push_passed(
     waiting: &mut Vec<Arrival>,
-    program: &Program,
-    shape: &Shape,
-    sectors: u32,
+    scene: &Scene,
     table: &Table,
     slot: usize,
 ) -> Result<(), AllocError>
-    requires { IsShapeOf program.now shape.now }
-    ensures { OnOk result (map arrival_of waiting.new.items ≡ map arrival_of waiting.old.items ++ passed_by program.now sectors table.now slot) }
+    ensures { OnOk result (map arrival_of waiting.new.items ≡ map arrival_of waiting.old.items ++ passed_by scene.now.program.now scene.now.sectors table.now slot) }
 {
-    if rule_at(program, table, slot).is_some() {
+    if rule_at(scene.program, table, slot).is_some() {
         return Ok(());
     }
-    push_sent(waiting, program, shape, sectors, table, slot)
+    push_sent(waiting, scene, table, slot)
 }
 
 /// The same of a slot with a mark; nothing, where it has none.
 fn push_marked(
     waiting: &mut Vec<Arrival>,
-    program: &Program,
-    shape: &Shape,
-    sectors: u32,
+    scene: &Scene,
     table: &Table,
     marks: &[bool],
     slot: usize,
 ) -> Result<(), AllocError>
-    requires { IsShapeOf program.now shape.now }
-    ensures { OnOk result (map arrival_of waiting.new.items ≡ map arrival_of waiting.old.items ++ passed_if program.now sectors table.now marks.now slot) }
+    ensures { OnOk result (map arrival_of waiting.new.items ≡ map arrival_of waiting.old.items ++ passed_if scene.now.program.now scene.now.sectors table.now marks.now slot) }
 {
     if !is_marked(marks, slot) {
         return Ok(());
     }
-    push_passed(waiting, program, shape, sectors, table, slot)
+    push_passed(waiting, scene, table, slot)
 }
 
 /// What all slots with a mark pass on.
 #[tactic(auto, unfolding(crate::specs::Passing::passed_again))]
 fn passed(
     alloc: Global,
-    program: &Program,
-    shape: &Shape,
-    sectors: u32,
+    scene: &Scene,
     table: &Table,
     marks: &[bool],
 ) -> Result<Vec<Arrival>, AllocError>
-    requires { IsShapeOf program.now shape.now }
-    ensures passed { IfOk result (λ waiting. map arrival_of waiting.items ≡ passed_again program.now sectors table.now marks.now) }
-    ensures program { OnOk result (IsProgram program.now) }
+    ensures passed { IfOk result (λ waiting. map arrival_of waiting.items ≡ passed_again scene.now.program.now scene.now.sectors table.now marks.now) }
+    ensures program { OnOk result (IsProgram scene.now.program.now) }
 {
     let mut waiting = Vec::new(alloc);
-    for slot in 0..program.slots() {
-        push_marked(&mut waiting, program, shape, sectors, table, marks, slot)?;
+    for slot in 0..scene.program.slots() {
+        push_marked(&mut waiting, scene, table, marks, slot)?;
     }
     Ok(waiting)
 }
@@ -140,18 +129,15 @@ fn arrive_all(table: &mut Table, marks: &mut Vec<bool>, waiting: &[Arrival]) -> 
 /// table.
 fn make_round(
     alloc: Global,
-    program: &Program,
-    shape: &Shape,
-    sectors: u32,
+    scene: &Scene,
     table: &mut Table,
     marks: &mut Vec<bool>,
 ) -> Result<bool, AllocError>
-    requires shape { IsShapeOf program.now shape.now }
-    requires round { IsRound (length program.now) table.old }
-    requires marks { IsMarked program.now sectors table.old marks.old.items }
-    ensures { IfOk result (λ changed. MadeRound program.now sectors table.old table.new marks.new.items changed) }
+    requires round { IsRound (length scene.now.program.now) table.old }
+    requires marks { IsMarked scene.now.program.now scene.now.sectors table.old marks.old.items }
+    ensures { IfOk result (λ changed. MadeRound scene.now.program.now scene.now.sectors table.old table.new marks.new.items changed) }
 {
-    let waiting = passed(alloc, program, shape, sectors, table, marks.as_slice())?;
+    let waiting = passed(alloc, scene, table, marks.as_slice())?;
     clear(marks);
     Ok(arrive_all(table, marks, waiting.as_slice()))
 }
@@ -179,21 +165,19 @@ fn count_set(marks: &[bool]) -> u64
 #[tactic(auto, using(crate::proofs::Counting::counted_settled))]
 pub(crate) fn make_rounds_within(
     alloc: Global,
-    program: &Program,
-    shape: &Shape,
-    sectors: u32,
+    scene: &Scene,
     most: u64,
 ) -> Result<Option<Table>, AllocError>
-    requires shape { IsShapeOf program.now shape.now }
-    ensures settled { IfOk result (λ found. IfSome found (IsSettled program.now sectors)) }
-    ensures more { IfOk result (λ found. IfNone found (NeedMore program.now sectors most)) }
-    ensures program { OnOk result (IsProgram program.now) }
+    ensures settled { IfOk result (λ found. IfSome found (IsSettled scene.now.program.now scene.now.sectors)) }
+    ensures more { IfOk result (λ found. IfNone found (NeedMore scene.now.program.now scene.now.sectors most)) }
+    ensures program { OnOk result (IsProgram scene.now.program.now) }
 {
-    let mut table = Table::first(alloc, program.slots())?;
-    let mut marks = all_marked(alloc, program.slots())?;
+    let slots = scene.program.slots();
+    let mut table = Table::first(alloc, slots)?;
+    let mut marks = all_marked(alloc, slots)?;
     let mut left = most;
     loop {
-        if !make_round(alloc, program, shape, sectors, &mut table, &mut marks)? {
+        if !make_round(alloc, scene, &mut table, &mut marks)? {
             return Ok(Some(table));
         }
         let visits = count_set(marks.as_slice());
@@ -205,20 +189,15 @@ pub(crate) fn make_rounds_within(
 }
 
 /// The table at which the rounds end: each that changes it raises its sum, which stays below 2^96.
-pub(crate) fn make_rounds(
-    alloc: Global,
-    program: &Program,
-    shape: &Shape,
-    sectors: u32,
-) -> Result<Table, AllocError>
-    requires shape { IsShapeOf program.now shape.now }
-    ensures settled { IfOk result (λ table. IsSettled program.now sectors table) }
-    ensures program { OnOk result (IsProgram program.now) }
+pub(crate) fn make_rounds(alloc: Global, scene: &Scene) -> Result<Table, AllocError>
+    ensures settled { IfOk result (λ table. IsSettled scene.now.program.now scene.now.sectors table) }
+    ensures program { OnOk result (IsProgram scene.now.program.now) }
 {
-    let mut table = Table::first(alloc, program.slots())?;
-    let mut marks = all_marked(alloc, program.slots())?;
+    let slots = scene.program.slots();
+    let mut table = Table::first(alloc, slots)?;
+    let mut marks = all_marked(alloc, slots)?;
     loop {
-        if !make_round(alloc, program, shape, sectors, &mut table, &mut marks)? {
+        if !make_round(alloc, scene, &mut table, &mut marks)? {
             return Ok(table);
         }
     }

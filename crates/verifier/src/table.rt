@@ -73,6 +73,7 @@ impl Table {
     }
 
     /// What is known at a slot; None where it has no state, and past the end.
+    #[inline(always)]
     pub fn state(&self, slot: usize) -> Option<&State>
         ensures { option_map (λ s. state_of s.now) result ≡ state_at self.now slot }
     {
@@ -121,6 +122,7 @@ impl Table {
     }
 
     /// Register n goes along a way. Whether something is learned from it.
+    #[inline(always)]
     #[tactic(auto, using(crate::proofs::Ways::along_self, crate::proofs::Tables::all_states))]
     pub(crate) fn learn_value(&mut self, way: &Way, n: usize) -> bool
         requires way { Goes way.now (length self.old) }
@@ -135,6 +137,7 @@ impl Table {
     }
 
     /// Group n of the stack goes along a way. Whether something is learned from it.
+    #[inline(always)]
     #[tactic(auto, using(crate::proofs::Ways::along_self, crate::proofs::Tables::all_states))]
     pub(crate) fn learn_group(&mut self, way: &Way, n: usize) -> bool
         requires way { Goes way.now (length self.old) }
@@ -164,6 +167,7 @@ fn learn_at(known: &mut Option<State>, state: &State, parts: Parts) -> Parts
 }
 
 /// A value is joined to register n of what is known at a slot. Whether that tells something.
+#[inline(always)]
 #[tactic(auto, using(crate::proofs::Ways::tells_some_value, crate::proofs::Ways::tells_none_value))]
 fn tell_value_at(known: &mut Option<State>, n: usize, value: Value) -> bool
     requires { n < 11 }
@@ -176,6 +180,7 @@ fn tell_value_at(known: &mut Option<State>, n: usize, value: Value) -> bool
 }
 
 /// A group is joined to group n of what is known at a slot. Whether that tells something.
+#[inline(always)]
 #[tactic(auto, using(crate::proofs::Ways::tells_some_group, crate::proofs::Ways::tells_none_group))]
 fn tell_group_at(known: &mut Option<State>, n: usize, group: Group) -> bool
     requires { n < 64 }

@@ -1,7 +1,13 @@
 //! Programs that are accepted.
 
-ghost use Rattle.std.specs.Prelude.{◌≡◌, ◌≤◌, ◌⊎◌, IfOk, IfErr};
+ghost use Rattle.std.specs.Prelude.{◌≡◌, ◌≤◌, ◌⊎◌, IfOk, IfErr, OnOk, None};
+ghost use Rattle.std.specs.Option.{option_map};
+ghost use Rattle.bpf_isa.specs.Program.{IsProgram};
 ghost use Rattle.bpf_shape.specs.Fault.{memory_fault};
+ghost use Rattle.ranges.specs.SeenStates.{state_of};
+ghost use Rattle.verifier.specs.Breaches.{KeepsRules};
+ghost use Rattle.verifier.specs.Inferred.{IsKnown};
+ghost use Rattle.verifier.specs.Tables.{state_at};
 ghost use Rattle.bpf_shape.specs.Shape.{ShapeValue, IsShapeOf};
 ghost use Rattle.verifier.specs.Good.{IsGood};
 ghost use Rattle.verifier.specs.Rounds.{IsSettled};
@@ -9,9 +15,11 @@ ghost use Rattle.verifier.specs.Verdicts.{IsVerified, Refused};
 
 use crate::check::check_rules;
 use crate::inferring::infer;
+use crate::scene::Scene;
 use crate::table::Table;
 use bpf_isa::program::Program;
 use bpf_shape::{Fault, shape};
+use ranges::State;
 use std::alloc::Global;
 use std::marker::Model;
 
@@ -71,6 +79,88 @@ impl<'x> Verified<'x> {
     }
 }
 
+/// Why a program is not accepted, with what is known where it breaks a rule.
+#[derive(Clone, Copy)]
+pub struct Unaccepted {
+    pub fault: Fault,
+    /// What is known at the slot of the fault; None where nothing is, where the shape is wrong, and for want of memory.
+    pub known: Option<State>,
+}
+
+/// A fault that no table tells.
+fn by_itself(fault: Fault) -> Unaccepted
+    ensures { result ≡ record { fault = fault; known = None } }
+{
+    Unaccepted { fault, known: None }
+}
+
+/// A fault with what a table knows at its slot.
+fn on_table(table: &Table, fault: Fault) -> Unaccepted
+    ensures fault { result.fault ≡ fault }
+    ensures known { option_map state_of result.known ≡ state_at table.now fault.slot }
+{
+    Unaccepted {
+        fault,
+        known: table.state(fault.slot as usize).copied(),
+    }
+}
+
+/// The table that is inferred, where it breaks no rule; else the fault, with what is known there.
+fn kept_table(alloc: Global, scene: &Scene) -> Result<Table, Unaccepted>
+    ensures settled { IfOk result (IsSettled scene.now.program.now scene.now.sectors) }
+    ensures kept { IfOk result (KeepsRules scene.now.program.now) }
+    ensures program { OnOk result (IsProgram scene.now.program.now) }
+    ensures refused { IfErr result (λ u. (u.fault ≡ memory_fault) ⊎ Refused scene.now.program.now scene.now.sectors u.fault.code u.fault.slot) }
+    ensures known { IfErr result (λ u. IsKnown scene.now.program.now scene.now.sectors u.fault (option_map state_of u.known)) }
+{
+    let (table, met) = match infer(alloc, scene) {
+        Ok(found) => found,
+        Err(error) => return Err(by_itself(Fault::from(error))),
+    };
+    if let Some(fault) = met {
+        return Err(on_table(&table, fault));
+    }
+    match check_rules(scene.program, &table) {
+        Ok(()) => Ok(table),
+        Err(fault) => Err(on_table(&table, fault)),
+    }
+}
+
+/// What `verify` answers, and beside a fault what is known at its slot: what the inferred table has there, and nothing where a
+/// shape rule is broken or memory is wanting.
+pub fn verify_known<'x>(
+    alloc: Global,
+    program: &'x Program,
+    sectors: u32,
+) -> Result<Verified<'x>, Unaccepted>
+    requires some { 1 ≤ sectors }
+    requires device { sectors ≤ 16384 }
+    ensures program { IfOk result (λ v. v.program ≡ program.now) }
+    ensures sectors { IfOk result (λ v. v.sectors ≡ sectors) }
+    ensures verified { IfOk result IsVerified }
+    ensures refused { IfErr result (λ u. (u.fault ≡ memory_fault) ⊎ Refused program.now sectors u.fault.code u.fault.slot) }
+    ensures known { IfErr result (λ u. IsKnown program.now sectors u.fault (option_map state_of u.known)) }
+{
+    let shape = match shape(alloc, program) {
+        Ok(shape) => shape,
+        Err(fault) => return Err(by_itself(fault)),
+    };
+    let scene = Scene {
+        program,
+        shape: &shape,
+        sectors,
+    };
+    match kept_table(alloc, &scene) {
+        Ok(table) => Ok(Verified {
+            program,
+            sectors,
+            budget: shape.budget(),
+            table,
+        }),
+        Err(unaccepted) => Err(unaccepted),
+    }
+}
+
 /// Whether a program is accepted for devices of so many sectors (docs/VERIFIER.md): it is where it has the right shape
 /// and some table is good for it, and then it has the least good table. Else the first broken shape rule; or the first
 /// breach of the table at which the rounds end, where no table is good; or, where they need more than 500,000 visits of
@@ -83,16 +173,8 @@ pub fn verify<'x>(alloc: Global, program: &'x Program, sectors: u32) -> Result<V
     ensures verified { IfOk result IsVerified }
     ensures refused { IfErr result (λ f. (f ≡ memory_fault) ⊎ Refused program.now sectors f.code f.slot) }
 {
-    let shape = shape(alloc, program)?;
-    let (table, met) = infer(alloc, program, &shape, sectors)?;
-    if let Some(fault) = met {
-        return Err(fault);
+    match verify_known(alloc, program, sectors) {
+        Ok(verified) => Ok(verified),
+        Err(unaccepted) => Err(unaccepted.fault),
     }
-    check_rules(program, &table)?;
-    Ok(Verified {
-        program,
-        sectors,
-        budget: shape.budget(),
-        table,
-    })
 }

@@ -26,6 +26,7 @@ impl Way {
     ghost use Rattle.verifier.specs.Ways.{passed_along};
 
     /// What register n holds as a state arrives.
+    #[inline(always)]
     #[tactic(auto, using(crate::proofs::Ways::round_value))]
     pub(crate) fn value_at(&self, state: &State, n: usize) -> Value
         requires { n < 11 }
@@ -36,6 +37,7 @@ impl Way {
     }
 
     /// Group n of the stack as a state arrives.
+    #[inline(always)]
     #[tactic(auto, using(crate::proofs::Ways::round_group_at))]
     pub(crate) fn group_at(&self, state: &State, n: usize) -> Group
         requires { n < 64 }

@@ -34,16 +34,42 @@ impl Worklist {
 
     /// Takes the mark off the lowest slot that has one; None where no slot has.
     pub(crate) fn take(&mut self) -> Option<usize> {
-        let block = self.blocks.trailing_zeros() as usize;
+        self.take_in(self.blocks)
+    }
+
+    /// The same of the slots from one on.
+    pub(crate) fn take_from(&mut self, slot: usize) -> Option<usize>
+        requires { slot < 4096 }
+    {
+        let (block, bit) = (slot / BLOCK, slot % BLOCK);
+        let here = self.slots[block] & u64::MAX << bit;
+        if here != 0 {
+            return self.take_of(block, here);
+        }
+        self.take_in(self.blocks & (u64::MAX << block).wrapping_shl(1))
+    }
+
+    /// Takes the mark off the lowest slot of the first of these blocks.
+    fn take_in(&mut self, blocks: u64) -> Option<usize> {
+        let block = blocks.trailing_zeros() as usize;
         if BLOCK <= block {
             return None;
         }
-        let slots = self.slots[block];
-        let rest = slots & slots.wrapping_sub(1);
-        self.slots[block] = rest;
-        if rest == 0 {
-            self.blocks &= self.blocks.wrapping_sub(1);
+        self.take_of(block, self.slots[block])
+    }
+
+    /// Takes the mark off the first of some slots of a block, if there is one.
+    fn take_of(&mut self, block: usize, slots: u64) -> Option<usize>
+        requires { block < 64 }
+    {
+        let bit = slots.trailing_zeros() as usize;
+        if BLOCK <= bit {
+            return None;
         }
-        Some(BLOCK * block + slots.trailing_zeros() as usize)
+        self.slots[block] &= !(1 << bit);
+        if self.slots[block] == 0 {
+            self.blocks &= !(1 << block);
+        }
+        Some(BLOCK * block + bit)
     }
 }

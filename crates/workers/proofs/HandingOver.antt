@@ -99,7 +99,7 @@ adds_passed s block image before after keeps lt passed found = record {
     behind true false e h = absurd (let bad : false ≡ true = h in cc)
     behind false b e h = absurd (let bad : false ≡ true = h in cc)
 
-full_more : (s : Subject) (block : ℕ) (steps : List SeatStep) (ps : List PieceValue) → HandsOver s steps ps → block < block_count s → HandsOver s steps (ps ++ piece_of s block ∷ [])
+pub full_more : (s : Subject) (block : ℕ) (steps : List SeatStep) (ps : List PieceValue) → HandsOver s steps ps → block < block_count s → HandsOver s steps (ps ++ piece_of s block ∷ [])
 full_more s block steps ps h lt = more s steps ps (piece_of s block) h lt refl (λ all. refl) tt
 
 pub adds_full : (s : Subject) (block : ℕ) (before after : List SeatStep) → KeepsPosts before after → block < block_count s → AddsPiece s block before after (piece_of s block)

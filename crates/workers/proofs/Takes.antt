@@ -4,7 +4,7 @@ use Rattle.std.proofs.lemmas.List.{map-append}
 use Rattle.shares.specs.declared.view.SeatStep.{SeatStep}
 use Rattle.shares.specs.declared.view.SeatStep.TheVariants.{Drew}
 use Rattle.shares.specs.Seats.{BoardName, SeatValue, DrawsNone, taken, times}
-use Rattle.shares.specs.Hands.{HandValue, hand_value, IsTake}
+use Rattle.shares.specs.Hands.{HandValue, IsEmptyHand, IsTake}
 use Rattle.shares.proofs.Seats.{times_append}
 use Rattle.workers.specs.Failing.{Subject}
 use Rattle.workers.specs.Pieces.{PieceValue, pieces_at}
@@ -13,19 +13,19 @@ use Rattle.workers.proofs.HandingOver.{nothing_yet, keeps_posts, nothing_keeps, 
 use Rattle.workers.proofs.Runs.{count_blocks}
 
 -- the blocks of pieces, with one more piece
-one_more : (ps : List PieceValue) (p : PieceValue) (x : ℕ) → pieces_at (ps ++ p ∷ []) x ≡ pieces_at ps x + times x (p.block ∷ [])
+pub one_more : (ps : List PieceValue) (p : PieceValue) (x : ℕ) → pieces_at (ps ++ p ∷ []) x ≡ pieces_at ps x + times x (p.block ∷ [])
 one_more ps p x =
     let blocks : List PieceValue → List ℕ = λ (qs : List PieceValue). map (λ (q : PieceValue). q.block) qs in
     let both : blocks (ps ++ p ∷ []) ≡ blocks ps ++ p.block ∷ [] = rw map-append refl in
     omega (arith, count_blocks (ps ++ p ∷ []) x, count_blocks ps x, ap (times x) both, times_append x (blocks ps) (p.block ∷ []))
 
-pub none_taken : (s : Subject) (seat : SeatValue) → seat.steps ≡ [] → HasTaken s seat.board seat (hand_value [] [] []) [] []
-none_taken s seat e =
+pub none_taken : (s : Subject) (seat : SeatValue) (hand : HandValue) → seat.steps ≡ [] → IsEmptyHand hand → HasTaken s seat.board seat hand [] []
+none_taken s seat hand e empty =
     let none : taken seat ≡ [] = rw e refl in
     record {
       board_is = refl;
       handed = rw e (nothing_yet s);
-      together = λ x. omega (arith, ap (times x) none);
+      together = λ x. omega (arith, ap (times x) none, ap (λ (h : HandValue). times x h.pushed) empty, ap (λ (h : HandValue). times x h.list) empty, ap (λ (h : HandValue). times x h.got) empty);
     }
 
 -- after a take, its answer is about to be judged

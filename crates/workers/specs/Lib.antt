@@ -7,7 +7,6 @@ pub mod Counting
 pub mod Table
 pub mod Exploring
 pub mod Taking
-pub mod Settling
 pub mod Crew
 pub mod Laws
 pub mod Safe

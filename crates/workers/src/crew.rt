@@ -1,11 +1,11 @@
 //! The workers of a run, each on a thread of its own.
 
-ghost use Rattle.std.specs.Prelude.{◌≡◌, ◌<◌, ◌≤◌, [], All, length, map, flat_map, IfOk};
-ghost use Rattle.shares.specs.Hands.{hand_value};
+ghost use Rattle.std.specs.Prelude.{◌≡◌, ◌<◌, ◌≤◌, [], All, length, map, reverse, IfOk};
+ghost use Rattle.shares.specs.Hands.{AreTogether, IsEmptyHand};
 ghost use Rattle.shares.specs.Seats.{BoardName, SeatValue};
 ghost use Rattle.workers.specs.Input.{IsRunOf};
 ghost use Rattle.workers.specs.Pieces.{block_count};
-ghost use Rattle.workers.specs.Crew.{AreBack, AreParted, IsDone};
+ghost use Rattle.workers.specs.Crew.{AreBack, AreDone, AreParted, IsDone};
 
 use crate::cache::Shards;
 use crate::gate::Gate;
@@ -13,7 +13,7 @@ use crate::input::Input;
 use crate::piece::Piece;
 use crate::taking::pieces_taken;
 use crate::worker::Worker;
-use shares::{Board, Deal, Hand, Seat, hands};
+use shares::{Board, Deal, Hand, Seat, blocks_left, hands};
 use std::alloc::{AllocError, Global};
 use std::sync::Wait;
 use std::thread;
@@ -28,10 +28,12 @@ pub(crate) struct Job<H: Deal> {
     hand: Hand<H>,
 }
 
-/// What a worker comes back with: its seat in any case, and the pieces of the blocks that it took.
+/// What a worker comes back with: its seat and its hand in any case, and the pieces of the blocks that it
+/// took.
 #[derive(Drop)]
-pub(crate) struct Done {
+pub(crate) struct Done<H: Deal> {
     seat: Seat,
+    hand: Hand<H>,
     pieces: Result<Vec<Piece>, AllocError>,
 }
 
@@ -44,9 +46,10 @@ fn jobs_of<H: Deal>(
 ) -> Result<Vec<Job<H>>, AllocError>
     requires seats { length seats.items ≤ 64 }
     requires hands { length hands.items ≡ length seats.items }
-    requires empty { All (λ h. h ≡ hand_value [] [] []) hands.items }
+    requires empty { All IsEmptyHand hands.items }
     ensures seats { IfOk result (λ jobs. map (λ j. j.seat) jobs.items ≡ seats.items) }
-    ensures empty { IfOk result (λ jobs. All (λ j. j.hand ≡ hand_value [] [] []) jobs.items) }
+    ensures empty { IfOk result (λ jobs. All (λ j. IsEmptyHand j.hand) jobs.items) }
+    ensures places { IfOk result (λ jobs. map (λ j. j.hand.place) jobs.items ≡ reverse (map (λ h. h.place) hands.items)) }
 {
     let mut worker = seats.len() as u8;
     let mut hands = hands;
@@ -68,12 +71,12 @@ impl<H: Deal> Job<H> {
         input: &Input<'a>,
         shards: &Shards<'_, 'a, J>,
         board: &Board,
-    ) -> Done
+    ) -> Done<H>
         requires run { IsRunOf J.plan J.checkers input.now }
         requires board { self.seat.board ≡ board.now.name }
         requires blocks { (board.now.name.blocks ≡ block_count input.now) × (H.blocks ≡ block_count input.now) }
-        requires fresh { (self.seat.steps ≡ []) × (self.hand ≡ hand_value [] [] []) }
-        ensures { IsDone input.now board.now.name result }
+        requires fresh { (self.seat.steps ≡ []) × IsEmptyHand self.hand }
+        ensures { IsDone input.now board.now.name self.hand.place result }
     {
         let Job {
             worker,
@@ -87,7 +90,7 @@ impl<H: Deal> Job<H> {
             number: worker,
         };
         let pieces = pieces_taken(rt, &own, board, &mut seat, &mut hand);
-        Done { seat, pieces }
+        Done { seat, hand, pieces }
     }
 }
 
@@ -105,52 +108,71 @@ fn all_done<
     shards: &Shards<'_, 'a, J>,
     board: &Board,
     jobs: Vec<Job<H>>,
-) -> Result<Vec<Done>, AllocError>
+) -> Result<Vec<Done<H>>, AllocError>
     requires run { IsRunOf J.plan J.checkers input.now }
     requires blocks { (board.now.name.blocks ≡ block_count input.now) × (H.blocks ≡ block_count input.now) }
-    requires fresh { All (λ j. (j.seat.board ≡ board.now.name) × (j.seat.steps ≡ []) × (j.hand ≡ hand_value [] [] [])) jobs.items }
-    ensures count { IfOk result (λ done. length done.items ≡ length jobs.items) }
-    ensures each { IfOk result (λ done. All (IsDone input.now board.now.name) done.items) }
+    requires fresh { All (λ j. (j.seat.board ≡ board.now.name) × (j.seat.steps ≡ []) × IsEmptyHand j.hand) jobs.items }
+    ensures { IfOk result (λ done. AreDone input.now board.now.name (map (λ j. j.hand.place) jobs.items) done.items) }
 {
     thread::map_vec(
         rt,
         jobs,
-        &|job: Job<H>| -> Done
+        &|job: Job<H>| -> Done<H>
             requires { IsRunOf J.plan J.checkers input.now × (board.now.name.blocks ≡ block_count input.now) × (H.blocks ≡ block_count input.now)
-                × (job.seat.board ≡ board.now.name) × (job.seat.steps ≡ []) × (job.hand ≡ hand_value [] [] []) }
-            ensures { IsDone input.entry.now board.entry.now.name result }
+                × (job.seat.board ≡ board.now.name) × (job.seat.steps ≡ []) × IsEmptyHand job.hand }
+            ensures { IsDone input.entry.now board.entry.now.name job.hand.place result }
         { job.done(rt, gate, input, shards, board) },
     )
 }
 
-/// What a run has when all its workers are back: its board, their seats, and their pieces.
+/// What a run has when all its workers are back: its board, their seats, their pieces, and the blocks that
+/// they left in their hands.
 #[derive(Drop)]
 pub(crate) struct Back {
     pub(crate) board: Board,
     pub(crate) seats: Vec<Seat>,
     pub(crate) pieces: Vec<Piece>,
+    pub(crate) left: Vec<u32>,
 }
 
-/// The seats of the workers, and all their pieces.
+/// What workers come back with, part by part.
+#[derive(Drop)]
+struct Returned<H: Deal> {
+    seats: Vec<Seat>,
+    hands: Vec<Hand<H>>,
+    pieces: Vec<Piece>,
+}
+
+/// The seats and the hands of the workers, and all their pieces.
 ///
 /// # Errors
 ///
 /// A worker found no memory.
-fn parted(alloc: Global, done: Vec<Done>) -> Result<(Vec<Seat>, Vec<Piece>), AllocError>
-    ensures { IfOk result (λ parts. AreParted done.items parts.0.items parts.1.items) }
+fn parted<H: Deal>(alloc: Global, done: Vec<Done<H>>) -> Result<Returned<H>, AllocError>
+    ensures { IfOk result (λ parts. AreParted done.items parts.seats.items parts.hands.items parts.pieces.items) }
 {
     let mut seats = Vec::new(alloc);
+    let mut hands = Vec::new(alloc);
     let mut pieces = Vec::new(alloc);
     for one in done {
-        let Done { seat, pieces: own } = one;
+        let Done {
+            seat,
+            hand,
+            pieces: own,
+        } = one;
         let mut own = own?;
         pieces.append(&mut own)?;
+        hands.push(hand)?;
         seats.push(seat)?;
     }
-    Ok((seats, pieces))
+    Ok(Returned {
+        seats,
+        hands,
+        pieces,
+    })
 }
 
-/// Sends out the workers of a run, and waits until all are back.
+/// Sends out so many workers of a run, and waits until all are back.
 ///
 /// # Errors
 ///
@@ -167,19 +189,28 @@ pub(crate) fn crew_back<
     gate: &G,
     input: &Input<'a>,
     shards: &Shards<'_, 'a, J>,
+    crew: u8,
 ) -> Result<Back, AllocError>
     requires run { IsRunOf J.plan J.checkers input.now }
     requires blocks { H.blocks ≡ block_count input.now }
-    ensures { IfOk result (λ back. AreBack input.now back.board back.seats.items back.pieces.items) }
+    requires workers { H.workers ≡ crew }
+    requires crew { (0 < crew) × (crew ≤ 64) }
+    ensures { IfOk result (λ back. AreBack input.now back.board back.seats.items back.pieces.items back.left.items) }
 {
-    let crew = input.crew();
     let (board, seats) = Board::new(alloc, input.block_count(), crew)?;
     let jobs = jobs_of(alloc, seats, hands::<H>(alloc, crew)?)?;
     let done = all_done(rt, gate, input, shards, &board, jobs)?;
-    let (seats, pieces) = parted(alloc, done)?;
+    let Returned {
+        seats,
+        mut hands,
+        pieces,
+    } = parted(alloc, done)?;
+    hands.reverse();
+    let left = blocks_left(alloc, hands)?;
     Ok(Back {
         board,
         seats,
         pieces,
+        left,
     })
 }

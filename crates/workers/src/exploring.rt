@@ -16,7 +16,7 @@ use crate::crew::{Back, crew_back};
 use crate::gate::Gate;
 use crate::input::Input;
 use crate::piece::Piece;
-use crate::settling::settled;
+use crate::settling::with_left;
 use base::refusal::Refusal;
 use lines::Lines;
 use std::alloc::Global;
@@ -46,7 +46,8 @@ fn all_pieces<'a, J: Run + Send + Sync, G: Gate + Sync, R: Threads + Wait + Sync
     ensures pieces { IfOk result (λ pieces. ArePiecesOf input.now pieces.items) }
     ensures refused { IfErr result (λ r. r ≡ memory_refusal) }
 {
-    let back = match crew_back::<J, Brand, G, R>(rt, alloc, gate, input, shards) {
+    let crew = input.crew();
+    let back = match crew_back::<J, Brand, G, R>(rt, alloc, gate, input, shards, crew) {
         Ok(back) => back,
         Err(_error) => return Err(Refusal::of_memory()),
     };
@@ -54,12 +55,13 @@ fn all_pieces<'a, J: Run + Send + Sync, G: Gate + Sync, R: Threads + Wait + Sync
         board,
         seats,
         pieces,
+        left,
     } = back;
     if let Err(refusal) = board.gather(seats) {
         return Err(refusal);
     }
-    match settled(rt, alloc, gate, input, shards, pieces) {
-        Ok(settled) => Ok(settled),
+    match with_left(rt, gate, input, shards, pieces, left.as_slice()) {
+        Ok(pieces) => Ok(pieces),
         Err(_error) => Err(Refusal::of_memory()),
     }
 }

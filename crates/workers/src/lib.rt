@@ -51,16 +51,17 @@
 //!   some of the others, for every number of workers and every size of the cache. It is refused for want
 //!   of memory alone: no block is lost or counted twice, however the workers run.
 //!
-//! The last rests on what a worker hands over (`HandsOver` in `specs/Taking.antt`): pieces of the run; an
-//! image in a passed piece was found posted; and of what it posted each image fails in one of its full
-//! pieces. Two workers together hand over what both have (`both` in `proofs/HandingOver.antt`). When all are
-//! back, `settled` keeps one piece of each block, a full one where there is one, and judges a block that
-//! has none (`AreSettled` in `specs/Settling.antt`); and `gather` of `shares` says that what was found was
-//! posted. So each block has one piece, and it counts. No law of the deques is used for that. In fact
-//! nothing is left to judge and no piece comes twice, which is tested.
+//! The last rests on what a worker comes back with (`HasTaken` in `specs/Taking.antt`). Its pieces are of the
+//! run; an image in a passed piece was found posted; and of what it posted each image fails in one of its
+//! full pieces (`HandsOver`). The blocks of its pieces, with those that it pushed and those in its list, are
+//! together, each as often, those that it drew, popped or stole. Two workers together hand over what both
+//! have (`both` in `proofs/HandingOver.antt`).
 //!
-//! Of one worker `HasTaken` says what it took: the blocks of its pieces, with those that it pushed and those
-//! in its list, are together those that it drew, popped or stole.
+//! When all are back, `blocks_left` of `shares` takes their hands and answers what is left in them. Summed up
+//! over all workers (`AreBack` in `specs/Crew.antt`), the blocks of the pieces and the blocks left are, each as
+//! often, those that the seats drew. `gather` says that each block was drawn once, and that what was found was
+//! posted. So no block was lost and none was judged twice; the caller judges what is left (`with_left`), no
+//! piece is thrown away, and each block has one piece. In fact nothing is left, which is tested.
 //!
 //! Only tests show that more than one thread works, that workers steal, and that the cache is asked.
 //!
@@ -69,8 +70,9 @@
 //! `judging` finds the first choice of a block by its number, and then goes on from choice to choice.
 //! `worker` has what a worker judges with, the input, the shards and the gate.
 //! `block_lines` keeps the least image beside the lines of a block. `taking` is one worker, and `crew` sends
-//! them out and waits for them; `settling` makes of their pieces one of each block. `collecting` puts the pieces into a table with a row for each block, and notes
-//! the lowest block that comes twice and the least failing image. `exploring` puts all together; there a
+//! them out and waits for them; `settling` judges the blocks that are left in their hands. `collecting` puts
+//! the pieces into a table with a row for each block, and notes the lowest block that comes twice and the
+//! least failing image. `exploring` puts all together; there a
 //! run gets its name, a type parameter that only contracts read, so that its shards are its own.
 #![tactic(auto)]
 

@@ -1,10 +1,10 @@
 //! A piece of the work.
 
-ghost use Rattle.std.specs.Prelude.{◌≡◌, ◌++◌, IfOk, not};
+ghost use Rattle.std.specs.Prelude.{◌≡◌, ◌++◌, IfOk};
 ghost use Rattle.workers.specs.declared.found.Found.TheVariants as held;
 ghost use Rattle.workers.specs.Counting.{counts_with};
 ghost use Rattle.workers.specs.Least.{least_image};
-ghost use Rattle.workers.specs.Pieces.{lines_of, passes};
+ghost use Rattle.workers.specs.Pieces.{lines_of};
 
 use crate::block_lines::BlockLines;
 use crate::found::Found;
@@ -67,16 +67,6 @@ impl Piece {
         match &self.found {
             Found::Lines(lines) => lines.least_image(),
             Found::Passed(_) => None,
-        }
-    }
-
-    /// Whether its block was judged, and not passed over.
-    pub(crate) fn is_full(&self) -> bool
-        ensures { result ≡ not (passes self.now.found) }
-    {
-        match &self.found {
-            Found::Lines(_) => true,
-            Found::Passed(_) => false,
         }
     }
 

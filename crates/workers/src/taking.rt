@@ -2,7 +2,7 @@
 
 ghost use Rattle.std.specs.Prelude.{◌≡◌, ◌≤◌, ◌<◌, [], length, true, IfOk, OnOk, IfSome};
 ghost use Rattle.shares.specs.Steps.{next_seen, finds};
-ghost use Rattle.shares.specs.Hands.{HandValue, hand_value};
+ghost use Rattle.shares.specs.Hands.{HandValue, IsEmptyHand};
 ghost use Rattle.shares.specs.Seats.{HasEnded, taken};
 ghost use Rattle.workers.specs.Exploring.{passes_over};
 ghost use Rattle.workers.specs.Least.{least_image};
@@ -117,7 +117,8 @@ fn take_blocks<'a, J: Run, H: Deal, G: Gate, R: Wait>(
     requires blocks { (board.now.name.blocks ≡ block_count worker.now.input.now) × (H.blocks ≡ block_count worker.now.input.now) }
     requires changes { changes.old ≡ worker.now.input.now.plan.log }
     requires board { seat.old.board ≡ board.now.name }
-    requires fresh { (seat.old.steps ≡ []) × (hand.old ≡ hand_value [] [] []) }
+    requires fresh { (seat.old.steps ≡ []) × IsEmptyHand hand.old }
+    ensures place { hand.new.place ≡ hand.old.place }
     ensures changes { changes.new ≡ changes.old }
     ensures taken { IfOk result (λ pieces. HasTaken worker.now.input.now board.now.name seat.new hand.new [] pieces.items) }
 {
@@ -166,7 +167,8 @@ pub(crate) fn pieces_taken<'a, J: Run, H: Deal, G: Gate, R: Wait>(
 ) -> Result<Vec<Piece>, AllocError>
     requires board { seat.old.board ≡ board.now.name }
     requires blocks { (board.now.name.blocks ≡ block_count worker.now.input.now) × (H.blocks ≡ block_count worker.now.input.now) }
-    requires fresh { (seat.old.steps ≡ []) × (hand.old ≡ hand_value [] [] []) }
+    requires fresh { (seat.old.steps ≡ []) × IsEmptyHand hand.old }
+    ensures place { hand.new.place ≡ hand.old.place }
     ensures pieces { IfOk result (λ pieces. HasTaken worker.now.input.now board.now.name seat.new hand.new [] pieces.items) }
     ensures ended { IfOk result (λ _. HasEnded seat.new) }
 {

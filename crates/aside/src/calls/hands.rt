@@ -6,11 +6,13 @@ use crate::calls::refused::OfMemory;
 use shares::{Board, Deal, Hand, Seat, hands};
 use std::alloc::{AllocError, Global};
 
-/// Eight blocks are dealt out.
+/// Eight blocks are dealt out, to two workers.
 struct Eight;
 
 impl Deal for Eight {
     ghost blocks = { 8 };
+
+    ghost workers = { 2 };
 }
 
 /// Which blocks were taken, a bit for each, and how often one was.

@@ -1,8 +1,7 @@
-use Rattle.std.proofs.Common.{ℕ, ◌≡◌, ◌<◌, ◌+◌, List, [], ◌∷◌, ◌++◌, slice_set, length, slice_index_or, refl, arith, ap, sym, ◌∙◌}
+use Rattle.std.proofs.Common.{ℕ, ◌≡◌, ◌+◌, List, [], ◌∷◌, ◌++◌, slice_set, length, slice_index_or, refl, arith, ap, ◌∙◌}
 use Rattle.std.specs.Prelude.{max}
-use Rattle.flushes.specs.declared.window.Window.{Window}
 use Rattle.flushes.specs.declared.counted.MissingFlush.{MissingFlush}
-use Rattle.flushes.specs.Counted.{places_before, counted_at, greatest_start, missing, missing_at}
+use Rattle.flushes.specs.Counted.{counted_at, greatest_start, missing_at}
 use Rattle.flushes.proofs.Counting.{length-missing, at-missing, few-counted, missing-more, flush-more}
 use Rattle.flushes.proofs.counted.count.Goals as goal
 

@@ -1,4 +1,4 @@
-use Rattle.std.proofs.Common.{ℕ, ltb, ltb-true, ltb-false, arith, rules, ◌≤◌, ◌<◌, length, slice_index_or, inl, inr}
+use Rattle.std.proofs.Common.{ℕ, ltb, ltb-true, ltb-false, arith, rules, length, inl, inr}
 use Rattle.std.proofs.lemmas.List.Sorted.{IsPartitionPoint-from_clause, IsPartitionedBy-ltb}
 use Rattle.std.proofs.lemmas.Bool.Decides.{leb_tells}
 use Rattle.std.proofs.lemmas.Option.{slice_get_within, get_or_from_slice_get}

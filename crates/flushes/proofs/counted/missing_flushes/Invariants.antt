@@ -1,4 +1,4 @@
-use Rattle.std.proofs.Common.{ℕ, ◌≡◌, take}
+use Rattle.std.proofs.Common.{◌≡◌, take}
 use Rattle.flushes.specs.Counted.{missing}
 use Rattle.flushes.proofs.counted.missing_flushes.Given as goal
 

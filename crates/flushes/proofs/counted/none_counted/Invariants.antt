@@ -1,4 +1,4 @@
-use Rattle.std.proofs.Common.{ℕ, ◌≡◌, [], map}
+use Rattle.std.proofs.Common.{◌≡◌, [], map}
 use Rattle.std.specs.List.{range_with_len}
 use Rattle.flushes.specs.Counted.{missing_at}
 use Rattle.flushes.proofs.counted.none_counted.Given as goal

@@ -1,4 +1,4 @@
-use Rattle.std.proofs.Common.{ℕ, ◌≡◌, ◌+◌, List, length, slice_index_or, refl, arith, ap, ◌∙◌, sym, subst}
+use Rattle.std.proofs.Common.{ℕ, ◌≡◌, length, slice_index_or, arith, ap, ◌∙◌, subst}
 use Rattle.std.proofs.lemmas.Option.{slice_get-get_or}
 use Rattle.flushes.proofs.Walked.{Walked, next, pass, whole}
 use Rattle.flushes.proofs.places.places_by.Goals.{then-start-last+in_ok-push, else-start-last}

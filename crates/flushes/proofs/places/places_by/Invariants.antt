@@ -1,4 +1,4 @@
-use Rattle.std.proofs.Common.{List, length, ◌<◌, ◌≤◌, ℕ}
+use Rattle.std.proofs.Common.{List, length}
 use Rattle.flushes.specs.declared.window.Window.{Window}
 use Rattle.flushes.specs.Places.{AreWindows, AreStarts}
 use Rattle.flushes.proofs.Walked.{Walked}

@@ -1,4 +1,3 @@
-use Rattle.std.proofs.Common.{ℕ, IfOk}
 use Rattle.flushes.proofs.Walked.{ordered}
 use Rattle.flushes.proofs.places.places_of.Goals as goal
 

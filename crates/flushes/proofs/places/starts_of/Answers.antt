@@ -1,4 +1,4 @@
-use Rattle.std.proofs.Common.{ℕ, ◌≡◌, ◌<◌, ◌≤◌, ◌⊎◌, List, length, slice_get, slice_index_or, slice_set, Some, refl, inl, inr, arith, ap, sym, ◌∙◌}
+use Rattle.std.proofs.Common.{ℕ, ◌≡◌, slice_get, slice_index_or, Some, inl, inr, ap, sym}
 use Rattle.std.proofs.lemmas.Option.{slice_get-get_or, slice_get_read}
 use Rattle.flushes.specs.declared.window.Window.{Window}
 use Rattle.flushes.proofs.Starts.{one_more}

@@ -1,8 +1,6 @@
-use Rattle.std.proofs.Common.{refl, sym, ◌∙◌, ap, arith}
-use Rattle.logfmt.specs.Bounds.{LogValue}
-use Rattle.epochs.specs.Laws.{last_flush}
+use Rattle.std.proofs.Common.{refl, ◌∙◌, arith}
 use Rattle.images.proofs.Sectors.{flush_within}
-use Rattle.images.proofs.Growing.{none_between, known_on, known_anew}
+use Rattle.images.proofs.Growing.{none_between, known_on}
 use Rattle.images.proofs.changes.known_at.Goals as goal
 
 pub followed-requires-clause-flush : goal.followed-requires-clause-flush

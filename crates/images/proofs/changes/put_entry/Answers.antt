@@ -35,7 +35,7 @@ loop-place-preserved c =
     let log = c.args.versions.now in
     let up = units_up_to log.entries c.args.number c.index-entries-number.result c.loop-place.place in
     c.in_ok-put_unit.ensures up c.loop-place.invariant
-    ∙ ap (λ us. changes (whole_image log c.args.flush) (sector_after log.entries us []) 0 log.sectors)
+    ∙ ap (λ us. changes (whole_image log c.args.flush) (sector_after log us []) 0 log.sectors)
     (one_more log.entries c.args.number c.index-entries-number.result c.loop-place.place)
 
 pub returns : goal.returns

@@ -1,7 +1,7 @@
 use Rattle.std.proofs.Common.{ℕ, List, ◌+◌, refl, sym, subst, ◌∙◌, arith}
 use Rattle.std.specs.List.Sorted.{IsNonDecreasingBy}
 use Rattle.images.specs.Keys.{ChangedValue}
-use Rattle.images.specs.Changes.{changes, whole_image, image_of, with_sector, with_sectors}
+use Rattle.images.specs.Changes.{whole_image, image_of, with_sector, with_sectors}
 use Rattle.images.proofs.Departing.{change_here}
 use Rattle.images.proofs.Listed.{changes_rise, changes_alike, other_more}
 use Rattle.images.proofs.changes.put_part.Goals as goal

@@ -1,11 +1,10 @@
-use Rattle.std.proofs.Common.{List, ℕ, ◌≡◌, [], refl, sym, subst, ◌∙◌, ap, OnOk}
+use Rattle.std.proofs.Common.{List, ◌≡◌, [], sym, subst, ◌∙◌, ap, OnOk}
 use Rattle.std.specs.List.Sorted.{IsNonDecreasingBy}
-use Rattle.logfmt.specs.Bounds.{LogValue, IsLog}
-use Rattle.epochs.specs.Plan.{IsUnit}
+use Rattle.logfmt.specs.Bounds.{LogValue}
 use Rattle.epochs.specs.Units.{unit_content}
 use Rattle.images.specs.Images.{sector_after}
 use Rattle.images.specs.Keys.{ChangedValue}
-use Rattle.images.specs.Changes.{changes, with_sector, whole_image}
+use Rattle.images.specs.Changes.{with_sector, whole_image}
 use Rattle.images.proofs.Departing.{own_content}
 use Rattle.images.proofs.Growing.{unit_more}
 use Rattle.images.proofs.Listed.{changes_rise}
@@ -21,7 +20,7 @@ returns c = λ us is.
     let log = c.args.versions.now in
     let unit = c.args.unit in
     let base = whole_image log c.args.flush in
-    let old = sector_after log.entries us [] in
+    let old = sector_after log us [] in
     let content = c.content_of.result.now in
     let told = c.change_of-change.ensures base (with_sector old unit.sector content) (sym c.durable-base.ensures) (own_content old unit.sector content) in
     subst (λ xs. OnOk c.put.result (c.put.new.sectors.items ≡ xs))

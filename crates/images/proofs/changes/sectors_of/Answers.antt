@@ -1,6 +1,5 @@
 use Rattle.std.proofs.Common.{refl, arith}
 use Rattle.std.proofs.lemmas.Option.{slice_get_read}
-use Rattle.std.proofs.lemmas.List.Sums.{sum_by_more}
 use Rattle.images.proofs.Departing.{one_count_more}
 use Rattle.images.proofs.changes.sectors_of.Goals as goal
 

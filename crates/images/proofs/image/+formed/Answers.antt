@@ -6,15 +6,15 @@ use Rattle.images.proofs.image.+formed.Goals as goal
 pub returns-then-is_empty : goal.returns-then-is_empty
 returns-then-is_empty t c =
     let none : length c.args.row.now ≡ 0 = search rules in
-    λ s all. nothing c.args.log.now.entries c.args.row.now c.args.departures.now s none
+    λ all. c.initial_of.ensures ∙ nothing c.args.log.now c.args.row.now c.args.departures.now c.args.number none
 
 pub content_of-content-requires : goal.content_of-content-requires
 content_of-content-requires t c =
     let some : 0 < length c.args.row.now = search rules in
     c.requires.units _ _ (slice_get-get_or c.args.row.now (length c.args.row.now - 1) _ (omega (arith, some)))
 
-pub formed-requires : goal.formed-requires
-formed-requires t c =
+pub formed-earlier-requires : goal.formed-earlier-requires
+formed-earlier-requires t c =
     let some : 0 < length c.args.row.now = search rules in
     (search rules, ((λ i u there. c.requires.units i u (in_take _ c.args.row.now i u there)), c.requires.once))
 
@@ -22,7 +22,7 @@ pub returns-in_default : goal.returns-in_default
 returns-in_default t c =
     let some : 0 < length c.args.row.now = search rules in
     let there = slice_get-get_or c.args.row.now (length c.args.row.now - 1) _ (omega (arith, some)) in
-    λ s all. whole_last c.args.log.now.entries c.args.row.now c.args.departures.now s (length c.args.row.now - 1) _ _
+    λ all. whole_last c.args.log.now c.args.row.now c.args.departures.now c.args.number (length c.args.row.now - 1) _ _
     (omega (arith, some)) there (all _ _ there) (sym c.fate_at.ensures ∙ c.in_default.is)
     c.content_of-content.ensures.value c.content_of-content.ensures.size
 
@@ -30,8 +30,8 @@ pub returns : goal.returns
 returns t c =
     let some : 0 < length c.args.row.now = search rules in
     let there = slice_get-get_or c.args.row.now (length c.args.row.now - 1) _ (omega (arith, some)) in
-    λ s all. spliced c.args.log.now.entries c.args.row.now c.args.departures.now s (length c.args.row.now - 1) _ _ _ _ _
+    λ all. spliced c.args.log.now c.args.row.now c.args.departures.now c.args.number (length c.args.row.now - 1) _ _ _ _ _
     (omega (arith, some)) there (all _ _ there) c.requires.once (sym c.fate_at.ensures ∙ c.in-Some.is)
     c.content_of-content.ensures.value
-    (c.formed.ensures s (λ i u h. all i u (in_take _ c.args.row.now i u h)))
+    (c.formed-earlier.ensures (λ i u h. all i u (in_take _ c.args.row.now i u h)))
     c.laid.ensures.size c.laid.ensures.bytes

@@ -1,4 +1,4 @@
-use Rattle.std.proofs.Common.{List, ℕ, Some, None, Option, ◌≡◌, ◌≤◌, ◌<◌, ◌==◌, length, slice_get, slice_index_or, false, sym, subst, ◌∙◌, ap}
+use Rattle.std.proofs.Common.{List, ℕ, Some, None, ◌≤◌, ◌<◌, ◌==◌, length, slice_get, slice_index_or, false, sym, subst, ◌∙◌, ap}
 use Rattle.std.specs.Option.{option_map_or}
 use Rattle.images.specs.Keys.{ChangedValue}
 use Rattle.images.proofs.Listed.{relisted, relisted_is}

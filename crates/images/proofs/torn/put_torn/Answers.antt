@@ -32,7 +32,7 @@ loop-departure-preserved c =
     let there = slice_get_read ds _ c.loop-departure.departure-index _ refl c.loop-departure-test.true c.departure-item.is in
     elim c.if-tears.branch [
       | then-tears w ↦
-          rw w.torn-is (one_torn log c.args.cut ds c.loop-departure.departure-index c.loop-departure.torn.items _ c.departure-item.result _ c.loop-departure.invariant there w.push.ensures.items w.tear-number.ensures.value (w.formed.ensures ∙ ap (sector_after log.entries (units_before log.entries c.args.cut) ds) w.tear-number.ensures.value))
+          rw w.torn-is (one_torn log c.args.cut ds c.loop-departure.departure-index c.loop-departure.torn.items _ c.departure-item.result _ c.loop-departure.invariant there w.push.ensures.items w.tear-number.ensures.value (w.formed.ensures ∙ ap (sector_after log (units_before log.entries c.args.cut) ds) w.tear-number.ensures.value))
       | else-tears w ↦
           rw w.torn-is (not_torn log c.args.cut ds c.loop-departure.departure-index c.loop-departure.torn.items c.departure-item.result c.loop-departure.invariant there
           (sym c.tears.ensures ∙ w.if-tears.false))

@@ -20,5 +20,5 @@ loop-number-preserved c =
 pub returns-clause-found : goal.returns-clause-found
 returns-clause-found c =
     let passed = c.in_default.ensures.passes in
-    rw c.of.ensures
+    rw (c.of.ensures, c.none.ensures)
     (whole_text _ _ _ _ _ _ passed c.requires.some c.requires.device (omega arith) c.loop-number.invariant)

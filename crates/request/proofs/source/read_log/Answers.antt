@@ -1,9 +1,19 @@
-use Rattle.std.proofs.Common.{◌∙◌}
+use Rattle.std.proofs.Common.{arith}
+use Rattle.request.specs.Source.{past_device}
 use Rattle.request.proofs.Logs.{log_refused, log_of, there, lacks_place}
 use Rattle.request.proofs.source.read_log.Goals as goal
 
+pub returns-then-initial-sectors-clause-refused : goal.returns-then-initial-sectors-clause-refused
+returns-then-initial-sectors-clause-refused c =
+    rw c.option_refusal_of.ensures (past_device (let device = c.sectors.ensures.value in omega (arith, device, c.if-initial-sectors.true)))
+
+pub recorded-requires : goal.recorded-requires
+recorded-requires c = let device = c.sectors.ensures.value in omega (arith, device, c.if-initial-sectors.false)
+
 pub returns-in-Err-clause-refused : goal.returns-in-Err-clause-refused
-returns-in-Err-clause-refused c = rw c.log_refusal_of.ensures (log_refused _ _ _ c.in-Err.fault c.sectors.ensures.value c.in-Err.ensures.fault)
+returns-in-Err-clause-refused c =
+    rw c.log_refusal_of.ensures
+    (log_refused _ _ c.in-Err.fault (let device = c.sectors.ensures.value in omega (arith, device, c.if-initial-sectors.false)) c.in-Err.ensures.fault)
 
 pub flushed-requires : goal.flushed-requires
 flushed-requires c = there c.cuts-cuts.result c.in-Ok.log _ c.places.result.now _ c.entries.ensures.value c.places.ensures.value c.first_lacking.ensures c.in-None.is
@@ -11,9 +21,9 @@ flushed-requires c = there c.cuts-cuts.result c.in-Ok.log _ c.places.result.now 
 pub returns-in-Some-clause-refused : goal.returns-in-Some-clause-refused
 returns-in-Some-clause-refused c =
     rw c.lacking_refusal_of.ensures
-    (lacks_place _ c.args.options.now c.cuts-cuts.result c.in-Ok.log _ _ c.in-Some.place c.cuts-cuts.ensures (c.in-Ok.ensures.sectors ∙ c.sectors.ensures.value) c.in-Ok.ensures.found c.entries.ensures.value c.first_lacking.ensures c.in-Some.is)
+    (lacks_place _ c.args.options.now c.cuts-cuts.result c.in-Ok.log _ _ c.in-Some.place c.cuts-cuts.ensures c.in-Ok.ensures.log c.entries.ensures.value c.first_lacking.ensures c.in-Some.is)
 
 pub returns-in-None-clause-log : goal.returns-in-None-clause-log
 returns-in-None-clause-log c =
-    log_of _ c.args.options.now c.cuts-cuts.result c.in-Ok.log c.flushed.result _ c.places.result.now _ c.cuts-cuts.ensures (c.in-Ok.ensures.sectors ∙ c.sectors.ensures.value) c.in-Ok.ensures.found c.entries.ensures.value c.places.ensures.value
+    log_of _ c.args.options.now c.cuts-cuts.result c.in-Ok.log c.flushed.result _ c.places.result.now _ c.cuts-cuts.ensures c.in-Ok.ensures.log c.entries.ensures.value c.places.ensures.value
     c.first_lacking.ensures c.in-None.is c.flushed.ensures

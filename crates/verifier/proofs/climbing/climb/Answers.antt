@@ -5,5 +5,5 @@ use Rattle.verifier.proofs.climbing.climb.Goals as goal
 
 pub loop-step-init : goal.loop-step-init
 loop-step-init c =
-    let table : c.in_ok-table.table ≡ first_table (length c.args.program.now) = search rules in
-    first_climbed c.args.program.now c.args.sectors c.in_ok-table.table table
+    let table : c.in_ok-table.table ≡ first_table (length c.args.scene.now.program.now) = search rules in
+    first_climbed c.args.scene.now.program.now c.args.scene.now.sectors c.in_ok-table.table table

@@ -10,11 +10,11 @@ lead_next-requires c =
     fits_next c.args.scene.now.program.now c.args.scene.now.sectors c.args.table.now c.args.slot c.in-Some.to c.args.instr.now c.args.scene.now.shape.now.heads (state_of c.copy_state.new.room) (record {
       few = omega (arith, c.args.scene.now.few);
       made = c.slots-slots.ensures.program;
-      shape = c.requires.shape.rules;
+      shape = c.args.scene.now.rules;
       states = c.slots-states.ensures.states;
       long = c.requires.long;
       there = c.requires.instr;
-      rounds = c.requires.shape.heads;
+      rounds = c.args.scene.now.heads_are;
     })
     edge (c.if-copy_state.ensures)
 
@@ -24,11 +24,11 @@ returns-in-Some-way_to c =
     learns_next c.args.scene.now.program.now c.args.scene.now.sectors c.args.table.now c.arrive_along.new.table c.args.slot c.in-Some.to c.args.instr.now c.args.scene.now.shape.now.heads c.effect_next-effect.result c.in-Some-way_to.way (record {
       few = omega (arith, c.args.scene.now.few);
       made = c.slots-slots.ensures.program;
-      shape = c.requires.shape.rules;
+      shape = c.args.scene.now.rules;
       states = c.slots-states.ensures.states;
       long = c.requires.long;
       there = c.requires.instr;
-      rounds = c.requires.shape.heads;
+      rounds = c.args.scene.now.heads_are;
     })
     edge c.effect_next-effect.ensures (rw c.is_head.ensures at c.in-Some-way_to.ensures) c.arrive_along.ensures
 
@@ -38,10 +38,10 @@ returns-then-copy_state c =
     comes_next c.args.scene.now.program.now c.args.scene.now.sectors c.args.table.now c.lead_next.new.table c.args.slot c.in-Some.to c.args.instr.now c.args.scene.now.shape.now.heads (state_of c.copy_state.new.room) (record {
       few = omega (arith, c.args.scene.now.few);
       made = c.slots-slots.ensures.program;
-      shape = c.requires.shape.rules;
+      shape = c.args.scene.now.rules;
       states = c.slots-states.ensures.states;
       long = c.requires.long;
       there = c.requires.instr;
-      rounds = c.requires.shape.heads;
+      rounds = c.args.scene.now.heads_are;
     })
     edge (c.if-copy_state.ensures) c.lead_next.ensures

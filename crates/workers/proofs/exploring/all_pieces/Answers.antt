@@ -1,12 +1,13 @@
+use Rattle.std.proofs.Common.{◌∙◌, ◌++◌, map, ap, arith}
 use Rattle.shares.specs.Seats.{all_steps}
-use Rattle.workers.proofs.Runs.{blocks_below}
+use Rattle.workers.specs.Pieces.{piece_of}
 use Rattle.workers.proofs.Settled.{whole_run}
 use Rattle.workers.proofs.exploring.all_pieces.Goals as goal
 
-pub settled-requires-clause-pieces : goal.settled-requires-clause-pieces
-settled-requires-clause-pieces g c = blocks_below c.args.input.now c.in-Ok.back.pieces.items c.in-Ok.ensures.pieces_are.own
-
-pub returns-in-Ok-settled-clause-pieces : goal.returns-in-Ok-settled-clause-pieces
-returns-in-Ok-settled-clause-pieces g c =
+pub returns-in-Ok-with_left-clause-pieces : goal.returns-in-Ok-with_left-clause-pieces
+returns-in-Ok-with_left-clause-pieces g c =
+    let s = c.args.input.now in
     let back = c.in-Ok.ensures in
-    whole_run c.args.input.now (all_steps c.in-Ok.back.seats.items) c.in-Ok.back.pieces.items c.in-Ok-settled.settled.items back.few back.pieces_are c.in_default.ensures.seen_posted c.in-Ok-settled.ensures
+    let pieces = c.in-Ok.back.pieces.items in
+    whole_run s (all_steps c.in-Ok.back.seats.items) pieces c.in-Ok-with_left.pieces.items c.in-Ok.back.left.items back.few back.pieces_are c.in_default.ensures.seen_posted
+    (λ b lt. back.together b ∙ c.in_default.ensures.taken.once b (omega (arith, lt, back.blocks))) back.left_below (c.in-Ok-with_left.ensures ∙ ap (λ l. pieces ++ map (piece_of s) l) c.as_slice.ensures.value)

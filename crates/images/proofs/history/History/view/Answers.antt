@@ -1,4 +1,4 @@
-use Rattle.std.proofs.Common.{ℕ, ◌≡◌, List, length, slice_get, refl, ◌∙◌, ap, sym, subst, arith}
+use Rattle.std.proofs.Common.{◌≡◌, List, length, slice_get, refl, ◌∙◌, ap, sym, subst, arith}
 use Rattle.logfmt.specs.Bounds.{LogValue, IsLog}
 use Rattle.epochs.specs.Plan.{PlanValue, IsPart}
 use Rattle.choices.specs.declared.choice.Departure.{Departure}

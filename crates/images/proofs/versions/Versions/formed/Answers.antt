@@ -24,8 +24,8 @@ returns c =
     let row = c.before-2.ensures ∙ ap (λ (l : LogValue). versions l.entries c.args.cut c.args.number) (sym c.self.view_is) in
     let long = ap (λ (l : LogValue). length l.entries) c.self.view_is in
     let cut = c.requires.cut in
-    c.formed.ensures c.args.number
+    c.formed.ensures
     (λ i u there. (row_units log c.args.cut c.args.number c.self.invariant.bounds (omega (arith, long, cut)) i u (ap (λ us. slice_get us i) (sym row) ∙ there)).1)
-    ∙ ap (λ us. sector_after log.entries us c.args.departures.now c.args.number) row
-    ∙ sector_of_row log.entries (units_before log.entries c.args.cut) c.args.departures.now c.args.number
-    ∙ ap (λ (l : LogValue). sector_after l.entries (units_before l.entries c.args.cut) c.args.departures.now c.args.number) c.self.view_is
+    ∙ ap (λ us. sector_after log us c.args.departures.now c.args.number) row
+    ∙ sector_of_row log (units_before log.entries c.args.cut) c.args.departures.now c.args.number
+    ∙ ap (λ (l : LogValue). sector_after l (units_before l.entries c.args.cut) c.args.departures.now c.args.number) c.self.view_is

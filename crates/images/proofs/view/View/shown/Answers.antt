@@ -10,8 +10,8 @@ returns-in-Some c =
     let log = c.self.inside.versions in
     view_there c.args.self.now c.args.number c.requires
     ∙ ap (λ s. Some s) (sym (c.in-Some.ensures.lent
-    ∙ ap (λ ds. sector_after log.entries (units_before log.entries c.self.inside.cut) ds c.args.number) c.as_slice.ensures.value
-    ∙ ap (λ (v : ViewValue). sector_after v.log.entries (units_before v.log.entries v.cut) v.departures c.args.number) c.self.view_is))
+    ∙ ap (λ ds. sector_after log (units_before log.entries c.self.inside.cut) ds c.args.number) c.as_slice.ensures.value
+    ∙ ap (λ (v : ViewValue). sector_after v.log (units_before v.log.entries v.cut) v.departures c.args.number) c.self.view_is))
 
 pub returns-in-None : goal.returns-in-None
 returns-in-None c =
@@ -21,5 +21,5 @@ returns-in-None c =
     view_there c.args.self.now c.args.number c.requires
     ∙ ap (λ s. Some s) (sym (at.4
     ∙ c.self.invariant.owned.bytes at.0 at.1 there
-    ∙ ap (sector_after log.entries (units_before log.entries c.self.inside.cut) c.self.inside.departures.items) at.3
-    ∙ ap (λ (v : ViewValue). sector_after v.log.entries (units_before v.log.entries v.cut) v.departures c.args.number) c.self.view_is))
+    ∙ ap (sector_after log (units_before log.entries c.self.inside.cut) c.self.inside.departures.items) at.3
+    ∙ ap (λ (v : ViewValue). sector_after v.log (units_before v.log.entries v.cut) v.departures c.args.number) c.self.view_is))

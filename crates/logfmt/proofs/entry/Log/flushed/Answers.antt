@@ -6,7 +6,7 @@ use Rattle.logfmt.proofs.Flushed.{flushed-none, length-flushed, one-more, log-fl
 use Rattle.logfmt.proofs.entry.Log.flushed.Goals as goal
 
 pub loop-place-init : goal.loop-place-init
-loop-place-init c = c.into_entries-entries.ensures.value ∙ sym (flushed-none c.args.self.entries)
+loop-place-init c = c.into_parts-entries.ensures.entries ∙ sym (flushed-none c.args.self.entries)
 
 pub put_flush-requires : goal.put_flush-requires
 put_flush-requires c =
@@ -23,5 +23,5 @@ loop-place-preserved c =
 
 pub of-requires : goal.of-requires
 of-requires c =
-    rw (c.sectors-sectors.ensures.value, c.loop-place.invariant)
-    (log-flushed (take c.loop-place.place-index c.args.places.now) c.args.self c.into_entries-entries.ensures.bounds)
+    rw (c.sectors-sectors.ensures.value, c.loop-place.invariant, c.into_parts-entries.ensures.initial)
+    (log-flushed (take c.loop-place.place-index c.args.places.now) c.args.self c.into_parts-entries.ensures.bounds)

@@ -1,5 +1,4 @@
-use Rattle.std.proofs.Common.{◌∙◌, ◌≡◌, ap, sym, subst, arith}
-use Rattle.shares.specs.Steps.{late_draws}
+use Rattle.std.proofs.Common.{◌≡◌, ap, subst}
 use Rattle.shares.specs.Seats.{all_steps, AreDrawnOnce}
 use Rattle.shares.proofs.Seats.{none_ended, all_taken_once, ok_then, err_both}
 use Rattle.shares.proofs.board.Board.gather.Goals as goal

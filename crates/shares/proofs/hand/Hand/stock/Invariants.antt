@@ -3,4 +3,4 @@ use Rattle.shares.specs.Hands.{IsStocked}
 use Rattle.shares.proofs.hand.Hand.stock.Given as goal
 
 abbrev pub invariant-loop-more : goal.invariant-loop-more
-invariant-loop-more g l = (l.seat.board ≡ l.board.name) × (length l.self.list ≤ l.more) × IsStocked l.more l.initial.self l.initial.seat l.self l.seat
+invariant-loop-more g l = (l.seat.board ≡ l.board.name) × (length l.self.list ≤ l.more) × (l.self.place ≡ l.initial.self.place) × IsStocked l.more l.initial.self l.initial.seat l.self l.seat

@@ -1,6 +1,6 @@
 use Rattle.std.proofs.Common.{◌≡◌, []}
 use Rattle.shares.specs.Seats.{HasEnded}
-use Rattle.workers.specs.Taking.{HandsOver, HasTaken}
+use Rattle.workers.specs.Taking.{HasTaken}
 use Rattle.workers.proofs.Back.{ok_both}
 use Rattle.workers.proofs.crew.Job.done.Goals as goal
 
@@ -9,5 +9,8 @@ returns g c =
     let s = c.args.input.now in
     let name = c.args.board.now.name in
     let seat = c.pieces_taken-pieces.new.seat in
-    ok_both c.pieces_taken-pieces.result (λ pieces. HasTaken s name seat c.pieces_taken-pieces.new.hand [] pieces.items) (λ pieces. HasEnded seat)
-    (λ pieces. (seat.board ≡ name) × HandsOver s seat.steps pieces.items × HasEnded seat) c.pieces_taken-pieces.ensures.pieces c.pieces_taken-pieces.ensures.ended (λ pieces h e. (h.board_is, h.handed, e))
+    let hand = c.pieces_taken-pieces.new.hand in (
+      c.pieces_taken-pieces.ensures.place,
+      ok_both c.pieces_taken-pieces.result (λ pieces. HasTaken s name seat hand [] pieces.items) (λ pieces. HasEnded seat) (λ pieces. HasTaken s name seat hand [] pieces.items × HasEnded seat)
+          c.pieces_taken-pieces.ensures.pieces c.pieces_taken-pieces.ensures.ended (λ pieces h e. (h, e)),
+    )

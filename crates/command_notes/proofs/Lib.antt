@@ -1,2 +1,0 @@
--- Lemmas of the crate.
-pub mod Ranges

@@ -1,0 +1,28 @@
+-- What is imported of a raw log: its entries, in sectors of 512 bytes.
+use Rattle.std.specs.Prelude.{ℕ, ◌*◌, ◌≡◌, ◌≤◌, List, [], length, map}
+use Rattle.logfmt.specs.declared.entry.Entry.{Entry}
+use Rattle.logfmt.specs.Bounds.{LogValue, IsLog, AreRecorded, place}
+use Rattle.logfmt.specs.LogText.{canonical_text}
+use Rattle.raw_log.specs.Raw.{RawText, bytes_in}
+
+-- an entry of a raw log, of which each sector is k sectors of 512 bytes: the same bytes at the same places of the device
+abbrev pub divided : ℕ → Entry → Entry
+divided k e = record e { sector = k * e.sector; count = k * e.count }
+
+-- the log of these entries, for a device of that many sectors of 512 bytes, of which nothing is known to have been written before
+abbrev pub imported : ℕ → ℕ → List Entry → LogValue
+imported k sectors es = record { sectors = sectors; entries = map (divided k) es; initial = [] }
+
+-- the entries can be imported: what comes out is within the limits of a log, and they need at most 192 MiB of the raw one
+pub record IsImportable (k sectors : ℕ) (es : List Entry) : Type 0 where
+  pub log : IsLog (imported k sectors es)
+  pub recorded : AreRecorded (imported k sectors es).entries
+  pub need : bytes_in k (place es (length es)) ≤ 201326592
+
+-- the text is the canonical text of the log that is imported of these bytes
+pub record IsImported (bytes : List ℕ) (sectors : ℕ) (text : List ℕ) : Type 0 where
+  pub k : ℕ
+  pub entries : List Entry
+  pub raw : RawText k bytes entries
+  pub importable : IsImportable k sectors entries
+  pub same : text ≡ canonical_text (imported k sectors entries).entries

@@ -1,0 +1,97 @@
+//! From the bytes of a raw log to the canonical text of the log of its entries: one pass, in which each check is made once and in
+//! its order.
+
+ghost use Rattle.std.specs.Prelude.{true, false, ◌≡◌, ◌≤◌, ◌+◌, ◌*◌, ◌⊎◌, length, IfOk, IfErr, OnOk};
+ghost use Rattle.std.specs.List.{slice_range};
+ghost use Rattle.base.specs.declared.causes.LogCause.TheVariants as cause;
+ghost use Rattle.logfmt.specs.Bounds.{AreBytes, IsEntry};
+ghost use Rattle.raw_log.specs.Raw.{IsTimes, bytes_in};
+ghost use Rattle.raw_log.specs.Faults.{FirstRawFault, HasNoRawFault};
+ghost use Rattle.raw_log.specs.Header.{HeaderStands, HeaderFits, StandsDivided, data_bytes};
+ghost use Rattle.raw_log.specs.Imported.{IsImported};
+
+use crate::header::{Header, checked_header, checked_super};
+use crate::writer::{put_entry, put_super};
+use base::bytes::Bytes;
+use base::numbers::u64_at;
+use logfmt::{Entry, LogFault, SECTOR};
+use std::alloc::{AllocError, Global};
+
+/// The bytes from `start` up to `end`, copied.
+fn copied(alloc: Global, bytes: &[u8], start: usize, end: usize) -> Result<Bytes, AllocError>
+    requires order { start ≤ end }
+    requires inside { end ≤ length bytes.now }
+    ensures value { IfOk result (λ copy. copy ≡ slice_range bytes.now start end) }
+    ensures bytes { IfOk result AreBytes }
+{
+    let copy = bytes[start..end].to_vec(alloc)?;
+    Ok(Bytes::of(copy))
+}
+
+/// The entry, in sectors of 512 bytes, whose header stands at byte `start`, with its text and its data.
+fn entry_of(
+    alloc: Global,
+    raw: &[u8],
+    times: u64,
+    start: usize,
+    sectors: u32,
+    header: Header,
+) -> Result<Entry, AllocError>
+    requires times { IsTimes times }
+    requires device { sectors ≤ 16384 }
+    requires stands { HeaderStands times raw.now start header }
+    requires fits { HeaderFits sectors header }
+    requires few { header.count ≤ 262144 }
+    requires need { start + bytes_in times 1 + data_bytes header ≤ 201326592 }
+    ensures stands { IfOk result (StandsDivided times raw.now start) }
+    ensures fits { IfOk result (IsEntry sectors) }
+    ensures recorded { IfOk result (λ e. e.flags.mark ≡ true → e.flags.flush ≡ false) }
+    ensures text { IfOk result (λ e. length e.text ≤ 480) }
+{
+    let text = start + 32;
+    let data = start + SECTOR * times as usize;
+    let text = raw[text..text + header.text_length as usize].to_vec(alloc)?;
+    let content = copied(alloc, raw, data, data + header.data_bytes())?;
+    Ok(Entry {
+        sector: header.sector,
+        count: header.count,
+        flags: header.flags,
+        text: Bytes::of(text),
+        content,
+    })
+}
+
+/// Imports a raw log, whose sectors have 512 or 4,096 bytes, for a device of `sectors` sectors of 512 bytes: the canonical text of
+/// the log of its entries (docs/LOG-FORMAT.md, Importing a raw log).
+///
+/// # Errors
+///
+/// The first fault of the bytes, at the entry where it is, 0 for the super block; or want of memory, at 0.
+pub fn import(alloc: Global, raw: &[u8], sectors: u32) -> Result<Vec<u8>, LogFault>
+    requires some { 1 ≤ sectors }
+    requires device { sectors ≤ 16384 }
+    ensures imported { IfOk result (λ text. IsImported raw.now sectors text.items) }
+    ensures clean { OnOk result (HasNoRawFault raw.now sectors) }
+    ensures fault { IfErr result (λ f. (f ≡ record { code = cause.Memory; at = 0 }) ⊎ FirstRawFault raw.now sectors f.code f.at) }
+{
+    let times = match checked_super(raw) {
+        Ok(times) => times,
+        Err(code) => return Err(LogFault { code, at: 0 }),
+    };
+    let count = u64_at(raw, 16) as u32;
+    let mut out = Vec::new(alloc);
+    put_super(&mut out, u64::from(count))?;
+    let mut start = SECTOR * times as usize;
+    let mut units = 0;
+    for number in 0..count {
+        let header = match checked_header(raw, times, start, sectors, units, out.len()) {
+            Ok(header) => header,
+            Err(code) => return Err(LogFault { code, at: number }),
+        };
+        let entry = entry_of(alloc, raw, times, start, sectors, header)?;
+        put_entry(&mut out, &entry)?;
+        start += SECTOR * times as usize + header.data_bytes();
+        units += header.count;
+    }
+    Ok(out)
+}

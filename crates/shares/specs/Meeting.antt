@@ -1,0 +1,67 @@
+-- How hands meet, and how they are taken apart when they are back.
+use Rattle.std.specs.Prelude.{◌≡◌, ℕ, ◌+◌, ◌-◌, ◌<◌, List, [], ◌∷◌, ◌++◌, length, map, flat_map, take, slice_get, Some, All}
+use Rattle.std.specs.List.{range_with_len}
+use Rattle.shares.specs.Steps.{total}
+use Rattle.shares.specs.Seats.{times}
+use Rattle.shares.specs.Deques.{DequeName, port}
+use Rattle.shares.specs.Owned.{DequeValue, OtherValue, deque_value, other_value}
+use Rattle.shares.specs.Hands.{HandValue, hand_place, hand_value, others_at}
+
+-- an empty deque of which the owner has so many parts
+abbrev pub empty_deque : ℕ → DequeName → DequeValue
+empty_deque parts name = deque_value name (port parts [] [])
+
+-- a stealer that got nothing yet
+abbrev pub new_other : DequeName → OtherValue
+new_other name = other_value name []
+
+-- a deque that has given a part away
+abbrev pub with_less : DequeValue → DequeValue
+with_less d = deque_value d.name (port (d.parts - 1) d.pushed d.got)
+
+-- the stealers of the last so many hands, those of the last one first
+abbrev pub stacked : List DequeName → ℕ → List (List OtherValue)
+stacked names count = map (λ i. map new_other (others_at names (length names - 1 - i))) (range_with_len 0 count)
+
+-- a deque that has taken a stealer back
+abbrev pub with_back : DequeValue → OtherValue → DequeValue
+with_back d o = deque_value d.name (port (d.parts + 1) d.pushed (d.got ++ o.got))
+
+-- the deques, each with one of the stealers, as far as both go
+abbrev pub merged : List DequeValue → List OtherValue → List DequeValue
+merged [] os = []
+merged (d ∷ ds) [] = []
+merged (d ∷ ds) (o ∷ os) = with_back d o ∷ merged ds os
+
+-- what stealers got
+abbrev pub all_got : List OtherValue → List ℕ
+all_got os = flat_map (λ (o : OtherValue). o.got) os
+
+-- the hands so far: each has its deque by one part, and steals from all others
+pub record AreMet (names : List DequeName) (hands : List HandValue) : Type 0 where
+  pub deques : map (λ (h : HandValue). h.place.deque) hands ≡ take (length hands) names
+  pub each : (i : ℕ) (h : HandValue) → slice_get hands i ≡ Some h → h ≡ hand_value (hand_place h.place.deque 1 (others_at names i)) [] [] []
+
+-- hands taken apart: what their lists held, their deques, and their stealers
+pub record AreApart (hands : List HandValue) (left : List ℕ) (deques : List DequeValue) (others : List (List OtherValue)) : Type 0 where
+  pub names : map (λ (d : DequeValue). d.name) deques ≡ map (λ (h : HandValue). h.place.deque) hands
+  pub parts : map (λ (d : DequeValue). d.parts) deques ≡ map (λ (h : HandValue). h.place.parts) hands
+  pub others_are : map (map (λ (o : OtherValue). o.name)) others ≡ map (λ (h : HandValue). h.place.others) hands
+  pub lists : (x : ℕ) → times x left ≡ total (λ (h : HandValue). times x h.list) hands
+  pub pushed : (x : ℕ) → total (λ (d : DequeValue). times x d.pushed) deques ≡ total (λ (h : HandValue). times x h.pushed) hands
+  pub got : (x : ℕ) → total (λ (d : DequeValue). times x d.got) deques + total (λ (os : List OtherValue). times x (all_got os)) others
+      ≡ total (λ (h : HandValue). times x h.got) hands
+
+-- deques that have all their stealers back, and know what these got
+pub record AreWhole (workers : ℕ) (before : List DequeValue) (others : List (List OtherValue)) (after : List DequeValue) : Type 0 where
+  pub parts : All (λ (d : DequeValue). d.parts ≡ workers) after
+  pub pushed : (x : ℕ) → total (λ (d : DequeValue). times x d.pushed) after ≡ total (λ (d : DequeValue). times x d.pushed) before
+  pub got : (x : ℕ) → total (λ (d : DequeValue). times x d.got) after
+      ≡ total (λ (d : DequeValue). times x d.got) before + total (λ (os : List OtherValue). times x (all_got os)) others
+
+-- what deques pushed and did not get is behind the list now
+pub record AddsAllLeft (blocks : ℕ) (deques : List DequeValue) (before after : List ℕ) : Type 0 where
+  pub left : List ℕ
+  pub behind : after ≡ before ++ left
+  pub together : (x : ℕ) → total (λ (d : DequeValue). times x d.pushed) deques ≡ total (λ (d : DequeValue). times x d.got) deques + times x left
+  pub below : All (λ (x : ℕ). x < blocks) left
