@@ -12,6 +12,10 @@ KIND is one of
     turned    the first loop, its branches laid out backwards: each in front of the one before
     backward  no loop: branches in a row, laid out so, in which each way adds less than those before it
     spread    the first loop, its numbers widening up and then down, and their sum in all registers and groups that are left
+    bytes     the same, filled with stores of bytes in place of branches
+    called    the same, filled with calls of a function
+    needed    up to thirty numbers, and copies of their sum in all groups that are left: a number widens up and then down as far
+              as each of the copies did
     heads     up to five numbers, and loops that share one body: each widens only where all loops before it have settled
 
 SLOTS is how many slots it has at most, NUMBERS how many numbers widen, and REFUSED is `no`, `first` for one that reads an
@@ -33,9 +37,11 @@ def put(register, number):
 
 
 END = [put(0, 0), slot(0x95)]
-UNSET = [slot(0xBF, 0, 8)]
-# a way on which an unset register is read: r9 is the epoch, any number up to 65,536
-BROKEN = [slot(0x45, 9, 0, 1, 1), slot(0x05, 0, 0, 1), *UNSET]
+
+
+def broken(register):
+    """A way on which an unset register is read: r9 is the epoch, any number up to 65,536."""
+    return [slot(0x45, 9, 0, 1, 1), slot(0x05, 0, 0, 1), slot(0xBF, 0, register)]
 
 
 def place(number):
@@ -70,7 +76,7 @@ def widened_both_ways(number):
     return [slot(0x79, 4, 10, place(number - 1)), slot(0x7D, 4, 8, len(made)), *made]
 
 
-def spread(numbers, room):
+def spread(numbers, room, filled):
     """A loop in which as much as can be changes with each step."""
     body = [*wide(5, LIMIT), *wide(6, -LIMIT), *wide(7, LIMIT // 2), *wide(8, -LIMIT // 2), put(3, 0)]
     for number in range(numbers):
@@ -79,9 +85,41 @@ def spread(numbers, room):
         body += [slot(0x79, 2, 10, place(number)), slot(0x0F, 3, 2)]
     body += [slot(0x7B, 10, 3, place(number)) for number in range(numbers, 63)]
     body += [slot(0xBF, register, 3) for register in (0, 1, 2, 4, 6, 7, 8)]
-    while len(body) + len(WAYS) + 10 <= room:
-        body += WAYS
+    while len(body) + len(filled) + 10 <= room:
+        body += filled
     body += [put(register, 0) for register in (0, 2, 3, 4, 6, 7, 8)]
+    return body + again(len(body))
+
+
+def stepped(number):
+    """Raises a number by one more than all copies of the sum allow, and then lowers it so: r3 is what they allow."""
+    raised = [*wide(4, number * LIMIT), slot(0xBF, 2, 3), slot(0x1F, 2, 4), slot(0x07, 2, 0, 0, 1)]
+    raised += [slot(0xC5, 2, 0, 2, 0), slot(0x6D, 2, 5, 1), slot(0x7B, 10, 2, place(number))]
+    lowered = [*wide(4, number * (LIMIT + 1)), slot(0xBF, 2, 3), slot(0x0F, 2, 4), slot(0x17, 2, 0, 0, 1)]
+    lowered += [slot(0x65, 2, 0, 2, 0), slot(0xCD, 2, 6, 1), slot(0x7B, 10, 2, place(number))]
+    made = [*raised, slot(0x79, 4, 10, place(number)), slot(0xDD, 4, 7, len(lowered)), *lowered]
+    if number == 0:
+        return made
+    return [slot(0x79, 4, 10, place(number - 1)), slot(0x7D, 4, 8, len(made)), *made]
+
+
+def needed(numbers, room):
+    """A loop in which as much as can be changes with each step, and the next step hangs on all of it."""
+    numbers = min(numbers, 30)
+    body = [*wide(5, LIMIT), *wide(6, -LIMIT), *wide(7, LIMIT // 2), *wide(8, -LIMIT // 2), put(3, 0)]
+    for number in range(numbers):
+        body += [slot(0x79, 2, 10, place(number)), slot(0x0F, 3, 2)]
+    copies = range(numbers, 63)
+    body += [slot(0x7B, 10, 3, place(copy)) for copy in copies]
+    steps = [it for number in range(numbers) for it in stepped(number)]
+    behind = 3 * len(copies) + len(steps)
+    while len(body) + len(WAYS) + behind + 16 <= room:
+        body += WAYS
+    body += [slot(0x79, 3, 10, place(numbers))]
+    for copy in copies:
+        body += [slot(0x79, 4, 10, place(copy)), slot(0x6D, 3, 4, behind - 2), slot(0xCD, 3, 4, behind - 3)]
+        behind -= 3
+    body += steps + [put(register, 0) for register in (2, 3, 4)]
     return body + again(len(body))
 
 
@@ -149,13 +187,14 @@ def clear(numbers):
 
 WAYS = [slot(0x45, 9, 0, 2, 1), slot(0x07, 3, 0, 0, 1), slot(0x07, 3)]
 STORES = [slot(0x7B, 10, 3, -512)]
+BYTES = [slot(0x73, 10, 9, -512)]
 # With what a loop is filled; with None it is with branches laid out backwards.
 FILLED = {"ways": WAYS, "stores": STORES, "turned": None}
 
 
 def program(kind, slots, numbers, refused):
-    begin = [slot(0x79, 9, 1, 8), *(BROKEN if refused == "first" else [])]
-    last = [*(BROKEN if refused == "last" else []), *END]
+    begin = [slot(0x79, 9, 1, 8), *(broken(8) if refused == "first" else [])]
+    last = [*(broken(2) if refused == "last" else []), *END]
     room = slots - len(begin) - len(last)
     if kind in FILLED:
         cleared = clear(numbers)
@@ -169,9 +208,17 @@ def program(kind, slots, numbers, refused):
         own = [slot(0xBF, 9, 1), *clear(numbers)]
         function = [*own, *loop(numbers, room - len(own) - 7, WAYS), *END]
         return [*begin, *call, *last, *function]
-    if kind == "spread":
+    if kind in ("spread", "bytes"):
         cleared = clear(63)
-        return [*begin, *cleared, *spread(numbers, room - len(cleared)), *last]
+        return [*begin, *cleared, *spread(numbers, room - len(cleared), WAYS if kind == "spread" else BYTES), *last]
+    if kind == "called":
+        cleared = clear(63)
+        own = [*begin, *cleared]
+        made = [*own, *spread(numbers, room - len(cleared) - len(END), [b""]), *last]
+        return [it or slot(0x85, 0, 1, 0, len(made) - at - 1) for at, it in enumerate(made)] + END
+    if kind == "needed":
+        cleared = clear(63)
+        return [*begin, *cleared, *needed(numbers, room - len(cleared)), *last]
     if kind == "heads":
         return heads(begin, slots, numbers, last)
     if kind == "backward":

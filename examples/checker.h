@@ -235,6 +235,43 @@ INLINED const void *tested_sector_(u64 n)
 
 #endif
 
+/* gcc for BPF calls a library for these, clang writes them out. */
+#if !defined(CHECKER_NATIVE) && !defined(__clang__)
+INLINED u32 swapped_(u32 x)
+{
+	return x << 24 | (x & 0xff00) << 8 | (x >> 8 & 0xff00) | x >> 24;
+}
+
+INLINED u64 swapped_word_(u64 x)
+{
+	return (u64)swapped_(x) << 32 | swapped_(x >> 32);
+}
+
+INLINED int popcount_(u64 x)
+{
+	x -= x >> 1 & 0x5555555555555555;
+	x = (x & 0x3333333333333333) + (x >> 2 & 0x3333333333333333);
+	x = (x + (x >> 4)) & 0x0f0f0f0f0f0f0f0f;
+	return x * 0x0101010101010101 >> 56;
+}
+
+INLINED int low_zeros_(u64 x)
+{
+	return popcount_((x & -x) - 1);
+}
+
+#define __builtin_bswap32(x) swapped_(x)
+#define __builtin_bswap64(x) swapped_word_(x)
+#define __builtin_popcountll(x) popcount_(x)
+#define __builtin_popcountl(x) popcount_(x)
+#define __builtin_popcount(x) popcount_((u32)(x))
+#define __builtin_parityll(x) (popcount_(x) & 1)
+#define __builtin_parityl(x) (popcount_(x) & 1)
+#define __builtin_parity(x) (popcount_((u32)(x)) & 1)
+#define __builtin_ctzll(x) low_zeros_(x)
+#define __builtin_ctz(x) low_zeros_((u32)(x))
+#endif
+
 /*
  * The number that stands at byte position `at` of the device (sector 512 bytes
  * each), little-endian, or big-endian by the forms that end in _be. Bytes past the
@@ -402,26 +439,6 @@ INLINED void *memset_loop_(void *to, int byte, size_t length)
 #define memcmp(a, b, length) EITHER_(memcmp, a, b, length)
 #define memcpy(to, from, length) EITHER_(memcpy, to, from, length)
 #define memset(to, byte, length) EITHER_(memset, to, byte, length)
-
-/* gcc for BPF calls a library for these, clang writes them out. */
-#ifndef __clang__
-INLINED int popcount_(u64 x)
-{
-	x -= x >> 1 & 0x5555555555555555;
-	x = (x & 0x3333333333333333) + (x >> 2 & 0x3333333333333333);
-	x = (x + (x >> 4)) & 0x0f0f0f0f0f0f0f0f;
-	return x * 0x0101010101010101 >> 56;
-}
-
-#define __builtin_popcountll(x) popcount_(x)
-#define __builtin_popcountl(x) popcount_(x)
-#define __builtin_popcount(x) popcount_((u32)(x))
-#define __builtin_parityll(x) (popcount_(x) & 1)
-#define __builtin_parityl(x) (popcount_(x) & 1)
-#define __builtin_parity(x) (popcount_((u32)(x)) & 1)
-#define __builtin_ctzll(x) popcount_(((x) & -(u64)(x)) - 1)
-#define __builtin_ctz(x) popcount_(((x) & -(u32)(x)) - 1)
-#endif
 
 /* For the native build alone: a program prints nothing. */
 #define printf(...) ((void)0)

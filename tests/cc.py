@@ -48,7 +48,7 @@ def stored():
 
 SOURCE = """\
 #include "checker.h"
-static const u8 table[4] = {1, 4, 2, 77};
+static const u8 *const table = (const u8 *)"\1\4\2M";
 int counter;
 extern u64 outside(u64);
 static u64 down(u64 n) { return n ? n * down(u64_at(n)) : 1; }
@@ -76,6 +76,9 @@ u64 good(const struct context *c)
 }
 """
 
+TABLE = '#include "checker.h"\nstatic const u16 bits[] = { 7, 40000, 3, 900, 5 };\n'
+CALLED = "u64 check(const struct context *c) { return at(c->marks) + at(c->epoch); }\n"
+
 OUTSIDE = "which lies outside of the function"
 
 # What stands in the file, the function that is asked for, and the first line on standard error, where slots are `N`.
@@ -88,6 +91,12 @@ REFUSALS = [
     (SOURCE, "looped", "cc: the loop source.c:12 is in a function that is LOCAL, and has no TURN"),
     (SOURCE, "deep", "cc: the loop source.c:14 is in a function that is LOCAL, and has no TURN"),
     (SOURCE, "nobody", "cc: there is no function nobody that is compiled by itself; there are: "),
+    ("", "check", "cc: there is no function check that is compiled by itself; there are: none"),
+    (SOURCE + "u64 good(void) { return 0; }\n", "good", "source.c:28:5: error: "),
+    (TABLE + "u64 check(const struct context *c) { return *(&bits[c->marks & 3] + 1); }\n", "check", "cc: source.c:3 (slot N) needs "),
+    (TABLE + "LOCAL(check) u64 at(u64 n) { return bits[n]; }\n" + CALLED, "check", "cc: the table bits is indexed in a function that is LOCAL"),
+    (TABLE + "LOCAL(check) u64 at(u64 n) { return bits[n & 3]; }\n" + CALLED, "check", ""),
+    ('#include "chekcer.h"\n', "check", "source.c:1:10: fatal error: "),
     ("u64 check(", "check", "source.c:1:1: error: unknown type name 'u64'"),
     (None, "check", "cc: the file source.c can't be read"),
     (SOURCE, "good", ""),
@@ -135,6 +144,48 @@ u64 check(const struct context *context)
 	return sum == 77;
 }
 """
+TABLES = """\
+#include "checker.h"
+enum { A, B, C };
+static const u16 bits[] = { [C] = 40000, [A] = 3, 17, 900 };
+static const signed char pairs[2][3] = { { 1, -2, 3 }, { 4, 5, 6 } };
+u64 check(const struct context *context)
+{
+	static const u64 wide[] = {
+		5, 0x123456789abcdef,
+	};
+
+	return bits[u64_at(0)] == 900 || pairs[u64_at(0) / 3][u64_at(0) % 3] == -2 || wide[u64_at(0) & 1] == 6;
+}
+"""
+NULLS = """\
+#include "checker.h"
+u64 check(const struct context *context)
+{
+	const u64 *words = sector(u64_at(0)), *first = sector(0);
+
+	return words[3] == 1 || words[9] != first[9] + 1;
+}
+"""
+INDEX = """\
+#include "checker.h"
+u64 check(const struct context *context)
+{
+	const u8 *bytes = SECTOR(1, return 1);
+
+	return *(bytes + 8 + u16_at(0)) == 9;
+}
+"""
+BACK = """\
+#include "checker.h"
+u64 check(const struct context *context)
+{
+	const u8 *bytes = SECTOR(1, return 1);
+	long long i = u16_at(0);
+
+	return (bytes + 200)[i - u8_at(2)] == 9;
+}
+"""
 EMPTY = NESTED.replace("3 + (u64_at(8) & 1)", "u64_at(8)")
 HEADER = """\
 #include "checker.h"
@@ -151,7 +202,7 @@ HEADER_CODE = 1000000 + next(
     number + 2 for number, it in enumerate((TOP / "examples/checker.h").read_text().split("\n")) if "int memcmp_loop_" in it
 ) + 1
 
-# A source, words of the tool, and for values of word 0 what is answered, with the codes.
+# A source, words of the tool, and for values of word 0 what is answered, with the codes; or how it is refused.
 RUNS = [
     (LOOPS, [], {0: "0", 5: "0", 65536: "0", 65537: "1000000 codes 6"}),
     (LOOPS, ["--turns", "5"], {5: "0", 6: "1000000 codes 6"}),
@@ -161,6 +212,11 @@ RUNS = [
     (NESTED, ["--turns", "6"], {2: "0", 3: "1000000 codes 7"}),
     (NESTED, ["--turns", "7"], {2: "0", 3: "1000000 codes 7"}),
     (HEADER, ["--turns", "5"], {0: "0", 5: "0", 6: f"1000000 codes {HEADER_CODE}"}),
+    (TABLES, [], {0: "0", 1: "1 codes -", 2: "1 codes -", 3: "1000001 codes 3", 1 << 63: "1000001 codes 3"}),
+    (NULLS, [], {0: "1 codes -", 63: "1 codes -", 64: "1000001 codes 4"}),
+    (INDEX, [], {0: "0", 503: "0", 504: "1000001 codes 6", 65535: "1000001 codes 6"}),
+    (INDEX, ["--no-tests"], "refused 52 at "),
+    (BACK, [], "refused 54 at "),
     (EMPTY, ["--turns", "100", "--turns", "6:5"], {5: "0", 6: "1000000 codes 6"}),
 ]
 
@@ -205,8 +261,9 @@ def runs(compiler, folder, program):
     for number, (text, words, wanted) in enumerate(RUNS):
         source.write_text(text)
         done = cc(compiler, source, "check", folder / "out.bpf", "--sectors", "64", *words, program=program)
-        if done.returncode != 0:
-            yield f"{compiler} run {number}: {done.stderr}"
+        if done.returncode != 0 or isinstance(wanted, str):
+            refused = isinstance(wanted, str) and done.stderr.startswith(wanted)
+            yield None if refused else f"{compiler} run {number}: wanted {wanted}, status {done.returncode} {done.stderr}"
             continue
         found = {value: answer(program, folder, value) for value in wanted}
         yield None if found == wanted else f"{compiler} run {number}: {found}, wanted {wanted}"

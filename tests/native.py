@@ -10,7 +10,9 @@ judge the devices of that table too, and have to answer as it says.
 
 The images are drawn at random, but not blindly: each is one that stands already with some changes, in which numbers and
 texts of the source are put where fields stand mostly, and one that gave another answer is kept to draw more from. Where
-the turns of a plain loop are spent (answer 1000000), the native build, whose loops have no bound, is asked nothing.
+the turns of a plain loop are spent (answer 1000000), the native build, whose loops have no bound, is asked nothing. Where
+a read has ended the run (answer 1000001), the native build has to read outside of a sector too: AddressSanitizer says so,
+for the first 25 such images of a checker.
 
 Prints for each compiler which of tests/plain are accepted, a line for each that failed, and last `N passed, M failed`.
 """
@@ -33,7 +35,10 @@ from rows import checkers
 CC = TOP / "examples/cc/crashbpf-cc"
 NATIVE = TOP / "examples/native/checker.h"
 SECTORS = checkers.SECTORS
-SPENT = 1000000
+SPENT, OUTSIDE = "1000000", "1000001"
+# What a native build answers that was ended by a signal or a sanitizer.
+STRAYED = ("strayed", "")
+STRAYS = 25
 # How many images are judged between two looks at what they answered, and how many stand in one log.
 ROUND, LOG = 50, 250
 SECONDS = 120
@@ -140,24 +145,30 @@ class Cut:
     cut: int
 
 
-def native(checker, folder):
+def native(checker, folder, *options):
     """Builds the native program, and answers a function that judges images with it."""
-    program = folder / "native"
-    words = ["cc", "-Og", "-w", "-fsigned-char", f"-DCHECKER={checker.function}", "-include", NATIVE]
+    program = folder / f"native{len(options)}"
+    words = ["cc", "-Og", "-w", "-fsigned-char", *options, f"-DCHECKER={checker.function}", "-include", NATIVE]
     words += ["-I", TOP / "examples", checker.source, "-o", program]
     done = subprocess.run(words, capture_output=True, text=True)
     if done.returncode != 0:
         raise SystemExit(done.stderr)
+    environment = {**os.environ, "ASAN_OPTIONS": "exitcode=99:detect_leaks=0"}
+
+    def judge_some(words):
+        done = subprocess.run([program, *words], capture_output=True, text=True, timeout=SECONDS, env=environment)
+        return [tuple(it.split(" codes ")) for it in done.stdout.replace("answer ", "").split("\n")[:-1]]
 
     def judge(cuts):
-        words = [program]
+        """The answers, with STRAYED for an image at which the program ended."""
         for number, it in enumerate(cuts):
-            path = folder / f"image{number}"
-            path.write_bytes(it.content)
-            words += ["--marks", str(it.marks), "--epoch", str(it.epoch), path]
-        out = subprocess.run(words, capture_output=True, text=True, timeout=SECONDS).stdout
-        lines = [tuple(it.split(" codes ")) for it in out.replace("answer ", "").split("\n")[:-1]]
-        return lines + [("no answer", "")] * (len(cuts) - len(lines))
+            (folder / f"image{number}").write_bytes(it.content)
+        given = [["--marks", str(it.marks), "--epoch", str(it.epoch), folder / f"image{i}"] for i, it in enumerate(cuts)]
+        found = []
+        while len(found) < len(cuts):
+            found += judge_some([word for words in given[len(found) :] for word in words])
+            found += [STRAYED] if len(found) < len(cuts) else []
+        return found
 
     return judge
 
@@ -194,7 +205,7 @@ def logged(images, rng):
 
 def differing(found, wanted):
     """Whether a program answers otherwise than its native build; codes aren't told of a good image."""
-    if found[0] == str(SPENT):
+    if found[0] in (SPENT, OUTSIDE):
         return False
     return found[0] != wanted[0] or (found[1] is not None and found[1] != wanted[1])
 
@@ -203,6 +214,7 @@ def compare(program, checker, code, count, folder):
     """What differs, and how often each answer was given."""
     rng = random.Random(f"{checker.name()} 1")
     judge = native(checker, folder)
+    strays = native(checker, folder, "-fsanitize=address", "-fno-omit-frame-pointer")
     images = Images(checker.source.read_text(), [checkers.device(it[0]) for it in checker.devices], rng)
     answers, wrong = Counter(), []
     for start in range(0, count, LOG):
@@ -214,6 +226,8 @@ def compare(program, checker, code, count, folder):
         entries, cuts = logged(drawn, rng)
         for cut, found, wanted in zip(cuts, judged(program, code, entries, cuts, folder), judge(cuts)):
             answers[found[0]] += 1
+            if found[0] == OUTSIDE and answers[OUTSIDE] <= STRAYS and strays([cut]) != [STRAYED]:
+                wrong.append(f"{checker.name()}: the program answers {found}, and the native build reads nothing outside")
             if differing(found, wanted):
                 wrong.append(f"{checker.name()}: the program answers {found}, the native build {wanted} ({cut.marks} marks)")
     return wrong, answers
@@ -259,7 +273,8 @@ def jobs(asked, program, folder):
             print(f"{compiler} {checker.name()}: {said}", flush=True)
             if code is not None:
                 yield checker, code
-        print(f"{compiler}:", ", ".join(f"{group} {count[group]} of {count[f'{group} of']}" for group in ("few", "more")), "accepted")
+        groups = [it for it in count if not it.endswith(" of")]
+        print(f"{compiler}:", ", ".join(f"{group} {count[group]} of {count[f'{group} of']}" for group in groups), "accepted")
 
 
 def main():

@@ -39,6 +39,7 @@ Where the rows stand
     rows/refusals.py    what the verifier accepts and refuses
     rows/notes.py       the notes behind each refusal, and beside answers
     rows/tables.py      logs as tables, and listings with slots
+    rows/trials.py      programs on one image: what they come to, their steps and the last ones in words
     rows/modelled.py    whole reports of many logs, against the model
     rows/small_logs.py  every image of small logs, what their cuts leave open, accepted programs with and without checks
     rows/shown.py       images in words, by number and by cut and choice, against the model
@@ -108,6 +109,7 @@ from rows import (
     surroundings,
     tables,
     texts,
+    trials,
     why,
     worked,
     workers,
@@ -130,6 +132,7 @@ TABLES = [
     refusals,
     notes,
     tables,
+    trials,
     modelled,
     small_logs,
     shown,

@@ -5,8 +5,8 @@ _crashbpf() {
     [ "$word" != = ] || word=
     [ "$before" != = ] || before=${COMP_WORDS[COMP_CWORD - 2]}
     case "$COMP_CWORD ${COMP_WORDS[1]} $before" in
-    1\ *) words='explore why cure page images image show log import verify asm list help -h --help -V --version' ;;
-    *\ help\ *) words='explore why cure page images image show log import verify asm list help' ;;
+    1\ *) words='explore why cure page images image show log import verify check asm list help -h --help -V --version' ;;
+    *\ help\ *) words='explore why cure page images image show log import verify check asm list help' ;;
     *\ explore\ --cuts) words='all flush mark' ;;
     *\ explore\ --by) words='sector write' ;;
     *\ explore\ --base) : ;;
@@ -48,6 +48,8 @@ _crashbpf() {
     *\ import\ *) [[ $word != -* ]] || words='-h --help' ;;
     *\ verify\ --sectors) return ;;
     *\ verify\ *) [[ $word != -* ]] || words='--sectors -h --help' ;;
+    *\ check\ --epoch|*\ check\ --marks|*\ check\ --checked|*\ check\ --trace) return ;;
+    *\ check\ *) [[ $word != -* ]] || words='--epoch --marks --checked --trace -h --help' ;;
     *\ asm\ *) [[ $word != -* ]] || words='-h --help' ;;
     *\ list\ *) [[ $word != -* ]] || words='--slots -h --help' ;;
     esac

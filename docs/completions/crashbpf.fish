@@ -10,12 +10,13 @@ complete -c crashbpf -n __fish_use_subcommand -a show -d 'Tells one crash image 
 complete -c crashbpf -n __fish_use_subcommand -a log -d 'Prints the entries of a log'
 complete -c crashbpf -n __fish_use_subcommand -a import -d 'Makes a log of one with sectors of 512 or 4,096 bytes'
 complete -c crashbpf -n __fish_use_subcommand -a verify -d 'Says with which budget of steps the verifier accepts a program'
+complete -c crashbpf -n __fish_use_subcommand -a check -d 'Runs a program on one image, and says what it answers and in how many steps'
 complete -c crashbpf -n __fish_use_subcommand -a asm -d 'Writes the program that an assembly text says'
 complete -c crashbpf -n __fish_use_subcommand -a list -d 'Prints the listing of a program, which assembles to it again'
 complete -c crashbpf -n __fish_use_subcommand -a help -d 'Print this message or the help of the given subcommand(s)'
 complete -c crashbpf -n '__fish_use_subcommand' -s h -l help -d 'Print help'
 complete -c crashbpf -n '__fish_use_subcommand' -s V -l version -d 'Print version'
-complete -c crashbpf -n '__fish_seen_subcommand_from help' -a 'explore why cure page images image show log import verify asm list help'
+complete -c crashbpf -n '__fish_seen_subcommand_from help' -a 'explore why cure page images image show log import verify check asm list help'
 complete -c crashbpf -n '__fish_seen_subcommand_from explore' -l sectors -x -d 'Sectors of the device, 1 to 16384'
 complete -c crashbpf -n '__fish_seen_subcommand_from explore' -l flush -x -d 'Go as if a flush stood right before each of these entries, up to 64'
 complete -c crashbpf -n '__fish_seen_subcommand_from explore' -l base -r -F -d 'What the device held before entry 0, from sector 0 on [default: zeros]'
@@ -124,6 +125,12 @@ complete -c crashbpf -n '__fish_seen_subcommand_from import' -F
 complete -c crashbpf -n '__fish_seen_subcommand_from verify' -l sectors -x -d 'Sectors of the device, 1 to 16384'
 complete -c crashbpf -n '__fish_seen_subcommand_from verify' -s h -l help -d 'Print help'
 complete -c crashbpf -n '__fish_seen_subcommand_from verify' -F
+complete -c crashbpf -n '__fish_seen_subcommand_from check' -l epoch -x -d 'How many flushes the program is told of, 0 to 65536 [default: 0]'
+complete -c crashbpf -n '__fish_seen_subcommand_from check' -l marks -x -d 'How many marks the program is told of, 0 to 65536 [default: 0]'
+complete -c crashbpf -n '__fish_seen_subcommand_from check' -l checked -x -d 'Ask no verifier, and run each program for at most N steps, 0 to 1000000000'
+complete -c crashbpf -n '__fish_seen_subcommand_from check' -l trace -x -d 'Print the last N steps, each with the registers that it changed [default: 0]'
+complete -c crashbpf -n '__fish_seen_subcommand_from check' -s h -l help -d 'Print help'
+complete -c crashbpf -n '__fish_seen_subcommand_from check' -F
 complete -c crashbpf -n '__fish_seen_subcommand_from asm' -s h -l help -d 'Print help'
 complete -c crashbpf -n '__fish_seen_subcommand_from asm' -F
 complete -c crashbpf -n '__fish_seen_subcommand_from list' -l slots -d 'Begin each line with the slot of its instruction'

@@ -16,13 +16,23 @@ LOOPS_STAY = ["-fno-builtin-memset", "-fno-builtin-memcpy"]
 AS_WRITTEN = ["-mllvm", "-disable-lsr"]
 
 
+# What a call of a helper leaves nothing of.
+CLOBBERED = '"r0", "r1", "r2", "r3", "r4", "r5", "memory"'
+
+
 def run(words, **how):
     how["env"] = {**os.environ, "LC_ALL": "C"}
-    return subprocess.run([str(it) for it in words], capture_output=True, text=True, **how)
+    return subprocess.run([str(it) for it in words], capture_output=True, text=True, errors="replace", **how)
 
 
 def hints_for(said):
     """What helps where the compiler itself refuses."""
+    if "redefinition of" in said:
+        yield "a file may hold several checkers, each with a name of its own"
+    if re.search(r"fatal error: .*(file not found|No such file)", said):
+        yield 'checker.h is found from anywhere: #include "checker.h"'
+    if re.search(r"unknown type name .u(8|16|32|64)\b", said):
+        yield 'a checker begins with #include "checker.h"'
     if "signed division" in said:
         yield "divide unsigned numbers"
     if "stack limit" in said or "stack frame" in said:
@@ -45,6 +55,8 @@ class Clang:
         ("", [*LOOPS_STAY, *AS_WRITTEN]),
         ("kept", [*LOOPS_STAY, *AS_WRITTEN]),
         ("kept tested", [*LOOPS_STAY, *AS_WRITTEN]),
+        ("pinned kept tested", LOOPS_STAY),
+        ("pinned kept tested", [*LOOPS_STAY, *AS_WRITTEN]),
     ]
 
     def __init__(self, name):
@@ -69,12 +81,15 @@ class Clang:
 
     def turn(self, times, code, answer):
         """A statement that ends the run when this place has been passed `times` times."""
-        clobbered = '"r0", "r1", "r2", "r3", "r4", "r5", "memory"'
         return (
             "__label__ spent_; "
-            f'__asm__ goto("r1 = {times}\\n\\tcall 3\\n\\tif r0 == 0 goto %l[spent_]" : : : {clobbered} : spent_); '
-            f'if (0) {{ spent_: __asm__ volatile("r1 = {code}\\n\\tcall 4\\n\\tr0 = {answer}\\n\\texit" : : : {clobbered}); }}'
+            f'__asm__ goto("r1 = {times}\\n\\tcall 3\\n\\tif r0 == 0 goto %l[spent_]" : : : {CLOBBERED} : spent_); '
+            f"if (0) {{ spent_: {self.end(code, answer)} }}"
         )
+
+    def end(self, code, answer):
+        """A statement that ends the run."""
+        return f'__asm__ volatile("r1 = {code}\\n\\tcall 4\\n\\tr0 = {answer}\\n\\texit" : : : {CLOBBERED});'
 
     def lines(self, path, object_, section):
         """For each slot of a section, given by its number, the file, the line and the instruction."""
@@ -93,13 +108,15 @@ class Clang:
 class Gcc:
     """gcc 12 or newer as it is built for BPF, with binutils of the same target."""
 
-    WAYS = [("", []), ("kept", []), ("tested", []), ("kept tested", []), ("kept tested", ["-O1"])]
+    WAYS = [("", []), ("kept", []), ("tested", []), ("kept tested", []), ("kept tested", ["-O1"]), ("pinned kept tested", [])]
 
     def __init__(self, name):
         self.name = name
         self.objdump, self.readelf = (re.sub(r"gcc(-[\d.]+)?$", it, name) for it in ("objdump", "readelf"))
         # Loops aren't written out: a turn would be counted at each copy by itself.
-        whole = ["-fno-unroll-loops", "-fno-unroll-all-loops", "-fno-peel-loops", "-fno-jump-tables"]
+        whole = ["-fno-unroll-loops", "-fno-unroll-all-loops", "-fno-peel-loops"]
+        # A switch stays code, and doesn't become a table.
+        whole += ["-fno-jump-tables", "-fno-tree-switch-conversion"]
         # Without -malu32 gcc 12 takes `and r, -1` for a cut to 32 bits, which cuts nothing off.
         self.target = [name, "-mcpu=v2", "-malu32", "-O2", *whole, *HEADERS]
 
@@ -118,12 +135,14 @@ class Gcc:
         return run([*words, *options, "-c", "-x", "cpp-output", "-", "-o", out], input=text)
 
     def turn(self, times, code, answer):
-        clobbered = '"r0", "r1", "r2", "r3", "r4", "r5", "memory"'
         return (
             "__label__ spent_; "
-            f'__asm__ goto("mov %%r1,{times}\\n\\tcall 3\\n\\tjeq %%r0,0,%l[spent_]" : : : {clobbered} : spent_); '
-            f'if (0) {{ spent_: __asm__ volatile("mov %%r1,{code}\\n\\tcall 4\\n\\tmov %%r0,{answer}\\n\\texit" : : : {clobbered}); }}'
+            f'__asm__ goto("mov %%r1,{times}\\n\\tcall 3\\n\\tjeq %%r0,0,%l[spent_]" : : : {CLOBBERED} : spent_); '
+            f"if (0) {{ spent_: {self.end(code, answer)} }}"
         )
+
+    def end(self, code, answer):
+        return f'__asm__ volatile("mov %%r1,{code}\\n\\tcall 4\\n\\tmov %%r0,{answer}\\n\\texit" : : : {CLOBBERED});'
 
     def lines(self, path, object_, section):
         """As of clang."""

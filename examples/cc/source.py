@@ -16,6 +16,9 @@ CLOSES = {"(": ")", "[": "]", "{": "}"}
 # Words in front of parentheses that are no parameters.
 NO_NAMES = {"__attribute__", "__attribute", "asm", "__asm__", "__asm", "_Alignas", "typeof", "__typeof__", "__typeof", "_Static_assert"}
 LOOPS = {"for", "while", "do"}
+WORD = re.compile(r"[A-Za-z_$]")
+# Words with which no declaration begins.
+NO_TYPES = {"return", "else", "case", "goto", "sizeof", "break", "continue", "if", "switch", "default", *LOOPS}
 # From here on a compiler knows of a number only what its type says, and has it in a whole register where it is unsigned.
 KEEP = (
     "if (sizeof(NAME) < 8 && (__typeof__(NAME))-1 > 0) { "
@@ -249,6 +252,13 @@ class Source:
         yield self.tokens[first].start, self.tokens[first].start, f"(({{ {keep} 1; }}) && ("
         yield self.tokens[end].start, self.tokens[end].start, "))"
 
+    def pinned(self, loop):
+        """An edit after which the compiler finds the pointers that a loop uses anew in each turn."""
+        names = self.pointers(loop)
+        if names:
+            keep = " ".join(f'__asm__ volatile("" : "+r"({it}));' for it in names)
+            yield from [self.turned(loop, keep)]
+
     def tested(self):
         """Edits after which the null test of sector(n) stands right behind the call."""
         if not any(it.name == TESTED for it in self.functions):
@@ -271,6 +281,39 @@ class Source:
             if re.match(r"[A-Za-z_]", name) and alone and not arrow and name not in found and is_changed(inside, name):
                 found.append(name)
         return found
+
+    def pointers(self, loop):
+        """The names of pointers that are known in front of a loop, and used in it."""
+        function = next(it for it in self.functions if it.body < loop.tokens[0] < it.end)
+        known, depth = [(it, 0) for it in self.parameters(function)], 0
+        for at in range(function.body, loop.tokens[0]):
+            word = self.word(at)
+            if word == "}":
+                depth -= 1
+                known = [it for it in known if it[1] <= depth]
+            depth += word == "{"
+            if word in ("{", "}", ";"):
+                known += [(name, depth) for name in self.declared(at + 1)]
+        used = {self.word(at) for at in range(*loop.tokens)}
+        return list(dict.fromkeys(name for name, _ in known if name in used))
+
+    def parameters(self, function):
+        """The parameters that are pointers."""
+        for at in range(function.declared, function.body):
+            if self.word(at) == "*" and self.word(at + 2) in (",", ")") and WORD.match(self.word(at + 1)):
+                yield self.word(at + 1)
+
+    def declared(self, at):
+        """The pointers that a declaration at this token declares, if it is one."""
+        first = at
+        while WORD.match(self.word(at)) and self.word(at) not in NO_TYPES:
+            at += 1
+        star = at
+        while at > first and self.word(at) not in ("", ";", "{", "}"):
+            pointer = self.word(at) == "*" and (at == star or self.word(at - 1) == ",")
+            if pointer and WORD.match(self.word(at + 1)) and self.word(at + 2) in ("=", ",", ";"):
+                yield self.word(at + 1)
+            at = self.closed(at) if self.word(at) in CLOSES else at + 1
 
     def edited(self, edits):
         """The text after edits, which don't overlap."""

@@ -188,30 +188,48 @@ static u64 same(u64 a, u64 b)
 	return !x || !y ? 2 : memcmp(x, y, SECTOR_BYTES_) == 0;
 }
 
+/* Under AddressSanitizer a sector has bytes around it that may not be read, for indices that lead far. */
+#ifdef __SANITIZE_ADDRESS__
+#define MARGIN_ 65536
+void __asan_poison_memory_region(void const volatile *bytes, size_t length);
+#else
+#define MARGIN_ 0
+#define __asan_poison_memory_region(bytes, length) ((void)0)
+#endif
+
+static u8 *new_sector_(void)
+{
+	u8 *bytes = malloc(SECTOR_BYTES_ + 2 * MARGIN_);
+
+	if (!bytes)
+		fail_("out of memory", "");
+	__asan_poison_memory_region(bytes, MARGIN_);
+	__asan_poison_memory_region(bytes + MARGIN_ + SECTOR_BYTES_, MARGIN_);
+	return bytes + MARGIN_;
+}
+
 /* Reads a device from a file; what lies behind its last whole sector is a fault. */
 static void read_device_(const char *name)
 {
 	FILE *file = strcmp(name, "-") == 0 ? stdin : fopen(name, "rb");
-	u8 *bytes = malloc(SECTOR_BYTES_);
+	u8 *bytes = new_sector_();
 	size_t length = 0;
 
 	if (!file)
 		fail_("can't be read", name);
 	for (u64 i = 0; i < device_.sectors; i++)
-		free(device_.bytes[i]);
+		free(device_.bytes[i] - MARGIN_);
 	device_.sectors = 0;
-	while (bytes && (length = fread(bytes, 1, SECTOR_BYTES_, file)) == SECTOR_BYTES_) {
+	while ((length = fread(bytes, 1, SECTOR_BYTES_, file)) == SECTOR_BYTES_) {
 		device_.bytes = realloc(device_.bytes, (device_.sectors + 1) * sizeof *device_.bytes);
 		if (!device_.bytes)
 			fail_("out of memory", name);
 		device_.bytes[device_.sectors++] = bytes;
-		bytes = malloc(SECTOR_BYTES_);
+		bytes = new_sector_();
 	}
-	if (!bytes)
-		fail_("out of memory", name);
 	if (length || !device_.sectors)
 		fail_("isn't one or more sectors of 512 bytes", name);
-	free(bytes);
+	free(bytes - MARGIN_);
 	if (file != stdin)
 		fclose(file);
 }
@@ -238,6 +256,7 @@ static int judge_(const struct context *context)
 	for (u64 i = 0; i < device_.reported; i++)
 		printf(i ? ",%llu" : "%llu", device_.codes[i]);
 	printf(device_.reported ? "\n" : "-\n");
+	fflush(stdout);		/* also where the checker is ended at the next file */
 	return answer != 0;
 }
 

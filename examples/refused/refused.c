@@ -2,7 +2,7 @@
  * Pieces of C as people write them first, each with the number by which it is refused,
  * and its cure behind it. What each is about stands in docs/CHECKERS.md, 'Refusals'.
  *
- *     examples/cc examples/refused/refused.c NAME NAME.bpf --sectors 64
+ *     examples/cc/crashbpf-cc examples/refused/refused.c NAME NAME.bpf --turns 0
  *
  * NAME.bpf beside this file is what clang 14.0.6 made of the function NAME.
  */
@@ -176,6 +176,27 @@ u64 one_of_two_cured(const struct context *context)
 	u64 newest = u64_at(0) > u64_at(512) ? 0 : 512;
 
 	return u64_at(newest + 8) == mix(2) ? 0 : 2;
+}
+
+/* 50: of two structs the compiler chooses the address, and copies from there. */
+u64 one_struct(const struct context *context)
+{
+	struct record one, other, newest;
+
+	if (copy(0, &one, sizeof one) || copy(512, &other, sizeof other))
+		return 1;
+	newest = one.number > other.number ? one : other;
+	return newest.sum == mix(2) ? 0 : 2;
+}
+
+/* The position is chosen, and then the struct is read from there. */
+u64 one_struct_cured(const struct context *context)
+{
+	struct record newest;
+
+	if (copy(u64_at(0) > u64_at(512) ? 0 : 512, &newest, sizeof newest))
+		return 1;
+	return newest.sum == mix(2) ? 0 : 2;
 }
 
 /* 50: an address isn't an answer; where it meets the other answer it is neither. */

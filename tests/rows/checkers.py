@@ -56,6 +56,7 @@ REFUSED = {
     "long_path": ("refused 45 at 0", 72353469),
     "second_parameter": ("refused 50 at 2", 6),
     "one_of_two": ("refused 50 at 20", 29),
+    "one_struct": ("refused 50 at 20", 31),
     "answered_address": ("refused 50 at 8", 9),
     "short_copy": ("refused 51 at 9", 15),
     "no_null_test": ("refused 52 at 2", 12),

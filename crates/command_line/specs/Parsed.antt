@@ -13,6 +13,7 @@ use Rattle.request.specs.declared.command.Request.{Request}
 use Rattle.request.specs.declared.command.Request.TheVariants as asks
 use Rattle.request.specs.declared.command.Which.{Which}
 use Rattle.request.specs.declared.command.Which.TheVariants as which
+use Rattle.request.specs.declared.trials.TrialWords.{TrialWords}
 use Rattle.clap.specs.Words.{first_value, matched_of, one_text, raw_values}
 use Rattle.clap.specs.declared.parser.matches.Found.{Found}
 use Rattle.command_line.specs.declared.parsed.Parsed.{Parsed}
@@ -37,6 +38,7 @@ command_named name =
     else if bytes_eq name (codes "log") then Some verb.Log
     else if bytes_eq name (codes "import") then Some verb.Import
     else if bytes_eq name (codes "verify") then Some verb.Verify
+    else if bytes_eq name (codes "check") then Some verb.Check
     else if bytes_eq name (codes "asm") then Some verb.Asm
     else if bytes_eq name (codes "list") then Some verb.List
     else None
@@ -95,6 +97,10 @@ abbrev pub IsWhich : Parsed → Which → Type 0
 IsWhich p (which.Number number) = (p.cut ≡ None) × (number ≡ unwrap_or p.number 0)
 IsWhich p (which.Printed cut choice) = (p.cut ≡ Some cut) × MatchOption choice (96 < length (choice_named p)) (λ text. text.bytes ≡ choice_named p)
 
+-- what is asked of a run on one image, each number that isn't written by its default
+abbrev pub trial_asked : Parsed → TrialWords
+trial_asked p = record { epoch = unwrap_or p.epoch 0; marks = unwrap_or p.marks 0; checked = p.checked; trace = unwrap_or p.trace 0 }
+
 -- what a command asks for: its options, and the image that it means
 abbrev pub Asks : Parsed → Option Verb → Request → Type 0
 Asks p (Some verb.Explore) r = (options : OptionWords) × AreOptions p options × (r ≡ asks.Explore options)
@@ -107,11 +113,12 @@ Asks p (Some verb.Show) r = (options : OptionWords) × (meant : Which) × AreOpt
 Asks p (Some verb.Log) r = (options : OptionWords) × AreOptions p options × (r ≡ asks.Log options)
 Asks p (Some verb.Verify) r = (options : OptionWords) × AreOptions p options × (r ≡ asks.Verify options)
 Asks p (Some verb.Import) r = r ≡ asks.Import
+Asks p (Some verb.Check) r = r ≡ asks.Check (trial_asked p)
 Asks p (Some verb.Asm) r = r ≡ asks.Asm
 Asks p (Some verb.List) r = r ≡ asks.List p.slots
 Asks p None r = r ≡ asks.StoredRun
 
--- the files that are named: a log, a source text or a program, then the programs of a run
+-- the files that are named: a log, a source text or a program, then the image of a program, then the programs of a run
 abbrev pub first_file : Option (List ℕ) → List (List ℕ)
 first_file None = []
 first_file (Some file) = file ∷ []
@@ -121,7 +128,7 @@ program_files None = []
 program_files (Some programs) = map (λ w. w.now) programs.now
 
 abbrev pub files_named : Parsed → List (List ℕ)
-files_named p = first_file (written p.file) ++ program_files p.programs
+files_named p = first_file (written p.file) ++ first_file (written p.image) ++ program_files p.programs
 
 -- the number behind an option: none where nothing stands there, and else that of its decimal digits, if 64 bits hold it
 pub record IsNumberOf (found : Found) (option : List ℕ) (number : Option ℕ) : Type 0 where
@@ -137,6 +144,7 @@ pub record IsFlagOf (found : Found) (option : List ℕ) (flag : Bool) : Type 0 w
 -- what was read is what `clap` found, each word and option under its own name
 pub record IsRead (found : Found) (p : Parsed) : Type 0 where
   pub file : written p.file ≡ first_value found (codes "file")
+  pub image : written p.image ≡ first_value found (codes "image")
   pub programs : option_map (λ ws. map (λ w. w.now) ws.now) p.programs ≡ option_map raw_values (matched_of found (codes "programs"))
   pub sectors : IsNumberOf found (codes "sectors") p.sectors
   pub flush : written p.flush ≡ first_value found (codes "flush")
@@ -156,3 +164,6 @@ pub record IsRead (found : Found) (p : Parsed) : Type 0 where
   pub cut : IsNumberOf found (codes "cut") p.cut
   pub choice : written p.choice ≡ first_value found (codes "choice")
   pub slots : IsFlagOf found (codes "slots") p.slots
+  pub epoch : IsNumberOf found (codes "epoch") p.epoch
+  pub marks : IsNumberOf found (codes "marks") p.marks
+  pub trace : IsNumberOf found (codes "trace") p.trace

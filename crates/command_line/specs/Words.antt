@@ -29,6 +29,7 @@ sectors_asked (asks.Image w which) = w.sectors
 sectors_asked (asks.Show w which) = w.sectors
 sectors_asked (asks.Verify w) = w.sectors
 sectors_asked asks.Import = 0
+sectors_asked (asks.Check w) = 0
 sectors_asked asks.Asm = 0
 sectors_asked (asks.List numbered) = 0
 

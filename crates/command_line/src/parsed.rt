@@ -2,13 +2,13 @@
 
 ghost use Rattle.std.specs.Prelude.{◌≡◌, ◌<◌, ◌++◌, length, map, option_map, string_bytes, IfOk, MatchOption, OnOk};
 ghost use Rattle.clap.specs.Words.{found_of};
-ghost use Rattle.command_line.specs.Parsed.{Asks, AreFlushes, AreOptions, command_named, cuts_named, files_named, options_with, parts_named, written, IsFlagOf, IsNumberOf, IsRead, IsWhich};
+ghost use Rattle.command_line.specs.Parsed.{Asks, AreFlushes, AreOptions, command_named, cuts_named, files_named, options_with, parts_named, trial_asked, written, IsFlagOf, IsNumberOf, IsRead, IsWhich};
 
 use crate::flush_list::flushes_in;
 use arrayvec::ArrayString;
 use clap::ArgMatches;
 use epochs::{By, CutKind, Flushes};
-use request::{OptionWords, Request, Which};
+use request::{OptionWords, Request, TrialWords, Which};
 use std::alloc::{AllocError, Global};
 
 /// What `clap` read behind the program's name: the name of the command, and what stands behind each of its words and options,
@@ -19,6 +19,8 @@ pub struct Parsed<'a> {
     pub command: &'a str,
     /// Its first file: a log, a source text or a program.
     pub file: Option<&'a str>,
+    /// The image on which a program is run.
+    pub image: Option<&'a str>,
     /// The programs of a run.
     pub programs: Option<&'a [&'a str]>,
     /// The number behind `--sectors`.
@@ -57,6 +59,12 @@ pub struct Parsed<'a> {
     pub choice: Option<&'a str>,
     /// Whether `--slots` stands there.
     pub slots: bool,
+    /// The number behind `--epoch`.
+    pub epoch: Option<u64>,
+    /// The number behind `--marks`.
+    pub marks: Option<u64>,
+    /// The number behind `--trace`.
+    pub trace: Option<u64>,
 }
 
 /// The commands of the program (docs/REPORT.md, Commands).
@@ -72,6 +80,7 @@ pub(crate) enum Verb {
     Log,
     Import,
     Verify,
+    Check,
     Asm,
     List,
 }
@@ -91,6 +100,7 @@ fn verb_of(name: &str) -> Option<Verb>
         "log" => Some(Verb::Log),
         "import" => Some(Verb::Import),
         "verify" => Some(Verb::Verify),
+        "check" => Some(Verb::Check),
         "asm" => Some(Verb::Asm),
         "list" => Some(Verb::List),
         _ => None,
@@ -173,6 +183,7 @@ impl<'a> Parsed<'a> {
         Parsed {
             command,
             file: matches.get_str("file"),
+            image: matches.get_str("image"),
             programs: matches.get_strs("programs"),
             sectors: number_of(matches, "sectors"),
             flush: matches.get_str("flush"),
@@ -192,6 +203,9 @@ impl<'a> Parsed<'a> {
             cut: number_of(matches, "cut"),
             choice: matches.get_str("choice"),
             slots: flag_of(matches, "slots"),
+            epoch: number_of(matches, "epoch"),
+            marks: number_of(matches, "marks"),
+            trace: number_of(matches, "trace"),
         }
     }
 
@@ -235,6 +249,18 @@ impl<'a> Parsed<'a> {
         }
     }
 
+    /// What is asked of a run on one image, each number that wasn't written by its default.
+    fn trial(&self) -> TrialWords
+        ensures { result ≡ trial_asked self.now }
+    {
+        TrialWords {
+            epoch: self.epoch.unwrap_or(0),
+            marks: self.marks.unwrap_or(0),
+            checked: self.checked,
+            trace: self.trace.unwrap_or(0),
+        }
+    }
+
     /// What is asked for. A name that is no command's asks for nothing, and so for the stored run; `clap` takes no such name.
     pub fn request(&self) -> Request
         ensures { Asks self.now (command_named self.now.command.now) result }
@@ -250,6 +276,7 @@ impl<'a> Parsed<'a> {
             Some(Verb::Log) => Request::Log(self.options()),
             Some(Verb::Import) => Request::Import,
             Some(Verb::Verify) => Request::Verify(self.options()),
+            Some(Verb::Check) => Request::Check(self.trial()),
             Some(Verb::Asm) => Request::Asm,
             Some(Verb::List) => Request::List {
                 numbered: self.slots,
@@ -258,7 +285,7 @@ impl<'a> Parsed<'a> {
         }
     }
 
-    /// The files that are named: a log, a source text or a program, then the programs of a run.
+    /// The files that are named: a log, a source text or a program, then the image of a program, then the programs of a run.
     ///
     /// # Errors
     ///
@@ -269,6 +296,9 @@ impl<'a> Parsed<'a> {
         let mut files = Vec::new(alloc);
         if let Some(file) = self.file {
             files.push(file.to_string(alloc)?)?;
+        }
+        if let Some(image) = self.image {
+            files.push(image.to_string(alloc)?)?;
         }
         if let Some(programs) = self.programs {
             put_names(alloc, &mut files, programs)?;

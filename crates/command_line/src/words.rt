@@ -140,6 +140,18 @@ Example: crashbpf verify check.bpf --sectors 64
 Exit status: 0 where the program is accepted, 2 for a refusal: 20 to 26 for its bytes, 40 to 60 for
 the rule that it breaks, each at its slot.";
 
+/// What stands behind the help of `check`.
+const AFTER_CHECK: &str =
+    "The device has as many sectors as the image. The last line is what the program ended in: its answer and the
+codes that it reported, or with --checked a fault and its slot. With --trace each of the last steps has a
+line before that: its slot, its instruction and the registers that it changed.
+
+Examples: crashbpf check check.bpf good.img --trace 20
+          crashbpf image disk.log 202 --sectors 64 --tears > broken.img
+          crashbpf check check.bpf broken.img --epoch 3 --marks 1
+
+Exit status: 0 where the answer is 0, 1 where it isn't or there is none, 2 for a refusal.";
+
 /// What stands behind the help of `asm`.
 const AFTER_ASM: &str = "Example: crashbpf asm check.s > check.bpf
 
@@ -184,6 +196,19 @@ fn base_option<'a>(alloc: Global) -> Arg<'a> {
     )
 }
 
+/// An option that takes a word.
+fn word_option<'a>(alloc: Global, name: &'a str, word: &'a str, help: &'a str) -> Arg<'a> {
+    Arg::new(alloc, name).long(name).value_name(word).help(help)
+}
+
+/// An option that stands there or doesn't.
+fn flag_option<'a>(alloc: Global, name: &'a str, help: &'a str) -> Arg<'a> {
+    Arg::new(alloc, name)
+        .long(name)
+        .action(ArgAction::SetTrue)
+        .help(help)
+}
+
 /// An option that says where the wanted cuts begin or end.
 fn range_option<'a>(alloc: Global, name: &'a str, help: &'a str) -> Arg<'a> {
     Arg::new(alloc, name)
@@ -201,59 +226,79 @@ fn log_file<'a>(alloc: Global) -> Arg<'a> {
         .help("A log of writes, as Linux's dm-log-writes target makes it")
 }
 
+/// A command with one more word or option.
+fn with_arg<'a>(
+    command: Command<'a>,
+    arg: Result<Arg<'a>, AllocError>,
+) -> Result<Command<'a>, AllocError> {
+    command.arg(arg?)
+}
+
+/// A command with one more below it.
+fn with_command<'a>(
+    command: Command<'a>,
+    below: Result<Command<'a>, AllocError>,
+) -> Result<Command<'a>, AllocError> {
+    command.subcommand(below?)
+}
+
 /// A command on a log, with the options that say which of its crash images are meant.
 fn log_command<'a>(alloc: Global, name: &'a str) -> Result<Command<'a>, AllocError> {
-    let cuts = Arg::new(alloc, "cuts")
-        .long("cuts")
-        .value_name("WHICH")
-        .help(
-            "Cuts: all; flush, before each flush and at the end; mark, behind each mark [default: all]",
-        );
-    let tears = Arg::new(alloc, "tears")
-        .long("tears")
-        .action(ArgAction::SetTrue)
-        .help("Sectors may also be torn: of the new content only the first or last eighths arrive");
-    let by = Arg::new(alloc, "by").long("by").value_name("WHAT").help(
-        "What is lost or torn as one: sector; write, all sectors of a write or discard [default: sector]",
-    );
-    let bound = number_option(
-        alloc,
-        "bound",
-        "How many sectors, or by write how many writes, may be lost or torn, 0 to 3 [default: 1]",
-    );
     Command::new(alloc, name)
         .arg(sectors_option(alloc))?
         .arg(flush_option(alloc))?
         .arg(base_option(alloc))?
-        .arg(cuts)?
+        .arg(word_option(
+            alloc,
+            "cuts",
+            "WHICH",
+            "Cuts: all; flush, before each flush and at the end; mark, behind each mark [default: all]",
+        ))?
         .arg(range_option(alloc, "from", "The first of the cuts [default: 0]"))?
         .arg(range_option(
             alloc,
             "to",
             "The last of the cuts [default: the last of the log]",
         ))?
-        .arg(bound)?
-        .arg(tears)?
-        .arg(by)?
+        .arg(number_option(
+            alloc,
+            "bound",
+            "How many sectors, or by write how many writes, may be lost or torn, 0 to 3 [default: 1]",
+        ))?
+        .arg(flag_option(
+            alloc,
+            "tears",
+            "Sectors may also be torn: of the new content only the first or last eighths arrive",
+        ))?
+        .arg(word_option(
+            alloc,
+            "by",
+            "WHAT",
+            "What is lost or torn as one: sector; write, all sectors of a write or discard [default: sector]",
+        ))?
         .arg(log_file(alloc))
+}
+
+/// The option that gives a limit of steps.
+fn checked_option<'a>(alloc: Global) -> Arg<'a> {
+    number_option(
+        alloc,
+        "checked",
+        "Ask no verifier, and run each program for at most N steps, 0 to 1000000000",
+    )
 }
 
 /// The options of a run behind those of a log.
 fn with_run_options<'a>(alloc: Global, command: Command<'a>) -> Result<Command<'a>, AllocError> {
-    let checked = Arg::new(alloc, "checked")
-        .long("checked")
-        .value_name("N")
-        .value_parser(clap::value_parser!(u64))
-        .help("Ask no verifier, and run each program for at most N steps, 0 to 1000000000");
-    let progress = Arg::new(alloc, "progress")
-        .long("progress")
-        .action(ArgAction::SetTrue)
-        .help("Say on standard error how many images are judged");
     command
         .arg(number_option(alloc, "workers", "Threads, 1 to 64 [default: 1]"))?
         .arg(number_option(alloc, "cache", "Verdicts to keep, up to 65536 [default: 0]"))?
-        .arg(checked)?
-        .arg(progress)
+        .arg(checked_option(alloc))?
+        .arg(flag_option(
+            alloc,
+            "progress",
+            "Say on standard error how many images are judged",
+        ))
 }
 
 /// The programs of a run.
@@ -291,15 +336,11 @@ fn page_command<'a>(alloc: Global) -> Result<Command<'a>, AllocError> {
 
 /// The command `explore`.
 fn explore_command<'a>(alloc: Global) -> Result<Command<'a>, AllocError> {
-    let first = Arg::new(alloc, "first")
-        .long("first")
-        .action(ArgAction::SetTrue)
-        .help("Report the first failing image alone");
     let command = log_command(alloc, "explore")?
         .about("Reports the crash images on which a checker doesn't answer 0")
         .after_help(AFTER_EXPLORE);
     with_run_options(alloc, command)?
-        .arg(first)?
+        .arg(flag_option(alloc, "first", "Report the first failing image alone"))?
         .arg(program_files(alloc))
 }
 
@@ -312,27 +353,49 @@ fn images_command<'a>(alloc: Global) -> Result<Command<'a>, AllocError> {
     )
 }
 
+/// The number of an image, where it isn't named by its cut.
+fn image_number<'a>(alloc: Global) -> Result<Arg<'a>, AllocError> {
+    Ok(
+        Arg::new(alloc, "number")
+            .required_unless_present("cut")?
+            .conflicts_with("cut")?
+            .value_parser(clap::value_parser!(u64))
+            .value_name("N")
+            .help("The number of the image, from 0"),
+    )
+}
+
+/// The option that gives the cut of an image.
+fn cut_option<'a>(alloc: Global) -> Result<Arg<'a>, AllocError> {
+    Ok(
+        Arg::new(alloc, "cut")
+            .long("cut")
+            .value_name("K")
+            .requires_arg("choice")?
+            .value_parser(clap::value_parser!(u64))
+            .help("The cut of the image, in place of its number"),
+    )
+}
+
+/// The option that gives the choice of an image.
+fn choice_option<'a>(alloc: Global) -> Result<Arg<'a>, AllocError> {
+    Ok(
+        Arg::new(alloc, "choice")
+            .long("choice")
+            .value_name("CHOICE")
+            .requires_arg("cut")?
+            .allow_hyphen_values(true)
+            .help(
+                "What was lost or torn, as a line of the report says it: 17.0:drop,18.1:head3, or -",
+            ),
+    )
+}
+
 /// A command on one crash image of a log.
 fn named_command<'a>(alloc: Global, name: &'a str) -> Result<Command<'a>, AllocError> {
-    let number = Arg::new(alloc, "number")
-        .required_unless_present("cut")?
-        .conflicts_with("cut")?
-        .value_parser(clap::value_parser!(u64))
-        .value_name("N")
-        .help("The number of the image, from 0");
-    let cut = Arg::new(alloc, "cut")
-        .long("cut")
-        .value_name("K")
-        .requires_arg("choice")?
-        .value_parser(clap::value_parser!(u64))
-        .help("The cut of the image, in place of its number");
-    let choice = Arg::new(alloc, "choice")
-        .long("choice")
-        .value_name("CHOICE")
-        .requires_arg("cut")?
-        .allow_hyphen_values(true)
-        .help("What was lost or torn, as a line of the report says it: 17.0:drop,18.1:head3, or -");
-    log_command(alloc, name)?.arg(cut)?.arg(choice)?.arg(number)
+    let command = with_arg(log_command(alloc, name)?, cut_option(alloc))?;
+    let command = with_arg(command, choice_option(alloc))?;
+    with_arg(command, image_number(alloc))
 }
 
 /// The command `image`.
@@ -355,15 +418,14 @@ fn show_command<'a>(alloc: Global) -> Result<Command<'a>, AllocError> {
 
 /// The command `log`.
 fn table_command<'a>(alloc: Global) -> Result<Command<'a>, AllocError> {
-    let sectors = number_option(
-        alloc,
-        "sectors",
-        "Sectors of the device, 1 to 16384 [default: 16384]",
-    );
     Command::new(alloc, "log")
         .about("Prints the entries of a log")
         .after_help(AFTER_LOG)
-        .arg(sectors)?
+        .arg(number_option(
+            alloc,
+            "sectors",
+            "Sectors of the device, 1 to 16384 [default: 16384]",
+        ))?
         .arg(flush_option(alloc))?
         .arg(base_option(alloc))?
         .arg(log_file(alloc))
@@ -405,6 +467,38 @@ fn verify_command<'a>(alloc: Global) -> Result<Command<'a>, AllocError> {
         .arg(sectors_option(alloc))
 }
 
+/// The image of a program.
+fn image_file<'a>(alloc: Global) -> Arg<'a> {
+    Arg::new(alloc, "image")
+        .required(true)
+        .value_name("IMAGE")
+        .help("The bytes of a device: 1 to 16384 sectors of 512")
+}
+
+/// The command `check`.
+fn check_command<'a>(alloc: Global) -> Result<Command<'a>, AllocError> {
+    file_command(alloc, "check", "PROGRAM", "A BPF program, as bytes")?
+        .about("Runs a program on one image, and says what it answers and in how many steps")
+        .after_help(AFTER_CHECK)
+        .arg(number_option(
+            alloc,
+            "epoch",
+            "How many flushes the program is told of, 0 to 65536 [default: 0]",
+        ))?
+        .arg(number_option(
+            alloc,
+            "marks",
+            "How many marks the program is told of, 0 to 65536 [default: 0]",
+        ))?
+        .arg(checked_option(alloc))?
+        .arg(number_option(
+            alloc,
+            "trace",
+            "Print the last N steps, each with the registers that it changed [default: 0]",
+        ))?
+        .arg(image_file(alloc))
+}
+
 /// The command `asm`.
 fn asm_command<'a>(alloc: Global) -> Result<Command<'a>, AllocError> {
     Ok(
@@ -416,37 +510,38 @@ fn asm_command<'a>(alloc: Global) -> Result<Command<'a>, AllocError> {
 
 /// The command `list`.
 fn list_command<'a>(alloc: Global) -> Result<Command<'a>, AllocError> {
-    let slots = Arg::new(alloc, "slots")
-        .long("slots")
-        .action(ArgAction::SetTrue)
-        .help("Begin each line with the slot of its instruction");
     file_command(alloc, "list", "PROGRAM", "A BPF program, as bytes")?
         .about("Prints the listing of a program, which assembles to it again")
         .after_help(AFTER_LIST)
-        .arg(slots)
+        .arg(flag_option(
+            alloc,
+            "slots",
+            "Begin each line with the slot of its instruction",
+        ))
 }
 
 /// All commands.
 fn commands<'a>(alloc: Global) -> Result<Command<'a>, AllocError> {
-    Command::new(alloc, "crashbpf")
+    let command = Command::new(alloc, "crashbpf")
         .bin_name("crashbpf")?
         .about(ABOUT)
         .after_help(AFTER)
         .version(VERSION)
         .no_binary_name(true)
-        .subcommand_required(true)
-        .subcommand(explore_command(alloc)?)?
-        .subcommand(why_command(alloc)?)?
-        .subcommand(cure_command(alloc)?)?
-        .subcommand(page_command(alloc)?)?
-        .subcommand(images_command(alloc)?)?
-        .subcommand(image_command(alloc)?)?
-        .subcommand(show_command(alloc)?)?
-        .subcommand(table_command(alloc)?)?
-        .subcommand(import_command(alloc)?)?
-        .subcommand(verify_command(alloc)?)?
-        .subcommand(asm_command(alloc)?)?
-        .subcommand(list_command(alloc)?)
+        .subcommand_required(true);
+    let command = with_command(command, explore_command(alloc))?;
+    let command = with_command(command, why_command(alloc))?;
+    let command = with_command(command, cure_command(alloc))?;
+    let command = with_command(command, page_command(alloc))?;
+    let command = with_command(command, images_command(alloc))?;
+    let command = with_command(command, image_command(alloc))?;
+    let command = with_command(command, show_command(alloc))?;
+    let command = with_command(command, table_command(alloc))?;
+    let command = with_command(command, import_command(alloc))?;
+    let command = with_command(command, verify_command(alloc))?;
+    let command = with_command(command, check_command(alloc))?;
+    let command = with_command(command, asm_command(alloc))?;
+    with_command(command, list_command(alloc))
 }
 
 impl Words {
@@ -527,6 +622,7 @@ impl Words {
             Request::Images(words) | Request::Log(words) => words.sectors,
             Request::Image(words, _) | Request::Show(words, _) => words.sectors,
             Request::Verify(words) => words.sectors,
+            Request::Check(_) => 0,
             Request::StoredRun | Request::Import | Request::Asm | Request::List { .. } => 0,
         }
     }

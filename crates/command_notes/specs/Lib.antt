@@ -1,2 +1,4 @@
 -- What notes say of an accepted program.
 pub mod Unreached
+pub mod Large
+pub mod Breach

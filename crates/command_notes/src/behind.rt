@@ -1,23 +1,20 @@
 //! The notes behind a refusal.
 
-ghost use Rattle.std.specs.Prelude.{◌≤◌};
-
+use crate::breach::put_breach;
 use crate::headers::{put_end, put_header};
 use base::causes::{CodeCause, LogCause, RequestCause, VerifierCause};
 use base::refusal::{Cause, Refusal};
-use bpf_isa::codec::decode;
-use choices::count;
 use command_line::Words;
-use epochs::{By, CutKind, Cuts, Plan};
-use logfmt::{Log, read};
+use epochs::{By, CutKind};
+use facts::{Facts, Fewer, Smaller};
+use logfmt::read;
 use notes::{
-    asm_cure, code_cure, log_cure, put_entry, put_escaped, put_known, put_least, put_note,
-    put_refused, put_slot, verifier_cure,
+    asm_cure, code_cure, log_cure, put_entry, put_escaped, put_least, put_note, put_refused,
+    verifier_cure,
 };
-use request::{MOST_SECTORS, OptionWords, Options, Request, options_of, read_log};
+use request::{MOST_SECTORS, OptionWords, Request};
 use std::alloc::{AllocError, Global};
 use std::fmt::Display;
-use verifier::Known;
 
 /// With what a log begins.
 const LOG_MAGIC: &[u8] = b"rhswfsj\0";
@@ -197,113 +194,40 @@ fn run_options(request: Request) -> Option<OptionWords> {
     }
 }
 
-/// What is said of the place of a refusal by the verifier.
-#[derive(Clone, Copy)]
-struct Place<'x> {
-    files: &'x [Option<Vec<u8>>],
-    refusal: &'x Refusal,
-    known: &'x Known,
-}
-
-/// Appends the instruction at which a program is refused, and what is known there of the registers that it reads.
-fn put_refused_slot(alloc: Global, out: &mut String, place: &Place<'_>) -> Result<(), AllocError> {
-    let Some(bytes) = bytes_of(place.files, place_of(place.refusal.program)) else {
-        return Ok(());
-    };
-    let Ok(program) = decode(alloc, bytes) else {
-        return Ok(());
-    };
-    let slot = place.refusal.at as usize;
-    put_slot(out, &program, slot)?;
-    match (program.at(slot), &place.known.refused) {
-        (Some(instr), Some(state)) => put_known(out, &instr, state),
-        _ => Ok(()),
-    }
-}
-
 /// Appends which rule a program breaks, the instruction that does, and what is known there.
 fn put_verifier_notes(
     alloc: Global,
     out: &mut String,
     cause: VerifierCause,
-    place: &Place<'_>,
+    slot: u64,
+    facts: &Facts,
 ) -> Result<(), AllocError> {
     if names_instruction(cause) {
-        put_refused_slot(alloc, out, place)?;
+        put_breach(out, slot, &facts.breach)?;
     }
     put_cause(alloc, out, &cause, verifier_cure(cause))
 }
 
-/// Appends the greatest smaller bound with which a plan hasn't too many images, and how many it has then.
-fn put_smaller_bound(
-    out: &mut String,
-    plan: &Plan<'_>,
-    bound: u8,
-    tears: bool,
-) -> Result<(), AllocError>
-    requires { bound ≤ 3 }
-{
-    for smaller in (0..bound).rev() {
-        if let Ok(images) = count(plan, smaller, tears) {
-            return write!(out, "note: with --bound {smaller} there are {images}\n");
-        }
-    }
-    put_note(out, "there are too many with --bound 0 as well")
-}
-
 /// Appends how many images a log has with other cuts, where it has some, and not too many.
-fn put_cuts(
-    alloc: Global,
-    out: &mut String,
-    log: &Log,
-    options: &Options,
-    kind: CutKind,
-    name: &str,
-) -> Result<(), AllocError> {
-    let asked = options.cuts();
-    let cuts = Cuts {
-        kind,
-        from: asked.from,
-        to: asked.to,
-        flushes: asked.flushes,
-    };
-    let plan = Plan::new(alloc, log, cuts, options.by())?;
-    match count(&plan, options.bound(), options.tears()) {
-        Ok(images) if images > 0 => write!(out, "note: with --cuts {name} there are {images}\n"),
+fn put_cuts(out: &mut String, name: &str, images: Option<u64>) -> Result<(), AllocError> {
+    match images {
+        Some(images) if images > 0 => write!(out, "note: with --cuts {name} there are {images}\n"),
         _ => Ok(()),
     }
 }
 
-/// Appends with which cuts in place of all a log hasn't too many images.
-fn put_fewer_cuts(
-    alloc: Global,
-    out: &mut String,
-    log: &Log,
-    options: &Options,
-) -> Result<(), AllocError> {
-    if options.cuts().kind != CutKind::All {
-        return Ok(());
+/// Appends with which cuts in place of all, and with how small a bound, a log hasn't too many images.
+fn put_fewer(out: &mut String, kind: Option<CutKind>, fewer: &Fewer) -> Result<(), AllocError> {
+    if matches!(kind, Some(CutKind::All)) {
+        put_cuts(out, "flush", fewer.flush)?;
+        put_cuts(out, "mark", fewer.mark)?;
     }
-    put_cuts(alloc, out, log, options, CutKind::BeforeFlush, "flush")?;
-    put_cuts(alloc, out, log, options, CutKind::AfterMark, "mark")
-}
-
-/// Appends with which cuts, and with how small a bound, a log hasn't too many images.
-fn put_fewer(
-    alloc: Global,
-    out: &mut String,
-    bytes: &[u8],
-    words: OptionWords,
-) -> Result<(), AllocError> {
-    let Ok(options) = options_of(words) else {
-        return Ok(());
-    };
-    let Ok(log) = read_log(alloc, bytes, &[], &options) else {
-        return Ok(());
-    };
-    put_fewer_cuts(alloc, out, &log, &options)?;
-    let plan = Plan::new(alloc, &log, options.cuts(), options.by())?;
-    put_smaller_bound(out, &plan, options.bound(), options.tears())
+    match fewer.smaller {
+        Some(Smaller { bound, images }) => {
+            write!(out, "note: with --bound {bound} there are {images}\n")
+        }
+        None => put_note(out, "there are too many with --bound 0 as well"),
+    }
 }
 
 /// With which options there are fewer images than with parts of that kind.
@@ -314,29 +238,19 @@ fn fewer_images(by: Option<By>) -> &'static str {
     }
 }
 
-/// The kind of parts that a command takes, where it takes some.
-fn parts_of(request: Request) -> Option<By> {
-    match log_options(request) {
-        Some(words) => words.by,
-        None => None,
-    }
-}
-
 /// Appends that there are too many images, and with what there are fewer.
-fn put_images_notes(
-    alloc: Global,
-    out: &mut String,
-    words: &Words,
-    files: &[Option<Vec<u8>>],
-) -> Result<(), AllocError> {
+fn put_images_notes(out: &mut String, words: &Words, facts: &Facts) -> Result<(), AllocError> {
+    let Some(options) = log_options(words.request()) else {
+        return Ok(());
+    };
     put_refused(
         out,
         "with this cut there are more than 16777216 images (docs/CRASH-MODEL.md, Limits)",
-        fewer_images(parts_of(words.request())),
+        fewer_images(options.by),
     )?;
-    match (bytes_of(files, 0), log_options(words.request())) {
-        (Some(bytes), Some(options)) => put_fewer(alloc, out, bytes, options),
-        _ => Ok(()),
+    match &facts.fewer {
+        Some(fewer) => put_fewer(out, options.cuts, fewer),
+        None => Ok(()),
     }
 }
 
@@ -359,20 +273,45 @@ fn option_rule(place: u64) -> &'static str {
         12 => "--flush is 1 to 64 numbers of entries, with commas between",
         13 => "--from isn't above --to",
         14 => "the file behind --base has no more bytes than the device, 512 for each sector",
+        15 => "--epoch is 0 to 65536",
+        16 => "--marks is 0 to 65536",
         _ => "the log has no image of that number; 'crashbpf images' tells how many it has",
     }
 }
 
-/// Appends which file can't be read, or is no text.
+/// The most bytes of an image.
+const MOST_IMAGE: usize = 8_388_608;
+
+/// Appends that a file is no image, how many bytes it has, and how many one has.
+fn put_image_notes(
+    out: &mut String,
+    words: &Words,
+    place: usize,
+    bytes: usize,
+) -> Result<(), AllocError> {
+    put_name(out, words, place, "is no image")?;
+    if bytes > MOST_IMAGE {
+        put_note(out, "it has more than 8388608 bytes")?;
+    } else {
+        write!(out, "note: it has {bytes} bytes\n")?;
+    }
+    put_note(
+        out,
+        "an image has 1 to 16384 whole sectors of 512 bytes (docs/REPORT.md, Commands)",
+    )
+}
+
+/// Appends which file can't be read, is no text, or is no image.
 fn put_file_notes(
     out: &mut String,
     words: &Words,
     files: &[Option<Vec<u8>>],
     place: usize,
 ) -> Result<(), AllocError> {
-    match bytes_of(files, place) {
-        Some(_bytes) => put_name(out, words, place, "is no text in UTF-8"),
-        None => put_name(out, words, place, "can't be read"),
+    match (bytes_of(files, place), words.request()) {
+        (Some(bytes), Request::Check(_)) => put_image_notes(out, words, place, bytes.len()),
+        (Some(_bytes), _) => put_name(out, words, place, "is no text in UTF-8"),
+        (None, _) => put_name(out, words, place, "can't be read"),
     }
 }
 
@@ -398,7 +337,7 @@ pub fn notes_behind(
     words: &Words,
     files: &[Option<Vec<u8>>],
     refusal: &Refusal,
-    known: &Known,
+    facts: &Facts,
 ) -> Result<String, AllocError> {
     let mut out = String::new(alloc);
     let at = refusal.at as usize;
@@ -413,17 +352,8 @@ pub fn notes_behind(
             refusal.program,
         )?,
         Cause::Asm(cause) => put_cause(alloc, &mut out, &cause, asm_cure(cause))?,
-        Cause::Verifier(cause) => {
-            let place = Place {
-                files,
-                refusal,
-                known,
-            };
-            put_verifier_notes(alloc, &mut out, cause, &place)?
-        }
-        Cause::Request(RequestCause::TooManyImages) => {
-            put_images_notes(alloc, &mut out, words, files)?
-        }
+        Cause::Verifier(cause) => { put_verifier_notes(alloc, &mut out, cause, refusal.at, facts)? }
+        Cause::Request(RequestCause::TooManyImages) => put_images_notes(&mut out, words, facts)?,
         Cause::Request(RequestCause::Option) => put_note(&mut out, option_rule(refusal.at))?,
         Cause::Request(RequestCause::NotInLog) => put_note(&mut out, NOT_IN_LOG)?,
         Cause::Request(RequestCause::File) => put_file_notes(&mut out, words, files, at)?,

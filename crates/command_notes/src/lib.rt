@@ -3,17 +3,18 @@
 //! # Place
 //!
 //! On `notes`, which has the parts: sentences, entries, instructions and what is known of registers. Here it is chosen which of
-//! them are said of a command, of its `Words` (`command_line`), its options (`request`), what its files hold, and what the
-//! verifier knew of its programs (`Known`). A log is read once more for that, after the answer, and no program is verified again.
+//! them are said of a command, of its `Words` (`command_line`), what its files hold, and what it found on its way (`Facts` of
+//! `facts`). No log that a command read is read again, and no program is decoded or verified again.
 //! `commands` hands both calls to the program, whose status and standard output they don't touch.
 //!
 //! | Call | Answers |
 //! |---|---|
-//! | `notes_behind(alloc, words, files, refusal, known)` | what the number of a refusal means there, the instruction, entry, option or file that is meant, and what most likely helps |
-//! | `notes_beside(alloc, words, files, known)` | beside an answer: what no run of a program reaches, and how many writes never depart as a whole |
+//! | `notes_behind(alloc, words, files, refusal, facts)` | what the number of a refusal means there, the instruction, entry, option or file that is meant, and what most likely helps |
+//! | `notes_beside(alloc, words, facts)` | beside an answer: what no run of a program reaches, and how many writes never depart as a whole |
 //!
-//! `behind.rt` and `beside.rt` have the two, `headers.rt` the header of an entry that is refused for it, and `unreached.rt` the
-//! instructions that no path reaches.
+//! `behind.rt` and `beside.rt` have the two, `headers.rt` the header of an entry that is refused for it, `breach.rt` the
+//! instruction at which a program is refused, `unreached.rt` the instructions that no path reaches, and `large.rt` the entries that
+//! no image loses as a whole.
 //!
 //! # What is proved
 //!
@@ -24,14 +25,16 @@
 //! # Example
 //!
 //! ```text
-//! notes_behind(alloc, &words, files, &refusal, &known)?
+//! notes_behind(alloc, &words, files, &refusal, &facts)?
 //! // note: --bound is 0 to 3
 //! ```
 #![tactic(auto)]
 
 mod behind;
 mod beside;
+mod breach;
 mod headers;
+mod large;
 mod unreached;
 
 pub use behind::notes_behind;

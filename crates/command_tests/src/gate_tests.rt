@@ -5,8 +5,8 @@ ghost use Rattle.std.specs.Prelude.{◌≤◌};
 
 use base::refusal::Refusal;
 use commands::{
-    By, CutKind, Cuts, Explored, Flushes, Gate, OpenGate, Options, Settings, explore, explore_with,
-    fault_line,
+    By, CutKind, Cuts, Explored, Flushes, Gate, OpenGate, Options, Recording, Settings, explore,
+    explore_with, fault_line,
 };
 use std::alloc::Global;
 use std::process::Abort;
@@ -158,8 +158,7 @@ fn tells_the_gate_of_each_block(rt: HostRuntime) -> Result<(), Fail> {
         &rt,
         alloc,
         &gate,
-        &flushes(alloc, 64)?,
-        &[],
+        &Recording::of(&flushes(alloc, 64)?, &[]),
         programs.as_slice(),
         &options,
     )
@@ -179,8 +178,7 @@ fn refuses_a_run_without_programs(rt: HostRuntime) -> Result<(), Fail> {
     let refusal: Refusal = explore(
         &rt,
         alloc,
-        &flushes(alloc, 0)?,
-        &[],
+        &Recording::of(&flushes(alloc, 0)?, &[]),
         programs.as_slice(),
         &options,
     )
@@ -243,9 +241,16 @@ fn held<R: Threads + Wait + Sync + Abort>(
         ended: AtomicU64::new(0),
         workers: AtomicU64::new(0),
     };
-    let explored = explore_with(rt, alloc, &gate, log, &[], programs.as_slice(), &options)
-        .ok()
-        .ok_or("a report")?;
+    let explored = explore_with(
+        rt,
+        alloc,
+        &gate,
+        &Recording::of(log, &[]),
+        programs.as_slice(),
+        &options,
+    )
+    .ok()
+    .ok_or("a report")?;
     assert_eq!(rt; gate.ended.load(Ordering::SeqCst), blocks);
     assert!(rt;
         gate.first.load(Ordering::SeqCst) > 1,
@@ -288,9 +293,15 @@ fn block_1_ends_while_block_0_is_held(rt: HostRuntime) -> Result<(), Fail> {
     .ok_or("options")?;
     let mut programs = Vec::new(alloc);
     programs.push(ANSWER_1.to_vec(alloc)?)?;
-    let alone = explore(&rt, alloc, &log, &[], programs.as_slice(), &options)
-        .ok()
-        .ok_or("a report")?;
+    let alone = explore(
+        &rt,
+        alloc,
+        &Recording::of(&log, &[]),
+        programs.as_slice(),
+        &options,
+    )
+    .ok()
+    .ok_or("a report")?;
     for workers in [2, 64] {
         let bytes = held(
             &rt,
@@ -410,9 +421,16 @@ fn sixty_four_workers_hold_a_block_each(rt: HostRuntime) -> Result<(), Fail> {
         here: AtomicU64::new(0),
         alone: AtomicU64::new(0),
     };
-    let explored = explore_with(&rt, alloc, &gate, &log, &[], programs.as_slice(), &options)
-        .ok()
-        .ok_or("a report")?;
+    let explored = explore_with(
+        &rt,
+        alloc,
+        &gate,
+        &Recording::of(&log, &[]),
+        programs.as_slice(),
+        &options,
+    )
+    .ok()
+    .ok_or("a report")?;
     assert_eq!(rt; gate.images.load(Ordering::SeqCst), 4096);
     assert_eq!(rt; gate.here.load(Ordering::SeqCst), 64);
     assert_eq!(rt; gate.alone.load(Ordering::SeqCst), 0);
@@ -454,8 +472,7 @@ fn hits_of<R: Threads + Wait + Sync>(
         rt,
         alloc,
         &OpenGate,
-        &log,
-        &[],
+        &Recording::of(&log, &[]),
         programs.as_slice(),
         &options,
     )

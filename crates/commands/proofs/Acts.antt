@@ -10,19 +10,33 @@ use Rattle.request.specs.declared.settings.Settings.{Settings}
 use Rattle.request.specs.Refusals.{file_refusal}
 use Rattle.runs.specs.Explore.{Refuses}
 use Rattle.request.specs.Source.{Recording}
-use Rattle.commands.specs.Acting.{Files, first_held, initial_of, unread, RefusesFile, for_file, RefusesRecording, for_log_file, for_base_file, RefusesFiles, for_unread, for_base, for_run, for_memory, AnswersFiles, AnswersRun}
+use Rattle.request.specs.declared.trials.TrialWords.{TrialWords}
+use Rattle.commands.specs.Acting.{second_held, RefusesCheck, for_program_file, for_image_file}
+use Rattle.commands.specs.Acting.{Files, first_held, initial_of, unread, RefusesFile, for_file, RefusesRecording, for_log_file, for_base_file, for_recording, RefusesFiles, for_unread, for_base, for_run, for_memory, AnswersFiles, AnswersRun}
 
 -- the first file can't be read
 pub unread_file : (files : Files) (Rest : List ℕ → Refusal → Type 0) (r : Refusal) → (first_held files ≡ None) × (r ≡ file_refusal 0) → RefusesFile files Rest r
 unread_file files Rest r h = rw h.1 (for_file h.0)
 
-pub unread_log : (files : Files) (Rest : Recording → Refusal → Type 0) (r : Refusal) → (first_held files ≡ None) × (r ≡ file_refusal 0) → RefusesRecording files Rest r
-unread_log files Rest r h = rw h.1 (for_log_file h.0)
+-- the program of a run on one image can't be read, and the image can't be
+pub no_program_file : (w : TrialWords) (files : Files) (r : Refusal) → (first_held files ≡ None) × (r ≡ file_refusal 0) → RefusesCheck w files r
+no_program_file w files r h = rw h.1 (for_program_file h.0)
 
--- the file of the initial content can't be read
-pub unread_base : (files : Files) (Rest : Recording → Refusal → Type 0) (r : Refusal) → (initial_of files.base ≡ None) × (r ≡ file_refusal (length files.named))
-    → RefusesRecording files Rest r
-unread_base files Rest r h = rw h.1 (for_base_file h.0)
+pub no_image_file : (w : TrialWords) (files : Files) (r : Refusal) → (second_held files ≡ None) × (r ≡ file_refusal 1) → RefusesCheck w files r
+no_image_file w files r h = rw h.1 (for_image_file h.0)
+
+-- the log of a recording can't be read, and what the device held before it can't be
+pub no_log_file : (files : Files) (Rest : Recording → Refusal → Type 0) (r : Refusal) → (first_held files ≡ None) × (r ≡ file_refusal 0) → RefusesRecording files Rest r
+no_log_file files Rest r h = rw h.1 (for_log_file h.0)
+
+pub no_base_file : (files : Files) (Rest : Recording → Refusal → Type 0) (r : Refusal) → (initial_of files.base ≡ None) × (r ≡ file_refusal (length files.named)) → RefusesRecording files Rest r
+no_base_file files Rest r h = rw h.1 (for_base_file h.0)
+
+-- the recording can't be read
+pub unread_recording : (files : Files) (Rest : Recording → Refusal → Type 0) (r : Refusal) → RefusesRecording files (λ text q. ⊥) r → RefusesRecording files Rest r
+unread_recording files Rest _ (for_log_file h) = for_log_file h
+unread_recording files Rest _ (for_base_file h) = for_base_file h
+unread_recording files Rest _ (for_recording held initial r there from why) = absurd why
 
 -- no file passes the test where the place of the first is the end
 none_by : (q n : ℕ) (b : Bool) → nat_lt q n ≡ b → cond b (Some q) None ≡ None → n ≤ q

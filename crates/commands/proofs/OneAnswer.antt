@@ -1,5 +1,6 @@
 -- Each command has one answer.
 use Rattle.std.proofs.Common.{ℕ, ◌≡◌, Bool, List, [], ◌∷◌, map, flat_map, Option, None, Some, refl, sym, ◌∙◌, ap, subst}
+use Rattle.std.specs.Prelude.{MatchOption}
 use Rattle.logfmt.specs.Bounds.{LogValue}
 use Rattle.logfmt.specs.Laws.{TextOfOneLog}
 use Rattle.bpf_isa.specs.Laws.{OneProgram}
@@ -7,6 +8,8 @@ use Rattle.bpf_isa.specs.Program.{slot_bytes}
 use Rattle.bpf_isa.specs.declared.instr.Instr.{Instr}
 use Rattle.bpf_asm.specs.Laws as asm
 use Rattle.verifier.specs.Laws.{OneVerdict}
+use Rattle.verifier.specs.Verdicts.{IsAccepted}
+use Rattle.lines.specs.Line.{fails}
 use Rattle.choices.specs.Choices.{ChoiceValue}
 use Rattle.checker.specs.Checker.{CheckerValue}
 use Rattle.images.specs.Views.{view_of, sectors_of}
@@ -19,6 +22,10 @@ use Rattle.request.specs.declared.settings.Telling.TheVariants as telling
 use Rattle.request.specs.declared.command.OptionWords.{OptionWords}
 use Rattle.request.specs.declared.command.Which.{Which}
 use Rattle.request.specs.declared.command.Request.{Request}
+use Rattle.request.specs.declared.trials.Trial.{Trial}
+use Rattle.request.specs.declared.trials.TrialWords.{TrialWords}
+use Rattle.trial.specs.Image.{sectors_of as image_sectors}
+use Rattle.trial.specs.Trial.{trial_text, ending_of_trial, IsTried}
 use Rattle.request.specs.declared.command.Request.TheVariants as request
 use Rattle.request.specs.OptionWords.{AskFor}
 use Rattle.request.specs.Source.{Recording, plan_of}
@@ -37,7 +44,7 @@ use Rattle.looks.specs.Verifying.{accepted_text, IsAcceptedText}
 use Rattle.looks.specs.Assembly.{listing_text, IsAssembled, IsListed}
 use Rattle.commands.specs.declared.action.Wanted.{Wanted}
 use Rattle.commands.specs.declared.action.Wanted.TheVariants as wanted
-use Rattle.commands.specs.Acting.{Files, initial_of, recording, status_of, IsAnswered, AnswersRun, AnswersFiles, AnswersExplore, AnswersFile, AnswersLog, AnswersOf, AnswersWith, Answers}
+use Rattle.commands.specs.Acting.{Files, initial_of, recording, status_of, IsAnswered, AnswersRun, AnswersFiles, AnswersExplore, AnswersFile, AnswersLog, AnswersOf, AnswersWith, AnswersTrial, Answers}
 use Rattle.commands.proofs.OneReport.{same_log, same_asked, same_checkers, same_test, one_report}
 use Rattle.commands.proofs.OneText.{one_explanation}
 use Rattle.commands.proofs.OnePage.{one_page}
@@ -223,6 +230,38 @@ one_listed laws numbered code bytes others a b = a.listed ∙ ap (listing_text n
 one_imported : IsOne (λ raw text. IsImported raw most_sectors text)
 one_imported raw text other a b = one_import raw text other most_sectors a b
 
+-- the limit of a run on one image is one
+same_limit : Laws → (p q : List (Option Instr)) (sectors : ℕ) (checked : Option ℕ) (m n : ℕ) → p ≡ q
+    → MatchOption checked (IsAccepted p sectors m) (λ most. m ≡ most) → MatchOption checked (IsAccepted q sectors n) (λ most. n ≡ most) → m ≡ n
+same_limit laws p q sectors None m n same a b = (laws.verdicts.accepted _ _ a.1 b.1 same refl).0
+same_limit laws p q sectors (Some most) m n same a b = a ∙ sym b
+
+one_trial : Laws → (program image : List ℕ) (t : Trial) (bytes others : List ℕ) (failing rejects : Bool)
+    → IsTried program image t bytes failing → IsTried program image t others rejects → (bytes ≡ others) × (failing ≡ rejects)
+one_trial laws program image t bytes others failing rejects a b =
+    let slots = laws.programs program a.slots b.slots a.spelled b.spelled in
+    let limit = same_limit laws a.slots b.slots (image_sectors image) t.checked a.limit b.limit slots a.allowed b.allowed in
+    let text : trial_text a.slots image t a.limit ≡ trial_text b.slots image t b.limit = λ i. trial_text (slots i) image t (limit i) in
+    let ending : fails (ending_of_trial a.slots image t a.limit) ≡ fails (ending_of_trial b.slots image t b.limit) = λ i. fails (ending_of_trial (slots i) image t (limit i)) in
+    (a.says ∙ text ∙ sym b.says, a.ends ∙ ending ∙ sym b.ends)
+
+-- the first two files of a command are one
+pub same_held : (file : Option (List ℕ)) (xs ys : List ℕ) → file ≡ Some xs → file ≡ Some ys → xs ≡ ys
+same_held file xs ys a b = let both : Some xs ≡ Some ys = sym a ∙ b in cc
+
+-- what is tried is the same under other names
+pub tried_alike : {text : List ℕ} {failing : Bool} (p q i j : List ℕ) (t u : Trial) → p ≡ q → i ≡ j → t ≡ u → IsTried p i t text failing → IsTried q j u text failing
+tried_alike {text} {failing} p q i j t u program image trial h =
+    subst (λ (x : Trial). IsTried q j x text failing) trial
+    (subst (λ (x : List ℕ). IsTried q x t text failing) image (subst (λ (x : List ℕ). IsTried x i t text failing) program h))
+
+trial_once : Laws → (w : TrialWords) (files : Files) (bytes others : List ℕ) (status ended : ℕ)
+    → AnswersTrial w files bytes status → AnswersTrial w files others ended → Same bytes others status ended
+trial_once laws w files bytes others status ended a b =
+    let tried = tried_alike b.program a.program b.image a.image b.trial a.trial (same_held _ _ _ b.read a.read) (same_held _ _ _ b.shown a.shown) (b.asked.asked ∙ sym a.asked.asked) b.tried in
+    let same = one_trial laws a.program a.image a.trial bytes others a.failing b.failing a.tried tried in
+    (same.0, a.ends ∙ ap status_of same.1 ∙ sym b.ends)
+
 pub one_answer : Laws → (r : Request) (files : Files) (bytes others : List ℕ) (status ended : ℕ)
     → Answers r files bytes status → Answers r files others ended → (bytes ≡ others) × (status ≡ ended)
 one_answer laws request.StoredRun files bytes others status ended a b = run_once laws (wanted.Told telling.Report) _ _ _ bytes others status ended a b
@@ -236,5 +275,6 @@ one_answer laws (request.Image w which) files bytes others status ended a b = of
 one_answer laws (request.Show w which) files bytes others status ended a b = of_once w (λ s text. IsShown text s which) (one_show laws which) files bytes others status ended a b
 one_answer laws (request.Verify w) files bytes others status ended a b = with_once w (λ s code. IsAcceptedText code s.sectors) (one_verified laws) files bytes others status ended a b
 one_answer laws request.Import files bytes others status ended a b = file_once (λ raw. IsImported raw most_sectors) one_imported files bytes others status ended a b
+one_answer laws (request.Check w) files bytes others status ended a b = trial_once laws w files bytes others status ended a b
 one_answer laws request.Asm files bytes others status ended a b = file_once IsAssembled (one_assembled laws) files bytes others status ended a b
 one_answer laws (request.List numbered) files bytes others status ended a b = file_once (IsListed numbered) (one_listed laws numbered) files bytes others status ended a b

@@ -1,5 +1,6 @@
 -- Where there is an answer, a command is refused for want of memory alone.
 use Rattle.std.proofs.Common.{ℕ, suc, ◌≡◌, ◌⊎◌, ◌+◌, ◌≤◌, nat_lt, Bool, true, false, cond, List, [], ◌∷◌, length, map, Option, None, Some, option_map, position, is_none, inl, inr, refl, sym, ◌∙◌, ap, subst, arith}
+use Rattle.std.specs.Prelude.{MatchOption}
 use Rattle.std.specs.Option.{option_map_or, option_and_then}
 use Rattle.std.specs.List.{position_or_len}
 use Rattle.std.proofs.lemmas.Bool.Decides.{nat_tests}
@@ -11,7 +12,7 @@ use Rattle.epochs.specs.declared.flushes.Flushes.{Flushes}
 use Rattle.epochs.specs.declared.part.By.{By}
 use Rattle.bpf_isa.specs.declared.instr.Instr.{Instr}
 use Rattle.choices.specs.Choices.{ChoiceValue}
-use Rattle.verifier.specs.Verdicts.{Refused}
+use Rattle.verifier.specs.Verdicts.{IsAccepted, Refused}
 use Rattle.request.specs.declared.settings.OptionPlace.TheVariants as place
 use Rattle.request.specs.declared.settings.Settings.{Settings}
 use Rattle.request.specs.declared.settings.Telling.{Telling}
@@ -42,9 +43,15 @@ use Rattle.looks.specs.Verifying.{IsAcceptedText, RefusesVerified, with_code_fau
 use Rattle.looks.specs.Assembly as assembly
 use Rattle.looks.specs.Assembly.{IsAssembled, IsListed, RefusesText, RefusesBytes}
 use Rattle.commands.specs.Acting.{Files, initial_of, recording, first_held, unread, IsAnswered, AnswersRun, AnswersFiles, AnswersExplore, AnswersFile, AnswersOf, AnswersWith, Answers, RefusesWith, for_words, for_settings, RefusesFile, for_file, for_held, RefusesRecording, for_log_file, for_base_file, for_recording, RefusesFiles, for_unread, for_base, for_run, for_memory, RefusesToAct}
+use Rattle.request.specs.declared.trials.Trial.{Trial}
+use Rattle.request.specs.declared.trials.TrialWords.{TrialWords}
+use Rattle.trial.specs.Image.{sectors_of}
+use Rattle.trial.specs.Trial as trials
+use Rattle.trial.specs.Trial.{IsTried, RefusesLimit, RefusesTrial}
+use Rattle.commands.specs.Acting.{AnswersTrial, RefusesCheck, for_trial_words, for_program_file, for_image_file, for_trial}
 use Rattle.commands.specs.Laws.{IsOfMemory}
 use Rattle.commands.proofs.OneReport.{Below, same_log, of_log, of_source, report_or_refusal}
-use Rattle.commands.proofs.OneAnswer.{same_files, same_initial, same_settings}
+use Rattle.commands.proofs.OneAnswer.{same_files, same_initial, same_settings, same_held, tried_alike}
 
 -- words that ask for settings are not refused
 asked_by : (w : OptionWords) (cuts : Option CutKind) (way : Option By) (added : Option Flushes) (s : Settings) (r : Refusal)
@@ -212,6 +219,36 @@ of_imported : (raw text : List ℕ) (r : Refusal) → IsImported raw most_sector
 of_imported raw text _ h (with_raw_fault cause at fault) = absurd (imported_has_no_fault raw text most_sectors cause at h fault)
 of_imported raw text _ h no_raw_memory = refl
 
+-- a run on one image without a limit was accepted
+accepted_trial : (p : List (Option Instr)) (sectors : ℕ) (checked : Option ℕ) (limit : ℕ) → checked ≡ None
+    → MatchOption checked (IsAccepted p sectors limit) (λ most. limit ≡ most) → IsAccepted p sectors limit
+accepted_trial p sectors None limit none h = h
+accepted_trial p sectors (Some most) limit none h = absurd (let bad : Some most ≡ None = none in cc)
+
+of_limit : Below → (program image : List ℕ) (t : Trial) (bytes : List ℕ) (failing : Bool) (slots : List (Option Instr)) (r : Refusal) → (h : IsTried program image t bytes failing)
+    → slots ≡ h.slots → RefusesLimit slots image t r → IsOfMemory r.code
+of_limit below program image t bytes failing slots _ h same (trials.with_verifier_fault cause slot none refused) =
+    let accepted = accepted_trial h.slots (sectors_of image) t.checked h.limit none h.allowed in
+    absurd (below.verdicts.not_both _ cause slot accepted.1 (subst (λ (p : List (Option Instr)). Refused p (sectors_of image) cause slot) same refused))
+of_limit below program image t bytes failing slots _ h same (trials.no_verifier_memory none) = refl
+
+of_tried : Below → (program image : List ℕ) (t : Trial) (bytes : List ℕ) (failing : Bool) (r : Refusal) → IsTried program image t bytes failing → RefusesTrial program image t r
+    → IsOfMemory r.code
+of_tried below program image t bytes failing _ h (trials.for_size small) = absurd (let bad : false ≡ true = sym small ∙ h.whole in cc)
+of_tried below program image t bytes failing _ h (trials.with_code_fault cause slot fault) = absurd (below.spelled program h.slots h.spelled cause slot fault)
+of_tried below program image t bytes failing _ h trials.no_code_memory = refl
+of_tried below program image t bytes failing _ h (trials.for_limit slots r spelled why) =
+    of_limit below program image t bytes failing slots r h (below.programs program slots h.slots spelled h.spelled) why
+of_tried below program image t bytes failing _ h trials.no_memory = refl
+
+of_trial : Below → (w : TrialWords) (files : Files) (bytes : List ℕ) (status : ℕ) (r : Refusal) → AnswersTrial w files bytes status → RefusesCheck w files r → IsOfMemory r.code
+of_trial below w files bytes status _ h (for_trial_words r bad) = absurd (let none : None ≡ Some r = sym h.asked.good ∙ bad in cc)
+of_trial below w files bytes status _ h (for_program_file none) = absurd (let bad : None ≡ Some h.program = sym none ∙ h.read in cc)
+of_trial below w files bytes status _ h (for_image_file none) = absurd (let bad : None ≡ Some h.image = sym none ∙ h.shown in cc)
+of_trial below w files bytes status _ h (for_trial t program image r asked read shown why) =
+    let tried = tried_alike h.program program h.image image h.trial t (same_held _ _ _ h.read read) (same_held _ _ _ h.shown shown) (h.asked.asked ∙ sym asked.asked) h.tried in
+    of_tried below program image t bytes h.failing r tried why
+
 pub answer_or_refusal : Below → (r : Request) (files : Files) (bytes : List ℕ) (status : ℕ) (refusal : Refusal) → Answers r files bytes status → RefusesToAct r files refusal
     → IsOfMemory refusal.code
 answer_or_refusal below request.StoredRun files bytes status refusal h why = of_stored below (wanted.Told telling.Report) _ _ _ bytes status refusal h why
@@ -232,6 +269,7 @@ answer_or_refusal below (request.Show w which) files bytes status refusal h why 
 answer_or_refusal below (request.Verify w) files bytes status refusal h why =
     of_with w (λ s code. IsAcceptedText code s.sectors) (λ s code. RefusesVerified code s.sectors) (of_verified below) files bytes status refusal h why
 answer_or_refusal below request.Import files bytes status refusal h why = of_alone (λ raw. IsImported raw most_sectors) RefusesImport of_imported files bytes status refusal h why
+answer_or_refusal below (request.Check w) files bytes status refusal h why = of_trial below w files bytes status refusal h why
 answer_or_refusal below request.Asm files bytes status refusal h why = of_alone IsAssembled RefusesText of_assembled files bytes status refusal h why
 answer_or_refusal below (request.List numbered) files bytes status refusal h why =
     of_alone (IsListed numbered) RefusesBytes (of_listed below numbered) files bytes status refusal h why

@@ -247,6 +247,7 @@ answers_alone (request.Show w which) files bytes status h =
 answers_alone (request.Verify w) files bytes status h =
     with_alone w (λ s code. IsAcceptedText code s.sectors) (λ s held shown k. k) files bytes status h
 answers_alone request.Import files bytes status h = h
+answers_alone (request.Check w) files bytes status h = h
 answers_alone request.Asm files bytes status h = h
 answers_alone (request.List numbered) files bytes status h = h
 

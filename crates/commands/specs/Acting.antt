@@ -14,6 +14,9 @@ use Rattle.request.specs.declared.command.Request.{Request}
 use Rattle.request.specs.declared.command.Request.TheVariants as request
 use Rattle.request.specs.OptionWords.{AskFor, words_refusal}
 use Rattle.request.specs.Refusals.{file_refusal}
+use Rattle.request.specs.declared.trials.Trial.{Trial}
+use Rattle.request.specs.declared.trials.TrialWords.{TrialWords}
+use Rattle.request.specs.Trials.{AskForTrial, trial_refusal}
 use Rattle.request.specs.Source.{Recording}
 use Rattle.request.specs.declared.settings.Telling.TheVariants as telling
 use Rattle.runs.specs.Explore.{Refuses}
@@ -27,6 +30,7 @@ use Rattle.looks.specs.Survey.{IsSurvey, RefusesSurvey}
 use Rattle.looks.specs.Table.{IsTable, RefusesTable}
 use Rattle.looks.specs.Verifying.{IsAcceptedText, RefusesVerified}
 use Rattle.looks.specs.Assembly.{IsAssembled, RefusesText, IsListed, RefusesBytes}
+use Rattle.trial.specs.Trial.{IsTried, RefusesTrial}
 
 -- what each file of a command holds, none where it can't be read: those that it names by themselves, and the one behind --base,
 -- where that stands there
@@ -53,6 +57,14 @@ first_file (file ∷ files) = file
 abbrev pub first_held : Files → Option (List ℕ)
 first_held files = first_file files.named
 
+-- what the second file holds
+abbrev pub second_file : List (Option (List ℕ)) → Option (List ℕ)
+second_file [] = None
+second_file (file ∷ files) = first_file files
+
+abbrev pub second_held : Files → Option (List ℕ)
+second_held files = second_file files.named
+
 -- of what the device held before entry 0 the bytes, none of them without --base; none where the file can't be read
 abbrev pub initial_of : Option (Option (List ℕ)) → Option (List ℕ)
 initial_of None = Some []
@@ -61,6 +73,11 @@ initial_of (Some held) = held
 -- a log over initial content
 abbrev pub recording : List ℕ → List ℕ → Recording
 recording log initial = record { text = log; initial = initial }
+
+-- what the files of a command on a log hold
+pub record HoldsRecording (files : Files) (r : Recording) : Type 0 where
+  pub read : first_held files ≡ Some r.text
+  pub based : initial_of files.base ≡ Some r.initial
 
 -- the status of a run is 1 exactly where it found a failing image
 abbrev pub status_of : Bool → ℕ
@@ -120,6 +137,18 @@ pub record AnswersWith (w : OptionWords) (Is : Settings → List ℕ → List �
   pub asked : AskFor w settings
   pub answers : AnswersFile (Is settings) files bytes status
 
+-- what the first file, a program, comes to on the second one, an image, and the status
+pub record AnswersTrial (w : TrialWords) (files : Files) (bytes : List ℕ) (status : ℕ) : Type 0 where
+  pub trial : Trial
+  pub asked : AskForTrial w trial
+  pub program : List ℕ
+  pub image : List ℕ
+  pub read : first_held files ≡ Some program
+  pub shown : second_held files ≡ Some image
+  pub failing : Bool
+  pub tried : IsTried program image trial bytes failing
+  pub ends : status ≡ status_of failing
+
 -- the bytes for standard output, and the status, of what the command line asks for
 abbrev pub Answers : Request → Files → List ℕ → ℕ → Type 0
 Answers request.StoredRun files bytes status = AnswersRun (wanted.Told telling.Report) stored_settings (recording stored_log []) stored_programs bytes status
@@ -133,6 +162,7 @@ Answers (request.Image w which) files bytes status = AnswersOf w (λ s text. IsI
 Answers (request.Show w which) files bytes status = AnswersOf w (λ s text. IsShown text s which) files bytes status
 Answers (request.Verify w) files bytes status = AnswersWith w (λ s code. IsAcceptedText code s.sectors) files bytes status
 Answers request.Import files bytes status = AnswersFile (λ raw. IsImported raw most_sectors) files bytes status
+Answers (request.Check w) files bytes status = AnswersTrial w files bytes status
 Answers request.Asm files bytes status = AnswersFile IsAssembled files bytes status
 Answers (request.List numbered) files bytes status = AnswersFile (IsListed numbered) files bytes status
 
@@ -163,6 +193,15 @@ pub data RefusesFiles (files : Files) (s : Settings) : Refusal → Type 0 where
       → initial_of files.base ≡ Some initial → Refuses (recording log initial) programs s r → RefusesFiles files s r
   for_memory : unread files.named ≡ None → RefusesFiles files s memory_refusal
 
+-- the refusals of a program on an image: of the words, of the program's file and of the image's that can't be read, then those of
+-- what they hold
+pub data RefusesCheck (w : TrialWords) (files : Files) : Refusal → Type 0 where
+  for_trial_words : (r : Refusal) → trial_refusal w ≡ Some r → RefusesCheck w files r
+  for_program_file : first_held files ≡ None → RefusesCheck w files (file_refusal 0)
+  for_image_file : second_held files ≡ None → RefusesCheck w files (file_refusal 1)
+  for_trial : (t : Trial) (program image : List ℕ) (r : Refusal) → AskForTrial w t → first_held files ≡ Some program → second_held files ≡ Some image
+      → RefusesTrial program image t r → RefusesCheck w files r
+
 -- when what the command line asks for is refused
 abbrev pub RefusesToAct : Request → Files → Refusal → Type 0
 RefusesToAct request.StoredRun files r = (r ≡ memory_refusal) ⊎ Refuses (recording stored_log []) stored_programs stored_settings r
@@ -176,5 +215,6 @@ RefusesToAct (request.Image w which) files r = RefusesWith w (λ s. RefusesRecor
 RefusesToAct (request.Show w which) files r = RefusesWith w (λ s. RefusesRecording files (λ text. RefusesImage text s which)) r
 RefusesToAct (request.Verify w) files r = RefusesWith w (λ s. RefusesFile files (λ code. RefusesVerified code s.sectors)) r
 RefusesToAct request.Import files r = RefusesFile files RefusesImport r
+RefusesToAct (request.Check w) files r = RefusesCheck w files r
 RefusesToAct request.Asm files r = RefusesFile files RefusesText r
 RefusesToAct (request.List numbered) files r = RefusesFile files RefusesBytes r

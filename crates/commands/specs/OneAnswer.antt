@@ -48,6 +48,7 @@ asked_alone (request.Image w which) = request.Image (alone w) which
 asked_alone (request.Show w which) = request.Show (alone w) which
 asked_alone (request.Verify w) = request.Verify (alone w)
 asked_alone request.Import = request.Import
+asked_alone (request.Check w) = request.Check w
 asked_alone request.Asm = request.Asm
 asked_alone (request.List numbered) = request.List numbered
 

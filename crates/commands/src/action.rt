@@ -7,20 +7,23 @@ ghost use Rattle.request.specs.declared.command.Request.TheVariants as asks;
 ghost use Rattle.runs.specs.Explore.{Refuses};
 ghost use Rattle.request.specs.Refusals.{file_refusal};
 ghost use Rattle.commands.specs.declared.action.Wanted.TheVariants as wants;
-ghost use Rattle.commands.specs.Acting.{first_held, files_of, held_by, initial_of, recording, status_of, IsAnswered, AnswersRun, AnswersFiles, AnswersExplore, Answers, RefusesWith, RefusesToAct, RefusesFiles};
+ghost use Rattle.commands.specs.Acting.{first_held, second_held, files_of, held_by, initial_of, recording, status_of, HoldsRecording, RefusesRecording, IsAnswered, AnswersRun, AnswersFiles, AnswersExplore, Answers, RefusesWith, RefusesToAct, RefusesFiles};
 ghost use Rattle.commands.specs.Stored.{stored_log, stored_programs, stored_settings};
 ghost use Rattle.request.specs.declared.settings.Telling.TheVariants as tells;
 
 use crate::stored::{stored_files, stored_options};
 use base::refusal::Refusal;
 use command_line::Words;
+use facts::{Facts, Recording};
 use looks::{assembled, image, imported, listed, show, shown_log, survey, verified};
-use request::{OptionWords, Options, Request, Telling, Which, options_of, unreadable};
+use request::{
+    OptionWords, Options, Request, Telling, TrialWords, Which, options_of, trial_of, unreadable,
+};
 use runs::{Explored, Question, cured, run_with};
 use std::alloc::{AllocError, Global};
 use std::sync::Wait;
 use std::thread::Threads;
-use verifier::Known;
+use trial::try_image;
 use workers::Gate;
 
 /// What a command asks a run for.
@@ -52,6 +55,17 @@ impl<'x> Held<'x> {
         }
     }
 
+    /// What the second file holds: an image.
+    fn second(&self) -> Result<&'x [u8], Refusal>
+        ensures { MatchResult result (λ bytes. second_held (held_by self.now) ≡ Some bytes.now)
+            (λ r. (second_held (held_by self.now) ≡ None) × (r ≡ file_refusal 1)) }
+    {
+        match self.named {
+            [_, Some(bytes), ..] => Ok(bytes.as_slice()),
+            _ => Err(unreadable(1)),
+        }
+    }
+
     /// What the device held before entry 0: what the file behind `--base` holds, and no bytes without it.
     fn initial(&self) -> Result<&'x [u8], Refusal>
         ensures { MatchResult result (λ bytes. initial_of (held_by self.now).base ≡ Some bytes.now)
@@ -62,6 +76,15 @@ impl<'x> Held<'x> {
             Some(Some(bytes)) => Ok(bytes.as_slice()),
             Some(None) => Err(unreadable(self.named.len())),
         }
+    }
+
+    /// The log that the first file holds, over what the device held before entry 0.
+    fn recording(&self) -> Result<Recording<'x>, Refusal>
+        ensures { MatchResult result (HoldsRecording (held_by self.now)) (RefusesRecording (held_by self.now) (λ text r. ⊥)) }
+    {
+        let log = self.first()?;
+        let initial = self.initial()?;
+        Ok(Recording::of(log, initial))
     }
 
     /// A run's command of such words on these files.
@@ -87,8 +110,7 @@ struct Asked<'x> {
 /// A log and programs, and the options of their run.
 #[derive(Clone, Copy)]
 struct Run<'x> {
-    log: &'x [u8],
-    initial: &'x [u8],
+    recording: &'x Recording<'x>,
     programs: &'x [Vec<u8>],
     options: &'x Options,
 }
@@ -96,12 +118,11 @@ struct Run<'x> {
 impl<'x> Run<'x> {
     /// The question of it, of which that is to be told.
     fn question(self, telling: Telling) -> Question<'x>
-        ensures { result ≡ record { telling = telling; log = self.entry.log; initial = self.entry.initial; programs = self.entry.programs; options = self.entry.options } }
+        ensures { result ≡ record { telling = telling; recording = self.entry.recording; programs = self.entry.programs; options = self.entry.options } }
     {
         Question {
             telling,
-            log: self.log,
-            initial: self.initial,
+            recording: self.recording,
             programs: self.programs,
             options: self.options,
         }
@@ -135,14 +156,14 @@ fn answered<G: Gate + Sync, R: Threads + Wait + Sync>(
     gate: &G,
     wanted: Wanted,
     run: &Run<'_>,
-    known: &mut Known,
+    facts: &mut Facts,
 ) -> Result<Explored, Refusal>
-    ensures answers { IfOk result (λ e. IsAnswered wanted (recording run.now.log.now run.now.initial.now) (map (λ f. f.items) run.now.programs.now) run.now.options.now e.bytes.items e.failing) }
-    ensures refused { IfErr result (Refuses (recording run.now.log.now run.now.initial.now) (map (λ f. f.items) run.now.programs.now) run.now.options.now) }
+    ensures answers { IfOk result (λ e. IsAnswered wanted run.now.recording.now (map (λ f. f.items) run.now.programs.now) run.now.options.now e.bytes.items e.failing) }
+    ensures refused { IfErr result (Refuses run.now.recording.now (map (λ f. f.items) run.now.programs.now) run.now.options.now) }
 {
     match wanted {
-        Wanted::Told(telling) => run_with(rt, alloc, gate, &run.question(telling), known),
-        Wanted::Cured => cured(rt, alloc, gate, &run.question(Telling::Report), known),
+        Wanted::Told(telling) => run_with(rt, alloc, gate, &run.question(telling), facts),
+        Wanted::Cured => cured(rt, alloc, gate, &run.question(Telling::Report), facts),
     }
 }
 
@@ -153,12 +174,12 @@ fn explore_files<G: Gate + Sync, R: Threads + Wait + Sync>(
     gate: &G,
     wanted: Wanted,
     run: &Run<'_>,
-    known: &mut Known,
+    facts: &mut Facts,
 ) -> Result<(Vec<u8>, u8), Refusal>
-    ensures answers { IfOk result (λ answer. AnswersRun wanted run.now.options.now (recording run.now.log.now run.now.initial.now) (map (λ f. f.items) run.now.programs.now) answer.0.items answer.1) }
-    ensures refused { IfErr result (Refuses (recording run.now.log.now run.now.initial.now) (map (λ f. f.items) run.now.programs.now) run.now.options.now) }
+    ensures answers { IfOk result (λ answer. AnswersRun wanted run.now.options.now run.now.recording.now (map (λ f. f.items) run.now.programs.now) answer.0.items answer.1) }
+    ensures refused { IfErr result (Refuses run.now.recording.now (map (λ f. f.items) run.now.programs.now) run.now.options.now) }
 {
-    let explored = answered(rt, alloc, gate, wanted, run, known)?;
+    let explored = answered(rt, alloc, gate, wanted, run, facts)?;
     let status = if explored.failing { 1 } else { 0 };
     Ok((explored.bytes, status))
 }
@@ -169,13 +190,13 @@ fn act_explore<G: Gate + Sync, R: Threads + Wait + Sync>(
     alloc: Global,
     gate: &G,
     asked: &Asked<'_>,
-    known: &mut Known,
+    facts: &mut Facts,
 ) -> Result<(Vec<u8>, u8), Refusal>
     ensures answers { IfOk result (λ answer. AnswersExplore asked.now.wanted asked.now.words (held_by asked.now.files.now) answer.0.items answer.1) }
     ensures refused { IfErr result (RefusesWith asked.now.words (RefusesFiles (held_by asked.now.files.now))) }
 {
     let options = options_of(asked.words)?;
-    explore_readable(rt, alloc, gate, asked, &options, known)
+    explore_readable(rt, alloc, gate, asked, &options, facts)
 }
 
 /// Explores files, each of which has to be readable.
@@ -185,7 +206,7 @@ fn explore_readable<G: Gate + Sync, R: Threads + Wait + Sync>(
     gate: &G,
     asked: &Asked<'_>,
     options: &Options,
-    known: &mut Known,
+    facts: &mut Facts,
 ) -> Result<(Vec<u8>, u8), Refusal>
     ensures answers { IfOk result (λ answer. AnswersFiles asked.now.wanted options.now (held_by asked.now.files.now) answer.0.items answer.1) }
     ensures refused { IfErr result (RefusesFiles (held_by asked.now.files.now) options.now) }
@@ -200,15 +221,15 @@ fn explore_readable<G: Gate + Sync, R: Threads + Wait + Sync>(
         return Err(unreadable(place + 1));
     }
     let initial = asked.files.initial()?;
+    let recording = Recording::of(log.as_slice(), initial);
     match programs_of(alloc, others) {
         Ok(programs) => {
             let run = Run {
-                log: log.as_slice(),
-                initial,
+                recording: &recording,
                 programs: programs.as_slice(),
                 options,
             };
-            explore_files(rt, alloc, gate, asked.wanted, &run, known)
+            explore_files(rt, alloc, gate, asked.wanted, &run, facts)
         }
         Err(_error) => Err(Refusal::of_memory()),
     }
@@ -219,7 +240,7 @@ fn act_stored<G: Gate + Sync, R: Threads + Wait + Sync>(
     rt: &R,
     alloc: Global,
     gate: &G,
-    known: &mut Known,
+    facts: &mut Facts,
 ) -> Result<(Vec<u8>, u8), Refusal>
     ensures answers { IfOk result (λ answer. AnswersRun (wants.Told tells.Report) stored_settings (recording stored_log []) stored_programs answer.0.items answer.1) }
     ensures refused { IfErr result (λ r. (r ≡ memory_refusal) ⊎ Refuses (recording stored_log []) stored_programs stored_settings r) }
@@ -227,39 +248,47 @@ fn act_stored<G: Gate + Sync, R: Threads + Wait + Sync>(
     let options = stored_options();
     match stored_files(alloc) {
         Ok((log, programs)) => {
+            let recording = Recording::of(log.as_slice(), &[]);
             let run = Run {
-                log: log.as_slice(),
-                initial: &[],
+                recording: &recording,
                 programs: programs.as_slice(),
                 options: &options,
             };
-            explore_files(rt, alloc, gate, Wanted::Told(Telling::Report), &run, known)
+            explore_files(rt, alloc, gate, Wanted::Told(Telling::Report), &run, facts)
         }
         Err(_error) => Err(Refusal::of_memory()),
     }
 }
 
 /// The survey of a log's crash images.
-fn act_images(alloc: Global, words: OptionWords, files: &Held<'_>) -> Result<(Vec<u8>, u8), Refusal>
+fn act_images(
+    alloc: Global,
+    words: OptionWords,
+    files: &Held<'_>,
+    facts: &mut Facts,
+) -> Result<(Vec<u8>, u8), Refusal>
     ensures answers { IfOk result (λ answer. Answers (asks.Images words) (held_by files.now) answer.0.items answer.1) }
     ensures refused { IfErr result (RefusesToAct (asks.Images words) (held_by files.now)) }
 {
     let options = options_of(words)?;
-    let log = files.first()?;
-    let initial = files.initial()?;
-    let bytes = survey(alloc, log, initial, &options)?;
+    let recording = files.recording()?;
+    let bytes = survey(alloc, &recording, &options, facts)?;
     Ok((bytes, 0))
 }
 
 /// A log as a table.
-fn act_log(alloc: Global, words: OptionWords, files: &Held<'_>) -> Result<(Vec<u8>, u8), Refusal>
+fn act_log(
+    alloc: Global,
+    words: OptionWords,
+    files: &Held<'_>,
+    facts: &mut Facts,
+) -> Result<(Vec<u8>, u8), Refusal>
     ensures answers { IfOk result (λ answer. Answers (asks.Log words) (held_by files.now) answer.0.items answer.1) }
     ensures refused { IfErr result (RefusesToAct (asks.Log words) (held_by files.now)) }
 {
     let options = options_of(words)?;
-    let log = files.first()?;
-    let initial = files.initial()?;
-    let bytes = shown_log(alloc, log, initial, &options)?;
+    let recording = files.recording()?;
+    let bytes = shown_log(alloc, &recording, &options, facts)?;
     Ok((bytes, 0))
 }
 
@@ -279,14 +308,14 @@ fn act_image(
     words: OptionWords,
     which: Which,
     files: &Held<'_>,
+    facts: &mut Facts,
 ) -> Result<(Vec<u8>, u8), Refusal>
     ensures answers { IfOk result (λ answer. Answers (asks.Image words which) (held_by files.now) answer.0.items answer.1) }
     ensures refused { IfErr result (RefusesToAct (asks.Image words which) (held_by files.now)) }
 {
     let options = options_of(words)?;
-    let log = files.first()?;
-    let initial = files.initial()?;
-    let bytes = image(alloc, log, initial, which, &options)?;
+    let recording = files.recording()?;
+    let bytes = image(alloc, &recording, which, &options, facts)?;
     Ok((bytes, 0))
 }
 
@@ -296,14 +325,14 @@ fn act_show(
     words: OptionWords,
     which: Which,
     files: &Held<'_>,
+    facts: &mut Facts,
 ) -> Result<(Vec<u8>, u8), Refusal>
     ensures answers { IfOk result (λ answer. Answers (asks.Show words which) (held_by files.now) answer.0.items answer.1) }
     ensures refused { IfErr result (RefusesToAct (asks.Show words which) (held_by files.now)) }
 {
     let options = options_of(words)?;
-    let log = files.first()?;
-    let initial = files.initial()?;
-    let bytes = show(alloc, log, initial, which, &options)?;
+    let recording = files.recording()?;
+    let bytes = show(alloc, &recording, which, &options, facts)?;
     Ok((bytes, 0))
 }
 
@@ -312,15 +341,40 @@ fn act_verify(
     alloc: Global,
     words: OptionWords,
     files: &Held<'_>,
-    known: &mut Known,
+    facts: &mut Facts,
 ) -> Result<(Vec<u8>, u8), Refusal>
     ensures answers { IfOk result (λ answer. Answers (asks.Verify words) (held_by files.now) answer.0.items answer.1) }
     ensures refused { IfErr result (RefusesToAct (asks.Verify words) (held_by files.now)) }
 {
     let options = options_of(words)?;
     let code = files.first()?;
-    let text = verified(alloc, code, &options, known)?;
+    let text = verified(alloc, code, &options, facts)?;
     Ok((text, 0))
+}
+
+/// The status of a command, by whether an image fails.
+fn status_of(failing: bool) -> u8
+    ensures { result ≡ status_of failing }
+{
+    if failing { 1 } else { 0 }
+}
+
+/// What a program comes to on one image, with the status 1 where it rejects that.
+fn act_check(
+    alloc: Global,
+    words: TrialWords,
+    files: &Held<'_>,
+    facts: &mut Facts,
+) -> Result<(Vec<u8>, u8), Refusal>
+    ensures answers { IfOk result (λ answer. Answers (asks.Check words) (held_by files.now) answer.0.items answer.1) }
+    ensures refused { IfErr result (RefusesToAct (asks.Check words) (held_by files.now)) }
+{
+    let trial = trial_of(words)?;
+    let code = files.first()?;
+    let image = files.second()?;
+    let report = try_image(alloc, code, image, &trial, facts)?;
+    let status = status_of(report.failing);
+    Ok((report.bytes, status))
 }
 
 /// The program of a source text, as bytes.
@@ -343,42 +397,43 @@ fn act_list(alloc: Global, numbered: bool, files: &Held<'_>) -> Result<(Vec<u8>,
     Ok((text, 0))
 }
 
-/// What `act` answers; what the verifier knows of the programs is put into `known`.
+/// What `act` answers; what is found on the way is put into `facts`.
 pub(crate) fn act_known<G: Gate + Sync, R: Threads + Wait + Sync>(
     rt: &R,
     alloc: Global,
     gate: &G,
     words: &Words,
     files: &Held<'_>,
-    known: &mut Known,
+    facts: &mut Facts,
 ) -> Result<(Vec<u8>, u8), Refusal>
     ensures answers { IfOk result (λ answer. Answers words.now.request (held_by files.now) answer.0.items answer.1) }
     ensures refused { IfErr result (RefusesToAct words.now.request (held_by files.now)) }
 {
     match words.request() {
-        Request::StoredRun => act_stored(rt, alloc, gate, known),
+        Request::StoredRun => act_stored(rt, alloc, gate, facts),
         Request::Explore(words) => {
             let asked = files.asked(Wanted::Told(Telling::Report), words);
-            act_explore(rt, alloc, gate, &asked, known)
+            act_explore(rt, alloc, gate, &asked, facts)
         }
         Request::Why(words) => {
             let asked = files.asked(Wanted::Told(Telling::Causes), words);
-            act_explore(rt, alloc, gate, &asked, known)
+            act_explore(rt, alloc, gate, &asked, facts)
         }
         Request::Cure(words) => {
             let asked = files.asked(Wanted::Cured, words);
-            act_explore(rt, alloc, gate, &asked, known)
+            act_explore(rt, alloc, gate, &asked, facts)
         }
         Request::Page(words) => {
             let asked = files.asked(Wanted::Told(Telling::Page), words);
-            act_explore(rt, alloc, gate, &asked, known)
+            act_explore(rt, alloc, gate, &asked, facts)
         }
-        Request::Images(words) => act_images(alloc, words, files),
-        Request::Log(words) => act_log(alloc, words, files),
+        Request::Images(words) => act_images(alloc, words, files, facts),
+        Request::Log(words) => act_log(alloc, words, files, facts),
         Request::Import => act_import(alloc, files),
-        Request::Image(words, which) => act_image(alloc, words, which, files),
-        Request::Show(words, which) => act_show(alloc, words, which, files),
-        Request::Verify(words) => act_verify(alloc, words, files, known),
+        Request::Image(words, which) => act_image(alloc, words, which, files, facts),
+        Request::Show(words, which) => act_show(alloc, words, which, files, facts),
+        Request::Verify(words) => act_verify(alloc, words, files, facts),
+        Request::Check(words) => act_check(alloc, words, files, facts),
         Request::Asm => act_asm(alloc, files),
         Request::List { numbered } => act_list(alloc, numbered, files),
     }
@@ -406,5 +461,5 @@ pub fn act<G: Gate + Sync, R: Threads + Wait + Sync>(
     ensures refused { IfErr result (RefusesToAct words.now.request (files_of (λ f. f.items) files.now base.now)) }
 {
     let held = Held { named: files, base };
-    act_known(rt, alloc, gate, words, &held, &mut Known::new())
+    act_known(rt, alloc, gate, words, &held, &mut Facts::new())
 }

@@ -7,10 +7,10 @@ ghost use Rattle.commands.specs.Exits.{Exits};
 use crate::action::{Held, act_known};
 use base::refusal::Refusal;
 use command_line::Words;
+use facts::Facts;
 use std::alloc::Global;
 use std::sync::Wait;
 use std::thread::Threads;
-use verifier::Known;
 use workers::Gate;
 
 /// The status of a process that was refused.
@@ -25,8 +25,8 @@ pub struct Exit {
     pub refusal: Option<Refusal>,
     /// The status of the process.
     pub status: u8,
-    /// What is known of the programs, for the notes.
-    pub known: Known,
+    /// What was found on the way, for the notes.
+    pub facts: Facts,
 }
 
 /// Performs a command on what its files hold, as `act` does, and tells how the process ends: with an answer on standard output
@@ -42,19 +42,19 @@ pub fn perform<G: Gate + Sync, R: Threads + Wait + Sync>(
     ensures { Exits words.now.request (files_of (λ f. f.items) files.now base.now) result.output.items result.refusal result.status }
 {
     let held = Held { named: files, base };
-    let mut known = Known::new();
-    match act_known(rt, alloc, gate, words, &held, &mut known) {
+    let mut facts = Facts::new();
+    match act_known(rt, alloc, gate, words, &held, &mut facts) {
         Ok((output, status)) => Exit {
             output,
             refusal: None,
             status,
-            known,
+            facts,
         },
         Err(refusal) => Exit {
             output: Vec::new(alloc),
             refusal: Some(refusal),
             status: REFUSED,
-            known,
+            facts,
         },
     }
 }

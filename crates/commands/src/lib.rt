@@ -22,7 +22,7 @@
 //!
 //! - `action`: `act`, what a command answers on what its files hold, and with which status.
 //! - `exit`: `perform`, which does the same and says how the process ends: its standard output, its refusal and its status,
-//!   with what the verifier knows of the programs.
+//!   with what was found for the notes.
 //! - `stored`: the run that the program holds itself.
 //! - `laws`: that there is one answer at most to what is asked, and no refusal beside it but for memory; that workers, cache
 //!   and progress change nothing of it; that `show` names each sector that differs; that each failing image stands once in what
@@ -68,6 +68,7 @@ pub use command_line::Words;
 pub use command_notes::{notes_behind, notes_beside};
 pub use epochs::{By, CutKind, Cuts, Flushes};
 pub use exit::{Exit, perform};
+pub use facts::{Facts, Recording};
 pub use laws::{
     answer_or_refusal, each_image_stands_once, one_answer, one_report, report_or_refusal,
     show_names_differences, work_changes_nothing,
@@ -76,6 +77,5 @@ pub use looks::{choices_are_short, image, report_prints_choices, show, survey};
 pub use progress::Progress;
 pub use request::{OptionPlace, Options, Settings, Telling, Which, fault_line};
 pub use runs::{Explored, Question, cured, explore, explore_with, page, why};
-pub use verifier::Known;
 pub use workers::{Gate, OpenGate};
 pub use writing::{Output, emit};

@@ -23,7 +23,7 @@
 use base::refusal::Refusal;
 use clap::error::ErrorKind as WordsFault;
 use commands::{
-    Known, Output, Progress, Words, emit, fault_line, notes_behind, notes_beside, perform,
+    Facts, Output, Progress, Words, emit, fault_line, notes_behind, notes_beside, perform,
 };
 use input_files::Inputs;
 use std::alloc::AllocError;
@@ -88,14 +88,14 @@ fn run<R: AllocGlobal + Print + Eprint + Clock + Threads + Wait + Sync>(
             if emit(&mut output, exit.output.as_slice()).is_err() {
                 return stopped(rt, UNWRITTEN);
             }
-            print_notes(rt, notes_beside(rt.alloc(), words, files, &exit.known));
+            print_notes(rt, notes_beside(rt.alloc(), words, &exit.facts));
         }
         Some(refusal) => {
             let refusal = inputs.refusal(refusal);
             refused(rt, &refusal);
             print_notes(
                 rt,
-                notes_behind(rt.alloc(), words, files, &refusal, &exit.known),
+                notes_behind(rt.alloc(), words, files, &refusal, &exit.facts),
             );
             rt.eprint(inputs.note(&refusal)).ok();
         }
@@ -115,7 +115,7 @@ fn read_and_run<R: Files + AllocGlobal + Print + Eprint + Clock + Threads + Wait
             let status = refused(rt, &refusal);
             print_notes(
                 rt,
-                notes_behind(rt.alloc(), words, &[], &refusal, &Known::new()),
+                notes_behind(rt.alloc(), words, &[], &refusal, &Facts::new()),
             );
             status
         }

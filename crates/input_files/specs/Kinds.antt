@@ -5,8 +5,13 @@ use Rattle.base.specs.declared.causes.CodeCause.TheVariants as code
 use Rattle.base.specs.declared.causes.LogCause.TheVariants as log
 use Rattle.base.specs.declared.refusal.Refusal.{Refusal}
 use Rattle.base.specs.declared.refusal.Cause.TheVariants.{Asm, Code, Log}
+use Rattle.base.specs.Refusals.{memory_refusal}
 use Rattle.input_files.specs.declared.kind.FileKind.{FileKind}
 use Rattle.input_files.specs.declared.kind.FileKind.TheVariants as kind
+
+-- what `check` takes the file at that place for: a program, then an image
+abbrev pub checked_kind : ℕ → FileKind
+checked_kind place = if place == 1 then kind.Image else kind.Program
 
 -- what the command of that name takes the file at that place for
 abbrev pub kind_of : List ℕ → ℕ → FileKind
@@ -14,6 +19,7 @@ kind_of command place =
     if bytes_eq command (codes "asm") then kind.Text
     else if bytes_eq command (codes "import") then kind.Raw
     else if bytes_eq command (codes "verify") || bytes_eq command (codes "list") then kind.Program
+    else if bytes_eq command (codes "check") then checked_kind place
     else if place == 0 then kind.Log
     else kind.Program
 
@@ -23,6 +29,7 @@ most_of kind.Log = 64 * 1024 * 1024
 most_of kind.Raw = 192 * 1024 * 1024
 most_of kind.Program = 8 * 4096
 most_of kind.Text = 16 * 1024 * 1024
+most_of kind.Image = 512 * 16384
 
 -- how many bytes are read at most: one more, or of a program a slot more; of a raw log no more
 abbrev pub read_of : FileKind → ℕ
@@ -45,3 +52,4 @@ memory_of kind.Log place = record { code = Log log.Memory; at = 0; program = Non
 memory_of kind.Raw place = record { code = Log log.Memory; at = 0; program = None }
 memory_of kind.Program place = record { code = Code code.Memory; at = 0; program = number_of place }
 memory_of kind.Text place = record { code = Asm asm.Memory; at = 0; program = None }
+memory_of kind.Image place = memory_refusal

@@ -1,7 +1,7 @@
 //! What a command takes a file for, and how much of it is read.
 
 ghost use Rattle.std.specs.Prelude.{◌≡◌};
-ghost use Rattle.input_files.specs.Kinds.{kind_of, most_of, read_of, number_of, memory_of};
+ghost use Rattle.input_files.specs.Kinds.{checked_kind, kind_of, most_of, read_of, number_of, memory_of};
 
 use base::causes::{AsmCause, CodeCause, LogCause};
 use base::refusal::{Cause, Refusal};
@@ -15,6 +15,8 @@ pub enum FileKind {
     Program,
     /// An assembly text.
     Text,
+    /// The bytes of a device.
+    Image,
 }
 
 impl FileKind {
@@ -26,13 +28,14 @@ impl FileKind {
             "asm" => FileKind::Text,
             "import" => FileKind::Raw,
             "verify" | "list" => FileKind::Program,
+            "check" => checked_kind(place),
             _ if place == 0 => FileKind::Log,
             _ => FileKind::Program,
         }
     }
 
-    /// How many bytes a file of this kind has at most: 64 MiB, 192 MiB, 4,096 slots, 16 MiB. Of a raw log that is how many its entries
-    /// may need.
+    /// How many bytes a file of this kind has at most: 64 MiB, 192 MiB, 4,096 slots, 16 MiB, 16,384 sectors. Of a raw log that is
+    /// how many its entries may need.
     pub fn most(self) -> usize
         ensures { result ≡ most_of self }
     {
@@ -41,6 +44,7 @@ impl FileKind {
             FileKind::Raw => 201_326_592,
             FileKind::Program => 32_768,
             FileKind::Text => 16_777_216,
+            FileKind::Image => 8_388_608,
         }
     }
 
@@ -54,10 +58,11 @@ impl FileKind {
             FileKind::Raw => 201_326_592,
             FileKind::Program => 32_776,
             FileKind::Text => 16_777_217,
+            FileKind::Image => 8_388_609,
         }
     }
 
-    /// The refusal of the file at that place for want of memory: 11, 26 or 35 at 0, with the number of the program where
+    /// The refusal of the file at that place for want of memory: 11, 26, 35 or 72 at 0, with the number of the program where
     /// a log stands before it.
     pub fn of_memory(self, place: usize) -> Refusal
         ensures { result ≡ memory_of self place }
@@ -66,7 +71,19 @@ impl FileKind {
             FileKind::Log | FileKind::Raw => refusal_of(Cause::Log(LogCause::Memory), None),
             FileKind::Program => refusal_of(Cause::Code(CodeCause::Memory), program_at(place)),
             FileKind::Text => refusal_of(Cause::Asm(AsmCause::Memory), None),
+            FileKind::Image => Refusal::of_memory(),
         }
+    }
+}
+
+/// What `check` takes the file at that place for.
+fn checked_kind(place: usize) -> FileKind
+    ensures { result ≡ checked_kind place }
+{
+    if place == 1 {
+        FileKind::Image
+    } else {
+        FileKind::Program
     }
 }
 

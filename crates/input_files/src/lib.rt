@@ -17,6 +17,7 @@
 //! | a program | 4,097 slots, 32,776 bytes | stands for itself by a prefix of more than 4,096 slots which cuts a slot as it does |
 //! | an assembly text | 16 MiB and a byte | can't be read |
 //! | what a device held before | the device's size and a byte | is refused, 13 at 14 |
+//! | an image | 8 MiB and a byte | is refused, 14 at 1 |
 //!
 //! How long a program is tells a regular file's length; of any other file what is behind the first 32,776 bytes is read and
 //! counted, but not kept, and one that doesn't end within 64 MiB counts as one of too many whole slots.

@@ -220,7 +220,7 @@ fn read_piece<F: Read>(
     let mut bytes = read_first(alloc, file, most, expected_length(most, said))?;
     let read = bytes.len();
     match kind {
-        FileKind::Log | FileKind::Raw => Ok(Piece {
+        FileKind::Log | FileKind::Raw | FileKind::Image => Ok(Piece {
             bytes: Some(bytes),
             length: read as u64,
         }),

@@ -6,3 +6,4 @@ pub mod Reading
 pub mod Frames
 pub mod Stopping
 pub mod Accesses
+pub mod Walks

@@ -63,3 +63,4 @@ pub use all::Lines;
 pub use line::Line;
 pub use marks::Mark;
 pub use part::Part;
+pub use text::put_outcome;

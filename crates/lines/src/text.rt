@@ -29,7 +29,7 @@ fn put_codes(out: &mut String, codes: &[u64]) -> Result<(), AllocError>
 }
 
 /// Appends what a program ended in.
-fn put_outcome(out: &mut String, outcome: &Outcome) -> Result<(), AllocError>
+pub fn put_outcome(out: &mut String, outcome: &Outcome) -> Result<(), AllocError>
     ensures { OnOk result (string_bytes out.new ≡ string_bytes out.old ++ ending_text (ending_of outcome.now)) }
 {
     match outcome {

@@ -1,5 +1,5 @@
 -- What the command `verify` answers (docs/REPORT.md, The other commands; docs/VERIFIER.md).
-use Rattle.std.specs.Prelude.{ℕ, ◌≡◌, ◌++◌, List, Option, None, codes}
+use Rattle.std.specs.Prelude.{ℕ, ◌≡◌, ◌++◌, List, [], Option, None, codes}
 use Rattle.std.specs.Fmt.{decimal}
 use Rattle.base.specs.declared.causes.CodeCause.{CodeCause}
 use Rattle.base.specs.declared.causes.CodeCause.TheVariants as code
@@ -10,8 +10,12 @@ use Rattle.base.specs.Refusals.{memory_refusal}
 use Rattle.base.specs.declared.refusal.Cause.TheVariants.{Verifier}
 use Rattle.bpf_isa.specs.declared.instr.Instr.{Instr}
 use Rattle.bpf_isa.specs.Program.{IsSpelledBy, FirstFault}
+use Rattle.bpf_shape.specs.declared.fault.Fault.{Fault}
+use Rattle.verifier.specs.declared.unreached.Unreached.{Unreached}
 use Rattle.verifier.specs.Verdicts.{IsAccepted, Refused}
 use Rattle.request.specs.Refusals.{bytes_refusal}
+use Rattle.facts.specs.declared.found.Breach.{Breach}
+use Rattle.facts.specs.Found.{AddsUnreached, IsBreach}
 
 unfoldable pub accepted_text : ℕ → List ℕ
 accepted_text budget = codes "accepted budget " ++ decimal budget ++ codes "\n"
@@ -36,3 +40,17 @@ pub data RefusesVerified (bytes : List ℕ) (sectors : ℕ) : Refusal → Type 0
       → RefusesVerified bytes sectors (unaccepted_refusal cause slot)
   no_verifier_memory : RefusesVerified bytes sectors (unaccepted_refusal verifier.Memory 0)
   no_text_memory : RefusesVerified bytes sectors memory_refusal
+
+-- what no run reaches of the program that the bytes spell is found, and nothing else
+pub record FindsUnreached (bytes : List ℕ) (sectors : ℕ) (found : List (Option Unreached)) : Type 0 where
+  pub slots : List (Option Instr)
+  pub spelled : IsSpelledBy bytes slots
+  pub unreached : AddsUnreached slots sectors [] found
+
+-- what is known where the program that the bytes spell is refused, as the refusal says
+pub record FindsBreach (bytes : List ℕ) (sectors : ℕ) (r : Refusal) (b : Breach) : Type 0 where
+  pub slots : List (Option Instr)
+  pub spelled : IsSpelledBy bytes slots
+  pub fault : Fault
+  pub says : r ≡ unaccepted_refusal fault.code fault.slot
+  pub breach : IsBreach slots sectors fault b

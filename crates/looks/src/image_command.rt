@@ -1,19 +1,21 @@
 //! One crash image as bytes.
 
-ghost use Rattle.std.specs.Prelude.{◌≡◌, ◌<◌, ◌++◌, length, map, IfOk, IfErr, OnOk, Some, slice_get, slice_index_or, []};
+ghost use Rattle.std.specs.Prelude.{◌≡◌, ◌<◌, ◌++◌, length, map, IfOk, IfErr, IfSome, OnOk, Some, slice_get, slice_index_or, []};
 ghost use Rattle.choices.specs.Choices.{ranked};
 ghost use Rattle.images.specs.Views.{view_of, sectors_of, IsMember};
 ghost use Rattle.request.specs.Source.{plan_of, images_of};
+ghost use Rattle.facts.specs.Fewer.{FindsFewer};
 ghost use Rattle.looks.specs.Image.{joined, IsImage, RefusesImage};
 
 use crate::which::choice_meant;
 use base::refusal::Refusal;
 use choices::Choice;
 use epochs::Plan;
+use facts::{Facts, Recording};
 use helpers::Device;
 use images::History;
 use logfmt::Log;
-use request::{Options, Which, planned, read_log};
+use request::{Options, Which};
 use std::alloc::{AllocError, Global};
 
 /// Appends a sector of a device.
@@ -63,16 +65,18 @@ fn shown<'x>(
 /// image has, 13 at 9, or a cut and a choice that none has, 13 at 11; or want of memory.
 pub fn image(
     alloc: Global,
-    log: &[u8],
-    initial: &[u8],
+    recording: &Recording<'_>,
     which: Which,
     options: &Options,
+    facts: &mut Facts,
 ) -> Result<Vec<u8>, Refusal>
-    ensures shown { IfOk result (λ bytes. IsImage (record { text = log.now; initial = initial.now }) options.now which bytes.items) }
-    ensures refused { IfErr result (RefusesImage (record { text = log.now; initial = initial.now }) options.now which) }
+    ensures shown { IfOk result (λ bytes. IsImage recording.now options.now which bytes.items) }
+    ensures refused { IfErr result (RefusesImage recording.now options.now which) }
+    ensures fewer { IfSome facts.new.fewer (FindsFewer recording.now options.now) }
 {
-    let log = read_log(alloc, log, initial, options)?;
-    let (plan, images) = planned(alloc, &log, options)?;
+    *facts = Facts::new();
+    let log = recording.read(alloc, options, facts)?;
+    let (plan, images) = facts.plan(alloc, &log, options)?;
     let choice = choice_meant(alloc, &plan, images, options, which)?;
     match shown(alloc, &log, &plan, &choice) {
         Ok(bytes) => Ok(bytes),

@@ -1,16 +1,18 @@
 //! The survey of the crash images of a log.
 
-ghost use Rattle.std.specs.Prelude.{◌≡◌, ◌≤◌, ◌++◌, length, codes, IfOk, IfErr, OnOk, string_bytes};
+ghost use Rattle.std.specs.Prelude.{◌≡◌, ◌≤◌, ◌++◌, length, codes, IfOk, IfErr, IfSome, OnOk, string_bytes};
 ghost use Rattle.std.specs.Fmt.{decimal};
 ghost use Rattle.std.specs.List.{flat_map};
 ghost use Rattle.epochs.specs.Cuts.{cuts_of};
 ghost use Rattle.choices.specs.Choices.{ranked, ranked_at, limit};
+ghost use Rattle.facts.specs.Fewer.{FindsLarge, FindsFewer};
 ghost use Rattle.looks.specs.Survey.{cut_text, open_text, cut_line, survey_text, IsSurvey, RefusesSurvey};
 
 use base::refusal::Refusal;
 use choices::count_at;
 use epochs::Plan;
-use request::{Options, planned, read_log};
+use facts::{Facts, Recording};
+use request::Options;
 use std::alloc::{AllocError, Global};
 
 /// Appends where a cut stands.
@@ -90,15 +92,18 @@ fn text_of(
 /// memory.
 pub fn survey(
     alloc: Global,
-    log: &[u8],
-    initial: &[u8],
+    recording: &Recording<'_>,
     options: &Options,
+    facts: &mut Facts,
 ) -> Result<Vec<u8>, Refusal>
-    ensures told { IfOk result (λ bytes. IsSurvey (record { text = log.now; initial = initial.now }) options.now bytes.items) }
-    ensures refused { IfErr result (RefusesSurvey (record { text = log.now; initial = initial.now }) options.now) }
+    ensures told { IfOk result (λ bytes. IsSurvey recording.now options.now bytes.items) }
+    ensures refused { IfErr result (RefusesSurvey recording.now options.now) }
+    ensures large { IfOk result (λ _. FindsLarge recording.now options.now facts.new.large) }
+    ensures fewer { IfSome facts.new.fewer (FindsFewer recording.now options.now) }
 {
-    let log = read_log(alloc, log, initial, options)?;
-    let (plan, images) = planned(alloc, &log, options)?;
+    *facts = Facts::new();
+    let log = recording.read(alloc, options, facts)?;
+    let (plan, images) = facts.plan(alloc, &log, options)?;
     match text_of(alloc, &plan, options.bound(), options.tears(), images) {
         Ok(bytes) => Ok(bytes),
         Err(_error) => Err(Refusal::of_memory()),

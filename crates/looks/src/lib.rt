@@ -2,19 +2,19 @@
 //!
 //! # Place
 //!
-//! Below `commands`, which performs these commands. `request` reads the log and counts its images, `choices` and `images` find
+//! Below `commands`, which performs these commands. `facts` reads the log and counts its images, `choices` and `images` find
 //! and form an image, `choice_text` reads a choice, `crash_text` puts an image into words, `notes` has tables and listings, `raw_log`
 //! imports,
 //! `bpf_isa`, `bpf_asm` and `verifier` decode, assemble, list and verify a program.
 //!
 //! | Call | Command | Answers |
 //! |---|---|---|
-//! | `survey(alloc, log, options)` | `images` | the number of crash images, cut by cut |
-//! | `image(alloc, log, which, options)` | `image` | the bytes of one crash image |
-//! | `show(alloc, log, which, options)` | `show` | one crash image in words |
-//! | `shown_log(alloc, log, options)` | `log` | the log as a table |
+//! | `survey(alloc, recording, options, facts)` | `images` | the number of crash images, cut by cut |
+//! | `image(alloc, recording, which, options, facts)` | `image` | the bytes of one crash image |
+//! | `show(alloc, recording, which, options, facts)` | `show` | one crash image in words |
+//! | `shown_log(alloc, recording, options, facts)` | `log` | the log as a table |
 //! | `imported(alloc, raw)` | `import` | the log that is imported of a raw log |
-//! | `verified(alloc, code, options, known)` | `verify` | the budget with which a program is accepted; what else is known of it goes into `known` |
+//! | `verified(alloc, code, options, facts)` | `verify` | the budget with which a program is accepted; what else is known of it goes into `facts` |
 //! | `assembled(alloc, source)` | `asm` | the program of a source text, as bytes |
 //! | `listed(alloc, code, numbered)` | `list` | the listing of a program, with its slots or without |
 //!
@@ -39,10 +39,10 @@
 //! # Example
 //!
 //! ```text
-//! survey(alloc, log, &options)?
+//! survey(alloc, &recording, &options, &mut facts)?
 //! // cut 0 epoch 0 marks 0 volatile 0 images 1
 //! // total 1
-//! image(alloc, log, Which::Number(0), &options)?
+//! image(alloc, &recording, Which::Number(0), &options, &mut facts)?
 //! // the sectors of that image, one after the other
 //! ```
 #![tactic(auto)]

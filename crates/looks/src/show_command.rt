@@ -1,9 +1,10 @@
 //! One crash image in words.
 
-ghost use Rattle.std.specs.Prelude.{◌≡◌, ◌≤◌, [], length, IfOk, IfErr};
+ghost use Rattle.std.specs.Prelude.{◌≡◌, ◌≤◌, [], length, IfOk, IfErr, IfSome};
 ghost use Rattle.logfmt.specs.Bounds.{IsLog};
 ghost use Rattle.images.specs.Views.{view_of, sectors_of, IsMember};
 ghost use Rattle.crash_text.specs.Shown.{shown_text};
+ghost use Rattle.facts.specs.Fewer.{FindsFewer};
 ghost use Rattle.looks.specs.Image.{RefusesImage};
 ghost use Rattle.request.specs.Source.{plan_of};
 ghost use Rattle.looks.specs.Show.{whole_view, IsShown};
@@ -13,9 +14,10 @@ use base::refusal::Refusal;
 use choices::{Choice, choice_named};
 use crash_text::{Numbering, put_shown};
 use epochs::Plan;
+use facts::{Facts, Recording};
 use images::History;
 use logfmt::Log;
-use request::{Options, Which, planned, read_log};
+use request::{Options, Which};
 use std::alloc::{AllocError, Global};
 
 /// The choice at the same cut where nothing departs.
@@ -75,16 +77,18 @@ fn text_of<'x>(
 /// As of `image`.
 pub fn show(
     alloc: Global,
-    log: &[u8],
-    initial: &[u8],
+    recording: &Recording<'_>,
     which: Which,
     options: &Options,
+    facts: &mut Facts,
 ) -> Result<Vec<u8>, Refusal>
-    ensures shown { IfOk result (λ bytes. IsShown (record { text = log.now; initial = initial.now }) options.now which bytes.items) }
-    ensures refused { IfErr result (RefusesImage (record { text = log.now; initial = initial.now }) options.now which) }
+    ensures shown { IfOk result (λ bytes. IsShown recording.now options.now which bytes.items) }
+    ensures refused { IfErr result (RefusesImage recording.now options.now which) }
+    ensures fewer { IfSome facts.new.fewer (FindsFewer recording.now options.now) }
 {
-    let log = read_log(alloc, log, initial, options)?;
-    let (plan, images) = planned(alloc, &log, options)?;
+    *facts = Facts::new();
+    let log = recording.read(alloc, options, facts)?;
+    let (plan, images) = facts.plan(alloc, &log, options)?;
     let choice = choice_meant(alloc, &plan, images, options, which)?;
     match text_of(alloc, &log, &plan, options, &choice) {
         Ok(bytes) => Ok(bytes),

@@ -1,14 +1,15 @@
 //! What the verifier says of a program by itself.
 
-ghost use Rattle.std.specs.Prelude.{◌≡◌, ◌++◌, IfOk, IfErr, OnOk, codes, string_bytes};
-ghost use Rattle.looks.specs.Verifying.{accepted_text, unaccepted_refusal, IsAcceptedText, RefusesVerified};
+ghost use Rattle.std.specs.Prelude.{◌≡◌, ◌++◌, IfOk, IfErr, IfSome, OnOk, codes, string_bytes};
+ghost use Rattle.looks.specs.Verifying.{accepted_text, unaccepted_refusal, IsAcceptedText, RefusesVerified, FindsUnreached, FindsBreach};
 
 use base::refusal::{Cause, Refusal};
 use bpf_isa::codec::decode;
 use bpf_shape::Fault;
+use facts::Facts;
 use request::{Options, bytes_refusal_of};
 use std::alloc::{AllocError, Global};
-use verifier::{Known, verify_known};
+use verifier::verify_known;
 
 /// The refusal of a program that the verifier does not accept.
 fn unaccepted_refusal_of(fault: Fault) -> Refusal
@@ -37,16 +38,19 @@ fn accepted_line(alloc: Global, budget: u64) -> Result<String, AllocError>
 /// # Errors
 ///
 /// The first fault of the bytes, then why the verifier refuses the program, each at its slot; or want of
-/// memory. What the verifier knows beside that is put into `known`.
+/// memory. What is found on the way takes the place of what `facts` held.
 pub fn verified(
     alloc: Global,
     bytes: &[u8],
     options: &Options,
-    known: &mut Known,
+    facts: &mut Facts,
 ) -> Result<Vec<u8>, Refusal>
     ensures accepted { IfOk result (λ text. IsAcceptedText bytes.now options.now.sectors text.items) }
     ensures refused { IfErr result (RefusesVerified bytes.now options.now.sectors) }
+    ensures unreached { IfOk result (λ _. FindsUnreached bytes.now options.now.sectors facts.new.unreached.items) }
+    ensures breach { IfErr result (λ r. IfSome facts.new.breach (FindsBreach bytes.now options.now.sectors r)) }
 {
+    *facts = Facts::new();
     let program = match decode(alloc, bytes) {
         Ok(program) => program,
         Err(fault) => return Err(bytes_refusal_of(fault)),
@@ -54,11 +58,11 @@ pub fn verified(
     let verified = match verify_known(alloc, &program, options.sectors()) {
         Ok(verified) => verified,
         Err(unaccepted) => {
-            known.refuse(&unaccepted);
+            facts.refuse(&program, &unaccepted);
             return Err(unaccepted_refusal_of(unaccepted.fault));
         }
     };
-    known.accept(0, &verified);
+    facts.accept(&verified);
     match accepted_line(alloc, verified.budget()) {
         Ok(text) => Ok(text.into_bytes()),
         Err(_error) => Err(Refusal::of_memory()),

@@ -2,6 +2,7 @@
 pub mod Places
 pub mod Settings
 pub mod OptionWords
+pub mod Trials
 pub mod Source
 pub mod Refusals
 pub mod FaultLine

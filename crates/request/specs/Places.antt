@@ -17,3 +17,5 @@ place_number place.Choice = 11
 place_number place.Flush = 12
 place_number place.Range = 13
 place_number place.Base = 14
+place_number place.Epoch = 15
+place_number place.Marks = 16

@@ -7,6 +7,7 @@ ghost use Rattle.request.specs.OptionWords.{AskFor, settings_with, words_refusal
 use crate::options::Options;
 use crate::refusals::option_refusal_of;
 use crate::settings::{OptionPlace, Settings};
+use crate::trials::TrialWords;
 use arrayvec::ArrayString;
 use base::refusal::Refusal;
 use epochs::{By, CutKind, Cuts, Flushes};
@@ -78,6 +79,8 @@ pub enum Request {
     Import,
     /// `verify PROGRAM`, of which the number of sectors counts.
     Verify(OptionWords),
+    /// `check PROGRAM IMAGE`
+    Check(TrialWords),
     /// `asm SOURCE`
     Asm,
     /// `list PROGRAM`, with the slots or without.

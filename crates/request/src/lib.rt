@@ -10,6 +10,7 @@
 //! |---|---|
 //! | `Options::new(settings)` | tests what a run is asked, option by option, and keeps it |
 //! | `options_of(words)` | the same, of options as the words of a command line have them |
+//! | `trial_of(words)` | tests what a run of a program on one image is asked |
 //! | `read_log(alloc, bytes, initial, options)` | the log that bytes are, for a device of that size, over what it held before, with the flushes that are added |
 //! | `planned(alloc, log, options)` | the plan of a log by the options, with how many crash images it has |
 //! | `option_refusal_of(place)`, `unreadable(place)`, `bytes_refusal_of(fault)` | the refusal of an option, of a file, and of a program's bytes |
@@ -24,7 +25,7 @@
 //! (`specs/Settings.antt`, docs/REPORT.md, Options). So whoever has `Options` has numbers in their ranges: 1 to 16,384 sectors,
 //! at most 3 parts that depart, 1 to 64 workers, a cache of at most 65,536 outcomes, a limit of at most 10^9 steps.
 //! `options_of` refuses first a word that names no kind of cut, then one that names no kind of part, then one that is no list of
-//! entries (`specs/OptionWords.antt`).
+//! entries (`specs/OptionWords.antt`). `trial_of` refuses exactly the first number that is out of its range (`specs/Trials.antt`).
 //!
 //! Where `read_log` answers a log, the bytes are a text of a log for that device that has all entries and cuts that are named, and
 //! the answer is that log over the initial content that is given, with the flushes that are added (`IsLogOf`). Where it refuses
@@ -51,9 +52,11 @@ mod options;
 mod refusals;
 mod settings;
 mod source;
+mod trials;
 
 pub use command::{OptionWords, Request, Which, options_of};
 pub use options::{MOST_PROGRAMS, MOST_SECTORS, Options};
 pub use refusals::{bytes_refusal_of, fault_line, option_refusal_of, unreadable};
 pub use settings::{OptionPlace, Settings, Telling};
 pub use source::{log_refusal_of, planned, read_log};
+pub use trials::{Trial, TrialWords, trial_of};

@@ -54,7 +54,7 @@ impl Model for Options {
 }
 
 /// Whether there is a limit of steps that is too great.
-fn is_too_long(checked: Option<u64>) -> bool
+pub(crate) fn is_too_long(checked: Option<u64>) -> bool
     ensures { result ≡ not (option_map_or (λ limit. nat_le limit 1000000000) checked true) }
 {
     match checked {

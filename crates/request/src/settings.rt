@@ -62,6 +62,10 @@ pub enum OptionPlace {
     Range = 13,
     /// What the device held before entry 0.
     Base = 14,
+    /// The number of flush entries that a program is told of an image.
+    Epoch = 15,
+    /// The number of marks that it is told.
+    Marks = 16,
 }
 
 impl OptionPlace {

@@ -32,16 +32,16 @@ use cure::{
     Added, Failure, add_missing, failures_of, put_begin, put_refused, put_round, uncured_line,
     windows_of,
 };
+use facts::Facts;
 use flushes::Window;
 use images::History;
 use lines::Lines;
 use logfmt::Log;
 use report::{Head, put_totals};
-use request::{OptionPlace, Options, option_refusal_of, planned, read_log};
+use request::{OptionPlace, Options, option_refusal_of, planned};
 use std::alloc::{AllocError, Global};
 use std::sync::Wait;
 use std::thread::Threads;
-use verifier::Known;
 use workers::{Gate, Work, accepted_checkers_run_safely, lines_are_set};
 
 /// What judges the images of each run.
@@ -327,8 +327,8 @@ fn cured_log<G: Gate + Sync, R: Threads + Wait + Sync>(
 /// Tries where flushes would take failing images of a log away (docs/REPORT.md, The text of `cure`): judges its crash images as
 /// `explore_with` does, adds the flushes that are missing for the failing ones, judges those of the log with them, and so on,
 /// until a flush takes none of the failing images away that are left. `gate` is told of each run. What is to be told by the
-/// question, and whether the first failing image alone is asked for, changes nothing. What the verifier knows of the
-/// programs is put into `known`.
+/// question, and whether the first failing image alone is asked for, changes nothing. What is found on the
+/// way takes the place of what `facts` held.
 ///
 /// # Errors
 ///
@@ -338,20 +338,21 @@ pub fn cured<G: Gate + Sync, R: Threads + Wait + Sync>(
     alloc: Global,
     gate: &G,
     question: &Question<'_>,
-    known: &mut Known,
+    facts: &mut Facts,
 ) -> Result<Explored, Refusal>
-    ensures cured { IfOk result (λ e. IsCured (record { text = question.now.log.now; initial = question.now.initial.now }) (map (λ f. f.items) question.now.programs.now) question.now.options.now e.bytes.items e.failing) }
-    ensures refused { IfErr result (Refuses (record { text = question.now.log.now; initial = question.now.initial.now }) (map (λ f. f.items) question.now.programs.now) question.now.options.now) }
+    ensures cured { IfOk result (λ e. IsCured question.now.recording.now (map (λ f. f.items) question.now.programs.now) question.now.options.now e.bytes.items e.failing) }
+    ensures refused { IfErr result (Refuses question.now.recording.now (map (λ f. f.items) question.now.programs.now) question.now.options.now) }
 {
+    *facts = Facts::new();
     let (programs, options) = (question.programs, question.options);
     if !is_program_count(programs.len()) {
         return Err(option_refusal_of(OptionPlace::Programs));
     }
-    let log = read_log(alloc, question.log, question.initial, options)?;
+    let log = question.recording.read(alloc, options, facts)?;
     // Too many images are refused before the programs are looked at.
-    planned(alloc, &log, options)?;
+    facts.plan(alloc, &log, options)?;
     let decoded = decode_all(alloc, programs)?;
-    let checkers = checkers_of(alloc, decoded.programs.as_slice(), options, known)?;
+    let checkers = checkers_of(alloc, decoded.programs.as_slice(), options, facts)?;
     if let Some(refusal) = decoded.refusal {
         return Err(refusal);
     }

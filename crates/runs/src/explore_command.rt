@@ -25,14 +25,15 @@ use bpf_isa::program::{CodeFault, Program};
 use bpf_shape::Fault;
 use checker::Checker;
 use choices::Starts;
+use facts::{Facts, Recording};
 use images::{History, initial_number};
 use outcomes::printed_text;
 use report::{Head, ProgramHead, write_report};
-use request::{MOST_PROGRAMS, OptionPlace, Options, Telling, option_refusal_of, planned, read_log};
+use request::{MOST_PROGRAMS, OptionPlace, Options, Telling, option_refusal_of};
 use std::alloc::{AllocError, Global};
 use std::sync::Wait;
 use std::thread::Threads;
-use verifier::{Known, verify_known};
+use verifier::verify_known;
 use workers::{Gate, OpenGate, accepted_checkers_run_safely, lines_are_set};
 
 /// What a run answers.
@@ -138,9 +139,8 @@ fn checker_of<'p>(
     number: u8,
     program: &'p Program,
     options: &Options,
-    known: &mut Known,
+    facts: &mut Facts,
 ) -> Result<Checker<'p>, Refusal>
-    requires { number < 8 }
     ensures program { IfOk result (λ c. c.program ≡ program.now) }
     ensures within { IfOk result (λ c. IsRunWithin options.now.checked options.now.sectors c) }
     ensures refused { IfErr result (IsUnaccepted options.now number program.now) }
@@ -149,11 +149,11 @@ fn checker_of<'p>(
         Some(limit) => Ok(Checker::limited(program, limit)),
         None => match verify_known(alloc, program, options.sectors()) {
             Ok(verified) => {
-                known.accept(number, &verified);
+                facts.accept(&verified);
                 Ok(Checker::verified(&verified))
             }
             Err(unaccepted) => {
-                known.refuse(&unaccepted);
+                facts.refuse(program, &unaccepted);
                 Err(verifier_refusal_of(number, unaccepted.fault))
             }
         },
@@ -176,7 +176,7 @@ pub(crate) fn checkers_of<'p>(
     alloc: Global,
     programs: &'p [Program],
     options: &Options,
-    known: &mut Known,
+    facts: &mut Facts,
 ) -> Result<Vec<Checker<'p>>, Refusal>
     requires few { length programs.now ≤ 8 }
     ensures made { IfOk result (λ checkers. AreFirstMade options.now programs.now checkers.items) }
@@ -185,7 +185,7 @@ pub(crate) fn checkers_of<'p>(
 {
     let mut checkers = Vec::new(alloc);
     for (number, program) in programs.iter().enumerate() {
-        let checker = checker_of(alloc, number as u8, program, options, known)?;
+        let checker = checker_of(alloc, number as u8, program, options, facts)?;
         push_checker(&mut checkers, checker)?;
     }
     Ok(checkers)
@@ -350,10 +350,8 @@ fn judged<'x, G: Gate + Sync, R: Threads + Wait + Sync>(
 pub struct Question<'a> {
     /// What is to be told.
     pub telling: Telling,
-    /// The bytes of the log.
-    pub log: &'a [u8],
-    /// Of what the device held before entry 0 the first bytes, behind which there are zeros.
-    pub initial: &'a [u8],
+    /// The log, over what the device held before entry 0.
+    pub recording: &'a Recording<'a>,
     /// The bytes of each program.
     pub programs: &'a [Vec<u8>],
     /// The options.
@@ -361,7 +359,7 @@ pub struct Question<'a> {
 }
 
 /// Judges the crash images of a log by one to eight programs, and tells of those that fail what is asked for: what
-/// `explore_with`, `why` or `page` answers. What the verifier knows of the programs is put into `known`.
+/// `explore_with`, `why` or `page` answers. What is found on the way takes the place of what `facts` held.
 ///
 /// # Errors
 ///
@@ -371,19 +369,20 @@ pub fn run_with<G: Gate + Sync, R: Threads + Wait + Sync>(
     alloc: Global,
     gate: &G,
     question: &Question<'_>,
-    known: &mut Known,
+    facts: &mut Facts,
 ) -> Result<Explored, Refusal>
-    ensures told { IfOk result (λ e. IsTold question.now.telling (record { text = question.now.log.now; initial = question.now.initial.now }) (map (λ f. f.items) question.now.programs.now) question.now.options.now e.bytes.items e.failing) }
-    ensures refused { IfErr result (Refuses (record { text = question.now.log.now; initial = question.now.initial.now }) (map (λ f. f.items) question.now.programs.now) question.now.options.now) }
+    ensures told { IfOk result (λ e. IsTold question.now.telling question.now.recording.now (map (λ f. f.items) question.now.programs.now) question.now.options.now e.bytes.items e.failing) }
+    ensures refused { IfErr result (Refuses question.now.recording.now (map (λ f. f.items) question.now.programs.now) question.now.options.now) }
 {
+    *facts = Facts::new();
     let (programs, options) = (question.programs, question.options);
     if !is_program_count(programs.len()) {
         return Err(option_refusal_of(OptionPlace::Programs));
     }
-    let log = read_log(alloc, question.log, question.initial, options)?;
-    let (plan, images) = planned(alloc, &log, options)?;
+    let log = question.recording.read(alloc, options, facts)?;
+    let (plan, images) = facts.plan(alloc, &log, options)?;
     let decoded = decode_all(alloc, programs)?;
-    let checkers = checkers_of(alloc, decoded.programs.as_slice(), options, known)?;
+    let checkers = checkers_of(alloc, decoded.programs.as_slice(), options, facts)?;
     if let Some(refusal) = decoded.refusal {
         return Err(refusal);
     }
@@ -413,23 +412,20 @@ pub fn explore_with<G: Gate + Sync, R: Threads + Wait + Sync>(
     rt: &R,
     alloc: Global,
     gate: &G,
-    log: &[u8],
-    initial: &[u8],
+    recording: &Recording<'_>,
     programs: &[Vec<u8>],
     options: &Options,
 ) -> Result<Explored, Refusal>
-    ensures report { IfOk result (λ e. IsReport (record { text = log.now; initial = initial.now }) (map (λ f. f.items) programs.now) options.now e.bytes.items e.failing) }
-    ensures refused { IfErr result (Refuses (record { text = log.now; initial = initial.now }) (map (λ f. f.items) programs.now) options.now) }
+    ensures report { IfOk result (λ e. IsReport recording.now (map (λ f. f.items) programs.now) options.now e.bytes.items e.failing) }
+    ensures refused { IfErr result (Refuses recording.now (map (λ f. f.items) programs.now) options.now) }
 {
-    let telling = Telling::Report;
     let question = Question {
-        telling,
-        log,
-        initial,
+        telling: Telling::Report,
+        recording,
         programs,
         options,
     };
-    run_with(rt, alloc, gate, &question, &mut Known::new())
+    run_with(rt, alloc, gate, &question, &mut Facts::new())
 }
 
 /// Says why programs fail on the crash images of a log: how many images fail and where flushes are missing, and of each program how
@@ -443,23 +439,20 @@ pub fn why<G: Gate + Sync, R: Threads + Wait + Sync>(
     rt: &R,
     alloc: Global,
     gate: &G,
-    log: &[u8],
-    initial: &[u8],
+    recording: &Recording<'_>,
     programs: &[Vec<u8>],
     options: &Options,
 ) -> Result<Explored, Refusal>
-    ensures explained { IfOk result (λ e. IsExplained (record { text = log.now; initial = initial.now }) (map (λ f. f.items) programs.now) options.now e.bytes.items e.failing) }
-    ensures refused { IfErr result (Refuses (record { text = log.now; initial = initial.now }) (map (λ f. f.items) programs.now) options.now) }
+    ensures explained { IfOk result (λ e. IsExplained recording.now (map (λ f. f.items) programs.now) options.now e.bytes.items e.failing) }
+    ensures refused { IfErr result (Refuses recording.now (map (λ f. f.items) programs.now) options.now) }
 {
-    let telling = Telling::Causes;
     let question = Question {
-        telling,
-        log,
-        initial,
+        telling: Telling::Causes,
+        recording,
         programs,
         options,
     };
-    run_with(rt, alloc, gate, &question, &mut Known::new())
+    run_with(rt, alloc, gate, &question, &mut Facts::new())
 }
 
 /// Shows where programs fail on the crash images of a log, as a page for a browser (docs/REPORT.md, The page of `page`). It
@@ -472,37 +465,33 @@ pub fn page<G: Gate + Sync, R: Threads + Wait + Sync>(
     rt: &R,
     alloc: Global,
     gate: &G,
-    log: &[u8],
-    initial: &[u8],
+    recording: &Recording<'_>,
     programs: &[Vec<u8>],
     options: &Options,
 ) -> Result<Explored, Refusal>
-    ensures paged { IfOk result (λ e. IsPaged (record { text = log.now; initial = initial.now }) (map (λ f. f.items) programs.now) options.now e.bytes.items e.failing) }
-    ensures refused { IfErr result (Refuses (record { text = log.now; initial = initial.now }) (map (λ f. f.items) programs.now) options.now) }
+    ensures paged { IfOk result (λ e. IsPaged recording.now (map (λ f. f.items) programs.now) options.now e.bytes.items e.failing) }
+    ensures refused { IfErr result (Refuses recording.now (map (λ f. f.items) programs.now) options.now) }
 {
-    let telling = Telling::Page;
     let question = Question {
-        telling,
-        log,
-        initial,
+        telling: Telling::Page,
+        recording,
         programs,
         options,
     };
-    run_with(rt, alloc, gate, &question, &mut Known::new())
+    run_with(rt, alloc, gate, &question, &mut Facts::new())
 }
 
 /// The bytes of `explore_with`, with a gate that does nothing.
 pub fn explore<R: Threads + Wait + Sync>(
     rt: &R,
     alloc: Global,
-    log: &[u8],
-    initial: &[u8],
+    recording: &Recording<'_>,
     programs: &[Vec<u8>],
     options: &Options,
 ) -> Result<Vec<u8>, Refusal>
-    ensures report { IfOk result (λ bytes. HasReport (record { text = log.now; initial = initial.now }) (map (λ f. f.items) programs.now) options.now bytes.items) }
-    ensures refused { IfErr result (Refuses (record { text = log.now; initial = initial.now }) (map (λ f. f.items) programs.now) options.now) }
+    ensures report { IfOk result (λ bytes. HasReport recording.now (map (λ f. f.items) programs.now) options.now bytes.items) }
+    ensures refused { IfErr result (Refuses recording.now (map (λ f. f.items) programs.now) options.now) }
 {
-    let explored = explore_with(rt, alloc, &OpenGate, log, initial, programs, options)?;
+    let explored = explore_with(rt, alloc, &OpenGate, recording, programs, options)?;
     Ok(explored.bytes)
 }

@@ -3,19 +3,19 @@
 //!
 //! # Place
 //!
-//! Below `commands`, which performs `explore`, `why` and `page` by `run_with`. `request` reads the log and counts its images,
+//! Below `commands`, which performs `explore`, `why` and `page` by `run_with`. `facts` reads the log, counts its images and takes what the notes say,
 //! `bpf_isa` decodes the programs, `verifier` accepts them, `workers` judges the images by `checker`, `report` writes the lines
 //! and what stands at the head of each text, `why` tells what fails of a program at each cut, `cure` which flushes are missing, and
 //! `crash_page` writes the page.
 //!
 //! | Call | Answers |
 //! |---|---|
-//! | `explore_with(rt, alloc, gate, log, initial, programs, options)` | the report, how often the cache was hit, and whether an image fails; `gate` is told of each block |
-//! | `explore(rt, alloc, log, initial, programs, options)` | the bytes of the report |
-//! | `why(rt, alloc, gate, log, initial, programs, options)` | the same run told by its causes (`causes.rt`) |
-//! | `page(rt, alloc, gate, log, initial, programs, options)` | the same run as a page for a browser (`paging.rt`) |
-//! | `run_with(rt, alloc, gate, question, known)` | one of the three, by what is to be told |
-//! | `cured(rt, alloc, gate, question, known)` | where flushes are missing, and what is left with them, run by run (`curing.rt`) |
+//! | `explore_with(rt, alloc, gate, recording, programs, options)` | the report, how often the cache was hit, and whether an image fails; `gate` is told of each block |
+//! | `explore(rt, alloc, recording, programs, options)` | the bytes of the report |
+//! | `why(rt, alloc, gate, recording, programs, options)` | the same run told by its causes (`causes.rt`) |
+//! | `page(rt, alloc, gate, recording, programs, options)` | the same run as a page for a browser (`paging.rt`) |
+//! | `run_with(rt, alloc, gate, question, facts)` | one of the three, by what is to be told |
+//! | `cured(rt, alloc, gate, question, facts)` | where flushes are missing, and what is left with them, run by run (`curing.rt`) |
 //!
 //! # What is proved
 //!
@@ -40,7 +40,7 @@
 //!
 //! ```text
 //! let options = Options::new(&Settings { sectors: 1, cuts: Cuts::ALL, bound: 0, .. })?;
-//! let report = explore(rt, alloc, log, &[], programs, &options)?;
+//! let report = explore(rt, alloc, &recording, programs, &options)?;
 //! // crash report 2
 //! // sectors 1 entries 0 cuts all bound 0 tears no first no
 //! // program 0 slots 2 limit 2

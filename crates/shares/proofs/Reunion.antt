@@ -10,10 +10,11 @@ use Rattle.shares.specs.Steps.{total}
 use Rattle.shares.specs.Seats.{times}
 use Rattle.shares.specs.Deques.{DequeName}
 use Rattle.shares.specs.Owned.{DequeValue, OtherValue, AddsLeft}
-use Rattle.shares.specs.Hands.{HandPlace, HandValue, hand_place, hand_value, others_at, AreOthers, AreTogether, AreLeft, IsEmptyHand}
-use Rattle.shares.specs.Meeting.{empty_deque, new_other, with_less, with_back, stacked, merged, all_got, AreMet, AreApart, AreWhole, AddsAllLeft}
+use Rattle.shares.specs.declared.deque.Phase.TheVariants.{Open, Closed}
+use Rattle.shares.specs.Hands.{HandPlace, HandValue, hand_place, hand_value, others_at, AreOthers, AreTogether, AreLeft, IsEmptyHand, IsShut}
+use Rattle.shares.specs.Meeting.{empty_deque, new_other, with_less, with_back, stacked, merged, all_got, unmarked_one, unmarked, AreMet, AreApart, AreWhole, AddsAllLeft}
 use Rattle.shares.proofs.Lists.{total_snoc}
-use Rattle.shares.proofs.Seats.{times_append}
+use Rattle.shares.proofs.Seats.{times_append, all_middle}
 
 -- lists
 
@@ -226,11 +227,14 @@ other_names (n ∷ ns) = ap (λ ms. n ∷ ms) (other_names ns)
 
 pub met_next : (names : List DequeName) (hands : List HandValue) (deque : DequeValue) (others : List OtherValue) (hand : HandValue) → AreMet names hands → length hands < length names
     → deque ≡ empty_deque 1 deque.name → take (length hands) names ++ deque.name ∷ [] ≡ take (length hands + 1) names → others ≡ map new_other (others_at names (length hands))
-    → hand ≡ hand_value (hand_place deque.name deque.parts (map (λ (o : OtherValue). o.name) others)) [] deque.pushed (deque.got ++ flat_map (λ (o : OtherValue). o.got) others) → AreMet names (hands ++ hand ∷ [])
+    → hand ≡ hand_value (hand_place deque.name deque.parts (map (λ (o : OtherValue). o.name) others)) [] deque.pushed (deque.got ++ flat_map (λ (o : OtherValue). o.got) others) Open (length deque.pushed - length deque.got)
+    → AreMet names (hands ++ hand ∷ [])
 met_next names hands deque others hand h more empty next others_are is =
-    let is_so : hand ≡ hand_value (hand_place deque.name 1 (others_at names (length hands))) [] [] [] =
-    is ∙ (λ i. hand_value (hand_place deque.name (empty i).parts (map (λ (o : OtherValue). o.name) (others_are i))) [] (empty i).pushed ((empty i).got ++ flat_map (λ (o : OtherValue). o.got) (others_are i)))
-    ∙ (λ i. hand_value (hand_place deque.name 1 (other_names (others_at names (length hands)) i)) [] [] (no_blocks (others_at names (length hands)) i)) in
+    let is_so : hand ≡ hand_value (hand_place deque.name 1 (others_at names (length hands))) [] [] [] Open 0 =
+    is
+    ∙ (λ i. hand_value (hand_place deque.name (empty i).parts (map (λ (o : OtherValue). o.name) (others_are i))) [] (empty i).pushed ((empty i).got ++ flat_map (λ (o : OtherValue). o.got) (others_are i)) Open
+    (length (empty i).pushed - length (empty i).got))
+    ∙ (λ i. hand_value (hand_place deque.name 1 (other_names (others_at names (length hands)) i)) [] [] (no_blocks (others_at names (length hands)) i) Open 0) in
     let own : hand.place.deque ≡ deque.name = ap (λ (v : HandValue). v.place.deque) is_so in
     record {
       deques = map-append (λ (v : HandValue). v.place.deque) hands (hand ∷ []) ∙ (λ i. h.deques i ++ own i ∷ []) ∙ next ∙ sym (ap (λ n. take n names) (length-append hands (hand ∷ [])));
@@ -238,7 +242,7 @@ met_next names hands deque others hand h more empty next others_are is =
         | inl was ↦ h.each i v was
         | inr last ↦
             (let same : v ≡ hand = last.1 in
-            same ∙ is_so ∙ (λ j. hand_value (hand_place (sym own j) 1 (others_at names (sym last.0 j))) [] [] []) ∙ (λ j. hand_value (hand_place (sym same j).place.deque 1 (others_at names i)) [] [] []))
+            same ∙ is_so ∙ (λ j. hand_value (hand_place (sym own j) 1 (others_at names (sym last.0 j))) [] [] [] Open 0) ∙ (λ j. hand_value (hand_place (sym same j).place.deque 1 (others_at names i)) [] [] [] Open 0))
       ];
     }
 
@@ -281,7 +285,7 @@ all_met names hands h count = (
         walk (v ∷ vs) f = All-cons P v.place (map (λ (w : HandValue). w.place) vs) (f 0 v refl) (walk vs (λ i. f (suc i)))
 
     empty : All IsEmptyHand hands
-    empty = walk hands (λ i v there. let is = h.each i v there in is ∙ ap (λ (p : HandPlace). hand_value p [] [] []) (sym (ap (λ (w : HandValue). w.place) is)))
+    empty = walk hands (λ i v there. let is = h.each i v there in is ∙ ap (λ (p : HandPlace). hand_value p [] [] [] Open 0) (sym (ap (λ (w : HandValue). w.place) is)))
       where
         walk : (vs : List HandValue) → ((i : ℕ) (v : HandValue) → slice_get vs i ≡ Some v → IsEmptyHand v) → All IsEmptyHand vs
         walk [] f = All-nil IsEmptyHand
@@ -290,13 +294,34 @@ all_met names hands h count = (
 -- hands that are taken apart
 
 pub none_apart : AreApart [] [] [] []
-none_apart = record { names = refl; parts = refl; others_are = refl; lists = λ x. refl; pushed = λ x. refl; got = λ x. refl }
+none_apart = record { names = refl; parts = refl; others_are = refl; lists = λ x. refl; pushed = λ x. refl; got = λ x. refl; closed = λ all. (refl, refl) }
+
+all_before : {X : Type 0} (P : X → Type 0) (xs ys : List X) → All P (xs ++ ys) → All P xs
+all_before P [] ys h = All-nil P
+all_before P (x ∷ xs) ys h = All-cons P x xs (All-head P x (xs ++ ys) h) (all_before P xs ys (All-tail P x (xs ++ ys) h))
+
+marked : (n : ℕ) → 0 < n → unmarked_one n ≡ 0
+marked zero lt = absurd (omega (arith, lt))
+marked (suc n) lt = refl
+
+is_marked : (n : ℕ) → unmarked_one n ≡ 0 → 0 < n
+is_marked zero e = absurd (omega (arith, e))
+is_marked (suc n) e = omega arith
+
+-- who gets more marks is marked still
+at_most_one : (n : ℕ) → unmarked_one n ≤ 1
+at_most_one zero = omega arith
+at_most_one (suc n) = omega arith
+
+still_marked : (n more : ℕ) → unmarked_one (n + more) ≤ unmarked_one n
+still_marked zero more = at_most_one (0 + more)
+still_marked (suc n) more = let e : suc n + more ≡ suc (n + more) = omega arith in rw e (omega arith)
 
 pub apart_next : (hands : List HandValue) (left : List ℕ) (deques : List DequeValue) (others : List (List OtherValue)) (hand : HandValue) (list : List ℕ) (deque : DequeValue) (own : List OtherValue)
     → AreApart hands left deques others
-    → hand ≡ hand_value (hand_place deque.name deque.parts (map (λ (o : OtherValue). o.name) own)) list deque.pushed (deque.got ++ flat_map (λ (o : OtherValue). o.got) own)
-    → AreApart (hands ++ hand ∷ []) (left ++ list) (deques ++ deque ∷ []) (others ++ own ∷ [])
-apart_next hands left deques others hand list deque own h is = record {
+    → hand ≡ hand_value (hand_place deque.name deque.parts (map (λ (o : OtherValue). o.name) own)) list deque.pushed (deque.got ++ flat_map (λ (o : OtherValue). o.got) own) hand.phase hand.kept
+    → (hand.phase ≡ Closed → 0 < deque.marks_got) → AreApart (hands ++ hand ∷ []) (left ++ list) (deques ++ deque ∷ []) (others ++ own ∷ [])
+apart_next hands left deques others hand list deque own h is shut = record {
   names = both_more (λ (d : DequeValue). d.name) (λ (v : HandValue). v.place.deque) h.names (sym (ap (λ (v : HandValue). v.place.deque) is));
   parts = both_more (λ (d : DequeValue). d.parts) (λ (v : HandValue). v.place.parts) h.parts (sym (ap (λ (v : HandValue). v.place.parts) is));
   others_are = map-append (map (λ (o : OtherValue). o.name)) others (own ∷ []) ∙ (λ i. h.others_are i ++ sym (ap (λ (v : HandValue). v.place.others) is) i ∷ []) ∙ sym (map-append (λ (v : HandValue). v.place.others) hands (hand ∷ []));
@@ -311,6 +336,11 @@ apart_next hands left deques others hand list deque own h is = record {
     ap (λ (v : HandValue). times x v.got) is,
     times_append x deque.got (all_got own),
   );
+  closed = λ all.
+      let before = h.closed (all_before IsShut hands (hand ∷ []) all) in
+      let last : IsShut hand = all_middle IsShut hands [] (hands ++ hand ∷ []) hand refl all in
+      let none : list ≡ [] = sym (ap (λ (v : HandValue). v.list) is) ∙ last.1 in
+      ((λ i. before.0 i ++ none i), omega (arith, before.1, total_snoc (λ (d : DequeValue). unmarked_one d.marks_got) deques deque, marked deque.marks_got (shut last.0)));
 }
   where
     both_more : {B : Type 0} (f : DequeValue → B) (g : HandValue → B) → map f deques ≡ map g hands → f deque ≡ g hand → map f (deques ++ deque ∷ []) ≡ map g (hands ++ hand ∷ [])
@@ -387,6 +417,11 @@ merged_got x [] (o ∷ os) e = absurd (omega (arith, e))
 merged_got x (d ∷ ds) [] e = absurd (omega (arith, e))
 merged_got x (d ∷ ds) (o ∷ os) e = omega (arith, merged_got x ds os (omega (arith, e)), times_append x d.got o.got, times_append x o.got (all_got os))
 
+merged_unmarked : (ds : List DequeValue) (os : List OtherValue) → unmarked (merged ds os) ≤ unmarked ds
+merged_unmarked [] os = omega arith
+merged_unmarked (d ∷ ds) [] = omega arith
+merged_unmarked (d ∷ ds) (o ∷ os) = omega (arith, merged_unmarked ds os, still_marked d.marks_got o.marks_got)
+
 merged_append : (ds es : List DequeValue) (os : List OtherValue) → merged (ds ++ es) os ≡ merged ds os ++ merged es (drop (length ds) os)
 merged_append [] es os = refl
 merged_append (d ∷ ds) [] [] = refl
@@ -411,6 +446,7 @@ pub record IsReuniting (first : List DequeValue) (all : List (List OtherValue)) 
   pub waiting_parts : All (λ (d : DequeValue). d.parts ≡ length back + 1) waiting
   pub pushed : (x : ℕ) → total (λ (d : DequeValue). times x d.pushed) deques ≡ total (λ (d : DequeValue). times x d.pushed) first
   pub got : (x : ℕ) → total (λ (d : DequeValue). times x d.got) deques ≡ total (λ (d : DequeValue). times x d.got) first + total (λ (os : List OtherValue). times x (all_got os)) gone
+  pub closed : unmarked deques ≤ unmarked first
 
 pub reuniting_begins : (first : List DequeValue) (all : List (List OtherValue)) → length all ≡ length first → All (λ (d : DequeValue). d.parts ≡ 1) first → IsReuniting first all first all
 reuniting_begins first all count parts = record {
@@ -425,6 +461,7 @@ reuniting_begins first all count parts = record {
   waiting_parts = parts;
   pushed = λ x. refl;
   got = λ x. omega arith;
+  closed = omega arith;
 }
 
 pub length_names : (ds : List DequeValue) → length (map (λ (d : DequeValue). d.name) ds) ≡ length ds
@@ -437,6 +474,7 @@ reuniting_ends first all deques others h none = record {
   parts = subst (λ (ds : List DequeValue). All (λ (d : DequeValue). d.parts ≡ length first) ds) (sym all_back) (subst (λ (n : ℕ). All (λ (d : DequeValue). d.parts ≡ n) h.back) as_many h.back_parts);
   pushed = h.pushed;
   got = λ x. h.got x ∙ ap (λ (os : List (List OtherValue)). total (λ (d : DequeValue). times x d.got) first + total (λ (o : List OtherValue). times x (all_got o)) os) (sym (h.all_are ∙ ap (λ os. os ++ h.gone) (no_elements others none)));
+  closed = h.closed;
 }
   where
     no_elements : {A : Type 0} (xs : List A) → length xs ≡ 0 → xs ≡ []
@@ -557,6 +595,14 @@ module _ (first : List DequeValue) (all : List (List OtherValue)) (deques : List
           total_snoc (λ (d : DequeValue). times x d.got) (h.back ++ wait) its,
           h.got x,
         );
+        closed = omega (
+          arith,
+          ap unmarked turned_split,
+          merged_unmarked (h.back ++ wait) own,
+          ap unmarked back_split,
+          total_snoc (λ (d : DequeValue). unmarked_one d.marks_got) (h.back ++ wait) its,
+          h.closed,
+        );
       }
     where
       last_holds : (P : DequeValue → Type 0) (ds : List DequeValue) → All P (ds ++ its ∷ []) → P its
@@ -580,15 +626,20 @@ module _ (first : List DequeValue) (all : List (List OtherValue)) (deques : List
 -- what is left in deques
 
 pub nothing_left : (blocks : ℕ) (list : List ℕ) → AddsAllLeft blocks [] list list
-nothing_left blocks list = record { left = []; behind = sym (append-nil list); together = λ x. refl; below = All-nil (λ (x : ℕ). x < blocks) }
+nothing_left blocks list = record { left = []; behind = sym (append-nil list); together = λ x. refl; below = All-nil (λ (x : ℕ). x < blocks); closed = λ none. refl }
 
-pub left_next : (blocks : ℕ) (deques : List DequeValue) (deque : DequeValue) (first before after : List ℕ) → AddsAllLeft blocks deques first before → AddsLeft blocks deque.pushed deque.got before after
+pub left_next : (blocks : ℕ) (deques : List DequeValue) (deque : DequeValue) (first before after : List ℕ) → AddsAllLeft blocks deques first before → AddsLeft blocks deque before after
     → AddsAllLeft blocks (deques ++ deque ∷ []) first after
 left_next blocks deques deque first before after h own = record {
   left = h.left ++ own.left;
   behind = own.behind ∙ ap (λ xs. xs ++ own.left) h.behind ∙ append_assoc first h.left own.left;
   together = λ x. omega (arith, h.together x, own.together x, times_append x h.left own.left, total_snoc (λ (d : DequeValue). times x d.pushed) deques deque, total_snoc (λ (d : DequeValue). times x d.got) deques deque);
   below = All-append (λ (x : ℕ). x < blocks) h.left own.left h.below own.below;
+  closed = λ none.
+      let both = total_snoc (λ (d : DequeValue). unmarked_one d.marks_got) deques deque in
+      let before = h.closed (omega (arith, none, both)) in
+      let last = own.closed (is_marked deque.marks_got (omega (arith, none, both))) in
+      λ i. before i ++ last i;
 }
 
 pub all_left : (blocks workers : ℕ) (hands : List HandValue) (lists : List ℕ) (deques whole : List DequeValue) (others : List (List OtherValue)) (left : List ℕ)
@@ -596,6 +647,14 @@ pub all_left : (blocks workers : ℕ) (hands : List HandValue) (lists : List ℕ
 all_left blocks workers hands lists deques whole others left a w l = record {
   together = λ x. omega (arith, a.lists x, a.pushed x, a.got x, w.pushed x, w.got x, l.together x, ap (times x) l.behind, times_append x lists l.left);
 }
+
+-- where all hands are shut, nothing is left
+pub none_left : (blocks workers : ℕ) (hands : List HandValue) (lists : List ℕ) (deques whole : List DequeValue) (others : List (List OtherValue)) (left : List ℕ)
+    → AreApart hands lists deques others → AreWhole workers deques others whole → AddsAllLeft blocks whole lists left → All IsShut hands → left ≡ []
+none_left blocks workers hands lists deques whole others left a w l all =
+    let shut = a.closed all in
+    let none = l.closed (omega (arith, shut.1, w.closed)) in
+    l.behind ∙ (λ i. shut.0 i ++ none i)
 
 -- what hands say together
 
@@ -606,6 +665,10 @@ map_place f (h ∷ hs) = ap (λ bs. f h.place ∷ bs) (map_place f hs)
 module _ (workers : ℕ) (hands : List HandValue) (left : List ℕ) (deques : List DequeValue) (others : List (List OtherValue)) (t : AreTogether workers (map (λ (h : HandValue). h.place) hands)) (a : AreApart hands left deques others) where
   pub apart_count : length deques ≡ workers
   apart_count = sym (length-map deques (λ (d : DequeValue). d.name)) ∙ ap length a.names ∙ length-map hands (λ (h : HandValue). h.place.deque) ∙ sym (length-map hands (λ (h : HandValue). h.place)) ∙ t.count
+
+  pub apart_as_many : length others ≡ length deques
+  apart_as_many = sym (length-map others (map (λ (o : OtherValue). o.name))) ∙ ap length a.others_are ∙ length-map hands (λ (h : HandValue). h.place.others) ∙ sym (length-map hands (λ (h : HandValue). h.place.deque)) ∙ sym (ap length a.names)
+      ∙ length-map deques (λ (d : DequeValue). d.name)
 
   pub apart_one_part : All (λ (d : DequeValue). d.parts ≡ 1) deques
   apart_one_part = walk deques hands a.parts t.one_part

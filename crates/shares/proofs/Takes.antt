@@ -1,12 +1,14 @@
 -- What a hand keeps over its steps, and what they come to in a take.
-use Rattle.std.proofs.Common.{◌≡◌, ℕ, zero, suc, ◌+◌, ◌<◌, ◌≤◌, List, [], ◌∷◌, ◌++◌, length, map, flat_map, All, Option, None, Some, IfSome, IfNone, option_to_list, inl, inr, slice_set, slice_index_or, sym, refl, ap, ◌∙◌, subst, ⊎_elim, append_assoc, append-nil, length-append, arith}
+use Rattle.std.proofs.Common.{◌≡◌, ℕ, zero, suc, ◌+◌, ◌<◌, ◌≤◌, true, false, List, [], ◌∷◌, ◌++◌, length, map, flat_map, All, Option, None, Some, IfSome, IfNone, option_to_list, inl, inr, slice_set, slice_index_or, sym, refl, ap, ◌∙◌, subst, ⊎_elim, append_assoc, append-nil, length-append, arith}
 use Rattle.std.proofs.lemmas.Bool.Decides.{leb_tells}
 use Rattle.std.proofs.lemmas.List.Elements.{All-append}
 use Rattle.shares.specs.declared.view.SeatStep.{SeatStep}
 use Rattle.shares.specs.declared.view.SeatStep.TheVariants.{Drew}
 use Rattle.shares.specs.Steps.{posted_it, late_draws}
 use Rattle.shares.specs.Seats.{SeatValue, DrawsNone, taken, times}
-use Rattle.shares.specs.Hands.{HandValue, HasMore, PostsNothing, GivesOwn, KeepsBlock, IsStocked, IsTake}
+use Rattle.shares.specs.declared.deque.Phase.{Phase}
+use Rattle.shares.specs.declared.deque.Phase.TheVariants.{Open, Closing, Closed, Refused}
+use Rattle.shares.specs.Hands.{HandValue, FitsMarks, is_open, HasMore, PostsNothing, GivesOwn, KeepsBlock, IsStocked, IsTake}
 use Rattle.shares.proofs.Lists.{total_append, total_snoc}
 use Rattle.shares.proofs.Seats.{times_append}
 
@@ -89,6 +91,21 @@ stocked_more most hand now next seat seen after block h drew keeps quiet = ⊎_e
 
 pub kept_length : (now next : HandValue) (block most : ℕ) → KeepsBlock now block next → length now.list ≤ most → length next.list ≤ most + 1
 kept_length now next block most keeps le = ⊎_elim (λ k. omega (arith, ap length k.1)) (λ k. omega (arith, ap length k.1, length-append now.list (block ∷ []))) keeps.1
+
+-- which phase a test tells
+
+pub open_is : (phase : Phase) → is_open phase ≡ true → phase ≡ Open
+open_is Open e = refl
+open_is Closing e = absurd (let bad : false ≡ true = e in cc)
+open_is Closed e = absurd (let bad : false ≡ true = e in cc)
+open_is Refused e = absurd (let bad : false ≡ true = e in cc)
+
+-- an open hand pushed no mark on its deque, and got none
+pub open_marks : (workers pushed got : ℕ) (phase : Phase) → is_open phase ≡ true → FitsMarks workers pushed got phase → (pushed ≡ 0) × (got ≡ 0)
+open_marks workers pushed got Open e fits = fits
+open_marks workers pushed got Closing e fits = absurd (let bad : false ≡ true = e in cc)
+open_marks workers pushed got Closed e fits = absurd (let bad : false ≡ true = e in cc)
+open_marks workers pushed got Refused e fits = absurd (let bad : false ≡ true = e in cc)
 
 -- a take
 
@@ -185,6 +202,12 @@ pub named_set : {X N : Type 0} (f : X → N) (xs : List X) (place : ℕ) (old ne
 named_set f [] place old new at same = refl
 named_set f (y ∷ ys) zero old new at same = ap (λ n. n ∷ map f ys) (same ∙ ap f at)
 named_set f (y ∷ ys) (suc place) old new at same = ap (λ ns. f y ∷ ns) (named_set f ys place old new at same)
+
+-- and its list stays
+pub flat_same : {X : Type 0} (f : X → List ℕ) (xs : List X) (place : ℕ) (old new : X) → old ≡ slice_index_or xs place old → f new ≡ f old → flat_map f (slice_set xs place new) ≡ flat_map f xs
+flat_same f [] place old new at same = refl
+flat_same f (y ∷ ys) zero old new at same = ap (λ l. l ++ flat_map f ys) (same ∙ ap f at)
+flat_same f (y ∷ ys) (suc place) old new at same = ap (λ l. f y ++ l) (flat_same f ys place old new at same)
 
 -- a list with one more block
 pub all_more : (blocks : ℕ) (list after : List ℕ) (block back : ℕ) → All (λ (b : ℕ). b < blocks) list → after ≡ list ++ back ∷ [] → back ≡ block → block < blocks → All (λ (b : ℕ). b < blocks) after

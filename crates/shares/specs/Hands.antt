@@ -1,6 +1,8 @@
 -- The hands of the workers, as contracts see them, and what a take is.
-use Rattle.std.specs.Prelude.{◌≡◌, ℕ, ◌+◌, ◌≤◌, ◌⊎◌, List, [], ◌∷◌, ◌++◌, length, map, take, drop, slice_get, Some, All}
+use Rattle.std.specs.Prelude.{◌≡◌, ℕ, ◌+◌, ◌<◌, ◌≤◌, ◌⊎◌, Bool, true, false, ◌||◌, List, [], ◌∷◌, ◌++◌, length, map, take, drop, slice_get, Some, All}
 use Rattle.shares.specs.declared.view.SeatStep.{SeatStep}
+use Rattle.shares.specs.declared.deque.Phase.{Phase}
+use Rattle.shares.specs.declared.deque.Phase.TheVariants.{Open, Closing, Closed, Refused}
 use Rattle.shares.specs.Steps.{posts, total}
 use Rattle.shares.specs.Seats.{SeatValue, taken, times}
 use Rattle.shares.specs.Deques.{DequeName}
@@ -14,19 +16,55 @@ pub record HandPlace : Type 0 where
 abbrev pub hand_place : DequeName → ℕ → List DequeName → HandPlace
 hand_place deque parts others = record { deque = deque; parts = parts; others = others }
 
--- a hand: its place among the hands, its own list, the blocks that it pushed on its deque, in order, and those that it popped or stole
+-- a hand: its place among the hands, its own list, the blocks that it pushed on its deque, in order, and those that it popped or
+-- stole; how far it has come, and how many blocks it kept and didn't take back
 pub record HandValue : Type 0 where
   pub place : HandPlace
   pub list : List ℕ
   pub pushed : List ℕ
   pub got : List ℕ
+  pub phase : Phase
+  pub kept : ℕ
 
-abbrev pub hand_value : HandPlace → List ℕ → List ℕ → List ℕ → HandValue
-hand_value place list pushed got = record { place = place; list = list; pushed = pushed; got = got }
+abbrev pub hand_value : HandPlace → List ℕ → List ℕ → List ℕ → Phase → ℕ → HandValue
+hand_value place list pushed got phase kept = record { place = place; list = list; pushed = pushed; got = got; phase = phase; kept = kept }
+
+-- the hand in that phase
+abbrev pub in_phase : HandValue → Phase → HandValue
+in_phase hand phase = hand_value hand.place hand.list hand.pushed hand.got phase hand.kept
 
 -- a hand that holds no block and has moved none
 abbrev pub IsEmptyHand : HandValue → Type 0
-IsEmptyHand hand = hand ≡ hand_value hand.place [] [] []
+IsEmptyHand hand = hand ≡ hand_value hand.place [] [] [] Open 0
+
+-- a hand that is closed, and holds no block itself
+abbrev pub IsShut : HandValue → Type 0
+IsShut hand = (hand.phase ≡ Closed) × (hand.list ≡ [])
+
+-- a hand that wasn't asked to close
+abbrev pub is_open : Phase → Bool
+is_open Open = true
+is_open Closing = false
+is_open Closed = false
+is_open Refused = false
+
+-- a hand to which the push of a closing mark was refused
+abbrev pub is_refused : Phase → Bool
+is_refused Open = false
+is_refused Closing = false
+is_refused Closed = false
+is_refused Refused = true
+
+abbrev pub some_refused : List HandValue → Bool
+some_refused [] = false
+some_refused (hand ∷ hands) = is_refused hand.phase || some_refused hands
+
+-- what the phase of a hand says of the marks that its owner pushed on its deque, and got there
+abbrev pub FitsMarks : ℕ → ℕ → ℕ → Phase → Type 0
+FitsMarks workers marks_pushed marks_got Open = (marks_pushed ≡ 0) × (marks_got ≡ 0)
+FitsMarks workers marks_pushed marks_got Closing = (workers ≤ marks_pushed) × (marks_got ≡ 0)
+FitsMarks workers marks_pushed marks_got Closed = 0 < marks_got
+FitsMarks workers marks_pushed marks_got Refused = Unit {0}
 
 -- the deques from which the hand of that number steals: those behind its own first
 abbrev pub others_at : List DequeName → ℕ → List DequeName

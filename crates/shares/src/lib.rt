@@ -8,7 +8,8 @@
 //!
 //! **A hand** is a worker's own deque of blocks, which the others may steal from, with the stealers of the
 //! others' deques, and a short list of blocks that its deque had no place for. A worker with a seat and a
-//! hand draws some blocks ahead, and takes from others when no block is left to draw.
+//! hand draws some blocks ahead, and takes from others when no block is left to draw. A worker that is done
+//! closes its hand: it pushes closing marks on its deque, and takes what it kept until it finds one.
 //!
 //! | Call | Its one step | Answer |
 //! |---|---|---|
@@ -20,6 +21,9 @@
 //! | `board.gather(seats)` | | the end of the board: the least image posted, or a refusal |
 //! | `hands(alloc, workers)` | | a hand for each worker, which hold no block |
 //! | `hand.take(&board, &mut seat)` | some, of the board and of deques | the next block for this worker, or none where it found none |
+//! | `hand.close()` | a push for each worker | whether all marks were pushed; else the hand is refused |
+//! | `hand.rest()` | at most a pop | the next block that a closing hand kept, or none, and then it is closed |
+//! | `hand.is_refused()`, `are_refused(hands)` | | whether the push of a mark was refused |
 //! | `blocks_left(alloc, hands)` | | the blocks that are left in the hands, when all are back |
 //!
 //! # Place
@@ -60,8 +64,10 @@
 //! what it gave out and still holds is what its owner pushed, in that order; what it gave out is what its
 //! owner popped and the others stole, each as often; and each is below the number of blocks. The right to
 //! know the whole lies in as many parts as there are workers. The owner has one, and each stealer one; a
-//! port without a part has got nothing. Contracts see a hand as its place among the hands, its list, the
-//! blocks that it pushed, and those that it popped or stole (`specs/Hands.antt`).
+//! port without a part has got nothing. No block stands behind a closing mark, and all blocks are given out
+//! before one. A stealer's port has got no more marks than it has parts. Contracts see a hand as its place
+//! among the hands, its list, the blocks that it pushed, those that it popped or stole, and its phase: open,
+//! closing, closed or refused (`specs/Hands.antt`).
 //!
 //! - `take` speaks of its own hand and seat. The list before, the blocks that the seat drew, at most four,
 //!   and the block that the hand popped or stole, if any, are together, each as often, the answer, what it
@@ -73,6 +79,9 @@
 //!   and pops until it finds nothing. What the hands pushed and have in their lists is, each as often, what
 //!   they popped or stole, and what is left (`AreLeft`). So a block that was pushed was got by one hand, once,
 //!   or is left.
+//! - `close` pushes as many marks as there are workers. All stealers together get fewer. So `rest` finds one,
+//!   and all blocks of the deque were given out before it. Where all hands are closed with empty lists, nothing
+//!   is left.
 //!
 //! In which order `take` looks for a block, and that the other hands are asked, is tested.
 //!
@@ -101,6 +110,8 @@
 //! ```text
 //! own.take(&board, &mut first)            // Some(0)
 //! other.take(&board, &mut second)         // Some(4), then 5, 6, 7, 1, 2, 3, and None
+//! own.close()                             // true
+//! own.rest()                              // None
 //! ```
 #![tactic(auto)]
 
@@ -113,7 +124,7 @@ mod rule;
 mod view;
 
 pub use board::{Board, Seat};
-pub use deque::{Deal, Port};
+pub use deque::{Deal, Held, Phase, Port};
 pub use hand::Hand;
-pub use meeting::{blocks_left, hands};
+pub use meeting::{are_refused, blocks_left, hands};
 pub use view::SeatStep;

@@ -1,7 +1,7 @@
 //! How the hands of a run meet, and what is left in them when they are back.
 
-ghost use Rattle.std.specs.Prelude.{◌≡◌, ◌<◌, ◌-◌, ◌++◌, length, map, take, drop, All, IfOk, OnOk};
-ghost use Rattle.shares.specs.Hands.{AreLeft, AreTogether, IsEmptyHand, AreOthers};
+ghost use Rattle.std.specs.Prelude.{◌≡◌, ◌<◌, ◌-◌, ◌++◌, [], length, map, take, drop, All, IfOk, OnOk};
+ghost use Rattle.shares.specs.Hands.{AreLeft, AreTogether, IsEmptyHand, IsShut, AreOthers, some_refused};
 ghost use Rattle.shares.specs.Meeting.{empty_deque, new_other, with_less, stacked, merged, AreApart, AreWhole, AddsAllLeft};
 
 use crate::deque::Deal;
@@ -143,10 +143,11 @@ fn drain_all<H: Deal>(deques: Vec<Deque<H>>, left: &mut Vec<u32>) -> Result<(), 
 }
 
 /// The blocks that are left in the hands of a run: those in their lists and those in their deques. With
-/// all hands back, nobody else can have one of them.
+/// all hands back, nobody else can have one of them. Where all are closed, none is left.
 pub fn blocks_left<H: Deal>(alloc: Global, hands: Vec<Hand<H>>) -> Result<Vec<u32>, AllocError>
     requires together { AreTogether H.workers (map (λ h. h.place) hands.items) }
     ensures left { IfOk result (λ left. AreLeft hands.items left.items) }
+    ensures closed { IfOk result (λ left. All IsShut hands.items → left.items ≡ []) }
     ensures below { IfOk result (λ left. All (λ b. b < H.blocks) left.items) }
 {
     let Apart {
@@ -157,4 +158,16 @@ pub fn blocks_left<H: Deal>(alloc: Global, hands: Vec<Hand<H>>) -> Result<Vec<u3
     take_all_back(&mut deques, others);
     drain_all(deques, &mut left)?;
     Ok(left)
+}
+
+/// Whether the push of a closing mark was refused to one of those hands.
+pub fn are_refused<H: Deal>(hands: &[Hand<H>]) -> bool
+    ensures { result ≡ some_refused hands.now }
+{
+    for hand in hands {
+        if hand.is_refused() {
+            return true;
+        }
+    }
+    false
 }

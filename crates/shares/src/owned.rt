@@ -1,11 +1,11 @@
 //! A worker's deque of blocks with its owner's port, and the stealer of another worker's deque.
 
-ghost use Rattle.std.specs.Prelude.{◌≡◌, ◌<◌, ◌+◌, ◌-◌, ◌++◌, ◌∷◌, [], length, IfOk, IfErr, OnOk, IfSome, IfNone};
+ghost use Rattle.std.specs.Prelude.{◌≡◌, ◌<◌, ◌≤◌, ◌+◌, ◌-◌, ◌++◌, ◌∷◌, [], true, false, length, IfOk, IfErr, OnOk, IfSome, IfNone};
 ghost use Rattle.crossbeam_deque.specs.Handles.{IsPassOf, stealer_deque};
-ghost use Rattle.shares.specs.Owned.{deque_value, other_value, AddsLeft};
+ghost use Rattle.shares.specs.Owned.{deque_value, other_value, with_got, with_marks, AddsLeft};
 ghost use Rattle.shares.specs.Deques.{port, IsAllGot};
 
-use crate::deque::{Deal, Dealt, Drain, GivePart, Port, Push, TakeOut, TakePart};
+use crate::deque::{Deal, Dealt, Drain, GivePart, Held, Pop, Port, Push, TakeOut, TakePart};
 use crossbeam_deque::{Pass, Steal, Stealer, Worker};
 use std::alloc::{AllocError, Global};
 use std::marker::Model;
@@ -16,7 +16,7 @@ const ROOM: usize = 4;
 /// A worker's own deque, with the port by which it pushes and pops.
 #[derive(Drop)]
 pub(crate) struct Deque<H: Deal> {
-    owner: Worker<u32, Global, Port, Dealt<H>>,
+    owner: Worker<Held, Global, Port, Dealt<H>>,
 }
 
 impl<H: Deal> Model for Deque<H> {
@@ -31,38 +31,49 @@ impl<H: Deal> Model for Deque<H> {
     ghost invariant = { λ d. (worker_flavor d.owner ≡ 0) × (worker_port d.owner ≡ 0) × (0 < (worker_view d.owner).parts) };
 }
 
-/// The stealer of another worker's deque, with the port by which it steals.
+/// The stealer of another worker's deque, with the port by which it steals. Once it got a closing mark it asks
+/// that deque no more.
 #[derive(Drop)]
 pub(crate) struct Other<H: Deal> {
-    thief: Stealer<u32, Global, Port, Dealt<H>>,
-    pass: Pass<u32, Port>,
+    thief: Stealer<Held, Global, Port, Dealt<H>>,
+    pass: Pass<Held, Port>,
+    over: bool,
     ghost fits: { IsPassOf (stealer_deque thief) pass },
 }
 
 impl<H: Deal> Model for Other<H> {
-    ghost use Rattle.std.specs.Prelude.{◌≡◌};
+    ghost use Rattle.std.specs.Prelude.{◌≡◌, false};
     ghost use Rattle.crossbeam_deque.specs.Handles.{stealer_deque};
     ghost use Rattle.shares.specs.Owned.{OtherValue, other_value};
 
     ghost Value = { OtherValue };
 
-    ghost view = { λ o. other_value (stealer_deque o.thief) o.pass.me.view.client.got };
+    ghost view = { λ o. other_value (stealer_deque o.thief) o.pass.me.view.client.got o.pass.me.view.client.marks_got };
 
-    ghost invariant = { λ o. o.pass.me.view.client.parts ≡ 1 };
+    ghost invariant = { λ o. (o.pass.me.view.client.parts ≡ 1) × (o.over ≡ false → o.pass.me.view.client.marks_got ≡ 0) };
 }
 
 impl<H: Deal> Other<H> {
-    /// The block at the front of the other's deque. One that another worker takes at the same time counts
-    /// as nothing found.
+    /// The block at the front of the other's deque. A closing mark counts as nothing found, and so does a
+    /// block that another worker takes at the same time.
     pub(crate) fn steal(&mut self) -> Option<u32>
-        ensures none { IfNone result (self.new ≡ self.old) }
-        ensures some { IfSome result (λ block. self.new ≡ other_value self.old.name (self.old.got ++ block ∷ [])) }
+        ensures name { self.new.name ≡ self.old.name }
+        ensures none { IfNone result (self.new.got ≡ self.old.got) }
+        ensures some { IfSome result (λ block. self.new.got ≡ self.old.got ++ block ∷ []) }
         ensures below { IfSome result (λ block. block < H.blocks) }
     {
-        match self.thief.steal_as::<TakeOut<H>>(&mut self.pass) {
-            Steal::Success(block) => Some(block),
-            Steal::Empty => None,
-            Steal::Retry => None,
+        if self.over {
+            return None;
+        }
+        let Steal::Success(held) = self.thief.steal_as::<TakeOut<H>>(&mut self.pass) else {
+            return None;
+        };
+        match held {
+            Held::Block(stolen) => Some(stolen),
+            Held::Mark => {
+                self.over = true;
+                None
+            }
         }
     }
 }
@@ -71,7 +82,7 @@ impl<H: Deal> Deque<H> {
     /// An empty deque, whose owner has all parts.
     pub(crate) fn new(alloc: Global) -> Result<Deque<H>, AllocError>
         requires some { 0 < H.workers }
-        ensures { IfOk result (λ deque. deque ≡ deque_value deque.name (port H.workers [] [])) }
+        ensures { IfOk result (λ deque. deque ≡ deque_value deque.name (port H.workers [] [] 0 0)) }
     {
         Ok(Deque {
             owner: Worker::fifo_as(alloc, ROOM)?,
@@ -81,55 +92,117 @@ impl<H: Deal> Deque<H> {
     /// A stealer of the deque, which gets one part.
     pub(crate) fn other(&mut self) -> Result<Other<H>, AllocError>
         requires parts { 1 < self.old.parts }
-        ensures gives { OnOk result (self.new ≡ deque_value self.old.name (port (self.old.parts - 1) self.old.pushed self.old.got)) }
-        ensures other { IfOk result (λ other. other ≡ other_value self.old.name []) }
+        ensures gives { OnOk result (self.new ≡ deque_value self.old.name (port (self.old.parts - 1) self.old.pushed self.old.got self.old.marks_pushed self.old.marks_got)) }
+        ensures other { IfOk result (λ other. other ≡ other_value self.old.name [] 0) }
     {
         let thief = self.owner.stealer()?;
         let pass = self.owner.another::<GivePart>();
-        Ok(Other { thief, pass })
+        Ok(Other {
+            thief,
+            pass,
+            over: false,
+        })
     }
 
     /// Takes a stealer of the deque back, with its part and what it knows.
     pub(crate) fn take_back(&mut self, other: Other<H>)
         requires name { other.name ≡ self.old.name }
-        ensures { self.new ≡ deque_value self.old.name (port (self.old.parts + 1) self.old.pushed (self.old.got ++ other.got)) }
+        ensures { self.new ≡ deque_value self.old.name (port (self.old.parts + 1) self.old.pushed (self.old.got ++ other.got) self.old.marks_pushed (self.old.marks_got + other.marks_got)) }
     {
-        let Other { thief: _, pass } = other;
+        let Other {
+            thief: _,
+            pass,
+            over: _,
+        } = other;
         self.owner.absorb::<TakePart>(pass);
     }
 
     /// Pushes a block at the back, or gives it back where the deque has no place for it.
     pub(crate) fn push(&mut self, block: u32) -> Result<(), u32>
         requires block { block < H.blocks }
-        ensures pushed { OnOk result (self.new ≡ deque_value self.old.name (port self.old.parts (self.old.pushed ++ block ∷ []) self.old.got)) }
+        requires unmarked { self.old.marks_pushed ≡ 0 }
+        ensures pushed { OnOk result (self.new ≡ deque_value self.old.name (port self.old.parts (self.old.pushed ++ block ∷ []) self.old.got self.old.marks_pushed self.old.marks_got)) }
         ensures refused { IfErr result (λ back. (back ≡ block) × (self.new ≡ self.old)) }
     {
-        self.owner.push_as::<Push>(block)
+        match self.owner.push_as::<Push>(Held::Block(block)) {
+            Ok(()) => Ok(()),
+            Err(_held) => Err(block),
+        }
+    }
+
+    /// Pushes a closing mark at the back. It tells whether the deque had a place for it.
+    fn push_mark(&mut self) -> bool
+        ensures pushed { result ≡ true → self.new ≡ with_marks self.old (self.old.marks_pushed + 1) self.old.marks_got }
+        ensures refused { result ≡ false → self.new ≡ self.old }
+    {
+        self.owner.push_as::<Push>(Held::Mark).is_ok()
+    }
+
+    /// Pushes so many closing marks. It tells whether the deque had a place for all of them.
+    pub(crate) fn push_marks(&mut self, marks: u8) -> bool
+        ensures same { self.new ≡ with_marks self.old self.new.marks_pushed self.old.marks_got }
+        ensures all { result ≡ true → self.new.marks_pushed ≡ self.old.marks_pushed + marks }
+    {
+        for _mark in 0..marks {
+            if !self.push_mark() {
+                return false;
+            }
+        }
+        true
     }
 
     /// The block at the front.
     pub(crate) fn pop(&mut self) -> Option<u32>
+        requires unmarked { self.old.marks_pushed ≡ 0 }
         ensures none { IfNone result (self.new ≡ self.old) }
-        ensures some { IfSome result (λ block. self.new ≡ deque_value self.old.name (port self.old.parts self.old.pushed (self.old.got ++ block ∷ []))) }
+        ensures some { IfSome result (λ block. self.new ≡ with_got self.old (block ∷ [])) }
         ensures below { IfSome result (λ block. block < H.blocks) }
     {
-        self.owner.pop_as::<TakeOut<H>>()
+        let Some(held) = self.owner.pop_as::<Pop<H>>() else {
+            return None;
+        };
+        match held {
+            Held::Block(block) => Some(block),
+            Held::Mark => unreachable!(),
+        }
+    }
+
+    /// The block at the front, or `None` where a closing mark stands there. There is one.
+    pub(crate) fn pop_to_mark(&mut self) -> Option<u32>
+        requires closing { (H.workers ≤ self.old.marks_pushed) × (self.old.marks_got ≡ 0) }
+        ensures none { IfNone result (self.new ≡ with_marks self.old self.old.marks_pushed 1) }
+        ensures some { IfSome result (λ block. (self.new ≡ with_got self.old (block ∷ [])) × (length self.old.got < length self.old.pushed)) }
+        ensures below { IfSome result (λ block. block < H.blocks) }
+    {
+        let Some(held) = self.owner.pop_as::<Pop<H>>() else {
+            unreachable!()
+        };
+        match held {
+            Held::Block(block) => Some(block),
+            Held::Mark => None,
+        }
     }
 
     /// The next block that is left in the deque. It has every part, so nobody else can have it.
     fn next_left(&mut self) -> Option<u32>
         requires parts { self.old.parts ≡ H.workers }
-        ensures none { IfNone result ((self.new ≡ self.old) × IsAllGot self.old.pushed self.old.got) }
-        ensures some { IfSome result (λ block. (self.new ≡ deque_value self.old.name (port self.old.parts self.old.pushed (self.old.got ++ block ∷ []))) × (length self.old.got < length self.old.pushed)) }
+        ensures none { IfNone result (IsAllGot self.old.pushed self.old.got) }
+        ensures some { IfSome result (λ block. (self.new ≡ with_got self.old (block ∷ [])) × (length self.old.got < length self.old.pushed) × (self.old.marks_got ≡ 0)) }
         ensures below { IfSome result (λ block. block < H.blocks) }
     {
-        self.owner.pop_as::<Drain<H>>()
+        let Some(held) = self.owner.pop_as::<Drain<H>>() else {
+            return None;
+        };
+        match held {
+            Held::Block(block) => Some(block),
+            Held::Mark => None,
+        }
     }
 
     /// Appends the blocks that are left in the deque. It has every part.
     pub(crate) fn drain(&mut self, left: &mut Vec<u32>) -> Result<(), AllocError>
         requires parts { self.old.parts ≡ H.workers }
-        ensures { OnOk result (AddsLeft H.blocks self.old.pushed self.old.got left.old.items left.new.items) }
+        ensures { OnOk result (AddsLeft H.blocks self.old left.old.items left.new.items) }
     {
         while let Some(block) = self.next_left() {
             left.push(block)?;

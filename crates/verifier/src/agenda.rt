@@ -2,8 +2,10 @@
 //!
 //! Nothing that is proved rests on it: a table that is found with it is tested.
 
+use crate::news::News;
 use crate::order::Order;
 use crate::parts::{Parts, looked_at};
+use crate::scene::Scene;
 use crate::worklist::Worklist;
 use bpf_isa::instr::Instr;
 use bpf_isa::program::Program;
@@ -13,12 +15,12 @@ use std::alloc::{AllocError, Global};
 /// loops share a body it isn't gone through for each of them alone.
 const TURN: u64 = 1 << 21;
 
-/// Which slots learned something, by their places in the order, and of what parts each is still to tell.
+/// Which slots have something to pass on at once, by their places in the order, and what each is still to tell.
 #[derive(Drop)]
 pub(crate) struct Agenda {
     order: Order,
     places: Worklist,
-    parts: Vec<Parts>,
+    news: News,
     /// The slots that passed something on to the next slot, and those that did to a target.
     nexts: Vec<bool>,
     targets: Vec<bool>,
@@ -55,13 +57,10 @@ fn none_passed(alloc: Global, slots: usize) -> Result<Vec<bool>, AllocError> {
 impl Agenda {
     /// The agenda of a program, on which no slot stands.
     pub(crate) fn new(alloc: Global, program: &Program) -> Result<Agenda, AllocError> {
-        let order = Order::of(alloc, program)?;
-        let mut parts = Vec::new(alloc);
-        parts.resize(program.slots(), Parts::NONE)?;
         Ok(Agenda {
-            order,
+            order: Order::of(alloc, program)?,
             places: Worklist::new(),
-            parts,
+            news: News::new(alloc, program.slots())?,
             nexts: none_passed(alloc, program.slots())?,
             targets: none_passed(alloc, program.slots())?,
             steps: 0,
@@ -75,15 +74,13 @@ impl Agenda {
     /// A slot learned something of these parts.
     pub(crate) fn put(&mut self, slot: usize, learned: Parts) {
         let place = self.order.place(slot);
-        if slot < self.parts.len() && place < 4096 {
-            self.parts[slot] = self.parts[slot].and(learned);
+        if self.news.put(slot, learned) && place < 4096 {
             self.places.put(place);
         }
     }
 
     /// Takes the first place that is on the agenda; in each other turn the next one, if there is one behind the last.
     fn take_place(&mut self) -> Option<usize> {
-        self.steps = self.steps.wrapping_add(1);
         if self.steps % TURN < TURN / 2 || 4096 <= self.place {
             return self.places.take();
         }
@@ -93,16 +90,48 @@ impl Agenda {
         }
     }
 
-    /// Takes a slot from the agenda. It is to tell of the parts of which it learned something.
-    pub(crate) fn take(&mut self) -> Option<usize> {
-        self.place = self.take_place()?;
-        let slot = self.order.slot(self.place);
-        if self.parts.len() <= slot {
-            return None;
+    /// Puts each slot on the agenda that has something to pass on at once, and takes off the others.
+    fn put_all(&mut self) {
+        self.places = Worklist::new();
+        for slot in 0..self.news.slots() {
+            let place = self.order.place(slot);
+            if self.news.is_urgent(slot) && place < 4096 {
+                self.places.put(place);
+            }
         }
+    }
+
+    /// Says anew what is passed on at once, where it is time.
+    #[inline(never)]
+    fn turn_over(&mut self, scene: &Scene) {
+        self.news.turn_over(scene, &self.order, self.steps);
+        self.put_all();
+    }
+
+    /// Takes a place from the agenda, or where none is left there, of what waited.
+    fn take_some(&mut self, scene: &Scene) -> Option<usize> {
+        self.steps = self.steps.wrapping_add(1);
+        if self.news.is_due(self.steps) {
+            self.turn_over(scene);
+        }
+        match self.take_place() {
+            Some(place) => Some(place),
+            None => {
+                if !self.news.has_waiting() {
+                    return None;
+                }
+                self.turn_over(scene);
+                self.take_place()
+            }
+        }
+    }
+
+    /// Takes a slot from the agenda. It is to tell of the parts of which it learned something.
+    pub(crate) fn take(&mut self, scene: &Scene) -> Option<usize> {
+        self.place = self.take_some(scene)?;
+        let slot = self.order.slot(self.place);
         self.turn = slot;
-        self.told = self.parts[slot];
-        self.parts[slot] = Parts::NONE;
+        self.told = self.news.take(slot)?;
         Some(slot)
     }
 
@@ -121,6 +150,14 @@ impl Agenda {
     pub(crate) fn is_seen_by(&mut self, instr: &Instr) -> bool {
         self.is_seen = self.told.meets(looked_at(instr));
         self.is_seen
+    }
+
+    /// Whether the function that an instruction calls learns nothing: only arguments pass to it, and it was told the others.
+    pub(crate) fn keeps_from_target(&self, instr: &Instr) -> bool {
+        match instr {
+            Instr::CallLocal { .. } => !self.is_seen && self.has_told_target(),
+            _ => false,
+        }
     }
 
     /// Of what parts the slot tells, where these changed.

@@ -8,8 +8,9 @@
 //! here: its caller tests it.
 //!
 //! Only those parts of what a slot knows are joined that changed since it passed them on last, or that its instruction
-//! makes of these. Where it looks at none of them its rules aren't tested again. Where it changes little, they go from
-//! slot to slot one by one (`way`). Else, and where nothing is known yet, the state is copied into one room for all
+//! makes of these. In a long search the parts on which no head hangs wait for many laps (`news`). The rules of a slot
+//! are tested again where its instruction looks at one of the parts that are passed on. Where it changes little, they go
+//! from slot to slot one by one (`way`). Else, and where nothing is known yet, the state is copied into one room for all
 //! steps, and led along the edge in place. No list of what is passed on is made.
 
 ghost use Rattle.std.specs.Prelude.{◌≡◌, ◌<◌, OnOk, IfOk, IfErr, IfSome, Some, length, [], ◌∷◌};
@@ -242,7 +243,7 @@ fn make_step(
     ensures sought { StaysSought scene.now.program.now scene.now.sectors table.old table.new }
     ensures broken { IfErr result (λ f. rule_at scene.now.program.now table.new f.slot ≡ Some f.code) }
 {
-    let Some(slot) = agenda.take() else {
+    let Some(slot) = agenda.take(scene) else {
         return Ok(false);
     };
     let Some(instr) = scene.program.at(slot) else {
@@ -253,6 +254,9 @@ fn make_step(
         return Err(refused(cause, slot));
     }
     pass_next(scene, table, agenda, slot, &instr, room);
+    if agenda.keeps_from_target(&instr) {
+        return Ok(true);
+    }
     pass_target(scene, table, agenda, slot, &instr, room);
     Ok(true)
 }

@@ -56,6 +56,22 @@ impl Parts {
         }
     }
 
+    /// The parts that are in both.
+    pub(crate) fn common(self, other: Parts) -> Parts {
+        Parts {
+            values: self.values & other.values,
+            groups: self.groups & other.groups,
+        }
+    }
+
+    /// The parts that aren't in the other.
+    pub(crate) fn without(self, other: Parts) -> Parts {
+        Parts {
+            values: self.values & !other.values,
+            groups: self.groups & !other.groups,
+        }
+    }
+
     /// Whether a part is in both.
     pub(crate) fn meets(self, other: Parts) -> bool {
         self.values & other.values != 0 || self.groups & other.groups != 0
@@ -202,5 +218,18 @@ pub(crate) fn changed_by(instr: &Instr) -> Parts {
             stored(*base, *offset)
         }
         Instr::CallHelper { .. } | Instr::CallLocal { .. } => Parts::ALL,
+    }
+}
+
+/// The parts in front of an instruction on which these parts behind it hang.
+pub(crate) fn needed_before(instr: &Instr, behind: Parts) -> Parts {
+    let changed = changed_by(instr);
+    match instr {
+        Instr::CallHelper { .. } | Instr::CallLocal { .. } => behind,
+        _ => if behind.meets(changed) {
+            behind.without(changed).and(looked_at(instr))
+        } else {
+            behind
+        },
     }
 }

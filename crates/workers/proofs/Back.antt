@@ -1,5 +1,5 @@
 -- When all workers are back.
-use Rattle.std.proofs.Common.{ℕ, zero, suc, ◌≡◌, ◌+◌, ◌<◌, ◌≤◌, Bool, true, false, List, [], ◌∷◌, ◌++◌, length, map, flat_map, All, Result, Ok, Err, IfOk, is_ok, Some, slice_get, refl, sym, ◌∙◌, ap, subst, arith, append-nil}
+use Rattle.std.proofs.Common.{ℕ, zero, suc, ◌≡◌, ◌+◌, ◌<◌, ◌≤◌, Bool, true, false, ◌||◌, ⊎_elim, List, [], ◌∷◌, ◌++◌, length, map, flat_map, All, Result, Ok, Err, IfOk, is_ok, Some, slice_get, refl, sym, ◌∙◌, ap, subst, arith, append-nil}
 use Rattle.std.proofs.lemmas.Grind.{flat_map-append}
 use mathlib.Core.List.{reverse, reverse-append}
 use lib.ListN.{length-reverse}
@@ -7,14 +7,15 @@ use Rattle.std.proofs.lemmas.List.{length-map, map-append}
 use Rattle.shares.specs.declared.view.SeatStep.{SeatStep}
 use Rattle.shares.specs.Steps.{total, late_draws, drew_late}
 use Rattle.shares.specs.Seats.{BoardName, BoardValue, SeatValue, HasEnded, all_steps, all_taken, taken, times}
-use Rattle.shares.specs.Hands.{HandPlace, HandValue, IsEmptyHand, AreLeft}
+use Rattle.shares.specs.declared.deque.Phase.TheVariants.{Refused}
+use Rattle.shares.specs.Hands.{HandPlace, HandValue, IsEmptyHand, IsShut, AreLeft, is_refused, some_refused}
 use Rattle.shares.proofs.Lists.{total_append}
 use Rattle.shares.proofs.Seats.{times_append}
 use Rattle.workers.specs.declared.crew.Done.{Done}
 use Rattle.workers.specs.declared.crew.Job.{Job}
 use Rattle.workers.specs.Failing.{Subject}
 use Rattle.workers.specs.Pieces.{PieceValue, block_count, pieces_at}
-use Rattle.workers.specs.Taking.{HandsOver, HasTaken}
+use Rattle.workers.specs.Taking.{HandsOver, HasTaken, IsSettled}
 use Rattle.workers.specs.Crew.{HasDone, IsDone, AreDone, items_or_none, pieces_of, AreParted, AreBack}
 use Rattle.workers.proofs.HandingOver.{nothing_yet, both}
 use Rattle.workers.proofs.Runs.{count_blocks}
@@ -25,6 +26,7 @@ module _ {X : Type 0} where
     pub handed : HandsOver s (all_steps (map (λ (d : Done X). d.seat) done)) (flat_map pieces_of done)
     pub ended : length done ≤ late_draws board.blocks (all_steps (map (λ (d : Done X). d.seat) done))
     pub own : All (λ (seat : SeatValue). seat.board ≡ board) (map (λ (d : Done X). d.seat) done)
+    pub settled : All IsSettled (map (λ (d : Done X). d.hand) done)
     pub together : (x : ℕ) → pieces_at (flat_map pieces_of done) x + total (λ (h : HandValue). times x h.pushed) (map (λ (d : Done X). d.hand) done) + total (λ (h : HandValue). times x h.list) (map (λ (d : Done X). d.hand) done)
         ≡ times x (all_taken (map (λ (d : Done X). d.seat) done)) + total (λ (h : HandValue). times x h.got) (map (λ (d : Done X). d.hand) done)
 
@@ -58,17 +60,19 @@ pieces_both ps qs x =
     omega (arith, count_blocks (ps ++ qs) x, count_blocks ps x, count_blocks qs x, ap (times x) both, times_append x (blocks ps) (blocks qs))
 
 all_hand : {X : Type 0} (s : Subject) (board : BoardName) (done : List (Done X)) → All (HasDone s board) done → All (λ (d : Done X). is_ok d.pieces ≡ true) done → AllHand s board done
-all_hand s board [] are ok = record { handed = nothing_yet s; ended = omega arith; own = λ i d lt. absurd (omega (arith, lt)); together = λ x. refl }
+all_hand s board [] are ok = record { handed = nothing_yet s; ended = omega arith; own = λ i d lt. absurd (omega (arith, lt)); settled = λ i d lt. absurd (omega (arith, lt)); together = λ x. refl }
 all_hand {X} s board (d ∷ done) are ok =
     let first = are 0 d (omega arith) in
     let rest = all_hand s board done (all_tail (HasDone s board) d done are) (all_tail (λ (e : Done X). is_ok e.pieces ≡ true) d done ok) in
-    let own : HasTaken s board d.seat d.hand [] (pieces_of d) × HasEnded d.seat =
-    one_ok d.pieces (λ pieces. HasTaken s board d.seat d.hand [] pieces.items × HasEnded d.seat) (λ pieces. pieces.items) (λ ps. HasTaken s board d.seat d.hand [] ps × HasEnded d.seat) (ok 0 d (omega arith)) first (λ pieces h. h) in
+    let own : HasTaken s board d.seat d.hand [] (pieces_of d) × HasEnded d.seat × IsSettled d.hand =
+    one_ok d.pieces (λ pieces. HasTaken s board d.seat d.hand [] pieces.items × HasEnded d.seat × IsSettled d.hand) (λ pieces. pieces.items)
+    (λ ps. HasTaken s board d.seat d.hand [] ps × HasEnded d.seat × IsSettled d.hand) (ok 0 d (omega arith)) first (λ pieces h. h) in
     let late : late_draws d.seat.board.blocks d.seat.steps ≡ late_draws board.blocks d.seat.steps = ap (λ (b : BoardName). late_draws b.blocks d.seat.steps) own.0.board_is in
     record {
       handed = both s d.seat.steps _ (pieces_of d) _ own.0.handed rest.handed;
       ended = omega (arith, own.1, late, rest.ended, total_append (drew_late board.blocks) d.seat.steps (all_steps (map (λ (e : Done X). e.seat) done)));
       own = all_cons (λ (seat : SeatValue). seat.board ≡ board) d.seat _ own.0.board_is rest.own;
+      settled = all_cons IsSettled d.hand _ own.2 rest.settled;
       together = λ x. omega (arith, own.0.together x, rest.together x, pieces_both (pieces_of d) (flat_map pieces_of done) x, times_append x (taken d.seat) (all_taken (map (λ (e : Done X). e.seat) done)));
     }
 
@@ -78,6 +82,29 @@ turned_one h hs = reverse-append (h ∷ []) hs
 total_reverse : (f : HandValue → ℕ) (hs : List HandValue) → total f (reverse hs) ≡ total f hs
 total_reverse f [] = refl
 total_reverse f (h ∷ hs) = rw (turned_one h hs) (omega (arith, total_append f (reverse hs) (h ∷ []), total_reverse f hs))
+
+-- where the push of a closing mark was refused to none, all hands that are back are shut
+
+either : (a b : Bool) → a || b ≡ false → (a ≡ false) × (b ≡ false)
+either false b e = (refl, e)
+either true b e = absurd (let bad : true ≡ false = e in cc)
+
+where_none_refused : (hs : List HandValue) → All IsSettled hs → some_refused hs ≡ false → All IsShut hs
+where_none_refused [] h e = λ i d lt. absurd (omega (arith, lt))
+where_none_refused (x ∷ hs) h e =
+    let parts = either (is_refused x.phase) (some_refused hs) e in
+    let own : IsShut x = ⊎_elim (λ (shut : IsShut x). shut) (λ (refused : x.phase ≡ Refused). absurd (let bad : false ≡ true = sym parts.0 ∙ ap is_refused refused in cc)) (h 0 x (omega arith)) in
+    all_cons IsShut x hs own (where_none_refused hs (all_tail IsSettled x hs h) parts.1)
+
+all_reverse : (hs : List HandValue) → All IsSettled hs → All IsSettled (reverse hs)
+all_reverse [] h = h
+all_reverse (x ∷ hs) h = subst (All IsSettled) (sym (turned_one x hs)) (all_snoc IsSettled (reverse hs) x (all_reverse hs (all_tail IsSettled x hs h)) (h 0 x (omega arith)))
+
+pub hands_shut : {X : Type 0} (s : Subject) (board : BoardName) (places : List HandPlace) (done : List (Done X)) (seats : List SeatValue) (hands turned : List HandValue) (pieces : List PieceValue)
+    → AreDone s board places done → AreParted done seats hands pieces → turned ≡ reverse hands → some_refused turned ≡ false → All IsShut turned
+hands_shut {X} s board places done seats hands turned pieces are parts is none =
+    let settled = subst (All IsSettled) (sym parts.hands_are) (all_hand s board done are.each parts.all).settled in
+    where_none_refused turned (subst (All IsSettled) (sym is) (all_reverse hands settled)) none
 
 -- the seats and the pieces of workers who are all done, and what is left in their hands
 pub all_back : {X : Type 0} (s : Subject) (board : BoardValue) (places : List HandPlace) (done : List (Done X)) (seats : List SeatValue) (hands : List HandValue) (pieces : List PieceValue) (left : List ℕ)

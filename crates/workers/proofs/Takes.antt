@@ -1,15 +1,17 @@
 -- What a worker has of the blocks that it took.
-use Rattle.std.proofs.Common.{ℕ, ◌≡◌, ◌+◌, List, [], ◌∷◌, ◌++◌, map, refl, sym, ◌∙◌, ap, subst, arith}
+use Rattle.std.proofs.Common.{ℕ, ◌≡◌, ◌+◌, ◌<◌, List, [], ◌∷◌, ◌++◌, map, refl, sym, ◌∙◌, ap, subst, arith}
 use Rattle.std.proofs.lemmas.List.{map-append}
 use Rattle.shares.specs.declared.view.SeatStep.{SeatStep}
 use Rattle.shares.specs.declared.view.SeatStep.TheVariants.{Drew}
 use Rattle.shares.specs.Seats.{BoardName, SeatValue, DrawsNone, taken, times}
-use Rattle.shares.specs.Hands.{HandValue, IsEmptyHand, IsTake}
+use Rattle.shares.specs.declared.deque.Phase.{Phase}
+use Rattle.shares.specs.Hands.{HandValue, IsEmptyHand, IsTake, GivesOwn, in_phase}
+use Rattle.shares.proofs.Takes.{take_own}
 use Rattle.shares.proofs.Seats.{times_append}
 use Rattle.workers.specs.Failing.{Subject}
-use Rattle.workers.specs.Pieces.{PieceValue, pieces_at}
+use Rattle.workers.specs.Pieces.{PieceValue, block_count, piece_of, pieces_at}
 use Rattle.workers.specs.Taking.{AddsPiece, HandsOver, HasTaken}
-use Rattle.workers.proofs.HandingOver.{nothing_yet, keeps_posts, nothing_keeps, drew_keeps, draws_none_keeps}
+use Rattle.workers.proofs.HandingOver.{nothing_yet, full_more, keeps_posts, nothing_keeps, drew_keeps, draws_none_keeps}
 use Rattle.workers.proofs.Runs.{count_blocks}
 
 -- the blocks of pieces, with one more piece
@@ -71,3 +73,19 @@ judges s board seat after hand block ps p h same e adds = record {
   handed = adds.adds ps h.handed;
   together = λ x. omega (arith, h.together x, one_more ps p x, ap (times x) e, ap (λ (b : ℕ). times x (b ∷ [])) adds.block_is);
 }
+
+-- a hand that closes has what it had
+pub rephased : (s : Subject) (board : BoardName) (seat : SeatValue) (hand after : HandValue) (phase : Phase) (ps : List PieceValue) → after ≡ in_phase hand phase → HasTaken s board seat hand [] ps → HasTaken s board seat after [] ps
+rephased s board seat hand after phase ps is h = record {
+  board_is = h.board_is;
+  handed = h.handed;
+  together = λ x. omega (arith, h.together x, ap (λ (v : HandValue). times x v.pushed) is, ap (λ (v : HandValue). times x v.list) is, ap (λ (v : HandValue). times x v.got) is);
+}
+
+-- a block that a closing hand kept is judged
+pub judges_kept : (s : Subject) (board : BoardName) (seat : SeatValue) (hand rest : HandValue) (block : ℕ) (ps : List PieceValue) (p : PieceValue) → GivesOwn hand block rest → p ≡ piece_of s block → block < block_count s
+    → HasTaken s board seat hand [] ps → HasTaken s board seat rest [] (ps ++ p ∷ [])
+judges_kept s board seat hand rest block ps p own is lower h =
+    let adds : AddsPiece s block seat.steps seat.steps (piece_of s block) = record { block_is = refl; adds = λ pieces handed. full_more s block seat.steps pieces handed lower } in
+    subst (λ (q : PieceValue). HasTaken s board seat rest [] (ps ++ q ∷ [])) (sym is)
+    (judges s board seat seat rest block ps (piece_of s block) (takes s board seat seat hand rest (block ∷ []) ps h refl (take_own hand rest seat block own)) refl refl adds)

@@ -6,11 +6,11 @@ use Rattle.shares.specs.Hands.{HandPlace, HandValue}
 use Rattle.workers.specs.declared.crew.Done.{Done}
 use Rattle.workers.specs.Failing.{Subject}
 use Rattle.workers.specs.Pieces.{PieceValue, block_count, pieces_at}
-use Rattle.workers.specs.Taking.{HandsOver, HasTaken}
+use Rattle.workers.specs.Taking.{HandsOver, HasTaken, IsSettled}
 
--- a worker that found memory is back from that board with its pieces, and found no block left
+-- a worker that found memory is back from that board with its pieces, found no block left, and has closed its hand
 abbrev pub HasDone : {X : Type 0} → Subject → BoardName → Done X → Type 0
-HasDone s board d = IfOk d.pieces (λ pieces. HasTaken s board d.seat d.hand [] pieces.items × HasEnded d.seat)
+HasDone s board d = IfOk d.pieces (λ pieces. HasTaken s board d.seat d.hand [] pieces.items × HasEnded d.seat × IsSettled d.hand)
 
 -- it is back with the hand of that place
 abbrev pub IsDone : {X : Type 0} → Subject → BoardName → HandPlace → Done X → Type 0

@@ -1,6 +1,6 @@
 //! The workers of a run, each on a thread of its own.
 
-ghost use Rattle.std.specs.Prelude.{◌≡◌, ◌<◌, ◌≤◌, [], All, length, map, reverse, IfOk};
+ghost use Rattle.std.specs.Prelude.{◌≡◌, ◌<◌, ◌≤◌, [], false, All, length, map, reverse, IfOk};
 ghost use Rattle.shares.specs.Hands.{AreTogether, IsEmptyHand};
 ghost use Rattle.shares.specs.Seats.{BoardName, SeatValue};
 ghost use Rattle.workers.specs.Input.{IsRunOf};
@@ -13,7 +13,7 @@ use crate::input::Input;
 use crate::piece::Piece;
 use crate::taking::pieces_taken;
 use crate::worker::Worker;
-use shares::{Board, Deal, Hand, Seat, blocks_left, hands};
+use shares::{Board, Deal, Hand, Seat, are_refused, blocks_left, hands};
 use std::alloc::{AllocError, Global};
 use std::sync::Wait;
 use std::thread;
@@ -125,14 +125,15 @@ fn all_done<
     )
 }
 
-/// What a run has when all its workers are back: its board, their seats, their pieces, and the blocks that
-/// they left in their hands.
+/// What a run has when all its workers are back: its board, their seats, their pieces, the blocks that they
+/// left in their hands, and whether the push of a closing mark was refused to one of these.
 #[derive(Drop)]
 pub(crate) struct Back {
     pub(crate) board: Board,
     pub(crate) seats: Vec<Seat>,
     pub(crate) pieces: Vec<Piece>,
     pub(crate) left: Vec<u32>,
+    pub(crate) refused: bool,
 }
 
 /// What workers come back with, part by part.
@@ -172,7 +173,8 @@ fn parted<H: Deal>(alloc: Global, done: Vec<Done<H>>) -> Result<Returned<H>, All
     })
 }
 
-/// Sends out so many workers of a run, and waits until all are back.
+/// Sends out so many workers of a run, and waits until all are back. No block is left in their hands, unless
+/// the push of a closing mark was refused.
 ///
 /// # Errors
 ///
@@ -195,7 +197,8 @@ pub(crate) fn crew_back<
     requires blocks { H.blocks ≡ block_count input.now }
     requires workers { H.workers ≡ crew }
     requires crew { (0 < crew) × (crew ≤ 64) }
-    ensures { IfOk result (λ back. AreBack input.now back.board back.seats.items back.pieces.items back.left.items) }
+    ensures back { IfOk result (λ back. AreBack input.now back.board back.seats.items back.pieces.items back.left.items) }
+    ensures none_left { IfOk result (λ back. back.refused ≡ false → back.left.items ≡ []) }
 {
     let (board, seats) = Board::new(alloc, input.block_count(), crew)?;
     let jobs = jobs_of(alloc, seats, hands::<H>(alloc, crew)?)?;
@@ -206,11 +209,13 @@ pub(crate) fn crew_back<
         pieces,
     } = parted(alloc, done)?;
     hands.reverse();
+    let refused = are_refused(hands.as_slice());
     let left = blocks_left(alloc, hands)?;
     Ok(Back {
         board,
         seats,
         pieces,
         left,
+        refused,
     })
 }

@@ -56,9 +56,13 @@ fn all_pieces<'a, J: Run + Send + Sync, G: Gate + Sync, R: Threads + Wait + Sync
         seats,
         pieces,
         left,
+        refused,
     } = back;
     if let Err(refusal) = board.gather(seats) {
         return Err(refusal);
+    }
+    if !refused {
+        return Ok(pieces);
     }
     match with_left(rt, gate, input, shards, pieces, left.as_slice()) {
         Ok(pieces) => Ok(pieces),

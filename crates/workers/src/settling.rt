@@ -15,7 +15,7 @@ use std::sync::Wait;
 use verdict_cache::Run;
 
 /// The piece of a block. The gate is told before and after.
-fn piece_left<'a, J: Run, G: Gate, R: Wait>(
+pub(crate) fn piece_left<'a, J: Run, G: Gate, R: Wait>(
     rt: &R,
     worker: &Worker<'_, 'a, J, G>,
     changes: &mut Changes<'a>,

@@ -2,16 +2,18 @@
 
 ghost use Rattle.std.specs.Prelude.{◌≡◌, ◌≤◌, ◌<◌, [], length, true, IfOk, OnOk, IfSome};
 ghost use Rattle.shares.specs.Steps.{next_seen, finds};
-ghost use Rattle.shares.specs.Hands.{HandValue, IsEmptyHand};
-ghost use Rattle.shares.specs.Seats.{HasEnded, taken};
+ghost use Rattle.shares.specs.declared.deque.Phase.TheVariants.{Open, Closing};
+ghost use Rattle.shares.specs.Hands.{HandValue, IsEmptyHand, IsShut};
+ghost use Rattle.shares.specs.Seats.{BoardName, SeatValue, HasEnded, taken};
 ghost use Rattle.workers.specs.Exploring.{passes_over};
 ghost use Rattle.workers.specs.Least.{least_image};
 ghost use Rattle.workers.specs.Pieces.{block_count, lines_of, piece_of};
-ghost use Rattle.workers.specs.Taking.{KeepsPosts, AddsPiece, HasTaken};
+ghost use Rattle.workers.specs.Taking.{KeepsPosts, AddsPiece, HasTaken, IsSettled};
 
 use crate::gate::Gate;
 use crate::input::Input;
 use crate::piece::Piece;
+use crate::settling::piece_left;
 use crate::worker::Worker;
 use images::Changes;
 use shares::{Board, Deal, Hand, Seat};
@@ -119,6 +121,7 @@ fn take_blocks<'a, J: Run, H: Deal, G: Gate, R: Wait>(
     requires board { seat.old.board ≡ board.now.name }
     requires fresh { (seat.old.steps ≡ []) × IsEmptyHand hand.old }
     ensures place { hand.new.place ≡ hand.old.place }
+    ensures phase { hand.new.phase ≡ Open }
     ensures changes { changes.new ≡ changes.old }
     ensures taken { IfOk result (λ pieces. HasTaken worker.now.input.now board.now.name seat.new hand.new [] pieces.items) }
 {
@@ -145,6 +148,7 @@ fn draw_blocks<'a, J: Run, G: Gate, R: Wait>(
     requires blocks { board.now.name.blocks ≡ block_count worker.now.input.now }
     requires board { seat.old.board ≡ board.now.name }
     requires changes { changes.old ≡ worker.now.input.now.plan.log }
+    ensures changes { changes.new ≡ changes.old }
     ensures taken { OnOk result ((hand : HandValue) → HasTaken worker.now.input.now board.now.name seat.old hand [] pieces.old.items
         → HasTaken worker.now.input.now board.now.name seat.new hand [] pieces.new.items) }
     ensures ended { OnOk result (HasEnded seat.new) }
@@ -156,8 +160,56 @@ fn draw_blocks<'a, J: Run, G: Gate, R: Wait>(
     Ok(())
 }
 
+/// Adds a piece of each block that a closing hand kept, until the hand is closed.
+fn judge_kept<'a, J: Run, H: Deal, G: Gate, R: Wait>(
+    rt: &R,
+    worker: &Worker<'_, 'a, J, G>,
+    changes: &mut Changes<'a>,
+    hand: &mut Hand<H>,
+    pieces: &mut Vec<Piece>,
+) -> Result<(), AllocError>
+    requires blocks { H.blocks ≡ block_count worker.now.input.now }
+    requires changes { changes.old ≡ worker.now.input.now.plan.log }
+    requires phase { hand.old.phase ≡ Closing }
+    ensures place { hand.new.place ≡ hand.old.place }
+    ensures taken { OnOk result ((board : BoardName) (seat : SeatValue) → HasTaken worker.now.input.now board seat hand.old [] pieces.old.items
+        → HasTaken worker.now.input.now board seat hand.new [] pieces.new.items) }
+    ensures shut { OnOk result (IsShut hand.new) }
+{
+    while let Some(block) = hand.rest() {
+        let piece = piece_left(rt, worker, changes, block)?;
+        pieces.push(piece)?;
+    }
+    Ok(())
+}
+
+/// Closes a worker's hand, and adds a piece of each block that it kept. Where the push of a closing mark was
+/// refused to it, these blocks are left in it.
+fn close_hand<'a, J: Run, H: Deal, G: Gate, R: Wait>(
+    rt: &R,
+    worker: &Worker<'_, 'a, J, G>,
+    changes: &mut Changes<'a>,
+    hand: &mut Hand<H>,
+    pieces: &mut Vec<Piece>,
+) -> Result<(), AllocError>
+    requires blocks { H.blocks ≡ block_count worker.now.input.now }
+    requires changes { changes.old ≡ worker.now.input.now.plan.log }
+    requires phase { hand.old.phase ≡ Open }
+    ensures place { hand.new.place ≡ hand.old.place }
+    ensures taken { OnOk result ((board : BoardName) (seat : SeatValue) → HasTaken worker.now.input.now board seat hand.old [] pieces.old.items
+        → HasTaken worker.now.input.now board seat hand.new [] pieces.new.items) }
+    ensures settled { OnOk result (IsSettled hand.new) }
+{
+    if hand.close() {
+        judge_kept(rt, worker, changes, hand, pieces)?;
+        return Ok(());
+    }
+    Ok(())
+}
+
 /// The pieces of the blocks that a worker takes. It takes them by its hand, until the hand finds none. A
-/// hand that gave as many blocks as there are is asked no more: what is left to draw is then drawn alone.
+/// hand that gave as many blocks as there are is asked no more: what is left to draw is then drawn alone. At
+/// the end it closes its hand.
 pub(crate) fn pieces_taken<'a, J: Run, H: Deal, G: Gate, R: Wait>(
     rt: &R,
     worker: &Worker<'_, 'a, J, G>,
@@ -171,9 +223,11 @@ pub(crate) fn pieces_taken<'a, J: Run, H: Deal, G: Gate, R: Wait>(
     ensures place { hand.new.place ≡ hand.old.place }
     ensures pieces { IfOk result (λ pieces. HasTaken worker.now.input.now board.now.name seat.new hand.new [] pieces.items) }
     ensures ended { IfOk result (λ _. HasEnded seat.new) }
+    ensures settled { IfOk result (λ _. IsSettled hand.new) }
 {
     let mut changes = Changes::new(worker.shards.alloc(), worker.input.history());
     let mut pieces = take_blocks(rt, worker, &mut changes, board, seat, hand)?;
     draw_blocks(rt, worker, &mut changes, board, seat, &mut pieces)?;
+    close_hand(rt, worker, &mut changes, hand, &mut pieces)?;
     Ok(pieces)
 }

@@ -1,7 +1,7 @@
 use Rattle.std.proofs.Common.{refl}
 use Rattle.std.proofs.lemmas.Result.{err_from_is_err_and}
 use Rattle.commands.specs.Acting.{for_words, for_settings, for_recording}
-use Rattle.commands.proofs.Acts.{unread_log, unread_base}
+use Rattle.commands.proofs.Acts.{unread_recording}
 use Rattle.commands.proofs.action.act_images.Goals as goal
 
 pub returns-in_err-options-clause-refused : goal.returns-in_err-options-clause-refused
@@ -9,35 +9,28 @@ returns-in_err-options-clause-refused c =
     let p = err_from_is_err_and c.from_residual.result c.from_residual.ensures.1 in
     rw (p.1, p.2) (for_words c.in_err-options.field-0.0 c.in_err-options.ensures)
 
-pub returns-in_err-log-clause-refused : goal.returns-in_err-log-clause-refused
-returns-in_err-log-clause-refused c =
-    let p = err_from_is_err_and c.from_residual-in_err-log.result c.from_residual-in_err-log.ensures.1 in
-    rw (p.1, p.2) (for_settings c.in_ok-options.options c.in_err-log.field-0.0 c.in_ok-options.ensures (unread_log _ _ c.in_err-log.field-0.0 c.in_err-log.ensures))
-
-pub returns-in_err-initial-clause-refused : goal.returns-in_err-initial-clause-refused
-returns-in_err-initial-clause-refused c =
-    let p = err_from_is_err_and c.from_residual-in_err-initial.result c.from_residual-in_err-initial.ensures.1 in
-    rw (p.1, p.2)
-    (for_settings c.in_ok-options.options c.in_err-initial.field-0.0 c.in_ok-options.ensures
-    (unread_base _ _ c.in_err-initial.field-0.0 c.in_err-initial.ensures))
+pub returns-in_err-recording-clause-refused : goal.returns-in_err-recording-clause-refused
+returns-in_err-recording-clause-refused c =
+    let p = err_from_is_err_and c.from_residual-in_err-recording.result c.from_residual-in_err-recording.ensures.1 in
+    rw (p.1, p.2) (for_settings c.in_ok-options.options c.in_err-recording.field-0.0 c.in_ok-options.ensures (unread_recording _ _ _ c.in_err-recording.ensures))
 
 pub returns-in_err-bytes-clause-refused : goal.returns-in_err-bytes-clause-refused
 returns-in_err-bytes-clause-refused c =
     let p = err_from_is_err_and c.from_residual-in_err-bytes.result c.from_residual-in_err-bytes.ensures.1 in
+    let read = c.in_ok-recording.ensures in
     rw (p.1, p.2)
     (for_settings c.in_ok-options.options c.in_err-bytes.field-0.0 c.in_ok-options.ensures
-    (for_recording c.in_ok-log.log.now c.in_ok-initial.initial.now c.in_err-bytes.field-0.0 c.in_ok-log.ensures c.in_ok-initial.ensures
-    c.in_err-bytes.ensures.refused))
+    (for_recording c.in_ok-recording.recording.text c.in_ok-recording.recording.initial c.in_err-bytes.field-0.0 read.read read.based c.in_err-bytes.ensures.refused))
 
 pub returns-clause-answers : goal.returns-clause-answers
 returns-clause-answers c = record {
   settings = c.in_ok-options.options;
   asked = c.in_ok-options.ensures;
   answers = record {
-    held = c.in_ok-log.log.now;
-    initial = c.in_ok-initial.initial.now;
-    read = c.in_ok-log.ensures;
-    based = c.in_ok-initial.ensures;
+    held = c.in_ok-recording.recording.text;
+    initial = c.in_ok-recording.recording.initial;
+    read = c.in_ok-recording.ensures.read;
+    based = c.in_ok-recording.ensures.based;
     is = c.in_ok-bytes.ensures.told;
     ends = refl;
   };

@@ -22,19 +22,19 @@ returns-in_err-log-clause-refused g c =
     rw (p.1, p.2)
     (of_log _ _ _ _ (counted _ c.args.question.now.programs.now (c.is_program_count.ensures.0 c.if-not-is_program_count.false)) c.in_err-log.ensures.refused)
 
-pub returns-in_err-planned-clause-refused : goal.returns-in_err-planned-clause-refused
-returns-in_err-planned-clause-refused g c =
-    let p = err_from_is_err_and c.from_residual-in_err-planned.result c.from_residual-in_err-planned.ensures.1 in
+pub returns-in_err-plan-clause-refused : goal.returns-in_err-plan-clause-refused
+returns-in_err-plan-clause-refused g c =
+    let p = err_from_is_err_and c.from_residual-in_err-plan.result c.from_residual-in_err-plan.ensures.1 in
     rw (p.1, p.2)
     (for_source _ (counted _ c.args.question.now.programs.now (c.is_program_count.ensures.0 c.if-not-is_program_count.false))
-    (for_plan _ c.in_ok-log.log c.in_ok-log.ensures.log c.in_err-planned.ensures.refused))
+    (for_plan _ c.in_ok-log.log c.in_ok-log.ensures.log c.in_err-plan.ensures.refused))
 
 pub returns-in_err-decoded-clause-refused : goal.returns-in_err-decoded-clause-refused
 returns-in_err-decoded-clause-refused g c =
     let p = err_from_is_err_and c.from_residual-in_err-decoded.result c.from_residual-in_err-decoded.ensures.1 in
     rw (p.1, p.2, c.in_err-decoded.ensures.refused)
     (for_program _ c.in_ok-log.log (counted _ c.args.question.now.programs.now (c.is_program_count.ensures.0 c.if-not-is_program_count.false))
-    (has_images _ _ _ _ c.in_ok-log.ensures.log c.in_ok-planned.ensures.count c.in_ok-planned.ensures.few)
+    (has_images _ _ _ _ c.in_ok-log.ensures.log c.in_ok-plan.ensures.count c.in_ok-plan.ensures.few)
     no_list_memory)
 
 pub checkers_of-requires : goal.checkers_of-requires
@@ -46,13 +46,13 @@ returns-in_err-checkers-clause-refused g c =
     let p = err_from_is_err_and c.from_residual-in_err-checkers.result c.from_residual-in_err-checkers.ensures.1 in
     rw (p.1, p.2)
     (for_program _ c.in_ok-log.log (counted _ c.args.question.now.programs.now (c.is_program_count.ensures.0 c.if-not-is_program_count.false))
-    (has_images _ _ _ _ c.in_ok-log.ensures.log c.in_ok-planned.ensures.count c.in_ok-planned.ensures.few)
+    (has_images _ _ _ _ c.in_ok-log.ensures.log c.in_ok-plan.ensures.count c.in_ok-plan.ensures.few)
     (unaccepted_of _ _ _ c.as_slice.result.now _ _ c.as_slice.ensures.value c.in_ok-decoded.ensures.decoded c.in_err-checkers.ensures.refused))
 
 pub returns-in-Some-clause-refused : goal.returns-in-Some-clause-refused
 returns-in-Some-clause-refused g c =
     for_program _ c.in_ok-log.log (counted _ c.args.question.now.programs.now (c.is_program_count.ensures.0 c.if-not-is_program_count.false))
-    (has_images _ _ _ _ c.in_ok-log.ensures.log c.in_ok-planned.ensures.count c.in_ok-planned.ensures.few)
+    (has_images _ _ _ _ c.in_ok-log.ensures.log c.in_ok-plan.ensures.count c.in_ok-plan.ensures.few)
     (undecoded_of _ _ _ c.as_slice.result.now _ _ _ c.as_slice.ensures.value c.in_ok-decoded.ensures.decoded c.in-Some.is
     c.in_ok-checkers.ensures.made c.in_ok-checkers.ensures.all)
 
@@ -73,7 +73,7 @@ returns-clause-cured g c =
     both_ok c.cured_log.result _ _ _ c.cured_log.ensures.bytes c.cured_log.ensures.failing
     (λ e bytes failing.
     cured_of c.accepted_checkers_run_safely.ensures _ _ _ c.in_ok-log.log c.in_ok-checkers.checkers.items c.as_slice-2.result.now _ _ (counted _ c.args.question.now.programs.now (c.is_program_count.ensures.0 c.if-not-is_program_count.false))
-    (has_images _ _ _ _ c.in_ok-log.ensures.log c.in_ok-planned.ensures.count c.in_ok-planned.ensures.few)
+    (has_images _ _ _ _ c.in_ok-log.ensures.log c.in_ok-plan.ensures.count c.in_ok-plan.ensures.few)
     (checkers_decoded _ _ _ c.as_slice.result.now _ _ c.as_slice.ensures.value c.in_ok-decoded.ensures.decoded c.in_default.not-Some
     c.in_ok-checkers.ensures.made c.in_ok-checkers.ensures.all)
     c.as_slice-2.ensures.value bytes failing)

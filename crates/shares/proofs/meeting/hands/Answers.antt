@@ -27,6 +27,19 @@ loop-deque-init g c =
       omega (arith, long, left),
     )
 
+pub of-requires-clause-unmarked : goal.of-requires-clause-unmarked
+of-requires-clause-unmarked g c =
+    let at = c.loop-deque in
+    let x = c.in-Some.deque in
+    let all = into_iter_items c.into_iter-deque-iterator.result in
+    let first = c.in_ok-deques.deques.items in
+    let rest = into_iter_items c.next.new.self in
+    let steps : into_iter_items at.deque-iterator ≡ x ∷ rest = c.in-Some.ensures.steps.0 in
+    let whole : at.yielded ++ x ∷ rest ≡ all = rw (← steps) at.invariant.0 in
+    let made : all ≡ map (empty_deque 1) (map (λ (d : DequeValue). d.name) first) = c.into_iter-deque-iterator.ensures.into_iter_gives.0 ∙ c.in_ok-others.ensures.deques in
+    let empty : x ≡ empty_deque 1 x.name = all_middle (λ (d : DequeValue). d ≡ empty_deque 1 d.name) at.yielded rest all x whole (subst (All (λ (d : DequeValue). d ≡ empty_deque 1 d.name)) (sym made) (are_empty 1 (map (λ (d : DequeValue). d.name) first))) in
+    (ap (λ (d : DequeValue). d.marks_pushed) empty, ap (λ (d : DequeValue). d.marks_got) empty)
+
 pub loop-deque-preserved : goal.loop-deque-preserved
 loop-deque-preserved g c =
     let at = c.loop-deque in

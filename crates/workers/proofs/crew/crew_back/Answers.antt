@@ -1,9 +1,9 @@
-use Rattle.std.proofs.Common.{rules, ◌≡◌, ◌∙◌, ◌+◌, ◌<◌, [], ◌∷◌, ℕ, List, All, length, map, ap, sym, subst, arith}
+use Rattle.std.proofs.Common.{rules, false, ◌≡◌, ◌∙◌, ◌+◌, ◌<◌, [], ◌∷◌, ℕ, List, All, length, map, ap, sym, subst, arith}
 use Rattle.std.proofs.lemmas.List.{length-map}
-use Rattle.shares.specs.Hands.{HandPlace, HandValue, AreTogether, AreLeft, IsEmptyHand}
+use Rattle.shares.specs.Hands.{HandPlace, HandValue, AreTogether, AreLeft, IsEmptyHand, some_refused}
 use Rattle.workers.specs.declared.crew.Job.{Job}
 use Rattle.workers.specs.Pieces.{block_count}
-use Rattle.workers.proofs.Back.{jobs_fresh, all_back, places_back, done_count}
+use Rattle.workers.proofs.Back.{jobs_fresh, all_back, hands_shut, places_back, done_count}
 use Rattle.workers.proofs.crew.crew_back.Goals as goal
 
 pub jobs_of-requires-clause-hands : goal.jobs_of-requires-clause-hands
@@ -26,8 +26,8 @@ blocks_left-requires g c =
       together = subst (λ (n : ℕ). AreTogether n (map (λ (h : HandValue). h.place) c.reverse.new.self.items)) (sym c.requires.workers) (subst (AreTogether c.args.crew) (sym back) c.in_ok-hands.ensures.together);
     }
 
-pub returns : goal.returns
-returns g c =
+pub returns-clause-back : goal.returns-clause-back
+returns-clause-back g c =
     let places = map (λ (h : HandValue). h.place) c.in_ok-hands.field-0.items in
     let many = done_count c.args.input.now c.in_ok-board.board.name _ places c.in_ok-done.done.items c.in_ok-jobs.ensures.places c.in_ok-done.ensures in
     let left = c.in_ok-left.left.items in
@@ -37,3 +37,11 @@ returns g c =
     (omega (arith, c.requires.crew.0, many, c.in_ok-hands.ensures.together.count))
     (c.in_ok-board.ensures.board.0 ∙ c.block_count.ensures.value)
     (omega (arith, c.block_count.ensures.value, c.block_count.ensures.few))
+
+pub returns-clause-none_left : goal.returns-clause-none_left
+returns-clause-none_left g c = λ not_refused.
+    let turned = c.reverse.new.self.items in
+    let none : some_refused turned ≡ false = ap some_refused (sym c.as_slice.ensures.value) ∙ sym c.are_refused-refused.ensures ∙ not_refused in
+    c.in_ok-left.ensures.closed
+    (hands_shut c.args.input.now c.in_ok-board.board.name _ c.in_ok-done.done.items c.in_ok-seats.field-0.seats.items c.in_ok-seats.field-0.hands.items turned c.in_ok-seats.field-0.pieces.items c.in_ok-done.ensures c.in_ok-seats.ensures
+    c.reverse.ensures.items none)

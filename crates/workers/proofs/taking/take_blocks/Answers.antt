@@ -1,4 +1,5 @@
-use Rattle.std.proofs.Common.{◌≡◌, ◌∙◌, [], ◌∷◌, refl}
+use Rattle.std.proofs.Common.{◌≡◌, ◌∙◌, [], ◌∷◌, refl, ap}
+use Rattle.shares.specs.Hands.{HandValue}
 use Rattle.workers.proofs.Takes.{none_taken, takes, judges}
 use Rattle.workers.proofs.taking.take_blocks.Goals as goal
 
@@ -19,9 +20,10 @@ loop-turn-preserved g c =
           c.in_ok-piece.ensures.added),
       c.piece_through.ensures.changes ∙ at.invariant.1,
       c.take.ensures.place ∙ at.invariant.2,
+      c.take.ensures.phase ∙ at.invariant.3,
     )
 
 pub loop-turn-init : goal.loop-turn-init
 loop-turn-init g c =
     let none : c.new-pieces.result.items ≡ [] = c.new-pieces.ensures.items in
-    (rw (← c.requires.board, none) (none_taken c.args.worker.now.input.now c.args.seat.now c.args.hand.now c.requires.fresh.0 c.requires.fresh.1), c.requires.changes, refl)
+    (rw (← c.requires.board, none) (none_taken c.args.worker.now.input.now c.args.seat.now c.args.hand.now c.requires.fresh.0 c.requires.fresh.1), c.requires.changes, refl, ap (λ (h : HandValue). h.phase) c.requires.fresh.1)

@@ -1,6 +1,6 @@
-use Rattle.std.proofs.Common.{◌≡◌, []}
+use Rattle.std.proofs.Common.{[]}
 use Rattle.shares.specs.Seats.{HasEnded}
-use Rattle.workers.specs.Taking.{HasTaken}
+use Rattle.workers.specs.Taking.{HasTaken, IsSettled}
 use Rattle.workers.proofs.Back.{ok_both}
 use Rattle.workers.proofs.crew.Job.done.Goals as goal
 
@@ -11,6 +11,9 @@ returns g c =
     let seat = c.pieces_taken-pieces.new.seat in
     let hand = c.pieces_taken-pieces.new.hand in (
       c.pieces_taken-pieces.ensures.place,
-      ok_both c.pieces_taken-pieces.result (λ pieces. HasTaken s name seat hand [] pieces.items) (λ pieces. HasEnded seat) (λ pieces. HasTaken s name seat hand [] pieces.items × HasEnded seat)
-          c.pieces_taken-pieces.ensures.pieces c.pieces_taken-pieces.ensures.ended (λ pieces h e. (h, e)),
+      ok_both c.pieces_taken-pieces.result (λ pieces. HasTaken s name seat hand [] pieces.items) (λ pieces. HasEnded seat × IsSettled hand) (λ pieces. HasTaken s name seat hand [] pieces.items × HasEnded seat × IsSettled hand)
+          c.pieces_taken-pieces.ensures.pieces
+          (ok_both c.pieces_taken-pieces.result (λ pieces. HasEnded seat) (λ pieces. IsSettled hand) (λ pieces. HasEnded seat × IsSettled hand) c.pieces_taken-pieces.ensures.ended c.pieces_taken-pieces.ensures.settled
+          (λ pieces e d. (e, d)))
+          (λ pieces h e. (h, e.0, e.1)),
     )

@@ -1,0 +1,10 @@
+use Rattle.facts.proofs.Bounds.{smaller_of}
+use Rattle.facts.proofs.fewer.fewer_of.Goals as goal
+
+pub returns : goal.returns
+returns c = record {
+  flush = c.in_ok-images_with.ensures;
+  mark = c.in_ok-images_with-2.ensures;
+  smaller = smaller_of c.args.options.now c.args.log.now c.in_ok-plan.plan c.cuts.result c.by.result c.tears.result c.bound.result c.smaller_bound.result
+      c.in_ok-plan.ensures.log c.in_ok-plan.ensures.kind c.in_ok-plan.ensures.by c.cuts.ensures c.by.ensures c.tears.ensures c.bound.ensures.value c.smaller_bound.ensures;
+}

@@ -1,0 +1,40 @@
+//! What a command is given of a log, and what it finds on its way that the notes beside its answer or behind its refusal say.
+//!
+//! # Place
+//!
+//! On `request`, which reads a log and counts its images, and on `verifier`, which accepts programs. The crates that answer,
+//! `runs` and `looks`, read their log here, ask here for its plan, and hand over what the verifier says. `command_notes` takes
+//! what was found: it reads no file again.
+//!
+//! | Call | Does |
+//! |---|---|
+//! | `Recording::of(log, initial)` | the bytes of a log, with those that the device held before entry 0 |
+//! | `recording.read(alloc, options, facts)` | the log, as `read_log` reads it; finds how many entries are too large to be lost as a whole |
+//! | `facts.plan(alloc, log, options)` | its plan, as `planned` makes it; where there are too many images, finds with what there are fewer |
+//! | `facts.accept(verified)` | finds what no run reaches of an accepted program |
+//! | `facts.refuse(program, unaccepted)` | finds the instruction at which the verifier refuses a program, and what is known there |
+//!
+//! # What is proved
+//!
+//! What `Facts` holds is exactly what the definitions of `specs/Found.antt` and `specs/Fewer.antt` say of this log, with these
+//! options, and of these programs. What else it held stays. `read` and `plan` answer what `read_log` and `planned` do. Where
+//! there is no memory to count, `fewer` stays empty.
+//!
+//! # Example
+//!
+//! ```text
+//! let mut facts = Facts::new();
+//! let log = recording.read(alloc, &options, &mut facts)?;
+//! let (plan, images) = facts.plan(alloc, &log, &options)?;
+//! // facts.large: how many entries no image loses as a whole
+//! ```
+#![tactic(auto)]
+
+mod fewer;
+mod found;
+mod large;
+mod recording;
+
+pub use fewer::{Fewer, Smaller};
+pub use found::{Breach, Facts};
+pub use recording::Recording;

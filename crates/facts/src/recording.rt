@@ -1,0 +1,57 @@
+//! A recording: the bytes of a log, and of what the device held before entry 0.
+
+ghost use Rattle.std.specs.Prelude.{◌≡◌, IfOk, IfErr, count_by};
+ghost use Rattle.facts.specs.Large.{is_large};
+ghost use Rattle.request.specs.Source.{IsLogOf, RefusesLog};
+ghost use Rattle.facts.specs.Found.{KeepsPrograms};
+
+use crate::found::Facts;
+use crate::large::count_large;
+use base::refusal::Refusal;
+use logfmt::Log;
+use request::{Options, read_log};
+use std::alloc::Global;
+use std::marker::Model;
+
+/// The bytes of a log, and of what the device held before entry 0 the first ones, behind which there are zeros. Contracts see
+/// it as the record of both.
+#[derive(Drop)]
+pub struct Recording<'x> {
+    log: &'x [u8],
+    initial: &'x [u8],
+}
+
+impl<'x> Model for Recording<'x> {
+    ghost use Rattle.facts.specs.Found.{RecordingValue};
+
+    ghost Value = { RecordingValue };
+
+    ghost view = { λ r. record { text = r.log.now; initial = r.initial.now } };
+}
+
+impl<'x> Recording<'x> {
+    /// The recording of these bytes.
+    pub fn of(log: &'x [u8], initial: &'x [u8]) -> Recording<'x>
+        ensures { result ≡ record { text = log.now; initial = initial.now } }
+    {
+        Recording { log, initial }
+    }
+
+    /// The log that is asked for of it, as `read_log` answers it. It is found how many of its entries are too large to be lost as
+    /// a whole.
+    ///
+    /// # Errors
+    ///
+    /// Those of `read_log`.
+    pub fn read(&self, alloc: Global, options: &Options, facts: &mut Facts) -> Result<Log, Refusal>
+        ensures log { IfOk result (IsLogOf self.now options.now) }
+        ensures large { IfOk result (λ log. facts.new.large ≡ count_by (is_large options.now.bound) log.entries) }
+        ensures refused { IfErr result (RefusesLog self.now options.now) }
+        ensures fewer { facts.new.fewer ≡ facts.old.fewer }
+        ensures others { KeepsPrograms facts.old facts.new }
+    {
+        let log = read_log(alloc, self.log, self.initial, options)?;
+        facts.large = count_large(log.entries(), options.bound());
+        Ok(log)
+    }
+}

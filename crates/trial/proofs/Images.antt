@@ -1,0 +1,28 @@
+-- The sectors of an image.
+use Rattle.std.proofs.Common.{ℕ, ◌≡◌, ◌==◌, ◌+◌, ◌%◌, ◌<◌, ◌≤◌, ◌&&◌, nat_le, true, List, [], length, map, Some, slice_get, ap, ◌∙◌, arith}
+use Rattle.std.proofs.lemmas.Bool.{and_parts}
+use Rattle.std.proofs.lemmas.Bool.Decides.{nat_tests}
+use Rattle.std.proofs.lemmas.List.FromFn.{length-map-range_with_len, get_or-map-range_with_len}
+use Rattle.std.proofs.lemmas.Option.{slice_get-get_or}
+use Rattle.std.specs.List.{range_with_len}
+use Rattle.logfmt.specs.Initial.{initial_sector}
+use Rattle.trial.specs.Image.{is_image, device_of}
+
+-- an image has a sector at least, and no more than 16,384
+pub image_bounds : (bytes : List ℕ) → is_image bytes ≡ true → (512 ≤ length bytes) × (length bytes ≤ 8388608)
+image_bounds bytes h =
+    let outer = and_parts ((length bytes % 512 == 0) && nat_le 512 (length bytes)) (nat_le (length bytes) 8388608) h in
+    let inner = and_parts (length bytes % 512 == 0) (nat_le 512 (length bytes)) outer.0 in
+    let some : nat_le 512 (length bytes) ≡ true = inner.1 in
+    let few : nat_le (length bytes) 8388608 ≡ true = outer.1 in
+    (grind (arith, nat_tests), grind (arith, nat_tests))
+
+-- a sector of the device
+pub sector_there : (bytes : List ℕ) (sectors n : ℕ) → n < sectors → slice_get (device_of bytes sectors) n ≡ Some (initial_sector bytes n)
+unfolding device_of
+sector_there bytes sectors n lt =
+    let here : 0 + n ≡ n = omega arith in
+    let f : ℕ → List ℕ = initial_sector bytes in
+    let long = length-map-range_with_len f 0 sectors in
+    slice_get-get_or (map f (range_with_len 0 sectors)) n [] (omega (arith, long, lt))
+    ∙ ap (λ s. Some s) (get_or-map-range_with_len f 0 sectors n n [] lt here)

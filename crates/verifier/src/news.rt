@@ -1,0 +1,216 @@
+//! What the slots learned and are still to pass on: some parts at once, and in a long search others later.
+//!
+//! A loop is settled by what its heads learn. A sum of numbers that widen changes with each of their steps, in all
+//! slots to which it goes, and mostly no head learns of it. So a long search makes a sample now and then: a lap in
+//! which all is told, and what each slot learns is taken down. Behind it only those parts are told at once on which
+//! hangs what a head learned in the sample. The others wait for many laps, and are told once for all of them.
+//!
+//! Nothing that is proved rests on it: a table that is found with it is tested.
+
+use crate::order::Order;
+use crate::parts::{Parts, needed_before};
+use crate::passing::target_of;
+use crate::scene::Scene;
+use bpf_shape::edges_of;
+use std::alloc::{AllocError, Global};
+
+/// How many steps are made before the first sample.
+const FIRST: u64 = 1 << 16;
+
+/// How many steps are made at most behind a sample.
+const NARROW: u64 = 1 << 18;
+
+/// What is told at once.
+#[derive(Clone, Copy)]
+enum Phase {
+    /// All is, so that what waited arrives.
+    Wide,
+    /// All is, and what is learned is taken down.
+    Sample,
+    /// That on which hangs what a head learned in the sample.
+    Narrow,
+}
+
+/// Of a slot the parts that it tells at once, and those of which it learned something since the last sample began.
+#[derive(Clone, Copy)]
+struct Rule {
+    urgent: Parts,
+    learned: Parts,
+}
+
+/// The parts that each slot is still to tell; the rules of the slots, none in a short search; and the phase, with the
+/// step at which it ends.
+#[derive(Drop)]
+pub(crate) struct News {
+    pending: Vec<Parts>,
+    rules: Vec<Rule>,
+    phase: Phase,
+    due: u64,
+}
+
+impl News {
+    /// No slot has something to tell.
+    pub(crate) fn new(alloc: Global, slots: usize) -> Result<News, AllocError> {
+        let mut pending = Vec::new(alloc);
+        pending.resize(slots, Parts::NONE)?;
+        Ok(News {
+            pending,
+            rules: Vec::new(alloc),
+            phase: Phase::Wide,
+            due: FIRST,
+        })
+    }
+
+    /// How many slots there are.
+    pub(crate) fn slots(&self) -> usize {
+        self.pending.len()
+    }
+
+    /// A slot learned something of these parts. Whether it is to tell some of them at once.
+    pub(crate) fn put(&mut self, slot: usize, learned: Parts) -> bool {
+        if self.pending.len() <= slot {
+            return false;
+        }
+        self.pending[slot] = self.pending[slot].and(learned);
+        if self.rules.len() <= slot {
+            return true;
+        }
+        let rule = self.rules[slot];
+        self.rules[slot].learned = rule.learned.and(learned);
+        learned.meets(rule.urgent)
+    }
+
+    /// The parts that a slot tells at once, if it learned something of them.
+    fn urgent(&self, slot: usize) -> Parts {
+        match self.rules.get(slot) {
+            Some(rule) => rule.urgent,
+            None => Parts::ALL,
+        }
+    }
+
+    /// Takes what a slot is to tell at once.
+    pub(crate) fn take(&mut self, slot: usize) -> Option<Parts> {
+        if self.pending.len() <= slot {
+            return None;
+        }
+        let pending = self.pending[slot];
+        self.pending[slot] = Parts::NONE;
+        if self.rules.is_empty() {
+            return Some(pending);
+        }
+        let told = pending.common(self.urgent(slot));
+        self.pending[slot] = pending.without(told);
+        Some(told)
+    }
+
+    /// Whether a slot has something to tell at once.
+    pub(crate) fn is_urgent(&self, slot: usize) -> bool {
+        match self.pending.get(slot) {
+            Some(pending) => pending.meets(self.urgent(slot)),
+            None => false,
+        }
+    }
+
+    /// Whether a slot has something to tell, where none has something to tell at once.
+    pub(crate) fn has_waiting(&self) -> bool {
+        if self.rules.is_empty() {
+            return false;
+        }
+        for pending in self.pending.as_slice() {
+            if pending.is_some() {
+                return true;
+            }
+        }
+        false
+    }
+
+    /// Whether the phase is to end.
+    pub(crate) fn is_due(&self, steps: u64) -> bool {
+        self.due <= steps
+    }
+
+    /// Begins the next phase. A turn through all slots goes before a sample, and one more is the sample. Where memory
+    /// is wanting the search stays wide.
+    pub(crate) fn turn_over(&mut self, scene: &Scene, order: &Order, steps: u64) {
+        let length = match self.phase {
+            Phase::Wide => self.begin_sample(),
+            Phase::Sample => self.begin_narrow(scene, order),
+            Phase::Narrow => self.begin_wide(),
+        };
+        self.due = steps.saturating_add(length);
+    }
+
+    /// All is told at once, and nothing is taken down yet. How many steps that takes.
+    fn begin_sample(&mut self) -> u64 {
+        self.rules.clear();
+        let rule = Rule {
+            urgent: Parts::ALL,
+            learned: Parts::NONE,
+        };
+        match self.rules.resize(self.pending.len(), rule) {
+            Ok(()) => {
+                self.phase = Phase::Sample;
+                self.pending.len() as u64
+            }
+            Err(_) => u64::MAX,
+        }
+    }
+
+    /// Each slot tells those parts at once on which hangs what a head learned. The last slot comes first.
+    fn begin_narrow(&mut self, scene: &Scene, order: &Order) -> u64 {
+        self.phase = Phase::Narrow;
+        let slots = self.rules.len();
+        for turn in 0..slots {
+            let slot = order.slot(slots - 1 - turn);
+            let urgent = self.needed_at(scene, slot);
+            self.put_urgent(slot, urgent);
+        }
+        NARROW
+    }
+
+    /// Each slot tells all at once.
+    fn begin_wide(&mut self) -> u64 {
+        self.phase = Phase::Wide;
+        for slot in 0..self.rules.len() {
+            self.put_urgent(slot, Parts::ALL);
+        }
+        self.pending.len() as u64
+    }
+
+    /// A slot tells these parts at once.
+    fn put_urgent(&mut self, slot: usize, urgent: Parts) {
+        if slot < self.rules.len() {
+            self.rules[slot].urgent = urgent;
+        }
+    }
+
+    /// The parts at a slot on which hangs what a head learned.
+    fn needed_at(&self, scene: &Scene, slot: usize) -> Parts {
+        if 4096 <= slot {
+            return Parts::NONE;
+        }
+        match scene.program.at(slot) {
+            Some(instr) => {
+                let next = self.needed_behind(scene, edges_of(slot, &instr).next);
+                let target = self.needed_behind(scene, target_of(slot, &instr));
+                needed_before(&instr, next.and(target))
+            }
+            None => Parts::NONE,
+        }
+    }
+
+    /// The parts that arrive at a slot, of which it learned something, and on which hangs what a head learned.
+    fn needed_behind(&self, scene: &Scene, slot: Option<usize>) -> Parts {
+        let Some(slot) = slot else {
+            return Parts::NONE;
+        };
+        match self.rules.get(slot) {
+            Some(rule) => if scene.shape.is_head(slot) {
+                rule.learned
+            } else {
+                rule.learned.common(rule.urgent)
+            },
+            None => Parts::NONE,
+        }
+    }
+}

@@ -1,0 +1,328 @@
+"""`check`: what programs come to on one image, in how many steps, and the lines of the last ones (docs/REPORT.md, The text of
+`check`). The steps, the registers and the answers are worked out by hand from docs/MACHINE.md."""
+from notation import SECTOR, Folder, Hole, Row, Something, code, lines, named, program, refused
+
+from rows.notes import UNREACHED
+
+FOUR = 4 * SECTOR
+ZEROS = bytes(FOUR)
+FIFTY_ONE = b"\x33" + bytes(FOUR - 1)
+# image 34 of overwritten_sector (docs/CRASH-MODEL.md)
+TORN = b"\x22" * 64 + b"\x11" * 448 + bytes(3 * SECTOR)
+LARGEST = 16384 * SECTOR
+
+GOOD = program("mov64 r0, 0; exit")
+BAD = program("mov64 r0, 7; exit")
+UNSAFE = program("exit")
+CUT_PROGRAM = code("9500")
+
+
+def tried(name, text, options, out, status, image=ZEROS):
+    """A row of a program on an image; the text of the answer is given without its first line."""
+    content = {"p": program(text) if type(text) is str else text, "image": image}
+    return Row(f"check: {name}", f"check p image {options}".strip(), content, "crash check 1\n" + lines(out), status)
+
+
+def ended(name, text, options, head, steps, end, image=ZEROS):
+    """The same without lines of steps; `head` is how the second and the third line end."""
+    about, size = head
+    status = 0 if end.startswith("answer 0 ") else 1
+    out = f"sectors {len(image) // SECTOR} {about}\nprogram slots {size}\nsteps {steps}\n{end}\n"
+    return tried(name, text, options, out, status, image)
+
+
+NONE_PASSED = "epoch 0 marks 0"
+FIRST_BYTE = (NONE_PASSED, "7 budget 5")
+
+ANSWERS = [
+    ended("first_byte, 51", named("first_byte"), "", FIRST_BYTE, 5, "answer 51 codes -", FIFTY_ONE),
+    ended("first_byte, 0", named("first_byte"), "", FIRST_BYTE, 5, "answer 0 codes -"),
+    ended("first_byte on a torn image", named("first_byte"), "", FIRST_BYTE, 5, "answer 34 codes -", TORN),
+    ended("byte_64 on a torn image", named("byte_64"), "", FIRST_BYTE, 5, "answer 17 codes -", TORN),
+    ended("ends_agree, they don't", named("ends_agree"), "", (NONE_PASSED, "11 budget 9"), 9, "answer 1 codes -", FIFTY_ONE[:SECTOR]),
+    ended("ends_agree, they do", named("ends_agree"), "", (NONE_PASSED, "11 budget 9"), 8, "answer 0 codes -"),
+    ended("marks_passed, none", named("marks_passed"), "", (NONE_PASSED, "2 budget 2"), 2, "answer 0 codes -"),
+    ended("marks_passed, 7", named("marks_passed"), "--marks 7", ("epoch 0 marks 7", "2 budget 2"), 2, "answer 7 codes -"),
+    ended(
+        "the most marks and flushes",
+        "ldxdw r0, [r1+16]; ldxdw r2, [r1+8]; add64 r0, r2; exit",
+        "--epoch 65536 --marks 65536",
+        ("epoch 65536 marks 65536", "4 budget 4"),
+        4,
+        "answer 131072 codes -",
+    ),
+    ended("the epoch", "ldxdw r0, [r1+8]; exit", "--epoch 3 --marks 2", ("epoch 3 marks 2", "2 budget 2"), 2, "answer 3 codes -"),
+    *(
+        ended(f"an image of {it} sectors", "ldxdw r0, [r1+0]; exit", "", (NONE_PASSED, "2 budget 2"), 2, f"answer {it} codes -", bytes(it * SECTOR))
+        for it in [1, 2, 3, 16383, 16384]
+    ),
+    ended(
+        "the last byte of a largest image",
+        "mov64 r1, 16383; call 1; jne r0, 0, +2; mov64 r0, 0; exit; ldxb r0, [r0+511]; exit",
+        "",
+        FIRST_BYTE,
+        5,
+        "answer 9 codes -",
+        bytes(LARGEST - 1) + b"\x09",
+    ),
+    ended("no sector behind the last", "mov64 r1, 4; call 1; jne r0, 0, +2; mov64 r0, 3; exit; ldxb r0, [r0+0]; exit", "", FIRST_BYTE, 5, "answer 3 codes -"),
+    # two codes; then 16 of 17
+    ended(
+        "codes",
+        "mov64 r1, 5; call 4; mov64 r1, 0; call 4; mov64 r0, 1; exit",
+        "",
+        (NONE_PASSED, "6 budget 6"),
+        6,
+        "answer 1 codes 5,0",
+    ),
+    ended(
+        "sixteen codes",
+        "".join(f"mov64 r1, {it}; call 4; " for it in range(17)) + "exit",
+        "",
+        (NONE_PASSED, "35 budget 35"),
+        35,
+        f"answer 1 codes {','.join(map(str, range(16)))}",
+    ),
+    ended("codes of a good image", "mov64 r1, 6; call 4; exit", "", (NONE_PASSED, "3 budget 3"), 3, "answer 0 codes 6"),
+    ended("the greatest answer", "mov64 r0, -1; exit", "", (NONE_PASSED, "2 budget 2"), 2, f"answer {2**64 - 1} codes -"),
+]
+
+# Each turn takes three steps, and the call answers 0 behind the last of them: 3 * (turns + 1) + 1 steps.
+TURNS = "mov64 r1, 1000; call 3; jne r0, 0, -3; exit"
+
+LIMITS = [
+    ended("nested_loops, a step short", named("nested_loops"), "--checked 28", (NONE_PASSED, "9 limit 28"), 28, "out of steps"),
+    ended("nested_loops, enough", named("nested_loops"), "--checked 29", (NONE_PASSED, "9 limit 29"), 29, "answer 0 codes -"),
+    ended("no step at all", GOOD, "--checked 0", (NONE_PASSED, "2 limit 0"), 0, "out of steps"),
+    ended("one step", GOOD, "--checked 1", (NONE_PASSED, "2 limit 1"), 1, "out of steps"),
+    ended("all steps", GOOD, "--checked 2", (NONE_PASSED, "2 limit 2"), 2, "answer 0 codes -"),
+    ended("the greatest limit", GOOD, "--checked 1000000000", (NONE_PASSED, "2 limit 1000000000"), 2, "answer 0 codes -"),
+    ended("turns", TURNS, "--checked 5000", (NONE_PASSED, "4 limit 5000"), 3004, "answer 0 codes -"),
+    ended("turns, a step short", TURNS, "--checked 3003", (NONE_PASSED, "4 limit 3003"), 3003, "out of steps"),
+    ended("a loop without end", "ja -1", "--checked 1000", (NONE_PASSED, "1 limit 1000"), 1000, "out of steps"),
+    ended("what the verifier refuses", UNSAFE, "--checked 5", (NONE_PASSED, "1 limit 5"), 1, "fault 81 slot 0"),
+    ended("a fault behind a step", "mov64 r0, 1; ja +1", "--checked 5", (NONE_PASSED, "2 limit 5"), 2, "fault 80 slot 1"),
+    ended("no code is told of a fault", "mov64 r1, 5; call 4; stb [r10+0], 1", "--checked 5", (NONE_PASSED, "3 limit 5"), 3, "fault 83 slot 2"),
+]
+
+CALLED = "mov64 r6, 5; callf +1; exit; mov64 r0, 9; exit"
+HEAD = "sectors 4 epoch 0 marks 0\nprogram slots "
+LAST_TURNS = """
+    step 3002 slot 1 call 3; r0 0; r1 unset
+    step 3003 slot 2 jne r0, 0, -3
+    step 3004 slot 3 exit
+    """
+# How a word is printed, at the ends of the regions' addresses
+WORDS = {
+    0: "0",
+    2**32 - 1: "4294967295",
+    2**32: "context+0",
+    2**32 + 31: "context+31",
+    2**33 - 1: "context+4294967295",
+    2**33: "stack 0+0",
+    2**33 + 512: "stack 0+512",
+    2**33 + 1023: "stack 0+1023",
+    2**33 + 1024: "stack 1+0",
+    3 * 2**32 - 1: "stack 4194303+1023",
+    3 * 2**32: "sector 0+0",
+    3 * 2**32 + 1024 * 3 + 17: "sector 3+17",
+    3 * 2**32 + 1024 * 16384 - 1: "sector 16383+1023",
+    3 * 2**32 + 1024 * 16384: "12901679104",
+    2**64 - 1: "18446744073709551615",
+}
+
+STEPS = [
+    tried(
+        "first_byte, step by step",
+        named("first_byte"),
+        "--trace 9",
+        """
+        sectors 4 epoch 0 marks 0
+        program slots 7 budget 5
+        step 1 slot 0 mov64 r1, 0; r1 0
+        step 2 slot 1 call 1; r0 sector 0+0; r1 unset
+        step 3 slot 2 jne r0, 0, +2
+        step 4 slot 5 ldxb r0, [r0+0]; r0 51
+        step 5 slot 6 exit
+        steps 5
+        answer 51 codes -
+        """,
+        1,
+        FIFTY_ONE,
+    ),
+    tried(
+        "the last two steps",
+        named("first_byte"),
+        "--trace 2",
+        """
+        sectors 4 epoch 0 marks 0
+        program slots 7 budget 5
+        step 4 slot 5 ldxb r0, [r0+0]; r0 0
+        step 5 slot 6 exit
+        steps 5
+        answer 0 codes -
+        """,
+        0,
+    ),
+    *(
+        tried(
+            f"as many steps as there are, {number}",
+            GOOD,
+            f"--trace {number}",
+            HEAD + "2 budget 2\nstep 1 slot 0 mov64 r0, 0; r0 0\nstep 2 slot 1 exit\nsteps 2\nanswer 0 codes -\n",
+            0,
+        )
+        for number in [2, 3, 2**32, 2**64 - 1]
+    ),
+    tried("no lines", GOOD, "--trace 0", HEAD + "2 budget 2\nsteps 2\nanswer 0 codes -\n", 0),
+    tried("a fault", UNSAFE, "--checked 5 --trace 1", HEAD + "1 limit 5\nstep 1 slot 0 exit\nsteps 1\nfault 81 slot 0\n", 1),
+    tried(
+        "the steps up to a fault",
+        "mov64 r0, 1; ja +1",
+        "--checked 5 --trace 5",
+        HEAD + "2 limit 5\nstep 1 slot 0 mov64 r0, 1; r0 1\nstep 2 slot 1 ja +1\nsteps 2\nfault 80 slot 1\n",
+        1,
+    ),
+    tried("out of steps", "ja -1", "--checked 9 --trace 2", HEAD + "1 limit 9\nstep 8 slot 0 ja -1\nstep 9 slot 0 ja -1\nsteps 9\nout of steps\n", 1),
+    tried("the steps of turns", TURNS, "--checked 5000 --trace 3", HEAD + "4 limit 5000\n" + lines(LAST_TURNS) + "steps 3004\nanswer 0 codes -\n", 0),
+    tried(
+        "a local function",
+        CALLED,
+        "--checked 9 --trace 9",
+        """
+        sectors 4 epoch 0 marks 0
+        program slots 5 limit 9
+        step 1 slot 0 mov64 r6, 5; r6 5
+        step 2 slot 1 callf +1; r6 unset; r10 stack 1+512
+        step 3 slot 3 mov64 r0, 9; r0 9
+        step 4 slot 4 exit; r1 unset; r6 5; r10 stack 0+512
+        step 5 slot 2 exit
+        steps 5
+        answer 9 codes -
+        """,
+        1,
+    ),
+    tried(
+        "a step that changes no register",
+        "mov64 r0, 0; mov64 r0, 0; stdw [r10-8], 3; ldxdw r0, [r10-8]; mov64 r0, r0; exit",
+        "--trace 5",
+        """
+        sectors 4 epoch 0 marks 0
+        program slots 6 budget 6
+        step 2 slot 1 mov64 r0, 0
+        step 3 slot 2 stdw [r10-8], 3
+        step 4 slot 3 ldxdw r0, [r10-8]; r0 3
+        step 5 slot 4 mov64 r0, r0
+        step 6 slot 5 exit
+        steps 6
+        answer 3 codes -
+        """,
+        1,
+    ),
+    tried(
+        "what a helper unsets",
+        "mov64 r2, 1; mov64 r3, 2; mov64 r4, 3; mov64 r5, 4; mov64 r6, 5; mov64 r1, 0; call 5; exit",
+        "--trace 3",
+        """
+        sectors 4 epoch 0 marks 0
+        program slots 8 budget 8
+        step 6 slot 5 mov64 r1, 0; r1 0
+        step 7 slot 6 call 5; r0 1; r1 unset; r2 unset; r3 unset; r4 unset; r5 unset
+        step 8 slot 7 exit
+        steps 8
+        answer 1 codes -
+        """,
+        1,
+    ),
+    *(
+        tried(
+            f"the word {word}",
+            f"lddw r2, {word}; mov64 r0, 0; exit",
+            "--trace 9",
+            HEAD + f"4 budget 3\nstep 1 slot 0 lddw r2, {word}; r2 {shown}\nstep 2 slot 2 mov64 r0, 0; r0 0\nstep 3 slot 3 exit\nsteps 3\nanswer 0 codes -\n",
+            0,
+        )
+        for word, shown in WORDS.items()
+    ),
+]
+
+# Words that ask for what isn't there, on a good program and a good image, and the refusal
+REFUSED = {
+    "check p image --epoch 65537": "13 at 15",
+    "check p image --marks 65537": "13 at 16",
+    "check p image --epoch 4294967296": "13 at 15",
+    "check p image --marks 18446744073709551615": "13 at 16",
+    "check p image --checked 1000000001": "13 at 5",
+    "check p image --checked 1000000001 --marks 65537": "13 at 16",
+    "check p image --marks 65537 --epoch 65537": "13 at 15",
+    "check none image": "14 at 0",
+    "check p none": "14 at 1",
+    "check none others": "14 at 0",
+    "check none others --epoch 65537": "13 at 15",
+    "check p none --checked 1000000001": "13 at 5",
+}
+
+# Images of other sizes
+SIZES = [0, 1, 511, 513, 1023, LARGEST + 1, LARGEST + SECTOR]
+
+# What else is refused: the files, and the refusal
+FAULTS = {
+    "a program that the verifier refuses": (UNSAFE, ZEROS, "50 at 0"),
+    "a program that is cut off": (CUT_PROGRAM, ZEROS, "20 at 0"),
+    "an unknown instruction": (code("ff00000000000000"), ZEROS, "22 at 0"),
+    "no program at all": (b"", ZEROS, "21 at 0"),
+    "the size before the program": (CUT_PROGRAM, b"", "14 at 1"),
+    "a loop without a bound": (program("ja -1"), ZEROS, "42 at 0"),
+    "a test that is missing": (program("mov64 r1, 0; call 1; ldxb r0, [r0+0]; exit"), ZEROS, "52 at 2"),
+    "an image that is a folder": (GOOD, Folder(), "14 at 1"),
+    "an image that is far too large": (GOOD, Hole(1 << 40), "14 at 1"),
+}
+
+REACHED = "crash check 1\n" + HEAD + "3 budget 2\nsteps 2\nanswer 0 codes -\n"
+NOT_REACHED = f"instructions that no run reaches: 1, the first at slot 2; {UNREACHED}"
+WHOLE = "an image has 1 to 16384 whole sectors of 512 bytes (docs/REPORT.md, Commands)"
+
+# What is noted: the files, and the refusal with its notes
+NOTED = [
+    ("an empty image", GOOD, b"", "refused 14 at 1", "image is no image", "it has 0 bytes", WHOLE),
+    ("an image that is cut within a sector", GOOD, bytes(700), "refused 14 at 1", "image is no image", "it has 700 bytes", WHOLE),
+    ("an image that is too large", GOOD, bytes(LARGEST + SECTOR), "refused 14 at 1", "image is no image", "it has more than 8388608 bytes", WHOLE),
+    ("an image that is a folder", GOOD, Folder(), "refused 14 at 1", "image can't be read"),
+]
+
+FAULTY = [
+    "check",
+    "check p",
+    "check p image image",
+    "check p image --sectors 4",
+    "check p image --epoch",
+    "check p image --epoch one",
+    "check p image --epoch -1",
+    "check p image --marks 1.5",
+    "check p image --trace all",
+    "check p image --trace 18446744073709551616",
+    "check p image --checked",
+    "check p image --workers 1",
+    "check p image --cuts all",
+    "check p image --tears",
+    "check p image --first",
+    "check p image --progress",
+    "verify p --sectors 4 --trace 1",
+    "list p --epoch 1",
+]
+
+BOTH = {"p": GOOD, "image": ZEROS}
+
+ROWS = [
+    *ANSWERS,
+    *LIMITS,
+    *STEPS,
+    *(refused(f"refused: {words}", words, BOTH, f"refused {error}") for words, error in REFUSED.items()),
+    *(refused(f"check: an image of {it} bytes", "check p image", {"p": GOOD, "image": bytes(it)}, "refused 14 at 1") for it in SIZES),
+    *(refused(f"check: {name}", "check p image", {"p": p, "image": image}, f"refused {error}") for name, (p, image, error) in FAULTS.items()),
+    *(Row(f"notes: check: {name}", "check p image", {"p": p, "image": image}, status=2, error=error, notes=notes) for name, p, image, error, *notes in NOTED),
+    Row("notes: check: what no run reaches", "check p image", {"p": program("mov64 r0, 0; exit; exit"), "image": ZEROS}, REACHED, notes=(NOT_REACHED,)),
+    refused("check: a program that is cut off, checked", "check p image --checked 5", {"p": CUT_PROGRAM, "image": ZEROS}, "refused 20 at 0"),
+    *(Row(f"fault of the command line: {words}", words, BOTH, status=2, error=Something()) for words in FAULTY),
+    Row("help: check --help", "check --help", {}, Something()),
+]
