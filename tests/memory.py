@@ -137,7 +137,7 @@ EXTRA = [
 ]
 
 # How many allocations the calls by themselves make.
-CALLS = 585
+CALLS = 583
 
 # Runs with some 600,000 lines and more. Of n writes in one epoch, of which up to three are lost, there are as many images as
 # ways to pick them, over all cuts.

@@ -19,6 +19,8 @@ SHORT = f"a log has at least 512 bytes {SUPER}"
 MAGIC = f"the file doesn't begin as a log does, with 'rhswfsj' {SUPER}"
 LOG_FIRST = "LOG stands before the programs, and is what the target dm-log-writes made"
 LIMIT = "a log has at most 67108864 bytes, 65536 entries, and 262144 sectors written or discarded (docs/LOG-FORMAT.md, Limits)"
+SECTORS = "record over a device with sectors of 512 bytes; in a log of your own the size of a sector stands at byte 24"
+COPY_MORE = "copy more of the log device; in a log of your own the number of entries stands at byte 16"
 FEWER = "copy the first 64 MiB of the log device alone; make file systems without discards"
 CUT_SHORT = "the file ends within the entry, its header or its data (docs/LOG-FORMAT.md, Layout)"
 PAST = "the entry goes past the device (docs/LOG-FORMAT.md, The device)"
@@ -38,7 +40,7 @@ LOGS = [
         super_block(0, sector_size=4096),
         "refused 4 at 0",
         f"the log's sectors don't have 512 bytes {SUPER}",
-        "record over a device with sectors of 512 bytes",
+        SECTORS,
         "'crashbpf import' makes a log of one with sectors of 4096 bytes",
     ),
     bad_log(
@@ -46,7 +48,7 @@ LOGS = [
         log(LOG)[:-1],
         "refused 5 at 1",
         CUT_SHORT,
-        "copy more of the log device",
+        COPY_MORE,
         "the file has 2047 bytes; the entry begins at byte 1536",
     ),
     bad_log(
@@ -54,7 +56,7 @@ LOGS = [
         log([F, D(1, 2), M("a"), W(1, 3, 7)])[:-1],
         "refused 5 at 3",
         CUT_SHORT,
-        "copy more of the log device",
+        COPY_MORE,
         "the header of entry 3 has sector 1 count 3 flags 0 length 0",
         "the file has 4095 bytes; the entry ends at byte 4096",
     ),
@@ -239,7 +241,7 @@ OPTIONS = [
         "image log 5 --sectors 4",
         files(LOG),
         "refused 13 at 9",
-        "the log has no image of that number; 'crashbpf images' tells how many it has",
+        "the log has no image of that number with these --cuts, --by, --bound and --tears; 'crashbpf images' tells how many it has",
     ),
     noted("a missing log", "images log --sectors 4", {}, "refused 14 at 0", "log can't be read"),
     noted("a missing program", "explore log p0 there/p1 --sectors 4", files(LOG, GOOD), "refused 14 at 2", "there/p1 can't be read"),
@@ -251,7 +253,7 @@ OPTIONS = [
 # Programs
 
 DECODING = "(docs/MACHINE.md, Faults of decoding)"
-IS_IT_ONE = "is the file a program? examples/cc makes one of C, 'crashbpf asm' one of an assembly text"
+IS_IT_ONE = "is the file a program? crashbpf-cc makes one of C, 'crashbpf asm' one of an assembly text"
 REGISTER = f"there is no such register, or a call is neither of a helper nor of a local function {DECODING}"
 
 
@@ -285,7 +287,7 @@ BYTES = [
         "refused 24 at 0",
         f"a field isn't zero that has to be, or has no meaning there {DECODING}",
         IS_IT_ONE,
-        "p is an object file: examples/cc takes a program out of it",
+        "p is an object file: crashbpf-cc makes a program of its source",
     ),
     noted(
         "the second program is an object file",
@@ -294,7 +296,7 @@ BYTES = [
         "refused 24 at 0 of program 1",
         f"a field isn't zero that has to be, or has no meaning there {DECODING}",
         IS_IT_ONE,
-        "p1 is an object file: examples/cc takes a program out of it",
+        "p1 is an object file: crashbpf-cc makes a program of its source",
     ),
     noted("a log as program", "list p", {"p": log(LOG)}, "refused 24 at 0", f"a field isn't zero that has to be, or has no meaning there {DECODING}", IS_IT_ONE, "p begins as a log does"),
 ]
@@ -339,7 +341,7 @@ TEXTS = [
 
 SHAPE = "(docs/VERIFIER.md, Shape rules)"
 AT_SLOT = "(docs/VERIFIER.md, Rules at a slot)"
-ONE_FUNCTION = "are these the bytes of one whole function? examples/cc takes the one that is named; in C return on each path"
+ONE_FUNCTION = "are these the bytes of one whole function? crashbpf-cc takes the one that is named; in C return on each path"
 RULES = [
     ("mov64 r0, 0; ja +1; lddw r0, 0; exit", "40 at 1", "slot 1: ja +1", f"the jump leads to no slot in which an instruction begins {SHAPE}", ONE_FUNCTION),
     ("mov64 r0, 0; exit; mov64 r1, 0", "41 at 2", "slot 2: mov64 r1, 0", f"the program ends behind this instruction, without an exit {SHAPE}", ONE_FUNCTION),
@@ -348,7 +350,7 @@ RULES = [
         "42 at 2",
         "slot 2: jne r0, 1, -1",
         f"a loop has a way round without a call of again, helper 3 {SHAPE}",
-        "in C begin the loop's body with TURN(times, otherwise)",
+        "in C begin the loop's body with TURN(times, otherwise), or compile it by crashbpf-cc, which bounds plain loops",
     ),
     (
         "mov64 r1, 0; call 3; jeq r0, 0, +0; exit",
@@ -362,7 +364,7 @@ RULES = [
         "44 at 0",
         "slot 0: callf -1",
         "a function calls itself, or it is the last of four calls within each other (docs/VERIFIER.md, Calls within calls)",
-        "in C write INLINED before a function, a loop in place of recursion, and no memset, memcpy or memcmp; examples/cc names what is called",
+        "in C write a loop in place of recursion, and compile by crashbpf-cc, which inlines all but LOCAL functions, memset, memcpy and memcmp too",
     ),
     (
         "; ".join(["mov64 r1, 1048576; call 3; jeq r0, 0, +0"] * 30 + ["mov64 r0, 0; exit"]),
@@ -376,7 +378,7 @@ RULES = [
         "slot 2: jgt r3, 1, +0",
         "r3: unset, or not of one kind on all paths",
         f"a register that is read may be unset {AT_SLOT}",
-        "give each variable a value; a checker has one parameter, the context, and a LOCAL function takes and answers numbers alone",
+        "give each variable a value, in C on each path; choose a position, not between two addresses (p = c ? &a : &b) or structs (s = c ? a : b); a checker has one parameter, the context, and a LOCAL function takes and answers numbers alone",
     ),
     (
         "ldxb r0, [r10-1]; exit",
@@ -392,7 +394,7 @@ RULES = [
         "slot 2: ldxb r0, [r0+0]",
         "r0: a sector or 0; a test against 0 has to come first",
         f"the bytes may lie outside of the 512 of a sector or the stack, or the 32 of the context, or the address may be 0 or a number {AT_SLOT}",
-        "in C take SECTOR(n, ..), which tests for 0, and test a u64 index with < right before its use: TURN_BELOW, ELEMENT; or read by position, as u64_at(p)",
+        "in C take SECTOR(n, ..), which tests for 0, and test a u64 index with < right before its use: TURN_BELOW, ELEMENT, with KEEP(pointer) in a loop that has ELEMENT twice; or read by position, as u64_at(p)",
     ),
     (
         "stw [r1+0], 7; mov64 r0, 0; exit",

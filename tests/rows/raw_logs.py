@@ -112,7 +112,17 @@ def of_zeros(entries, end):
 
 LIMITS = [
     Row("import: 192 MiB", "import raw", {"raw": of_zeros(MOST, 192 * MIB)}, Long(lambda: raw(SECTOR, [], count=MOST) + bytes(SECTOR * MOST))),
-    Row("import: a sector more", "import raw", {"raw": of_zeros(MOST + 1, 192 * MIB + LARGE)}, status=2, error=f"refused 10 at {MOST}"),
+    Row(
+        "import: a sector more",
+        "import raw",
+        {"raw": of_zeros(MOST + 1, 192 * MIB + LARGE)},
+        status=2,
+        error=f"refused 10 at {MOST}",
+        notes=[
+            "a log has at most 67108864 bytes, 65536 entries, and 262144 sectors written or discarded (docs/LOG-FORMAT.md, Limits)",
+            "record less at once; make file systems without discards",
+        ],
+    ),
     Row("import: a sector more, cut", "import raw", {"raw": of_zeros(MOST + 1, 192 * MIB)}, status=2, error=f"refused 10 at {MOST}"),
     Row("import: a sector less", "import raw", {"raw": of_zeros(MOST, 192 * MIB - 1)}, status=2, error=f"refused 5 at {MOST - 1}"),
 ]
@@ -172,7 +182,7 @@ ROWS = [
         error="refused 5 at 2",
         notes=[
             "the file ends within the entry, its header or its data (docs/LOG-FORMAT.md, Layout)",
-            "copy more of the log device",
+            "copy more of the log device; in a log of your own the number of entries stands at byte 16",
             "the header of entry 2 has sector 7 count 1 flags 18 length 0",
             f"the file has {LARGE * 7 - 1} bytes; the entry ends at byte {LARGE * 7}",
         ],

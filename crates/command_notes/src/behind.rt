@@ -76,7 +76,7 @@ fn put_kind(
             out,
             words,
             place,
-            "is an object file: examples/cc takes a program out of it",
+            "is an object file: crashbpf-cc makes a program of its source",
         );
     }
     Ok(())
@@ -116,6 +116,16 @@ fn put_broken_entry(
     }
 }
 
+/// What most likely helps against what a log breaks. `import` reads no more of a raw log than it keeps.
+fn cure_of(request: Request, cause: LogCause) -> &'static str {
+    match (request, cause) {
+        (Request::Import, LogCause::Limit) => {
+            "record less at once; make file systems without discards"
+        }
+        _ => log_cure(cause),
+    }
+}
+
 /// Appends, where a log has other sectors, that there is a command for such logs.
 fn put_import(out: &mut String, request: Request) -> Result<(), AllocError> {
     match request {
@@ -136,7 +146,7 @@ fn put_log_notes(
     cause: LogCause,
     at: usize,
 ) -> Result<(), AllocError> {
-    put_cause(alloc, out, &cause, log_cure(cause))?;
+    put_cause(alloc, out, &cause, cure_of(words.request(), cause))?;
     match cause {
         LogCause::Device => match bytes_of(files, 0) {
             Some(bytes) => put_device(alloc, out, bytes, at),
@@ -275,7 +285,9 @@ fn option_rule(place: u64) -> &'static str {
         14 => "the file behind --base has no more bytes than the device, 512 for each sector",
         15 => "--epoch is 0 to 65536",
         16 => "--marks is 0 to 65536",
-        _ => "the log has no image of that number; 'crashbpf images' tells how many it has",
+        _ => {
+            "the log has no image of that number with these --cuts, --by, --bound and --tears; 'crashbpf images' tells how many it has"
+        },
     }
 }
 

@@ -17,7 +17,7 @@ use Rattle.cure.specs.Failures.{IsWindowIf, IsFailure, AreFailures}
 not_behind : (way : By) (es : List Entry) (cut : ℕ) (ds : List Departure) (v w : Window) → IsWindow way es cut ds v → IsWindow way es cut ds w → v.end < w.end → ⊥
 not_behind way es cut ds v w a b less = false≢true (sym (a.last w.end less b.before) ∙ b.end)
 
-one_end : (m n : ℕ) → (m < n → ⊥) → (n < m → ⊥) → m ≡ n
+pub one_end : (m n : ℕ) → (m < n → ⊥) → (n < m → ⊥) → m ≡ n
 one_end m n below above = omega (arith, below, above)
 
 same_window : (way : By) (es : List Entry) (cut : ℕ) (ds : List Departure) (v w : Window) → IsWindow way es cut ds v → IsWindow way es cut ds w → v ≡ w

@@ -111,13 +111,3 @@ pub programs_end : (s : StartsValue) (n : ℕ) (fs : List ProgramFailures) (star
     → before ++ programs_text s n (drop n fs) ≡ start ++ programs_text s 0 fs → before ≡ start ++ programs_text s 0 fs
 programs_end s n fs start before past so_far =
     sym (ap (λ (rest : List ProgramFailures). before ++ programs_text s n rest) (drop_all fs n past) ∙ append-nil before) ∙ so_far
-
--- at how many cuts images fail, with one more
-pub failing_more : (cs : List CutFailures) (n count one now : ℕ) (c : CutFailures) → n < length cs → c ≡ get_or cs n c
-    → (count ≡ length (filter fails (take n cs))) × (count ≤ n) → one ≡ length (filter fails (c ∷ [])) → one ≤ 1 → now ≡ count + one
-    → (now ≡ length (filter fails (take (n + 1) cs))) × (now ≤ n + 1)
-failing_more cs n count one now c within is so_far more few sum =
-    let taken : take (n + 1) cs ≡ take n cs ++ c ∷ [] = take_more cs n c within ∙ ap (λ (x : CutFailures). take n cs ++ x ∷ []) (sym is) in
-    let whole : length (filter fails (take (n + 1) cs)) ≡ length (filter fails (take n cs)) + length (filter fails (c ∷ [])) =
-    ap (λ (xs : List CutFailures). length (filter fails xs)) taken ∙ ap length (filter-append fails (take n cs) (c ∷ [])) ∙ length-append (filter fails (take n cs)) (filter fails (c ∷ [])) in
-    (omega (arith, whole, so_far.0, more, sum), omega (arith, so_far.1, few, sum))

@@ -12,13 +12,6 @@ pub record IsLeastOfFirst (es : List Entry) (n : ℕ) (found : ℕ) : Type 0 whe
   pub lie : (i : ℕ) (e : Entry) → i < n → slice_get es i ≡ Some e → end_of e ≤ found
   pub least : (m : ℕ) → 1 ≤ m → LieOn es m → found ≤ m
 
-pub begin : (es : List Entry) (least : ℕ) → least ≡ 1 → IsLeastOfFirst es 0 least
-begin es least one = record {
-  some = omega (arith, one);
-  lie = λ i e lt there. absurd (omega (arith, lt));
-  least = λ m some lie. omega (arith, one, some);
-}
-
 -- each entry of a log lies on the largest device
 pub fits : (log : LogValue) (items : List Entry) (n : ℕ) (e : Entry) → IsLog log → items ≡ log.entries → n < length items → e ≡ get_or items n e
     → 0 < e.count → e.sector + e.count ≤ 16384

@@ -4,5 +4,4 @@ pub mod Line
 pub mod Listing
 pub mod LogTable
 pub mod Device
-pub mod Large
 pub mod Known

@@ -17,8 +17,3 @@ numbered_slot slot (Some i) = numbered_line slot i
 
 abbrev pub numbered_listing : List (Option Instr) → List ℕ
 numbered_listing slots = flat_map (λ slot. numbered_slot slot (at slots slot)) (range_with_len 0 (length slots))
-
--- the note that shows the instruction at a slot
-abbrev pub slot_note : Option Instr → ℕ → List ℕ
-slot_note None slot = []
-slot_note (Some i) slot = codes "note: slot " ++ numbered_line slot i

@@ -8,8 +8,12 @@ pub fn log_cure(cause: LogCause) -> &'static str {
         LogCause::Short | LogCause::Magic | LogCause::Version => {
             "LOG stands before the programs, and is what the target dm-log-writes made"
         }
-        LogCause::SectorSize => "record over a device with sectors of 512 bytes",
-        LogCause::CutShort => "copy more of the log device",
+        LogCause::SectorSize => {
+            "record over a device with sectors of 512 bytes; in a log of your own the size of a sector stands at byte 24"
+        }
+        LogCause::CutShort => {
+            "copy more of the log device; in a log of your own the number of entries stands at byte 16"
+        }
         LogCause::Limit => {
             "copy the first 64 MiB of the log device alone; make file systems without discards"
         }
@@ -22,7 +26,7 @@ pub fn code_cure(cause: CodeCause) -> &'static str {
     match cause {
         CodeCause::Memory => "",
         _ => {
-            "is the file a program? examples/cc makes one of C, 'crashbpf asm' one of an assembly text"
+            "is the file a program? crashbpf-cc makes one of C, 'crashbpf asm' one of an assembly text"
         }
     }
 }
@@ -42,20 +46,22 @@ pub fn asm_cure(cause: AsmCause) -> &'static str {
 pub fn verifier_cure(cause: VerifierCause) -> &'static str {
     match cause {
         VerifierCause::Target | VerifierCause::End => {
-            "are these the bytes of one whole function? examples/cc takes the one that is named; in C return on each path"
+            "are these the bytes of one whole function? crashbpf-cc takes the one that is named; in C return on each path"
         }
-        VerifierCause::Loop => "in C begin the loop's body with TURN(times, otherwise)",
+        VerifierCause::Loop => {
+            "in C begin the loop's body with TURN(times, otherwise), or compile it by crashbpf-cc, which bounds plain loops"
+        }
         VerifierCause::AgainForm => "in C write TURN, with a constant from 1 to 1048576",
         VerifierCause::CallDepth => {
-            "in C write INLINED before a function, a loop in place of recursion, and no memset, memcpy or memcmp; examples/cc names what is called"
+            "in C write a loop in place of recursion, and compile by crashbpf-cc, which inlines all but LOCAL functions, memset, memcpy and memcmp too"
         }
         VerifierCause::Budget => "fewer turns, or whole sectors by same, zero and mix",
         VerifierCause::UnsetRegister => {
-            "give each variable a value; a checker has one parameter, the context, and a LOCAL function takes and answers numbers alone"
+            "give each variable a value, in C on each path; choose a position, not between two addresses (p = c ? &a : &b) or structs (s = c ? a : b); a checker has one parameter, the context, and a LOCAL function takes and answers numbers alone"
         }
         VerifierCause::UnsetByte => "copy fills a local only with the whole size of the local",
         VerifierCause::OutsideRegion => {
-            "in C take SECTOR(n, ..), which tests for 0, and test a u64 index with < right before its use: TURN_BELOW, ELEMENT; or read by position, as u64_at(p)"
+            "in C take SECTOR(n, ..), which tests for 0, and test a u64 index with < right before its use: TURN_BELOW, ELEMENT, with KEEP(pointer) in a loop that has ELEMENT twice; or read by position, as u64_at(p)"
         }
         VerifierCause::ReadOnly => "write to a local copy",
         VerifierCause::PointerArithmetic => {

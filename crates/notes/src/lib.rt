@@ -12,9 +12,7 @@
 //! | `log_table(alloc, log)` | the entries of a log, one a line, by the numbers that the report names |
 //! | `put_note(out, text)` | one line of a note |
 //! | `put_refused(out, rule, cure)` | what a refusal means, and what helps, if anything is known |
-//! | `put_slot(out, program, slot)` | the instruction at a slot, if one begins there |
 //! | `put_known(out, instr, state)` | what is known of the registers that an instruction reads, and what an access wants |
-//! | `put_large(out, log, bound)` | how many entries have more sectors than may depart, if any has |
 //! | `put_entry(alloc, out, log, number)` | an entry, as in the table |
 //! | `put_entry_line(out, number, epoch, entry)` | a line of the table |
 //! | `put_least(out, log)` | the size of the least device that holds a log |
@@ -39,7 +37,6 @@ mod cures;
 mod device;
 mod escaped;
 mod known;
-mod large;
 mod line;
 mod listing;
 mod table;
@@ -48,7 +45,6 @@ pub use cures::{asm_cure, code_cure, log_cure, verifier_cure};
 pub use device::put_least;
 pub use escaped::put_escaped;
 pub use known::put_known;
-pub use large::put_large;
 pub use line::{put_note, put_refused};
-pub use listing::{numbered_listing, put_slot};
+pub use listing::numbered_listing;
 pub use table::{log_table, put_entry, put_entry_line};

@@ -1,8 +1,7 @@
 //! Instructions with their slots.
 
 ghost use Rattle.std.specs.Prelude.{◌≡◌, ◌++◌, IfOk, OnOk, string_bytes};
-ghost use Rattle.bpf_isa.specs.Slots.{at};
-ghost use Rattle.notes.specs.Listing.{numbered_line, numbered_slot, numbered_listing, slot_note};
+ghost use Rattle.notes.specs.Listing.{numbered_line, numbered_slot, numbered_listing};
 
 use bpf_asm::put_instr;
 use bpf_isa::instr::Instr;
@@ -37,15 +36,4 @@ pub fn numbered_listing(alloc: Global, program: &Program) -> Result<String, Allo
         put_line(&mut out, slot, program.at(slot))?;
     }
     Ok(out)
-}
-
-/// Appends a note with the instruction that begins at a slot; nothing where none does.
-pub fn put_slot(out: &mut String, program: &Program, slot: usize) -> Result<(), AllocError>
-    ensures { OnOk result (string_bytes out.new ≡ string_bytes out.old ++ slot_note (at program.now slot) slot) }
-{
-    let Some(instr) = program.at(slot) else {
-        return Ok(());
-    };
-    out.push_str("note: slot ")?;
-    put_numbered(out, slot, &instr)
 }

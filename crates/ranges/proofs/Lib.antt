@@ -11,3 +11,4 @@ pub mod Chains
 pub mod SmallerMoves
 pub mod SmallerRules
 pub mod SmallerStates
+pub mod Writing

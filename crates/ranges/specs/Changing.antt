@@ -1,11 +1,11 @@
--- A state in which little changes: a register or two, those of a call, or a group of the stack.
+-- A state in which little changes: a register or two, those of a call, a group of the stack, or bytes of it.
 use Rattle.std.specs.Prelude.{◌≡◌, slice_set, Option, None, Some}
 use Rattle.ranges.specs.declared.change.Change.{Change}
 use Rattle.ranges.specs.declared.change.Change.TheVariants as change
 use Rattle.ranges.specs.declared.change.Effect.{Effect}
 use Rattle.ranges.specs.declared.change.Effect.TheVariants as effect
 use Rattle.ranges.specs.States.{Abstract}
-use Rattle.ranges.specs.After.{answered}
+use Rattle.ranges.specs.After.{answered, written}
 use Rattle.ranges.specs.Reading.{with_value, with_groups}
 use Rattle.ranges.specs.Seen.{kind_of}
 use Rattle.ranges.specs.SeenStates.{group_of}
@@ -16,6 +16,8 @@ changed s (change.Register n v) = with_value s n (kind_of v)
 changed s (change.Registers n v m w) = with_value (with_value s n (kind_of v)) m (kind_of w)
 changed s (change.Answer v) = answered s (kind_of v)
 changed s (change.Group n g) = with_groups s (slice_set s.groups n (group_of g))
+changed s (change.Written b) = with_groups s (written b.at b.n s.groups)
+changed s (change.Copied b v) = answered (with_groups s (written b.at b.n s.groups)) (kind_of v)
 
 -- an effect on a state says which one is left, or none; where much changes it says nothing
 abbrev pub Leaves : Abstract → Effect → Option Abstract → Type 0

@@ -1,9 +1,11 @@
 //! What an instruction changes in a state, where that is little: it needs no copy of the state.
 
-ghost use Rattle.std.specs.Prelude.{◌≡◌, ◌==◌, nat_le, if◌then◌else◌, Some};
+ghost use Rattle.std.specs.Prelude.{◌≡◌, ◌==◌, ◌<◌, nat_le, if◌then◌else◌, Some, slice_index_or, []};
 ghost use Rattle.std.specs.Option.{option_map, option_map_or};
-ghost use Rattle.ranges.specs.After.{after_of, answered, call_after, load_after, store_after};
+ghost use Rattle.helpers.specs.declared.helper.Helper.TheVariants as helper;
+ghost use Rattle.ranges.specs.After.{after_of, answered, call_after, load_after, store_after, written};
 ghost use Rattle.ranges.specs.Changing.{Leaves};
+ghost use Rattle.ranges.specs.Groups.{Marked};
 ghost use Rattle.ranges.specs.Kinds.{Num, Unset};
 ghost use Rattle.ranges.specs.Passing.{edge_of};
 ghost use Rattle.ranges.specs.Reading.{any_word, with_value};
@@ -18,7 +20,9 @@ use crate::place::{Place, place_of};
 use crate::rules::is_null_test;
 use crate::spill::Spill;
 use crate::state::State;
+use crate::stretch::Stretch;
 use crate::value::Value;
+use crate::writes::group_after;
 use arithmetic::byte_count;
 use bpf_isa::instr::{Instr, Size, Source};
 use bpf_isa::register::Register;
@@ -38,6 +42,10 @@ pub enum Change {
     Answer(Value),
     /// A group of the stack, by its place.
     Group(usize, Group),
+    /// Bytes of the stack, which are written.
+    Written(Stretch),
+    /// Bytes of the stack, and the registers of the call that writes them.
+    Copied(Stretch, Value),
 }
 
 /// What comes of a state.
@@ -81,6 +89,14 @@ fn group_behind(n: usize, group: Group, k: usize, other: Group) -> Group
     if n == k { group } else { other }
 }
 
+/// Group k of a state's stack where bytes are written.
+fn group_written(bytes: Stretch, state: &State, k: usize) -> Group
+    requires { k < 64 }
+    ensures { group_of result ≡ slice_index_or (written bytes.at bytes.n (state_of state.now).groups) k (Marked []) }
+{
+    group_after(bytes.at, bytes.n, k, state.group(k))
+}
+
 impl Change {
     ghost use Rattle.std.specs.Prelude.{◌≡◌, ◌<◌, slice_index_or, []};
     ghost use Rattle.ranges.specs.Changing.{changed};
@@ -100,8 +116,10 @@ impl Change {
             Change::Registers(n, value, m, other) => {
                 value_behind(*m, *other, k, value_behind(*n, *value, k, state.at(k)))
             }
-            Change::Answer(value) => answer_behind(*value, k, state.at(k)),
-            Change::Stays | Change::Group(_, _) => state.at(k),
+            Change::Answer(value) | Change::Copied(_, value) => {
+                answer_behind(*value, k, state.at(k))
+            }
+            Change::Stays | Change::Group(_, _) | Change::Written(_) => state.at(k),
         }
     }
 
@@ -113,6 +131,7 @@ impl Change {
     {
         match self {
             Change::Group(n, group) => group_behind(*n, *group, k, state.group(k)),
+            Change::Written(bytes) | Change::Copied(bytes, _) => group_written(*bytes, state, k),
             Change::Stays
             | Change::Register(_, _)
             | Change::Registers(_, _, _, _)
@@ -132,7 +151,7 @@ fn put(state: &State, register: Register, value: Option<Value>) -> Effect
     }
 }
 
-/// A store: little changes where it writes the eight bytes of a group.
+/// A store to the stack. Elsewhere nothing is said.
 #[tactic(auto, unfolding(crate::specs::After::stored_groups))]
 fn stored(state: &State, value: Value, size: Size, base: Register, offset: i16) -> Effect
     ensures { Leaves (state_of state.now) result (Some (store_after (state_of state.now) (kind_of value) size base offset)) }
@@ -142,7 +161,7 @@ fn stored(state: &State, value: Value, size: Size, base: Register, offset: i16) 
         Place::Stack(at) => if value.is_set() && is_group(at, n) {
             Effect::Changed(Change::Group((at / 8) as usize, Group::Spilled(Spill { value })))
         } else {
-            Effect::Much
+            Effect::Changed(Change::Written(Stretch { at, n }))
         },
         _ => Effect::Much,
     }
@@ -163,14 +182,28 @@ fn load(
     loaded(state, sectors, place, size)
 }
 
-/// A call of a helper. Helper 2 writes to the stack.
+/// A call of helper 2, which writes bytes of the stack.
+#[tactic(auto, unfolding(crate::specs::After::call_after))]
+fn copied(state: &State) -> Effect
+    ensures { Leaves (state_of state.now) result (Some (call_after (state_of state.now) helper.Copy)) }
+{
+    let n = state.at(3).words().unsigned.low;
+    match place_of(state.at(2), 0, n) {
+        Place::Stack(at) => Effect::Changed(Change::Copied(
+            Stretch { at, n },
+            answer_value(Helper::Copy),
+        )),
+        _ => Effect::Much,
+    }
+}
+
+/// A call of a helper.
 #[tactic(auto, unfolding(crate::specs::After::call_after))]
 fn called(state: &State, helper: Option<Helper>) -> Effect
     ensures { Leaves (state_of state.now) result (Some (option_map_or (call_after (state_of state.now)) helper (answered (state_of state.now) (Num any_word)))) }
 {
-    let _state = state;
     match helper {
-        Some(Helper::Copy) => Effect::Much,
+        Some(Helper::Copy) => copied(state),
         Some(helper) => Effect::Changed(Change::Answer(answer_value(helper))),
         None => Effect::Changed(Change::Answer(Value::Num(Bounds::full()))),
     }

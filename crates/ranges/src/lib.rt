@@ -65,6 +65,7 @@
 //! - `pointers`: what an addition makes of a pointer. `place`: where an access falls. `bytes`: what is
 //!   known of the bytes there. `writes`: stores.
 //! - `reads`, `rules`: the rules, one function a form. Their causes are those of `base`.
+//! - `change`: what an instruction changes, where that needs no copy; `stretch`: bytes that are written.
 //! - `moving`: what an instruction, an edge and a local call make of a state, in place; `effects` and
 //!   `edges` have the values for it. `after` and `branch` copy a state and then do that.
 //! - `knowing`: what is known of a state, and joining and rounding it.
@@ -95,6 +96,7 @@ mod reads;
 mod rules;
 mod spill;
 mod state;
+mod stretch;
 mod value;
 mod writes;
 
@@ -107,4 +109,5 @@ pub use moving::{advance, enter, follow};
 pub use rules::check;
 pub use spill::Spill;
 pub use state::State;
+pub use stretch::Stretch;
 pub use value::{ContextOffset, SectorOffsets, StackOffset, Value};

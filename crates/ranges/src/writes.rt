@@ -28,7 +28,7 @@ fn mark_after(at: u64, n: u64, g: usize, group: Group, k: usize) -> bool
 
 /// Group g where n bytes from a place on are written.
 #[tactic(auto, unfolding(crate::specs::After::group_after))]
-fn group_after(at: u64, n: u64, g: usize, group: Group) -> Group
+pub(crate) fn group_after(at: u64, n: u64, g: usize, group: Group) -> Group
     requires place { at + n ≤ 512 }
     requires groups { g < 64 }
     ensures { group_of result ≡ group_after at n g (group_of group) }

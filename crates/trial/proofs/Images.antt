@@ -8,15 +8,6 @@ use Rattle.std.specs.List.{range_with_len}
 use Rattle.logfmt.specs.Initial.{initial_sector}
 use Rattle.trial.specs.Image.{is_image, device_of}
 
--- an image has a sector at least, and no more than 16,384
-pub image_bounds : (bytes : List ℕ) → is_image bytes ≡ true → (512 ≤ length bytes) × (length bytes ≤ 8388608)
-image_bounds bytes h =
-    let outer = and_parts ((length bytes % 512 == 0) && nat_le 512 (length bytes)) (nat_le (length bytes) 8388608) h in
-    let inner = and_parts (length bytes % 512 == 0) (nat_le 512 (length bytes)) outer.0 in
-    let some : nat_le 512 (length bytes) ≡ true = inner.1 in
-    let few : nat_le (length bytes) 8388608 ≡ true = outer.1 in
-    (grind (arith, nat_tests), grind (arith, nat_tests))
-
 -- a sector of the device
 pub sector_there : (bytes : List ℕ) (sectors n : ℕ) → n < sectors → slice_get (device_of bytes sectors) n ≡ Some (initial_sector bytes n)
 unfolding device_of

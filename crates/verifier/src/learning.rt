@@ -62,6 +62,26 @@ pub(crate) fn tell_value(known: &mut State, n: usize, new: Value) -> bool
     true
 }
 
+/// Whether a group holds all that another does, as `contains`: most are numbers, which aren't copied for it.
+#[inline(always)]
+fn holds(known: &Group, new: &Group) -> bool {
+    match (known, new) {
+        (Group::Spilled(x), Group::Spilled(y)) => match (&x.value, &y.value) {
+            (Value::Num(a), Value::Num(b)) => a.contains(*b),
+            _ => x.value.contains(y.value),
+        },
+        _ => known.contains(*new),
+    }
+}
+
+/// Whether group n of a known state's stack holds all that a group does.
+#[inline(always)]
+fn holds_group(known: &State, n: usize, new: &Group) -> bool
+    requires { n < 64 }
+{
+    holds(&known.groups[n], new)
+}
+
 /// Joins a group to group n of a known state's stack. Whether that tells something.
 #[inline(always)]
 #[tactic(auto, using(crate::proofs::Ways::tells_no_group))]
@@ -69,10 +89,10 @@ pub(crate) fn tell_group(known: &mut State, n: usize, new: Group) -> bool
     requires { n < 64 }
     ensures { TellsGroup (state_of known.old) n (group_of new) (state_of known.new) }
 {
-    let old = group_at(known, n);
-    if old.contains(new) {
+    if holds_group(known, n, &new) {
         return false;
     }
+    let old = group_at(known, n);
     put_group(known, n, old.join(new));
     true
 }

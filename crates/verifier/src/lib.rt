@@ -13,7 +13,6 @@
 //! | `verify(alloc, &program, sectors)` | the program with its budget and its table, or why it is refused |
 //! | `verify_known(alloc, &program, sectors)` | the same, and beside a refusal what is known at its slot |
 //! | `unreached_of(&verified)` | how many instructions no run reaches, and the first |
-//! | `Known`: `new`, `accept`, `refuse` | what is known of the programs of a command, filled in as they are verified |
 //! | `check_table(&program, &shape, sectors, &table)` | that a table is good, or its first breach; takes no memory |
 //! | `Verified`: `program`, `sectors`, `budget`, `table` | what was accepted, for which devices, how many steps a run takes at most, and what is known |
 //! | `raise(alloc, &table)` | what a table of the rules without signed bounds and spilled numbers, an `UnsignedTable`, is under those with them |
@@ -75,8 +74,8 @@
 //!   gets a mark, and only the marked slots pass on in the next round: what the others pass on is contained
 //!   where it arrives, so it would change nothing. The table after each round is still exactly that of the
 //!   definition, in which all slots pass on.
-//! - `verified`: `Verified`, `verify` and `verify_known`. `unreached`: what no run reaches. `known`: what is handed on to the
-//!   notes. `laws`: the laws, contracts of functions that do nothing.
+//! - `verified`: `Verified`, `verify` and `verify_known`. `unreached`: what no run reaches. `laws`: the laws, contracts
+//!   of functions that do nothing.
 //!
 //! # Example
 //!
@@ -93,7 +92,6 @@ mod agenda;
 mod check;
 mod climbing;
 mod inferring;
-mod known;
 pub mod laws;
 mod learning;
 mod news;
@@ -111,7 +109,6 @@ mod way;
 mod worklist;
 
 pub use check::check_table;
-pub use known::Known;
 pub use raising::{UnsignedTable, raise};
 pub use table::Table;
 pub use unreached::{Unreached, unreached_of};

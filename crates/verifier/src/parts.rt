@@ -6,7 +6,7 @@ ghost use Rattle.std.specs.Prelude.{◌<◌, IfSome};
 
 use bpf_isa::instr::{Instr, Source};
 use bpf_isa::register::Register;
-use ranges::Change;
+use ranges::{Change, Stretch};
 
 /// A bit for each register, and one for each group of the stack.
 #[derive(Clone, Copy)]
@@ -188,6 +188,15 @@ pub(crate) fn looked_at(instr: &Instr) -> Parts {
     }
 }
 
+/// The groups in which bytes are written.
+fn written(bytes: Stretch) -> Parts {
+    let last = (bytes.at + bytes.n).saturating_sub(1) / 8;
+    Parts {
+        values: 0,
+        groups: u64::MAX << (bytes.at / 8 % 64) & u64::MAX >> (63 - last % 64),
+    }
+}
+
 /// The parts that change.
 pub(crate) fn parts_of(change: &Change) -> Parts {
     match change {
@@ -199,6 +208,8 @@ pub(crate) fn parts_of(change: &Change) -> Parts {
             values: 0,
             groups: 1 << (n % 64),
         },
+        Change::Written(bytes) => written(*bytes),
+        Change::Copied(bytes, _) => Parts::CALLED.and(written(*bytes)),
     }
 }
 

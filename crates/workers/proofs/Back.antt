@@ -177,9 +177,6 @@ all_given s board (j ∷ jobs) (d ∷ done) same each =
 
 -- as the workers are taken one by one
 
-pub none_parted : {X : Type 0} → AreParted {X = X} [] [] [] []
-none_parted = record { all = λ i d lt. absurd (omega (arith, lt)); seats_are = refl; hands_are = refl; pieces_are = refl }
-
 pub one_parted : {X : Type 0} (done : List (Done X)) (d : Done X) (seats : List SeatValue) (hands : List HandValue) (pieces own : List PieceValue) → AreParted done seats hands pieces → is_ok d.pieces ≡ true → pieces_of d ≡ own
     → AreParted (done ++ d ∷ []) (seats ++ d.seat ∷ []) (hands ++ d.hand ∷ []) (pieces ++ own)
 one_parted {X} done d seats hands pieces own h ok e = record {

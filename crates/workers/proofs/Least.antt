@@ -10,10 +10,6 @@ use Rattle.workers.specs.Counting.{reaches, counts_with}
 use Rattle.workers.specs.Least.{lower, least_image}
 use Rattle.workers.specs.Pieces.{PieceValue, lines_of, full_lines, counts}
 
-lower_none : (a : Option ℕ) → lower a None ≡ a
-lower_none None = refl
-lower_none (Some image) = refl
-
 lower_again : (a b c : Option ℕ) → lower a (lower b c) ≡ lower (lower a b) c
 lower_again None b c = refl
 lower_again (Some a) None c = refl

@@ -101,14 +101,6 @@ any_append test (x ∷ xs) ys e = step (test x) (any_append test xs ys) e
     step true rest g = inl refl
     step false rest g = rest g
 
-any_more : (test : FailingLine → Bool) (xs ys : List FailingLine) → list_any test xs ≡ true → list_any test (xs ++ ys) ≡ true
-any_more test [] ys e = absurd (let bad : false ≡ true = e in cc)
-any_more test (x ∷ xs) ys e = step (test x) (any_more test xs ys) e
-  where
-    step : (b : Bool) → (list_any test xs ≡ true → list_any test (xs ++ ys) ≡ true) → (b || list_any test xs) ≡ true → (b || list_any test (xs ++ ys)) ≡ true
-    step true rest g = refl
-    step false rest g = rest g
-
 -- some piece has a line that passes the test
 abbrev HasLine : (FailingLine → Bool) → List PieceValue → Type 0
 HasLine test ps = (i : ℕ) × ((p : PieceValue) × (slice_get ps i ≡ Some p) × (list_any test (lines_of p.found) ≡ true))
@@ -223,9 +215,6 @@ each_push P ps p h own i q there = elim (slice_get_of_push ps p i q there) [
   | inl was ↦ h i q was
   | inr last ↦ subst P (sym last.1) own
 ]
-
-pub blocks_below : (s : Subject) (ps : List PieceValue) → ArePieces s ps → All (λ (p : PieceValue). p.block < block_count s) ps
-blocks_below s ps h k d lt = (h k (get_or ps k d) (slice_get-get_or ps k d lt)).0
 
 -- these are never refused but for want of memory
 

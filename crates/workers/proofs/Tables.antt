@@ -192,14 +192,6 @@ element_of_blank zero b row h = absurd (let bad : None ≡ Some row = h in cc)
 element_of_blank (suc n) zero row h = let e : Some None ≡ Some row = h in cc
 element_of_blank (suc n) (suc b) row h = element_of_blank n b row h
 
-pub blank_rows : (blocks : ℕ) (rows : List Row) → rows ≡ replicate blocks None → AreRows [] blocks rows None None
-blank_rows blocks rows e = record {
-  count = rw e (length-replicate {A = Row} blocks None);
-  each = λ b row there. element_of_blank blocks b row (rw (← e) there);
-  first = λ b lt. omega arith;
-  lowest = refl;
-}
-
 -- an element between others
 pub all_middle : {X : Type 0} (P : X → Type 0) (xs ys all : List X) (x : X) → xs ++ x ∷ ys ≡ all → All P all → P x
 all_middle P xs ys all x e h =

@@ -3,7 +3,7 @@
 use crate::calls::refused::OfMemory;
 use crate::calls::texts::{FLUSH, Item, text_of};
 use logfmt::{Log, read, write};
-use notes::{log_table, put_entry, put_escaped, put_large, put_least, put_note, put_refused};
+use notes::{log_table, put_entry, put_escaped, put_least, put_note, put_refused};
 use std::alloc::{AllocError, Global};
 
 const TWO_EPOCHS: [Item; 3] = [(0, 1, 0, 0xaa), (0, 0, FLUSH, 0), (1, 2, 0, 0xbb)];
@@ -25,7 +25,6 @@ fn noted(alloc: Global, log: &Log) -> Result<String, AllocError> {
     let mut out = String::new(alloc);
     put_entry(alloc, &mut out, log, 2)?;
     put_least(&mut out, log)?;
-    put_large(&mut out, log, 1)?;
     put_refused(&mut out, "a rule", "a cure")?;
     put_note(&mut out, "a note")?;
     put_escaped(&mut out, b"a\"b")?;

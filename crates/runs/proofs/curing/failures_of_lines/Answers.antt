@@ -1,7 +1,8 @@
 use Rattle.std.proofs.Common.{◌∙◌, sym, ap}
 use Rattle.choices.specs.Sums.{StartsValue}
 use Rattle.request.proofs.Results.{both_ok}
-use Rattle.runs.proofs.Tried.{marks_inside, failures_found}
+use Rattle.runs.proofs.Missed.{marks_within}
+use Rattle.runs.proofs.Tried.{failures_found}
 use Rattle.runs.proofs.curing.failures_of_lines.Goals as goal
 
 pub failures_of-requires-clause-by : goal.failures_of-requires-clause-by
@@ -14,7 +15,7 @@ pub failures_of-requires-clause-images : goal.failures_of-requires-clause-images
 failures_of-requires-clause-images c =
     λ i m there.
     let task = c.args.task.now in
-    marks_inside c.lines_are_set.ensures task.options.now task.log.now task.checkers.now c.args.starts.now c.args.lines.now c.as_slice.result.now i m
+    marks_within c.lines_are_set.ensures task.options.now task.log.now task.checkers.now c.args.starts.now c.args.lines.now c.as_slice.result.now i m
     c.requires.starts c.requires.lines (c.as_slice.ensures.value ∙ c.in_ok-marks.ensures) there
 
 pub returns : goal.returns
