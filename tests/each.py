@@ -40,11 +40,11 @@ def differs(what, found, wanted):
     return [] if found == wanted else [f"{what} is {found!r}, and {wanted!r} is right"]
 
 
-def explored(folder, run, command="explore"):
+def explored(folder, run, command="explore", options=""):
     """Explores a run with a program that answers 1 always, and returns the path of its report."""
     Path(folder, "disk.log").write_bytes(log(run.recorded))
     Path(folder, "one.s").write_text("mov64 r0, 1\nexit\n")
-    done = sh(folder, f"crashbpf asm one.s > one.bpf && crashbpf {command} disk.log one.bpf {run.options()} > report")
+    done = sh(folder, f"crashbpf asm one.s > one.bpf && crashbpf {command} disk.log one.bpf {run.options()} {options} > report")
     return [] if done.returncode == 1 else [f"{command} ended with {done.returncode}: {done.stderr}"]
 
 
@@ -60,6 +60,18 @@ def gives_images(folder, run):
     wanted = [line for it in images for line in (told(it, 3), f"    {hashlib.sha256(it.content()).hexdigest()}  -")]
     found += differs("the output", done.stdout, "\n".join([*wanted, f"images {len(images)} failing {len(images)}", ""]))
     return found + differs("the status", done.returncode, 1)
+
+
+def gives_large(folder):
+    """What is wrong with the images of a device that takes --large: that option may be said or left out."""
+    run = Run([W(0, 1, 1), W(20000, 1, 2)], sectors=20480)
+    found = explored(folder, run, options="--large")
+    images = list(run.images())
+    wanted = "\n".join([*(told(it, 0) for it in images), f"images {len(images)} failing 0", ""])
+    for options in ("", "--large"):
+        done = sh(folder, f'"$1" disk.log report {options} -- sh -c \'[ "$(wc -c < "$1")" = 10485760 ]\' name {{}}', EACH)
+        found += differs(f"the output with '{options}'", done.stdout, wanted)
+    return found
 
 
 def gives_groups(folder):
@@ -174,6 +186,7 @@ def rows():
     yield "images by write, with a flush and a range", lambda folder: gives_images(
         folder, Run(small, bound=2, by="write", flush=(1, 5), first=2, last=5)
     )
+    yield "images of a large device", gives_large
     yield "groups of why", gives_groups
     yield "refusals", refuses
     if all(map(shutil.which, TOOLS)):

@@ -131,10 +131,12 @@ class Run:
 
     def told_of_base(self):
         """What is told of the initial content, where some is given: its number."""
+        if not self.base:
+            return ""
         joined = 0
         for number in range(self.sectors):
             joined = (joined * JOIN_FACTOR + mix(self.initial_sector(number))) % 2**64
-        return f" base {joined}" if self.base else ""
+        return f" base {joined}"
 
     def told(self):
         """What is told of the cuts behind their kind: the flushes that were added, and the range."""

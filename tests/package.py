@@ -111,7 +111,7 @@ def holds(made):
     found += differs("what one of both alone holds", names[".deb"] ^ names[".gz"], set())
     wanted = {"bin/crashbpf", "bin/crashbpf-cc", "share/man/man1/crashbpf.1.gz", "share/doc/crashbpf/copyright"}
     wanted |= {"share/bash-completion/completions/crashbpf", "share/fish/vendor_completions.d/crashbpf.fish", "share/zsh/site-functions/_crashbpf"}
-    shown = ("README.md", "CONTRIBUTING.md", "docs/REPORT.md", "docs/page.png", "examples/checker.h", "examples/tree/root.c", "examples/tree/wrong.log")
+    shown = ("README.md", "CONTRIBUTING.md", "docs/REPORT.md", "docs/page.png", "examples/checker.h", "examples/tree/root.c", "examples/tree/wrong.log", "tools/trace_log.py")
     wanted |= {f"share/crashbpf/{it}" for it in shown}
     return found + differs("what is missing", wanted - names[".gz"], set())
 

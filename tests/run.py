@@ -52,6 +52,7 @@ Where the rows stand
     rows/workers.py     runs by many workers, with and without a cache
     rows/recording.py   logs that were made of traces, and an ext4 that was recorded
     rows/limits.py      sizes near each limit
+    rows/large.py       devices, logs and images that `--large` allows, against the model
 
     notation.py         how rows, logs and programs are written down
     cure_model.py       the cure, written from docs/CRASH-MODEL.md and docs/REPORT.md alone; by itself it tries the laws of windows
@@ -94,6 +95,7 @@ from rows import (
     encodings,
     examples,
     flushes,
+    large,
     limits,
     logs,
     modelled,
@@ -145,6 +147,7 @@ TABLES = [
     workers,
     recording,
     limits,
+    large,
 ]
 
 SHORTENED = 100

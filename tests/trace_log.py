@@ -141,6 +141,24 @@ def refused(folder, trace, said, sectors):
     return None
 
 
+def large(folder):
+    """Traces of more than a log and its device may have without --large."""
+    traces = {
+        "write 1048575 1 fill 7\n": [W(1048575, 1, 7)],
+        "write 0 131073 fill 1\n": [W(0, 131073, 1)],
+        "discard 0 262144\nmark all\n": [D(0, 262144), M("all")],
+    }
+    for trace, entries in traces.items():
+        Path(folder, "trace").write_text(trace)
+        done = run(folder, "trace", "out.log", "--large")
+        good = not (done.returncode or done.stderr) and Path(folder, "out.log").read_bytes() == log(entries)
+        yield None if good else f"{trace}: status {done.returncode}, {done.stderr.decode()}, or another log"
+    Path(folder, "trace").write_text("write 1048575 2 fill 1\n")
+    done = run(folder, "trace", "out.log", "--large")
+    said = "trace_log: trace:1: it ends at sector 1048577, and the device has 1048576\n"
+    yield None if done.returncode == 2 and done.stderr.decode() == said else f"past the largest device: '{done.stderr.decode()}'"
+
+
 def others(folder):
     """Traces and logs that aren't there, and sizes that no device has."""
     Path(folder, "trace").write_text("flush\n")
@@ -149,6 +167,8 @@ def others(folder):
         (["trace", "no/out.log"], "trace_log: no/out.log: it can't be written: No such file or directory\n"),
         (["trace", "out.log", "--sectors", "0"], "a device has 1 to 16384 sectors\n"),
         (["trace", "out.log", "--sectors", "16385"], "a device has 1 to 16384 sectors\n"),
+        (["trace", "out.log", "--sectors", "0", "--large"], "a device has 1 to 1048576 sectors\n"),
+        (["trace", "out.log", "--sectors", "1048577", "--large"], "a device has 1 to 1048576 sectors\n"),
     ]:
         done = run(folder, *words)
         good = done.returncode == 2 and done.stderr.decode().endswith(said)
@@ -162,6 +182,7 @@ def main():
         found = [made(folder, *it) for it in MADE]
         found += [refused(folder, *it, 4) for it in REFUSED] + [refused(folder, *it, 16384) for it in REFUSED_LARGE]
         found += others(folder)
+        found += large(folder)
     wrong = [it for it in found if it]
     for line in wrong:
         print("FAILED", line)

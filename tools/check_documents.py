@@ -15,6 +15,8 @@ The documents are the files *.md at the top (the folder above this one, or TOP) 
   printed, each with its file, line and number of words, and nothing else is looked at. A name or a piece of code in
   backticks is one word. The numbers of LONG only fall: whoever shortens sentences writes down what is left.
 
+README.md names the kit that the program names by --version.
+
 In README.md and docs/PROVED.md, moreover, for what stands in backticks and has no space in it:
 
 - A path (with a slash, not in front) exists, seen from the top. A folder out/ is made by a build, and isn't looked into.
@@ -171,6 +173,13 @@ def too_long(text):
         yield 1, f"{len(text.split())} words, and at most {WORDS} are allowed"
 
 
+def other_kit(top, text):
+    """Returns the kits that README.md names and `crashbpf --version` doesn't, each with the number of its line."""
+    kit = re.search(r"proved with (rattle-kit-[^)]*)\)", (top / "crates/command_line/src/words.rt").read_text())[1]
+    for number, line in enumerate(text.splitlines(), 1):
+        yield from ((number, f"{it} isn't {kit}, the kit of the program") for it in re.findall(r"`(rattle-kit-[^`]*)`", line) if it != kit)
+
+
 def believed(top):
     """Returns the files of definitions to which those of ROOTS lead by their `use` lines."""
     found, last = set(), [it for root in ROOTS for it in (top / "crates" / root / "specs").glob("*.antt") if it.stem != "Lib"]
@@ -220,6 +229,7 @@ def findings(top):
         lines = prose(path.read_text())
         if path == top / "README.md":
             yield from ((path, number, it) for number, it in too_long(path.read_text()))
+            yield from ((path, number, it) for number, it in other_kit(top, path.read_text()))
         yield from ((path, number, "table rows without a head") for number in cut_tables(lines))
         if path == top / "docs" / "PROVED.md":
             text = "\n".join(lines)

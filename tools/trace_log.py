@@ -1,10 +1,11 @@
 #!/usr/bin/env python3
 """Makes a log of a trace: a text that says what was written to a device, a line for each entry.
 
-    tools/trace_log.py TRACE LOG [--sectors N]
+    tools/trace_log.py TRACE LOG [--sectors N] [--large]
 
 TRACE is a text in UTF-8, LOG the file that is written, in the format of docs/LOG-FORMAT.md. N is the size of the device in
-sectors of 512 bytes, 1 to 16,384, and 16,384 where it isn't given. `-` is standard input, or standard output.
+sectors of 512 bytes, 1 to 16,384, with --large to 1,048,576, and the most where it isn't given. `-` is standard input, or
+standard output.
 
 Lines, their words separated by spaces. Numbers are decimal, or hexadecimal behind 0x:
 
@@ -25,25 +26,36 @@ the trace (of standard input: from the folder at hand).
 A trace that can't be made a log is refused: a line on standard error, `trace_log: TRACE:LINE: what is wrong`, the status
 2, and LOG isn't touched. Refused are what isn't a line of the table, numbers that are none, sectors that the device
 doesn't have, files that can't be read or have fewer bytes than a line takes, and what passes a limit of a log: 65,536
-entries, 262,144 sectors written or discarded in all, 64 MiB. The text of a log that is taken in is read as
+entries, 262,144 sectors written or discarded in all, 64 MiB, with --large 192 MiB. The text of a log that is taken in is read as
 docs/LOG-FORMAT.md says, and its refusals have its entry in them.
 """
 import argparse
 import re
 import struct
 import sys
+from dataclasses import dataclass
 from pathlib import Path
 
 SECTOR = 512
-SECTORS = 16_384
 ENTRIES = 65_536
 UNITS = 262_144
-LENGTH = 64 << 20
 MARK_LENGTH = 480
 MAGIC = 0x6A736677736872
 
 FLUSH, FUA, DISCARD, MARK, METADATA = 1, 2, 4, 8, 16
 FLAGS = {"fua": FUA, "flush": FLUSH}
+
+
+@dataclass(frozen=True)
+class Limits:
+    """How many sectors a device has at most, and how many bytes a log."""
+
+    sectors: int
+    length: int
+
+
+USUAL = Limits(16_384, 64 << 20)
+LARGE = Limits(1_048_576, 192 << 20)
 
 
 class Refused(Exception):
@@ -113,8 +125,8 @@ def entries_of(content, sectors):
 class Log:
     """A log that is being made, and what of it counts against limits."""
 
-    def __init__(self, folder, sectors):
-        self.folder, self.sectors = folder, sectors
+    def __init__(self, folder, sectors, most):
+        self.folder, self.sectors, self.most = folder, sectors, most
         self.parts, self.units, self.length = [], 0, SECTOR
         self.ends, self.files, self.logs = {}, {}, {}
 
@@ -125,7 +137,7 @@ class Log:
         for name, value, limit in (
             ("entries", len(self.parts) + 1, ENTRIES),
             ("sectors written or discarded", self.units, UNITS),
-            ("bytes", self.length, LENGTH),
+            ("bytes", self.length, self.most),
         ):
             if value > limit:
                 raise Refused(f"a log has at most {limit} {name}")
@@ -230,9 +242,9 @@ def put_line(log, line):
         raise Refused(f"no line begins with {kind}")
 
 
-def made(text, folder=Path(), sectors=SECTORS):
-    """The log of a trace. Raises Refused, which begins with the number of the line."""
-    log = Log(Path(folder), sectors)
+def made(text, folder=Path(), sectors=USUAL.sectors, most=USUAL.length):
+    """The log of a trace, of at most so many bytes. Raises Refused, which begins with the number of the line."""
+    log = Log(Path(folder), sectors, most)
     for place, line in enumerate(text.split("\n"), 1):
         try:
             put_line(log, line)
@@ -265,12 +277,16 @@ def main():
     parser = argparse.ArgumentParser(description="Makes a log of a trace.", epilog="The head of this file says what a trace is.")
     parser.add_argument("trace")
     parser.add_argument("log")
-    parser.add_argument("--sectors", type=int, default=SECTORS)
+    parser.add_argument("--sectors", type=int)
+    parser.add_argument("--large", action="store_true")
     words = parser.parse_args()
-    if not 1 <= words.sectors <= SECTORS:
-        parser.error(f"a device has 1 to {SECTORS} sectors")
+    limits = LARGE if words.large else USUAL
+    sectors = limits.sectors if words.sectors is None else words.sectors
+    if not 1 <= sectors <= limits.sectors:
+        parser.error(f"a device has 1 to {limits.sectors} sectors")
     try:
-        content = made(read_trace(words.trace), Path() if words.trace == "-" else Path(words.trace).parent, words.sectors)
+        folder = Path() if words.trace == "-" else Path(words.trace).parent
+        content = made(read_trace(words.trace), folder, sectors, limits.length)
     except Refused as refused:
         print(f"trace_log: {words.trace}:{refused}", file=sys.stderr)
         return 2

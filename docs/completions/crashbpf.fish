@@ -17,7 +17,8 @@ complete -c crashbpf -n __fish_use_subcommand -a help -d 'Print this message or 
 complete -c crashbpf -n '__fish_use_subcommand' -s h -l help -d 'Print help'
 complete -c crashbpf -n '__fish_use_subcommand' -s V -l version -d 'Print version'
 complete -c crashbpf -n '__fish_seen_subcommand_from help' -a 'explore why cure page images image show log import verify check asm list help'
-complete -c crashbpf -n '__fish_seen_subcommand_from explore' -l sectors -x -d 'Sectors of the device, 1 to 16384'
+complete -c crashbpf -n '__fish_seen_subcommand_from explore' -l sectors -x -d 'Sectors of the device, 1 to 16384, with --large to 1048576'
+complete -c crashbpf -n '__fish_seen_subcommand_from explore' -l large -d 'Allow a device of 1048576 sectors, 512 MiB, and a log of 192 MiB'
 complete -c crashbpf -n '__fish_seen_subcommand_from explore' -l flush -x -d 'Go as if a flush stood right before each of these entries, up to 64'
 complete -c crashbpf -n '__fish_seen_subcommand_from explore' -l base -r -F -d 'What the device held before entry 0, from sector 0 on [default: zeros]'
 complete -c crashbpf -n '__fish_seen_subcommand_from explore' -l cuts -x -a 'all flush mark' -d 'Cuts: all; flush, before each flush and at the end; mark, behind each mark [default: all]'
@@ -33,7 +34,8 @@ complete -c crashbpf -n '__fish_seen_subcommand_from explore' -l progress -d 'Sa
 complete -c crashbpf -n '__fish_seen_subcommand_from explore' -l first -d 'Report the first failing image alone'
 complete -c crashbpf -n '__fish_seen_subcommand_from explore' -s h -l help -d 'Print help'
 complete -c crashbpf -n '__fish_seen_subcommand_from explore' -F
-complete -c crashbpf -n '__fish_seen_subcommand_from why' -l sectors -x -d 'Sectors of the device, 1 to 16384'
+complete -c crashbpf -n '__fish_seen_subcommand_from why' -l sectors -x -d 'Sectors of the device, 1 to 16384, with --large to 1048576'
+complete -c crashbpf -n '__fish_seen_subcommand_from why' -l large -d 'Allow a device of 1048576 sectors, 512 MiB, and a log of 192 MiB'
 complete -c crashbpf -n '__fish_seen_subcommand_from why' -l flush -x -d 'Go as if a flush stood right before each of these entries, up to 64'
 complete -c crashbpf -n '__fish_seen_subcommand_from why' -l base -r -F -d 'What the device held before entry 0, from sector 0 on [default: zeros]'
 complete -c crashbpf -n '__fish_seen_subcommand_from why' -l cuts -x -a 'all flush mark' -d 'Cuts: all; flush, before each flush and at the end; mark, behind each mark [default: all]'
@@ -48,7 +50,8 @@ complete -c crashbpf -n '__fish_seen_subcommand_from why' -l checked -x -d 'Ask 
 complete -c crashbpf -n '__fish_seen_subcommand_from why' -l progress -d 'Say on standard error how many images are judged'
 complete -c crashbpf -n '__fish_seen_subcommand_from why' -s h -l help -d 'Print help'
 complete -c crashbpf -n '__fish_seen_subcommand_from why' -F
-complete -c crashbpf -n '__fish_seen_subcommand_from cure' -l sectors -x -d 'Sectors of the device, 1 to 16384'
+complete -c crashbpf -n '__fish_seen_subcommand_from cure' -l sectors -x -d 'Sectors of the device, 1 to 16384, with --large to 1048576'
+complete -c crashbpf -n '__fish_seen_subcommand_from cure' -l large -d 'Allow a device of 1048576 sectors, 512 MiB, and a log of 192 MiB'
 complete -c crashbpf -n '__fish_seen_subcommand_from cure' -l flush -x -d 'Go as if a flush stood right before each of these entries, up to 64'
 complete -c crashbpf -n '__fish_seen_subcommand_from cure' -l base -r -F -d 'What the device held before entry 0, from sector 0 on [default: zeros]'
 complete -c crashbpf -n '__fish_seen_subcommand_from cure' -l cuts -x -a 'all flush mark' -d 'Cuts: all; flush, before each flush and at the end; mark, behind each mark [default: all]'
@@ -63,7 +66,8 @@ complete -c crashbpf -n '__fish_seen_subcommand_from cure' -l checked -x -d 'Ask
 complete -c crashbpf -n '__fish_seen_subcommand_from cure' -l progress -d 'Say on standard error how many images are judged'
 complete -c crashbpf -n '__fish_seen_subcommand_from cure' -s h -l help -d 'Print help'
 complete -c crashbpf -n '__fish_seen_subcommand_from cure' -F
-complete -c crashbpf -n '__fish_seen_subcommand_from page' -l sectors -x -d 'Sectors of the device, 1 to 16384'
+complete -c crashbpf -n '__fish_seen_subcommand_from page' -l sectors -x -d 'Sectors of the device, 1 to 16384, with --large to 1048576'
+complete -c crashbpf -n '__fish_seen_subcommand_from page' -l large -d 'Allow a device of 1048576 sectors, 512 MiB, and a log of 192 MiB'
 complete -c crashbpf -n '__fish_seen_subcommand_from page' -l flush -x -d 'Go as if a flush stood right before each of these entries, up to 64'
 complete -c crashbpf -n '__fish_seen_subcommand_from page' -l base -r -F -d 'What the device held before entry 0, from sector 0 on [default: zeros]'
 complete -c crashbpf -n '__fish_seen_subcommand_from page' -l cuts -x -a 'all flush mark' -d 'Cuts: all; flush, before each flush and at the end; mark, behind each mark [default: all]'
@@ -78,7 +82,8 @@ complete -c crashbpf -n '__fish_seen_subcommand_from page' -l checked -x -d 'Ask
 complete -c crashbpf -n '__fish_seen_subcommand_from page' -l progress -d 'Say on standard error how many images are judged'
 complete -c crashbpf -n '__fish_seen_subcommand_from page' -s h -l help -d 'Print help'
 complete -c crashbpf -n '__fish_seen_subcommand_from page' -F
-complete -c crashbpf -n '__fish_seen_subcommand_from images' -l sectors -x -d 'Sectors of the device, 1 to 16384'
+complete -c crashbpf -n '__fish_seen_subcommand_from images' -l sectors -x -d 'Sectors of the device, 1 to 16384, with --large to 1048576'
+complete -c crashbpf -n '__fish_seen_subcommand_from images' -l large -d 'Allow a device of 1048576 sectors, 512 MiB, and a log of 192 MiB'
 complete -c crashbpf -n '__fish_seen_subcommand_from images' -l flush -x -d 'Go as if a flush stood right before each of these entries, up to 64'
 complete -c crashbpf -n '__fish_seen_subcommand_from images' -l base -r -F -d 'What the device held before entry 0, from sector 0 on [default: zeros]'
 complete -c crashbpf -n '__fish_seen_subcommand_from images' -l cuts -x -a 'all flush mark' -d 'Cuts: all; flush, before each flush and at the end; mark, behind each mark [default: all]'
@@ -89,7 +94,8 @@ complete -c crashbpf -n '__fish_seen_subcommand_from images' -l tears -d 'Sector
 complete -c crashbpf -n '__fish_seen_subcommand_from images' -l by -x -a 'sector write' -d 'What is lost or torn as one: sector; write, all sectors of a write or discard [default: sector]'
 complete -c crashbpf -n '__fish_seen_subcommand_from images' -s h -l help -d 'Print help'
 complete -c crashbpf -n '__fish_seen_subcommand_from images' -F
-complete -c crashbpf -n '__fish_seen_subcommand_from image' -l sectors -x -d 'Sectors of the device, 1 to 16384'
+complete -c crashbpf -n '__fish_seen_subcommand_from image' -l sectors -x -d 'Sectors of the device, 1 to 16384, with --large to 1048576'
+complete -c crashbpf -n '__fish_seen_subcommand_from image' -l large -d 'Allow a device of 1048576 sectors, 512 MiB, and a log of 192 MiB'
 complete -c crashbpf -n '__fish_seen_subcommand_from image' -l flush -x -d 'Go as if a flush stood right before each of these entries, up to 64'
 complete -c crashbpf -n '__fish_seen_subcommand_from image' -l base -r -F -d 'What the device held before entry 0, from sector 0 on [default: zeros]'
 complete -c crashbpf -n '__fish_seen_subcommand_from image' -l cuts -x -a 'all flush mark' -d 'Cuts: all; flush, before each flush and at the end; mark, behind each mark [default: all]'
@@ -102,7 +108,8 @@ complete -c crashbpf -n '__fish_seen_subcommand_from image' -l cut -x -d 'The cu
 complete -c crashbpf -n '__fish_seen_subcommand_from image' -l choice -x -d 'What was lost or torn, as a line of the report says it: 17.0:drop,18.1:head3, or -'
 complete -c crashbpf -n '__fish_seen_subcommand_from image' -s h -l help -d 'Print help'
 complete -c crashbpf -n '__fish_seen_subcommand_from image' -F
-complete -c crashbpf -n '__fish_seen_subcommand_from show' -l sectors -x -d 'Sectors of the device, 1 to 16384'
+complete -c crashbpf -n '__fish_seen_subcommand_from show' -l sectors -x -d 'Sectors of the device, 1 to 16384, with --large to 1048576'
+complete -c crashbpf -n '__fish_seen_subcommand_from show' -l large -d 'Allow a device of 1048576 sectors, 512 MiB, and a log of 192 MiB'
 complete -c crashbpf -n '__fish_seen_subcommand_from show' -l flush -x -d 'Go as if a flush stood right before each of these entries, up to 64'
 complete -c crashbpf -n '__fish_seen_subcommand_from show' -l base -r -F -d 'What the device held before entry 0, from sector 0 on [default: zeros]'
 complete -c crashbpf -n '__fish_seen_subcommand_from show' -l cuts -x -a 'all flush mark' -d 'Cuts: all; flush, before each flush and at the end; mark, behind each mark [default: all]'
@@ -115,16 +122,20 @@ complete -c crashbpf -n '__fish_seen_subcommand_from show' -l cut -x -d 'The cut
 complete -c crashbpf -n '__fish_seen_subcommand_from show' -l choice -x -d 'What was lost or torn, as a line of the report says it: 17.0:drop,18.1:head3, or -'
 complete -c crashbpf -n '__fish_seen_subcommand_from show' -s h -l help -d 'Print help'
 complete -c crashbpf -n '__fish_seen_subcommand_from show' -F
-complete -c crashbpf -n '__fish_seen_subcommand_from log' -l sectors -x -d 'Sectors of the device, 1 to 16384 [default: 16384]'
+complete -c crashbpf -n '__fish_seen_subcommand_from log' -l sectors -x -d 'Sectors of the device, 1 to 16384, with --large to 1048576 [default: the most]'
+complete -c crashbpf -n '__fish_seen_subcommand_from log' -l large -d 'Allow a device of 1048576 sectors, 512 MiB, and a log of 192 MiB'
 complete -c crashbpf -n '__fish_seen_subcommand_from log' -l flush -x -d 'Go as if a flush stood right before each of these entries, up to 64'
 complete -c crashbpf -n '__fish_seen_subcommand_from log' -l base -r -F -d 'What the device held before entry 0, from sector 0 on [default: zeros]'
 complete -c crashbpf -n '__fish_seen_subcommand_from log' -s h -l help -d 'Print help'
 complete -c crashbpf -n '__fish_seen_subcommand_from log' -F
+complete -c crashbpf -n '__fish_seen_subcommand_from import' -l large -d 'Allow a device of 1048576 sectors, 512 MiB, and a log of 192 MiB'
 complete -c crashbpf -n '__fish_seen_subcommand_from import' -s h -l help -d 'Print help'
 complete -c crashbpf -n '__fish_seen_subcommand_from import' -F
-complete -c crashbpf -n '__fish_seen_subcommand_from verify' -l sectors -x -d 'Sectors of the device, 1 to 16384'
+complete -c crashbpf -n '__fish_seen_subcommand_from verify' -l sectors -x -d 'Sectors of the device, 1 to 16384, with --large to 1048576'
+complete -c crashbpf -n '__fish_seen_subcommand_from verify' -l large -d 'Allow a device of 1048576 sectors, 512 MiB, and a log of 192 MiB'
 complete -c crashbpf -n '__fish_seen_subcommand_from verify' -s h -l help -d 'Print help'
 complete -c crashbpf -n '__fish_seen_subcommand_from verify' -F
+complete -c crashbpf -n '__fish_seen_subcommand_from check' -l large -d 'Allow a device of 1048576 sectors, 512 MiB, and a log of 192 MiB'
 complete -c crashbpf -n '__fish_seen_subcommand_from check' -l epoch -x -d 'How many flushes the program is told of, 0 to 65536 [default: 0]'
 complete -c crashbpf -n '__fish_seen_subcommand_from check' -l marks -x -d 'How many marks the program is told of, 0 to 65536 [default: 0]'
 complete -c crashbpf -n '__fish_seen_subcommand_from check' -l checked -x -d 'Ask no verifier, and run each program for at most N steps, 0 to 1000000000'

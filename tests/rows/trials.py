@@ -131,6 +131,20 @@ WORDS = {
     2**64 - 1: "18446744073709551615",
 }
 
+# The same with `--large`, where a device has more sectors
+LARGE_WORDS = {
+    3 * 2**32 + 1024 * 16384: "sector 16384+0",
+    3 * 2**32 + 1024 * 2**20 - 1: "sector 1048575+1023",
+    3 * 2**32 + 1024 * 2**20: "13958643712",
+}
+
+
+def worded(word, shown, more=""):
+    """A row of a program that puts a word into a register, and how the word is printed."""
+    out = f"4 budget 3\nstep 1 slot 0 lddw r2, {word}; r2 {shown}\nstep 2 slot 2 mov64 r0, 0; r0 0\nstep 3 slot 3 exit\nsteps 3\nanswer 0 codes -\n"
+    return tried(f"the word {word}{more}", f"lddw r2, {word}; mov64 r0, 0; exit", f"--trace 9{more}", HEAD + out, 0)
+
+
 STEPS = [
     tried(
         "first_byte, step by step",
@@ -234,16 +248,8 @@ STEPS = [
         """,
         1,
     ),
-    *(
-        tried(
-            f"the word {word}",
-            f"lddw r2, {word}; mov64 r0, 0; exit",
-            "--trace 9",
-            HEAD + f"4 budget 3\nstep 1 slot 0 lddw r2, {word}; r2 {shown}\nstep 2 slot 2 mov64 r0, 0; r0 0\nstep 3 slot 3 exit\nsteps 3\nanswer 0 codes -\n",
-            0,
-        )
-        for word, shown in WORDS.items()
-    ),
+    *(worded(word, shown) for word, shown in WORDS.items()),
+    *(worded(word, shown, " --large") for word, shown in LARGE_WORDS.items()),
 ]
 
 # Words that ask for what isn't there, on a good program and a good image, and the refusal

@@ -2,6 +2,9 @@
 use Rattle.std.specs.Prelude.{ℕ, ◌≡◌, ◌<◌, ◌^◌, ◌++◌, Bool, true, false, List, [], ◌∷◌, length, map, Option, None, Some, option_map, unwrap_or, MatchOption, IsSomeAnd, codes, bytes_eq, if◌then◌else◌}
 use Rattle.std.specs.Borrow.{Bor}
 use Rattle.std.specs.Str.Parse.{IsNumeral, digits_value, without_leading_plus}
+use Rattle.limits.specs.Sizes.{sector_limit}
+use Rattle.limits.specs.declared.Limits.{Limits}
+use Rattle.limits.specs.declared.Limits.TheVariants as limits
 use Rattle.epochs.specs.declared.cuts.CutKind.{CutKind}
 use Rattle.epochs.specs.declared.cuts.CutKind.TheVariants as cuts
 use Rattle.epochs.specs.declared.flushes.Flushes.{Flushes}
@@ -66,10 +69,15 @@ abbrev pub AreFlushes : Option (List ℕ) → Option Flushes → Type 0
 AreFlushes None added = IsSomeAnd added (λ flushes. places_of flushes ≡ [])
 AreFlushes (Some word) added = MatchOption added (NoFlushList 64 word) (λ flushes. IsFlushList word (places_of flushes))
 
+-- how large a log and its device may be
+abbrev pub limits_named : Bool → Limits
+limits_named large = if large then limits.Large else limits.Usual
+
 -- the options, each that isn't written by its default, with these flushes. All commands on a device but `log` want --sectors.
 abbrev pub options_with : Parsed → Option Flushes → OptionWords
 options_with p added = record {
-  sectors = unwrap_or p.sectors 16384;
+  sectors = unwrap_or p.sectors (sector_limit (limits_named p.large));
+  limits = limits_named p.large;
   flushes = added;
   cuts = cuts_named (written p.cuts);
   from = p.from;
@@ -99,7 +107,7 @@ IsWhich p (which.Printed cut choice) = (p.cut ≡ Some cut) × MatchOption choic
 
 -- what is asked of a run on one image, each number that isn't written by its default
 abbrev pub trial_asked : Parsed → TrialWords
-trial_asked p = record { epoch = unwrap_or p.epoch 0; marks = unwrap_or p.marks 0; checked = p.checked; trace = unwrap_or p.trace 0 }
+trial_asked p = record { limits = limits_named p.large; epoch = unwrap_or p.epoch 0; marks = unwrap_or p.marks 0; checked = p.checked; trace = unwrap_or p.trace 0 }
 
 -- what a command asks for: its options, and the image that it means
 abbrev pub Asks : Parsed → Option Verb → Request → Type 0
@@ -112,7 +120,7 @@ Asks p (Some verb.Image) r = (options : OptionWords) × (meant : Which) × AreOp
 Asks p (Some verb.Show) r = (options : OptionWords) × (meant : Which) × AreOptions p options × IsWhich p meant × (r ≡ asks.Show options meant)
 Asks p (Some verb.Log) r = (options : OptionWords) × AreOptions p options × (r ≡ asks.Log options)
 Asks p (Some verb.Verify) r = (options : OptionWords) × AreOptions p options × (r ≡ asks.Verify options)
-Asks p (Some verb.Import) r = r ≡ asks.Import
+Asks p (Some verb.Import) r = r ≡ asks.Import (limits_named p.large)
 Asks p (Some verb.Check) r = r ≡ asks.Check (trial_asked p)
 Asks p (Some verb.Asm) r = r ≡ asks.Asm
 Asks p (Some verb.List) r = r ≡ asks.List p.slots
@@ -147,6 +155,7 @@ pub record IsRead (found : Found) (p : Parsed) : Type 0 where
   pub image : written p.image ≡ first_value found (codes "image")
   pub programs : option_map (λ ws. map (λ w. w.now) ws.now) p.programs ≡ option_map raw_values (matched_of found (codes "programs"))
   pub sectors : IsNumberOf found (codes "sectors") p.sectors
+  pub large : IsFlagOf found (codes "large") p.large
   pub flush : written p.flush ≡ first_value found (codes "flush")
   pub base : written p.base ≡ first_value found (codes "base")
   pub cuts : written p.cuts ≡ first_value found (codes "cuts")

@@ -1,5 +1,7 @@
 -- What the words of the command line ask for (docs/REPORT.md, Commands).
 use Rattle.std.specs.Prelude.{ℕ, ◌≡◌, ◌⊎◌, Bool, false, List, [], Option, None, Some, option_map}
+use Rattle.limits.specs.declared.Limits.{Limits}
+use Rattle.limits.specs.declared.Limits.TheVariants as limits
 use Rattle.clap.specs.Words.{app_of, found_of, subcommand_name_of, subcommand_rows_of, HasMatchesOf}
 use Rattle.clap.specs.Walk.{rows_of}
 use Rattle.clap.specs.declared.builder.command.Command.{Command}
@@ -28,10 +30,27 @@ sectors_asked (asks.Log w) = w.sectors
 sectors_asked (asks.Image w which) = w.sectors
 sectors_asked (asks.Show w which) = w.sectors
 sectors_asked (asks.Verify w) = w.sectors
-sectors_asked asks.Import = 0
+sectors_asked (asks.Import limits) = 0
 sectors_asked (asks.Check w) = 0
 sectors_asked asks.Asm = 0
 sectors_asked (asks.List numbered) = 0
+
+-- how large the log and its device may be that a command asks for
+abbrev pub limits_asked : Request → Limits
+limits_asked asks.StoredRun = limits.Usual
+limits_asked (asks.Explore w) = w.limits
+limits_asked (asks.Why w) = w.limits
+limits_asked (asks.Cure w) = w.limits
+limits_asked (asks.Page w) = w.limits
+limits_asked (asks.Images w) = w.limits
+limits_asked (asks.Log w) = w.limits
+limits_asked (asks.Image w which) = w.limits
+limits_asked (asks.Show w which) = w.limits
+limits_asked (asks.Verify w) = w.limits
+limits_asked (asks.Import large) = large
+limits_asked (asks.Check w) = w.limits
+limits_asked asks.Asm = limits.Usual
+limits_asked (asks.List numbered) = limits.Usual
 
 -- without a command the stored run is asked for
 abbrev pub stored_run : WordsValue

@@ -1,13 +1,15 @@
 //! What `clap` read of the words, and what that asks for.
 
-ghost use Rattle.std.specs.Prelude.{◌≡◌, ◌<◌, ◌++◌, length, map, option_map, string_bytes, IfOk, MatchOption, OnOk};
+ghost use Rattle.std.specs.Prelude.{◌≡◌, ◌<◌, ◌++◌, length, map, option_map, unwrap_or, string_bytes, IfOk, MatchOption, OnOk};
+ghost use Rattle.limits.specs.Sizes.{sector_limit};
 ghost use Rattle.clap.specs.Words.{found_of};
-ghost use Rattle.command_line.specs.Parsed.{Asks, AreFlushes, AreOptions, command_named, cuts_named, files_named, options_with, parts_named, trial_asked, written, IsFlagOf, IsNumberOf, IsRead, IsWhich};
+ghost use Rattle.command_line.specs.Parsed.{Asks, AreFlushes, AreOptions, command_named, cuts_named, files_named, limits_named, options_with, parts_named, trial_asked, written, IsFlagOf, IsNumberOf, IsRead, IsWhich};
 
 use crate::flush_list::flushes_in;
 use arrayvec::ArrayString;
 use clap::ArgMatches;
 use epochs::{By, CutKind, Flushes};
+use limits::Limits;
 use request::{OptionWords, Request, TrialWords, Which};
 use std::alloc::{AllocError, Global};
 
@@ -25,6 +27,8 @@ pub struct Parsed<'a> {
     pub programs: Option<&'a [&'a str]>,
     /// The number behind `--sectors`.
     pub sectors: Option<u64>,
+    /// Whether `--large` stands there.
+    pub large: bool,
     /// The word behind `--flush`.
     pub flush: Option<&'a str>,
     /// The name behind `--base`.
@@ -107,6 +111,20 @@ fn verb_of(name: &str) -> Option<Verb>
     }
 }
 
+/// How large a log and its device may be, by whether `--large` stands there.
+fn limits_of(large: bool) -> Limits
+    ensures { result ≡ limits_named large }
+{
+    if large { Limits::Large } else { Limits::Usual }
+}
+
+/// The number of sectors that is asked for: without a number that of the largest device.
+fn sectors_of(number: Option<u64>, limits: Limits) -> u64
+    ensures { result ≡ unwrap_or number (sector_limit limits) }
+{
+    number.unwrap_or(u64::from(limits.sectors()))
+}
+
 /// The kind of cut that a word names: all cuts where there is no word.
 fn cuts_of(word: Option<&str>) -> Option<CutKind>
     ensures { result ≡ cuts_named (option_map (λ w. w.now) word.entry) }
@@ -186,6 +204,7 @@ impl<'a> Parsed<'a> {
             image: matches.get_str("image"),
             programs: matches.get_strs("programs"),
             sectors: number_of(matches, "sectors"),
+            large: flag_of(matches, "large"),
             flush: matches.get_str("flush"),
             base: matches.get_str("base"),
             cuts: matches.get_str("cuts"),
@@ -213,8 +232,10 @@ impl<'a> Parsed<'a> {
     fn options_with(&self, flushes: Option<Flushes>) -> OptionWords
         ensures { result ≡ options_with self.now flushes }
     {
+        let limits = limits_of(self.large);
         OptionWords {
-            sectors: self.sectors.unwrap_or(16_384),
+            sectors: sectors_of(self.sectors, limits),
+            limits,
             flushes,
             cuts: cuts_of(self.cuts),
             from: self.from,
@@ -254,6 +275,7 @@ impl<'a> Parsed<'a> {
         ensures { result ≡ trial_asked self.now }
     {
         TrialWords {
+            limits: limits_of(self.large),
             epoch: self.epoch.unwrap_or(0),
             marks: self.marks.unwrap_or(0),
             checked: self.checked,
@@ -274,7 +296,7 @@ impl<'a> Parsed<'a> {
             Some(Verb::Image) => Request::Image(self.options(), self.which()),
             Some(Verb::Show) => Request::Show(self.options(), self.which()),
             Some(Verb::Log) => Request::Log(self.options()),
-            Some(Verb::Import) => Request::Import,
+            Some(Verb::Import) => Request::Import(limits_of(self.large)),
             Some(Verb::Verify) => Request::Verify(self.options()),
             Some(Verb::Check) => Request::Check(self.trial()),
             Some(Verb::Asm) => Request::Asm,

@@ -1,10 +1,11 @@
 //! The words of the command line, and what they ask for.
 
 ghost use Rattle.std.specs.Prelude.{◌≡◌, ◌≢◌, [], IfOk, IsOkAnd, map, option_map, string_bytes};
-ghost use Rattle.command_line.specs.Words.{sectors_asked, stored_run, AreAsked, AreFound, AreTaken};
+ghost use Rattle.command_line.specs.Words.{limits_asked, sectors_asked, stored_run, AreAsked, AreFound, AreTaken};
 
 use crate::parsed::Parsed;
 use clap::{Arg, ArgAction, ArgMatches, Command, Error};
+use limits::Limits;
 use request::Request;
 use std::alloc::{AllocError, Global};
 use std::marker::Model;
@@ -38,7 +39,8 @@ const ABOUT: &str =
 const AFTER: &str = "Without a word the program explores an empty log with a program of its own.
 
 A log has at most 64 MiB, 65,536 entries and 262,144 written or discarded sectors; a device 16,384
-sectors of 512 bytes; a program 4,096 slots; a run 8 programs and 16,777,216 images.
+sectors of 512 bytes; a program 4,096 slots; a run 8 programs and 16,777,216 images. With --large a
+log has at most 192 MiB, and a device 1,048,576 sectors.
 
 Exit status: 0 where the command succeeded and no image fails, 1 where an image fails, 2 for a
 refusal (a line on standard error, as 'refused 12 at 3'), a fault of the command line, or a standard
@@ -178,7 +180,16 @@ fn sectors_option<'a>(alloc: Global) -> Arg<'a> {
         .value_name("N")
         .required(true)
         .value_parser(clap::value_parser!(u64))
-        .help("Sectors of the device, 1 to 16384")
+        .help("Sectors of the device, 1 to 16384, with --large to 1048576")
+}
+
+/// The option that allows large logs and devices.
+fn large_option<'a>(alloc: Global) -> Arg<'a> {
+    flag_option(
+        alloc,
+        "large",
+        "Allow a device of 1048576 sectors, 512 MiB, and a log of 192 MiB",
+    )
 }
 
 /// The option that adds flushes to the log.
@@ -246,6 +257,7 @@ fn with_command<'a>(
 fn log_command<'a>(alloc: Global, name: &'a str) -> Result<Command<'a>, AllocError> {
     Command::new(alloc, name)
         .arg(sectors_option(alloc))?
+        .arg(large_option(alloc))?
         .arg(flush_option(alloc))?
         .arg(base_option(alloc))?
         .arg(word_option(
@@ -424,8 +436,9 @@ fn table_command<'a>(alloc: Global) -> Result<Command<'a>, AllocError> {
         .arg(number_option(
             alloc,
             "sectors",
-            "Sectors of the device, 1 to 16384 [default: 16384]",
+            "Sectors of the device, 1 to 16384, with --large to 1048576 [default: the most]",
         ))?
+        .arg(large_option(alloc))?
         .arg(flush_option(alloc))?
         .arg(base_option(alloc))?
         .arg(log_file(alloc))
@@ -433,16 +446,15 @@ fn table_command<'a>(alloc: Global) -> Result<Command<'a>, AllocError> {
 
 /// The command `import`.
 fn import_command<'a>(alloc: Global) -> Result<Command<'a>, AllocError> {
-    Ok(
-        file_command(
-            alloc,
-            "import",
-            "RAW",
-            "A log, or a log device, as Linux's dm-log-writes target writes it",
-        )?
-        .about("Makes a log of one with sectors of 512 or 4,096 bytes")
-        .after_help(AFTER_IMPORT),
-    )
+    file_command(
+        alloc,
+        "import",
+        "RAW",
+        "A log, or a log device, as Linux's dm-log-writes target writes it",
+    )?
+    .about("Makes a log of one with sectors of 512 or 4,096 bytes")
+    .after_help(AFTER_IMPORT)
+    .arg(large_option(alloc))
 }
 
 /// A command on one file and without options.
@@ -464,7 +476,8 @@ fn verify_command<'a>(alloc: Global) -> Result<Command<'a>, AllocError> {
     file_command(alloc, "verify", "PROGRAM", "A BPF program, as bytes")?
         .about("Says with which budget of steps the verifier accepts a program")
         .after_help(AFTER_VERIFY)
-        .arg(sectors_option(alloc))
+        .arg(sectors_option(alloc))?
+        .arg(large_option(alloc))
 }
 
 /// The image of a program.
@@ -472,7 +485,7 @@ fn image_file<'a>(alloc: Global) -> Arg<'a> {
     Arg::new(alloc, "image")
         .required(true)
         .value_name("IMAGE")
-        .help("The bytes of a device: 1 to 16384 sectors of 512")
+        .help("The bytes of a device: 1 to 16384 sectors of 512, with --large to 1048576")
 }
 
 /// The command `check`.
@@ -480,6 +493,7 @@ fn check_command<'a>(alloc: Global) -> Result<Command<'a>, AllocError> {
     file_command(alloc, "check", "PROGRAM", "A BPF program, as bytes")?
         .about("Runs a program on one image, and says what it answers and in how many steps")
         .after_help(AFTER_CHECK)
+        .arg(large_option(alloc))?
         .arg(number_option(
             alloc,
             "epoch",
@@ -623,7 +637,23 @@ impl Words {
             Request::Image(words, _) | Request::Show(words, _) => words.sectors,
             Request::Verify(words) => words.sectors,
             Request::Check(_) => 0,
-            Request::StoredRun | Request::Import | Request::Asm | Request::List { .. } => 0,
+            Request::StoredRun | Request::Import(_) | Request::Asm | Request::List { .. } => 0,
+        }
+    }
+
+    /// How large the log and its device may be that is asked for.
+    pub fn limits(&self) -> Limits
+        ensures { result ≡ limits_asked self.now.request }
+    {
+        match self.request {
+            Request::Explore(words) | Request::Why(words) => words.limits,
+            Request::Cure(words) | Request::Page(words) => words.limits,
+            Request::Images(words) | Request::Log(words) => words.limits,
+            Request::Image(words, _) | Request::Show(words, _) => words.limits,
+            Request::Verify(words) => words.limits,
+            Request::Check(words) => words.limits,
+            Request::Import(limits) => limits,
+            Request::StoredRun | Request::Asm | Request::List { .. } => Limits::Usual,
         }
     }
 

@@ -7,12 +7,13 @@ use base::refusal::{Cause, Refusal};
 use command_line::Words;
 use epochs::{By, CutKind};
 use facts::{Facts, Fewer, Smaller};
+use limits::Limits;
 use logfmt::read;
 use notes::{
     asm_cure, code_cure, log_cure, put_entry, put_escaped, put_least, put_note, put_refused,
     verifier_cure,
 };
-use request::{MOST_SECTORS, OptionWords, Request};
+use request::{OptionWords, Request};
 use std::alloc::{AllocError, Global};
 use std::fmt::Display;
 
@@ -21,6 +22,17 @@ const LOG_MAGIC: &[u8] = b"rhswfsj\0";
 
 /// With what an object file begins.
 const OBJECT_MAGIC: &[u8] = b"\x7fELF";
+
+/// What the limits of a large log are.
+const LARGE_LIMIT: &str =
+    "with --large a log has at most 201326592 bytes, 65536 entries, and 262144 sectors written or discarded (docs/LOG-FORMAT.md, Limits)";
+
+/// What helps where a raw log passes the limits.
+const RAW_CURE: &str = "record less at once; make file systems without discards";
+
+/// What helps where a log passes those of a large one.
+const LARGE_CURE: &str =
+    "copy the first 192 MiB of the log device alone; make file systems without discards";
 
 /// What a file holds, where it could be read.
 pub(crate) fn bytes_of(files: &[Option<Vec<u8>>], place: usize) -> Option<&[u8]> {
@@ -82,16 +94,28 @@ fn put_kind(
     Ok(())
 }
 
+/// What is said of a log that no device within the limits holds.
+fn no_device(limits: Limits) -> &'static str {
+    match limits {
+        Limits::Usual => "no device of at most 16384 sectors holds this log",
+        Limits::Large => "no device of at most 1048576 sectors holds this log",
+    }
+}
+
 /// Appends the entry that goes past the device, and the size of a device that holds the log, where one does.
-fn put_device(alloc: Global, out: &mut String, bytes: &[u8], at: usize) -> Result<(), AllocError> {
-    match read(alloc, bytes, MOST_SECTORS) {
+fn put_device(
+    alloc: Global,
+    out: &mut String,
+    bytes: &[u8],
+    at: usize,
+    limits: Limits,
+) -> Result<(), AllocError> {
+    match read(alloc, bytes, limits.sectors(), limits) {
         Ok(log) => {
             put_entry(alloc, out, &log, at)?;
             put_least(out, &log)
         }
-        Err(fault) if matches!(fault.code, LogCause::Device) => {
-            put_note(out, "no device of at most 16384 sectors holds this log")
-        }
+        Err(fault) if matches!(fault.code, LogCause::Device) => { put_note(out, no_device(limits)) }
         Err(_fault) => Ok(()),
     }
 }
@@ -119,21 +143,44 @@ fn put_broken_entry(
 /// What most likely helps against what a log breaks. `import` reads no more of a raw log than it keeps.
 fn cure_of(request: Request, cause: LogCause) -> &'static str {
     match (request, cause) {
-        (Request::Import, LogCause::Limit) => {
-            "record less at once; make file systems without discards"
-        }
+        (Request::Import(_), LogCause::Limit) => RAW_CURE,
         _ => log_cure(cause),
+    }
+}
+
+/// What most likely helps where a log passes the limits of a large one.
+fn large_cure(request: Request) -> &'static str {
+    match request {
+        Request::Import(_) => RAW_CURE,
+        _ => LARGE_CURE,
     }
 }
 
 /// Appends, where a log has other sectors, that there is a command for such logs.
 fn put_import(out: &mut String, request: Request) -> Result<(), AllocError> {
     match request {
-        Request::Import => Ok(()),
+        Request::Import(_) => Ok(()),
         _ => put_note(
             out,
             "'crashbpf import' makes a log of one with sectors of 4096 bytes",
         ),
+    }
+}
+
+/// Appends what the cause of a log's refusal means, within the limits, and what most likely helps.
+fn put_log_cause(
+    alloc: Global,
+    out: &mut String,
+    words: &Words,
+    cause: LogCause,
+) -> Result<(), AllocError> {
+    match (cause, words.limits()) {
+        (LogCause::Limit, Limits::Large) => put_refused(
+            out,
+            LARGE_LIMIT,
+            large_cure(words.request()),
+        ),
+        _ => put_cause(alloc, out, &cause, cure_of(words.request(), cause)),
     }
 }
 
@@ -146,10 +193,10 @@ fn put_log_notes(
     cause: LogCause,
     at: usize,
 ) -> Result<(), AllocError> {
-    put_cause(alloc, out, &cause, cure_of(words.request(), cause))?;
+    put_log_cause(alloc, out, words, cause)?;
     match cause {
         LogCause::Device => match bytes_of(files, 0) {
-            Some(bytes) => put_device(alloc, out, bytes, at),
+            Some(bytes) => put_device(alloc, out, bytes, at, words.limits()),
             None => Ok(()),
         },
         LogCause::Short | LogCause::Magic => put_kind(out, words, files, 1),
@@ -291,8 +338,24 @@ fn option_rule(place: u64) -> &'static str {
     }
 }
 
-/// The most bytes of an image.
-const MOST_IMAGE: usize = 8_388_608;
+/// The same within these limits.
+fn rule_within(place: u64, limits: Limits) -> &'static str {
+    match (place, limits) {
+        (1, Limits::Large) => "with --large --sectors is 1 to 1048576",
+        _ => option_rule(place),
+    }
+}
+
+/// What an image has to be within these limits.
+fn image_rule(limits: Limits) -> &'static str {
+    match limits {
+        Limits::Usual =>
+            "an image has 1 to 16384 whole sectors of 512 bytes (docs/REPORT.md, Commands)",
+        Limits::Large => {
+            "with --large an image has 1 to 1048576 whole sectors of 512 bytes (docs/REPORT.md, Commands)"
+        }
+    }
+}
 
 /// Appends that a file is no image, how many bytes it has, and how many one has.
 fn put_image_notes(
@@ -302,15 +365,14 @@ fn put_image_notes(
     bytes: usize,
 ) -> Result<(), AllocError> {
     put_name(out, words, place, "is no image")?;
-    if bytes > MOST_IMAGE {
-        put_note(out, "it has more than 8388608 bytes")?;
+    let limits = words.limits();
+    let most = 512 * limits.sectors() as usize;
+    if bytes > most {
+        write!(out, "note: it has more than {most} bytes\n")?;
     } else {
         write!(out, "note: it has {bytes} bytes\n")?;
     }
-    put_note(
-        out,
-        "an image has 1 to 16384 whole sectors of 512 bytes (docs/REPORT.md, Commands)",
-    )
+    put_note(out, image_rule(limits))
 }
 
 /// Appends which file can't be read, is no text, or is no image.
@@ -366,7 +428,9 @@ pub fn notes_behind(
         Cause::Asm(cause) => put_cause(alloc, &mut out, &cause, asm_cure(cause))?,
         Cause::Verifier(cause) => { put_verifier_notes(alloc, &mut out, cause, refusal.at, facts)? }
         Cause::Request(RequestCause::TooManyImages) => put_images_notes(&mut out, words, facts)?,
-        Cause::Request(RequestCause::Option) => put_note(&mut out, option_rule(refusal.at))?,
+        Cause::Request(RequestCause::Option) => {
+            put_note(&mut out, rule_within(refusal.at, words.limits()))?
+        },
         Cause::Request(RequestCause::NotInLog) => put_note(&mut out, NOT_IN_LOG)?,
         Cause::Request(RequestCause::File) => put_file_notes(&mut out, words, files, at)?,
         Cause::Work(_cause) => put_work_notes(&mut out, words)?,

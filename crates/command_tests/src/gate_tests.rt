@@ -8,6 +8,7 @@ use commands::{
     By, CutKind, Cuts, Explored, Flushes, Gate, OpenGate, Options, Recording, Settings, explore,
     explore_with, fault_line,
 };
+use limits::Limits;
 use std::alloc::Global;
 use std::process::Abort;
 use std::sync::Wait;
@@ -22,6 +23,7 @@ const ANSWER_1: [u8; 16] = [0xb7, 0, 0, 0, 1, 0, 0, 0, 0x95, 0, 0, 0, 0, 0, 0, 0
 /// A device of one sector, every cut, and a limit of two steps.
 const SETTINGS: Settings = Settings {
     sectors: 1,
+    limits: Limits::Usual,
     cuts: Cuts::ALL,
     bound: 0,
     tears: true,
@@ -270,6 +272,7 @@ fn held<R: Threads + Wait + Sync + Abort>(
 fn by_workers(workers: u64, cache: u64, first: bool) -> Settings {
     Settings {
         sectors: 1,
+        limits: Limits::Usual,
         cuts: Cuts::ALL,
         bound: 0,
         tears: false,
@@ -350,6 +353,7 @@ const BEFORE_FLUSHES: Cuts = Cuts {
 /// The run sixteen_codes of docs/REPORT.md, with 256 images, by two workers.
 const SIXTEEN_CODES: Settings = Settings {
     sectors: 4,
+    limits: Limits::Usual,
     cuts: BEFORE_FLUSHES,
     bound: 2,
     tears: true,
@@ -451,6 +455,7 @@ fn hits_of<R: Threads + Wait + Sync>(
 ) -> Result<u64, Fail> {
     let options = Options::new(&Settings {
         sectors: 4,
+        limits: Limits::Usual,
         cuts: Cuts::ALL,
         bound: 1,
         tears: false,

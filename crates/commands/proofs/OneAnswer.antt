@@ -32,9 +32,10 @@ use Rattle.request.specs.Source.{Recording, plan_of}
 use Rattle.runs.specs.Explore.{subject_of}
 use Rattle.runs.specs.Why.{TellsOfLines, PageOfLines, IsExplained, IsPaged, IsTold}
 use Rattle.runs.specs.Cured.{TellsCure, IsCured}
+use Rattle.limits.specs.Sizes.{sector_limit}
+use Rattle.limits.specs.declared.Limits.{Limits}
 use Rattle.raw_log.specs.Imported.{IsImported}
 use Rattle.raw_log.proofs.Profile.{one_import}
-use Rattle.looks.specs.Import.{most_sectors}
 use Rattle.looks.specs.Which.{IsMeant, IsOnly}
 use Rattle.looks.specs.Image.{joined, IsImage}
 use Rattle.looks.specs.Show.{whole_view, IsShown}
@@ -227,8 +228,8 @@ one_assembled laws text bytes others a b =
 one_listed : Laws → (numbered : Bool) → IsOne (IsListed numbered)
 one_listed laws numbered code bytes others a b = a.listed ∙ ap (listing_text numbered) (laws.programs code a.slots b.slots a.spelled b.spelled) ∙ sym b.listed
 
-one_imported : IsOne (λ raw text. IsImported raw most_sectors text)
-one_imported raw text other a b = one_import raw text other most_sectors a b
+one_imported : (limits : Limits) → IsOne (λ raw text. IsImported raw (sector_limit limits) limits text)
+one_imported limits raw text other a b = one_import raw text other (sector_limit limits) limits a b
 
 -- the limit of a run on one image is one
 same_limit : Laws → (p q : List (Option Instr)) (sectors : ℕ) (checked : Option ℕ) (m n : ℕ) → p ≡ q
@@ -274,7 +275,8 @@ one_answer laws (request.Log w) files bytes others status ended a b = of_once w 
 one_answer laws (request.Image w which) files bytes others status ended a b = of_once w (λ s text. IsImage text s which) (one_image laws which) files bytes others status ended a b
 one_answer laws (request.Show w which) files bytes others status ended a b = of_once w (λ s text. IsShown text s which) (one_show laws which) files bytes others status ended a b
 one_answer laws (request.Verify w) files bytes others status ended a b = with_once w (λ s code. IsAcceptedText code s.sectors) (one_verified laws) files bytes others status ended a b
-one_answer laws request.Import files bytes others status ended a b = file_once (λ raw. IsImported raw most_sectors) one_imported files bytes others status ended a b
+one_answer laws (request.Import limits) files bytes others status ended a b =
+    file_once (λ raw. IsImported raw (sector_limit limits) limits) (one_imported limits) files bytes others status ended a b
 one_answer laws (request.Check w) files bytes others status ended a b = trial_once laws w files bytes others status ended a b
 one_answer laws request.Asm files bytes others status ended a b = file_once IsAssembled (one_assembled laws) files bytes others status ended a b
 one_answer laws (request.List numbered) files bytes others status ended a b = file_once (IsListed numbered) (one_listed laws numbered) files bytes others status ended a b

@@ -28,9 +28,11 @@ use Rattle.runs.specs.Explore.{report_of, Refuses}
 use Rattle.runs.specs.Why.{IsTold}
 use Rattle.commands.specs.declared.action.Wanted.{Wanted}
 use Rattle.commands.specs.declared.action.Wanted.TheVariants as wanted
+use Rattle.limits.specs.Sizes.{sector_limit}
+use Rattle.limits.specs.declared.Limits.{Limits}
 use Rattle.raw_log.specs.Imported.{IsImported}
 use Rattle.raw_log.proofs.NoFault.{imported_has_no_fault}
-use Rattle.looks.specs.Import.{most_sectors, RefusesImport, with_raw_fault, no_raw_memory}
+use Rattle.looks.specs.Import.{RefusesImport, with_raw_fault, no_raw_memory}
 use Rattle.looks.specs.Which.{IsMeant}
 use Rattle.looks.specs.Image as image
 use Rattle.looks.specs.Image.{IsImage, RefusesImage}
@@ -215,9 +217,9 @@ of_listed below numbered code bytes _ h (assembly.with_bytes_fault cause slot fa
 of_listed below numbered code bytes _ h assembly.no_program_memory = refl
 of_listed below numbered code bytes _ h assembly.no_listing_memory = refl
 
-of_imported : (raw text : List ℕ) (r : Refusal) → IsImported raw most_sectors text → RefusesImport raw r → IsOfMemory r.code
-of_imported raw text _ h (with_raw_fault cause at fault) = absurd (imported_has_no_fault raw text most_sectors cause at h fault)
-of_imported raw text _ h no_raw_memory = refl
+of_imported : (limits : Limits) (raw text : List ℕ) (r : Refusal) → IsImported raw (sector_limit limits) limits text → RefusesImport limits raw r → IsOfMemory r.code
+of_imported limits raw text _ h (with_raw_fault cause at fault) = absurd (imported_has_no_fault raw text (sector_limit limits) limits cause at h fault)
+of_imported limits raw text _ h no_raw_memory = refl
 
 -- a run on one image without a limit was accepted
 accepted_trial : (p : List (Option Instr)) (sectors : ℕ) (checked : Option ℕ) (limit : ℕ) → checked ≡ None
@@ -268,7 +270,8 @@ answer_or_refusal below (request.Show w which) files bytes status refusal h why 
     (λ s text shown r k. of_meant below which s text k.value k.choice r k.source k.meant.is) files bytes status refusal h why
 answer_or_refusal below (request.Verify w) files bytes status refusal h why =
     of_with w (λ s code. IsAcceptedText code s.sectors) (λ s code. RefusesVerified code s.sectors) (of_verified below) files bytes status refusal h why
-answer_or_refusal below request.Import files bytes status refusal h why = of_alone (λ raw. IsImported raw most_sectors) RefusesImport of_imported files bytes status refusal h why
+answer_or_refusal below (request.Import limits) files bytes status refusal h why =
+    of_alone (λ raw. IsImported raw (sector_limit limits) limits) (RefusesImport limits) (of_imported limits) files bytes status refusal h why
 answer_or_refusal below (request.Check w) files bytes status refusal h why = of_trial below w files bytes status refusal h why
 answer_or_refusal below request.Asm files bytes status refusal h why = of_alone IsAssembled RefusesText of_assembled files bytes status refusal h why
 answer_or_refusal below (request.List numbered) files bytes status refusal h why =

@@ -7,6 +7,7 @@ use Rattle.epochs.specs.declared.cuts.CutKind.{CutKind}
 use Rattle.epochs.specs.declared.flushes.Flushes.{Flushes}
 use Rattle.epochs.specs.declared.part.By.{By}
 use Rattle.request.specs.declared.settings.OptionPlace.TheVariants as place
+use Rattle.limits.specs.Sizes.{sector_limit}
 use Rattle.request.specs.declared.settings.Settings.{Settings}
 use Rattle.request.specs.declared.settings.Telling.{Telling}
 use Rattle.request.specs.declared.settings.Telling.TheVariants as telling
@@ -37,6 +38,7 @@ use Rattle.commands.specs.OneAnswer.{OneAnswer, alone, asked_alone, WorkChangesN
 abbrev set_alone : Settings → Settings
 set_alone s = record {
   sectors = s.sectors;
+  limits = s.limits;
   cuts = s.cuts;
   bound = s.bound;
   tears = s.tears;
@@ -72,14 +74,14 @@ passed_alone true true true true checked range h = h
 good_alone : (s : Settings) → settings_refusal s ≡ None → settings_refusal (set_alone s) ≡ None
 unfolding option_checks
 good_alone s h =
-    passed_alone (nat_le 1 s.sectors && nat_le s.sectors 16384) (nat_le s.bound 3) (nat_le 1 s.workers && nat_le s.workers 64) (nat_le s.cache 65536)
+    passed_alone (nat_le 1 s.sectors && nat_le s.sectors (sector_limit s.limits)) (nat_le s.bound 3) (nat_le 1 s.workers && nat_le s.workers 64) (nat_le s.cache 65536)
     (option_map_or (λ limit. nat_le limit 1000000000) s.checked true) (is_ordered s.cuts) h
 
 ask_alone : (w : OptionWords) (s : Settings) → AskFor w s → AskFor (alone w) (set_alone s)
 ask_alone w s h = record { asked = alone_of w w.cuts w.by w.flushes s h.asked; good = good_alone s h.good }
 
 log_alone : {text : Recording} {s : Settings} {v : LogValue} → IsLogOf text s v → IsLogOf text (set_alone s) v
-log_alone h = record { read = h.read; recorded = record { device = h.recorded.device; of_log = h.recorded.of_log; initial = h.recorded.initial }; has = h.has; added = h.added }
+log_alone h = record { read = h.read; recorded = record { device = h.recorded.device; size = h.recorded.size; of_log = h.recorded.of_log; initial = h.recorded.initial }; has = h.has; added = h.added }
 
 images_alone : {text : Recording} {s : Settings} {v : LogValue} → HasImages text s v → HasImages text (set_alone s) v
 images_alone h = record { reads = log_alone h.reads; few = h.few }
@@ -246,7 +248,7 @@ answers_alone (request.Show w which) files bytes status h =
     (λ s held shown k. record { value = k.value; source = images_alone k.source; choice = k.choice; meant = k.meant; shown = k.shown }) files bytes status h
 answers_alone (request.Verify w) files bytes status h =
     with_alone w (λ s code. IsAcceptedText code s.sectors) (λ s held shown k. k) files bytes status h
-answers_alone request.Import files bytes status h = h
+answers_alone (request.Import limits) files bytes status h = h
 answers_alone (request.Check w) files bytes status h = h
 answers_alone request.Asm files bytes status h = h
 answers_alone (request.List numbered) files bytes status h = h

@@ -22,8 +22,9 @@ use Rattle.request.specs.declared.settings.Telling.TheVariants as telling
 use Rattle.runs.specs.Explore.{Refuses}
 use Rattle.runs.specs.Why.{IsTold}
 use Rattle.runs.specs.Cured.{IsCured}
+use Rattle.limits.specs.Sizes.{sector_limit}
 use Rattle.raw_log.specs.Imported.{IsImported}
-use Rattle.looks.specs.Import.{most_sectors, RefusesImport}
+use Rattle.looks.specs.Import.{RefusesImport}
 use Rattle.looks.specs.Image.{IsImage, RefusesImage}
 use Rattle.looks.specs.Show.{IsShown}
 use Rattle.looks.specs.Survey.{IsSurvey, RefusesSurvey}
@@ -161,7 +162,7 @@ Answers (request.Log w) files bytes status = AnswersOf w (λ s text. IsTable tex
 Answers (request.Image w which) files bytes status = AnswersOf w (λ s text. IsImage text s which) files bytes status
 Answers (request.Show w which) files bytes status = AnswersOf w (λ s text. IsShown text s which) files bytes status
 Answers (request.Verify w) files bytes status = AnswersWith w (λ s code. IsAcceptedText code s.sectors) files bytes status
-Answers request.Import files bytes status = AnswersFile (λ raw. IsImported raw most_sectors) files bytes status
+Answers (request.Import limits) files bytes status = AnswersFile (λ raw. IsImported raw (sector_limit limits) limits) files bytes status
 Answers (request.Check w) files bytes status = AnswersTrial w files bytes status
 Answers request.Asm files bytes status = AnswersFile IsAssembled files bytes status
 Answers (request.List numbered) files bytes status = AnswersFile (IsListed numbered) files bytes status
@@ -214,7 +215,7 @@ RefusesToAct (request.Log w) files r = RefusesWith w (λ s. RefusesRecording fil
 RefusesToAct (request.Image w which) files r = RefusesWith w (λ s. RefusesRecording files (λ text. RefusesImage text s which)) r
 RefusesToAct (request.Show w which) files r = RefusesWith w (λ s. RefusesRecording files (λ text. RefusesImage text s which)) r
 RefusesToAct (request.Verify w) files r = RefusesWith w (λ s. RefusesFile files (λ code. RefusesVerified code s.sectors)) r
-RefusesToAct request.Import files r = RefusesFile files RefusesImport r
+RefusesToAct (request.Import limits) files r = RefusesFile files (RefusesImport limits) r
 RefusesToAct (request.Check w) files r = RefusesCheck w files r
 RefusesToAct request.Asm files r = RefusesFile files RefusesText r
 RefusesToAct (request.List numbered) files r = RefusesFile files RefusesBytes r

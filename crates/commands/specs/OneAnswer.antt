@@ -22,6 +22,7 @@ AnswerOrRefusal = (r : Request) (files : Files) (bytes : List ℕ) (status : ℕ
 abbrev pub alone : OptionWords → OptionWords
 alone w = record {
   sectors = w.sectors;
+  limits = w.limits;
   flushes = w.flushes;
   cuts = w.cuts;
   from = w.from;
@@ -47,7 +48,7 @@ asked_alone (request.Log w) = request.Log (alone w)
 asked_alone (request.Image w which) = request.Image (alone w) which
 asked_alone (request.Show w which) = request.Show (alone w) which
 asked_alone (request.Verify w) = request.Verify (alone w)
-asked_alone request.Import = request.Import
+asked_alone (request.Import limits) = request.Import limits
 asked_alone (request.Check w) = request.Check w
 asked_alone request.Asm = request.Asm
 asked_alone (request.List numbered) = request.List numbered

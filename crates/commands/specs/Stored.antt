@@ -1,5 +1,6 @@
 -- The run that the product holds itself (docs/REPORT.md, Commands): what `explore` is asked without a word.
 use Rattle.std.specs.Prelude.{ℕ, false, List, [], ◌∷◌, ◌++◌, Some, pos}
+use Rattle.limits.specs.declared.Limits.TheVariants as limit
 use Rattle.bpf_isa.specs.Program.{spelling}
 use Rattle.bpf_isa.specs.declared.instr.Instr.TheVariants as instr
 use Rattle.bpf_isa.specs.declared.instr.Operator.TheVariants as op
@@ -22,6 +23,7 @@ stored_programs = (spelling (instr.Arithmetic width.W64 op.Mov 0 (source.Immedia
 abbrev pub stored_settings : Settings
 stored_settings = record {
   sectors = 1;
+  limits = limit.Usual;
   cuts = all_cuts;
   bound = 0;
   tears = false;

@@ -15,6 +15,7 @@ use crate::stored::{stored_files, stored_options};
 use base::refusal::Refusal;
 use command_line::Words;
 use facts::{Facts, Recording};
+use limits::Limits;
 use looks::{assembled, image, imported, listed, show, shown_log, survey, verified};
 use request::{
     OptionWords, Options, Request, Telling, TrialWords, Which, options_of, trial_of, unreadable,
@@ -293,12 +294,12 @@ fn act_log(
 }
 
 /// The log that is imported of a raw log.
-fn act_import(alloc: Global, files: &Held<'_>) -> Result<(Vec<u8>, u8), Refusal>
-    ensures answers { IfOk result (λ answer. Answers asks.Import (held_by files.now) answer.0.items answer.1) }
-    ensures refused { IfErr result (RefusesToAct asks.Import (held_by files.now)) }
+fn act_import(alloc: Global, limits: Limits, files: &Held<'_>) -> Result<(Vec<u8>, u8), Refusal>
+    ensures answers { IfOk result (λ answer. Answers (asks.Import limits) (held_by files.now) answer.0.items answer.1) }
+    ensures refused { IfErr result (RefusesToAct (asks.Import limits) (held_by files.now)) }
 {
     let raw = files.first()?;
-    let text = imported(alloc, raw)?;
+    let text = imported(alloc, raw, limits)?;
     Ok((text, 0))
 }
 
@@ -429,7 +430,7 @@ pub(crate) fn act_known<G: Gate + Sync, R: Threads + Wait + Sync>(
         }
         Request::Images(words) => act_images(alloc, words, files, facts),
         Request::Log(words) => act_log(alloc, words, files, facts),
-        Request::Import => act_import(alloc, files),
+        Request::Import(limits) => act_import(alloc, limits, files),
         Request::Image(words, which) => act_image(alloc, words, which, files, facts),
         Request::Show(words, which) => act_show(alloc, words, which, files, facts),
         Request::Verify(words) => act_verify(alloc, words, files, facts),

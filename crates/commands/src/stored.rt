@@ -4,6 +4,7 @@ ghost use Rattle.std.specs.Prelude.{◌≡◌, IfOk, map};
 ghost use Rattle.commands.specs.Stored.{stored_log, stored_programs, stored_settings};
 
 use epochs::{By, Cuts};
+use limits::Limits;
 use request::{Options, Settings};
 use std::alloc::{AllocError, Global};
 
@@ -22,6 +23,7 @@ const STORED_PROGRAM: [u8; 16] = [0xb7, 0, 0, 0, 0, 0, 0, 0, 0x95, 0, 0, 0, 0, 0
 /// What the run is asked, `--sectors 1 --bound 0 --checked 2`.
 const STORED_SETTINGS: Settings = Settings {
     sectors: 1,
+    limits: Limits::Usual,
     cuts: Cuts::ALL,
     bound: 0,
     tears: false,

@@ -1,5 +1,6 @@
 -- Choices of a plan, and those where nothing departs.
 use Rattle.std.proofs.Common.{ℕ, suc, ◌≡◌, ◌<◌, ◌≤◌, Bool, All, List, [], ◌∷◌, length, map, slice_get, None, Some, refl, sym, ◌∙◌, ap, subst, arith}
+use Rattle.limits.specs.Sizes.{most_sectors}
 use Rattle.logfmt.specs.Bounds.{LogValue, IsLog}
 use Rattle.epochs.specs.Plan.{PlanValue}
 use Rattle.choices.specs.declared.choice.Departure.{Departure}
@@ -41,7 +42,7 @@ no_names (d ∷ ds) e = absurd (let bad : suc (length (map name_of ds)) ≡ 0 = 
 
 -- an image of a log has no more sectors than a device may have
 pub small : (plan history : PlanValue) (l : LogValue) (view : ViewValue) (c : ChoiceValue) → ImagesAreDevices → IsLog l → plan.log ≡ l → history ≡ plan → view ≡ view_of history c
-    → length (sectors_of view) ≤ 16384
+    → length (sectors_of view) ≤ most_sectors
 small plan history l view c devices bounds own same is =
     let log : view.log ≡ l = ap (λ (v : ViewValue). v.log) is ∙ ap (λ (p : PlanValue). p.log) same ∙ own in
     let P : LogValue → Type 0 = λ x. IsLog x in

@@ -1,6 +1,7 @@
 //! Rows of 16 bytes.
 
 ghost use Rattle.std.specs.Prelude.{ℕ, [], ◌∷◌, ◌≡◌, ◌+◌, ◌*◌, ◌<◌, ◌≤◌, ◌++◌, OnOk, string_bytes, slice_index};
+ghost use Rattle.limits.specs.Sizes.{most_sectors};
 ghost use Rattle.crash_text.specs.Rows.{hex_digit, hex_byte, address_text, pair_text, character_of, pairs_text, characters_text, row_text};
 
 use std::alloc::AllocError;
@@ -102,7 +103,7 @@ pub(crate) fn put_row(
     bytes: &[u8; 512],
     row: usize,
 ) -> Result<(), AllocError>
-    requires sector { sector < 16384 }
+    requires sector { sector < most_sectors }
     requires row { row < 32 }
     ensures { OnOk result (string_bytes out.new ≡ string_bytes out.old ++ row_text sector bytes.now row) }
 {

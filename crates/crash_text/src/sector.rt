@@ -1,6 +1,7 @@
 //! What in a device differs from another one.
 
 ghost use Rattle.std.specs.Prelude.{ℕ, if◌then◌else◌, ◌≡◌, ◌+◌, ◌*◌, ◌<◌, ◌≤◌, ◌++◌, [], ◌∷◌, length, filter, slice_get, IfSome, OnOk, string_bytes};
+ghost use Rattle.limits.specs.Sizes.{most_sectors};
 ghost use Rattle.crash_text.specs.Sectors.{differs, differences, row_difference, rows_from, difference_head, difference_rows, difference_at, sector_difference, sector_at, difference_text};
 
 use crate::row::put_row;
@@ -59,7 +60,7 @@ fn put_row_difference(
     right: &[u8; 512],
     row: usize,
 ) -> Result<(), AllocError>
-    requires sector { sector < 16384 }
+    requires sector { sector < most_sectors }
     requires row { row < 32 }
     ensures { OnOk result (string_bytes out.new ≡ string_bytes out.old ++ row_difference sector left.now right.now row) }
 {
@@ -90,7 +91,7 @@ fn put_rows(
     right: &[u8; 512],
     first: usize,
 ) -> Result<(), AllocError>
-    requires sector { sector < 16384 }
+    requires sector { sector < most_sectors }
     requires first { first < 512 }
     ensures { OnOk result (string_bytes out.new ≡ string_bytes out.old ++ difference_rows sector left.now right.now first) }
 {
@@ -126,7 +127,7 @@ fn put_sector(
     left: &[u8; 512],
     right: &[u8; 512],
 ) -> Result<(), AllocError>
-    requires { sector < 16384 }
+    requires { sector < most_sectors }
     ensures { OnOk result (string_bytes out.new ≡ string_bytes out.old ++ sector_difference sector left.now right.now) }
 {
     match first_difference(left, right) {
@@ -145,7 +146,7 @@ fn put_sector_of<W: Device, I: Device>(
     image: &I,
     sector: u32,
 ) -> Result<(), AllocError>
-    requires { sector < 16384 }
+    requires { sector < most_sectors }
     ensures { OnOk result (string_bytes out.new ≡ string_bytes out.old ++ sector_at (W.content whole.now) (I.content image.now) sector) }
 {
     match (whole.sector(sector), image.sector(sector)) {
@@ -163,7 +164,7 @@ pub fn put_differences<W: Device, I: Device>(
     whole: &W,
     image: &I,
 ) -> Result<(), AllocError>
-    requires { length (I.content image.now) ≤ 16384 }
+    requires { length (I.content image.now) ≤ most_sectors }
     ensures { OnOk result (string_bytes out.new ≡ string_bytes out.old ++ difference_text (W.content whole.now) (I.content image.now)) }
 {
     for sector in 0..image.sectors() {

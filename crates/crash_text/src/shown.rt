@@ -1,6 +1,7 @@
 //! An image in words.
 
 ghost use Rattle.std.specs.Prelude.{ℕ, ◌≡◌, ◌<◌, ◌≤◌, ◌++◌, length, codes, true, if◌then◌else◌, OnOk, string_bytes};
+ghost use Rattle.limits.specs.Sizes.{most_sectors};
 ghost use Rattle.crash_text.specs.Shown.{cuts_word, by_word, numbered_text, chosen_text, cut_text, choice_line, departed_text, choice_shown, shown_text};
 
 use crate::cut::{put_cut, put_departed};
@@ -137,7 +138,7 @@ pub fn put_shown<W: Device, I: Device>(
     image: &I,
 ) -> Result<(), AllocError>
     requires cut { choice.now.cut ≤ length numbering.now.plan.now.log.entries }
-    requires device { length (I.content image.now) ≤ 16384 }
+    requires device { length (I.content image.now) ≤ most_sectors }
     ensures { OnOk result (string_bytes out.new ≡ string_bytes out.old
         ++ shown_text numbering.now.plan.now numbering.now.bound numbering.now.tears choice.now (W.content whole.now) (I.content image.now)) }
 {

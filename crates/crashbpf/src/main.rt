@@ -25,7 +25,7 @@ use clap::error::ErrorKind as WordsFault;
 use commands::{
     Facts, Output, Progress, Words, emit, fault_line, notes_behind, notes_beside, perform,
 };
-use input_files::Inputs;
+use input_files::{DeviceSize, Inputs};
 use std::alloc::AllocError;
 use std::io::ErrorKind;
 use std::process::ExitCode;
@@ -109,7 +109,11 @@ fn read_and_run<R: Files + AllocGlobal + Print + Eprint + Clock + Threads + Wait
     command: &str,
     words: &Words,
 ) -> u8 {
-    match Inputs::read(rt, command, words.files(), words.base(), words.sectors()) {
+    let size = DeviceSize {
+        sectors: words.sectors(),
+        limits: words.limits(),
+    };
+    match Inputs::read(rt, command, words.files(), words.base(), &size) {
         Ok(inputs) => run(rt, words, &inputs),
         Err(refusal) => {
             let status = refused(rt, &refusal);

@@ -5,6 +5,7 @@ use Rattle.std.proofs.lemmas.Option.{get_or_from_slice_get, same_Some, slice_get
 use Rattle.std.specs.List.{range_with_len, slice_range}
 use Rattle.std.specs.Option.{option_map_or}
 use Rattle.std.proofs.lemmas.List.{map-append}
+use Rattle.limits.specs.Sizes.{most_sectors}
 use Rattle.base.specs.Numbers.{zeros}
 use Rattle.base.proofs.Lists.{range_with_len-more}
 use Rattle.logfmt.specs.declared.entry.Entry.{Entry}
@@ -87,7 +88,7 @@ entry_read log es e x lt is read = slice_get_read log.entries (length log.entrie
 
 -- its units lie on the device
 pub sector_fits : (log : LogValue) (e : ℕ) (entry : Entry) (j : ℕ) → IsLog log → slice_get log.entries e ≡ Some entry → j < entry.count
-    → entry.sector + j < 16384
+    → entry.sector + j < most_sectors
 sector_fits log e entry j is there lt =
     let on : entry.sector + entry.count ≤ log.sectors = (is.entries e entry there).device (omega (arith, lt)) in
     omega (arith, on, lt, is.device)

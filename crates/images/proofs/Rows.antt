@@ -1,24 +1,23 @@
 -- The version table: its rows as they are filled, and the units of a row before a cut.
-use Rattle.std.proofs.Common.{ℕ, zero, suc, ◌≡◌, ◌≢◌, ◌+◌, ◌-◌, ◌<◌, ◌≤◌, ◌==◌, Bool, true, cond, List, [], ◌∷◌, ◌++◌, length, map, filter, take, slice_get, slice_set, slice_index_or, Some, refl, sym, subst, ◌∙◌, ap, inl, inr, arith, append_assoc}
+use Rattle.std.proofs.Common.{ℕ, zero, suc, ◌≡◌, ◌≢◌, ◌+◌, ◌-◌, ◌/◌, ◌%◌, ◌<◌, ◌≤◌, ◌==◌, Bool, true, cond, List, [], ◌∷◌, ◌++◌, length, map, filter, take, slice_get, slice_set, slice_index_or, Some, refl, sym, subst, ◌∙◌, ap, inl, inr, arith, append_assoc}
 use Rattle.std.specs.List.{range_with_len, All}
 use Rattle.std.specs.List.Sorted.{IsNonDecreasingBy}
 use Rattle.std.specs.Option.{option_map}
 use Rattle.std.proofs.Math.Seq.{take-append_seam}
 use Rattle.std.proofs.lemmas.Bool.{cases_lt, eq-eqb, eqb-true, ne_eqb}
 use Rattle.std.proofs.lemmas.Bool.Decides.{eqb_tells}
-use Rattle.std.proofs.lemmas.List.{same_lists, length-append, length-map, length-set, get_or_append_left, get_or-append_right, get_or-set_same, get_or-set_other, append-nil, map-append, map-set}
+use Rattle.std.proofs.lemmas.List.{get_or_default, get_or_past, length-append, length-map, get_or_append_left, get_or-append_right, get_or-set_same, get_or-set_other, append-nil, map-append, map-set}
 use Rattle.std.proofs.lemmas.List.Elements.{filter-append, filter_passes, All-filter}
 use Rattle.std.proofs.lemmas.List.FromFn.{length-map-range_with_len, get_or-map-range_with_len}
 use Rattle.std.proofs.lemmas.List.Kept.{IsNonDecreasingBy-filter}
 use Rattle.std.proofs.lemmas.Option.{slice_get-map, slice_get_within, slice_get_cases, slice_get-get_or, get_or_from_slice_get}
-use Rattle.base.proofs.Lists.{range_with_len-more}
 use Rattle.logfmt.specs.declared.entry.Entry.{Entry}
 use Rattle.logfmt.specs.Bounds.{LogValue, IsLog}
 use Rattle.epochs.specs.declared.unit.Unit.{Unit as LogUnit}
 use Rattle.epochs.specs.Units.{unit_of, units_of_entry, units_before}
 use Rattle.epochs.specs.Plan.{IsUnit}
 use Rattle.epochs.proofs.Growth.{units_before-next}
-use Rattle.images.specs.Table.{covering, rows_of, IsTable, versions}
+use Rattle.images.specs.Table.{covering, row_of, HasMore, HasRows, HaveSameRows, versions}
 use Rattle.images.proofs.Entries.{unit_of_entry}
 
 -- one unit more
@@ -26,119 +25,121 @@ pub covering-push : (s : ℕ) (us : List LogUnit) (u : LogUnit) → covering s (
 unfolding covering
 covering-push s us u = filter-append (λ (v : LogUnit). v.sector == s) us (u ∷ [])
 
-covering_own : (s : ℕ) (us : List LogUnit) (u : LogUnit) → s ≡ u.sector → covering s us ++ u ∷ [] ≡ covering s (us ++ u ∷ [])
-covering_own s us u here =
-    sym (covering-push s us u ∙ ap (λ b. covering s us ++ cond b (u ∷ []) []) (eq-eqb u.sector s (sym here)))
-
 -- a unit of another sector changes nothing
-pub covering_other : (s : ℕ) (us : List LogUnit) (u : LogUnit) → s ≢ u.sector → covering s us ≡ covering s (us ++ u ∷ [])
+covering_other : (s : ℕ) (us : List LogUnit) (u : LogUnit) → s ≢ u.sector → covering s us ≡ covering s (us ++ u ∷ [])
 covering_other s us u other =
     sym (covering-push s us u ∙ ap (λ b. covering s us ++ cond b (u ∷ []) []) (ne_eqb u.sector s (λ e. other (sym e)))
     ∙ append-nil (covering s us))
 
--- a row for each sector
-pub length-rows_of : (sectors : ℕ) (us : List LogUnit) → length (rows_of sectors us) ≡ sectors
-unfolding rows_of
-length-rows_of sectors us = length-map-range_with_len (λ s. covering s us) 0 sectors
+one_empty : {A : Type 0} (x : List A) (k : ℕ) → slice_index_or (x ∷ []) k x ≡ x
+one_empty x zero = refl
+one_empty x (suc k) = refl
 
--- and in it the units that cover the sector
-pub row_at : (sectors : ℕ) (us : List LogUnit) (s : ℕ) (d : List LogUnit) → s < sectors → slice_index_or (rows_of sectors us) s d ≡ covering s us
-unfolding rows_of
-row_at sectors us s d lt =
-    let here : 0 + s ≡ s = omega arith in
-    get_or-map-range_with_len (λ n. covering n us) 0 sectors s s d lt here
+-- an empty row or page more changes nothing
+padded : {A : Type 0} (xs : List (List A)) (n : ℕ) → slice_index_or (xs ++ [] ∷ []) n [] ≡ slice_index_or xs n []
+padded xs n = elim (cases_lt n (length xs)) [
+  | inl inside ↦ get_or_append_left xs ([] ∷ []) [] n inside
+  | inr past ↦ get_or-append_right xs ([] ∷ []) (length xs) n [] refl past ∙ one_empty [] (n - length xs) ∙ sym (get_or_past xs n [] past)
+]
 
--- rows with a unit in its place
-pub put : (sectors : ℕ) (us : List LogUnit) (u : LogUnit) (rows : List (List LogUnit)) (row : List LogUnit) → u.sector < sectors
-    → rows ≡ rows_of sectors us → row ≡ covering u.sector us ++ u ∷ []
-    → slice_set rows u.sector row ≡ rows_of sectors (us ++ u ∷ [])
-put sectors us u rows row lt is own =
-    let more : List LogUnit = us ++ u ∷ [] in
-    let long : length rows ≡ sectors = ap length is ∙ length-rows_of sectors us in
-    let size : length (slice_set rows u.sector row) ≡ sectors = length-set rows u.sector row ∙ long in
-    same_lists _ _ (size ∙ sym (length-rows_of sectors more)) (λ k d lower.
-    let within : k < sectors = omega (arith, lower, size) in
-    elim (eqb_tells k u.sector) [
-      | inl same ↦
-          ap (λ n. slice_index_or (slice_set rows u.sector row) n d) same.1
-          ∙ get_or-set_same rows u.sector row d (omega (arith, long, lt)) ∙ own ∙ covering_own u.sector us u refl
-          ∙ ap (λ n. covering n more) (sym same.1) ∙ sym (row_at sectors more k d within)
-      | inr other ↦
-          get_or-set_other rows u.sector k row d other.1
-          ∙ ap (λ xs. slice_index_or xs k d) is ∙ row_at sectors us k d within
-          ∙ covering_other k us u other.1 ∙ sym (row_at sectors more k d within)
-    ])
-
-no_rows : (ns : List ℕ) → map (λ s. covering s []) ns ≡ map (λ (s : ℕ). []) ns
+-- nothing is written
+pub no_units : HasRows [] []
 unfolding covering
-no_rows ns = refl
+no_units s = refl
 
--- a row without units more
-pub one_row_more : (n : ℕ) → rows_of n [] ++ [] ∷ [] ≡ rows_of (n + 1) []
-unfolding rows_of covering
-one_row_more n =
-    sym (ap (map (λ (s : ℕ). [])) (range_with_len-more 0 n) ∙ map-append (λ (s : ℕ). []) (range_with_len 0 n) ((0 + n) ∷ []))
+-- an empty row, or an empty page, was added
+pub one_more_empty : {A : Type 0} (xs new : List (List A)) (x : List A) (old : List (List A)) (n : ℕ) → new ≡ xs ++ x ∷ [] → x ≡ []
+    → (length xs ≡ n) × HaveSameRows xs old → (length new ≡ n + 1) × HaveSameRows new old
+one_more_empty {A} xs new x old n is none was =
+    let long : length new ≡ length xs + 1 = ap (λ (ys : List (List A)). length ys) is ∙ length-append xs (x ∷ []) in
+    let count = was.0 in (
+      omega (arith, long, count),
+      λ k. ap (λ (ys : List (List A)). slice_index_or ys k []) (is ∙ ap (λ (y : List A). xs ++ y ∷ []) none) ∙ padded xs k ∙ was.1 k,
+    )
 
--- the empty rows are made one after the other
-pub no_row : [] ≡ rows_of 0 []
-unfolding rows_of
-no_row = refl
+pub one_row_more : {R : Type 0} (f : R → List LogUnit) (rs new : List R) (r : R) (old : List (List LogUnit)) (n : ℕ) → new ≡ rs ++ r ∷ [] → f r ≡ []
+    → (length rs ≡ n) × HaveSameRows (map f rs) old → (length new ≡ n + 1) × HaveSameRows (map f new) old
+one_row_more f rs new r old n is none was =
+    let short = length-map rs f in
+    let long = length-map new f in
+    let count = was.0 in
+    let more = one_more_empty (map f rs) (map f new) (f r) old n (ap (map f) is ∙ map-append f rs (r ∷ [])) none (omega (arith, short, count), was.1) in
+    let all = more.0 in
+    (omega (arith, long, all), more.1)
 
-pub first_rows : {R : Type 0} (f : R → List LogUnit) (rs : List R) → rs ≡ [] → map f rs ≡ rows_of 0 []
-first_rows f rs none = ap (map f) none ∙ no_row
-
-pub more_rows : {R : Type 0} (f : R → List LogUnit) (rs new : List R) (r : R) (n : ℕ) → new ≡ rs ++ r ∷ [] → f r ≡ [] → map f rs ≡ rows_of n []
-    → map f new ≡ rows_of (n + 1) []
-more_rows f rs new r n is none was =
-    ap (map f) is ∙ map-append f rs (r ∷ []) ∙ ap (λ row. map f rs ++ row ∷ []) none ∙ ap (λ rows. rows ++ [] ∷ []) was ∙ one_row_more n
-
--- rows that are those of some units are as many as the sectors
-pub rows_long : {R : Type 0} (f : R → List LogUnit) (rs : List R) (sectors : ℕ) (us : List LogUnit) → map f rs ≡ rows_of sectors us → length rs ≡ sectors
-rows_long f rs sectors us is =
-    let long = length-map rs f in
-    let size = ap length is ∙ length-rows_of sectors us in
-    omega (arith, long, size)
-
--- a row, as it is read
-pub mapped_there : {R : Type 0} (f : R → List LogUnit) (rs : List R) (rows : List (List LogUnit)) (n : ℕ) (r : R) → map f rs ≡ rows → n < length rs
-    → (d : List LogUnit) → f (slice_index_or rs n r) ≡ slice_index_or rows n d
-mapped_there f rs rows n r is lt d =
+-- a row of a page, as it is read
+mapped_there : {R : Type 0} (f : R → List LogUnit) (rs : List R) (n : ℕ) (r : R) → n < length rs → f (slice_index_or rs n r) ≡ slice_index_or (map f rs) n []
+mapped_there f rs n r lt =
     let there = slice_get-get_or rs n r lt in
-    sym (get_or_from_slice_get (map f rs) n (f (slice_index_or rs n r)) d (slice_get-map f rs n ∙ ap (option_map f) there))
-    ∙ ap (λ xs. slice_index_or xs n d) is
+    sym (get_or_from_slice_get (map f rs) n (f (slice_index_or rs n r)) [] (slice_get-map f rs n ∙ ap (option_map f) there))
 
--- the table of a history: the row of a sector, and how many rows there are
-pub table_row : {R : Type 0} (f : R → List LogUnit) (rs : List R) (log : LogValue) (n : ℕ) (r : R) → IsTable log (map f rs) → n < log.sectors
-    → f (slice_index_or rs n r) ≡ versions log.entries (length log.entries) n
-table_row f rs log n r is lt =
-    let us = units_before log.entries (length log.entries) in
+pub row_there : {R : Type 0} (f : R → List LogUnit) (rs same : List R) (rows : List (List LogUnit)) (n : ℕ) (r : R) (row : List LogUnit) → same ≡ rs → map f rs ≡ rows
+    → n < length same → r ≡ slice_index_or same n r → row ≡ f r → row ≡ slice_index_or rows n []
+row_there {R} f rs same rows n r row there is lt read found =
+    found ∙ ap f read ∙ mapped_there f same n r lt ∙ ap (λ (xs : List R). slice_index_or (map f xs) n []) there ∙ ap (λ xs. slice_index_or xs n []) is
+
+pub no_row_there : {R : Type 0} (f : R → List LogUnit) (rs same : List R) (rows : List (List LogUnit)) (n : ℕ) → same ≡ rs → map f rs ≡ rows → length same ≤ n
+    → [] ≡ slice_index_or rows n []
+no_row_there {R} f rs same rows n there is past =
+    let short = ap (λ (xs : List R). length xs) there in
     let long = length-map rs f in
-    let size = ap length is.filled ∙ length-rows_of log.sectors us in
-    mapped_there f rs (rows_of log.sectors us) n r is.filled (omega (arith, long, size, lt)) [] ∙ row_at log.sectors us n [] lt
+    sym (get_or_past (map f rs) n [] (omega (arith, short, long, past))) ∙ ap (λ xs. slice_index_or xs n []) is
 
-pub table_long : {R : Type 0} (f : R → List LogUnit) (rs : List R) (log : LogValue) → IsTable log (map f rs) → length rs ≡ log.sectors
-table_long f rs log is =
-    let us = units_before log.entries (length log.entries) in
+-- the row of a sector, by its page
+pub row_of_page : (pages : List (List (List LogUnit))) (n : ℕ) (page : List (List LogUnit)) (row : List LogUnit) → n / 64 < length pages
+    → page ≡ slice_index_or pages (n / 64) page → row ≡ slice_index_or page (n % 64) [] → row ≡ row_of pages n
+row_of_page pages n page row lt read found =
+    found ∙ ap (λ (rows : List (List LogUnit)). slice_index_or rows (n % 64) []) (read ∙ get_or_default pages (n / 64) page [] lt)
+
+pub no_page : (pages : List (List (List LogUnit))) (n : ℕ) → length pages ≤ n / 64 → [] ≡ row_of pages n
+no_page pages n past = sym (ap (λ (rows : List (List LogUnit)). slice_index_or rows (n % 64) []) (get_or_past pages (n / 64) [] past))
+
+-- a unit was put into a row of a page
+pub put_in_row : {R : Type 0} (f : R → List LogUnit) (old : List (List LogUnit)) (rs : List R) (place : ℕ) (was new : R) (u : LogUnit) → place < length rs
+    → HaveSameRows (map f rs) old → was ≡ slice_index_or rs place was → f new ≡ f was ++ u ∷ []
+    → HasMore (map f (slice_set rs place new)) old place u
+put_in_row f old rs place was new u lt same read more = λ n.
     let long = length-map rs f in
-    let size = ap length is.filled ∙ length-rows_of log.sectors us in
-    omega (arith, long, size)
+    let at = ap (λ (xs : List (List LogUnit)). slice_index_or xs n []) (map-set f rs place new) in
+    elim (eqb_tells place n) [
+      | inl here ↦
+          at ∙ ap (λ k. slice_index_or (slice_set (map f rs) place (f new)) k []) (sym here.1)
+          ∙ get_or-set_same (map f rs) place (f new) [] (omega (arith, long, lt)) ∙ more
+          ∙ ap (λ row. row ++ u ∷ []) (ap f read ∙ mapped_there f rs place was lt ∙ ap (λ k. slice_index_or (map f rs) k []) here.1 ∙ same n)
+          ∙ ap (λ b. slice_index_or old n [] ++ cond b (u ∷ []) []) (sym here.0)
+      | inr other ↦
+          at ∙ get_or-set_other (map f rs) place n (f new) [] (λ e. other.1 (sym e)) ∙ same n ∙ sym (append-nil (slice_index_or old n []))
+          ∙ ap (λ b. slice_index_or old n [] ++ cond b (u ∷ []) []) (sym other.0)
+    ]
 
--- the rows with one unit more
-pub pushed : {R : Type 0} (f : R → List LogUnit) (rs : List R) (us : List LogUnit) (u : LogUnit) (old new : R) → u.sector < length rs
-    → map f rs ≡ rows_of (length rs) us → old ≡ slice_index_or rs u.sector old → f new ≡ f old ++ u ∷ []
-    → map f (slice_set rs u.sector new) ≡ rows_of (length rs) (us ++ u ∷ [])
-pushed f rs us u old new lt is read more =
-    map-set f rs u.sector new
-    ∙ put (length rs) us u (map f rs) (f new) lt is
-    (more ∙ ap (λ row. row ++ u ∷ [])
-    (ap f read ∙ mapped_there f rs (rows_of (length rs) us) u.sector old is lt [] ∙ row_at (length rs) us u.sector [] lt))
+-- sectors of one page are the same where their places in it are
+same_place : (a b : ℕ) → a / 64 ≡ b / 64 → (a % 64 == b % 64) ≡ (a == b)
+same_place a b page = elim (eqb_tells (a % 64) (b % 64)) [
+  | inl same ↦ same.0 ∙ sym (eq-eqb a b (let at = same.1 in omega (arith, page, at)))
+  | inr other ↦ other.0 ∙ sym (ne_eqb a b (λ e. other.1 (ap (λ (n : ℕ). n % 64) e)))
+]
 
--- a unit was put into the rows, whose number stayed
-pub filled_on : {R : Type 0} (f : R → List LogUnit) (rs new : List R) (sectors : ℕ) (us : List LogUnit) (u : LogUnit) → map f rs ≡ rows_of sectors us
-    → (map f rs ≡ rows_of (length rs) us → map f new ≡ rows_of (length rs) (us ++ u ∷ [])) → map f new ≡ rows_of sectors (us ++ u ∷ [])
-filled_on f rs new sectors us u was step =
-    let long = rows_long f rs sectors us was in
-    step (was ∙ ap (λ n. rows_of n us) (sym long)) ∙ ap (λ n. rows_of n (us ++ u ∷ [])) long
+-- a unit was put into the page of its sector
+pub put_in_page : (old pages : List (List (List LogUnit))) (us : List LogUnit) (u : LogUnit) (was page : List (List LogUnit)) → u.sector / 64 < length pages
+    → HaveSameRows pages old → HasRows old us → was ≡ slice_index_or pages (u.sector / 64) was → HasMore page was (u.sector % 64) u
+    → HasRows (slice_set pages (u.sector / 64) page) (us ++ u ∷ [])
+put_in_page old pages us u was page lt same is read more = λ s.
+    let P : ℕ = u.sector / 64 in
+    let there : was ≡ slice_index_or pages P [] = read ∙ get_or_default pages P was [] lt in
+    let row : List (List LogUnit) → List LogUnit = λ rows. slice_index_or rows (s % 64) [] in
+    let known : row (slice_index_or pages (s / 64) []) ≡ covering s us = ap row (same (s / 64)) ∙ is s in
+    elim (eqb_tells (s / 64) P) [
+      | inl here ↦
+          ap (λ n. row (slice_index_or (slice_set pages P page) n [])) here.1
+          ∙ ap row (get_or-set_same pages P page [] lt) ∙ more (s % 64)
+          ∙ ap (λ rows. row rows ++ cond (u.sector % 64 == s % 64) (u ∷ []) []) there
+          ∙ ap (λ n. row (slice_index_or pages n []) ++ cond (u.sector % 64 == s % 64) (u ∷ []) []) (sym here.1)
+          ∙ ap (λ xs. xs ++ cond (u.sector % 64 == s % 64) (u ∷ []) []) known
+          ∙ ap (λ b. covering s us ++ cond b (u ∷ []) []) (same_place u.sector s (sym here.1)) ∙ sym (covering-push s us u)
+      | inr other ↦
+          ap row (get_or-set_other pages P (s / 64) page [] other.1) ∙ known
+          ∙ covering_other s us u (λ e. other.1 (ap (λ (n : ℕ). n / 64) e))
+    ]
 
 -- what holds of each unit of two lists
 all_of_both : (P : LogUnit → Type 0) (xs ys : List LogUnit) → All P xs → All P ys → All P (xs ++ ys)

@@ -1,7 +1,7 @@
 -- The version table of a log: for each sector of the device the units that cover it, in order; and what a view keeps
 -- beside its log, cut and departures.
-use Rattle.std.specs.Prelude.{ℕ, ◌-◌, ◌*◌, ◌/◌, ◌==◌, nat_lt, ◌≡◌, ◌<◌, ◌≤◌, Bool, true, false, if◌then◌else◌, List, [], ◌∷◌, length, map, filter, slice_get, Option, Some, None}
-use Rattle.std.specs.List.{last_or, range_with_len}
+use Rattle.std.specs.Prelude.{ℕ, ◌-◌, ◌*◌, ◌/◌, ◌%◌, ◌++◌, ◌==◌, nat_lt, ◌≡◌, ◌<◌, ◌≤◌, Bool, true, false, if◌then◌else◌, List, [], ◌∷◌, length, filter, slice_get, slice_index_or, Option, Some, None}
+use Rattle.std.specs.List.{last_or}
 use Rattle.std.specs.Option.{option_map_or, is_some}
 use Rattle.logfmt.specs.declared.entry.Entry.{Entry}
 use Rattle.logfmt.specs.Bounds.{LogValue, IsLog}
@@ -20,14 +20,26 @@ use Rattle.images.specs.Views.{ViewValue, context_at, ContextFits}
 unfoldable pub covering : ℕ → List LogUnit → List LogUnit
 covering s us = filter (λ (u : LogUnit). u.sector == s) us
 
--- a row for each sector of a device
-unfoldable pub rows_of : ℕ → List LogUnit → List (List LogUnit)
-rows_of sectors us = map (λ s. covering s us) (range_with_len 0 sectors)
+-- the rows of a table stand in pages of 64; what stands for sector s is row s % 64 of page s / 64, and nothing where there is none
+abbrev pub row_of : List (List (List LogUnit)) → ℕ → List LogUnit
+row_of pages s = slice_index_or (slice_index_or pages (s / 64) []) (s % 64) []
+
+-- for each sector, the units of a list that cover it
+abbrev pub HasRows : List (List (List LogUnit)) → List LogUnit → Type 0
+HasRows pages us = (s : ℕ) → row_of pages s ≡ covering s us
+
+-- two lists of rows, or of pages, have the same in each place, where an empty one stands for what isn't there
+abbrev pub HaveSameRows : {A : Type 0} → List (List A) → List (List A) → Type 0
+HaveSameRows more rows = (n : ℕ) → slice_index_or more n [] ≡ slice_index_or rows n []
+
+-- one page has a unit more than another, in the row at a place
+abbrev pub HasMore : List (List LogUnit) → List (List LogUnit) → ℕ → LogUnit → Type 0
+HasMore more rows place u = (n : ℕ) → slice_index_or more n [] ≡ slice_index_or rows n [] ++ (if place == n then u ∷ [] else [])
 
 -- the rows of all units of a log
-pub record IsTable (log : LogValue) (rows : List (List LogUnit)) : Type 0 where
+pub record IsTable (log : LogValue) (pages : List (List (List LogUnit))) : Type 0 where
   pub bounds : IsLog log
-  pub filled : rows ≡ rows_of log.sectors (units_before log.entries (length log.entries))
+  pub filled : HasRows pages (units_before log.entries (length log.entries))
 
 -- the units before cut k that cover sector s
 abbrev pub versions : List Entry → ℕ → ℕ → List LogUnit

@@ -1,6 +1,7 @@
 //! The sectors of an image that differ from the base of its cut.
 
 ghost use Rattle.std.specs.Prelude.{◌≡◌, ◌+◌, ◌<◌, ◌≤◌, ◌++◌, ◌∷◌, [], ℕ, List, length, slice_get, sum_by, Some, IfOk, OnOk, MatchOption};
+ghost use Rattle.limits.specs.Sizes.{most_sectors};
 ghost use Rattle.choices.specs.declared.choice.Departure.{Departure as LogDeparture};
 ghost use Rattle.logfmt.specs.Bounds.{LogValue};
 ghost use Rattle.epochs.specs.declared.unit.Unit.{Unit as LogUnit};
@@ -236,7 +237,7 @@ fn put_unit<'a>(
 /// How many sectors the parts of departures have.
 fn sectors_of(departures: &[Departure]) -> usize
     requires few { length departures.now ≤ 3 }
-    requires device { (i : ℕ) (d : LogDeparture) → slice_get departures.now i ≡ Some d → d.part.count ≤ 16384 }
+    requires device { (i : ℕ) (d : LogDeparture) → slice_get departures.now i ≡ Some d → d.part.count ≤ most_sectors }
     ensures { result ≡ sum_by (λ (d : LogDeparture). d.part.count) departures.now }
 {
     let mut sum = 0;
@@ -256,7 +257,7 @@ fn put_part<'a>(
 ) -> Result<(), AllocError>
     requires flush { flush ≤ length view.now.log.entries }
     requires device { part.sector + part.count ≤ view.now.log.sectors }
-    requires small { view.now.log.sectors ≤ 16384 }
+    requires small { view.now.log.sectors ≤ most_sectors }
     requires known { (image : ℕ → List ℕ) × (sectors.old.items ≡ changes (whole_image view.now.log flush) image 0 view.now.log.sectors) }
     ensures { (image : ℕ → List ℕ) → sectors.old.items ≡ changes (whole_image view.now.log flush) image 0 view.now.log.sectors
         → OnOk result (sectors.new.items ≡ changes (whole_image view.now.log flush) (with_sectors image part.sector part.count (image_of view.now)) 0 view.now.log.sectors) }

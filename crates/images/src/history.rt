@@ -2,30 +2,31 @@
 
 ghost use Rattle.std.specs.Prelude.{◌≡◌, IfOk, IsOk};
 
+use crate::pages::Page;
 use crate::torn::{put_torn, tear_any};
-use crate::versions::{Versions, rows_of};
+use crate::versions::{Versions, pages_of};
 use crate::view::View;
 use arrayvec::ArrayVec;
 use choices::Choice;
-use epochs::{Plan, Unit};
+use epochs::Plan;
 use helpers::Context;
 use logfmt::Log;
 use std::alloc::{AllocError, Global};
 use std::marker::Model;
 
-/// The crash images of a log, of which a plan says the wanted cuts. It keeps for each sector of the
-/// device the units that cover it, and no content.
+/// The crash images of a log, of which a plan says the wanted cuts. It keeps for each sector that
+/// is written the units that cover it, and no content.
 ///
 /// Contracts see a history as its plan.
 #[derive(Drop)]
 pub struct History<'a> {
     plan: &'a Plan<'a>,
     log: &'a Log,
-    rows: Vec<Vec<Unit>>,
+    pages: Vec<Page>,
 }
 
 impl<'a> Model for History<'a> {
-    ghost use Rattle.std.specs.Prelude.{◌≡◌, map};
+    ghost use Rattle.std.specs.Prelude.{◌≡◌};
     ghost use Rattle.epochs.specs.Plan.{PlanValue};
     ghost use Rattle.images.specs.Table.{IsTable};
 
@@ -33,26 +34,27 @@ impl<'a> Model for History<'a> {
 
     ghost view = { λ h. h.plan.now };
 
-    ghost invariant = { λ h. (h.plan.now.log ≡ h.log.now) × IsTable h.log.now (map (λ r. r.items) h.rows.items) };
+    ghost invariant = { λ h. (h.plan.now.log ≡ h.log.now) × IsTable h.log.now h.pages.items };
 }
 
 impl<'a> History<'a> {
     ghost use Rattle.images.specs.Views.{IsMember, view_of};
 
-    /// The crash images of a plan's log. It takes time and memory for each unit and for each sector.
+    /// The crash images of a plan's log. It takes time and memory for each unit, and for each
+    /// 64 sectors of the device up to the last that is written.
     pub fn new(alloc: Global, plan: &'a Plan<'a>, log: &'a Log) -> Result<History<'a>, AllocError>
         requires { plan.now.log ≡ log.now }
         ensures { IfOk result (λ history. history ≡ plan.now) }
     {
-        let rows = rows_of(alloc, log)?;
-        Ok(History { plan, log, rows })
+        let pages = pages_of(alloc, log)?;
+        Ok(History { plan, log, pages })
     }
 
     /// The units that cover each sector.
     pub(crate) fn versions(&self) -> Versions<'_>
         ensures { result ≡ self.now.log }
     {
-        Versions::of(&*self.log, self.rows.as_slice())
+        Versions::of(&*self.log, self.pages.as_slice())
     }
 
     /// The crash image of a choice of the plan, as a device. It borrows the sectors of the log, takes
@@ -64,7 +66,7 @@ impl<'a> History<'a> {
         ensures always { IsOk result }
     {
         let cut = choice.cut();
-        let versions = Versions::of(&*self.log, self.rows.as_slice());
+        let versions = Versions::of(&*self.log, self.pages.as_slice());
         let own = choice.departures();
         let departures = choice.departures_owned();
         let context = Context {

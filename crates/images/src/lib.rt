@@ -81,9 +81,10 @@
 //!
 //! # How it is written
 //!
-//! A history keeps a version table (`versions`): for each sector of the device a row, the units that
+//! A history keeps a version table (`versions`): for each sector that is written a row, the units that
 //! cover it in their order (`specs/Table.antt`). It has no content, and is filled in one pass over the
-//! entries. A search by halves finds the units of a row before a cut.
+//! entries. The rows stand in pages of 64 (`pages`), and those of a page that nothing writes aren't kept,
+//! so a large device costs what is written to it. A search by halves finds the units of a row before a cut.
 //!
 //! A view borrows the table. A sector of it is the content of the last of those units that is not
 //! dropped, where it lies in the log, or that of the initial content, which the log keeps, or a sector of
@@ -131,6 +132,7 @@ mod key;
 mod laws;
 mod listing;
 mod number;
+mod pages;
 mod torn;
 mod versions;
 mod view;

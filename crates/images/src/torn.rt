@@ -1,6 +1,7 @@
 //! The sectors of a crash image in which a torn unit shows.
 
 ghost use Rattle.std.specs.Prelude.{◌≡◌, ◌+◌, ◌<◌, ◌≤◌, [], ℕ, IsFalse, false, length, slice_get, Some};
+ghost use Rattle.limits.specs.Sizes.{most_sectors};
 ghost use Rattle.choices.specs.declared.choice.Departure.{Departure as LogDeparture};
 ghost use Rattle.epochs.specs.Plan.{IsPart};
 ghost use Rattle.logfmt.specs.Bounds.{IsLog};
@@ -31,7 +32,7 @@ impl Default for TornSector {
 /// In which of its sectors a part of so many is torn; the first where it is dropped.
 fn tear_of(fate: Fate, count: u32) -> u32
     requires some { 1 ≤ count }
-    requires few { count ≤ 16384 }
+    requires few { count ≤ most_sectors }
     ensures value { result ≡ tear_of fate count }
     ensures inside { result < count }
 {
@@ -45,7 +46,7 @@ fn tear_of(fate: Fate, count: u32) -> u32
 /// The sector in which a departure tears its part; the part's first where it is dropped.
 fn tear(departure: Departure) -> u32
     requires some { 1 ≤ departure.part.count }
-    requires device { departure.part.sector + departure.part.count ≤ 16384 }
+    requires device { departure.part.sector + departure.part.count ≤ most_sectors }
     ensures value { result ≡ departure.part.sector + tear_of departure.fate departure.part.count }
     ensures inside { result < departure.part.sector + departure.part.count }
 {

@@ -1,13 +1,14 @@
 //! The version table of a log: for each sector of the device the units that cover it, in order.
 
-ghost use Rattle.std.specs.Prelude.{◌≡◌, ◌+◌, ◌<◌, ◌≤◌, ◌++◌, ◌∷◌, [], ℕ, List, length, map, replicate, slice_index_or, true, IfOk, OnOk};
+ghost use Rattle.std.specs.Prelude.{◌≡◌, ◌+◌, ◌<◌, ◌≤◌, ℕ, [], length, slice_index_or, IfOk, OnOk};
 ghost use Rattle.std.specs.List.Sorted.{IsNonDecreasingBy};
 ghost use Rattle.epochs.specs.declared.unit.Unit.{Unit as LogUnit};
 ghost use Rattle.epochs.specs.Plan.{IsUnit};
 ghost use Rattle.epochs.specs.Units.{units_before};
-ghost use Rattle.images.specs.Table.{rows_of, IsTable};
+ghost use Rattle.images.specs.Table.{HasRows, IsTable};
 
 use crate::image::{Sector, content_of, fate_at, formed, initial_of, showing};
+use crate::pages::{Page, put_unit, row_of};
 use choices::Departure;
 use epochs::Unit;
 use logfmt::Log;
@@ -20,11 +21,10 @@ use std::marker::Model;
 #[derive(Drop)]
 pub(crate) struct Versions<'a> {
     log: &'a Log,
-    rows: &'a [Vec<Unit>],
+    pages: &'a [Page],
 }
 
 impl<'a> Model for Versions<'a> {
-    ghost use Rattle.std.specs.Prelude.{map};
     ghost use Rattle.logfmt.specs.Bounds.{LogValue};
     ghost use Rattle.images.specs.Table.{IsTable};
 
@@ -32,7 +32,7 @@ impl<'a> Model for Versions<'a> {
 
     ghost view = { λ v. v.log.now };
 
-    ghost invariant = { λ v. IsTable v.log.now (map (λ r. r.items) v.rows.now) };
+    ghost invariant = { λ v. IsTable v.log.now v.pages.now };
 }
 
 impl<'a> Versions<'a> {
@@ -42,12 +42,12 @@ impl<'a> Versions<'a> {
     ghost use Rattle.images.specs.Images.{sector_after};
     ghost use Rattle.images.specs.Table.{versions, is_torn, DepartOnce};
 
-    /// The units of a log by these rows.
-    pub(crate) fn of(log: &'a Log, rows: &'a [Vec<Unit>]) -> Versions<'a>
-        requires { IsTable log.now (map (λ r. r.items) rows.now) }
+    /// The units of a log by these pages.
+    pub(crate) fn of(log: &'a Log, pages: &'a [Page]) -> Versions<'a>
+        requires { IsTable log.now pages.now }
         ensures { result ≡ log.now }
     {
-        Versions { log, rows }
+        Versions { log, pages }
     }
 
     /// The same table.
@@ -56,7 +56,7 @@ impl<'a> Versions<'a> {
     {
         Versions {
             log: self.log,
-            rows: self.rows,
+            pages: self.pages,
         }
     }
 
@@ -74,7 +74,7 @@ impl<'a> Versions<'a> {
         requires cut { cut ≤ length self.now.entries }
         ensures { result.now ≡ versions self.now.entries cut number }
     {
-        let row = self.rows[number as usize].as_slice();
+        let row = row_of(self.pages, number);
         &row[..count_before(row, cut)]
     }
 
@@ -128,32 +128,11 @@ fn count_before(row: &[Unit], cut: u32) -> usize
     row.partition_point(|unit| unit.entry < cut)
 }
 
-/// A row without units for each sector.
-fn empty_rows(alloc: Global, sectors: u32) -> Result<Vec<Vec<Unit>>, AllocError>
-    ensures { IfOk result (λ rows. map (λ r. r.items) rows.items ≡ rows_of sectors []) }
-{
-    let mut rows = Vec::with_capacity(alloc, sectors as usize)?;
-    for _ in 0..sectors {
-        rows.push(Vec::new(alloc))?;
-    }
-    Ok(rows)
-}
-
-/// Adds a unit to the row of its sector.
-fn put_unit(rows: &mut Vec<Vec<Unit>>, unit: Unit) -> Result<(), AllocError>
-    requires { unit.sector < length rows.old.items }
-    ensures { (us : List LogUnit) → map (λ r. r.items) rows.old.items ≡ rows_of (length rows.old.items) us
-        → OnOk result (map (λ r. r.items) rows.new.items ≡ rows_of (length rows.old.items) (us ++ unit ∷ [])) }
-{
-    rows[unit.sector as usize].push(unit)?;
-    Ok(())
-}
-
 /// Adds the units of an entry to the rows of the units before it.
-fn put_entry(rows: &mut Vec<Vec<Unit>>, log: &Log, number: u32) -> Result<(), AllocError>
+fn put_entry(pages: &mut Vec<Page>, alloc: Global, log: &Log, number: u32) -> Result<(), AllocError>
     requires entry { number < length log.now.entries }
-    requires rows { map (λ r. r.items) rows.old.items ≡ rows_of log.now.sectors (units_before log.now.entries number) }
-    ensures { OnOk result (map (λ r. r.items) rows.new.items ≡ rows_of log.now.sectors (units_before log.now.entries (number + 1))) }
+    requires rows { HasRows pages.old.items (units_before log.now.entries number) }
+    ensures { OnOk result (HasRows pages.new.items (units_before log.now.entries (number + 1))) }
 {
     let entry = &log.entries()[number as usize];
     for place in 0..entry.count {
@@ -162,18 +141,18 @@ fn put_entry(rows: &mut Vec<Vec<Unit>>, log: &Log, number: u32) -> Result<(), Al
             place: place as u32,
             sector: (entry.sector + place) as u32,
         };
-        put_unit(rows, unit)?;
+        put_unit(pages, alloc, unit)?;
     }
     Ok(())
 }
 
-/// The rows of all units of a log. It takes time about linear in the number of units and sectors.
-pub(crate) fn rows_of(alloc: Global, log: &Log) -> Result<Vec<Vec<Unit>>, AllocError>
-    ensures { IfOk result (λ rows. IsTable log.now (map (λ r. r.items) rows.items)) }
+/// The rows of all units of a log, in pages. It takes time about linear in the number of its units, and of pages up to the last.
+pub(crate) fn pages_of(alloc: Global, log: &Log) -> Result<Vec<Page>, AllocError>
+    ensures { IfOk result (λ pages. IsTable log.now pages.items) }
 {
-    let mut rows = empty_rows(alloc, log.sectors())?;
+    let mut pages = Vec::new(alloc);
     for number in 0..log.entries().len() as u32 {
-        put_entry(&mut rows, log, number)?;
+        put_entry(&mut pages, alloc, log, number)?;
     }
-    Ok(rows)
+    Ok(pages)
 }

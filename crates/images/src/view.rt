@@ -1,6 +1,7 @@
 //! The view of a crash image.
 
 ghost use Rattle.std.specs.Prelude.{◌≡◌, ◌<◌, ◌≤◌, length, slice_get, Some, IfOk};
+ghost use Rattle.limits.specs.Sizes.{most_sectors};
 
 use crate::changed::ChangedSector;
 use crate::changes::Changes;
@@ -51,7 +52,7 @@ impl<'a> View<'a> {
     /// marks stand before it.
     pub fn context(&self) -> Context
         ensures value { result ≡ context_at self.now.log self.now.cut }
-        ensures device { result.sectors ≤ 16384 }
+        ensures device { result.sectors ≤ most_sectors }
         ensures epoch { result.epoch ≤ 65536 }
         ensures marks { result.marks ≤ 65536 }
         ensures bounds { IsLog self.now.log }

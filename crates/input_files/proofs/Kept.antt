@@ -77,7 +77,7 @@ raw_kept k xs ys es raw =
     }
 
 pub imported_alike : RawIsImportedAlike
-imported_alike bytes text sectors made =
+imported_alike bytes text sectors limits made =
     let all : read_raw bytes ++ drop (needed bytes) bytes ≡ bytes = take-append-drop (needed bytes) bytes in
     record {
       k = made.k;

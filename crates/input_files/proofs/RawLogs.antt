@@ -5,6 +5,8 @@ use Rattle.std.proofs.lemmas.Int.{clamps}
 use Rattle.std.proofs.lemmas.Bool.{cases_lt}
 use Rattle.std.proofs.lemmas.Option.{same_Some}
 use Rattle.std.proofs.lemmas.List.{length-take, length-take-le, take-append-drop, take_all}
+use Rattle.limits.specs.Sizes.{byte_limit}
+use Rattle.limits.specs.declared.Limits.{Limits}
 use Rattle.base.specs.Check.{Check, check, first_failing}
 use Rattle.base.specs.Numbers.{number_at}
 use Rattle.base.specs.declared.causes.LogCause.{LogCause}
@@ -92,7 +94,7 @@ read_short bytes =
     omega (arith, clamps, long, most)
 
 pub no_more : NoMoreIsRead
-no_more k sectors bytes es raw can =
+no_more k sectors limits bytes es raw can =
     let known : is_known bytes ≡ true = known_size k bytes es raw in
     let times : times_at bytes ≡ k = told k bytes es raw in
     let is = needed_known bytes known in
@@ -171,15 +173,15 @@ entry_alike k sectors xs ys s u w some reaches ends =
     by_header (nat_le (s + bytes_in k 1) 201326592) refl
 
 -- the headers, as far as the entries pass
-header_alike : (k sectors n : ℕ) (xs ys : List ℕ) → 1 ≤ k → ((i : ℕ) → i < n → raw_entry_fault k xs sectors i ≡ None)
+header_alike : (k sectors : ℕ) (limits : Limits) (n : ℕ) (xs ys : List ℕ) → 1 ≤ k → ((i : ℕ) → i < n → raw_entry_fault k xs sectors limits i ≡ None)
     → (header k (xs ++ ys) n ≡ header k xs n) × (units_before k (xs ++ ys) n ≡ units_before k xs n) × (written_before k (xs ++ ys) n ≡ written_before k xs n)
 unfolding raw_entry_checks
-header_alike k sectors zero xs ys some pass = (refl, refl, refl)
-header_alike k sectors (suc n) xs ys some pass =
-    let before = header_alike k sectors n xs ys some (λ i h. pass i (omega (arith, h))) in
+header_alike k sectors limits zero xs ys some pass = (refl, refl, refl)
+header_alike k sectors limits (suc n) xs ys some pass =
+    let before = header_alike k sectors limits n xs ys some (λ i h. pass i (omega (arith, h))) in
     let s : ℕ = header k xs n in
     let there : nat_le (s + bytes_in k 1) (length xs) ≡ true =
-    passes (raw_entry_checks k xs sectors s (units_before k xs n) (written_before k xs n)) 1 (check cause.CutShort (nat_le (s + bytes_in k 1) (length xs))) (pass n (omega arith)) refl in
+    passes (raw_entry_checks k xs sectors s (units_before k xs n) (byte_limit limits - written_before k xs n)) 1 (check cause.CutShort (nat_le (s + bytes_in k 1) (length xs))) (pass n (omega arith)) refl in
     let within : s + bytes_in k 1 ≤ length xs = grind (arith, nat_tests, there) in
     let count = number_kept 8 (s + 8) xs ys (omega (arith, some, within)) in
     let word = number_kept 8 (s + 16) xs ys (omega (arith, some, within)) in
@@ -190,12 +192,12 @@ record AreFirst (xs ys : List ℕ) : Type 0 where
   pub some : 512 ≤ length xs
   pub known : is_known xs ≡ true → length xs ≡ min 201326592 (header (times_at xs) (xs ++ ys) (entries_of xs))
 
-fault_alike : (sectors i : ℕ) (xs ys : List ℕ) → AreFirst xs ys → is_known xs ≡ true → i < entries_of xs → EntriesPass xs sectors i
-    → raw_entry_fault (times_at xs) xs sectors i ≡ raw_entry_fault (times_at xs) (xs ++ ys) sectors i
-fault_alike sectors i xs ys first known lt pass =
+fault_alike : (sectors : ℕ) (limits : Limits) (i : ℕ) (xs ys : List ℕ) → AreFirst xs ys → is_known xs ≡ true → i < entries_of xs → EntriesPass xs sectors limits i
+    → raw_entry_fault (times_at xs) xs sectors limits i ≡ raw_entry_fault (times_at xs) (xs ++ ys) sectors limits i
+fault_alike sectors limits i xs ys first known lt pass =
     let k : ℕ = times_at xs in
     let some : 1 ≤ k = elim (known_times xs known) [ inl small ↦ omega (arith, small.0) | inr large ↦ omega (arith, large.0) ] in
-    let same = header_alike k sectors i xs ys some pass in
+    let same = header_alike k sectors limits i xs ys some pass in
     let s : ℕ = header k xs i in
     let long = first.known known in
     let behind : header k (xs ++ ys) (suc i) ≤ header k (xs ++ ys) (entries_of xs) = up_to k (xs ++ ys) (suc i) (entries_of xs) (omega (arith, lt)) in
@@ -208,25 +210,25 @@ fault_alike sectors i xs ys first known lt pass =
     let told : data_sectors (xs ++ ys) s ≡ data_sectors xs s = rw (count, word) refl in
     let end : header k (xs ++ ys) (suc i) ≡ s + bytes_in k (1 + data_sectors xs s) = next ∙ ap (λ d. s + bytes_in k (1 + d)) told in
     omega (arith, clamps, h, long, behind, end) in
-    entry_alike k sectors xs ys s (units_before k xs i) (written_before k xs i) some reaches ends ∙ (rw (same.0, same.1, same.2) refl)
+    entry_alike k sectors xs ys s (units_before k xs i) (byte_limit limits - written_before k xs i) some reaches ends ∙ (rw (same.0, same.1, same.2) refl)
 
-refused_first : (sectors : ℕ) (xs ys : List ℕ) (c : LogCause) (at : ℕ) → AreFirst xs ys → (is_known xs ≡ true → size_at xs ≤ length xs)
-    → FirstRawFault xs sectors c at → FirstRawFault (xs ++ ys) sectors c at
+refused_first : (sectors : ℕ) (limits : Limits) (xs ys : List ℕ) (c : LogCause) (at : ℕ) → AreFirst xs ys → (is_known xs ≡ true → size_at xs ≤ length xs)
+    → FirstRawFault xs sectors limits c at → FirstRawFault (xs ++ ys) sectors limits c at
 unfolding raw_super_checks
-refused_first sectors xs ys _ _ first whole (in_super c h) = in_super c (sym (super_alike xs ys first.some whole) ∙ h)
-refused_first sectors xs ys _ _ first whole (in_entry c at clean lt pass h) =
+refused_first sectors limits xs ys _ _ first whole (in_super c h) = in_super c (sym (super_alike xs ys first.some whole) ∙ h)
+refused_first sectors limits xs ys _ _ first whole (in_entry c at clean lt pass h) =
     let long = first.some in
     let known : is_known xs ≡ true = passes (raw_super_checks xs) 3 (check cause.SectorSize (is_known xs)) clean refl in
     let times : times_at (xs ++ ys) ≡ times_at xs = ap (λ n. n / 512) (number_kept 4 24 xs ys (omega (arith, long))) in
     let count : entries_of (xs ++ ys) ≡ entries_of xs = number_kept 8 16 xs ys (omega (arith, long)) in
-    let alike : (i : ℕ) → i < entries_of xs → EntriesPass xs sectors i → raw_entry_fault (times_at (xs ++ ys)) (xs ++ ys) sectors i ≡ raw_entry_fault (times_at xs) xs sectors i =
-    λ i less before. ap (λ k. raw_entry_fault k (xs ++ ys) sectors i) times ∙ sym (fault_alike sectors i xs ys first known less before) in
+    let alike : (i : ℕ) → i < entries_of xs → EntriesPass xs sectors limits i → raw_entry_fault (times_at (xs ++ ys)) (xs ++ ys) sectors limits i ≡ raw_entry_fault (times_at xs) xs sectors limits i =
+    λ i less before. ap (λ k. raw_entry_fault k (xs ++ ys) sectors limits i) times ∙ sym (fault_alike sectors limits i xs ys first known less before) in
     in_entry c at (sym (super_alike xs ys first.some whole) ∙ clean) (omega (arith, lt, count))
     (λ i less. alike i (omega (arith, less, lt)) (λ j below. pass j (omega (arith, below, less))) ∙ pass i less)
     (alike at lt pass ∙ h)
 
 pub refused_alike : RawIsRefusedAlike
-refused_alike bytes sectors c at fault = elim (cases_lt (needed bytes) (length bytes)) [
+refused_alike bytes sectors limits c at fault = elim (cases_lt (needed bytes) (length bytes)) [
   | inl more ↦
       let xs : List ℕ = read_raw bytes in
       let ys : List ℕ = drop (needed bytes) bytes in
@@ -248,6 +250,6 @@ refused_alike bytes sectors c at fault = elim (cases_lt (needed bytes) (length b
       let behind = up_to (times_at bytes) bytes 0 (entries_of bytes) (omega arith) in
       let most = (sizes bytes k_known).1 in
       omega (arith, clamps, long, is, begins, behind, size, most) in
-      subst (λ zs. FirstRawFault zs sectors c at) all (refused_first sectors xs ys c at first whole fault)
-  | inr less ↦ subst (λ zs. FirstRawFault zs sectors c at) (take_all (needed bytes) bytes (omega (arith, less))) fault
+      subst (λ zs. FirstRawFault zs sectors limits c at) all (refused_first sectors limits xs ys c at first whole fault)
+  | inr less ↦ subst (λ zs. FirstRawFault zs sectors limits c at) (take_all (needed bytes) bytes (omega (arith, less))) fault
 ]

@@ -1,5 +1,7 @@
 -- What a command takes a file for, and how much of it is read (docs/REPORT.md, Files).
 use Rattle.std.specs.Prelude.{ℕ, ◌==◌, ◌+◌, ◌-◌, ◌*◌, min, nat_le, ◌&&◌, ◌||◌, if◌then◌else◌, List, bytes_eq, codes, Option, None, Some}
+use Rattle.limits.specs.Sizes.{byte_limit, sector_limit}
+use Rattle.limits.specs.declared.Limits.{Limits}
 use Rattle.base.specs.declared.causes.AsmCause.TheVariants as asm
 use Rattle.base.specs.declared.causes.CodeCause.TheVariants as code
 use Rattle.base.specs.declared.causes.LogCause.TheVariants as log
@@ -9,27 +11,27 @@ use Rattle.base.specs.Refusals.{memory_refusal}
 use Rattle.input_files.specs.declared.kind.FileKind.{FileKind}
 use Rattle.input_files.specs.declared.kind.FileKind.TheVariants as kind
 
--- what `check` takes the file at that place for: a program, then an image
-abbrev pub checked_kind : ℕ → FileKind
-checked_kind place = if place == 1 then kind.Image else kind.Program
+-- what `check` takes the file at that place for: a program, then an image within these limits
+abbrev pub checked_kind : ℕ → Limits → FileKind
+checked_kind place limits = if place == 1 then kind.Image limits else kind.Program
 
--- what the command of that name takes the file at that place for
-abbrev pub kind_of : List ℕ → ℕ → FileKind
-kind_of command place =
+-- what the command of that name takes the file at that place for, within these limits
+abbrev pub kind_of : List ℕ → ℕ → Limits → FileKind
+kind_of command place limits =
     if bytes_eq command (codes "asm") then kind.Text
     else if bytes_eq command (codes "import") then kind.Raw
     else if bytes_eq command (codes "verify") || bytes_eq command (codes "list") then kind.Program
-    else if bytes_eq command (codes "check") then checked_kind place
-    else if place == 0 then kind.Log
+    else if bytes_eq command (codes "check") then checked_kind place limits
+    else if place == 0 then kind.Log limits
     else kind.Program
 
 -- how many bytes a file has at most
 abbrev pub most_of : FileKind → ℕ
-most_of kind.Log = 64 * 1024 * 1024
+most_of (kind.Log limits) = byte_limit limits
 most_of kind.Raw = 192 * 1024 * 1024
 most_of kind.Program = 8 * 4096
 most_of kind.Text = 16 * 1024 * 1024
-most_of kind.Image = 512 * 16384
+most_of (kind.Image limits) = 512 * sector_limit limits
 
 -- how many bytes are read at most: one more, or of a program a slot more; of a raw log no more
 abbrev pub read_of : FileKind → ℕ
@@ -37,10 +39,10 @@ read_of kind.Program = most_of kind.Program + 8
 read_of kind.Raw = most_of kind.Raw
 read_of k = most_of k + 1
 
--- how many bytes are read of what a device of so many sectors held: one more than it has; there is no larger device than one of
--- 16,384 sectors
-abbrev pub base_read : ℕ → ℕ
-base_read sectors = 512 * min sectors 16384 + 1
+-- how many bytes are read of what a device of so many sectors held: one more than it has; there is no larger device than the limits
+-- allow
+abbrev pub base_read : ℕ → Limits → ℕ
+base_read sectors limits = 512 * min sectors (sector_limit limits) + 1
 
 -- the number of the program at a place behind a log
 abbrev pub number_of : ℕ → Option ℕ
@@ -48,8 +50,8 @@ number_of place = if nat_le 1 place && nat_le place 256 then Some (place - 1) el
 
 -- want of memory for the file at a place
 abbrev pub memory_of : FileKind → ℕ → Refusal
-memory_of kind.Log place = record { code = Log log.Memory; at = 0; program = None }
+memory_of (kind.Log limits) place = record { code = Log log.Memory; at = 0; program = None }
 memory_of kind.Raw place = record { code = Log log.Memory; at = 0; program = None }
 memory_of kind.Program place = record { code = Code code.Memory; at = 0; program = number_of place }
 memory_of kind.Text place = record { code = Asm asm.Memory; at = 0; program = None }
-memory_of kind.Image place = memory_refusal
+memory_of (kind.Image limits) place = memory_refusal

@@ -1,5 +1,6 @@
 -- The first bytes of a raw log, which are read of it: those that its entries need (docs/LOG-FORMAT.md, Importing a raw log).
 use Rattle.std.specs.Prelude.{ℕ, ◌+◌, ◌-◌, ◌≡◌, ◌==◌, ◌<◌, ◌≤◌, Bool, true, ◌||◌, min, if◌then◌else◌, List, length, take}
+use Rattle.limits.specs.declared.Limits.{Limits}
 use Rattle.base.specs.Numbers.{number_at}
 use Rattle.base.specs.declared.causes.LogCause.{LogCause}
 use Rattle.logfmt.specs.declared.entry.Entry.{Entry}
@@ -26,16 +27,19 @@ read_raw bytes = take (needed bytes) bytes
 
 -- what is imported of the bytes that are read is imported of the raw log: the bytes behind change nothing
 abbrev pub RawIsImportedAlike : Type 0
-RawIsImportedAlike = (bytes text : List ℕ) (sectors : ℕ) → IsImported (read_raw bytes) sectors text → IsImported bytes sectors text
+RawIsImportedAlike =
+    (bytes text : List ℕ) (sectors : ℕ) (limits : Limits) → IsImported (read_raw bytes) sectors limits text → IsImported bytes sectors limits text
 
 -- a fault of the bytes that are read is one of the raw log: they reach far enough
 abbrev pub RawIsRefusedAlike : Type 0
-RawIsRefusedAlike = (bytes : List ℕ) (sectors : ℕ) (c : LogCause) (at : ℕ) → FirstRawFault (read_raw bytes) sectors c at → FirstRawFault bytes sectors c at
+RawIsRefusedAlike =
+    (bytes : List ℕ) (sectors : ℕ) (limits : Limits) (c : LogCause) (at : ℕ) → FirstRawFault (read_raw bytes) sectors limits c at
+    → FirstRawFault bytes sectors limits c at
 
 -- of a raw log that can be imported no more is read than its entries need; of no file more than 192 MiB
 abbrev pub NoMoreIsRead : Type 0
 NoMoreIsRead =
-    (k sectors : ℕ) (bytes : List ℕ) (es : List Entry) → RawText k bytes es → IsImportable k sectors es
+    (k sectors : ℕ) (limits : Limits) (bytes : List ℕ) (es : List Entry) → RawText k bytes es → IsImportable k sectors limits es
     → length (read_raw bytes) ≤ bytes_in k (place es (length es))
 
 abbrev pub ReadRawIsShort : Type 0

@@ -5,9 +5,19 @@ use crate::kind::FileKind;
 use crate::reading::{Piece, read_base, read_file};
 use base::causes::RequestCause;
 use base::refusal::{Cause, Refusal};
+use limits::Limits;
 use std::alloc::AllocError;
 use std::io::ErrorKind;
 use std::rt::Files;
+
+/// The size of the device that a command asks for.
+#[derive(Clone, Copy)]
+pub struct DeviceSize {
+    /// How many sectors it has; 0 where the command takes none.
+    pub sectors: u64,
+    /// How large it and its log may be.
+    pub limits: Limits,
+}
 
 /// What is said of an assembly text that is too long.
 const TOO_LONG: &str =
@@ -41,7 +51,7 @@ fn read_one<R: Files + AllocGlobal>(
     }
 }
 
-/// What a device of so many sectors held, by the file of that name; nothing where that can't be read.
+/// What a device of that size held, by the file of that name; nothing where that can't be read.
 ///
 /// # Errors
 ///
@@ -49,9 +59,9 @@ fn read_one<R: Files + AllocGlobal>(
 fn base_of<R: Files + AllocGlobal>(
     rt: &R,
     name: &str,
-    sectors: u64,
+    size: &DeviceSize,
 ) -> Result<Option<Vec<u8>>, AllocError> {
-    match read_base(rt, name, sectors) {
+    match read_base(rt, name, size.sectors, size.limits) {
         Ok(bytes) => Ok(Some(bytes)),
         Err(error) if error.kind() == ErrorKind::OutOfMemory => Err(AllocError),
         Err(_error) => Ok(None),
@@ -60,7 +70,7 @@ fn base_of<R: Files + AllocGlobal>(
 
 impl Inputs {
     /// Reads the files that the command of that name names, no more of each than it can use; and, where one is named, the one
-    /// that holds what a device of so many sectors held before.
+    /// that holds what a device of that size held before. Of a log and of that it reads no more than the limits allow.
     ///
     /// # Errors
     ///
@@ -70,7 +80,7 @@ impl Inputs {
         command: &str,
         names: &[String],
         base: Option<&str>,
-        sectors: u64,
+        size: &DeviceSize,
     ) -> Result<Inputs, Refusal> {
         let mut inputs = Inputs {
             held: Vec::new(rt.alloc()),
@@ -78,7 +88,7 @@ impl Inputs {
             base: None,
         };
         for (place, name) in names.iter().enumerate() {
-            let kind = FileKind::of(command, place);
+            let kind = FileKind::of(command, place, size.limits);
             let Ok(piece) = read_one(rt, name.as_str(), kind) else {
                 return Err(kind.of_memory(place));
             };
@@ -87,8 +97,8 @@ impl Inputs {
             }
         }
         if let Some(name) = base {
-            let Ok(held) = base_of(rt, name, sectors) else {
-                return Err(FileKind::Log.of_memory(0));
+            let Ok(held) = base_of(rt, name, size) else {
+                return Err(FileKind::Log(size.limits).of_memory(0));
             };
             inputs.base = Some(held);
         }

@@ -5,46 +5,48 @@ ghost use Rattle.input_files.specs.Kinds.{checked_kind, kind_of, most_of, read_o
 
 use base::causes::{AsmCause, CodeCause, LogCause};
 use base::refusal::{Cause, Refusal};
+use limits::Limits;
 
 /// What a command takes a file for (docs/REPORT.md, Commands).
-#[derive(Clone, Copy, Debug, PartialEq, Eq)]
+#[derive(Clone, Copy)]
 pub enum FileKind {
-    Log,
+    /// A log within these limits.
+    Log(Limits),
     /// A raw log, or a log device.
     Raw,
     Program,
     /// An assembly text.
     Text,
-    /// The bytes of a device.
-    Image,
+    /// The bytes of a device within these limits.
+    Image(Limits),
 }
 
 impl FileKind {
-    /// What the command of that name takes the file at that place for.
-    pub fn of(command: &str, place: usize) -> FileKind
-        ensures { result ≡ kind_of command.now place }
+    /// What the command of that name takes the file at that place for, within these limits.
+    pub fn of(command: &str, place: usize, limits: Limits) -> FileKind
+        ensures { result ≡ kind_of command.now place limits }
     {
         match command {
             "asm" => FileKind::Text,
             "import" => FileKind::Raw,
             "verify" | "list" => FileKind::Program,
-            "check" => checked_kind(place),
-            _ if place == 0 => FileKind::Log,
+            "check" => checked_kind(place, limits),
+            _ if place == 0 => FileKind::Log(limits),
             _ => FileKind::Program,
         }
     }
 
-    /// How many bytes a file of this kind has at most: 64 MiB, 192 MiB, 4,096 slots, 16 MiB, 16,384 sectors. Of a raw log that is
-    /// how many its entries may need.
+    /// How many bytes a file of this kind has at most: what the limits allow of a log and of an image, 192 MiB, 4,096 slots,
+    /// 16 MiB. Of a raw log that is how many its entries may need.
     pub fn most(self) -> usize
         ensures { result ≡ most_of self }
     {
         match self {
-            FileKind::Log => 67_108_864,
+            FileKind::Log(limits) => limits.bytes(),
             FileKind::Raw => 201_326_592,
             FileKind::Program => 32_768,
             FileKind::Text => 16_777_216,
-            FileKind::Image => 8_388_608,
+            FileKind::Image(limits) => 512 * limits.sectors() as usize,
         }
     }
 
@@ -54,11 +56,11 @@ impl FileKind {
         ensures { result ≡ read_of self }
     {
         match self {
-            FileKind::Log => 67_108_865,
+            FileKind::Log(limits) => limits.bytes() + 1,
             FileKind::Raw => 201_326_592,
             FileKind::Program => 32_776,
             FileKind::Text => 16_777_217,
-            FileKind::Image => 8_388_609,
+            FileKind::Image(limits) => 512 * limits.sectors() as usize + 1,
         }
     }
 
@@ -68,20 +70,20 @@ impl FileKind {
         ensures { result ≡ memory_of self place }
     {
         match self {
-            FileKind::Log | FileKind::Raw => refusal_of(Cause::Log(LogCause::Memory), None),
+            FileKind::Log(_) | FileKind::Raw => { refusal_of(Cause::Log(LogCause::Memory), None) }
             FileKind::Program => refusal_of(Cause::Code(CodeCause::Memory), program_at(place)),
             FileKind::Text => refusal_of(Cause::Asm(AsmCause::Memory), None),
-            FileKind::Image => Refusal::of_memory(),
+            FileKind::Image(_) => Refusal::of_memory(),
         }
     }
 }
 
-/// What `check` takes the file at that place for.
-fn checked_kind(place: usize) -> FileKind
-    ensures { result ≡ checked_kind place }
+/// What `check` takes the file at that place for, within these limits.
+fn checked_kind(place: usize, limits: Limits) -> FileKind
+    ensures { result ≡ checked_kind place limits }
 {
     if place == 1 {
-        FileKind::Image
+        FileKind::Image(limits)
     } else {
         FileKind::Program
     }

@@ -5,7 +5,7 @@ ghost use Rattle.input_files.specs.Logs.{ShortLogIsRead, LongLogIsRefusedAlike};
 ghost use Rattle.input_files.specs.RawLogs.{RawIsImportedAlike, RawIsRefusedAlike, NoMoreIsRead, ReadRawIsShort};
 ghost use Rattle.input_files.specs.Standing.{ShortStandsForItself, LongIsRefusedAlike, LongIsRefused};
 
-/// A log of at most 64 MiB is read whole.
+/// A log that has no more bytes than the limits allow is read whole.
 pub fn short_log_is_read()
     ensures { ShortLogIsRead }
 {}

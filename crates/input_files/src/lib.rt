@@ -5,19 +5,19 @@
 //!
 //! # Place
 //!
-//! On `base`, and on the definitions of `logfmt`, `raw_log` and `bpf_isa`, below the program. `commands` says what a command
+//! On `base` and `limits`, and on the definitions of `logfmt`, `raw_log` and `bpf_isa`, below the program. `commands` says what a command
 //! answers on what its files hold; this crate reads them.
 //!
 //! # What is read
 //!
 //! | File | Is read to | What is longer |
 //! |---|---|---|
-//! | a log | 64 MiB and a byte | has the refusal of its first 64 MiB and a byte, 10 at 0, whatever it holds |
+//! | a log | 64 MiB and a byte; with `--large` 192 MiB and a byte | has the refusal of what is read, 10 at 0, whatever it holds |
 //! | a raw log | where its last entry ends, as its headers tell, at most 192 MiB | changes no answer |
 //! | a program | 4,097 slots, 32,776 bytes | stands for itself by a prefix of more than 4,096 slots which cuts a slot as it does |
 //! | an assembly text | 16 MiB and a byte | can't be read |
 //! | what a device held before | the device's size and a byte | is refused, 13 at 14 |
-//! | an image | 8 MiB and a byte | is refused, 14 at 1 |
+//! | an image | 8 MiB and a byte; with `--large` 512 MiB and a byte | is refused, 14 at 1 |
 //!
 //! How long a program is tells a regular file's length; of any other file what is behind the first 32,776 bytes is read and
 //! counted, but not kept, and one that doesn't end within 64 MiB counts as one of too many whole slots.
@@ -40,7 +40,7 @@
 //! # Example
 //!
 //! ```text
-//! let inputs = Inputs::read(rt, "explore", words.files(), words.base(), words.sectors())?;
+//! let inputs = Inputs::read(rt, "explore", words.files(), words.base(), &size)?;
 //! match act(rt, alloc, gate, words, inputs.held(), inputs.base()) {
 //!     Ok((bytes, status)) => ..
 //!     Err(refusal) => inputs.refusal(refusal)
@@ -56,7 +56,7 @@ mod reach;
 mod reading;
 
 pub use cut::{refusal_of_whole, standing_length};
-pub use inputs::Inputs;
+pub use inputs::{DeviceSize, Inputs};
 pub use kind::FileKind;
 pub use laws::{
     long_is_refused, long_is_refused_alike, long_log_is_refused_alike, no_more_is_read,

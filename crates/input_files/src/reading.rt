@@ -10,6 +10,7 @@ ghost use Rattle.input_files.specs.Standing.{kept_of};
 use crate::cut::standing_length;
 use crate::kind::FileKind;
 use crate::reach::Reach;
+use limits::Limits;
 use std::alloc::Global;
 use std::fs::OpenFile;
 use std::io::{ErrorKind, Read};
@@ -220,7 +221,7 @@ fn read_piece<F: Read>(
     let mut bytes = read_first(alloc, file, most, expected_length(most, said))?;
     let read = bytes.len();
     match kind {
-        FileKind::Log | FileKind::Raw | FileKind::Image => Ok(Piece {
+        FileKind::Log(_) | FileKind::Raw | FileKind::Image(_) => Ok(Piece {
             bytes: Some(bytes),
             length: read as u64,
         }),
@@ -251,11 +252,11 @@ fn said_length<F: OpenFile>(file: &F) -> Option<u64> {
     }
 }
 
-/// How many bytes are read of what a device of so many sectors held.
-fn most_of_base(sectors: u64) -> usize
-    ensures { result ≡ base_read sectors }
+/// How many bytes are read of what a device of so many sectors held, within these limits.
+fn most_of_base(sectors: u64, limits: Limits) -> usize
+    ensures { result ≡ base_read sectors limits }
 {
-    512 * sectors.min(16_384) as usize + 1
+    512 * sectors.min(u64::from(limits.sectors())) as usize + 1
 }
 
 /// The first bytes of the file of that name, one more than a device of so many sectors has.
@@ -267,10 +268,11 @@ pub(crate) fn read_base<R: Files + AllocGlobal>(
     rt: &R,
     name: &str,
     sectors: u64,
+    limits: Limits,
 ) -> io::Result<Vec<u8>> {
     let mut file = fs::open(rt, name)?;
     let said = said_length(&file);
-    let most = most_of_base(sectors);
+    let most = most_of_base(sectors, limits);
     read_first(rt.alloc(), &mut file, most, expected_length(most, said))
 }
 

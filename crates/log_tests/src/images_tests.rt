@@ -10,6 +10,7 @@ use images::{
     Changes, History, Key, View, epoch_has_base, equal_keys_are_same, fates_show, keys_tell,
     last_writer_shows,
 };
+use limits::Limits;
 use logfmt::read;
 use std::alloc::Global;
 use std::collections::HashMap;
@@ -99,7 +100,7 @@ fn check_pair(
 
 fn check_pairs(rt: &impl Abort, alloc: Global, items: &[Item], pairs: &[Pair]) -> Result<(), Fail> {
     let text = text_of(alloc, items)?;
-    let log = read(alloc, &text, SECTORS)?;
+    let log = read(alloc, &text, SECTORS, Limits::Usual)?;
     let plan = Plan::new(alloc, &log, Cuts::ALL, By::Sector)?;
     let history = History::new(alloc, &plan, &log)?;
     for pair in pairs {
@@ -171,7 +172,7 @@ fn check_many(
     requires first { first < 16384 }
 {
     let text = text_of(alloc, &[(first, written, 0, 0xaa)])?;
-    let log = read(alloc, &text, sectors)?;
+    let log = read(alloc, &text, sectors, Limits::Usual)?;
     let plan = Plan::new(alloc, &log, Cuts::ALL, By::Sector)?;
     let history = History::new(alloc, &plan, &log)?;
     let key = key_of(alloc, &plan, &history, 1, 0)?;
@@ -209,7 +210,7 @@ fn shard_of(alloc: Global, at: u16, program: u8) -> Result<Option<u8>, Fail> {
     if let Some(byte) = text.as_mut_slice().get_mut(1024 + usize::from(at)) {
         *byte = 1;
     }
-    let log = read(alloc, &text, SECTORS)?;
+    let log = read(alloc, &text, SECTORS, Limits::Usual)?;
     let plan = Plan::new(alloc, &log, Cuts::ALL, By::Sector)?;
     let history = History::new(alloc, &plan, &log)?;
     Ok(key_of(alloc, &plan, &history, 1, program)?.map(|key| key.shard()))
@@ -278,7 +279,7 @@ fn compare_keys(
 /// Compares the keys of all images of a log, with torn writes, in their order and back.
 fn check_kept_keys(rt: &impl Abort, alloc: Global, items: &[Item]) -> Result<u64, Fail> {
     let text = text_of(alloc, items)?;
-    let log = read(alloc, &text, SECTORS)?;
+    let log = read(alloc, &text, SECTORS, Limits::Usual)?;
     let plan = Plan::new(alloc, &log, Cuts::ALL, By::Sector)?;
     let history = History::new(alloc, &plan, &log)?;
     let Ok(total) = count(&plan, 2, true) else {

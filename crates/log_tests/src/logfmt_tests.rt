@@ -1,6 +1,7 @@
 //! A log that is read and written. What `read` refuses is shown by the program (tests/rows/logs.py).
 
 use crate::log_text::{DISCARD, FLUSH, FUA, MARK, text_of};
+use limits::Limits;
 use logfmt::{read, write};
 use std::test::Fail;
 
@@ -15,7 +16,7 @@ fn logs_are_written_as_they_were_read(rt: HostRuntime) -> Result<(), Fail> {
         (0, 1, 0, 0xbb),
     ];
     let mut text = text_of(rt.alloc(), &items)?;
-    let log = read(rt.alloc(), &text, 4)?;
+    let log = read(rt.alloc(), &text, 4, Limits::Usual)?;
     assert_eq!(rt; log.sectors(), 4);
     assert_eq!(rt; log.entries().len(), 6);
     let forced = &log.entries()[2];
@@ -33,7 +34,7 @@ fn logs_are_written_as_they_were_read(rt: HostRuntime) -> Result<(), Fail> {
     text[28] = 1;
     text[512 + 32 + 3] = 1;
     text.extend_from_slice(b"behind the last entry")?;
-    let again = write(rt.alloc(), &read(rt.alloc(), &text, 4)?)?;
+    let again = write(rt.alloc(), &read(rt.alloc(), &text, 4, Limits::Usual)?)?;
     assert!(rt; again == written);
     Ok(())
 }

@@ -3,6 +3,7 @@
 use crate::log_text::{FLUSH, text_of};
 use crate::whole_runs::{Way, work_of};
 use explore_core::{Event, Explore, Found, Job, Jobs, run};
+use limits::Limits;
 use lines::Lines;
 use logfmt::read;
 use std::alloc::{AllocError, Global};
@@ -98,7 +99,9 @@ fn judged<R: Threads + Wait + Sync>(
     gate: &Recording,
 ) -> Result<Lines, Fail> {
     let bytes = text_of(alloc, &[(0, 0, FLUSH, 0); 255])?;
-    let log = read(alloc, bytes.as_slice(), 1).ok().ok_or("a log")?;
+    let log = read(alloc, bytes.as_slice(), 1, Limits::Usual)
+        .ok()
+        .ok_or("a log")?;
     let way = Way {
         workers: 2,
         cache: 0,

@@ -4,6 +4,7 @@ ghost use Rattle.std.specs.Prelude.{◌≤◌};
 
 use crate::log_text::{FLUSH, text_of};
 use crate::whole_runs::{Way, work_of};
+use limits::Limits;
 use logfmt::read;
 use std::alloc::Global;
 use std::sync::Wait;
@@ -77,7 +78,9 @@ fn failing<R: Threads + Wait + Sync>(
     requires { (1 ≤ workers) × (workers ≤ 64) }
 {
     let bytes = text_of(alloc, &[(0, 0, FLUSH, 0); 511])?;
-    let log = read(alloc, bytes.as_slice(), 1).ok().ok_or("a log")?;
+    let log = read(alloc, bytes.as_slice(), 1, Limits::Usual)
+        .ok()
+        .ok_or("a log")?;
     let way = Way {
         workers,
         cache: 0,

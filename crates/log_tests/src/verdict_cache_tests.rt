@@ -13,6 +13,7 @@ use choices::{count, nth};
 use epochs::{By, Cuts, Plan};
 use images::{History, Key, View};
 use interp::Outcome;
+use limits::Limits;
 use logfmt::{Log, read};
 use std::alloc::Global;
 use std::marker::Brand;
@@ -39,7 +40,11 @@ const WRITTEN_OTHER_PROGRAM: Work = (1, 1);
 /// A log that writes 0xaa to the one sector of its device.
 fn one_write(alloc: Global) -> Result<Log, Fail> {
     let text = text_of(alloc, &[(0, 1, 0, 0xaa)])?;
-    Ok(read(alloc, text.as_slice(), 1).ok().ok_or("a log")?)
+    Ok(
+        read(alloc, text.as_slice(), 1, Limits::Usual)
+            .ok()
+            .ok_or("a log")?,
+    )
 }
 
 /// What a checker with a limit ends in on an image.

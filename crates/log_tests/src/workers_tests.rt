@@ -13,6 +13,7 @@ use checker::Checker;
 use choices::{Starts, count};
 use epochs::{By, Cuts, Plan};
 use images::History;
+use limits::Limits;
 use logfmt::{Log, read};
 use std::alloc::{AllocError, Global};
 use std::marker::Brand;
@@ -33,7 +34,11 @@ const FROM_70: [u8; 24] = [
 /// A log of 70 flush entries without sectors, for a device of one sector: 71 images.
 fn flushes(alloc: Global) -> Result<Log, Fail> {
     let bytes = text_of(alloc, &[(0, 0, FLUSH, 0); 70])?;
-    Ok(read(alloc, bytes.as_slice(), 1).ok().ok_or("a log")?)
+    Ok(
+        read(alloc, bytes.as_slice(), 1, Limits::Usual)
+            .ok()
+            .ok_or("a log")?,
+    )
 }
 
 /// The full piece of a block, or one that was passed over after that image.
@@ -229,7 +234,9 @@ fn explores_for_all_and_for_the_first(rt: HostRuntime) -> Result<(), Fail> {
 fn cache_is_asked_where_a_block_is_judged(rt: HostRuntime) -> Result<(), Fail> {
     let alloc = rt.alloc();
     let bytes = text_of(alloc, &[(0, 1, 0, 0); 70])?;
-    let log = read(alloc, bytes.as_slice(), 1).ok().ok_or("a log")?;
+    let log = read(alloc, bytes.as_slice(), 1, Limits::Usual)
+        .ok()
+        .ok_or("a log")?;
     let (_fails, hits) = explored(&rt, alloc, &log, &ANSWER_1, way(1, 65_536, false))?;
     assert_eq!(rt; hits, 70);
     let (_fails, hits) = explored(&rt, alloc, &log, &ANSWER_1, way(1, 0, false))?;

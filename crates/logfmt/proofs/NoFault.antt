@@ -4,6 +4,8 @@ use Rattle.std.proofs.lemmas.Bool.Decides.{nat_tests}
 use Rattle.std.proofs.lemmas.List.Sums.{sum_by_more, sum_by_more_le}
 use Rattle.std.proofs.lemmas.Option.{slice_get_cases}
 use Rattle.base.specs.Check.{first_failing}
+use Rattle.limits.specs.Sizes.{byte_limit}
+use Rattle.limits.specs.declared.Limits.{Limits}
 use Rattle.base.specs.Numbers.{number_at}
 use Rattle.logfmt.specs.declared.entry.Entry.{Entry}
 use Rattle.logfmt.specs.Flags.{flag_word, has_bit}
@@ -14,11 +16,12 @@ use Rattle.logfmt.specs.Laws.{TextHasNoFault}
 use Rattle.logfmt.proofs.FlagBits.{flag_flush, flag_fua, flag_discard, flag_mark, flag_word-lt}
 use Rattle.logfmt.proofs.Progress.{same_data}
 
-super_passes : (bytes : List ℕ) (log : LogValue) → LogText bytes log → first_failing (super_checks bytes) ≡ None
+super_passes : (bytes : List ℕ) (log : LogValue) (limits : Limits) → LogText bytes log → length bytes ≤ byte_limit limits
+    → first_failing (super_checks bytes limits) ≡ None
 unfolding super_checks
-super_passes bytes log text =
+super_passes bytes log limits text short =
     let whole : nat_le 512 (length bytes) ≡ true = grind (arith, nat_tests, text.super.whole) in
-    let size : nat_le (length bytes) 67108864 ≡ true = grind (arith, nat_tests, text.size) in
+    let size : nat_le (length bytes) (byte_limit limits) ≡ true = grind (arith, nat_tests, short) in
     let few : nat_le (number_at 8 16 bytes) 65536 ≡ true = grind (arith, nat_tests, text.super.entries, text.bounds.count) in
     rw (whole, size, text.super.magic, text.super.version, text.super.sector_size, few) refl
 
@@ -119,9 +122,9 @@ text_passes bytes log i text h =
 
 -- the two definitions agree: no check fails at a text of a log
 pub text_has_no_fault : TextHasNoFault
-text_has_no_fault bytes log cause at text fault =
+text_has_no_fault bytes log limits cause at text short fault =
     elim fault as (λ k n _. ⊥) [
-      | in_super c failing ↦ let bad : None ≡ Some c = sym (super_passes bytes log text) ∙ failing in cc
+      | in_super c failing ↦ let bad : None ≡ Some c = sym (super_passes bytes log limits text short) ∙ failing in cc
       | in_entry c number clean lt pass failing ↦
           let within : number < length log.entries = omega (arith, lt, text.super.entries) in
           let bad : None ≡ Some c = sym (text_passes bytes log number text within) ∙ failing in

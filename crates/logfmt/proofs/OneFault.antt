@@ -27,8 +27,8 @@ same_entry bytes sectors c d s t pass_s pass_t h k = elim (cases_lt s t) [
 ]
 
 pub one_fault : OneFault
-one_fault bytes sectors _ _ _ _ (in_super c h) (in_super d k) = (same_cause (first_failing (super_checks bytes)) c d h k, refl)
-one_fault bytes sectors _ _ _ _ (in_super c h) (in_entry d t clean lt pass k) = absurd (both (first_failing (super_checks bytes)) c h clean)
-one_fault bytes sectors _ _ _ _ (in_entry c s clean lt pass h) (in_super d k) = absurd (both (first_failing (super_checks bytes)) d k clean)
-one_fault bytes sectors _ _ _ _ (in_entry c s clean lt pass h) (in_entry d t clean_t lt_t pass_t k) =
+one_fault bytes sectors limits _ _ _ _ (in_super c h) (in_super d k) = (same_cause (first_failing (super_checks bytes limits)) c d h k, refl)
+one_fault bytes sectors limits _ _ _ _ (in_super c h) (in_entry d t clean lt pass k) = absurd (both (first_failing (super_checks bytes limits)) c h clean)
+one_fault bytes sectors limits _ _ _ _ (in_entry c s clean lt pass h) (in_super d k) = absurd (both (first_failing (super_checks bytes limits)) d k clean)
+one_fault bytes sectors limits _ _ _ _ (in_entry c s clean lt pass h) (in_entry d t clean_t lt_t pass_t k) =
     same_entry bytes sectors c d s t pass pass_t h k

@@ -4,6 +4,8 @@ use Rattle.std.proofs.lemmas.List.Sums.{sum_by_push}
 use Rattle.std.proofs.lemmas.Option.{slice_get_within}
 use Rattle.base.proofs.Lists.{slice_get-append_left, slice_get-push, slice_get_of_push}
 use Rattle.base.specs.Check.{first_failing}
+use Rattle.limits.specs.Sizes.{most_sectors}
+use Rattle.limits.specs.declared.Limits.{Limits}
 use Rattle.logfmt.specs.declared.entry.Entry.{Entry}
 use Rattle.logfmt.specs.Bounds.{IsEntry, AreEntries, AreRecorded, units_of, data_of, place}
 use Rattle.base.specs.Numbers.{number_at}
@@ -100,19 +102,19 @@ go_on bytes sectors es n p u e so passes stands fits recorded h has room d behin
     }
 
 -- where all entries are read the bytes are the text of their log
-pub whole_text : (bytes : List ℕ) (sectors : ℕ) (es : List Entry) (n p u : ℕ) → SuperPasses bytes → 1 ≤ sectors → sectors ≤ 16384
+pub whole_text : (bytes : List ℕ) (sectors : ℕ) (allowed : Limits) (es : List Entry) (n p u : ℕ) → SuperPasses bytes allowed → 1 ≤ sectors → sectors ≤ most_sectors
     → number_at 8 16 bytes ≡ n → Progress bytes sectors es n p u → LogText bytes (record { sectors = sectors; entries = es; initial = [] })
-whole_text bytes sectors es n p u s some device count so = record {
-  size = s.size;
+whole_text bytes sectors allowed es n p u s some device count so = record {
+  size = s.most;
   super = record { whole = s.whole; magic = s.magic; version = s.version; entries = count ∙ sym so.count; sector_size = s.sector_size };
   stands = so.stand;
-  bounds = record { some = some; device = device; count = omega (arith, s.count, count, so.count); units = omega (arith, so.sum, so.within); entries = so.entries; size = rw (so.count, so.placed) (omega (arith, so.inside, s.size)); held = omega arith; initial = λ i. omega arith };
+  bounds = record { some = some; device = device; count = omega (arith, s.count, count, so.count); units = omega (arith, so.sum, so.within); entries = so.entries; size = rw (so.count, so.placed) (omega (arith, so.inside, s.most)); held = omega arith; initial = λ i. omega arith };
   recorded = so.recorded;
 }
 
 -- the first fault, at an entry behind those that passed
-pub fault_here : (bytes : List ℕ) (sectors : ℕ) (es : List Entry) (n p u : ℕ) (c : LogCause) → first_failing (super_checks bytes) ≡ None
+pub fault_here : (bytes : List ℕ) (sectors : ℕ) (allowed : Limits) (es : List Entry) (n p u : ℕ) (c : LogCause) → first_failing (super_checks bytes allowed) ≡ None
     → n < number_at 8 16 bytes → Progress bytes sectors es n p u → first_failing (entry_checks bytes sectors p u) ≡ Some c
-    → FirstFault bytes sectors c n
-fault_here bytes sectors es n p u c clean lt so failing =
+    → FirstFault bytes sectors allowed c n
+fault_here bytes sectors allowed es n p u c clean lt so failing =
     in_entry c n clean lt so.pass (rw (so.header, so.before) failing)

@@ -2,6 +2,7 @@
 use Rattle.std.specs.Prelude.{ℕ, zero, suc, ◌+◌, ◌*◌, ◌^◌, ◌≡◌, ◌<◌, ◌≤◌, true, false, if◌then◌else◌, List, [], length, sum_by, slice_get, Some}
 use Rattle.std.specs.List.{slice_index}
 use Rattle.std.specs.Option.{option_map_or}
+use Rattle.limits.specs.Sizes.{most_sectors, most_log_bytes}
 use Rattle.logfmt.specs.declared.entry.Entry.{Entry}
 
 -- a log: the number of sectors of its device, its entries in order, and what the device held before entry 0: its first bytes,
@@ -59,10 +60,10 @@ AreRecorded es = (i : ℕ) (e : Entry) → slice_get es i ≡ Some e → e.flags
 -- within the limits
 pub record IsLog (log : LogValue) : Type 0 where
   pub some : 1 ≤ log.sectors
-  pub device : log.sectors ≤ 16384
+  pub device : log.sectors ≤ most_sectors
   pub count : length log.entries ≤ 65536
   pub units : units_of log.entries ≤ 262144
   pub entries : AreEntries log.sectors log.entries
-  pub size : 512 * place log.entries (length log.entries) ≤ 67108864
+  pub size : 512 * place log.entries (length log.entries) ≤ most_log_bytes
   pub held : length log.initial ≤ 512 * log.sectors
   pub initial : AreBytes log.initial

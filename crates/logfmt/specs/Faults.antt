@@ -1,7 +1,9 @@
 -- The first fault of bytes that are no log, by the order of the checks (docs/LOG-FORMAT.md, Refusals).
--- It speaks of the bytes alone. Sums are of whole numbers and do not wrap.
+-- It speaks of the bytes and of the limits alone. Sums are of whole numbers and do not wrap.
 use Rattle.std.specs.Prelude.{ℕ, zero, suc, ◌+◌, ◌*◌, ◌≡◌, ◌==◌, ◌<◌, ◌≤◌, Bool, not, ◌&&◌, ◌||◌, nat_lt, nat_le, if◌then◌else◌, List, [], ◌∷◌, length, Option, None, Some}
 use Rattle.base.specs.Check.{Check, check, first_failing}
+use Rattle.limits.specs.Sizes.{byte_limit, most_log_bytes}
+use Rattle.limits.specs.declared.Limits.{Limits}
 use Rattle.base.specs.Numbers.{number_at}
 use Rattle.base.specs.declared.causes.LogCause.{LogCause}
 use Rattle.base.specs.declared.causes.LogCause.TheVariants as cause
@@ -33,10 +35,10 @@ units_before bytes zero = 0
 units_before bytes (suc i) = units_before bytes i + count_at bytes (header bytes i)
 
 -- the checks of the super block, in their order
-unfoldable pub super_checks : List ℕ → List (Check LogCause)
-super_checks bytes =
+unfoldable pub super_checks : List ℕ → Limits → List (Check LogCause)
+super_checks bytes limits =
     check cause.Short (nat_le 512 (length bytes))
-    ∷ check cause.Limit (nat_le (length bytes) 67108864)
+    ∷ check cause.Limit (nat_le (length bytes) (byte_limit limits))
     ∷ check cause.Magic (number_at 8 0 bytes == 0x6a736677736872)
     ∷ check cause.Version (number_at 8 8 bytes == 1)
     ∷ check cause.SectorSize (number_at 4 24 bytes == 512)
@@ -69,19 +71,20 @@ abbrev pub EntriesPass : List ℕ → ℕ → ℕ → Type 0
 EntriesPass bytes sectors n = (i : ℕ) → i < n → entry_fault bytes sectors i ≡ None
 
 -- the first fault is this cause, in the super block (at 0) or at that entry
-pub data FirstFault (bytes : List ℕ) (sectors : ℕ) : LogCause → ℕ → Type 0 where
-  in_super : (c : LogCause) → first_failing (super_checks bytes) ≡ Some c → FirstFault bytes sectors c 0
-  in_entry : (c : LogCause) (at : ℕ) → first_failing (super_checks bytes) ≡ None → at < number_at 8 16 bytes → EntriesPass bytes sectors at
-      → entry_fault bytes sectors at ≡ Some c → FirstFault bytes sectors c at
+pub data FirstFault (bytes : List ℕ) (sectors : ℕ) (limits : Limits) : LogCause → ℕ → Type 0 where
+  in_super : (c : LogCause) → first_failing (super_checks bytes limits) ≡ Some c → FirstFault bytes sectors limits c 0
+  in_entry : (c : LogCause) (at : ℕ) → first_failing (super_checks bytes limits) ≡ None → at < number_at 8 16 bytes → EntriesPass bytes sectors at
+      → entry_fault bytes sectors at ≡ Some c → FirstFault bytes sectors limits c at
 
 -- no check fails
-abbrev pub HasNoFault : List ℕ → ℕ → Type 0
-HasNoFault bytes sectors = (first_failing (super_checks bytes) ≡ None) × EntriesPass bytes sectors (number_at 8 16 bytes)
+abbrev pub HasNoFault : List ℕ → ℕ → Limits → Type 0
+HasNoFault bytes sectors limits = (first_failing (super_checks bytes limits) ≡ None) × EntriesPass bytes sectors (number_at 8 16 bytes)
 
 -- what the checks of the super block and of an entry leave standing
-pub record SuperPasses (bytes : List ℕ) : Type 0 where
+pub record SuperPasses (bytes : List ℕ) (limits : Limits) : Type 0 where
   pub whole : 512 ≤ length bytes
-  pub size : length bytes ≤ 67108864
+  pub size : length bytes ≤ byte_limit limits
+  pub most : length bytes ≤ most_log_bytes
   pub magic : number_at 8 0 bytes ≡ 0x6a736677736872
   pub version : number_at 8 8 bytes ≡ 1
   pub sector_size : number_at 4 24 bytes ≡ 512

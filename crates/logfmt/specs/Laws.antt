@@ -1,5 +1,7 @@
 -- What holds of the texts of logs as a whole: `read` and `write` lead back and forth.
-use Rattle.std.specs.Prelude.{ℕ, ◌≡◌, List}
+use Rattle.std.specs.Prelude.{ℕ, ◌≡◌, ◌≤◌, List, length}
+use Rattle.limits.specs.Sizes.{byte_limit}
+use Rattle.limits.specs.declared.Limits.{Limits}
 use Rattle.base.specs.declared.causes.LogCause.{LogCause}
 use Rattle.logfmt.specs.Bounds.{LogValue, IsLog, AreRecorded}
 use Rattle.logfmt.specs.LogText.{LogText, canonical_text}
@@ -19,11 +21,14 @@ CanonicalReadsBack =
     (log read : LogValue) → IsLog log → AreRecorded log.entries → LogText (canonical_text log.entries) read → read.sectors ≡ log.sectors
     → read.initial ≡ log.initial → read ≡ log
 
--- no check fails at a text of a log
+-- no check fails at a text of a log that is no longer than the limits allow
 abbrev pub TextHasNoFault : Type 0
-TextHasNoFault = (bytes : List ℕ) (log : LogValue) (cause : LogCause) (at : ℕ) → LogText bytes log → ¬ (FirstFault bytes log.sectors cause at)
+TextHasNoFault =
+    (bytes : List ℕ) (log : LogValue) (limits : Limits) (cause : LogCause) (at : ℕ) → LogText bytes log → length bytes ≤ byte_limit limits
+    → ¬ (FirstFault bytes log.sectors limits cause at)
 
--- the first fault of bytes for a device is one
+-- the first fault of bytes for a device, within the same limits, is one
 abbrev pub OneFault : Type 0
 OneFault =
-    (bytes : List ℕ) (sectors : ℕ) (c d : LogCause) (s t : ℕ) → FirstFault bytes sectors c s → FirstFault bytes sectors d t → (c ≡ d) × (s ≡ t)
+    (bytes : List ℕ) (sectors : ℕ) (limits : Limits) (c d : LogCause) (s t : ℕ) → FirstFault bytes sectors limits c s → FirstFault bytes sectors limits d t
+    → (c ≡ d) × (s ≡ t)

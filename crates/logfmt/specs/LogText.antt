@@ -2,6 +2,7 @@
 -- dm-log-writes). Positions are counted in sectors of 512 bytes.
 use Rattle.std.specs.Prelude.{ℕ, ◌+◌, ◌*◌, ◌-◌, ◌≡◌, ◌≤◌, List, ◌++◌, length, slice_get, Some}
 use Rattle.std.specs.List.{slice_range, flat_map}
+use Rattle.limits.specs.Sizes.{most_log_bytes}
 use Rattle.base.specs.Numbers.{number_at, number_bytes, zeros}
 use Rattle.logfmt.specs.declared.entry.Entry.{Entry}
 use Rattle.logfmt.specs.Flags.{flag_word}
@@ -31,7 +32,7 @@ AllStand bytes es = (i : ℕ) (e : Entry) → slice_get es i ≡ Some e → Stan
 
 -- the bytes are a text of that log
 pub record LogText (bytes : List ℕ) (log : LogValue) : Type 0 where
-  pub size : length bytes ≤ 67108864
+  pub size : length bytes ≤ most_log_bytes
   pub super : IsSuper bytes (length log.entries)
   pub stands : AllStand bytes log.entries
   pub bounds : IsLog log

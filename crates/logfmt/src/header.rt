@@ -2,6 +2,7 @@
 
 ghost use Rattle.std.specs.Prelude.{◌≡◌, ◌==◌, ◌≤◌, ◌<◌, ◌+◌, ◌*◌, ◌||◌, ◌↔◌, nat_le, if◌then◌else◌, length, IsTrue, IfOk, MatchResult, Some, None};
 ghost use Rattle.base.specs.Check.{first_failing};
+ghost use Rattle.limits.specs.Sizes.{most_log_bytes, most_sectors};
 ghost use Rattle.logfmt.specs.Faults.{entry_checks, has_mark_form};
 ghost use Rattle.logfmt.specs.Flags.{has_bit};
 ghost use Rattle.logfmt.specs.Header.{HeaderStands, HeaderFits, IsMarkHeader};
@@ -70,9 +71,9 @@ pub(crate) fn checked_header(
     sectors: u32,
     units: u64,
 ) -> Result<Header, LogCause>
-    requires size { length bytes.now ≤ 67108864 }
-    requires place { at ≤ 131072 }
-    requires device { sectors ≤ 16384 }
+    requires size { length bytes.now ≤ most_log_bytes }
+    requires place { 512 * at ≤ most_log_bytes }
+    requires device { sectors ≤ most_sectors }
     requires units { units ≤ 262144 }
     ensures exact { MatchResult result (λ _. first_failing (entry_checks bytes.now sectors at units) ≡ None) (λ c. first_failing (entry_checks bytes.now sectors at units) ≡ Some c) }
     ensures stands { IfOk result (HeaderStands bytes.now at) }

@@ -23,7 +23,7 @@ pub fn text_has_no_fault()
     ensures { TextHasNoFault }
 {}
 
-/// For one device size bytes have at most one first fault: `read` is left no choice of the cause and
+/// For one device size and the same limits bytes have at most one first fault: `read` is left no choice of the cause and
 /// the entry that it names.
 pub fn one_fault()
     ensures { OneFault }

@@ -6,7 +6,7 @@
 //!
 //! | Call | Answer |
 //! |---|---|
-//! | `read(alloc, bytes, sectors)` | the log that the bytes are, for a device of so many sectors, or the first fault |
+//! | `read(alloc, bytes, sectors, limits)` | the log that the bytes are, for a device of so many sectors, or the first fault |
 //! | `write(alloc, log)` | the canonical text of a log |
 //!
 //! A log's bytes don't say what the device held before entry 0. That is its initial content, zeros where
@@ -20,13 +20,13 @@
 //!
 //! A `Log` is a value that only `read` makes, so it keeps every bound of docs/LOG-FORMAT.md: each
 //! entry lies on the device, each content has its length, a mark has nothing but its text, and the
-//! counts of bytes, entries and units are within the limits. `Log::sectors` and `Log::entries` give
-//! it to the layers above, each `Entry` with its place on the device, its `Flags`, the text of a
-//! mark and its data. Its initial content is no longer than the device.
+//! counts of bytes, entries and units are within the limits, those of `--large` where it was asked for.
+//! `Log::sectors` and `Log::entries` give it to the layers above, each `Entry` with its place on the
+//! device, its `Flags`, the text of a mark and its data. Its initial content is no longer than the device.
 //!
 //! # Place
 //!
-//! The second layer, on `base`, whose numbers in bytes and whose `LogCause` it takes. `epochs` makes
+//! The second layer, on `base`, whose numbers in bytes and whose `LogCause` it takes, and on `limits`. `epochs` makes
 //! units and cuts of a log's entries, and `images` takes their contents and the initial content. What the
 //! entries do to a device is not known here (docs/CRASH-MODEL.md).
 //!
@@ -36,14 +36,14 @@
 //!   which bounds hold. Where `read` is `Ok`, the bytes are a log text of its result.
 //! - The data of each entry of a `Log` are bytes (`IsEntry`), so layers above know of each number that it is
 //!   below 256.
-//! - `FirstFault bytes sectors code at` says which check of docs/LOG-FORMAT.md is the first to fail.
-//!   It speaks of the bytes alone. Where `read` is `Err`, that is its fault, or memory ran out. Where
+//! - `FirstFault bytes sectors limits code at` says which check of docs/LOG-FORMAT.md is the first to fail.
+//!   It speaks of the bytes and the limits alone. Where `read` is `Err`, that is its fault, or memory ran out. Where
 //!   it is `Ok`, no check fails.
 //! - `write` gives `canonical_text`: zeros in all unused places, nothing behind the last entry.
 //! - Five laws stand above these (`specs/Laws.antt`): a text is the log text of at most one log for a
 //!   device and its initial content (`text_of_one_log`), the canonical text of a log is a log text of it
-//!   (`canonical_is_text`), so what is written reads back (`canonical_reads_back`), no log text has a
-//!   fault (`text_has_no_fault`), so `read` refuses nothing that is a log text but for want of memory,
+//!   (`canonical_is_text`), so what is written reads back (`canonical_reads_back`), no log text within the
+//!   limits has a fault (`text_has_no_fault`), so `read` refuses none but for want of memory,
 //!   and bytes have at most one first fault for a device (`one_fault`).
 //!
 //! # How it is written
@@ -56,14 +56,15 @@
 //! # Example
 //!
 //! ```
+//! use limits::Limits;
 //! use logfmt::{read, write};
 //!
 //! // `bytes` holds the super block and one entry that writes device sector 0
-//! let log = read(alloc, &bytes, 4)?;
+//! let log = read(alloc, &bytes, 4, Limits::Usual)?;
 //! // log.sectors() is 4; log.entries()[0].count is 1 and its content has 512 bytes
 //! let text = write(alloc, &log)?;
-//! // read(alloc, &text, 4) gives the same log again
-//! let fault = read(alloc, &bytes[..1535], 4).err();
+//! // read(alloc, &text, 4, Limits::Usual) gives the same log again
+//! let fault = read(alloc, &bytes[..1535], 4, Limits::Usual).err();
 //! // the data of entry 0 is cut short: Some(LogFault { code: LogCause::CutShort, at: 0 })
 //! ```
 #![tactic(auto)]

@@ -2,6 +2,7 @@
 
 ghost use Rattle.std.specs.Prelude.{true, false, ◌≡◌, ◌≤◌, ◌<◌, ◌+◌, ◌*◌, ◌⊎◌, [], length, IfOk, IfErr, IfNone, OnOk, if◌then◌else◌};
 ghost use Rattle.base.specs.Check.{first_failing};
+ghost use Rattle.limits.specs.Sizes.{byte_limit, most_log_bytes, most_sectors};
 ghost use Rattle.base.specs.Numbers.{number_at};
 ghost use Rattle.base.specs.declared.causes.LogCause.TheVariants as cause;
 ghost use Rattle.logfmt.specs.Bounds.{AreBytes, IsEntry, data_of};
@@ -18,24 +19,22 @@ use crate::{MAGIC, VERSION};
 use base::bytes::Bytes;
 use base::causes::LogCause;
 use base::numbers::{u32_at, u64_at};
+use limits::Limits;
 use std::alloc::{AllocError, Global};
-
-/// How many bytes a log may have: 64 MiB.
-const MAX_BYTES: usize = 67_108_864;
 
 /// How many entries a log may have.
 const MAX_ENTRIES: u64 = 65_536;
 
 /// The cause for which the super block is refused, if there is one.
 #[tactic(auto, unfolding(crate::specs::Faults::super_checks))]
-fn super_fault(bytes: &[u8]) -> Option<LogCause>
-    ensures exact { result ≡ first_failing (super_checks bytes.now) }
-    ensures passes { IfNone result (SuperPasses bytes.now) }
+fn super_fault(bytes: &[u8], limits: Limits) -> Option<LogCause>
+    ensures exact { result ≡ first_failing (super_checks bytes.now limits) }
+    ensures passes { IfNone result (SuperPasses bytes.now limits) }
 {
     if bytes.len() < SECTOR {
         return Some(LogCause::Short);
     }
-    if bytes.len() > MAX_BYTES {
+    if bytes.len() > limits.bytes() {
         return Some(LogCause::Limit);
     }
     if u64_at(bytes, 0) != MAGIC {
@@ -72,8 +71,8 @@ fn entry_of(
     sectors: u32,
     header: Header,
 ) -> Result<Entry, AllocError>
-    requires size { length bytes.now ≤ 67108864 }
-    requires device { sectors ≤ 16384 }
+    requires size { length bytes.now ≤ most_log_bytes }
+    requires device { sectors ≤ most_sectors }
     requires stands { HeaderStands bytes.now at header }
     requires fits { HeaderFits sectors header }
     ensures stands { IfOk result (StandsAt bytes.now at) }
@@ -98,22 +97,24 @@ fn entry_of(
     })
 }
 
-/// Reads a log for a device of `sectors` sectors of 512 bytes (docs/LOG-FORMAT.md), which held zeros before entry 0.
+/// Reads a log for a device of `sectors` sectors of 512 bytes (docs/LOG-FORMAT.md), which held zeros before entry 0. The limits
+/// say how many bytes it may have.
 ///
 /// # Errors
 ///
 /// The first fault of the bytes, at the entry where it is, 0 for the super block; or want of memory,
 /// at 0.
-pub fn read(alloc: Global, bytes: &[u8], sectors: u32) -> Result<Log, LogFault>
+pub fn read(alloc: Global, bytes: &[u8], sectors: u32, limits: Limits) -> Result<Log, LogFault>
     requires some { 1 ≤ sectors }
-    requires device { sectors ≤ 16384 }
+    requires device { sectors ≤ most_sectors }
     ensures found { IfOk result (LogText bytes.now) }
+    ensures size { OnOk result (length bytes.now ≤ byte_limit limits) }
     ensures sectors { IfOk result (λ log. log.sectors ≡ sectors) }
     ensures initial { IfOk result (λ log. log.initial ≡ []) }
-    ensures clean { OnOk result (HasNoFault bytes.now sectors) }
-    ensures fault { IfErr result (λ f. (f ≡ record { code = cause.Memory; at = 0 }) ⊎ FirstFault bytes.now sectors f.code f.at) }
+    ensures clean { OnOk result (HasNoFault bytes.now sectors limits) }
+    ensures fault { IfErr result (λ f. (f ≡ record { code = cause.Memory; at = 0 }) ⊎ FirstFault bytes.now sectors limits f.code f.at) }
 {
-    if let Some(code) = super_fault(bytes) {
+    if let Some(code) = super_fault(bytes, limits) {
         return Err(LogFault { code, at: 0 });
     }
     let count = u64_at(bytes, 16) as u32;

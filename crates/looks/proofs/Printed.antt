@@ -3,6 +3,7 @@ use Rattle.std.proofs.Common.{ℕ, zero, suc, ◌≡◌, ◌+◌, ◌<◌, ◌�
 use Rattle.std.specs.Prelude.{MatchOption}
 use Rattle.std.specs.List.{flat_map, slice_index_or}
 use Rattle.std.proofs.lemmas.Option.{same_Some, slice_get_within}
+use Rattle.limits.specs.Sizes.{most_sectors}
 use Rattle.logfmt.specs.declared.entry.Entry.{Entry}
 use Rattle.logfmt.specs.Bounds.{LogValue, IsLog}
 use Rattle.epochs.specs.declared.part.By.{By}
@@ -46,7 +47,7 @@ fate_is tears fate.Drop is = is
 fate_is tears (fate.Head t) is = (refl, is.1, is.2)
 fate_is tears (fate.Tail t) is = (refl, is.1, is.2)
 
-place_is : (way : By) (x : Entry) (place count : ℕ) → count ≡ part_size way x → place + count ≤ x.count → x.count ≤ 16384 → IsPlace way place
+place_is : (way : By) (x : Entry) (place count : ℕ) → count ≡ part_size way x → place + count ≤ x.count → x.count ≤ most_sectors → IsPlace way place
 place_is by.Sector x place count size inside few = omega (arith, inside, few)
 place_is by.Write x place count size inside few = omega (arith, size, inside)
 

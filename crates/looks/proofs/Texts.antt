@@ -1,6 +1,8 @@
 -- How logs, texts and single programs are refused.
 use Rattle.std.proofs.Common.{ℕ, ◌≡◌, ◌⊎◌, inl, inr, List, Option, subst}
 use Rattle.std.specs.Str.{IsUtf8}
+use Rattle.limits.specs.Sizes.{sector_limit}
+use Rattle.limits.specs.declared.Limits.{Limits}
 use Rattle.base.specs.declared.refusal.Refusal.{Refusal}
 use Rattle.base.specs.declared.causes.LogCause.TheVariants as log
 use Rattle.logfmt.specs.declared.fault.LogFault.{LogFault}
@@ -16,14 +18,14 @@ use Rattle.bpf_shape.specs.Fault as shape
 use Rattle.verifier.specs.Verdicts.{Refused}
 use Rattle.request.specs.Refusals.{bytes_refusal}
 use Rattle.request.specs.Source.{log_refusal}
-use Rattle.looks.specs.Import.{most_sectors, RefusesImport, with_raw_fault, no_raw_memory}
+use Rattle.looks.specs.Import.{RefusesImport, with_raw_fault, no_raw_memory}
 use Rattle.looks.specs.Verifying as verifying
 use Rattle.looks.specs.Assembly.{text_refusal, RefusesText, says_none, no_text_memory, RefusesBytes, with_bytes_fault, no_program_memory}
 
-pub import_refused : (raw : List ℕ) (f : LogFault) → (f ≡ record { code = log.Memory; at = 0 }) ⊎ FirstRawFault raw most_sectors f.code f.at
-    → RefusesImport raw (log_refusal f.code f.at)
-import_refused raw f (inl e) = rw e no_raw_memory
-import_refused raw f (inr h) = with_raw_fault f.code f.at h
+pub import_refused : (limits : Limits) (sectors : ℕ) (raw : List ℕ) (f : LogFault) → sectors ≡ sector_limit limits
+    → (f ≡ record { code = log.Memory; at = 0 }) ⊎ FirstRawFault raw sectors limits f.code f.at → RefusesImport limits raw (log_refusal f.code f.at)
+import_refused limits sectors raw f same (inl e) = rw e no_raw_memory
+import_refused limits sectors raw f same (inr h) = with_raw_fault f.code f.at (subst (λ (n : ℕ). FirstRawFault raw n limits f.code f.at) same h)
 
 pub bytes_refused : (bytes : List ℕ) (f : CodeFault) → (f ≡ code.memory_fault) ⊎ FirstFault bytes f.code f.slot → RefusesBytes bytes (bytes_refusal f.code f.slot)
 bytes_refused bytes f (inl e) = rw e no_program_memory

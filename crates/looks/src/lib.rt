@@ -13,7 +13,7 @@
 //! | `image(alloc, recording, which, options, facts)` | `image` | the bytes of one crash image |
 //! | `show(alloc, recording, which, options, facts)` | `show` | one crash image in words |
 //! | `shown_log(alloc, recording, options, facts)` | `log` | the log as a table |
-//! | `imported(alloc, raw)` | `import` | the log that is imported of a raw log |
+//! | `imported(alloc, raw, limits)` | `import` | the log that is imported of a raw log |
 //! | `verified(alloc, code, options, facts)` | `verify` | the budget with which a program is accepted; what else is known of it goes into `facts` |
 //! | `assembled(alloc, source)` | `asm` | the program of a source text, as bytes |
 //! | `listed(alloc, code, numbered)` | `list` | the listing of a program, with its slots or without |
@@ -27,7 +27,7 @@
 //! the image of the same cut where nothing departs (`specs/Show.antt`). What the report prints of a choice, by which an image
 //! may be named, is what `show` prints of it, and no choice's text has more than 96 bytes (`report_prints_choices`,
 //! `choices_are_short`). `survey` answers the text of `specs/Survey.antt`, and `shown_log` the table of the log
-//! (`specs/Table.antt`). `imported` answers the text of `raw_log` for the largest device (`specs/Import.antt`).
+//! (`specs/Table.antt`). `imported` answers the text of `raw_log` for the largest device within the limits (`specs/Import.antt`).
 //!
 //! What `verified` answers is the budget of an accepted program (`specs/Verifying.antt`). What `assembled` answers spells the
 //! program that the source text says, and what `listed` answers is the listing of the program that the bytes spell

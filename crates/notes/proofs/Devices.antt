@@ -2,6 +2,7 @@
 use Rattle.std.proofs.Common.{ℕ, ◌≡◌, ◌+◌, ◌<◌, ◌≤◌, ◌⊎◌, inl, inr, List, length, get_or, slice_get, Some, refl, sym, ◌∙◌, ap, subst, arith}
 use Rattle.std.proofs.lemmas.Bool.{cases_lt}
 use Rattle.std.proofs.lemmas.Option.{slice_get_within, slice_get_read}
+use Rattle.limits.specs.Sizes.{most_sectors}
 use Rattle.logfmt.specs.declared.entry.Entry.{Entry}
 use Rattle.logfmt.specs.Bounds.{LogValue, IsLog}
 use Rattle.notes.specs.Device.{end_of, LieOn, IsLeastDevice}
@@ -14,7 +15,7 @@ pub record IsLeastOfFirst (es : List Entry) (n : ℕ) (found : ℕ) : Type 0 whe
 
 -- each entry of a log lies on the largest device
 pub fits : (log : LogValue) (items : List Entry) (n : ℕ) (e : Entry) → IsLog log → items ≡ log.entries → n < length items → e ≡ get_or items n e
-    → 0 < e.count → e.sector + e.count ≤ 16384
+    → 0 < e.count → e.sector + e.count ≤ most_sectors
 fits log items n e bounds same lt here some =
     let there : slice_get log.entries n ≡ Some e = ap (λ (xs : List Entry). slice_get xs n) (sym same) ∙ slice_get_read items (length items) n e refl lt here in
     omega (arith, (bounds.entries n e there).device some, bounds.device)

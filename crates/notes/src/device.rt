@@ -1,6 +1,7 @@
 //! The device of a log.
 
 ghost use Rattle.std.specs.Prelude.{◌≡◌, ◌++◌, ◌≤◌, ◌<◌, ◌+◌, ◌⊎◌, OnOk, string_bytes};
+ghost use Rattle.limits.specs.Sizes.{most_sectors};
 ghost use Rattle.notes.specs.Device.{end_of, IsLeastDevice, size_note, SaysLeast};
 
 use logfmt::{Entry, Log};
@@ -8,7 +9,7 @@ use std::alloc::AllocError;
 
 /// The sector behind the last one that an entry covers; 0 where it covers none.
 fn end_of(entry: &Entry) -> u64
-    requires { 0 < entry.now.count → entry.now.sector + entry.now.count ≤ 16384 }
+    requires { 0 < entry.now.count → entry.now.sector + entry.now.count ≤ most_sectors }
     ensures { result ≡ end_of entry.now }
 {
     if entry.count == 0 {

@@ -6,6 +6,8 @@ use Rattle.std.proofs.lemmas.List.{length-map}
 use Rattle.std.proofs.lemmas.List.Sums.{sum_by-cons, sum_by_more, sum_by_more_le}
 use Rattle.std.proofs.lemmas.Option.{slice_get_cases, slice_get-map}
 use Rattle.std.specs.List.{sum_by}
+use Rattle.limits.specs.Sizes.{byte_limit}
+use Rattle.limits.specs.declared.Limits.{Limits}
 use Rattle.base.specs.Check.{first_failing}
 use Rattle.base.specs.Numbers.{number_at}
 use Rattle.logfmt.specs.declared.entry.Entry.{Entry}
@@ -50,9 +52,9 @@ no_less k n times = elim times [
   | inr eight ↦ let e : k * n ≡ 8 * n = ap (λ (x : ℕ). x * n) eight in omega (arith, e)
 ]
 
-super_passes : (k sectors : ℕ) (bytes : List ℕ) (es : List Entry) → RawText k bytes es → IsImportable k sectors es → first_failing (raw_super_checks bytes) ≡ None
+super_passes : (k sectors : ℕ) (limits : Limits) (bytes : List ℕ) (es : List Entry) → RawText k bytes es → IsImportable k sectors limits es → first_failing (raw_super_checks bytes) ≡ None
 unfolding raw_super_checks
-super_passes k sectors bytes es raw can =
+super_passes k sectors limits bytes es raw can =
     let some : 1 ≤ k = positive k raw.times in
     let whole : nat_le 512 (length bytes) ≡ true = grind (arith, nat_tests, raw.super.whole, some) in
     let size : nat_le (size_at bytes) (length bytes) ≡ true = grind (arith, nat_tests, raw.super.whole, raw.super.sector_size) in
@@ -110,18 +112,18 @@ device_passes k sectors bytes s e times stands is =
     let inside : ((e.count == 0) || nat_le (k * e.sector + k * e.count) sectors) ≡ true = grind (arith, nat_tests, device, less) in
     rw (← stands.sector, ← stands.count, small, inside) refl
 
-entry_passes : (k sectors : ℕ) (bytes : List ℕ) (s units written : ℕ) (e : Entry) → IsTimes k → StandsRaw k bytes s e → IsEntry sectors (divided k e)
-    → (e.flags.mark ≡ true → e.flags.flush ≡ false) → units + k * e.count ≤ 262144 → written + 512 * (1 + k * data_of e) ≤ 67108864
+entry_passes : (k sectors : ℕ) (bytes : List ℕ) (s units room : ℕ) (e : Entry) → IsTimes k → StandsRaw k bytes s e → IsEntry sectors (divided k e)
+    → (e.flags.mark ≡ true → e.flags.flush ≡ false) → units + k * e.count ≤ 262144 → 512 * (1 + k * data_of e) ≤ room
     → s + bytes_in k (1 + data_of e) ≤ 201326592
-    → first_failing (raw_entry_checks k bytes sectors s units written) ≡ None
+    → first_failing (raw_entry_checks k bytes sectors s units room) ≡ None
 unfolding raw_entry_checks
-entry_passes k sectors bytes s units written e times stands is recorded few room need =
+entry_passes k sectors bytes s units room e times stands is recorded few fitting need =
     let behind : data_of e ≡ data_sectors bytes s = same_data k s bytes e stands in
     let first : nat_le (s + bytes_in k 1) 201326592 ≡ true = grind (arith, nat_tests, need) in
     let here : nat_le (s + bytes_in k 1) (length bytes) ≡ true = grind (arith, nat_tests, stands.whole) in
     let known : nat_lt (word_at bytes s) 32 ≡ true = grind (arith, nat_tests, stands.flags, flag_word-lt e.flags) in
     let small : nat_le (units + k * count_at bytes s) 262144 ≡ true = rw (← stands.count) (grind (arith, nat_tests, few)) in
-    let fits : nat_le (written + 512 * (1 + k * data_sectors bytes s)) 67108864 ≡ true = rw (← behind) (grind (arith, nat_tests, room)) in
+    let fits : nat_le (512 * (1 + k * data_sectors bytes s)) room ≡ true = rw (← behind) (grind (arith, nat_tests, fitting)) in
     let within : nat_le (s + bytes_in k (1 + data_sectors bytes s)) 201326592 ≡ true = rw (← behind) (grind (arith, nat_tests, need)) in
     let whole : nat_le (s + bytes_in k (1 + data_sectors bytes s)) (length bytes) ≡ true = rw (← behind) (grind (arith, nat_tests, stands.whole)) in
     rw (first, here, known, length_passes k sectors bytes s e stands is, mark_passes k sectors bytes s e times stands is recorded, device_passes k sectors bytes s e times stands is, small, fits, within, whole) refl
@@ -199,9 +201,9 @@ later es i (suc n) =
     let before = later es i n in
     rw e (omega (arith, before))
 
-text_passes : (k sectors : ℕ) (bytes : List ℕ) (es : List Entry) (i : ℕ) → RawText k bytes es → IsImportable k sectors es → i < length es
-    → raw_entry_fault k bytes sectors i ≡ None
-text_passes k sectors bytes es i raw can h =
+text_passes : (k sectors : ℕ) (limits : Limits) (bytes : List ℕ) (es : List Entry) (i : ℕ) → RawText k bytes es → IsImportable k sectors limits es → i < length es
+    → raw_entry_fault k bytes sectors limits i ≡ None
+text_passes k sectors limits bytes es i raw can h =
     let made : List Entry = map (divided k) es in
     let long : length made ≡ length es = length-map es (divided k) in
     let placed : header k bytes i ≡ bytes_in k (place es i) = header_place k bytes es i raw.stands (omega (arith, h)) in
@@ -220,27 +222,27 @@ text_passes k sectors bytes es i raw can h =
           let to_end : suc i + (length es - suc i) ≡ length es = omega (arith, h) in
           let up : place made (suc i) ≤ place made (length es) = rw (← to_end) (later made (suc i) (length es - suc i)) in
           let up_raw : place es (suc i) ≤ place es (length es) = rw (← to_end) (later es (suc i) (length es - suc i)) in
-          let size : 512 * place made (length made) ≤ 67108864 = can.log.size in
-          let sized : 512 * place made (length es) ≤ 67108864 = rw (← long) size in
+          let size : 512 * place made (length made) ≤ byte_limit limits = can.size in
+          let sized : 512 * place made (length es) ≤ byte_limit limits = rw (← long) size in
           let times_up : k * place es (suc i) ≤ k * place es (length es) = mul-le-mul_left k up_raw in
           let spread : k * place es (suc i) ≡ k * (place es i + 1 + data_of a.0) = ap (λ (n : ℕ). k * n) next_raw in
           rw (placed, before, written)
-          (entry_passes k sectors bytes (bytes_in k (place es i)) (sum_by (units k) (take i es)) (512 * place made i) a.0 raw.times (raw.stands i a.0 a.2)
+          (entry_passes k sectors bytes (bytes_in k (place es i)) (sum_by (units k) (take i es)) (byte_limit limits - 512 * place made i) a.0 raw.times (raw.stands i a.0 a.2)
           (can.log.entries i (divided k a.0) there) (can.recorded i (divided k a.0) there) (omega (arith, part, same, all, sum)) (omega (arith, next, up, sized)) (omega (arith, can.need, times_up, spread)))
       | inr past ↦ absurd (omega (arith, past.0, h))
     ]
 
 pub raw_has_no_fault : RawHasNoFault
-raw_has_no_fault k sectors bytes es cause at raw can fault =
+raw_has_no_fault k sectors limits bytes es cause at raw can fault =
     elim fault as (λ c n _. ⊥) [
-      | in_super c failing ↦ let bad : None ≡ Some c = sym (super_passes k sectors bytes es raw can) ∙ failing in cc
+      | in_super c failing ↦ let bad : None ≡ Some c = sym (super_passes k sectors limits bytes es raw can) ∙ failing in cc
       | in_entry c number clean lt pass failing ↦
           let within : number < length es = omega (arith, lt, raw.super.entries) in
-          let at_k : raw_entry_fault k bytes sectors number ≡ Some c = ap (λ (n : ℕ). raw_entry_fault n bytes sectors number) (sym (told k bytes es raw)) ∙ failing in
-          let bad : None ≡ Some c = sym (text_passes k sectors bytes es number raw can within) ∙ at_k in
+          let at_k : raw_entry_fault k bytes sectors limits number ≡ Some c = ap (λ (n : ℕ). raw_entry_fault n bytes sectors limits number) (sym (told k bytes es raw)) ∙ failing in
+          let bad : None ≡ Some c = sym (text_passes k sectors limits bytes es number raw can within) ∙ at_k in
           cc
     ]
 
 pub imported_has_no_fault : ImportedHasNoFault
-imported_has_no_fault bytes text sectors cause at made fault =
-    raw_has_no_fault made.k sectors bytes made.entries cause at made.raw made.importable fault
+imported_has_no_fault bytes text sectors limits cause at made fault =
+    raw_has_no_fault made.k sectors limits bytes made.entries cause at made.raw made.importable fault

@@ -1,6 +1,7 @@
 -- A log is a raw log with sectors of 512 bytes, and what is imported is a log.
 use Rattle.std.proofs.Common.{ℕ, ◌≡◌, ◌+◌, ◌*◌, ◌≤◌, List, [], ◌∷◌, length, map, refl, sym, subst, ◌∙◌, ap, inl, arith}
 use Rattle.std.specs.List.{slice_range}
+use Rattle.limits.specs.Sizes.{byte_limit}
 use Rattle.base.specs.Numbers.{number_at}
 use Rattle.logfmt.specs.declared.entry.Entry.{Entry}
 use Rattle.logfmt.specs.Bounds.{LogValue, IsLog, AreBytes, AreRecorded, data_of, place}
@@ -84,7 +85,7 @@ stands_as_log bytes p e at =
     }
 
 pub log_is_raw : LogIsRaw
-log_is_raw bytes log text =
+log_is_raw bytes log limits text =
     let whole : bytes_in 1 1 ≤ length bytes = omega (arith, text.super.whole) in
     let size = text.bounds.size in (
       record {
@@ -92,17 +93,18 @@ log_is_raw bytes log text =
         super = record { whole = whole; magic = text.super.magic; version = text.super.version; entries = text.super.entries; sector_size = text.super.sector_size };
         stands = λ i e h. stands_as_raw bytes (place log.entries i) e (text.stands i e h);
       },
-      record {
+      λ few. record {
         log = subst IsLog (sym (same_log log)) (over_nothing log text.bounds);
+        size = subst (λ (es : List Entry). 512 * place es (length es) ≤ byte_limit limits) (sym (all_divided log.entries)) few;
         recorded = subst AreRecorded (sym (all_divided log.entries)) text.recorded;
         need = omega (arith, size);
       },
     )
 
 pub raw_is_log : RawIsLog
-raw_is_log bytes log raw can size held initial =
+raw_is_log bytes log limits raw can size held initial =
     record {
-      size = size;
+      size = omega (arith, size);
       super = record { whole = omega (arith, raw.super.whole); magic = raw.super.magic; version = raw.super.version; entries = raw.super.entries; sector_size = raw.super.sector_size };
       stands = λ i e h. stands_as_log bytes (place log.entries i) e (raw.stands i e h);
       bounds = over_its log (subst IsLog (same_log log) can.log) held initial;
@@ -110,7 +112,7 @@ raw_is_log bytes log raw can size held initial =
     }
 
 pub imported_is_text : ImportedIsText
-imported_is_text k sectors bytes text es raw made =
+imported_is_text k sectors limits bytes text es raw made =
     let same = raw_of_one_log bytes k made.k es made.entries raw made.raw in
     let there : LogText text (imported made.k sectors made.entries) =
     subst (λ (t : List ℕ). LogText t (imported made.k sectors made.entries)) (sym made.same)
@@ -120,10 +122,10 @@ imported_is_text k sectors bytes text es raw made =
     subst (λ (l : LogValue). LogText text l) log there
 
 pub log_is_kept : LogIsKept
-log_is_kept bytes text log is made =
+log_is_kept bytes text log limits is made =
     let kept : LogText text (over [] log) =
     subst (λ (l : LogValue). LogText text l) (same_log log)
-    (imported_is_text 1 log.sectors bytes text log.entries (log_is_raw bytes log is).0 made) in
+    (imported_is_text 1 log.sectors limits bytes text log.entries (log_is_raw bytes log limits is).0 made) in
     record {
       size = kept.size;
       super = kept.super;
@@ -133,7 +135,7 @@ log_is_kept bytes text log is made =
     }
 
 pub one_import : OneImport
-one_import bytes text other sectors a b =
+one_import bytes text other sectors limits a b =
     let same = raw_of_one_log bytes a.k b.k a.entries b.entries a.raw b.raw in
     let log : imported a.k sectors a.entries ≡ imported b.k sectors b.entries =
     ap (λ (n : ℕ). imported n sectors a.entries) same.0 ∙ ap (λ (es : List Entry). imported b.k sectors es) same.1 in

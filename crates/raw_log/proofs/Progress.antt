@@ -1,9 +1,12 @@
 -- What holds after the first n entries were imported: the invariant of the loop of `import`.
-use Rattle.std.proofs.Common.{ℕ, suc, true, false, ◌≡◌, ◌+◌, ◌*◌, ◌<◌, ◌≤◌, Bool, if◌then◌else◌, List, [], ◌∷◌, ◌++◌, length, map, Some, None, refl, sym, subst, ◌∙◌, ap, inl, inr, arith, length-append, add-one, append-nil, below_more}
+use Rattle.std.proofs.Common.{ℕ, suc, true, false, ◌≡◌, ◌+◌, ◌-◌, ◌*◌, ◌<◌, ◌≤◌, Bool, if◌then◌else◌, List, [], ◌∷◌, ◌++◌, length, map, Some, None, refl, sym, subst, ◌∙◌, ap, inl, inr, arith, length-append, add-one, append-nil, below_more}
 use Rattle.std.specs.List.{flat_map, slice_range}
 use Rattle.std.proofs.lemmas.List.{map-append, flat_map_more}
 use Rattle.std.proofs.lemmas.List.Sums.{sum_by_push}
 use Rattle.std.proofs.lemmas.Option.{slice_get_within}
+use Rattle.limits.specs.Sizes.{byte_limit, most_log_bytes, most_sectors}
+use Rattle.limits.specs.declared.Limits.{Limits}
+use Rattle.limits.specs.declared.Limits.TheVariants as limits
 use Rattle.base.proofs.Lists.{slice_get_of_push}
 use Rattle.base.specs.Check.{first_failing}
 use Rattle.base.specs.Numbers.{number_at}
@@ -21,7 +24,7 @@ use Rattle.raw_log.specs.Imported.{IsImported, divided}
 use Rattle.raw_log.proofs.Lengths.{length_entry, length_super}
 
 -- the first n entries are imported, the next header begins at byte s, the entries have u units, and the text so far is this
-pub record Progress (bytes : List ℕ) (k sectors : ℕ) (text : List ℕ) (n s u : ℕ) : Type 0 where
+pub record Progress (bytes : List ℕ) (k sectors : ℕ) (limits : Limits) (text : List ℕ) (n s u : ℕ) : Type 0 where
   pub raw : List Entry
   pub made : List Entry
   pub divided : made ≡ map (divided k) raw
@@ -36,11 +39,11 @@ pub record Progress (bytes : List ℕ) (k sectors : ℕ) (text : List ℕ) (n s 
   pub canonical : text ≡ super_sector (number_at 8 16 bytes) ++ flat_map entry_sectors made
   pub need : s ≤ 201326592
   pub within : u ≤ 262144
-  pub room : length text ≤ 67108864
+  pub room : length text ≤ byte_limit limits
   pub stand : AllStandRaw k bytes raw
   pub entries : AreEntries sectors made
   pub recorded : AreRecorded made
-  pub pass : EntriesPass bytes sectors n
+  pub pass : EntriesPass bytes sectors limits n
 
 -- the entry in sectors of the raw log
 abbrev raw_of : List ℕ → ℕ → Entry → Entry
@@ -86,16 +89,16 @@ same_bytes k s bytes e h stands has =
     rw (flag, count) refl
 
 -- one entry more, whose header passes its checks
-pub go_on : (bytes text : List ℕ) (k sectors n s u : ℕ) (e : Entry)
+pub go_on : (bytes text : List ℕ) (k sectors : ℕ) (limits : Limits) (n s u : ℕ) (e : Entry)
     → times_at bytes ≡ k
-    → Progress bytes k sectors text n s u
-    → (w : ℕ) → w ≡ length text → first_failing (raw_entry_checks k bytes sectors s u w) ≡ None
+    → Progress bytes k sectors limits text n s u
+    → (w : ℕ) → w ≡ byte_limit limits - length text → first_failing (raw_entry_checks k bytes sectors s u w) ≡ None
     → StandsDivided k bytes s e → IsEntry sectors e → (e.flags.mark ≡ true → e.flags.flush ≡ false)
     → (h : Header) → HeaderStands k bytes s h → u + h.count ≤ 262144
-    → (d : ℕ) → d ≡ data_bytes h → w + 512 + d ≤ 67108864 → s + bytes_in k 1 + d ≤ 201326592
+    → (d : ℕ) → d ≡ data_bytes h → 512 + d ≤ w → s + bytes_in k 1 + d ≤ 201326592
     → length e.text ≤ 480
-    → Progress bytes k sectors (text ++ entry_sectors e) (n + 1) (s + (512 * k + d)) (u + h.count)
-go_on bytes text k sectors n s u e told so w w_is passes stands fits recorded h has few d d_is room need short =
+    → Progress bytes k sectors limits (text ++ entry_sectors e) (n + 1) (s + (512 * k + d)) (u + h.count)
+go_on bytes text k sectors limits n s u e told so w w_is passes stands fits recorded h has few d d_is room need short =
     let long : length (entry_sectors e) ≡ 512 * (1 + data_of e) = length_entry sectors e fits short in
     let r : Entry = raw_of bytes s e in
     let here : StandsRaw k bytes s r = stands_raw k s bytes e stands in
@@ -124,7 +127,7 @@ go_on bytes text k sectors n s u e told so w w_is passes stands fits recorded h 
       canonical = ap (λ (xs : List ℕ). xs ++ entry_sectors e) so.canonical ∙ flat_map_more entry_sectors (super_sector (number_at 8 16 bytes)) so.made e;
       need = omega (arith, need);
       within = few;
-      room = omega (arith, both, long, room, told_d, d_is, w_is);
+      room = omega (arith, both, long, room, told_d, d_is, w_is, so.room);
       stand = λ i x j. elim (slice_get_of_push so.raw r i x j) [
         | inl was ↦ let lt : i < length so.raw = slice_get_within so.raw i x was in rw (place-push so.raw r i (omega (arith, lt))) (so.stand i x was)
         | inr last ↦ rw (last.0, last.1, place-push so.raw r (length so.raw) (omega arith), so.count, so.placed) here
@@ -140,21 +143,31 @@ go_on bytes text k sectors n s u e told so w w_is passes stands fits recorded h 
       pass = below_more _ n so.pass (rw (told, so.header, so.before, so.written, ← w_is) passes);
     }
 
+-- the limits of a log, which are no more than the larger ones
+byte_limit_some : (limits : Limits) → 512 ≤ byte_limit limits
+byte_limit_some limits.Usual = omega arith
+byte_limit_some limits.Large = omega arith
+
+byte_limit_most : (limits : Limits) → byte_limit limits ≤ most_log_bytes
+byte_limit_most limits.Usual = omega arith
+byte_limit_most limits.Large = omega arith
+
 -- where all entries are imported the text is what was promised
-pub whole : (bytes text : List ℕ) (k sectors n s u : ℕ) → SuperStands bytes k → 1 ≤ sectors → sectors ≤ 16384 → number_at 8 16 bytes ≡ n
-    → Progress bytes k sectors text n s u → IsImported bytes sectors text
-whole bytes text k sectors n s u super some device count so =
+pub whole : (bytes text : List ℕ) (k sectors : ℕ) (limits : Limits) (n s u : ℕ) → SuperStands bytes k → 1 ≤ sectors → sectors ≤ most_sectors → number_at 8 16 bytes ≡ n
+    → Progress bytes k sectors limits text n s u → IsImported bytes sectors limits text
+whole bytes text k sectors limits n s u super some device count so =
     let made : List Entry = so.made in
     let log : IsLog (record { sectors = sectors; entries = made; initial = [] }) = record {
       some = some;
-      device = device;
+      device = omega (arith, device);
       count = omega (arith, super.count, count, so.counted);
       units = omega (arith, so.sum, so.within);
       entries = so.entries;
-      size = rw so.counted (omega (arith, so.size, so.room));
+      size = rw so.counted (omega (arith, so.size, so.room, byte_limit_most limits));
       held = omega arith;
       initial = λ i. omega arith;
     } in
+    let small : 512 * place made (length made) ≤ byte_limit limits = rw so.counted (omega (arith, so.size, so.room)) in
     let text_is : text ≡ canonical_text made = so.canonical ∙ ap (λ c. super_sector c ++ flat_map entry_sectors made) (count ∙ sym so.counted) in
     let need : bytes_in k (place so.raw (length so.raw)) ≤ 201326592 = rw (so.count, so.placed) so.need in
     record {
@@ -167,6 +180,7 @@ whole bytes text k sectors n s u super some device count so =
       };
       importable = record {
         log = subst (λ (es : List Entry). IsLog (record { sectors = sectors; entries = es; initial = [] })) so.divided log;
+        size = subst (λ (es : List Entry). 512 * place es (length es) ≤ byte_limit limits) so.divided small;
         recorded = subst AreRecorded so.divided so.recorded;
         need = need;
       };
@@ -174,16 +188,16 @@ whole bytes text k sectors n s u super some device count so =
     }
 
 -- the first fault, at an entry behind those that passed
-pub fault_here : (bytes text : List ℕ) (k sectors n s u : ℕ) (c : LogCause) → times_at bytes ≡ k → first_failing (raw_super_checks bytes) ≡ None
-    → n < number_at 8 16 bytes → Progress bytes k sectors text n s u → (w : ℕ) → w ≡ length text → first_failing (raw_entry_checks k bytes sectors s u w) ≡ Some c
-    → FirstRawFault bytes sectors c n
-fault_here bytes text k sectors n s u c told clean lt so w w_is failing =
+pub fault_here : (bytes text : List ℕ) (k sectors : ℕ) (limits : Limits) (n s u : ℕ) (c : LogCause) → times_at bytes ≡ k → first_failing (raw_super_checks bytes) ≡ None
+    → n < number_at 8 16 bytes → Progress bytes k sectors limits text n s u → (w : ℕ) → w ≡ byte_limit limits - length text → first_failing (raw_entry_checks k bytes sectors s u w) ≡ Some c
+    → FirstRawFault bytes sectors limits c n
+fault_here bytes text k sectors limits n s u c told clean lt so w w_is failing =
     in_entry c n clean lt so.pass (rw (told, so.header, so.before, so.written, ← w_is) failing)
 
 -- before the first entry
-pub start : (bytes old text : List ℕ) (k sectors count : ℕ) → IsTimes k → count ≡ number_at 8 16 bytes → old ≡ [] → text ≡ old ++ super_sector count
-    → Progress bytes k sectors text 0 (512 * k) 0
-start bytes old text k sectors count times told none appended =
+pub start : (bytes old text : List ℕ) (k sectors : ℕ) (limits : Limits) (count : ℕ) → IsTimes k → count ≡ number_at 8 16 bytes → old ≡ [] → text ≡ old ++ super_sector count
+    → Progress bytes k sectors limits text 0 (512 * k) 0
+start bytes old text k sectors limits count times told none appended =
     let is : text ≡ super_sector count = appended ∙ ap (λ (xs : List ℕ). xs ++ super_sector count) none in
     let long : length text ≡ 512 = ap length is ∙ length_super count in
     let whole : bytes_in k 1 ≡ 512 * k = omega arith in
@@ -202,7 +216,7 @@ start bytes old text k sectors count times told none appended =
       canonical = is ∙ ap super_sector told ∙ simp append-nil;
       need = elim times [ inl one ↦ omega (arith, one) | inr eight ↦ omega (arith, eight) ];
       within = omega arith;
-      room = omega (arith, long);
+      room = omega (arith, long, byte_limit_some limits);
       stand = λ i e h. absurd (let bad : None ≡ Some e = h in cc);
       entries = λ i e h. absurd (let bad : None ≡ Some e = h in cc);
       recorded = λ i e h. absurd (let bad : None ≡ Some e = h in cc);

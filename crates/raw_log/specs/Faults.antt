@@ -1,6 +1,8 @@
 -- The first fault of bytes of which no log can be imported, by the order of the checks (docs/LOG-FORMAT.md, Importing a raw log).
 -- It speaks of the bytes alone. Sums and products are of whole numbers and do not wrap.
-use Rattle.std.specs.Prelude.{ℕ, zero, suc, ◌+◌, ◌*◌, ◌/◌, ◌^◌, ◌≡◌, ◌==◌, ◌<◌, Bool, not, ◌&&◌, ◌||◌, nat_lt, nat_le, if◌then◌else◌, List, [], ◌∷◌, length, Option, None, Some}
+use Rattle.std.specs.Prelude.{ℕ, zero, suc, ◌+◌, ◌-◌, ◌*◌, ◌/◌, ◌^◌, ◌≡◌, ◌==◌, ◌<◌, Bool, not, ◌&&◌, ◌||◌, nat_lt, nat_le, if◌then◌else◌, List, [], ◌∷◌, length, Option, None, Some}
+use Rattle.limits.specs.Sizes.{byte_limit}
+use Rattle.limits.specs.declared.Limits.{Limits}
 use Rattle.base.specs.Check.{Check, check, first_failing}
 use Rattle.base.specs.Numbers.{number_at}
 use Rattle.base.specs.declared.causes.LogCause.{LogCause}
@@ -61,9 +63,10 @@ raw_super_checks bytes =
 abbrev pub is_on_device : ℕ → ℕ → ℕ → ℕ → Bool
 is_on_device k sectors sector count = nat_lt (k * sector) (2 ^ 64) && ((count == 0) || nat_le (k * sector + k * count) sectors)
 
--- the checks of the entry whose header begins at byte s, behind entries of that many units, of which so many bytes are written
+-- the checks of the entry whose header begins at byte s, behind entries of that many units, where the log that comes out has room for
+-- so many bytes more
 unfoldable pub raw_entry_checks : ℕ → List ℕ → ℕ → ℕ → ℕ → ℕ → List (Check LogCause)
-raw_entry_checks k bytes sectors s units written =
+raw_entry_checks k bytes sectors s units room =
     check cause.Limit (nat_le (s + bytes_in k 1) 201326592)
     ∷ check cause.CutShort (nat_le (s + bytes_in k 1) (length bytes))
     ∷ check cause.Flags (nat_lt (word_at bytes s) 32)
@@ -71,26 +74,26 @@ raw_entry_checks k bytes sectors s units written =
     ∷ check cause.MarkForm (not (has_bit (word_at bytes s) 8) || has_mark_form (word_at bytes s) (count_at bytes s) (length_at bytes s))
     ∷ check cause.Device (is_on_device k sectors (sector_at bytes s) (count_at bytes s))
     ∷ check cause.Limit (nat_le (units + k * count_at bytes s) 262144)
-    ∷ check cause.Limit (nat_le (written + 512 * (1 + k * data_sectors bytes s)) 67108864)
+    ∷ check cause.Limit (nat_le (512 * (1 + k * data_sectors bytes s)) room)
     ∷ check cause.Limit (nat_le (s + bytes_in k (1 + data_sectors bytes s)) 201326592)
     ∷ check cause.CutShort (nat_le (s + bytes_in k (1 + data_sectors bytes s)) (length bytes))
     ∷ []
 
 -- the cause at entry i, if there is one
-abbrev pub raw_entry_fault : ℕ → List ℕ → ℕ → ℕ → Option LogCause
-raw_entry_fault k bytes sectors i =
-    first_failing (raw_entry_checks k bytes sectors (header k bytes i) (units_before k bytes i) (written_before k bytes i))
+abbrev pub raw_entry_fault : ℕ → List ℕ → ℕ → Limits → ℕ → Option LogCause
+raw_entry_fault k bytes sectors limits i =
+    first_failing (raw_entry_checks k bytes sectors (header k bytes i) (units_before k bytes i) (byte_limit limits - written_before k bytes i))
 
 -- the first n entries pass
-abbrev pub EntriesPass : List ℕ → ℕ → ℕ → Type 0
-EntriesPass bytes sectors n = (i : ℕ) → i < n → raw_entry_fault (times_at bytes) bytes sectors i ≡ None
+abbrev pub EntriesPass : List ℕ → ℕ → Limits → ℕ → Type 0
+EntriesPass bytes sectors limits n = (i : ℕ) → i < n → raw_entry_fault (times_at bytes) bytes sectors limits i ≡ None
 
 -- the first fault is this cause, in the super block (at 0) or at that entry
-pub data FirstRawFault (bytes : List ℕ) (sectors : ℕ) : LogCause → ℕ → Type 0 where
-  in_super : (c : LogCause) → first_failing (raw_super_checks bytes) ≡ Some c → FirstRawFault bytes sectors c 0
-  in_entry : (c : LogCause) (at : ℕ) → first_failing (raw_super_checks bytes) ≡ None → at < number_at 8 16 bytes → EntriesPass bytes sectors at
-      → raw_entry_fault (times_at bytes) bytes sectors at ≡ Some c → FirstRawFault bytes sectors c at
+pub data FirstRawFault (bytes : List ℕ) (sectors : ℕ) (limits : Limits) : LogCause → ℕ → Type 0 where
+  in_super : (c : LogCause) → first_failing (raw_super_checks bytes) ≡ Some c → FirstRawFault bytes sectors limits c 0
+  in_entry : (c : LogCause) (at : ℕ) → first_failing (raw_super_checks bytes) ≡ None → at < number_at 8 16 bytes → EntriesPass bytes sectors limits at
+      → raw_entry_fault (times_at bytes) bytes sectors limits at ≡ Some c → FirstRawFault bytes sectors limits c at
 
 -- no check fails
-abbrev pub HasNoRawFault : List ℕ → ℕ → Type 0
-HasNoRawFault bytes sectors = (first_failing (raw_super_checks bytes) ≡ None) × EntriesPass bytes sectors (number_at 8 16 bytes)
+abbrev pub HasNoRawFault : List ℕ → ℕ → Limits → Type 0
+HasNoRawFault bytes sectors limits = (first_failing (raw_super_checks bytes) ≡ None) × EntriesPass bytes sectors limits (number_at 8 16 bytes)

@@ -1,5 +1,7 @@
 -- What is imported of a raw log: its entries, in sectors of 512 bytes.
 use Rattle.std.specs.Prelude.{ℕ, ◌*◌, ◌≡◌, ◌≤◌, List, [], length, map}
+use Rattle.limits.specs.Sizes.{byte_limit}
+use Rattle.limits.specs.declared.Limits.{Limits}
 use Rattle.logfmt.specs.declared.entry.Entry.{Entry}
 use Rattle.logfmt.specs.Bounds.{LogValue, IsLog, AreRecorded, place}
 use Rattle.logfmt.specs.LogText.{canonical_text}
@@ -13,16 +15,17 @@ divided k e = record e { sector = k * e.sector; count = k * e.count }
 abbrev pub imported : ℕ → ℕ → List Entry → LogValue
 imported k sectors es = record { sectors = sectors; entries = map (divided k) es; initial = [] }
 
--- the entries can be imported: what comes out is within the limits of a log, and they need at most 192 MiB of the raw one
-pub record IsImportable (k sectors : ℕ) (es : List Entry) : Type 0 where
+-- the entries can be imported: what comes out is a log within these limits, and they need at most 192 MiB of the raw one
+pub record IsImportable (k sectors : ℕ) (limits : Limits) (es : List Entry) : Type 0 where
   pub log : IsLog (imported k sectors es)
+  pub size : 512 * place (imported k sectors es).entries (length (imported k sectors es).entries) ≤ byte_limit limits
   pub recorded : AreRecorded (imported k sectors es).entries
   pub need : bytes_in k (place es (length es)) ≤ 201326592
 
 -- the text is the canonical text of the log that is imported of these bytes
-pub record IsImported (bytes : List ℕ) (sectors : ℕ) (text : List ℕ) : Type 0 where
+pub record IsImported (bytes : List ℕ) (sectors : ℕ) (limits : Limits) (text : List ℕ) : Type 0 where
   pub k : ℕ
   pub entries : List Entry
   pub raw : RawText k bytes entries
-  pub importable : IsImportable k sectors entries
+  pub importable : IsImportable k sectors limits entries
   pub same : text ≡ canonical_text (imported k sectors entries).entries

@@ -1,8 +1,10 @@
 -- What holds of raw logs as a whole, and of what is imported of them.
 use Rattle.std.specs.Prelude.{ℕ, ◌*◌, ◌≡◌, ◌≤◌, List, length}
+use Rattle.limits.specs.Sizes.{byte_limit, most_log_bytes}
+use Rattle.limits.specs.declared.Limits.{Limits}
 use Rattle.base.specs.declared.causes.LogCause.{LogCause}
 use Rattle.logfmt.specs.declared.entry.Entry.{Entry}
-use Rattle.logfmt.specs.Bounds.{LogValue, AreBytes}
+use Rattle.logfmt.specs.Bounds.{LogValue, AreBytes, place}
 use Rattle.logfmt.specs.LogText.{LogText}
 use Rattle.raw_log.specs.Raw.{RawText}
 use Rattle.raw_log.specs.Faults.{FirstRawFault}
@@ -12,43 +14,51 @@ use Rattle.raw_log.specs.Imported.{IsImportable, IsImported, imported}
 abbrev pub RawOfOneLog : Type 0
 RawOfOneLog = (bytes : List ℕ) (k l : ℕ) (es fs : List Entry) → RawText k bytes es → RawText l bytes fs → (k ≡ l) × (es ≡ fs)
 
--- a log is a raw log with sectors of 512 bytes, of the same entries
+-- a log is a raw log with sectors of 512 bytes, of the same entries, which can be imported where they end within the limits
 abbrev pub LogIsRaw : Type 0
-LogIsRaw = (bytes : List ℕ) (log : LogValue) → LogText bytes log → RawText 1 bytes log.entries × IsImportable 1 log.sectors log.entries
+LogIsRaw =
+    (bytes : List ℕ) (log : LogValue) (limits : Limits) → LogText bytes log
+    → RawText 1 bytes log.entries × (512 * place log.entries (length log.entries) ≤ byte_limit limits → IsImportable 1 log.sectors limits log.entries)
 
 -- and of the raw logs with such sectors that can be imported each is a log, if it isn't too long, whatever its device held before
 abbrev pub RawIsLog : Type 0
 RawIsLog =
-    (bytes : List ℕ) (log : LogValue) → RawText 1 bytes log.entries → IsImportable 1 log.sectors log.entries → length bytes ≤ 67108864
-    → length log.initial ≤ 512 * log.sectors → AreBytes log.initial → LogText bytes log
+    (bytes : List ℕ) (log : LogValue) (limits : Limits) → RawText 1 bytes log.entries → IsImportable 1 log.sectors limits log.entries
+    → length bytes ≤ most_log_bytes → length log.initial ≤ 512 * log.sectors → AreBytes log.initial → LogText bytes log
 
 -- what is imported of a log with sectors of 512 bytes is a text of that log
 abbrev pub LogIsKept : Type 0
-LogIsKept = (bytes text : List ℕ) (log : LogValue) → LogText bytes log → IsImported bytes log.sectors text → LogText text log
+LogIsKept =
+    (bytes text : List ℕ) (log : LogValue) (limits : Limits) → LogText bytes log → IsImported bytes log.sectors limits text
+    → LogText text log
 
 -- what is imported is a text of the log of the raw log's entries
 abbrev pub ImportedIsText : Type 0
 ImportedIsText =
-    (k sectors : ℕ) (bytes text : List ℕ) (es : List Entry) → RawText k bytes es → IsImported bytes sectors text
+    (k sectors : ℕ) (limits : Limits) (bytes text : List ℕ) (es : List Entry) → RawText k bytes es → IsImported bytes sectors limits text
     → LogText text (imported k sectors es)
 
 -- one text is imported of bytes
 abbrev pub OneImport : Type 0
-OneImport = (bytes text other : List ℕ) (sectors : ℕ) → IsImported bytes sectors text → IsImported bytes sectors other → text ≡ other
+OneImport =
+    (bytes text other : List ℕ) (sectors : ℕ) (limits : Limits) → IsImported bytes sectors limits text → IsImported bytes sectors limits other
+    → text ≡ other
 
 -- no check fails at a raw log of entries that can be imported
 abbrev pub RawHasNoFault : Type 0
 RawHasNoFault =
-    (k sectors : ℕ) (bytes : List ℕ) (es : List Entry) (c : LogCause) (at : ℕ) → RawText k bytes es → IsImportable k sectors es
-    → ¬ (FirstRawFault bytes sectors c at)
+    (k sectors : ℕ) (limits : Limits) (bytes : List ℕ) (es : List Entry) (c : LogCause) (at : ℕ) → RawText k bytes es
+    → IsImportable k sectors limits es → ¬ (FirstRawFault bytes sectors limits c at)
 
 -- nor at bytes of which a text is imported
 abbrev pub ImportedHasNoFault : Type 0
 ImportedHasNoFault =
-    (bytes text : List ℕ) (sectors : ℕ) (c : LogCause) (at : ℕ) → IsImported bytes sectors text → ¬ (FirstRawFault bytes sectors c at)
+    (bytes text : List ℕ) (sectors : ℕ) (limits : Limits) (c : LogCause) (at : ℕ) → IsImported bytes sectors limits text
+    → ¬ (FirstRawFault bytes sectors limits c at)
 
--- the first fault of bytes for a device is one
+-- the first fault of bytes for a device within limits is one
 abbrev pub OneRawFault : Type 0
 OneRawFault =
-    (bytes : List ℕ) (sectors : ℕ) (c d : LogCause) (s t : ℕ) → FirstRawFault bytes sectors c s → FirstRawFault bytes sectors d t
+    (bytes : List ℕ) (sectors : ℕ) (limits : Limits) (c d : LogCause) (s t : ℕ) → FirstRawFault bytes sectors limits c s
+    → FirstRawFault bytes sectors limits d t
     → (c ≡ d) × (s ≡ t)

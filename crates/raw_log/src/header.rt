@@ -1,6 +1,7 @@
 //! The super block and the header of an entry, checked in the order of the checks of a raw log.
 
 ghost use Rattle.std.specs.Prelude.{◌≡◌, ◌==◌, ◌≤◌, ◌<◌, ◌+◌, ◌*◌, ◌||◌, ◌&&◌, ◌^◌, ◌↔◌, nat_le, nat_lt, if◌then◌else◌, length, IsTrue, IsSome, IfOk, IfSome, MatchResult, Some, None};
+ghost use Rattle.limits.specs.Sizes.{most_log_bytes, most_sectors};
 ghost use Rattle.base.specs.Check.{first_failing};
 ghost use Rattle.logfmt.specs.Faults.{has_mark_form};
 ghost use Rattle.logfmt.specs.Flags.{has_bit};
@@ -23,9 +24,6 @@ const MAX_ENTRIES: u64 = 65_536;
 
 /// How many units a log may have: one for each sector of a write or a discard.
 const MAX_UNITS: u64 = 262_144;
-
-/// How many bytes a log may have: 64 MiB.
-const MAX_BYTES: usize = 67_108_864;
 
 /// How many bytes of a raw log its entries may need: 192 MiB.
 const MAX_NEEDED: usize = 201_326_592;
@@ -124,8 +122,8 @@ impl Header {
     }
 }
 
-/// The header at byte `start`, in sectors of 512 bytes, behind entries of `units` units of which `written` bytes are written, or
-/// the first cause for which it is refused.
+/// The header at byte `start`, in sectors of 512 bytes, behind entries of `units` units, where the log that comes out has room for
+/// `room` bytes more; or the first cause for which it is refused.
 #[tactic(auto, unfolding(crate::specs::Faults::raw_entry_checks, logfmt::specs::Faults::has_mark_form))]
 pub(crate) fn checked_header(
     raw: &[u8],
@@ -133,18 +131,18 @@ pub(crate) fn checked_header(
     start: usize,
     sectors: u32,
     units: u64,
-    written: usize,
+    room: usize,
 ) -> Result<Header, LogCause>
     requires times { IsTimes times }
     requires start { start ≤ 201326592 }
-    requires device { sectors ≤ 16384 }
+    requires device { sectors ≤ most_sectors }
     requires units { units ≤ 262144 }
-    requires written { written ≤ 67108864 }
-    ensures exact { MatchResult result (λ _. first_failing (raw_entry_checks times raw.now sectors start units written) ≡ None) (λ c. first_failing (raw_entry_checks times raw.now sectors start units written) ≡ Some c) }
+    requires room { room ≤ most_log_bytes }
+    ensures exact { MatchResult result (λ _. first_failing (raw_entry_checks times raw.now sectors start units room) ≡ None) (λ c. first_failing (raw_entry_checks times raw.now sectors start units room) ≡ Some c) }
     ensures stands { IfOk result (HeaderStands times raw.now start) }
     ensures fits { IfOk result (HeaderFits sectors) }
     ensures within { IfOk result (λ h. units + h.count ≤ 262144) }
-    ensures room { IfOk result (λ h. written + 512 + data_bytes h ≤ 67108864) }
+    ensures room { IfOk result (λ h. 512 + data_bytes h ≤ room) }
     ensures need { IfOk result (λ h. start + bytes_in times 1 + data_bytes h ≤ 201326592) }
 {
     let data = start + SECTOR * times as usize;
@@ -175,7 +173,7 @@ pub(crate) fn checked_header(
     if units + header.count > MAX_UNITS {
         return Err(LogCause::Limit);
     }
-    if written + SECTOR + header.data_bytes() > MAX_BYTES {
+    if SECTOR + header.data_bytes() > room {
         return Err(LogCause::Limit);
     }
     if data + header.data_bytes() > MAX_NEEDED {

@@ -1,8 +1,9 @@
 //! From the bytes of a raw log to the canonical text of the log of its entries: one pass, in which each check is made once and in
 //! its order.
 
-ghost use Rattle.std.specs.Prelude.{true, false, ◌≡◌, ◌≤◌, ◌+◌, ◌*◌, ◌⊎◌, length, IfOk, IfErr, OnOk};
+ghost use Rattle.std.specs.Prelude.{true, false, ◌≡◌, ◌≤◌, ◌+◌, ◌-◌, ◌*◌, ◌⊎◌, length, IfOk, IfErr, OnOk};
 ghost use Rattle.std.specs.List.{slice_range};
+ghost use Rattle.limits.specs.Sizes.{byte_limit, most_log_bytes, most_sectors};
 ghost use Rattle.base.specs.declared.causes.LogCause.TheVariants as cause;
 ghost use Rattle.logfmt.specs.Bounds.{AreBytes, IsEntry};
 ghost use Rattle.raw_log.specs.Raw.{IsTimes, bytes_in};
@@ -14,6 +15,7 @@ use crate::header::{Header, checked_header, checked_super};
 use crate::writer::{put_entry, put_super};
 use base::bytes::Bytes;
 use base::numbers::u64_at;
+use limits::Limits;
 use logfmt::{Entry, LogFault, SECTOR};
 use std::alloc::{AllocError, Global};
 
@@ -38,7 +40,7 @@ fn entry_of(
     header: Header,
 ) -> Result<Entry, AllocError>
     requires times { IsTimes times }
-    requires device { sectors ≤ 16384 }
+    requires device { sectors ≤ most_sectors }
     requires stands { HeaderStands times raw.now start header }
     requires fits { HeaderFits sectors header }
     requires few { header.count ≤ 262144 }
@@ -61,18 +63,27 @@ fn entry_of(
     })
 }
 
+/// How many bytes more a log may have that has `written` bytes.
+fn room_behind(limits: Limits, written: usize) -> usize
+    requires few { written ≤ byte_limit limits }
+    ensures value { result ≡ byte_limit limits - written }
+    ensures few { result ≤ most_log_bytes }
+{
+    limits.bytes() - written
+}
+
 /// Imports a raw log, whose sectors have 512 or 4,096 bytes, for a device of `sectors` sectors of 512 bytes: the canonical text of
-/// the log of its entries (docs/LOG-FORMAT.md, Importing a raw log).
+/// the log of its entries, within these limits (docs/LOG-FORMAT.md, Importing a raw log).
 ///
 /// # Errors
 ///
 /// The first fault of the bytes, at the entry where it is, 0 for the super block; or want of memory, at 0.
-pub fn import(alloc: Global, raw: &[u8], sectors: u32) -> Result<Vec<u8>, LogFault>
+pub fn import(alloc: Global, raw: &[u8], sectors: u32, limits: Limits) -> Result<Vec<u8>, LogFault>
     requires some { 1 ≤ sectors }
-    requires device { sectors ≤ 16384 }
-    ensures imported { IfOk result (λ text. IsImported raw.now sectors text.items) }
-    ensures clean { OnOk result (HasNoRawFault raw.now sectors) }
-    ensures fault { IfErr result (λ f. (f ≡ record { code = cause.Memory; at = 0 }) ⊎ FirstRawFault raw.now sectors f.code f.at) }
+    requires device { sectors ≤ most_sectors }
+    ensures imported { IfOk result (λ text. IsImported raw.now sectors limits text.items) }
+    ensures clean { OnOk result (HasNoRawFault raw.now sectors limits) }
+    ensures fault { IfErr result (λ f. (f ≡ record { code = cause.Memory; at = 0 }) ⊎ FirstRawFault raw.now sectors limits f.code f.at) }
 {
     let times = match checked_super(raw) {
         Ok(times) => times,
@@ -84,7 +95,8 @@ pub fn import(alloc: Global, raw: &[u8], sectors: u32) -> Result<Vec<u8>, LogFau
     let mut start = SECTOR * times as usize;
     let mut units = 0;
     for number in 0..count {
-        let header = match checked_header(raw, times, start, sectors, units, out.len()) {
+        let room = room_behind(limits, out.len());
+        let header = match checked_header(raw, times, start, sectors, units, room) {
             Ok(header) => header,
             Err(code) => return Err(LogFault { code, at: number }),
         };

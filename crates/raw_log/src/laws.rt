@@ -7,7 +7,7 @@ pub fn raw_of_one_log()
     ensures { RawOfOneLog }
 {}
 
-/// A log is a raw log with sectors of 512 bytes, whose entries can be imported.
+/// A log is a raw log with sectors of 512 bytes, whose entries can be imported where they end within the limits.
 pub fn log_is_raw()
     ensures { LogIsRaw }
 {}

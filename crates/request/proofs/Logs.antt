@@ -1,5 +1,6 @@
 -- What was read of a log, by the settings.
 use Rattle.std.proofs.Common.{ℕ, ◌≡◌, ◌≤◌, ◌*◌, ◌⊎◌, inl, inr, ◌<◌, List, [], length, slice_get, Option, None, Some, refl, sym, ap, ◌∙◌, subst, arith}
+use Rattle.limits.specs.Sizes.{byte_limit}
 use Rattle.base.specs.declared.causes.LogCause.TheVariants as log
 use Rattle.logfmt.specs.declared.fault.LogFault.{LogFault}
 use Rattle.logfmt.specs.Bounds.{LogValue, IsLog, AreBytes}
@@ -37,17 +38,18 @@ text_over text log initial is fits are = record {
   recorded = is.recorded;
 }
 
-pub recorded_over : (r : Recording) (s : Settings) (log : LogValue) → LogText r.text log → log.sectors ≡ s.sectors → FitsDevice r s → AreBytes r.initial
-    → IsRecorded r s (over r.initial log)
-recorded_over r s log is device fits are = record {
+pub recorded_over : (r : Recording) (s : Settings) (log : LogValue) → LogText r.text log → log.sectors ≡ s.sectors → length r.text ≤ byte_limit s.limits → FitsDevice r s
+    → AreBytes r.initial → IsRecorded r s (over r.initial log)
+recorded_over r s log is device short fits are = record {
   device = device;
+  size = short;
   of_log = text_over r.text log r.initial is (let fit = fits in omega (arith, fit, device)) are;
   initial = refl;
 }
 
 -- what `recorded` answers
 pub log_refused : (r : Recording) (s : Settings) (f : LogFault) → FitsDevice r s
-    → (f ≡ record { code = log.Memory; at = 0 }) ⊎ log_fault.FirstFault r.text s.sectors f.code f.at → RefusesLog r s (log_refusal f.code f.at)
+    → (f ≡ record { code = log.Memory; at = 0 }) ⊎ log_fault.FirstFault r.text s.sectors s.limits f.code f.at → RefusesLog r s (log_refusal f.code f.at)
 log_refused r s f fits (inl e) = rw e no_memory
 log_refused r s f fits (inr h) = with_fault f.code f.at fits h
 

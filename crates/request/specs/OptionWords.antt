@@ -14,6 +14,7 @@ use Rattle.request.specs.Settings.{option_refusal, settings_refusal}
 abbrev pub settings_with : OptionWords → CutKind → By → Flushes → Settings
 settings_with w kind way added = record {
   sectors = w.sectors;
+  limits = w.limits;
   cuts = record { kind = kind; from = w.from; to = w.to; flushes = added };
   bound = w.bound;
   tears = w.tears;

@@ -2,6 +2,7 @@
 use Rattle.std.specs.Prelude.{◌≡◌, ◌≤◌, Bool, true, ◌&&◌, nat_le, List, [], ◌∷◌, Option, None}
 use Rattle.std.specs.Option.{option_map, option_map_or}
 use Rattle.base.specs.Check.{Check, check, first_failing}
+use Rattle.limits.specs.Sizes.{most_sectors, sector_limit}
 use Rattle.base.specs.declared.causes.RequestCause.TheVariants as request
 use Rattle.base.specs.declared.refusal.Refusal.{Refusal}
 use Rattle.base.specs.declared.refusal.Cause.TheVariants.{Request}
@@ -23,7 +24,7 @@ is_ordered cuts = option_map_or (λ first. is_before_last cuts.to first) cuts.fr
 -- the checks of the options, each with its place
 unfoldable pub option_checks : Settings → List (Check OptionPlace)
 option_checks s =
-    check place.Sectors (nat_le 1 s.sectors && nat_le s.sectors 16384)
+    check place.Sectors (nat_le 1 s.sectors && nat_le s.sectors (sector_limit s.limits))
     ∷ check place.Bound (nat_le s.bound 3)
     ∷ check place.Workers (nat_le 1 s.workers && nat_le s.workers 64)
     ∷ check place.Cache (nat_le s.cache 65536)
@@ -38,7 +39,7 @@ settings_refusal s = option_map option_refusal (first_failing (option_checks s))
 -- options that no check refuses
 pub record IsAsked (s : Settings) : Type 0 where
   pub some : 1 ≤ s.sectors
-  pub device : s.sectors ≤ 16384
+  pub device : s.sectors ≤ most_sectors
   pub bound : s.bound ≤ 3
   pub some_worker : 1 ≤ s.workers
   pub few_workers : s.workers ≤ 64

@@ -1,5 +1,6 @@
 -- What a command reads of a log: the log itself, and the crash images that are asked for of it.
 use Rattle.std.specs.Prelude.{ℕ, ◌≡◌, ◌<◌, ◌≤◌, ◌*◌, ◌++◌, nat_le, nat_lt, if◌then◌else◌, List, [], ◌∷◌, length, filter, slice_get, Option, None, Some}
+use Rattle.limits.specs.Sizes.{byte_limit}
 use Rattle.base.specs.declared.causes.LogCause.{LogCause}
 use Rattle.base.specs.declared.causes.LogCause.TheVariants as log
 use Rattle.base.specs.declared.causes.RequestCause.TheVariants as request
@@ -24,9 +25,11 @@ pub record Recording : Type 0 where
   pub text : List ℕ
   pub initial : List ℕ
 
--- the bytes of the log are those of this log, for the device of the settings, over that initial content
+-- the bytes of the log are those of this log, no more than the limits allow, for the device of the settings, over that initial
+-- content
 pub record IsRecorded (r : Recording) (s : Settings) (value : LogValue) : Type 0 where
   pub device : value.sectors ≡ s.sectors
+  pub size : length r.text ≤ byte_limit s.limits
   pub of_log : LogText r.text value
   pub initial : value.initial ≡ r.initial
 
@@ -83,7 +86,7 @@ FitsDevice r s = length r.initial ≤ 512 * s.sectors
 -- first entry or cut that is named and that the log doesn't have
 pub data RefusesLog (r : Recording) (s : Settings) : Refusal → Type 0 where
   past_device : 512 * s.sectors < length r.initial → RefusesLog r s (option_refusal place.Base)
-  with_fault : (cause : LogCause) (at : ℕ) → FitsDevice r s → log_fault.FirstFault r.text s.sectors cause at → RefusesLog r s (log_refusal cause at)
+  with_fault : (cause : LogCause) (at : ℕ) → FitsDevice r s → log_fault.FirstFault r.text s.sectors s.limits cause at → RefusesLog r s (log_refusal cause at)
   no_memory : RefusesLog r s (log_refusal log.Memory 0)
   lacks : (read : LogValue) (at : ℕ) → IsRecorded r s read → slice_get (lacking s.cuts (length read.entries)) 0 ≡ Some at
       → RefusesLog r s (lacking_refusal at)

@@ -23,5 +23,5 @@ trial_refusal w = option_map option_refusal (first_failing (trial_checks w))
 
 -- the words ask for this, and no check refuses them
 pub record AskForTrial (w : TrialWords) (t : Trial) : Type 0 where
-  pub asked : t ≡ record { epoch = w.epoch; marks = w.marks; checked = w.checked; trace = w.trace }
+  pub asked : t ≡ record { limits = w.limits; epoch = w.epoch; marks = w.marks; checked = w.checked; trace = w.trace }
   pub good : trial_refusal w ≡ None

@@ -11,12 +11,15 @@ use crate::trials::TrialWords;
 use arrayvec::ArrayString;
 use base::refusal::Refusal;
 use epochs::{By, CutKind, Cuts, Flushes};
+use limits::Limits;
 
 /// The options as they were written; no check was made of them (docs/REPORT.md, Options).
 #[derive(Clone, Copy)]
 pub struct OptionWords {
     /// The number behind `--sectors`.
     pub sectors: u64,
+    /// How large the log and its device may be: more where `--large` stands there.
+    pub limits: Limits,
     /// The entries behind `--flush`, none of them where that doesn't stand there; none where the word is no list of entries.
     pub flushes: Option<Flushes>,
     /// The kind of cut behind `--cuts`; none where the word is no kind of cut.
@@ -76,7 +79,7 @@ pub enum Request {
     /// `show LOG N`, or the same.
     Show(OptionWords, Which),
     /// `import RAW`
-    Import,
+    Import(Limits),
     /// `verify PROGRAM`, of which the number of sectors counts.
     Verify(OptionWords),
     /// `check PROGRAM IMAGE`
@@ -100,6 +103,7 @@ fn options_with(
 {
     Options::new(&Settings {
         sectors: words.sectors,
+        limits: words.limits,
         cuts: Cuts {
             kind,
             from: words.from,

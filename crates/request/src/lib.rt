@@ -17,7 +17,7 @@
 //! | `fault_line(alloc, refusal)` | the line that a refusal prints |
 //!
 //! `Request` has a variant for each command, with the options that the command takes, and `Which` says which crash image is
-//! meant. `MOST_SECTORS` and `MOST_PROGRAMS` are the limits that more crates than this one need.
+//! meant. `MOST_PROGRAMS` is a limit that more crates than this one need.
 //!
 //! # What is proved
 //!
@@ -55,7 +55,7 @@ mod source;
 mod trials;
 
 pub use command::{OptionWords, Request, Which, options_of};
-pub use options::{MOST_PROGRAMS, MOST_SECTORS, Options};
+pub use options::{MOST_PROGRAMS, Options};
 pub use refusals::{bytes_refusal_of, fault_line, option_refusal_of, unreadable};
 pub use settings::{OptionPlace, Settings, Telling};
 pub use source::{log_refusal_of, planned, read_log};

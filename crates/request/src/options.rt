@@ -8,10 +8,8 @@ use crate::refusals::option_refusal_of;
 use crate::settings::{OptionPlace, Settings};
 use base::refusal::Refusal;
 use epochs::{By, Cuts};
+use limits::Limits;
 use std::marker::Model;
-
-/// The most sectors of a device.
-pub const MOST_SECTORS: u32 = 16_384;
 
 /// The most programs of a run.
 pub const MOST_PROGRAMS: u8 = 8;
@@ -32,6 +30,7 @@ const MOST_CHECKED_STEPS: u64 = 1_000_000_000;
 #[derive(Drop)]
 pub struct Options {
     sectors: u32,
+    limits: Limits,
     cuts: Cuts,
     bound: u8,
     tears: bool,
@@ -48,9 +47,9 @@ impl Model for Options {
 
     ghost Value = { Settings };
 
-    ghost view = { λ o. record { sectors = o.sectors; cuts = o.cuts; bound = o.bound; tears = o.tears; by = o.by; workers = o.workers; cache = o.cache; checked = o.checked; first = o.first } };
+    ghost view = { λ o. record { sectors = o.sectors; limits = o.limits; cuts = o.cuts; bound = o.bound; tears = o.tears; by = o.by; workers = o.workers; cache = o.cache; checked = o.checked; first = o.first } };
 
-    ghost invariant = { λ o. IsAsked (record { sectors = o.sectors; cuts = o.cuts; bound = o.bound; tears = o.tears; by = o.by; workers = o.workers; cache = o.cache; checked = o.checked; first = o.first }) };
+    ghost invariant = { λ o. IsAsked (record { sectors = o.sectors; limits = o.limits; cuts = o.cuts; bound = o.bound; tears = o.tears; by = o.by; workers = o.workers; cache = o.cache; checked = o.checked; first = o.first }) };
 }
 
 /// Whether there is a limit of steps that is too great.
@@ -84,7 +83,8 @@ impl Options {
         ensures made { IfOk result (λ o. o ≡ settings.now) }
         ensures refused { MatchResult result (λ o. settings_refusal settings.now ≡ None) (λ r. settings_refusal settings.now ≡ Some r) }
     {
-        if settings.sectors < 1 || settings.sectors > u64::from(MOST_SECTORS) {
+        let most = u64::from(settings.limits.sectors());
+        if settings.sectors < 1 || settings.sectors > most {
             return Err(option_refusal_of(OptionPlace::Sectors));
         }
         if settings.bound > MOST_PARTS {
@@ -104,6 +104,7 @@ impl Options {
         }
         Ok(Options {
             sectors: settings.sectors as u32,
+            limits: settings.limits,
             cuts: settings.cuts,
             bound: settings.bound as u8,
             tears: settings.tears,
@@ -115,12 +116,19 @@ impl Options {
         })
     }
 
-    /// The number of sectors of the device, 1 to 16,384.
+    /// The number of sectors of the device, from 1 to what the limits allow.
     pub fn sectors(&self) -> u32
         ensures value { result ≡ self.now.sectors }
         ensures asked { IsAsked self.now }
     {
         self.sectors
+    }
+
+    /// How large the log and its device may be.
+    pub fn limits(&self) -> Limits
+        ensures { result ≡ self.now.limits }
+    {
+        self.limits
     }
 
     /// The wanted cuts, and the flushes that are added to the log.

@@ -4,12 +4,15 @@ ghost use Rattle.std.specs.Prelude.{◌≡◌};
 ghost use Rattle.request.specs.Places.{place_number};
 
 use epochs::{By, Cuts};
+use limits::Limits;
 
 /// What a run is asked (docs/REPORT.md, Options).
 #[derive(Clone, Copy)]
 pub struct Settings {
     /// The number of sectors of the device.
     pub sectors: u64,
+    /// How large the log and its device may be.
+    pub limits: Limits,
     /// Which cuts are wanted, and which flushes are added to the log.
     pub cuts: Cuts,
     /// How many parts may depart.

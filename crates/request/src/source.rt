@@ -100,9 +100,9 @@ fn first_lacking(cuts: &Cuts, count: usize) -> Option<u64>
 fn recorded(alloc: Global, bytes: &[u8], initial: &[u8], options: &Options) -> Result<Log, LogFault>
     requires { length initial.now ≤ 512 * options.now.sectors }
     ensures log { IfOk result (IsRecorded (record { text = bytes.now; initial = initial.now }) options.now) }
-    ensures fault { IfErr result (λ f. (f ≡ record { code = cause.Memory; at = 0 }) ⊎ FirstFault bytes.now options.now.sectors f.code f.at) }
+    ensures fault { IfErr result (λ f. (f ≡ record { code = cause.Memory; at = 0 }) ⊎ FirstFault bytes.now options.now.sectors options.now.limits f.code f.at) }
 {
-    let log = match read(alloc, bytes, options.sectors()) {
+    let log = match read(alloc, bytes, options.sectors(), options.limits()) {
         Ok(log) => log,
         Err(fault) => return Err(fault),
     };

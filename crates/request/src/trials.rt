@@ -7,6 +7,7 @@ use crate::options::is_too_long;
 use crate::refusals::option_refusal_of;
 use crate::settings::OptionPlace;
 use base::refusal::Refusal;
+use limits::Limits;
 
 /// The most flush entries, and the most marks, that a program is told: a log has no more entries.
 const MOST_PASSED: u64 = 65_536;
@@ -14,6 +15,8 @@ const MOST_PASSED: u64 = 65_536;
 /// What is asked of a run on one image, as it was written; no check was made of it (docs/REPORT.md, Options).
 #[derive(Clone, Copy)]
 pub struct TrialWords {
+    /// How large the image may be: more where `--large` stands there.
+    pub limits: Limits,
     /// The number behind `--epoch`.
     pub epoch: u64,
     /// The number behind `--marks`.
@@ -27,6 +30,8 @@ pub struct TrialWords {
 /// What is asked of a run on one image.
 #[derive(Clone, Copy)]
 pub struct Trial {
+    /// How large the image may be.
+    pub limits: Limits,
     /// The number of flush entries that the program is told.
     pub epoch: u32,
     /// The number of marks that it is told.
@@ -56,6 +61,7 @@ pub fn trial_of(words: TrialWords) -> Result<Trial, Refusal>
         return Err(option_refusal_of(OptionPlace::Checked));
     }
     Ok(Trial {
+        limits: words.limits,
         epoch: words.epoch as u32,
         marks: words.marks as u32,
         checked: words.checked,

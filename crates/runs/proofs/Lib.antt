@@ -10,3 +10,4 @@ pub mod Pages
 pub mod Tried
 pub mod Leading
 pub mod Cures
+pub mod Finding

@@ -81,7 +81,7 @@ checkers_of_files s (f ∷ fs) (p ∷ ps) (c ∷ cs) h made =
     (record { spelled = subst (IsSpelledBy f) (sym made.0) h.0; clean = h.1; within = made.1 }, checkers_of_files s fs ps cs h.2 made.2)
 
 -- where the program stands, its bytes stand
-spelled_there : (files : List (List ℕ)) (programs : List (List (Option Instr))) (n : ℕ) (slots : List (Option Instr)) → AreFirstOf files programs
+pub spelled_there : (files : List (List ℕ)) (programs : List (List (Option Instr))) (n : ℕ) (slots : List (Option Instr)) → AreFirstOf files programs
     → slice_get programs n ≡ Some slots → (bytes : List ℕ) × (slice_get files n ≡ Some bytes) × IsSpelledBy bytes slots
 spelled_there files [] n slots h there = absurd (let bad : None ≡ Some slots = there in cc)
 spelled_there [] (p ∷ ps) n slots h there = absurd h

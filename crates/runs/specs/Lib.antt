@@ -5,6 +5,7 @@ pub mod Paged
 pub mod Why
 pub mod Marked
 pub mod Found
+pub mod Finds
 pub mod Tasks
 pub mod Cured
 pub mod Trials

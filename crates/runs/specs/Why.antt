@@ -75,6 +75,7 @@ pub record TellsCauses (h : HeadValue) (s : StartsValue) (ls : List FailingLine)
 abbrev pub with_first : Bool → Settings → Settings
 with_first first s = record {
   sectors = s.sectors;
+  limits = s.limits;
   cuts = s.cuts;
   bound = s.bound;
   tears = s.tears;

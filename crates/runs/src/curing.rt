@@ -1,6 +1,6 @@
 //! Where flushes are missing, tried run by run (docs/REPORT.md, The text of `cure`).
 
-ghost use Rattle.std.specs.Prelude.{◌≡◌, ◌≢◌, ◌≤◌, ◌<◌, ◌↔◌, ◌⊎◌, ◌++◌, ℕ, List, [], map, length, true, IsTrue, IfOk, IfErr, OnOk, string_bytes};
+ghost use Rattle.std.specs.Prelude.{◌≡◌, ◌≢◌, ◌≤◌, ◌<◌, ◌↔◌, ◌⊎◌, ◌++◌, ℕ, List, [], map, length, true, IsTrue, IfOk, IfErr, IfSome, OnOk, string_bytes};
 ghost use Rattle.std.specs.List.{flat_map};
 ghost use Rattle.std.specs.List.Sorted.{IsNonDecreasing};
 ghost use Rattle.logfmt.specs.Bounds.{IsLog};
@@ -17,6 +17,8 @@ ghost use Rattle.runs.specs.Explore.{Refuses};
 ghost use Rattle.runs.specs.Tasks.{lines_of};
 ghost use Rattle.runs.specs.Why.{starts_of};
 ghost use Rattle.runs.specs.Cured.{IsCured, TellsCure, run_lines};
+ghost use Rattle.facts.specs.Fewer.{FindsFewer};
+ghost use Rattle.runs.specs.Finds.{FindsBreach, FindsAll};
 ghost use Rattle.runs.specs.Trials.{HasFailures, IsFound, TellsOn};
 
 use crate::basis::{Basis, worked};
@@ -342,6 +344,9 @@ pub fn cured<G: Gate + Sync, R: Threads + Wait + Sync>(
 ) -> Result<Explored, Refusal>
     ensures cured { IfOk result (λ e. IsCured question.now.recording.now (map (λ f. f.items) question.now.programs.now) question.now.options.now e.bytes.items e.failing) }
     ensures refused { IfErr result (Refuses question.now.recording.now (map (λ f. f.items) question.now.programs.now) question.now.options.now) }
+    ensures found { IfOk result (λ _. FindsAll question.now.recording.now (map (λ f. f.items) question.now.programs.now) question.now.options.now facts.new) }
+    ensures breach { IfErr result (λ r. IfSome facts.new.breach (FindsBreach question.now.options.now.sectors (map (λ f. f.items) question.now.programs.now) r)) }
+    ensures fewer { IfSome facts.new.fewer (FindsFewer question.now.recording.now question.now.options.now) }
 {
     *facts = Facts::new();
     let (programs, options) = (question.programs, question.options);

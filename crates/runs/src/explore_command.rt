@@ -1,6 +1,6 @@
 //! From the bytes of a log and of programs to the bytes of the report, or to why the programs fail.
 
-ghost use Rattle.std.specs.Prelude.{◌≡◌, ◌≢◌, ◌≤◌, ◌<◌, ◌+◌, ◌⊎◌, ◌↔◌, IsTrue, ◌++◌, ◌∷◌, [], length, map, false, IfOk, IfErr, OnOk, Some};
+ghost use Rattle.std.specs.Prelude.{◌≡◌, ◌≢◌, ◌≤◌, ◌<◌, ◌+◌, ◌⊎◌, ◌↔◌, IsTrue, ◌++◌, ◌∷◌, [], length, map, false, IfOk, IfErr, IfSome, OnOk, None, Some};
 ghost use Rattle.base.specs.declared.causes.CodeCause.TheVariants as code;
 ghost use Rattle.bpf_isa.specs.Program.{IsSpelledBy, HasNoFault};
 ghost use Rattle.std.specs.List.Sorted.{IsNonDecreasing};
@@ -12,6 +12,9 @@ ghost use Rattle.request.specs.declared.settings.Telling.TheVariants as tells;
 ghost use Rattle.runs.specs.Why.{with_first, first_asked, IsExplained, IsPaged, IsTold};
 ghost use Rattle.runs.specs.Tasks.{lines_of, TellsTask};
 ghost use Rattle.runs.specs.Found.{AreFound};
+ghost use Rattle.facts.specs.Fewer.{FindsFewer};
+ghost use Rattle.runs.specs.Finds.{FindsNext, FindsUnreached, IsBreachOf, IsBreachIn, FindsBreach, FindsAll};
+ghost use Rattle.facts.specs.Found.{KeepsLog};
 ghost use Rattle.runs.specs.Programs.{IsRunWithin, IsCodeFault, IsUnaccepted, code_refusal, verifier_refusal, AreDecoded, AreFirstMade, RefusesOneOf};
 
 use crate::basis::{Basis, worked};
@@ -141,9 +144,14 @@ fn checker_of<'p>(
     options: &Options,
     facts: &mut Facts,
 ) -> Result<Checker<'p>, Refusal>
+    requires { length facts.old.unreached.items < 8 }
     ensures program { IfOk result (λ c. c.program ≡ program.now) }
     ensures within { IfOk result (λ c. IsRunWithin options.now.checked options.now.sectors c) }
     ensures refused { IfErr result (IsUnaccepted options.now number program.now) }
+    ensures unreached { OnOk result (FindsNext options.now.checked options.now.sectors program.now facts.old.unreached.items facts.new.unreached.items) }
+    ensures calm { OnOk result (facts.new.breach ≡ facts.old.breach) }
+    ensures breach { IfErr result (λ r. IfSome facts.new.breach (IsBreachOf options.now.sectors number program.now r)) }
+    ensures others { KeepsLog facts.old facts.new }
 {
     match options.checked() {
         Some(limit) => Ok(Checker::limited(program, limit)),
@@ -179,9 +187,15 @@ pub(crate) fn checkers_of<'p>(
     facts: &mut Facts,
 ) -> Result<Vec<Checker<'p>>, Refusal>
     requires few { length programs.now ≤ 8 }
+    requires fresh { facts.old.unreached.items ≡ [] }
+    requires calm { facts.old.breach ≡ None }
     ensures made { IfOk result (λ checkers. AreFirstMade options.now programs.now checkers.items) }
     ensures all { IfOk result (λ checkers. length checkers.items ≡ length programs.now) }
     ensures refused { IfErr result (RefusesOneOf options.now programs.now) }
+    ensures unreached { IfOk result (λ _. FindsUnreached options.now.checked options.now.sectors programs.now facts.new.unreached.items) }
+    ensures calm { OnOk result (facts.new.breach ≡ None) }
+    ensures breach { IfErr result (λ r. IfSome facts.new.breach (IsBreachIn options.now.sectors programs.now r)) }
+    ensures others { KeepsLog facts.old facts.new }
 {
     let mut checkers = Vec::new(alloc);
     for (number, program) in programs.iter().enumerate() {
@@ -373,6 +387,9 @@ pub fn run_with<G: Gate + Sync, R: Threads + Wait + Sync>(
 ) -> Result<Explored, Refusal>
     ensures told { IfOk result (λ e. IsTold question.now.telling question.now.recording.now (map (λ f. f.items) question.now.programs.now) question.now.options.now e.bytes.items e.failing) }
     ensures refused { IfErr result (Refuses question.now.recording.now (map (λ f. f.items) question.now.programs.now) question.now.options.now) }
+    ensures found { IfOk result (λ _. FindsAll question.now.recording.now (map (λ f. f.items) question.now.programs.now) question.now.options.now facts.new) }
+    ensures breach { IfErr result (λ r. IfSome facts.new.breach (FindsBreach question.now.options.now.sectors (map (λ f. f.items) question.now.programs.now) r)) }
+    ensures fewer { IfSome facts.new.fewer (FindsFewer question.now.recording.now question.now.options.now) }
 {
     *facts = Facts::new();
     let (programs, options) = (question.programs, question.options);

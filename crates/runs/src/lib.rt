@@ -33,6 +33,9 @@
 //! (`Refuses` in `specs/Explore.antt`): the number of programs, the log, the number of its images, then each program; or memory
 //! ran out.
 //!
+//! What `run_with` and `cured` find for the notes is that of `specs/Finds.antt`: of the log how many entries no image loses as a
+//! whole, of each program that is verified what no run reaches, and of a refused one the instruction and what is known there.
+//!
 //! A run has one program to eight, one worker to 64, and a cache of up to 65,536 outcomes. The bytes and
 //! the refusals are the same for every number of workers and every size of the cache.
 //!

@@ -7,6 +7,7 @@ use Rattle.std.specs.List.{list_all}
 use Rattle.std.proofs.Math.Nat.{mod-lt}
 use Rattle.std.proofs.lemmas.Bool.Decides.{nat_tests}
 use Rattle.std.proofs.lemmas.Option.{slice_get-get_or}
+use Rattle.limits.specs.Sizes.{most_sectors}
 use Rattle.base.specs.Check.{first_failing}
 use Rattle.base.specs.Numbers.{number_at, number_bytes}
 use Rattle.base.proofs.Lists.{number_at-number_bytes, length-number_bytes}
@@ -132,7 +133,7 @@ word_three c =
     ap (λ (xs : List ℕ). number_at 8 24 (f ++ xs)) (sym (append-nil e)) ∙ number_at-number_bytes 8 0 24 f [] (omega arith) (three_words c)
 
 -- the four aligned words
-context_word_means : (sectors frame : ℕ) (c : Context) (at : ℕ) → c.sectors ≡ sectors → sectors ≤ 16384 → c.epoch ≤ 65536 → c.marks ≤ 65536
+context_word_means : (sectors frame : ℕ) (c : Context) (at : ℕ) → c.sectors ≡ sectors → sectors ≤ most_sectors → c.epoch ≤ 65536 → c.marks ≤ 65536
     → at + 8 ≤ 32 → at % 8 ≡ 0 → Describes sectors frame (context_word sectors at) (number_at 8 at (context_bytes c))
 context_word_means sectors frame c at told few epoch marks fits aligned = by (at / 8) (omega (arith, aligned))
   where

@@ -3,6 +3,7 @@ use Rattle.std.proofs.Common.{◌≡◌, ◌<◌, ◌≤◌, ℕ, ◌+◌, ◌-�
 use Rattle.std.specs.Prelude.{FitsSigned}
 use Rattle.std.specs.Option.{option_map_or}
 use Rattle.std.specs.Int.{cast_unsigned, w16, w64}
+use Rattle.limits.specs.Sizes.{most_sectors}
 use Rattle.helpers.specs.Answers.{sector_start}
 use Rattle.machine.specs.State.{context_start, stack_start}
 use Rattle.intervals.specs.Spans.{Span, span, IsSpan, Has}
@@ -24,7 +25,7 @@ Lands sectors frame (place.Stack at) n a = (a ≡ stack_start + 1024 * frame + a
 Lands sectors frame place.Sector n a = (q : ℕ) × (o : ℕ) × (q < sectors) × (o + n ≤ 512) × (a ≡ sector_start + 1024 * q + o)
 
 in_region : (sectors frame start : ℕ) (x : Span) (distance : ℤ) (n q o : ℕ) (a b : Option ℕ) → landed 512 n x.low distance ≡ a → landed 512 n x.high distance ≡ b
-    → sectors ≤ 16384 → q < sectors → start ≡ sector_start + 1024 * q → FitsSigned w16 distance → IsSpan 65535 x → Has x o
+    → sectors ≤ most_sectors → q < sectors → start ≡ sector_start + 1024 * q → FitsSigned w16 distance → IsSpan 65535 x → Has x o
     → is_inside (if is_some a && is_some b then place.Sector else place.Outside) ≡ true
     → Lands sectors frame (if is_some a && is_some b then place.Sector else place.Outside) n ((start + o + cast_unsigned w64 distance) % 2 ^ 64)
 in_region sectors frame start x distance n q o None b ea eb few lt from fits span has inside = absurd (let bad : false ≡ true = inside in cc)

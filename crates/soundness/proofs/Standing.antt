@@ -3,6 +3,7 @@ use Rattle.std.proofs.Common.{◌≡◌, ◌<◌, ◌≤◌, ℕ, zero, suc, ◌
 use Rattle.std.specs.Prelude.{set, unwrap_or}
 use Rattle.std.specs.List.{list_all}
 use Rattle.std.proofs.lemmas.List.{length-set}
+use Rattle.limits.specs.Sizes.{most_sectors}
 use Rattle.base.specs.Check.{Check, first_failing}
 use Rattle.base.specs.declared.causes.MachineFault.{MachineFault}
 use Rattle.machine.specs.State.{Caller, Frame, State}
@@ -53,7 +54,7 @@ last_is (g ∷ h ∷ rest) f = last_is (h ∷ rest) f
 
 -- a device within its bounds, and a number of a frame
 pub record AreFew (sectors frame : ℕ) : Type 0 where
-  pub device : sectors ≤ 16384
+  pub device : sectors ≤ most_sectors
   pub frames : frame ≤ 3
 
 -- its registers and its stack are covered

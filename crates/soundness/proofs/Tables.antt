@@ -2,6 +2,7 @@
 use Rattle.std.proofs.Common.{◌≡◌, ◌<◌, ◌≤◌, ℕ, zero, suc, ◌+◌, ◌^◌, Bool, true, false, if◌then◌else◌, ℤ, List, [], ◌∷◌, ◌++◌, length, map, get_or, Option, None, Some, is_some, refl, sym, ap, ◌∙◌, inl, inr, ◌⊎◌, subst, arith}
 use Rattle.std.specs.Option.{option_map_or}
 use Rattle.std.proofs.Math.ListN.{length-replicate}
+use Rattle.limits.specs.Sizes.{most_sectors}
 use Rattle.base.specs.Check.{first_failing}
 use Rattle.base.specs.declared.causes.MachineFault.TheVariants as fault
 use Rattle.bpf_isa.specs.declared.instr.Instr.{Instr}
@@ -228,7 +229,7 @@ arrivals_fit hs (p ∷ xs) a = (by (get_or hs p.0 false), arrivals_fit hs xs a.1
     by true = round_state_fits p.1 a.0
     by false = a.0
 
-sent_fit : (program : List (Option Instr)) (sectors : ℕ) (table : List (Option Abstract)) (slot : ℕ) → IsProgram program → sectors ≤ 16384 → AreStates table
+sent_fit : (program : List (Option Instr)) (sectors : ℕ) (table : List (Option Abstract)) (slot : ℕ) → IsProgram program → sectors ≤ most_sectors → AreStates table
     → Each (λ (p : ℕ × Abstract). IsState p.1) (sent_from program sectors table slot)
 unfolding sent_from
 sent_fit program sectors table slot made few states = by (at program slot) (state_at table slot) refl (states slot)

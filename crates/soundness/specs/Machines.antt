@@ -1,5 +1,6 @@
 -- The machines of which the laws speak, and the device and the context in which they run.
 use Rattle.std.specs.Prelude.{◌≡◌, ◌<◌, ◌≤◌, ℕ, ◌^◌, true, List, [], ◌∷◌, length, slice_index_or, slice_index, slice_get, Option, None, Some}
+use Rattle.limits.specs.Sizes.{most_sectors}
 use Rattle.bpf_isa.specs.declared.instr.Instr.{Instr}
 use Rattle.bpf_isa.specs.Program.{IsProgram}
 use Rattle.bpf_shape.specs.Again.{calls_again, limit_before}
@@ -18,7 +19,7 @@ pub record IsSetting (program : List (Option Instr)) (sectors : ℕ) (device : L
   pub made : IsProgram program
   pub shaped : IsShaped program
   pub count : length device ≡ sectors
-  pub few : sectors ≤ 16384
+  pub few : sectors ≤ most_sectors
   pub whole : (n : ℕ) (sector : List ℕ) → slice_get device n ≡ Some sector → IsSector sector
   pub told : context.sectors ≡ sectors
   pub epoch : context.epoch ≤ 65536

@@ -4,15 +4,16 @@ use Rattle.std.specs.Prelude.{slice_index_or}
 use Rattle.std.specs.List.{flat_map, range_with_len}
 use Rattle.std.proofs.lemmas.Grind.{flat_map-append}
 use Rattle.base.proofs.Lists.{range_with_len-more}
+use Rattle.limits.specs.declared.Limits.{Limits}
 use Rattle.trial.specs.Trace.{change_text}
 
 -- one more register
-pub one_more : (before now : List (Option ℕ)) (first out more : List ℕ) (n : ℕ)
-    → out ≡ first ++ flat_map (λ r. change_text r (slice_index_or before r None) (slice_index_or now r None)) (range_with_len 0 n)
-    → more ≡ out ++ change_text n (slice_index_or before n None) (slice_index_or now n None)
-    → more ≡ first ++ flat_map (λ r. change_text r (slice_index_or before r None) (slice_index_or now r None)) (range_with_len 0 (n + 1))
-one_more before now first out more n so_far came =
-    let f : ℕ → List ℕ = λ r. change_text r (slice_index_or before r None) (slice_index_or now r None) in
+pub one_more : (limits : Limits) (before now : List (Option ℕ)) (first out more : List ℕ) (n : ℕ)
+    → out ≡ first ++ flat_map (λ r. change_text limits r (slice_index_or before r None) (slice_index_or now r None)) (range_with_len 0 n)
+    → more ≡ out ++ change_text limits n (slice_index_or before n None) (slice_index_or now n None)
+    → more ≡ first ++ flat_map (λ r. change_text limits r (slice_index_or before r None) (slice_index_or now r None)) (range_with_len 0 (n + 1))
+one_more limits before now first out more n so_far came =
+    let f : ℕ → List ℕ = λ r. change_text limits r (slice_index_or before r None) (slice_index_or now r None) in
     let here : 0 + n ≡ n = omega arith in
     let next : range_with_len 0 (n + 1) ≡ range_with_len 0 n ++ n ∷ [] = range_with_len-more 0 n ∙ ap (λ (m : ℕ). range_with_len 0 n ++ m ∷ []) here in
     let last : flat_map f (n ∷ []) ≡ f n = append-nil (f n) in

@@ -1,12 +1,10 @@
 -- The sectors of an image.
-use Rattle.std.proofs.Common.{ℕ, ◌≡◌, ◌==◌, ◌+◌, ◌%◌, ◌<◌, ◌≤◌, ◌&&◌, nat_le, true, List, [], length, map, Some, slice_get, ap, ◌∙◌, arith}
-use Rattle.std.proofs.lemmas.Bool.{and_parts}
-use Rattle.std.proofs.lemmas.Bool.Decides.{nat_tests}
+use Rattle.std.proofs.Common.{ℕ, ◌≡◌, ◌+◌, ◌<◌, List, [], map, Some, slice_get, ap, ◌∙◌, arith}
 use Rattle.std.proofs.lemmas.List.FromFn.{length-map-range_with_len, get_or-map-range_with_len}
 use Rattle.std.proofs.lemmas.Option.{slice_get-get_or}
 use Rattle.std.specs.List.{range_with_len}
 use Rattle.logfmt.specs.Initial.{initial_sector}
-use Rattle.trial.specs.Image.{is_image, device_of}
+use Rattle.trial.specs.Image.{device_of}
 
 -- a sector of the device
 pub sector_there : (bytes : List ℕ) (sectors n : ℕ) → n < sectors → slice_get (device_of bytes sectors) n ≡ Some (initial_sector bytes n)

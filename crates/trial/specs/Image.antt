@@ -1,17 +1,19 @@
 -- The device that the bytes of an image are (docs/REPORT.md, The text of `check`).
-use Rattle.std.specs.Prelude.{ℕ, zero, suc, ◌≡◌, ◌/◌, ◌%◌, ◌==◌, ◌&&◌, nat_le, Bool, List, [], ◌∷◌, length, map, slice_get, None, Some}
+use Rattle.std.specs.Prelude.{ℕ, zero, suc, ◌≡◌, ◌*◌, ◌/◌, ◌%◌, ◌==◌, ◌&&◌, nat_le, Bool, List, [], ◌∷◌, length, map, slice_get, None, Some}
 use Rattle.std.specs.List.{range_with_len}
 use Rattle.std.proofs.Common.{sym, ◌∙◌, ap}
 use Rattle.std.proofs.lemmas.List.FromFn.{length-map-range_with_len}
 use Rattle.std.proofs.lemmas.Option.{same_Some}
+use Rattle.limits.specs.Sizes.{sector_limit}
+use Rattle.limits.specs.declared.Limits.{Limits}
 use Rattle.logfmt.specs.Initial.{initial_byte, initial_sector}
 
 abbrev pub sectors_of : List ℕ → ℕ
 sectors_of bytes = length bytes / 512
 
--- whole sectors, 1 to 16,384 of them
-abbrev pub is_image : List ℕ → Bool
-is_image bytes = (length bytes % 512 == 0) && nat_le 512 (length bytes) && nat_le (length bytes) 8388608
+-- whole sectors, 1 of them to as many as a device within these limits has
+abbrev pub is_image : Limits → List ℕ → Bool
+is_image limits bytes = (length bytes % 512 == 0) && nat_le 512 (length bytes) && nat_le (length bytes) (512 * sector_limit limits)
 
 -- the sectors of the image: byte i of sector n is byte 512 n + i
 unfoldable pub device_of : List ℕ → ℕ → List (List ℕ)

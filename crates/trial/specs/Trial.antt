@@ -59,7 +59,7 @@ head_text context checked slots limit = codes "crash check 1\n" ++ context_text 
 
 -- the lines of the last steps of a run that makes so many
 abbrev pub last_steps : List (Option Instr) → List ℕ → Trial → ℕ → List ℕ
-last_steps slots image t steps = trace_text slots (context_bytes (context_of image t)) (disk_of image) steps 1 (steps - t.trace) start
+last_steps slots image t steps = trace_text t.limits slots (context_bytes (context_of image t)) (disk_of image) steps 1 (steps - t.trace) start
 
 -- the lines behind them: how many steps were made, and what the program ended in
 unfoldable pub end_text : ℕ → Ending → List ℕ
@@ -74,7 +74,7 @@ trial_text slots image t limit =
 
 -- what the bytes of a program and of an image come to: the text, and whether the program rejects the image
 pub record IsTried (program image : List ℕ) (t : Trial) (text : List ℕ) (failing : Bool) : Type 0 where
-  pub whole : is_image image ≡ true
+  pub whole : is_image t.limits image ≡ true
   pub slots : List (Option Instr)
   pub spelled : IsSpelledBy program slots
   pub limit : ℕ
@@ -91,7 +91,7 @@ pub data RefusesLimit (slots : List (Option Instr)) (image : List ℕ) (t : Tria
 -- refused for the size of the image, the second file, then for the first fault of the program's bytes, then for what the verifier says of it; or
 -- for want of memory
 pub data RefusesTrial (program image : List ℕ) (t : Trial) : Refusal → Type 0 where
-  for_size : is_image image ≡ false → RefusesTrial program image t (file_refusal 1)
+  for_size : is_image t.limits image ≡ false → RefusesTrial program image t (file_refusal 1)
   with_code_fault : (cause : CodeCause) (slot : ℕ) → FirstFault program cause slot → RefusesTrial program image t (bytes_refusal cause slot)
   no_code_memory : RefusesTrial program image t (bytes_refusal code.Memory 0)
   for_limit : (slots : List (Option Instr)) (r : Refusal) → IsSpelledBy program slots → RefusesLimit slots image t r → RefusesTrial program image t r

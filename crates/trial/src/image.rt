@@ -1,29 +1,32 @@
 //! An image that a file holds, as a device.
 
-ghost use Rattle.std.specs.Prelude.{◌≡◌, ◌≤◌, true, IfOk};
+ghost use Rattle.std.specs.Prelude.{◌≡◌, ◌≤◌, ◌*◌, length, IfOk, IsTrue};
+ghost use Rattle.limits.specs.Sizes.{most_sectors};
 ghost use Rattle.trial.specs.Image.{is_image, sectors_of};
 
 use helpers::Device;
+use limits::Limits;
 use logfmt::InitialContent;
 use std::alloc::{AllocError, Global};
 use std::marker::Model;
 
-/// The most bytes of an image: those of 16,384 sectors.
-const MOST_BYTES: usize = 8_388_608;
-
-/// Whether bytes are an image: whole sectors, no fewer than 1 and no more than 16,384.
-pub(crate) fn is_image(bytes: &[u8]) -> bool
-    ensures { result ≡ is_image bytes.now }
+/// Whether bytes are an image: whole sectors, no fewer than 1 and no more than the limits allow.
+pub(crate) fn is_image(bytes: &[u8], limits: Limits) -> bool
+    ensures value { result ≡ is_image limits bytes.now }
+    ensures some { IsTrue result → 512 ≤ length bytes.now }
+    ensures few { IsTrue result → length bytes.now ≤ 512 * most_sectors }
 {
-    bytes.len() % 512 == 0 && 512 <= bytes.len() && bytes.len() <= MOST_BYTES
+    let most = 512 * limits.sectors() as usize;
+    bytes.len() % 512 == 0 && 512 <= bytes.len() && bytes.len() <= most
 }
 
 /// How many sectors an image has.
 pub(crate) fn sectors_of(bytes: &[u8]) -> u32
-    requires { is_image bytes.now ≡ true }
+    requires some { 512 ≤ length bytes.now }
+    requires few { length bytes.now ≤ 512 * most_sectors }
     ensures value { result ≡ sectors_of bytes.now }
     ensures some { 1 ≤ result }
-    ensures device { result ≤ 16384 }
+    ensures device { result ≤ most_sectors }
 {
     (bytes.len() / 512) as u32
 }

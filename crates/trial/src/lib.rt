@@ -23,10 +23,11 @@
 //!
 //! ```
 //! use facts::Facts;
+//! use limits::Limits;
 //! use request::Trial;
 //! use trial::try_image;
 //!
-//! let asked = Trial { epoch: 0, marks: 0, checked: None, trace: 10 };
+//! let asked = Trial { limits: Limits::Usual, epoch: 0, marks: 0, checked: None, trace: 10 };
 //! let report = try_image(alloc, &program, &[0; 2048], &asked, &mut Facts::new())?;   // mov64 r0, 0; exit
 //! // crash check 1
 //! // sectors 4 epoch 0 marks 0

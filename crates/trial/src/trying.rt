@@ -1,10 +1,11 @@
 //! A run of a program on an image, and what is said of it.
 
-ghost use Rattle.std.specs.Prelude.{◌≡◌, ◌≤◌, ◌++◌, true, length, IfOk, IfErr, OnOk, None, string_bytes};
+ghost use Rattle.std.specs.Prelude.{◌≡◌, ◌≤◌, ◌*◌, ◌++◌, length, IfOk, IfErr, OnOk, None, string_bytes};
 ghost use Rattle.base.specs.declared.refusal.Cause.TheVariants.{Verifier};
+ghost use Rattle.limits.specs.Sizes.{most_sectors};
 ghost use Rattle.interp.specs.Ending.{ending_of};
 ghost use Rattle.lines.specs.Line.{fails};
-ghost use Rattle.trial.specs.Image.{sectors_of, is_image};
+ghost use Rattle.trial.specs.Image.{sectors_of};
 ghost use Rattle.trial.specs.Trial.{context_of, ending_of_trial, Allows, bound_text, context_text, head_text, program_text, end_text, trial_text, IsTried, RefusesLimit, RefusesTrial};
 
 use crate::course::course_of;
@@ -48,7 +49,8 @@ fn limit_of(
     asked: &Trial,
     facts: &mut Facts,
 ) -> Result<u64, Refusal>
-    requires { is_image image.now ≡ true }
+    requires some { 512 ≤ length image.now }
+    requires few { length image.now ≤ 512 * most_sectors }
     ensures allowed { IfOk result (Allows program.now image.now asked.now) }
     ensures refused { IfErr result (RefusesLimit program.now image.now asked.now) }
 {
@@ -69,7 +71,8 @@ fn limit_of(
 
 /// What a program is told of an image.
 fn context_of(image: &[u8], asked: &Trial) -> Context
-    requires { is_image image.now ≡ true }
+    requires some { 512 ≤ length image.now }
+    requires few { length image.now ≤ 512 * most_sectors }
     ensures { result ≡ context_of image.now asked.now }
 {
     Context {
@@ -159,7 +162,8 @@ fn report_of(
     asked: &Trial,
     limit: u64,
 ) -> Result<TrialReport, AllocError>
-    requires { is_image image.now ≡ true }
+    requires some { 512 ≤ length image.now }
+    requires few { length image.now ≤ 512 * most_sectors }
     ensures text { IfOk result (λ report. report.bytes.items ≡ trial_text program.now image.now asked.now limit) }
     ensures failing { IfOk result (λ report. report.failing ≡ fails (ending_of_trial program.now image.now asked.now limit)) }
 {
@@ -168,14 +172,7 @@ fn report_of(
     let course = course_of(program, &context, &device, limit);
     let mut out = String::new(alloc);
     put_head(&mut out, &context, asked.checked, program.slots(), limit)?;
-    put_last(
-        &mut out,
-        program,
-        &context,
-        &device,
-        course.steps,
-        asked.trace,
-    )?;
+    put_last(&mut out, program, &context, &device, asked, course.steps)?;
     put_end(&mut out, course.steps, &course.outcome)?;
     Ok(TrialReport {
         bytes: out.into_bytes(),
@@ -201,7 +198,7 @@ pub fn try_image(
     ensures refused { IfErr result (RefusesTrial code.now image.now asked.now) }
 {
     *facts = Facts::new();
-    if !is_image(image) {
+    if !is_image(image, asked.limits) {
         return Err(unreadable(1));
     }
     let program = match decode(alloc, code) {

@@ -1,5 +1,6 @@
 -- What is accepted, and what is refused.
 use Rattle.std.proofs.Common.{◌≡◌, ◌≤◌, ◌<◌, ◌^◌, ℕ, List, Option, Some, None, subst}
+use Rattle.limits.specs.Sizes.{most_sectors}
 use Rattle.bpf_isa.specs.declared.instr.Instr.{Instr}
 use Rattle.bpf_isa.specs.Program.{IsProgram}
 use Rattle.bpf_shape.specs.Shape.{ShapeValue, IsShapeOf}
@@ -14,7 +15,7 @@ use Rattle.bpf_shape.specs.declared.fault.Fault.{Fault}
 use Rattle.verifier.proofs.Ascending.{met_has_no_good}
 use Rattle.verifier.proofs.Below.{settled_is_least, broken_has_no_good, rule_is_breach}
 
-pub accepted : (program : List (Option Instr)) (sectors budget : ℕ) (table : List (Option Abstract)) (shape : ShapeValue) → 1 ≤ sectors → sectors ≤ 16384 → sectors < 2 ^ 64
+pub accepted : (program : List (Option Instr)) (sectors budget : ℕ) (table : List (Option Abstract)) (shape : ShapeValue) → 1 ≤ sectors → sectors ≤ most_sectors → sectors < 2 ^ 64
     → IsProgram program → IsShapeOf program shape → budget ≡ shape.budget → IsSettled program sectors table → KeepsRules program table
     → IsVerified (record { program = program; sectors = sectors; budget = budget; table = table })
 accepted program sectors budget table shape some device few p h e settled kept =

@@ -1,19 +1,22 @@
 -- What little changes goes along an edge, part by part.
 use Rattle.std.proofs.Common.{◌≡◌, ◌<◌, ◌^◌, ℕ, zero, suc, Bool, false, List, [], ◌∷◌, map, length, get_or, Option, None, Some, refl, sym, ◌∙◌, ap}
-use Rattle.std.specs.Prelude.{set, slice_index_or}
+use Rattle.std.specs.Prelude.{set, slice_index_or, slice_set}
 use Rattle.std.specs.Option.{option_map, option_to_list}
 use Rattle.std.proofs.lemmas.List.{length-map, length-set, get_or-set_other}
 use Rattle.ranges.specs.declared.state.State.{State}
 use Rattle.ranges.specs.declared.change.Effect.{Effect}
 use Rattle.ranges.specs.declared.change.Effect.TheVariants.{Changed, Nothing}
-use Rattle.ranges.specs.Kinds.{Kind, Unset, join, round}
-use Rattle.ranges.specs.Groups.{GroupKind, Marked, join_group, round_group}
+use Rattle.intervals.specs.Reducing.{Limits, limits_hull}
+use Rattle.ranges.specs.Kinds.{Kind, Unset, Num, join, round}
+use Rattle.ranges.specs.Groups.{GroupKind, Marked, Spilled, join_group, round_group}
 use Rattle.ranges.specs.States.{Abstract, round_state}
 use Rattle.ranges.specs.Order.{IsState}
 use Rattle.ranges.specs.Reading.{value, with_value, with_groups}
+use Rattle.ranges.specs.After.{group_after, is_touched, written}
 use Rattle.ranges.specs.Changing.{changed, Leaves}
 use Rattle.ranges.specs.SeenStates.{state_of}
 use Rattle.ranges.proofs.Arrays.{mapped_set}
+use Rattle.ranges.proofs.Writing.{group_written}
 use Rattle.verifier.specs.declared.way.Way.{Way}
 use Rattle.bpf_isa.specs.declared.instr.Instr.{Instr}
 use Rattle.bpf_isa.specs.Program.{IsProgram}
@@ -44,6 +47,20 @@ pub round_group_at : (s : Abstract) (n : ℕ) → round_group (slice_index_or s.
 unfolding round_state round_group
 round_group_at s n = map_at round_group s.groups n (Marked []) refl
 
+-- a change leaves a group as it was
+
+pub group_left : (s : Abstract) (m n : ℕ) (g : GroupKind) → (n ≡ m → ⊥)
+    → slice_index_or s.groups n (Marked []) ≡ slice_index_or (with_groups s (slice_set s.groups m g)).groups n (Marked [])
+group_left s m n g other = sym (get_or-set_other s.groups m n g (Marked []) other)
+
+apart : (at k n : ℕ) (g : GroupKind) → is_touched at k n ≡ false → g ≡ group_after at k n g
+unfolding group_after
+apart at k n g e = rw e refl
+
+pub bytes_left : (s : Abstract) (at k n : ℕ) → is_touched at k n ≡ false → n < length s.groups
+    → slice_index_or s.groups n (Marked []) ≡ slice_index_or (written at k s.groups) n (Marked [])
+bytes_left s at k n e inside = apart at k n (slice_index_or s.groups n (Marked [])) e ∙ group_written at k s.groups n inside
+
 -- one part is told
 
 pub tells_no_value : (s : Abstract) (n : ℕ) (k : Kind) → TellsValue s n k s
@@ -58,6 +75,12 @@ tells_no_group s n k = record { tells = λ x _ _. learns_self s x }
 pub tells_group : (s : Abstract) (n : ℕ) (k l : GroupKind) → IsState s → n < 64 → l ≡ join_group (slice_index_or s.groups n (Marked [])) k
     → TellsGroup s n k (with_groups s (set s.groups n l))
 tells_group s n k l a inside e = record { tells = λ x b is. learned_group s x n l a b inside (rw is at e) }
+
+-- a number that is joined where it lies is the group of which a join tells
+pub tells_number : (s : Abstract) (n : ℕ) (l : GroupKind) (x y z : Limits) → IsState s → n < 64 → slice_index_or s.groups n (Marked []) ≡ Spilled (Num x)
+    → z ≡ limits_hull x y → l ≡ Spilled (Num z) → TellsGroup s n (Spilled (Num y)) (with_groups s (set s.groups n l))
+unfolding join_group join
+tells_number s n l x y z a inside known hull made = tells_group s n (Spilled (Num y)) l a inside (rw (known, made, hull) refl)
 
 -- at a slot
 

@@ -1,5 +1,6 @@
 -- Which programs are accepted, and how the others are refused (docs/VERIFIER.md).
 use Rattle.std.specs.Prelude.{◌≡◌, ◌≤◌, ℕ, List, Option, Some}
+use Rattle.limits.specs.Sizes.{most_sectors}
 use Rattle.base.specs.declared.causes.VerifierCause.{VerifierCause}
 use Rattle.bpf_isa.specs.declared.instr.Instr.{Instr}
 use Rattle.bpf_isa.specs.Program.{IsProgram}
@@ -23,7 +24,7 @@ pub record VerifiedValue : Type 0 where
 -- it has right shape, this is its budget, and this its least good table
 pub record IsVerified (v : VerifiedValue) : Type 0 where
   pub some : 1 ≤ v.sectors
-  pub device : v.sectors ≤ 16384
+  pub device : v.sectors ≤ most_sectors
   pub program : IsProgram v.program
   pub shape : IsShaped v.program
   pub budget : IsBudget v.program v.budget

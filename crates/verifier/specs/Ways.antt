@@ -6,6 +6,7 @@ use Rattle.ranges.specs.States.{Abstract, round_state}
 use Rattle.ranges.specs.Order.{IsState}
 use Rattle.ranges.specs.Reading.{value}
 use Rattle.ranges.specs.Changing.{changed, Leaves}
+use Rattle.ranges.specs.declared.change.Change.{Change}
 use Rattle.ranges.specs.declared.change.Effect.{Effect}
 use Rattle.ranges.specs.declared.change.Effect.TheVariants.{Changed, Nothing}
 use Rattle.verifier.specs.declared.way.Way.{Way}
@@ -16,6 +17,10 @@ use Rattle.verifier.specs.Passing.{LearnsFrom, LearnsAt}
 -- a state as it arrives by a way: changed, and rounded where it arrives at a head
 abbrev pub passed_along : Way → Abstract → Abstract
 passed_along way s = if way.is_head then round_state (changed s way.change) else changed s way.change
+
+-- a change leaves a group of the stack as it was
+abbrev pub LeavesGroup : Change → ℕ → Type 0
+LeavesGroup change n = (s : Abstract) → n < length s.groups → slice_index_or s.groups n (Marked []) ≡ slice_index_or (changed s change).groups n (Marked [])
 
 -- a way leads to another slot of the table
 pub record Goes (way : Way) (n : ℕ) : Type 0 where

@@ -1,7 +1,9 @@
 //! What a state that arrives tells one that is known, part by part.
 
-ghost use Rattle.std.specs.Prelude.{◌≡◌, ◌<◌, slice_index_or, slice_set, []};
-ghost use Rattle.ranges.specs.Groups.{Marked};
+ghost use Rattle.std.specs.Prelude.{◌≡◌, ◌<◌, IfSome, slice_index_or, slice_set, []};
+ghost use Rattle.intervals.specs.SeenBounds.{limits_of};
+ghost use Rattle.ranges.specs.Groups.{Marked, Spilled as Kept};
+ghost use Rattle.ranges.specs.Kinds.{Num as Number};
 ghost use Rattle.ranges.specs.Reading.{value, with_value, with_groups};
 ghost use Rattle.ranges.specs.Seen.{kind_of};
 ghost use Rattle.ranges.specs.SeenStates.{group_of, state_of};
@@ -9,7 +11,8 @@ ghost use Rattle.verifier.specs.Passing.{LearnsFrom};
 ghost use Rattle.verifier.specs.Ways.{TellsGroup, TellsValue};
 
 use crate::parts::Parts;
-use ranges::{Group, State, Value};
+use intervals::Bounds;
+use ranges::{Group, Spill, State, Value};
 
 /// What register n holds.
 #[inline(always)]
@@ -27,6 +30,31 @@ fn group_at(state: &State, n: usize) -> Group
     ensures { group_of result ≡ slice_index_or (state_of state.now).groups n (Marked []) }
 {
     state.groups[n]
+}
+
+/// The number that is kept in group n of the stack, if it is one.
+#[inline(always)]
+pub(crate) fn number_at(state: &State, n: usize) -> Option<Bounds>
+    requires { n < 64 }
+    ensures { IfSome result (λ number. slice_index_or (state_of state.now).groups n (Marked []) ≡ Kept (Number (limits_of number))) }
+{
+    match &state.groups[n] {
+        Group::Spilled(spill) => match &spill.value {
+            Value::Num(number) => Some(*number),
+            _ => None,
+        },
+        Group::Marked(_) => None,
+    }
+}
+
+/// The group in which a number is kept.
+#[inline(always)]
+fn group_with(number: Bounds) -> Group
+    ensures { group_of result ≡ Kept (Number (limits_of number)) }
+{
+    Group::Spilled(Spill {
+        value: Value::Num(number),
+    })
 }
 
 /// Puts another value into register n.
@@ -94,6 +122,24 @@ pub(crate) fn tell_group(known: &mut State, n: usize, new: Group) -> bool
     }
     let old = group_at(known, n);
     put_group(known, n, old.join(new));
+    true
+}
+
+/// Joins a number to what is kept in group n of a known state's stack. Whether that tells something. Where that is a number
+/// too its bounds are joined where they lie, and no group is copied.
+#[inline(always)]
+#[tactic(auto, using(crate::proofs::Ways::tells_no_group))]
+pub(crate) fn tell_number(known: &mut State, n: usize, new: Bounds) -> bool
+    requires { n < 64 }
+    ensures { TellsGroup (state_of known.old) n (Kept (Number (limits_of new))) (state_of known.new) }
+{
+    let Some(old) = number_at(known, n) else {
+        return tell_group(known, n, group_with(new));
+    };
+    if old.contains(new) {
+        return false;
+    }
+    put_group(known, n, group_with(old.join(new)));
     true
 }
 

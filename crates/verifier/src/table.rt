@@ -2,7 +2,10 @@
 
 ghost use Rattle.std.specs.Prelude.{◌≡◌, ◌<◌, ◌↔◌, IsTrue, IfOk, length, map, set, None, Some, [], ◌∷◌};
 ghost use Rattle.std.specs.Option.{option_map};
+ghost use Rattle.intervals.specs.SeenBounds.{limits_of};
 ghost use Rattle.ranges.specs.States.{start};
+ghost use Rattle.ranges.specs.Groups.{Spilled as Kept};
+ghost use Rattle.ranges.specs.Kinds.{Num as Number};
 ghost use Rattle.ranges.specs.Seen.{kind_of};
 ghost use Rattle.ranges.specs.SeenStates.{group_of, state_of};
 ghost use Rattle.verifier.specs.Tables.{state_at, Covers, AreStates};
@@ -12,9 +15,10 @@ ghost use Rattle.verifier.specs.Rounds.{joined, receive, first_table};
 ghost use Rattle.verifier.specs.Sought.{TakesIn};
 ghost use Rattle.verifier.specs.Ways.{Goes, LearnsAlong, TellsGroupAt, TellsValueAt};
 
-use crate::learning::{learn, tell_group, tell_value};
+use crate::learning::{learn, tell_group, tell_number, tell_value};
 use crate::parts::Parts;
 use crate::way::Way;
+use intervals::Bounds;
 use ranges::{Group, State, Value};
 use std::alloc::{AllocError, Global};
 use std::marker::Model;
@@ -144,6 +148,24 @@ impl Table {
         requires group { n < 64 }
         ensures { LearnsAlong way.now self.old self.new }
     {
+        let Some(state) = self.state(way.from) else {
+            return false;
+        };
+        match way.number_at(state, n) {
+            Some(number) => tell_number_at(&mut self.states[way.to], n, number),
+            None => self.learn_other_group(way, n),
+        }
+    }
+
+    /// The same of a group that is no number, or may change on the way.
+    // Few groups are such in a long search, and the loop over the others is quicker without their copies.
+    #[inline(never)]
+    #[tactic(auto, using(crate::proofs::Ways::along_self, crate::proofs::Tables::all_states))]
+    fn learn_other_group(&mut self, way: &Way, n: usize) -> bool
+        requires way { Goes way.now (length self.old) }
+        requires group { n < 64 }
+        ensures { LearnsAlong way.now self.old self.new }
+    {
         let group = match self.state(way.from) {
             Some(state) => way.group_at(state, n),
             None => return false,
@@ -188,6 +210,19 @@ fn tell_group_at(known: &mut Option<State>, n: usize, group: Group) -> bool
 {
     match known {
         Some(known) => tell_group(known, n, group),
+        None => false,
+    }
+}
+
+/// A number is joined to what is kept in group n of what is known at a slot. Whether that tells something.
+#[inline(always)]
+#[tactic(auto, using(crate::proofs::Ways::tells_some_group, crate::proofs::Ways::tells_none_group))]
+fn tell_number_at(known: &mut Option<State>, n: usize, number: Bounds) -> bool
+    requires { n < 64 }
+    ensures { TellsGroupAt (option_map state_of known.old) n (Kept (Number (limits_of number))) (option_map state_of known.new) }
+{
+    match known {
+        Some(known) => tell_number(known, n, number),
         None => false,
     }
 }

@@ -2,6 +2,7 @@
 
 ghost use Rattle.std.specs.Prelude.{◌≡◌, ◌≤◌, ◌⊎◌, IfOk, IfErr, OnOk, None};
 ghost use Rattle.std.specs.Option.{option_map};
+ghost use Rattle.limits.specs.Sizes.{most_sectors};
 ghost use Rattle.bpf_isa.specs.Program.{IsProgram};
 ghost use Rattle.bpf_shape.specs.Fault.{memory_fault};
 ghost use Rattle.ranges.specs.SeenStates.{state_of};
@@ -134,7 +135,7 @@ pub fn verify_known<'x>(
     sectors: u32,
 ) -> Result<Verified<'x>, Unaccepted>
     requires some { 1 ≤ sectors }
-    requires device { sectors ≤ 16384 }
+    requires device { sectors ≤ most_sectors }
     ensures program { IfOk result (λ v. v.program ≡ program.now) }
     ensures sectors { IfOk result (λ v. v.sectors ≡ sectors) }
     ensures verified { IfOk result IsVerified }
@@ -167,7 +168,7 @@ pub fn verify_known<'x>(
 /// slots, the first breach that the search met. `Memory` is want of memory.
 pub fn verify<'x>(alloc: Global, program: &'x Program, sectors: u32) -> Result<Verified<'x>, Fault>
     requires some { 1 ≤ sectors }
-    requires device { sectors ≤ 16384 }
+    requires device { sectors ≤ most_sectors }
     ensures program { IfOk result (λ v. v.program ≡ program.now) }
     ensures sectors { IfOk result (λ v. v.sectors ≡ sectors) }
     ensures verified { IfOk result IsVerified }

@@ -1,12 +1,15 @@
 //! What little changes goes along an edge without a copy: part by part, from what is known at one slot to what is known
 //! at another.
 
-ghost use Rattle.std.specs.Prelude.{length};
-ghost use Rattle.verifier.specs.Ways.{Goes, LearnsAlong};
+ghost use Rattle.std.specs.Prelude.{◌≡◌, ◌<◌, IsTrue, length};
+ghost use Rattle.ranges.specs.After.{is_touched};
+ghost use Rattle.verifier.specs.Ways.{Goes, LearnsAlong, LeavesGroup};
 
+use crate::learning::number_at;
 use crate::parts::Parts;
 use crate::table::Table;
-use ranges::{Change, Group, State, Value};
+use intervals::Bounds;
+use ranges::{Change, Group, State, Stretch, Value};
 
 /// Between which slots something is passed, what changes, and whether it is rounded, since it arrives at a head.
 #[derive(Clone, Copy)]
@@ -17,9 +20,38 @@ pub(crate) struct Way {
     pub is_head: bool,
 }
 
+/// Whether one of these bytes of the stack is in group n.
+#[inline(always)]
+fn touches(bytes: Stretch, n: usize) -> bool
+    requires { n < 64 }
+    ensures { result ≡ is_touched bytes.at bytes.n n }
+{
+    let first = 8 * n as u64;
+    bytes.at < first + 8 && first < bytes.at + bytes.n
+}
+
+/// Whether a change is seen to leave group n of the stack as it was.
+#[inline(always)]
+#[tactic(auto, using(crate::proofs::Ways::group_left, crate::proofs::Ways::bytes_left))]
+fn leaves_group(change: &Change, n: usize) -> bool
+    requires { n < 64 }
+    ensures { IsTrue result → LeavesGroup change.now n }
+{
+    match change {
+        Change::Stays
+        | Change::Register(_, _)
+        | Change::Registers(_, _, _, _)
+        | Change::Answer(_) => true,
+        Change::Group(changed, _) => *changed != n,
+        Change::Written(bytes) | Change::Copied(bytes, _) => !touches(*bytes, n),
+    }
+}
+
 impl Way {
-    ghost use Rattle.std.specs.Prelude.{◌≡◌, ◌<◌, slice_index_or, []};
-    ghost use Rattle.ranges.specs.Groups.{Marked};
+    ghost use Rattle.std.specs.Prelude.{◌≡◌, ◌<◌, IfSome, slice_index_or, []};
+    ghost use Rattle.intervals.specs.SeenBounds.{limits_of};
+    ghost use Rattle.ranges.specs.Groups.{Marked, Spilled as Kept};
+    ghost use Rattle.ranges.specs.Kinds.{Num as Number};
     ghost use Rattle.ranges.specs.Reading.{value};
     ghost use Rattle.ranges.specs.Seen.{kind_of};
     ghost use Rattle.ranges.specs.SeenStates.{group_of, state_of};
@@ -45,6 +77,22 @@ impl Way {
     {
         let group = self.change.group_at(state, n);
         if self.is_head { group.round() } else { group }
+    }
+
+    /// The number that is kept in group n of the stack as a state arrives, if it is one that arrives as it was.
+    #[inline(always)]
+    pub(crate) fn number_at(&self, state: &State, n: usize) -> Option<Bounds>
+        requires { n < 64 }
+        ensures { IfSome result (λ number. Kept (Number (limits_of number)) ≡ slice_index_or (passed_along self.now (state_of state.now)).groups n (Marked [])) }
+    {
+        if self.is_head {
+            return None;
+        }
+        if leaves_group(&self.change, n) {
+            number_at(state, n)
+        } else {
+            None
+        }
     }
 }
 

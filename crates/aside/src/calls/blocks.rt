@@ -13,6 +13,7 @@ use checker::Checker;
 use choices::count;
 use epochs::By;
 use images::History;
+use limits::Limits;
 use lines::Lines;
 use logfmt::read;
 use std::alloc::Global;
@@ -78,7 +79,7 @@ fn blocks_are_right<'a, J: Run, R: Wait>(
 /// whole run.
 pub fn are_right<R: Threads + Wait + Sync>(rt: &R, alloc: Global) -> bool {
     let text = settled!(text_of(alloc, &[(0, 0, FLUSH, 0); 70]));
-    let log = settled!(read(alloc, text.as_slice(), 1));
+    let log = settled!(read(alloc, text.as_slice(), 1, Limits::Usual));
     let Ok(plan) = plan_of(alloc, &log) else {
         return false;
     };

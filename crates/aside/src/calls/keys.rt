@@ -9,6 +9,7 @@ use crate::calls::texts::{Item, text_of};
 use choices::{Starts, count};
 use epochs::Plan;
 use images::{Changes, History, View};
+use limits::Limits;
 use logfmt::read;
 use std::alloc::Global;
 
@@ -70,7 +71,7 @@ fn keys_are_right(
 /// Whether the keys of all images are right.
 pub fn are_right(alloc: Global) -> bool {
     let text = settled!(text_of(alloc, &TWO_WRITES));
-    let log = settled!(read(alloc, text.as_slice(), 4));
+    let log = settled!(read(alloc, text.as_slice(), 4, Limits::Usual));
     let Ok(plan) = plan_of(alloc, &log) else {
         return false;
     };

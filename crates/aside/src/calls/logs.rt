@@ -2,6 +2,7 @@
 
 use crate::calls::refused::OfMemory;
 use crate::calls::texts::{FLUSH, Item, text_of};
+use limits::Limits;
 use logfmt::{Log, read, write};
 use notes::{log_table, put_entry, put_escaped, put_least, put_note, put_refused};
 use std::alloc::{AllocError, Global};
@@ -14,7 +15,7 @@ const TABLE: &str =
 /// Whether a log is read, written and shown as it is.
 pub fn are_right(alloc: Global) -> bool {
     let text = settled!(text_of(alloc, &TWO_EPOCHS));
-    let log = settled!(read(alloc, text.as_slice(), 4));
+    let log = settled!(read(alloc, text.as_slice(), 4, Limits::Usual));
     let written = settled!(write(alloc, &log));
     let table = settled!(log_table(alloc, &log));
     written == text && table.as_str() == TABLE
@@ -37,7 +38,7 @@ const NOTED: &str =
 /// Whether the notes on a log are said.
 pub fn notes_are_right(alloc: Global) -> bool {
     let text = settled!(text_of(alloc, &TWO_EPOCHS));
-    let log = settled!(read(alloc, text.as_slice(), 4));
+    let log = settled!(read(alloc, text.as_slice(), 4, Limits::Usual));
     let notes = settled!(noted(alloc, &log));
     notes.as_str().starts_with(NOTED) && notes.as_str().ends_with("note: a note\na\\x{22}b")
 }

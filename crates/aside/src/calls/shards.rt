@@ -15,6 +15,7 @@ use choices::{count, nth};
 use epochs::Plan;
 use images::{History, Key, View};
 use interp::Outcome;
+use limits::Limits;
 use logfmt::read;
 use std::alloc::{AllocError, Global};
 use std::marker::Brand;
@@ -137,7 +138,7 @@ fn shards_are_right<'a, J: Run>(
 /// Whether the shards of a run are made, and one keeps what is put into it.
 pub fn are_right(alloc: Global) -> bool {
     let text = settled!(text_of(alloc, &ONE_WRITE));
-    let log = settled!(read(alloc, text.as_slice(), 1));
+    let log = settled!(read(alloc, text.as_slice(), 1, Limits::Usual));
     let Ok(plan) = plan_of(alloc, &log) else {
         return false;
     };

@@ -3,6 +3,7 @@
 use crate::logs::content::Contents;
 use crate::logs::entries::{Item, Which};
 use base::numbers::{put_u32, put_u64, put_zeros};
+use limits::Limits;
 use logfmt::{LogFault, read, write};
 use std::alloc::{AllocError, Global};
 
@@ -18,7 +19,7 @@ const MARK: u64 = 8;
 /// The canonical text of a log: what `logfmt` writes of the log that it reads from these entries.
 pub fn canonical(alloc: Global, which: Which) -> Result<Vec<u8>, LogFault> {
     let text = text_of(alloc, which.entries())?;
-    let log = read(alloc, text.as_slice(), which.sectors())?;
+    let log = read(alloc, text.as_slice(), which.sectors(), Limits::Usual)?;
     Ok(write(alloc, &log)?)
 }
 

@@ -1,5 +1,6 @@
 use Rattle.std.proofs.Common.{ℕ, ◌≡◌, ◌≤◌, ◌∙◌, arith, None, Some, false, replicate}
 use native.Mathlib.Bridge.{le_prop}
+use Rattle.limits.specs.declared.Limits.TheVariants as limit
 use Rattle.epochs.specs.declared.cuts.CutKind.TheVariants as kind
 use Rattle.epochs.specs.declared.part.By.TheVariants as by
 use Rattle.request.specs.declared.settings.Settings.{Settings}
@@ -10,6 +11,7 @@ use Rattle.commands.proofs.stored.stored_options.Goals as goal
 abbrev settings_by : 0 ≤ 64 → Settings
 settings_by few = record {
   sectors = 1;
+  limits = limit.Usual;
   cuts = record { kind = kind.All; from = None; to = None; flushes = record { entries = replicate {A = ℕ} 64 0; count = 0; few = few } };
   bound = 0;
   tears = false;

@@ -1,6 +1,7 @@
 use Rattle.std.proofs.Common.{◌≡◌, refl, sym, ◌∙◌, ap, arith, length, slice_get, rules}
 use Rattle.std.specs.Prelude.{sum_by}
 use Rattle.std.proofs.lemmas.Option.{slice_get_read}
+use Rattle.limits.specs.Sizes.{most_sectors}
 use Rattle.epochs.specs.Units.{units_before}
 use Rattle.choices.specs.declared.choice.Departure.{Departure}
 use Rattle.images.specs.Changes.{whole_image, image_of}
@@ -20,7 +21,7 @@ pub overflow_add-sectors_of : goal.overflow_add-sectors_of
 overflow_add-sectors_of c =
     let own = c.departures-departures.ensures in
     let few = own.few in
-    let most = few_sectors c.departures-departures.result.now 16384 (λ i d there.
+    let most = few_sectors c.departures-departures.result.now most_sectors (λ i d there.
     let on = (own.parts i d (ap (λ ds. slice_get ds i) (sym own.value) ∙ there)).device in
     let small = own.bounds.device in
     omega (arith, on, small)) in

@@ -8,7 +8,7 @@ returns-in-Some-clause-fault c = inr (in_super c.in-Some.code (sym c.in-Some.ens
 
 pub returns-in-Err-clause-fault : goal.returns-in-Err-clause-fault
 returns-in-Err-clause-fault c =
-    inr (fault_here _ _ _ _ _ _ c.in-Err.code (sym c.in_default.ensures.exact) (omega arith) c.loop-number.invariant c.in-Err.ensures.exact)
+    inr (fault_here _ _ c.args.limits _ _ _ _ c.in-Err.code (sym c.in_default.ensures.exact) (omega arith) c.loop-number.invariant c.in-Err.ensures.exact)
 
 pub loop-number-preserved : goal.loop-number-preserved
 loop-number-preserved c =
@@ -21,4 +21,4 @@ pub returns-clause-found : goal.returns-clause-found
 returns-clause-found c =
     let passed = c.in_default.ensures.passes in
     rw (c.of.ensures, c.none.ensures)
-    (whole_text _ _ _ _ _ _ passed c.requires.some c.requires.device (omega arith) c.loop-number.invariant)
+    (whole_text _ _ c.args.limits _ _ _ _ passed c.requires.some c.requires.device (omega arith) c.loop-number.invariant)

@@ -1,5 +1,7 @@
-use Rattle.std.proofs.Common.{rules, ℕ, ◌≡◌, ◌⊎◌, ◌∙◌, List, length, ap, subst, arith}
+use Rattle.std.proofs.Common.{rules, ℕ, ◌≡◌, ◌≤◌, ◌⊎◌, ◌∙◌, List, length, ap, subst, arith}
+use Rattle.limits.specs.Sizes.{byte_limit}
 use Rattle.base.specs.declared.causes.LogCause.TheVariants as cause
+use Rattle.limits.specs.declared.Limits.{Limits}
 use Rattle.logfmt.specs.Bounds.{AreBytes}
 use Rattle.logfmt.specs.Faults.{FirstFault}
 use Rattle.request.proofs.Logs.{recorded_over}
@@ -7,8 +9,10 @@ use Rattle.request.proofs.source.recorded.Goals as goal
 
 pub returns-in-Err-clause-fault : goal.returns-in-Err-clause-fault
 returns-in-Err-clause-fault c =
-    subst (λ (n : ℕ). (c.in-Err.fault ≡ record { code = cause.Memory; at = 0 }) ⊎ FirstFault c.args.bytes.now n c.in-Err.fault.code c.in-Err.fault.at)
-    c.sectors.ensures.value c.in-Err.ensures.fault
+    subst (λ (n : ℕ). (c.in-Err.fault ≡ record { code = cause.Memory; at = 0 }) ⊎ FirstFault c.args.bytes.now n c.args.options.now.limits c.in-Err.fault.code c.in-Err.fault.at)
+    c.sectors.ensures.value
+    (subst (λ (l : Limits). (c.in-Err.fault ≡ record { code = cause.Memory; at = 0 }) ⊎ FirstFault c.args.bytes.now c.sectors.result l c.in-Err.fault.code c.in-Err.fault.at)
+    c.limits.ensures c.in-Err.ensures.fault)
 
 pub over-requires : goal.over-requires
 over-requires c =
@@ -22,4 +26,5 @@ returns-in-Ok-of-clause-log c =
     let are : AreBytes c.args.initial.now = search rules in
     rw (c.over.ensures, c.in-Ok-of.ensures.value)
     (recorded_over (record { text = c.args.bytes.now; initial = c.args.initial.now }) c.args.options.now c.in-Ok.log c.in-Ok.ensures.found
-    (c.in-Ok.ensures.sectors ∙ c.sectors.ensures.value) c.requires are)
+    (c.in-Ok.ensures.sectors ∙ c.sectors.ensures.value)
+    (subst (λ (l : Limits). length c.args.bytes.now ≤ byte_limit l) c.limits.ensures c.in-Ok.ensures.size) c.requires are)

@@ -4,6 +4,7 @@ use Rattle.std.proofs.lemmas.Result.{err_from_is_err_and}
 use Rattle.request.specs.Source.{for_plan}
 use Rattle.runs.specs.Explore.{for_count, for_source, for_program, no_list_memory}
 use Rattle.runs.proofs.RefusalLemmas.{counted, uncounted, few_decoded, unaccepted_of, undecoded_of, checkers_decoded}
+use Rattle.runs.proofs.Finding.{breach_of}
 use Rattle.runs.proofs.Fitting.{made_fit}
 use Rattle.request.proofs.Logs.{device_of, has_images}
 use Rattle.request.proofs.Results.{both_ok, one_err}
@@ -36,9 +37,9 @@ returns-in_err-decoded-clause-refused g c =
     (has_images _ _ _ _ c.in_ok-log.ensures.log c.in_ok-plan.ensures.count c.in_ok-plan.ensures.few)
     no_list_memory)
 
-pub checkers_of-requires : goal.checkers_of-requires
-checkers_of-requires g c =
-    record { few = few_decoded _ _ c.as_slice.result.now _ (counted _ c.args.question.now.programs.now (c.is_program_count.ensures.0 c.if-not-is_program_count.false)).few c.as_slice.ensures.value c.in_ok-decoded.ensures.decoded }
+pub checkers_of-requires-clause-few : goal.checkers_of-requires-clause-few
+checkers_of-requires-clause-few g c =
+    few_decoded _ _ c.as_slice.result.now _ (counted _ c.args.question.now.programs.now (c.is_program_count.ensures.0 c.if-not-is_program_count.false)).few c.as_slice.ensures.value c.in_ok-decoded.ensures.decoded
 
 pub returns-in_err-checkers-clause-refused : goal.returns-in_err-checkers-clause-refused
 returns-in_err-checkers-clause-refused g c =
@@ -47,6 +48,12 @@ returns-in_err-checkers-clause-refused g c =
     (for_program _ c.in_ok-log.log (counted _ c.args.question.now.programs.now (c.is_program_count.ensures.0 c.if-not-is_program_count.false))
     (has_images _ _ _ _ c.in_ok-log.ensures.log c.in_ok-plan.ensures.count c.in_ok-plan.ensures.few)
     (unaccepted_of _ _ _ c.as_slice.result.now _ _ c.as_slice.ensures.value c.in_ok-decoded.ensures.decoded c.in_err-checkers.ensures.refused))
+
+pub returns-in_err-checkers-clause-breach : goal.returns-in_err-checkers-clause-breach
+returns-in_err-checkers-clause-breach g c =
+    let p = err_from_is_err_and c.from_residual-in_err-checkers.result c.from_residual-in_err-checkers.ensures.1 in
+    rw (p.1, p.2)
+    (breach_of _ _ _ c.as_slice.result.now _ _ _ c.as_slice.ensures.value c.in_ok-decoded.ensures.decoded c.in_err-checkers.ensures.breach)
 
 pub returns-in-Some-clause-refused : goal.returns-in-Some-clause-refused
 returns-in-Some-clause-refused g c =

@@ -4,5 +4,5 @@ use Rattle.trial.proofs.trace.put_changes.Goals as goal
 
 pub loop-number-preserved : goal.loop-number-preserved
 loop-number-preserved c =
-    one_more c.args.before.now c.args.now.now (string_bytes c.args.out.now) (string_bytes c.loop-number.out) (string_bytes c.put_change.new.out) c.loop-number.number c.loop-number.invariant
+    one_more c.args.limits c.args.before.now c.args.now.now (string_bytes c.args.out.now) (string_bytes c.loop-number.out) (string_bytes c.put_change.new.out) c.loop-number.number c.loop-number.invariant
     c.in_ok-put_change.ensures

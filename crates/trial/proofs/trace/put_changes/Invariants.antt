@@ -6,4 +6,4 @@ use Rattle.trial.proofs.trace.put_changes.Given as goal
 
 abbrev pub invariant-loop-number : goal.invariant-loop-number
 invariant-loop-number l =
-    string_bytes l.out ≡ string_bytes l.initial.out ++ flat_map (λ r. change_text r (slice_index_or l.before r None) (slice_index_or l.now r None)) (range_with_len 0 l.number)
+    string_bytes l.out ≡ string_bytes l.initial.out ++ flat_map (λ r. change_text l.limits r (slice_index_or l.before r None) (slice_index_or l.now r None)) (range_with_len 0 l.number)

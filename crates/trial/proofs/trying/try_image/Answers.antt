@@ -4,7 +4,7 @@ use Rattle.trial.proofs.Refused.{undecoded}
 use Rattle.trial.proofs.trying.try_image.Goals as goal
 
 pub returns-then-not-is_image-clause-refused : goal.returns-then-not-is_image-clause-refused
-returns-then-not-is_image-clause-refused c = rw c.unreadable.ensures (for_size (sym c.is_image.ensures ∙ c.if-not-is_image.true))
+returns-then-not-is_image-clause-refused c = rw c.unreadable.ensures (for_size (sym c.is_image.ensures.value ∙ c.if-not-is_image.true))
 
 pub returns-in-Err-clause-refused : goal.returns-in-Err-clause-refused
 returns-in-Err-clause-refused c = rw c.bytes_refusal_of.ensures (undecoded c.args.code.now c.args.image.now c.args.asked.now c.in-Err.fault c.in-Err.ensures.fault)

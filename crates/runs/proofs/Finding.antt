@@ -1,0 +1,86 @@
+-- What a run finds of its programs.
+use Rattle.std.proofs.Common.{ℕ, zero, suc, ◌≡◌, ◌+◌, ◌≤◌, ◌<◌, List, [], ◌∷◌, ◌++◌, length, take, add-one, Option, None, Some, IfSome, slice_get, refl, sym, ◌∙◌, ap, subst, arith, length-append}
+use Rattle.std.proofs.lemmas.List.{take_all}
+use Rattle.base.specs.declared.refusal.Refusal.{Refusal}
+use Rattle.bpf_isa.specs.declared.instr.Instr.{Instr}
+use Rattle.logfmt.specs.Bounds.{LogValue}
+use Rattle.verifier.specs.declared.unreached.Unreached.{Unreached}
+use Rattle.facts.specs.declared.fewer.Fewer.{Fewer}
+use Rattle.facts.specs.declared.found.Breach.{Breach}
+use Rattle.facts.specs.Fewer.{AreFewer, FindsFewer}
+use Rattle.facts.specs.Found.{IsUnreached, AddsUnreached, AreUnreached}
+use Rattle.request.specs.declared.settings.Settings.{Settings}
+use Rattle.request.specs.Source.{Recording, IsLogOf}
+use Rattle.runs.specs.Programs.{AreDecoded}
+use Rattle.runs.specs.Finds.{FindsNext, FindsUnreached, IsBreachOf, IsBreachIn, FindsBreach}
+use Rattle.runs.proofs.RefusalLemmas.{spelled_there, first_decoded}
+
+-- of one more program
+grow : (sectors : ℕ) (programs : List (List (Option Instr))) (n : ℕ) (p : List (Option Instr)) (us : List (Option Unreached)) (u : Option Unreached)
+    → AreUnreached sectors (take n programs) us → slice_get programs n ≡ Some p → IsUnreached p sectors u → AreUnreached sectors (take (suc n) programs) (us ++ u ∷ [])
+grow sectors [] n p us u h there is = absurd (let bad : None ≡ Some p = there in cc)
+grow sectors (q ∷ qs) zero p [] u h there is =
+    let same : q ≡ p = (let e : Some q ≡ Some p = there in cc) in
+    (subst (λ (x : List (Option Instr)). IsUnreached x sectors u) (sym same) is, tt)
+grow sectors (q ∷ qs) zero p (v ∷ vs) u h there is = absurd h
+grow sectors (q ∷ qs) (suc n) p [] u h there is = absurd h
+grow sectors (q ∷ qs) (suc n) p (v ∷ vs) u h there is = (h.0, grow sectors qs n p vs u h.1 there is)
+
+-- what is found of the first n programs, where nothing is known to break a rule
+pub record Finding (checked : Option ℕ) (sectors : ℕ) (programs : List (List (Option Instr))) (n : ℕ) (us : List (Option Unreached)) : Type 0 where
+  pub found : FindsUnreached checked sectors (take n programs) us
+  pub few : length us ≤ n
+
+pub finding : (checked : Option ℕ) (sectors : ℕ) (programs : List (List (Option Instr))) (us : List (Option Unreached)) → us ≡ [] → Finding checked sectors programs 0 us
+finding (Some limit) sectors programs us e = record { found = e; few = rw e (omega arith) }
+finding None sectors programs us e = record { found = rw e tt; few = rw e (omega arith) }
+
+pub find_next : (checked : Option ℕ) (sectors : ℕ) (programs : List (List (Option Instr))) (n : ℕ) (p : List (Option Instr)) (us new : List (Option Unreached))
+    → Finding checked sectors programs n us → slice_get programs n ≡ Some p → FindsNext checked sectors p us new → Finding checked sectors programs (n + 1) new
+find_next (Some limit) sectors programs n p us new h there next =
+    record { found = next ∙ h.found; few = rw next (omega (arith, h.few)) }
+find_next None sectors programs n p us new h there next =
+    rw (add-one n, next.added)
+    (record {
+      found = grow sectors programs n p us next.found h.found there next.is;
+      few = omega (arith, h.few, length-append us (next.found ∷ []));
+    })
+
+pub all_found : (checked : Option ℕ) (sectors : ℕ) (programs : List (List (Option Instr))) (n : ℕ) (us : List (Option Unreached)) → length programs ≤ n
+    → Finding checked sectors programs n us → FindsUnreached checked sectors programs us
+all_found checked sectors programs n us all h =
+    subst (λ (ps : List (List (Option Instr))). FindsUnreached checked sectors ps us) (take_all n programs all) h.found
+
+-- a breach of one of the programs, by its file
+pub breach_of : (sectors : ℕ) (files : List (List ℕ)) (programs now : List (List (Option Instr))) (refusal : Option Refusal) (r : Refusal) (o : Option Breach) → now ≡ programs
+    → AreDecoded files programs refusal → IfSome o (IsBreachIn sectors now r) → IfSome o (FindsBreach sectors files r)
+breach_of sectors files programs now refusal r None same decoded h = tt
+breach_of sectors files programs now refusal r (Some b) same decoded h =
+    let stands = spelled_there files programs h.number h.program (first_decoded files programs refusal decoded)
+    (subst (λ (ps : List (List (Option Instr))). slice_get ps h.number ≡ Some h.program) same h.there) in
+    record {
+      number = h.number;
+      bytes = stands.0;
+      program = h.program;
+      there = stands.1;
+      spelled = stands.2;
+      is = h.is;
+    }
+
+pub breach_at : (sectors : ℕ) (programs : List (List (Option Instr))) (n : ℕ) (p : List (Option Instr)) (r : Refusal) (o : Option Breach) → slice_get programs n ≡ Some p
+    → IfSome o (IsBreachOf sectors n p r) → IfSome o (IsBreachIn sectors programs r)
+breach_at sectors programs n p r None there h = tt
+breach_at sectors programs n p r (Some b) there h = record {
+  number = n;
+  program = p;
+  there = there;
+  is = h;
+}
+
+-- with what the log of a recording has fewer images
+pub fewer_of_log : (text : Recording) (s : Settings) (log : LogValue) (now o : Option Fewer) → IsLogOf text s log → now ≡ o → IfSome o (AreFewer s log) → IfSome now (FindsFewer text s)
+fewer_of_log text s log now o reads same h = rw same (by o h)
+  where
+    by : (o : Option Fewer) → IfSome o (AreFewer s log) → IfSome o (FindsFewer text s)
+    by None h = tt
+    by (Some f) h = record { value = log; reads = reads; fewer = h }
