@@ -19,7 +19,7 @@ use Rattle.crash_text.specs.Shown.{numbered_text, chosen_text, choice_shown, cut
 use Rattle.request.specs.declared.settings.Settings.{Settings}
 use Rattle.request.specs.declared.command.Which.{Which}
 use Rattle.request.specs.Source.{Recording, plan_of}
-use Rattle.looks.specs.Show.{whole_view, IsShown}
+use Rattle.looks.specs.Image.{whole_view, IsShown}
 use Rattle.commands.specs.Differences.{image_shown, image_beside, NamesSector, NamesNone, ShowNamesDifferences}
 use Rattle.commands.proofs.OneReport.{same_log}
 

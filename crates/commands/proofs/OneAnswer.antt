@@ -38,7 +38,7 @@ use Rattle.raw_log.specs.Imported.{IsImported}
 use Rattle.raw_log.proofs.Profile.{one_import}
 use Rattle.looks.specs.Which.{IsMeant, IsOnly}
 use Rattle.looks.specs.Image.{joined, IsImage}
-use Rattle.looks.specs.Show.{whole_view, IsShown}
+use Rattle.looks.specs.Image.{whole_view, IsShown}
 use Rattle.looks.specs.Survey.{survey_text, IsSurvey}
 use Rattle.looks.specs.Table.{IsTable}
 use Rattle.looks.specs.Verifying.{accepted_text, IsAcceptedText}

@@ -36,7 +36,7 @@ use Rattle.looks.specs.Import.{RefusesImport, with_raw_fault, no_raw_memory}
 use Rattle.looks.specs.Which.{IsMeant}
 use Rattle.looks.specs.Image as image
 use Rattle.looks.specs.Image.{IsImage, RefusesImage}
-use Rattle.looks.specs.Show.{IsShown}
+use Rattle.looks.specs.Image.{IsShown}
 use Rattle.looks.specs.Survey as survey
 use Rattle.looks.specs.Survey.{IsSurvey, RefusesSurvey}
 use Rattle.looks.specs.Table as table

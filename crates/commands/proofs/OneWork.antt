@@ -27,7 +27,7 @@ use Rattle.flushes.specs.declared.counted.MissingFlush.{MissingFlush}
 use Rattle.commands.specs.declared.action.Wanted.{Wanted}
 use Rattle.commands.specs.declared.action.Wanted.TheVariants as wanted
 use Rattle.looks.specs.Image.{IsImage}
-use Rattle.looks.specs.Show.{IsShown}
+use Rattle.looks.specs.Image.{IsShown}
 use Rattle.looks.specs.Survey.{IsSurvey}
 use Rattle.looks.specs.Table.{IsTable}
 use Rattle.looks.specs.Verifying.{IsAcceptedText}

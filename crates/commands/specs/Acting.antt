@@ -26,7 +26,7 @@ use Rattle.limits.specs.Sizes.{sector_limit}
 use Rattle.raw_log.specs.Imported.{IsImported}
 use Rattle.looks.specs.Import.{RefusesImport}
 use Rattle.looks.specs.Image.{IsImage, RefusesImage}
-use Rattle.looks.specs.Show.{IsShown}
+use Rattle.looks.specs.Image.{IsShown}
 use Rattle.looks.specs.Survey.{IsSurvey, RefusesSurvey}
 use Rattle.looks.specs.Table.{IsTable, RefusesTable}
 use Rattle.looks.specs.Verifying.{IsAcceptedText, RefusesVerified}

@@ -5,7 +5,7 @@ use Rattle.images.specs.Views.{view_of, sectors_of}
 use Rattle.request.specs.declared.settings.Settings.{Settings}
 use Rattle.request.specs.declared.command.Which.{Which}
 use Rattle.request.specs.Source.{Recording, plan_of}
-use Rattle.looks.specs.Show.{whole_view, IsShown}
+use Rattle.looks.specs.Image.{whole_view, IsShown}
 
 -- the sectors of the image that is shown
 abbrev pub image_shown : (text : Recording) (s : Settings) (which : Which) (bytes : List ℕ) → IsShown text s which bytes → List (List ℕ)

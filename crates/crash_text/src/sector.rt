@@ -6,6 +6,7 @@ ghost use Rattle.crash_text.specs.Sectors.{differs, differences, row_difference,
 
 use crate::row::put_row;
 use helpers::Device;
+use lanes::same;
 use std::alloc::AllocError;
 
 /// Whether a byte differs.
@@ -130,6 +131,9 @@ fn put_sector(
     requires { sector < most_sectors }
     ensures { OnOk result (string_bytes out.new ≡ string_bytes out.old ++ sector_difference sector left.now right.now) }
 {
+    if same(left, right) {
+        return Ok(());
+    }
     match first_difference(left, right) {
         Some(first) => {
             put_head(out, sector, left, right, first)?;

@@ -8,16 +8,15 @@ use Rattle.base.specs.Refusals.{memory_refusal}
 use Rattle.logfmt.specs.Bounds.{LogValue}
 use Rattle.epochs.specs.Plan.{PlanValue}
 use Rattle.choices.specs.Choices.{ChoiceValue, ranked}
-use Rattle.images.specs.Views.{IsMember, view_of, sectors_of}
-use Rattle.crash_text.specs.Shown.{shown_text}
+use Rattle.images.specs.Views.{IsMember}
 use Rattle.request.specs.declared.settings.Settings.{Settings}
 use Rattle.request.specs.declared.command.Which.{Which}
 use Rattle.request.specs.declared.command.Which.TheVariants as which
 use Rattle.request.specs.Settings.{option_refusal}
 use Rattle.request.specs.Source.{Recording, plan_of, HasImages}
 use Rattle.looks.specs.Which.{IsPrinted, IsMeant, IsOnly, NoneIs, which_place}
-use Rattle.looks.specs.Image.{joined, IsImage, RefusesImage, for_number, for_memory}
-use Rattle.looks.specs.Show.{whole_view, IsShown}
+use Rattle.looks.specs.declared.image_command.Form.{Form}
+use Rattle.looks.specs.Image.{text_in, IsImageIn, RefusesImage, for_number, for_memory}
 
 -- the choice of a number is the one that is meant by it
 pub numbered_meant : (plan : PlanValue) (bound : ℕ) (tears : Bool) (n : ℕ) (found : Option ChoiceValue)
@@ -50,23 +49,12 @@ choice_refused text s value plan w r has same why =
     ]
 
 -- what is answered where one is
-pub image_is : (text : Recording) (s : Settings) (value : LogValue) (plan : PlanValue) (w : Which) (c : ChoiceValue) (bytes : List ℕ) → HasImages text s value → plan ≡ plan_of s value
-    → IsOnly (IsMeant plan s.bound s.tears w) c → bytes ≡ joined (sectors_of (view_of plan c)) → IsImage text s w bytes
-image_is text s value plan w c bytes has same meant shown = record {
+pub image_is : (form : Form) (text : Recording) (s : Settings) (value : LogValue) (plan : PlanValue) (w : Which) (c : ChoiceValue) (bytes : List ℕ) → HasImages text s value
+    → plan ≡ plan_of s value → IsOnly (IsMeant plan s.bound s.tears w) c → bytes ≡ text_in form s plan c → IsImageIn form text s w bytes
+image_is form text s value plan w c bytes has same meant shown = record {
   value = value;
   source = has;
   choice = c;
   meant = subst (λ (p : PlanValue). IsOnly (IsMeant p s.bound s.tears w) c) same meant;
-  shown = shown ∙ ap (λ (p : PlanValue). joined (sectors_of (view_of p c))) same;
-}
-
-pub shown_is : (text : Recording) (s : Settings) (value : LogValue) (plan : PlanValue) (w : Which) (c : ChoiceValue) (bytes : List ℕ) → HasImages text s value → plan ≡ plan_of s value
-    → IsOnly (IsMeant plan s.bound s.tears w) c
-    → bytes ≡ shown_text plan s.bound s.tears c (sectors_of (whole_view plan.log c.cut)) (sectors_of (view_of plan c)) → IsShown text s w bytes
-shown_is text s value plan w c bytes has same meant shown = record {
-  value = value;
-  source = has;
-  choice = c;
-  meant = subst (λ (p : PlanValue). IsOnly (IsMeant p s.bound s.tears w) c) same meant;
-  shown = shown ∙ ap (λ (p : PlanValue). shown_text p s.bound s.tears c (sectors_of (whole_view p.log c.cut)) (sectors_of (view_of p c))) same;
+  shown = shown ∙ ap (λ (p : PlanValue). text_in form s p c) same;
 }

@@ -3,7 +3,6 @@ use Rattle.std.proofs.Common.{ℕ, ◌≡◌, ◌⊎◌, inl, inr, List, Option,
 use Rattle.std.specs.Str.{IsUtf8}
 use Rattle.limits.specs.Sizes.{sector_limit}
 use Rattle.limits.specs.declared.Limits.{Limits}
-use Rattle.base.specs.declared.refusal.Refusal.{Refusal}
 use Rattle.base.specs.declared.causes.LogCause.TheVariants as log
 use Rattle.logfmt.specs.declared.fault.LogFault.{LogFault}
 use Rattle.raw_log.specs.Faults.{FirstRawFault}

@@ -1,7 +1,6 @@
 -- What the commands show that run no program.
 pub mod Which
 pub mod Image
-pub mod Show
 pub mod Survey
 pub mod Table
 pub mod Import

@@ -1,12 +1,13 @@
-//! One crash image as bytes.
+//! One crash image: as bytes, and what both forms have in common.
 
 ghost use Rattle.std.specs.Prelude.{◌≡◌, ◌<◌, ◌++◌, length, map, IfOk, IfErr, IfSome, OnOk, Some, slice_get, slice_index_or, []};
-ghost use Rattle.choices.specs.Choices.{ranked};
+ghost use Rattle.logfmt.specs.Bounds.{IsLog};
 ghost use Rattle.images.specs.Views.{view_of, sectors_of, IsMember};
-ghost use Rattle.request.specs.Source.{plan_of, images_of};
+ghost use Rattle.request.specs.Source.{plan_of};
 ghost use Rattle.facts.specs.Fewer.{FindsFewer};
-ghost use Rattle.looks.specs.Image.{joined, IsImage, RefusesImage};
+ghost use Rattle.looks.specs.Image.{joined, text_in, IsImageIn, IsImage, RefusesImage};
 
+use crate::show_command::text_of;
 use crate::which::choice_meant;
 use base::refusal::Refusal;
 use choices::Choice;
@@ -56,6 +57,58 @@ fn shown<'x>(
     bytes_of(alloc, &view)
 }
 
+/// How a crash image is told.
+#[derive(Clone, Copy)]
+pub(crate) enum Form {
+    /// As the bytes of its sectors.
+    Bytes,
+    /// In words.
+    Words,
+}
+
+/// The image of a choice in that form.
+fn told<'x>(
+    alloc: Global,
+    form: Form,
+    log: &'x Log,
+    plan: &'x Plan<'x>,
+    options: &Options,
+    choice: &Choice,
+) -> Result<Vec<u8>, AllocError>
+    requires bounds { IsLog log.now }
+    requires plan { plan.now ≡ plan_of options.now log.now }
+    requires member { IsMember plan.now choice.now }
+    ensures { IfOk result (λ bytes. bytes.items ≡ text_in form options.now plan.now choice.now) }
+{
+    match form {
+        Form::Bytes => shown(alloc, log, plan, choice),
+        Form::Words => text_of(alloc, log, plan, options, choice),
+    }
+}
+
+/// The crash image that is meant, in that form.
+pub(crate) fn image_in(
+    alloc: Global,
+    form: Form,
+    recording: &Recording<'_>,
+    which: Which,
+    options: &Options,
+    facts: &mut Facts,
+) -> Result<Vec<u8>, Refusal>
+    ensures shown { IfOk result (λ bytes. IsImageIn form recording.now options.now which bytes.items) }
+    ensures refused { IfErr result (RefusesImage recording.now options.now which) }
+    ensures fewer { IfSome facts.new.fewer (FindsFewer recording.now options.now) }
+{
+    *facts = Facts::new();
+    let log = recording.read(alloc, options, facts)?;
+    let (plan, images) = facts.plan(alloc, &log, options)?;
+    let choice = choice_meant(alloc, &plan, images, options, which)?;
+    match told(alloc, form, &log, &plan, options, &choice) {
+        Ok(bytes) => Ok(bytes),
+        Err(_error) => Err(Refusal::of_memory()),
+    }
+}
+
 /// The bytes of the crash image that is meant: its sectors one after the other (docs/REPORT.md, Commands). The
 /// programs' options are not asked for.
 ///
@@ -74,12 +127,5 @@ pub fn image(
     ensures refused { IfErr result (RefusesImage recording.now options.now which) }
     ensures fewer { IfSome facts.new.fewer (FindsFewer recording.now options.now) }
 {
-    *facts = Facts::new();
-    let log = recording.read(alloc, options, facts)?;
-    let (plan, images) = facts.plan(alloc, &log, options)?;
-    let choice = choice_meant(alloc, &plan, images, options, which)?;
-    match shown(alloc, &log, &plan, &choice) {
-        Ok(bytes) => Ok(bytes),
-        Err(_error) => Err(Refusal::of_memory()),
-    }
+    image_in(alloc, Form::Bytes, recording, which, options, facts)
 }

@@ -24,7 +24,7 @@
 //! # What is proved
 //!
 //! `image` answers the bytes of the image that is meant, of which there is one (`specs/Which.antt`), and `show` its text, beside
-//! the image of the same cut where nothing departs (`specs/Show.antt`). What the report prints of a choice, by which an image
+//! the image of the same cut where nothing departs (`specs/Image.antt`). What the report prints of a choice, by which an image
 //! may be named, is what `show` prints of it, and no choice's text has more than 96 bytes (`report_prints_choices`,
 //! `choices_are_short`). `survey` answers the text of `specs/Survey.antt`, and `shown_log` the table of the log
 //! (`specs/Table.antt`). `imported` answers the text of `raw_log` for the largest device within the limits (`specs/Import.antt`).

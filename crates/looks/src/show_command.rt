@@ -5,11 +5,10 @@ ghost use Rattle.logfmt.specs.Bounds.{IsLog};
 ghost use Rattle.images.specs.Views.{view_of, sectors_of, IsMember};
 ghost use Rattle.crash_text.specs.Shown.{shown_text};
 ghost use Rattle.facts.specs.Fewer.{FindsFewer};
-ghost use Rattle.looks.specs.Image.{RefusesImage};
+ghost use Rattle.looks.specs.Image.{whole_view, IsShown, RefusesImage};
 ghost use Rattle.request.specs.Source.{plan_of};
-ghost use Rattle.looks.specs.Show.{whole_view, IsShown};
 
-use crate::which::choice_meant;
+use crate::image_command::{Form, image_in};
 use base::refusal::Refusal;
 use choices::{Choice, choice_named};
 use crash_text::{Numbering, put_shown};
@@ -41,7 +40,7 @@ fn nothing_departs(plan: &Plan<'_>, options: &Options, choice: &Choice) -> Choic
 }
 
 /// The image of a choice in words.
-fn text_of<'x>(
+pub(crate) fn text_of<'x>(
     alloc: Global,
     log: &'x Log,
     plan: &'x Plan<'x>,
@@ -86,12 +85,5 @@ pub fn show(
     ensures refused { IfErr result (RefusesImage recording.now options.now which) }
     ensures fewer { IfSome facts.new.fewer (FindsFewer recording.now options.now) }
 {
-    *facts = Facts::new();
-    let log = recording.read(alloc, options, facts)?;
-    let (plan, images) = facts.plan(alloc, &log, options)?;
-    let choice = choice_meant(alloc, &plan, images, options, which)?;
-    match text_of(alloc, &log, &plan, options, &choice) {
-        Ok(bytes) => Ok(bytes),
-        Err(_error) => Err(Refusal::of_memory()),
-    }
+    image_in(alloc, Form::Words, recording, which, options, facts)
 }

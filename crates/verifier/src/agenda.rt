@@ -4,6 +4,7 @@
 
 use crate::news::News;
 use crate::order::Order;
+use crate::origins::{Edge, Gone};
 use crate::parts::{Parts, looked_at};
 use crate::scene::Scene;
 use crate::worklist::Worklist;
@@ -21,9 +22,8 @@ pub(crate) struct Agenda {
     order: Order,
     places: Worklist,
     news: News,
-    /// The slots that passed something on to the next slot, and those that did to a target.
-    nexts: Vec<bool>,
-    targets: Vec<bool>,
+    /// On which edges something was passed on.
+    gone: Gone,
     /// How many steps were taken, the place of the last one and its slot, of what parts it tells, and whether its
     /// instruction looks at one of them.
     steps: u64,
@@ -33,27 +33,6 @@ pub(crate) struct Agenda {
     is_seen: bool,
 }
 
-/// Whether a slot passed something on.
-fn has_told(passed: &[bool], slot: usize) -> bool {
-    passed.get(slot).copied().unwrap_or(true)
-}
-
-/// Whether a slot that passes something on does so for the first time.
-fn is_first(passed: &mut Vec<bool>, slot: usize) -> bool {
-    if passed.len() <= slot || passed[slot] {
-        return false;
-    }
-    passed[slot] = true;
-    true
-}
-
-/// No slot of so many has passed something on.
-fn none_passed(alloc: Global, slots: usize) -> Result<Vec<bool>, AllocError> {
-    let mut passed = Vec::new(alloc);
-    passed.resize(slots, false)?;
-    Ok(passed)
-}
-
 impl Agenda {
     /// The agenda of a program, on which no slot stands.
     pub(crate) fn new(alloc: Global, program: &Program) -> Result<Agenda, AllocError> {
@@ -61,8 +40,7 @@ impl Agenda {
             order: Order::of(alloc, program)?,
             places: Worklist::new(),
             news: News::new(alloc, program.slots())?,
-            nexts: none_passed(alloc, program.slots())?,
-            targets: none_passed(alloc, program.slots())?,
+            gone: Gone::new(alloc, program.slots())?,
             steps: 0,
             place: 0,
             turn: 0,
@@ -104,7 +82,8 @@ impl Agenda {
     /// Says anew what is passed on at once, where it is time.
     #[inline(never)]
     fn turn_over(&mut self, scene: &Scene) {
-        self.news.turn_over(scene, &self.order, self.steps);
+        self.news
+            .turn_over(scene, &self.order, &self.gone, self.steps);
         self.put_all();
     }
 
@@ -135,14 +114,9 @@ impl Agenda {
         Some(slot)
     }
 
-    /// Whether the slot whose turn it is told the next one something before.
-    pub(crate) fn has_told_next(&self) -> bool {
-        has_told(&self.nexts, self.turn)
-    }
-
-    /// The same of a target.
-    pub(crate) fn has_told_target(&self) -> bool {
-        has_told(&self.targets, self.turn)
+    /// Whether the slot whose turn it is told something on an edge before.
+    pub(crate) fn has_told(&self, edge: Edge) -> bool {
+        self.gone.has(edge, self.turn)
     }
 
     /// Whether the instruction at the slot whose turn it is looks at something that the slot tells of. Else it breaks
@@ -155,7 +129,7 @@ impl Agenda {
     /// Whether the function that an instruction calls learns nothing: only arguments pass to it, and it was told the others.
     pub(crate) fn keeps_from_target(&self, instr: &Instr) -> bool {
         match instr {
-            Instr::CallLocal { .. } => !self.is_seen && self.has_told_target(),
+            Instr::CallLocal { .. } => !self.is_seen && self.has_told(Edge::Target),
             _ => false,
         }
     }
@@ -169,20 +143,13 @@ impl Agenda {
         }
     }
 
-    /// Of what parts the slot whose turn it is tells the next one, where these changed: of all, the first time
+    /// Of what parts the slot whose turn it is tells another one on an edge, where these changed: of all, the first time
     /// that something is passed.
-    pub(crate) fn told_next(&mut self, changed: Parts) -> Parts {
-        if is_first(&mut self.nexts, self.turn) {
+    pub(crate) fn told(&mut self, edge: Edge, to: usize, changed: Parts) -> Parts {
+        if self.gone.is_first(edge, self.turn) {
             return Parts::ALL;
         }
-        self.told_with(changed)
-    }
-
-    /// The same of what it tells a target.
-    pub(crate) fn told_target(&mut self, changed: Parts) -> Parts {
-        if is_first(&mut self.targets, self.turn) {
-            return Parts::ALL;
-        }
-        self.told_with(changed)
+        let told = self.told_with(changed);
+        self.news.tell(self.turn, edge, to, told)
     }
 }

@@ -26,6 +26,7 @@ ghost use Rattle.verifier.specs.Passing.{Arrive, StaysSought, along, next_state,
 
 use crate::agenda::Agenda;
 use crate::check::refused;
+use crate::origins::Edge;
 use crate::parts::{Parts, changed_by, parts_of};
 use crate::passing::{arrive_next, arrive_target, next_effect, rule_at, target_effect, target_of};
 use crate::scene::Scene;
@@ -75,7 +76,7 @@ fn lead_next(
 {
     if let Some(slot) = edge {
         if arrive_next(scene.shape, slot, scene.sectors, instr, state) {
-            let told = agenda.told_next(changed_by(instr));
+            let told = agenda.told(Edge::Next, slot, changed_by(instr));
             arrive(table, agenda, slot, state, told);
         }
     }
@@ -95,7 +96,7 @@ fn lead_target(
 {
     if let Some(slot) = edge {
         if arrive_target(scene.shape, slot, instr, state) {
-            let told = agenda.told_target(changed_by(instr));
+            let told = agenda.told(Edge::Target, slot, changed_by(instr));
             arrive(table, agenda, slot, state, told);
         }
     }
@@ -191,9 +192,9 @@ fn pass_next(
     let Some(to) = edge else {
         return;
     };
-    let effect = effect_next(scene, table, slot, agenda.has_told_next(), instr);
+    let effect = effect_next(scene, table, slot, agenda.has_told(Edge::Next), instr);
     if let Some(way) = way_to(table, slot, to, effect, scene.shape.is_head(to)) {
-        let told = agenda.told_next(parts_of(&way.change));
+        let told = agenda.told(Edge::Next, to, parts_of(&way.change));
         arrive_along(table, agenda, &way, told);
     } else if !matches!(effect, Effect::Nothing) && copy_state(table, slot, room) {
         lead_next(scene, table, agenda, edge, instr, room);
@@ -221,9 +222,9 @@ fn pass_target(
     let Some(to) = edge else {
         return;
     };
-    let effect = effect_target(table, slot, agenda.has_told_target(), instr);
+    let effect = effect_target(table, slot, agenda.has_told(Edge::Target), instr);
     if let Some(way) = way_to(table, slot, to, effect, scene.shape.is_head(to)) {
-        let told = agenda.told_target(parts_of(&way.change));
+        let told = agenda.told(Edge::Target, to, parts_of(&way.change));
         arrive_along(table, agenda, &way, told);
     } else if !matches!(effect, Effect::Nothing) && copy_state(table, slot, room) {
         lead_target(scene, table, agenda, edge, instr, room);

@@ -67,8 +67,8 @@
 //!   leads a copy along the edge in place, in one room for all slots. Of it only is proved that one slot after the
 //!   other passed on what it knew, so that each good table contains what it ends with; that this one is good is tested
 //!   by `check_table`, and then it is the least. So it is free which slot comes next (`agenda`, by the `order` of the
-//!   ways, in a `worklist`), and which parts of a state are joined (`parts`, `learning`) and when (`news`). `inferring`:
-//!   the search, and the rounds where it finds nothing good.
+//!   ways, in a `worklist`), which parts of a state are joined (`parts`, `learning`) and when (`news`), and along which of
+//!   the ways that bring the same (`origins`). `inferring`: the search, and the rounds where it finds nothing good.
 //! - `rounds`: a round lists all that is passed on by the table as it is, and then lets it arrive, so no
 //!   copy of the table is made. What is known already is not joined again. Each slot that learns something
 //!   gets a mark, and only the marked slots pass on in the next round: what the others pass on is contained
@@ -96,6 +96,7 @@ pub mod laws;
 mod learning;
 mod news;
 mod order;
+mod origins;
 mod parts;
 mod passing;
 mod raising;

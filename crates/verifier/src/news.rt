@@ -8,6 +8,7 @@
 //! Nothing that is proved rests on it: a table that is found with it is tested.
 
 use crate::order::Order;
+use crate::origins::{Edge, Gone, Origins};
 use crate::parts::{Parts, needed_before};
 use crate::passing::target_of;
 use crate::scene::Scene;
@@ -31,19 +32,22 @@ enum Phase {
     Narrow,
 }
 
-/// Of a slot the parts that it tells at once, and those of which it learned something since the last sample began.
+/// Of a slot the parts that it tells at once, those of which it learned something since the last sample began, and those
+/// that it told on some of its edges alone.
 #[derive(Clone, Copy)]
 struct Rule {
     urgent: Parts,
     learned: Parts,
+    owed: Parts,
 }
 
-/// The parts that each slot is still to tell; the rules of the slots, none in a short search; and the phase, with the
-/// step at which it ends.
+/// The parts that each slot is still to tell; the rules of the slots, none in a short search; where their groups come
+/// from; and the phase, with the step at which it ends.
 #[derive(Drop)]
 pub(crate) struct News {
     pending: Vec<Parts>,
     rules: Vec<Rule>,
+    origins: Origins,
     phase: Phase,
     due: u64,
 }
@@ -56,6 +60,7 @@ impl News {
         Ok(News {
             pending,
             rules: Vec::new(alloc),
+            origins: Origins::new(alloc),
             phase: Phase::Wide,
             due: FIRST,
         })
@@ -103,12 +108,36 @@ impl News {
         Some(told)
     }
 
+    /// Of these parts those that a slot tells another one at once, along one of its edges. Of the others it tells later.
+    #[inline(always)]
+    pub(crate) fn tell(&mut self, from: usize, edge: Edge, to: usize, told: Parts) -> Parts {
+        if self.rules.len() <= from {
+            return told;
+        }
+        let now = told
+            .common(self.urgent(to))
+            .without(self.origins.spared(from, edge));
+        let owed = self.rules[from].owed;
+        self.rules[from].owed = owed.and(told.without(now));
+        now
+    }
+
     /// Whether a slot has something to tell at once.
     pub(crate) fn is_urgent(&self, slot: usize) -> bool {
         match self.pending.get(slot) {
             Some(pending) => pending.meets(self.urgent(slot)),
             None => false,
         }
+    }
+
+    /// Whether a slot told some parts on some of its edges alone.
+    fn has_owed(&self) -> bool {
+        for rule in self.rules.as_slice() {
+            if rule.owed.is_some() {
+                return true;
+            }
+        }
+        false
     }
 
     /// Whether a slot has something to tell, where none has something to tell at once.
@@ -121,7 +150,7 @@ impl News {
                 return true;
             }
         }
-        false
+        self.has_owed()
     }
 
     /// Whether the phase is to end.
@@ -131,10 +160,10 @@ impl News {
 
     /// Begins the next phase. A turn through all slots goes before a sample, and one more is the sample. Where memory
     /// is wanting the search stays wide.
-    pub(crate) fn turn_over(&mut self, scene: &Scene, order: &Order, steps: u64) {
+    pub(crate) fn turn_over(&mut self, scene: &Scene, order: &Order, gone: &Gone, steps: u64) {
         let length = match self.phase {
             Phase::Wide => self.begin_sample(),
-            Phase::Sample => self.begin_narrow(scene, order),
+            Phase::Sample => self.begin_narrow(scene, order, gone),
             Phase::Narrow => self.begin_wide(),
         };
         self.due = steps.saturating_add(length);
@@ -146,6 +175,7 @@ impl News {
         let rule = Rule {
             urgent: Parts::ALL,
             learned: Parts::NONE,
+            owed: Parts::NONE,
         };
         match self.rules.resize(self.pending.len(), rule) {
             Ok(()) => {
@@ -157,8 +187,9 @@ impl News {
     }
 
     /// Each slot tells those parts at once on which hangs what a head learned. The last slot comes first.
-    fn begin_narrow(&mut self, scene: &Scene, order: &Order) -> u64 {
+    fn begin_narrow(&mut self, scene: &Scene, order: &Order, gone: &Gone) -> u64 {
         self.phase = Phase::Narrow;
+        self.origins.find(scene, order, gone);
         let slots = self.rules.len();
         for turn in 0..slots {
             let slot = order.slot(slots - 1 - turn);
@@ -171,10 +202,20 @@ impl News {
     /// Each slot tells all at once.
     fn begin_wide(&mut self) -> u64 {
         self.phase = Phase::Wide;
+        self.origins.forget();
         for slot in 0..self.rules.len() {
             self.put_urgent(slot, Parts::ALL);
+            self.put_owed(slot);
         }
         self.pending.len() as u64
+    }
+
+    /// A slot is to tell what it told on some of its edges alone.
+    fn put_owed(&mut self, slot: usize) {
+        if slot < self.rules.len() && slot < self.pending.len() {
+            self.pending[slot] = self.pending[slot].and(self.rules[slot].owed);
+            self.rules[slot].owed = Parts::NONE;
+        }
     }
 
     /// A slot tells these parts at once.
@@ -193,6 +234,8 @@ impl News {
             Some(instr) => {
                 let next = self.needed_behind(scene, edges_of(slot, &instr).next);
                 let target = self.needed_behind(scene, target_of(slot, &instr));
+                let next = next.without(self.origins.spared(slot, Edge::Next));
+                let target = target.without(self.origins.spared(slot, Edge::Target));
                 needed_before(&instr, next.and(target))
             }
             None => Parts::NONE,

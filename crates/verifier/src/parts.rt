@@ -89,6 +89,18 @@ impl Parts {
         self.values >> n & 1 == 1
     }
 
+    /// The groups alone.
+    pub(crate) fn stack(self) -> Parts {
+        self.common(Parts::STACK)
+    }
+
+    /// Whether group n is a part.
+    pub(crate) fn has_group(self, n: usize) -> bool
+        requires { n < 64 }
+    {
+        self.groups >> n & 1 == 1
+    }
+
     /// Takes away the first register, if there is one, and says which it was.
     pub(crate) fn take_value(&mut self) -> Option<usize>
         ensures { IfSome result (λ n. n < 11) }

@@ -1,6 +1,4 @@
-use Rattle.std.proofs.Common.{subst, ap}
-use Rattle.looks.specs.Verifying.{no_text_memory, FindsBreach}
-use Rattle.facts.proofs.Breaches.{of_unaccepted}
+use Rattle.looks.specs.Verifying.{no_text_memory}
 use Rattle.looks.proofs.Texts.{bytes_unverified, unverified}
 use Rattle.looks.proofs.verify_command.verified.Goals as goal
 

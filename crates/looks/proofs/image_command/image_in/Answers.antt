@@ -4,9 +4,9 @@ use Rattle.epochs.specs.Plan.{PlanValue}
 use Rattle.logfmt.specs.Bounds.{IsLog}
 use Rattle.request.specs.Source.{for_log, for_plan}
 use Rattle.request.proofs.Logs.{bounds_of, has_images}
-use Rattle.looks.proofs.Meant.{choice_refused, shown_is, meant_member}
+use Rattle.looks.proofs.Meant.{choice_refused, image_is, meant_member}
 use Rattle.looks.specs.Image.{for_source, for_memory}
-use Rattle.looks.proofs.show_command.show.Goals as goal
+use Rattle.looks.proofs.image_command.image_in.Goals as goal
 
 pub returns-in_err-log-clause-refused : goal.returns-in_err-log-clause-refused
 returns-in_err-log-clause-refused c =
@@ -29,19 +29,19 @@ returns-in_err-choice-clause-refused c =
     let has = has_images _ c.args.options.now c.in_ok-log.log _ c.in_ok-log.ensures.log c.in_ok-plan.ensures.count c.in_ok-plan.ensures.few in
     rw (p.1, p.2) (choice_refused _ _ c.in_ok-log.log _ c.args.which _ has c.in_ok-plan.ensures.plan c.in_err-choice.ensures.refused)
 
-pub text_of-requires-clause-member : goal.text_of-requires-clause-member
-text_of-requires-clause-member c = meant_member _ c.args.options.now.bound c.args.options.now.tears c.args.which _ c.in_ok-choice.ensures.meant.is
+pub told-requires-clause-bounds : goal.told-requires-clause-bounds
+told-requires-clause-bounds c = bounds_of _ c.args.options.now c.in_ok-log.log c.in_ok-log.ensures.log
+
+pub told-requires-clause-member : goal.told-requires-clause-member
+told-requires-clause-member c = meant_member _ c.args.options.now.bound c.args.options.now.tears c.args.which _ c.in_ok-choice.ensures.meant.is
 
 pub returns-in-Ok-clause-shown : goal.returns-in-Ok-clause-shown
 returns-in-Ok-clause-shown c =
     let has = has_images _ c.args.options.now c.in_ok-log.log _ c.in_ok-log.ensures.log c.in_ok-plan.ensures.count c.in_ok-plan.ensures.few in
-    shown_is _ c.args.options.now c.in_ok-log.log _ c.args.which c.in_ok-choice.choice _ has c.in_ok-plan.ensures.plan c.in_ok-choice.ensures.meant c.in-Ok.ensures
+    image_is c.args.form _ c.args.options.now c.in_ok-log.log _ c.args.which c.in_ok-choice.choice _ has c.in_ok-plan.ensures.plan c.in_ok-choice.ensures.meant c.in-Ok.ensures
 
 pub returns-clause-refused : goal.returns-clause-refused
 returns-clause-refused c =
     rw c.of_memory.ensures
     (for_memory c.in_ok-log.log
     (has_images _ c.args.options.now c.in_ok-log.log _ c.in_ok-log.ensures.log c.in_ok-plan.ensures.count c.in_ok-plan.ensures.few))
-
-pub text_of-requires-clause-bounds : goal.text_of-requires-clause-bounds
-text_of-requires-clause-bounds c = bounds_of _ c.args.options.now c.in_ok-log.log c.in_ok-log.ensures.log
