@@ -7,13 +7,15 @@ PROGRAM is crates/crashbpf/out/crashbpf where it isn't given; BEFORE an older pr
 Each round makes every run once, and the best time of each counts. It takes about a minute on an idle machine, and is no
 part of the gate.
 
-    workers   4,001,222 images of one cut, two sectors of 2,828 lost, and a checker of five steps: by 1, 2 and 4 workers
-    tears     some 4,000,000 images of one cut, two sectors lost or torn, and the same checker: images a second. The log
-              has as many sectors as it takes, so that an older program, for which a sector is torn in fewer ways, makes as
-              many images
+    workers   4,001,222 images of one cut, two writes of 2,828 to one sector lost, and a checker of five steps that looks at
+              it: by 1, 2 and 4 workers
+    tears     some 4,000,000 images of one cut, two writes to that sector lost or torn, and the same checker: images a second.
+              The log has as many writes as it takes, so that an older program, for which a sector is torn in fewer ways,
+              makes as many images
     uneven    65,536 images in 1,024 blocks, each sixteenth of which takes 100,000 steps an image and each other 1,000, by
               1 and 4 workers
-    cache     18,001 images, equal but for their choice, and a checker of 20,003 steps: with no cache and one of 65,536
+    cache     18,001 images, equal but for their choice, and a checker of some 20,500 steps that looks at all 64 sectors: with no
+              cache and one of 65,536
 """
 import os
 import subprocess
@@ -29,7 +31,8 @@ sys.path.insert(0, str(TOP / "tests"))
 from notation import F, W, log  # noqa: E402
 
 ROUNDS = 3
-FIVE_STEPS = "mov64 r1, 0\nmov64 r2, 0\nmov64 r3, 0\nmov64 r0, 0\nexit\n"
+# Looks at sector 0, which all writes of the logs of lost and torn sectors touch. So no image is told by footprints.
+FIVE_STEPS = "mov64 r1, 0\ncall 5\nmov64 r2, 0\nmov64 r0, 0\nexit\n"
 # The images of a block have epochs that differ in their low six bits.
 UNEVEN_STEPS = """ldxdw r6, [r1+8]
 rsh64 r6, 6
@@ -47,10 +50,26 @@ ja -4
 mov64 r0, 0
 exit
 """
-MANY_STEPS = "mov64 r1, 5000\ncall 3\njeq r0, 0, +1\nja -4\nmov64 r0, 0\nexit\n"
+# Looks at each of 64 sectors, which is more than a footprint keeps.
+MANY_STEPS = """mov64 r6, 0
+mov64 r1, r6
+call 5
+add64 r6, 1
+jeq r6, 64, +4
+mov64 r1, 100
+call 3
+jeq r0, 0, +1
+ja -8
+mov64 r1, 5000
+call 3
+jeq r0, 0, +1
+ja -4
+mov64 r0, 0
+exit
+"""
 
 LOGS = {
-    "drops.log": lambda: [W(sector, 1, 0x55) for sector in range(2828)],
+    "drops.log": lambda: [W(0, 1, 0x55)] * 2828,
     "equal.log": lambda: [W(sector % 64, 1, 0) for sector in range(1200)],
     "flushes.log": lambda: [F] * 65535,
 }
@@ -90,8 +109,8 @@ def prepare(program, folder):
 
 def torn_log(program, name, folder):
     """Makes the shortest log with TORN_IMAGES images for that program, and answers how many it has."""
-    for sectors in range(64, 1024):
-        Path(folder, name).write_bytes(log([W(0, sectors, 0x55)]))
+    for writes in range(64, 1024):
+        Path(folder, name).write_bytes(log([W(0, 1, 0x55)] * writes))
         words = [program, "images", name, *TEARS.split()]
         images = int(subprocess.run(words, cwd=folder, capture_output=True, check=True).stdout.split()[-1])
         if images >= TORN_IMAGES:

@@ -50,6 +50,7 @@ Where the rows stand
     rows/ranges.py      flushes that are added and ranges of cuts, in `log`, in `page`, and of the designs, against the model
     rows/flushes.py     where flushes are missing: the designs, marks, forced writes, discards, refusals, against cure_model.py
     rows/workers.py     runs by many workers, with and without a cache
+    rows/footprints.py  checkers that read a few sectors of those that a cut may lose, against the model
     rows/recording.py   logs that were made of traces, and an ext4 that was recorded
     rows/limits.py      sizes near each limit
     rows/large.py       devices, logs and images that `--large` allows, against the model
@@ -95,6 +96,7 @@ from rows import (
     encodings,
     examples,
     flushes,
+    footprints,
     large,
     limits,
     logs,
@@ -145,6 +147,7 @@ TABLES = [
     based,
     flushes,
     workers,
+    footprints,
     recording,
     limits,
     large,

@@ -46,8 +46,11 @@ def renamed(text, old, new, left):
     def one(match):
         start, end = match.span()
         before, after = text[max(0, start - 12) : start], text[end : end + 5]
+        is_comment = "-- " in text[text.rfind("\n", 0, start) + 1 : start]
         is_variable = re.match(r"\.(now|old|new)\b", after)
         is_field = re.search(r"(?:record \{|[{;]|record [a-z.]+ \{)\s*$", before) and after.startswith(" = ")
+        if is_comment:
+            return old
         if is_variable or is_field or (before.endswith("pub ") and after.startswith(" : ")):
             left.append(text[max(0, start - 30) : end + 30].replace("\n", " "))
             return old
@@ -71,9 +74,17 @@ def in_imports(text, module, old, new):
     return re.sub(r"use " + re.escape(module) + r"\.\{([^}]*)\}", one, text), brings
 
 
+def behind_alias(text, module, old, new):
+    """The text with the name replaced where the module is brought by a name of its own, as in `step.tested`."""
+    for alias in re.findall(r"use " + re.escape(module) + r" as (\w+)", text):
+        text = re.sub(rf"(?<![\w.'-]){alias}\.{re.escape(old)}(?![\w'-])", f"{alias}.{new}", text)
+    return text
+
+
 def in_file(file, text, row, left):
     path, old, new = row
     crate, module = path.split("/", 1)
+    text = behind_alias(text, f"Rattle.{crate}.{module.replace('/', '.')}", old, new)
     result, brings = in_imports(text, f"Rattle.{crate}.{module.replace('/', '.')}", old, new)
     own = "crate" if file.split("/")[1] == crate else crate
     path_of = f"{own}::{module.replace('/', '::')}::"
@@ -85,7 +96,7 @@ def in_file(file, text, row, left):
         left.append(f"the new name {new} stands there already")
     if file.endswith(".antt"):
         # where the module itself defines the name, `pub NAME :` is the definition
-        kept = result.replace(f"pub {old} :", f"pub {new} :") if is_home else result
+        kept = re.sub(rf"^((?:\w+ )*)pub {re.escape(old)} :", rf"\1pub {new} :", result, flags=re.M) if is_home else result
         return renamed(kept, old, new, left)
     parts, last = [], 0
     for start, end in ghost_stretches(result):

@@ -2,15 +2,15 @@
 
 ghost use Rattle.std.specs.Prelude.{◌≡◌, ◌<◌, ◌%◌, int_div, int_rem};
 ghost use Rattle.std.specs.Int.{cast_signed, cast_unsigned, int_shr, w32};
-ghost use Rattle.machine.specs.Arithmetic.{computed};
+ghost use Rattle.machine.specs.Arithmetic.{operator_value};
 
 use bpf_isa::instr::{Operator, Width};
 
 /// The value of an operator in 32 bits (RFC 9669, section 4.1).
-#[tactic(auto, unfolding(machine::specs::Arithmetic::computed))]
+#[tactic(auto, unfolding(machine::specs::Arithmetic::operator_value))]
 #[inline]
 pub fn arithmetic_32(operator: Operator, first: u32, second: u32) -> u32
-    ensures { result ≡ computed Width.W32 operator first second }
+    ensures { result ≡ operator_value Width.W32 operator first second }
 {
     match operator {
         Operator::Add => first.wrapping_add(second),

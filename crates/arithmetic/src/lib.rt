@@ -26,7 +26,7 @@
 //! # What is proved
 //!
 //! Each call answers the value of the definition, for every operator and all words: `arithmetic` that of
-//! `arithmetic`, `arithmetic_64` and `arithmetic_32` those of `computed`, and the others those of their own
+//! `arithmetic`, `arithmetic_64` and `arithmetic_32` those of `operator_value`, and the others those of their own
 //! names.
 //!
 //! # How it is written

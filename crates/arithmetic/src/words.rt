@@ -2,7 +2,7 @@
 
 ghost use Rattle.std.specs.Prelude.{◌≡◌, ◌<◌, ◌%◌, ◌^◌, int_div, int_rem};
 ghost use Rattle.std.specs.Int.{cast_signed, cast_unsigned, int_shr, w64};
-ghost use Rattle.machine.specs.Arithmetic.{arithmetic, computed, extended, in_order, kept_low, turned_round};
+ghost use Rattle.machine.specs.Arithmetic.{arithmetic, operator_value, sign_extension, in_order, kept_low, turned_round};
 
 use crate::halves::arithmetic_32;
 use bpf_isa::instr::{Operator, Order, OrderSize, SignExtension, Width};
@@ -29,10 +29,10 @@ pub fn arithmetic(width: Width, operator: Operator, first: u64, second: u64) -> 
 }
 
 /// The value of an operator in 64 bits (RFC 9669, section 4.1).
-#[tactic(auto, unfolding(machine::specs::Arithmetic::computed))]
+#[tactic(auto, unfolding(machine::specs::Arithmetic::operator_value))]
 #[inline]
 pub fn arithmetic_64(operator: Operator, first: u64, second: u64) -> u64
-    ensures { result ≡ computed Width.W64 operator first second }
+    ensures { result ≡ operator_value Width.W64 operator first second }
 {
     match operator {
         Operator::Add => first.wrapping_add(second),
@@ -93,10 +93,10 @@ fn signed_shift_64(first: u64, second: u64) -> u64
 }
 
 /// The low bits of a word as a signed number (RFC 9669, section 4.1, MOVSX).
-#[tactic(auto, unfolding(machine::specs::Arithmetic::extended))]
+#[tactic(auto, unfolding(machine::specs::Arithmetic::sign_extension))]
 #[inline]
 pub fn extended(extension: SignExtension, word: u64) -> u64
-    ensures { result ≡ extended extension word }
+    ensures { result ≡ sign_extension extension word }
 {
     match extension {
         SignExtension::From8To64 => i64::from(low_byte(word).cast_signed()).cast_unsigned(),

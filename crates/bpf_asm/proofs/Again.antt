@@ -18,12 +18,12 @@ use Rattle.bpf_isa.specs.Program.{entry, slots_of, AllInRange}
 use Rattle.bpf_asm.specs.declared.mnemonic.Mnemonic.{Mnemonic}
 use Rattle.bpf_asm.specs.declared.mnemonic.Mnemonic.TheVariants as kind
 use Rattle.bpf_asm.specs.Parts.{Part, Word, Mark, parts, goes_on, IsWord, is_word_character, lines}
-use Rattle.bpf_asm.specs.Words.{signed, in_range, in_wide_range}
+use Rattle.bpf_asm.specs.Words.{number_with_sign, in_range, in_wide_range}
 use Rattle.bpf_asm.specs.Mnemonics.{name_of, mnemonic, mnemonic_of}
-use Rattle.bpf_asm.specs.Operands.{register, unsigned, number, sign, distance, operand, place, target, Draft, draft, whole, Constant, InRegister, At}
+use Rattle.bpf_asm.specs.Operands.{register, magnitude_of, number, sign, distance, operand, place, target, Draft, draft, whole, Constant, InRegister, At}
 use Rattle.bpf_asm.specs.Statements.{Statement, Empty, Label, Instruction, statement, statement_of, is_colon}
-use Rattle.bpf_asm.specs.Says.{drafts_of, label_slot, slots_in, all_placed, placed}
-use Rattle.bpf_asm.specs.Listing.{with_sign, register_text, place_text, operand_texts, joined, line_text, slot_text, listing}
+use Rattle.bpf_asm.specs.Says.{drafts_of, label_slot, slots_in, all_placed, instr_at}
+use Rattle.bpf_asm.specs.Listing.{with_sign, register_text, place_text, operand_texts, operand_list, line_text, slot_text, listing}
 use Rattle.bpf_asm.specs.Laws.{ListingSays}
 use Rattle.bpf_asm.proofs.Printed.{decimal_spells, digits_in_word}
 use Rattle.bpf_asm.proofs.Names.{named_back, name_tested, is_word_text, all_word}
@@ -64,7 +64,7 @@ abs_16 : (z : ℤ) → FitsSigned w16 z → unsigned_abs z < 2 ^ 63
 abs_16 (pos n) h = omega (arith, ints)
 abs_16 (negsuc n) h = omega (arith, ints)
 
-wide_back : (n : ℕ) → n < 2 ^ 64 → in_wide_range (signed false n) ≡ Some n
+wide_back : (n : ℕ) → n < 2 ^ 64 → in_wide_range (number_with_sign false n) ≡ Some n
 wide_back n small = rw (lt-ltb n (2 ^ 64) small) refl
 
 -- Each instruction.
@@ -73,7 +73,7 @@ nothing_left : draft kind.Exit (parts []) ≡ Some (whole instr.Exit)
 unfolding draft parts
 nothing_left = refl
 
-pub said_again : (i : Instr) → IsInRange i → draft (mnemonic i) (parts (joined (operand_texts i))) ≡ Some (whole i)
+pub said_again : (i : Instr) → IsInRange i → draft (mnemonic i) (parts (operand_list (operand_texts i))) ≡ Some (whole i)
 unfolding draft IsInRange
 said_again (instr.Arithmetic w o dst (source.Immediate n)) h =
     rw (two_read register operand (register_text dst) (signed_decimal n) dst (Constant (held_as n)) (prints_register dst h.0) (prints_operand_number n (abs_32 n h.1)), in_32 n h.1) refl
@@ -110,12 +110,12 @@ said_again (instr.StoreImmediate s base offset n) h =
 said_again (instr.Store s base offset src) h =
     rw (two_read place register (place_text base offset) (register_text src) (base, held_as offset) src (prints_place base offset h.0 (abs_16 offset h.1)) (prints_register src h.2), in_16 offset h.1) refl
 said_again (instr.LoadImmediate dst value) h =
-    rw (two_read register number (register_text dst) (decimal value) dst (signed false value) (prints_register dst h.0) (number_of_wide value h.1), wide_back value h.1) refl
+    rw (two_read register number (register_text dst) (decimal value) dst (number_with_sign false value) (prints_register dst h.0) (number_of_wide value h.1), wide_back value h.1) refl
 
 -- A label line is no instruction.
 
 colon_fails : (m : Mnemonic) (rest : List Part) → draft m (Mark 58 ∷ rest) ≡ None
-unfolding draft register unsigned number sign distance operand place target
+unfolding draft register magnitude_of number sign distance operand place target
 colon_fails (kind.Arithmetic w o) rest = refl
 colon_fails (kind.Negate w) rest = refl
 colon_fails (kind.SignExtend e) rest = refl
@@ -145,7 +145,7 @@ no_colon m (Mark c ∷ rest) d e = elim (eqb_tells c 58) [
 
 -- The line of an instruction.
 
-ends_joined : (ts : List (List ℕ)) → goes_on (joined ts) ≡ false
+ends_joined : (ts : List (List ℕ)) → goes_on (operand_list ts) ≡ false
 unfolding goes_on is_word_character
 ends_joined [] = refl
 ends_joined (t ∷ ts) = refl
@@ -167,14 +167,14 @@ statement_word : (w : List ℕ) (m : Mnemonic) (d : Draft) (rest : List Part) �
 unfolding statement
 statement_word w m d rest e f = rw (no_colon m rest d f, e, f) refl
 
-line_parts : (i : Instr) → parts (line_text i) ≡ Word (name_of (mnemonic i)) ∷ parts (joined (operand_texts i))
+line_parts : (i : Instr) → parts (line_text i) ≡ Word (name_of (mnemonic i)) ∷ parts (operand_list (operand_texts i))
 unfolding line_text
 line_parts i =
     let name = word_text (name_of (mnemonic i)) (name_tested (mnemonic i)) in
-    word_in_front (name_of (mnemonic i)) (joined (operand_texts i)) name.0 name.1 (ends_joined (operand_texts i))
+    word_in_front (name_of (mnemonic i)) (operand_list (operand_texts i)) name.0 name.1 (ends_joined (operand_texts i))
 
 pub line_says : (i : Instr) → IsInRange i → statement_of (line_text i) ≡ Some (Instruction (whole i))
-line_says i h = ap statement (line_parts i) ∙ statement_word (name_of (mnemonic i)) (mnemonic i) (whole i) (parts (joined (operand_texts i))) (named_back (mnemonic i)) (said_again i h)
+line_says i h = ap statement (line_parts i) ∙ statement_word (name_of (mnemonic i)) (mnemonic i) (whole i) (parts (operand_list (operand_texts i))) (named_back (mnemonic i)) (said_again i h)
 
 -- No newline in it.
 
@@ -215,7 +215,7 @@ further_line : (ts : List (List ℕ)) → AreLines ts → IsLine (flat_map (λ y
 further_line [] h = tt
 further_line (t ∷ ts) h = is_line_append (codes ", " ++ t) (flat_map (λ y. codes ", " ++ y) ts) (refl, (refl, h.0)) (further_line ts h.1)
 
-joined_line : (ts : List (List ℕ)) → AreLines ts → IsLine (joined ts)
+joined_line : (ts : List (List ℕ)) → AreLines ts → IsLine (operand_list ts)
 joined_line [] h = tt
 joined_line (t ∷ ts) h = (refl, is_line_append t (flat_map (λ y. codes ", " ++ y) ts) h.0 (further_line ts h.1))
 
@@ -243,7 +243,7 @@ pub text_line : (i : Instr) → IsInRange i → IsLine (line_text i)
 unfolding line_text
 text_line i h =
     let name = word_text (name_of (mnemonic i)) (name_tested (mnemonic i)) in
-    is_line_append (name_of (mnemonic i)) (joined (operand_texts i)) (word_line (name_of (mnemonic i)) name.0) (joined_line (operand_texts i) (operand_lines i h))
+    is_line_append (name_of (mnemonic i)) (operand_list (operand_texts i)) (word_line (name_of (mnemonic i)) name.0) (joined_line (operand_texts i) (operand_lines i h))
 
 -- The whole listing.
 
@@ -291,8 +291,8 @@ drafts_are : (is : List Instr) → drafts_of (said_of is) ≡ map whole is
 drafts_are [] = refl
 drafts_are (i ∷ is) = ap (λ (x : List Draft). whole i ∷ x) (drafts_are is)
 
-whole_placed : (at : List ℕ → Option ℕ) (slot : ℕ) (i : Instr) → placed at slot (whole i) ≡ Some i
-unfolding placed
+whole_placed : (at : List ℕ → Option ℕ) (slot : ℕ) (i : Instr) → instr_at at slot (whole i) ≡ Some i
+unfolding instr_at
 whole_placed at slot i = refl
 
 all_whole : (at : List ℕ → Option ℕ) (slot : ℕ) (is : List Instr) → all_placed at slot (map whole is) ≡ Some is

@@ -7,9 +7,9 @@ use Rattle.std.proofs.lemmas.Bool.{cases_lt}
 use Rattle.std.proofs.lemmas.Fmt.{decimal_digit, decimal_step}
 use Rattle.bpf_asm.specs.declared.number.Number.{Number}
 use Rattle.bpf_asm.specs.Parts.{Part, Word, Mark, parts, goes_on, IsWord, is_word_character}
-use Rattle.bpf_asm.specs.Words.{signed, register_of}
-use Rattle.bpf_asm.specs.Operands.{Reading, register, unsigned, number, sign, distance, operand, place, target, mark, or_number, InRegister, Constant, At, ◌>>=◌, ended, with_comma, one, two, three}
-use Rattle.bpf_asm.specs.Listing.{with_sign, register_text, place_text, joined}
+use Rattle.bpf_asm.specs.Words.{number_with_sign, register_of}
+use Rattle.bpf_asm.specs.Operands.{Reading, register, magnitude_of, number, sign, distance, operand, place, target, mark, or_number, InRegister, Constant, At, ◌>>=◌, last_operand, with_comma, one, two, three}
+use Rattle.bpf_asm.specs.Listing.{with_sign, register_text, place_text, operand_list}
 use Rattle.bpf_asm.proofs.Parts.{word_parts, blank_front}
 use Rattle.bpf_asm.proofs.Printed.{decimal_spells, digits_in_word, number_of_decimal, register_small, AreDigits, no_register_of}
 
@@ -24,11 +24,11 @@ word_in_front (c ∷ w) rest h some e = word_parts c w rest h e
 decimal_parts : (n : ℕ) (rest : List ℕ) → n < 2 ^ 64 → goes_on rest ≡ false → parts (decimal n ++ rest) ≡ Word (decimal n) ∷ parts rest
 decimal_parts n rest small e = let s = decimal_spells n small in word_in_front (decimal n) rest (digits_in_word (decimal n) s.digits) s.some e
 
-unsigned_word : (negative : Bool) (n : ℕ) (rest : List Part) → n < 2 ^ 64 → unsigned negative (Word (decimal n) ∷ rest) ≡ Some (signed negative n, rest)
-unfolding unsigned
+unsigned_word : (negative : Bool) (n : ℕ) (rest : List Part) → n < 2 ^ 64 → magnitude_of negative (Word (decimal n) ∷ rest) ≡ Some (number_with_sign negative n, rest)
+unfolding magnitude_of
 unsigned_word negative n rest small = rw (number_of_decimal n small) refl
 
-pub prints_unsigned : (negative : Bool) (n : ℕ) → n < 2 ^ 64 → Prints (unsigned negative) (decimal n) (signed negative n)
+pub prints_unsigned : (negative : Bool) (n : ℕ) → n < 2 ^ 64 → Prints (magnitude_of negative) (decimal n) (number_with_sign negative n)
 prints_unsigned negative n small = record { read = λ rest e. rw (decimal_parts n rest small e) (unsigned_word negative n (parts rest) small) }
 
 minus_parts : (rest : List ℕ) → parts (45 ∷ rest) ≡ Mark 45 ∷ parts rest
@@ -39,18 +39,18 @@ plus_parts : (rest : List ℕ) → parts (43 ∷ rest) ≡ Mark 43 ∷ parts res
 unfolding parts is_word_character
 plus_parts rest = refl
 
-number_word : (w : List ℕ) (rest : List Part) → number (Word w ∷ rest) ≡ unsigned false (Word w ∷ rest)
+number_word : (w : List ℕ) (rest : List Part) → number (Word w ∷ rest) ≡ magnitude_of false (Word w ∷ rest)
 unfolding number
 number_word w rest = refl
 
-number_minus : (rest : List Part) → number (Mark 45 ∷ rest) ≡ unsigned true rest
+number_minus : (rest : List Part) → number (Mark 45 ∷ rest) ≡ magnitude_of true rest
 unfolding number
 number_minus rest = refl
 
 -- a number as it is held
 unfoldable pub held_as : ℤ → Number
-held_as (pos n) = signed false n
-held_as (negsuc n) = signed true (suc n)
+held_as (pos n) = number_with_sign false n
+held_as (negsuc n) = number_with_sign true (suc n)
 
 pub prints_number : (z : ℤ) → unsigned_abs z < 2 ^ 63 → Prints number (signed_decimal z) (held_as z)
 unfolding held_as
@@ -62,11 +62,11 @@ prints_number (negsuc n) small = record {
 }
 
 -- a distance
-distance_sign : (rest : List Part) → distance (Mark 43 ∷ rest) ≡ unsigned false rest
+distance_sign : (rest : List Part) → distance (Mark 43 ∷ rest) ≡ magnitude_of false rest
 unfolding distance sign
 distance_sign rest = refl
 
-distance_minus : (rest : List Part) → distance (Mark 45 ∷ rest) ≡ unsigned true rest
+distance_minus : (rest : List Part) → distance (Mark 45 ∷ rest) ≡ magnitude_of true rest
 unfolding distance sign
 distance_minus rest = refl
 
@@ -211,13 +211,13 @@ ends : goes_on [] ≡ false
 unfolding goes_on
 ends = refl
 
-ended_there : {A : Type 0} (x : A) (r : Option (A × List Part)) → r ≡ Some (x, parts []) → ended r ≡ Some x
+ended_there : {A : Type 0} (x : A) (r : Option (A × List Part)) → r ≡ Some (x, parts []) → last_operand r ≡ Some x
 unfolding parts
 ended_there x r e = rw e refl
 
-pub one_read : {A : Type 0} (first : Reading A) (t : List ℕ) (x : A) → Prints first t x → one first (parts (joined (t ∷ []))) ≡ Some x
+pub one_read : {A : Type 0} (first : Reading A) (t : List ℕ) (x : A) → Prints first t x → one first (parts (operand_list (t ∷ []))) ≡ Some x
 one_read first t x p =
-    let flat : parts (joined (t ∷ [])) ≡ parts (t ++ []) = blank_front 32 (t ++ []) refl in
+    let flat : parts (operand_list (t ∷ [])) ≡ parts (t ++ []) = blank_front 32 (t ++ []) refl in
     ap (one first) flat ∙ ended_there x (first (parts (t ++ []))) (p.read [] ends)
 
 comma_parts : (rest : List ℕ) → parts (44 ∷ 32 ∷ rest) ≡ Mark 44 ∷ parts rest
@@ -232,26 +232,26 @@ comma_there : {A : Type 0} (x : A) (rest : List ℕ) (r : Option (A × List Part
 comma_there x rest r e = rw (e, comma_parts rest) refl
 
 pub two_read : {A B : Type 0} (first : Reading A) (second : Reading B) (t u : List ℕ) (x : A) (y : B) → Prints first t x → Prints second u y
-    → two first second (parts (joined (t ∷ u ∷ []))) ≡ Some (x, y)
+    → two first second (parts (operand_list (t ∷ u ∷ []))) ≡ Some (x, y)
 two_read first second t u x y p q =
-    let flat : joined (t ∷ u ∷ []) ≡ 32 ∷ (t ++ 44 ∷ 32 ∷ (u ++ [])) = simp append_assoc refl in
+    let flat : operand_list (t ∷ u ∷ []) ≡ 32 ∷ (t ++ 44 ∷ 32 ∷ (u ++ [])) = simp append_assoc refl in
     let one : with_comma (first (parts (t ++ 44 ∷ 32 ∷ (u ++ [])))) ≡ Some (x, parts (u ++ [])) =
     comma_there x (u ++ []) (first (parts (t ++ 44 ∷ 32 ∷ (u ++ [])))) (p.read (44 ∷ 32 ∷ (u ++ [])) (ends_at_comma (32 ∷ (u ++ [])))) in
-    let last : ended (second (parts (u ++ []))) ≡ Some y = ended_there y (second (parts (u ++ []))) (q.read [] ends) in
+    let last : last_operand (second (parts (u ++ []))) ≡ Some y = ended_there y (second (parts (u ++ []))) (q.read [] ends) in
     rw (flat, blank_front 32 (t ++ 44 ∷ 32 ∷ (u ++ [])) refl, one, last) refl
 
 pub three_read : {A B C : Type 0} (first : Reading A) (second : Reading B) (third : Reading C) (t u v : List ℕ) (x : A) (y : B) (z : C) → Prints first t x → Prints second u y → Prints third v z
-    → three first second third (parts (joined (t ∷ u ∷ v ∷ []))) ≡ Some (x, y, z)
+    → three first second third (parts (operand_list (t ∷ u ∷ v ∷ []))) ≡ Some (x, y, z)
 three_read first second third t u v x y z p q r =
     let behind = u ++ 44 ∷ 32 ∷ (v ++ []) in
-    let flat : joined (t ∷ u ∷ v ∷ []) ≡ 32 ∷ (t ++ 44 ∷ 32 ∷ (u ++ 44 ∷ 32 ∷ (v ++ []))) = simp append_assoc refl in
+    let flat : operand_list (t ∷ u ∷ v ∷ []) ≡ 32 ∷ (t ++ 44 ∷ 32 ∷ (u ++ 44 ∷ 32 ∷ (v ++ []))) = simp append_assoc refl in
     let one : with_comma (first (parts (t ++ 44 ∷ 32 ∷ (u ++ 44 ∷ 32 ∷ (v ++ []))))) ≡ Some (x, parts (u ++ 44 ∷ 32 ∷ (v ++ []))) =
     comma_there x (u ++ 44 ∷ 32 ∷ (v ++ [])) (first (parts (t ++ 44 ∷ 32 ∷ (u ++ 44 ∷ 32 ∷ (v ++ []))))) (p.read (44 ∷ 32 ∷ (u ++ 44 ∷ 32 ∷ (v ++ []))) (ends_at_comma (32 ∷ (u ++ 44 ∷ 32 ∷ (v ++ []))))) in
     let next : with_comma (second (parts (u ++ 44 ∷ 32 ∷ (v ++ [])))) ≡ Some (y, parts (v ++ [])) =
     comma_there y (v ++ []) (second (parts (u ++ 44 ∷ 32 ∷ (v ++ [])))) (q.read (44 ∷ 32 ∷ (v ++ [])) (ends_at_comma (32 ∷ (v ++ [])))) in
-    let last : ended (third (parts (v ++ []))) ≡ Some z = ended_there z (third (parts (v ++ []))) (r.read [] ends) in
+    let last : last_operand (third (parts (v ++ []))) ≡ Some z = ended_there z (third (parts (v ++ []))) (r.read [] ends) in
     rw (flat, blank_front 32 (t ++ 44 ∷ 32 ∷ (u ++ 44 ∷ 32 ∷ (v ++ []))) refl, one, next, last) refl
 
 -- a number of 64 bits
-pub number_of_wide : (n : ℕ) → n < 2 ^ 64 → Prints number (decimal n) (signed false n)
+pub number_of_wide : (n : ℕ) → n < 2 ^ 64 → Prints number (decimal n) (number_with_sign false n)
 number_of_wide n small = record { read = λ rest e. rw (decimal_parts n rest small e) (number_word (decimal n) (parts rest) ∙ unsigned_word false n (parts rest) small) }

@@ -15,7 +15,7 @@ use Rattle.bpf_asm.specs.declared.fault.AsmFault.{AsmFault}
 use Rattle.bpf_asm.specs.Parts.{lines}
 use Rattle.bpf_asm.specs.Operands.{Draft, ◌>>=◌}
 use Rattle.bpf_asm.specs.Statements.{Statement, Label, Instruction, Empty, statement_of}
-use Rattle.bpf_asm.specs.Says.{AreOnce, drafts_of, label_slot, slots_in, SaysNone, SaysNothing, all_placed, placed, aim, away, memory_fault}
+use Rattle.bpf_asm.specs.Says.{AreOnce, drafts_of, label_slot, slots_in, SaysNone, SaysNothing, all_placed, instr_at, aim, away, memory_fault}
 use Rattle.bpf_asm.specs.Outlines.{slot_count, Holds, IsOutline, Fails, Adds, Breaks, unread, fails, IsUnread, Outlines}
 
 -- the lines of what is left of a text
@@ -222,8 +222,8 @@ aim_takes d (instr.CallLocal _) = refl
 aim_takes d i = refl
 
 -- an instruction takes the slots that its draft takes
-pub placed_takes : (at : List ℕ → Option ℕ) (slot : ℕ) (d : Draft) (i : Instr) → placed at slot d ≡ Some i → length (entry i) ≡ slots_in d
-unfolding placed
+pub placed_takes : (at : List ℕ → Option ℕ) (slot : ℕ) (d : Draft) (i : Instr) → instr_at at slot d ≡ Some i → length (entry i) ≡ slots_in d
+unfolding instr_at
 placed_takes at slot d i e = by_label d.label e
   where
     by_target : (to : Option ℕ) → option_map (λ to. aim (away slot to) d.instr) to ≡ Some i → length (entry i) ≡ slots_in d
@@ -324,9 +324,9 @@ begins_with (d ∷ done) line rest (s ∷ said) (t ∷ all) e h =
 -- the slots of placed instructions are those of the drafts
 pub all_placed_take : (at : List ℕ → Option ℕ) (slot : ℕ) (ds : List Draft) (is : List Instr) → all_placed at slot ds ≡ Some is → length (slots_of is) ≡ slot_count ds
 all_placed_take at slot [] is e = let same : Some [] ≡ Some is = e in let empty : [] ≡ is = cc in ap (λ (x : List Instr). length (slots_of x)) (sym empty)
-all_placed_take at slot (d ∷ ds) is e = by_first (placed at slot d) refl (λ others q. all_placed_take at (slot + slots_in d) ds others q)
+all_placed_take at slot (d ∷ ds) is e = by_first (instr_at at slot d) refl (λ others q. all_placed_take at (slot + slots_in d) ds others q)
   where
-    by_rest : (i : Instr) → placed at slot d ≡ Some i → ((others : List Instr) → all_placed at (slot + slots_in d) ds ≡ Some others → length (slots_of others) ≡ slot_count ds)
+    by_rest : (i : Instr) → instr_at at slot d ≡ Some i → ((others : List Instr) → all_placed at (slot + slots_in d) ds ≡ Some others → length (slots_of others) ≡ slot_count ds)
         → (r : Option (List Instr)) → all_placed at (slot + slots_in d) ds ≡ r → (r >>= (λ others. Some (i ∷ others))) ≡ Some is → length (slots_of is) ≡ slot_count (d ∷ ds)
     by_rest i p ih None q h = absurd (let bad : None ≡ Some is = h in cc)
     by_rest i p ih (Some others) q h =
@@ -336,7 +336,7 @@ all_placed_take at slot (d ∷ ds) is e = by_first (placed at slot d) refl (λ o
         let there = ih others q in
         ap (λ (x : List Instr). length (slots_of x)) (sym whole) ∙ length-append (entry i) (slots_of others) ∙ omega arith
 
-    by_first : (p : Option Instr) → placed at slot d ≡ p → ((others : List Instr) → all_placed at (slot + slots_in d) ds ≡ Some others → length (slots_of others) ≡ slot_count ds)
+    by_first : (p : Option Instr) → instr_at at slot d ≡ p → ((others : List Instr) → all_placed at (slot + slots_in d) ds ≡ Some others → length (slots_of others) ≡ slot_count ds)
         → length (slots_of is) ≡ slot_count (d ∷ ds)
     by_first None p ih = absurd (let bad : None ≡ Some is = rw p at e in cc)
     by_first (Some i) p ih = by_rest i p ih (all_placed at (slot + slots_in d) ds) refl (rw p at e)

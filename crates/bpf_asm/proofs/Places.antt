@@ -7,7 +7,7 @@ use Rattle.bpf_isa.specs.declared.instr.Instr.{Instr}
 use Rattle.bpf_asm.specs.declared.outline.Outline as code
 use Rattle.bpf_asm.specs.Operands.{Draft, ◌>>=◌}
 use Rattle.bpf_asm.specs.Statements.{Statement, name_value}
-use Rattle.bpf_asm.specs.Says.{drafts_of, label_slot, slots_in, all_placed, placed}
+use Rattle.bpf_asm.specs.Says.{drafts_of, label_slot, slots_in, all_placed, instr_at}
 use Rattle.bpf_asm.specs.Outlines.{slot_count, IsOutline, labels_in, LabelsFit}
 use Rattle.bpf_asm.proofs.Outlines.{label_within}
 
@@ -35,7 +35,7 @@ step_rest i instrs (Some r) = ap (λ (x : List Instr). Some x) (sym (append_asso
 
 -- one instruction more
 pub one_placed : (at : List ℕ → Option ℕ) (ds : List Draft) (k : ℕ) (instrs : List Instr) (slot : ℕ) (d : Draft) (i : Instr) → drop k ds ≡ d ∷ drop (k + 1) ds
-    → placed at slot d ≡ Some i → PlacedSoFar at ds k instrs slot → PlacedSoFar at ds (k + 1) (instrs ++ i ∷ []) (slot + slots_in d)
+    → instr_at at slot d ≡ Some i → PlacedSoFar at ds k instrs slot → PlacedSoFar at ds (k + 1) (instrs ++ i ∷ []) (slot + slots_in d)
 one_placed at ds k instrs slot d i e p h =
     let slots = h.slots in
     let counted : slot_count (drop k ds) ≡ slots_in d + slot_count (drop (k + 1) ds) = ap slot_count e in
@@ -50,7 +50,7 @@ one_placed at ds k instrs slot d i e p h =
 
 -- a label that doesn't exist
 pub not_placed : (at : List ℕ → Option ℕ) (ds : List Draft) (k : ℕ) (instrs : List Instr) (slot : ℕ) (d : Draft) → drop k ds ≡ d ∷ drop (k + 1) ds
-    → placed at slot d ≡ None → PlacedSoFar at ds k instrs slot → all_placed at 0 ds ≡ None
+    → instr_at at slot d ≡ None → PlacedSoFar at ds k instrs slot → all_placed at 0 ds ≡ None
 not_placed at ds k instrs slot d e p h =
     let first : all_placed at slot (d ∷ drop (k + 1) ds) ≡ None = rw p refl in
     sym h.left ∙ ap (λ (r : Option (List Instr)). r >>= (λ more. Some (instrs ++ more))) (ap (all_placed at slot) e ∙ first)
@@ -103,5 +103,5 @@ pub slot_within : (o : code.Outline) (said : List Statement) (i slot : ℕ) (ins
 slot_within o said i slot instrs h p = let slots = p.slots in let count = h.count in let limit = h.limit in omega arith
 
 pub placed_pushed : (at : List ℕ → Option ℕ) (ds : List Draft) (k : ℕ) (instrs more : List Instr) (slot width : ℕ) (d : Draft) (i : Instr) → more ≡ instrs ++ i ∷ [] → width ≡ slots_in d
-    → drop k ds ≡ d ∷ drop (k + 1) ds → placed at slot d ≡ Some i → PlacedSoFar at ds k instrs slot → PlacedSoFar at ds (k + 1) more (slot + width)
+    → drop k ds ≡ d ∷ drop (k + 1) ds → instr_at at slot d ≡ Some i → PlacedSoFar at ds k instrs slot → PlacedSoFar at ds (k + 1) more (slot + width)
 placed_pushed at ds k instrs more slot width d i e f here p h = rw (e, f) (one_placed at ds k instrs slot d i here p h)

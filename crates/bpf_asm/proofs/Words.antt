@@ -2,13 +2,13 @@
 use Rattle.std.proofs.Common.{◌≡◌, ℕ, ◌+◌, ◌*◌, ◌<◌, ◌≤◌, List, [], ◌∷◌, length, get_or, drop, Option, Some, None, option_map, refl, sym, ap, ◌∙◌, arith}
 use Rattle.std.proofs.lemmas.Bool.{lt-ltb, le-ltb}
 use Rattle.std.proofs.Math.Seq.{drop-length}
-use Rattle.bpf_asm.specs.Words.{digit, numeral_from, numeral, held}
+use Rattle.bpf_asm.specs.Words.{digit, numeral_from, numeral, in_64_bits}
 use Rattle.bpf_asm.proofs.Parts.{drop_there}
 
 -- behind the first i digits, which make n
 pub record NumeralSoFar (base : ℕ) (digits : List ℕ) (i : ℕ) (magnitude : Option ℕ) : Type 0 where
   pub n : ℕ
-  pub is : magnitude ≡ held n
+  pub is : magnitude ≡ in_64_bits n
   pub rest : numeral_from base n (drop i digits) ≡ numeral_from base 0 digits
 
 -- no digit was read
@@ -29,7 +29,7 @@ no_more base n = refl
 
 -- one digit more
 pub one_more : (base : ℕ) (digits : List ℕ) (i : ℕ) (m more : Option ℕ) → i < length digits → digit (get_or digits i 0) < base → NumeralSoFar base digits i m
-    → ((n : ℕ) → m ≡ held n → more ≡ held (base * n + digit (get_or digits i 0))) → NumeralSoFar base digits (i + 1) more
+    → ((n : ℕ) → m ≡ in_64_bits n → more ≡ in_64_bits (base * n + digit (get_or digits i 0))) → NumeralSoFar base digits (i + 1) more
 one_more base digits i m more there below so_far next = record {
   n = base * so_far.n + digit (get_or digits i 0);
   is = next so_far.n so_far.is;
@@ -49,7 +49,7 @@ not_a_numeral base digits i m there above so_far =
 
 -- the end
 pub whole_numeral : (base : ℕ) (digits : List ℕ) (i : ℕ) (m : Option ℕ) → 0 < length digits → i ≡ length digits → NumeralSoFar base digits i m
-    → Some m ≡ option_map held (numeral base digits)
+    → Some m ≡ option_map in_64_bits (numeral base digits)
 whole_numeral base digits i m some end so_far =
     let ended : numeral_from base so_far.n (drop i digits) ≡ Some so_far.n = ap (λ (k : ℕ). numeral_from base so_far.n (drop k digits)) end ∙ ap (numeral_from base so_far.n) (drop-length digits) ∙ no_more base so_far.n in
     let all : numeral base digits ≡ Some so_far.n = some_digits base digits some ∙ sym so_far.rest ∙ ended in

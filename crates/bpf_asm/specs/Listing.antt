@@ -42,13 +42,13 @@ operand_texts (instr.Store s base offset src) = place_text base offset ∷ regis
 operand_texts (instr.LoadImmediate dst value) = register_text dst ∷ decimal value ∷ []
 
 -- a space before the first, a comma and a space before each further one
-abbrev pub joined : List (List ℕ) → List ℕ
-joined [] = []
-joined (x ∷ rest) = codes " " ++ x ++ flat_map (λ y. codes ", " ++ y) rest
+abbrev pub operand_list : List (List ℕ) → List ℕ
+operand_list [] = []
+operand_list (x ∷ rest) = codes " " ++ x ++ flat_map (λ y. codes ", " ++ y) rest
 
 -- the line of an instruction, without its end
 unfoldable pub line_text : Instr → List ℕ
-line_text i = name_of (mnemonic i) ++ joined (operand_texts i)
+line_text i = name_of (mnemonic i) ++ operand_list (operand_texts i)
 
 -- the line of the instruction that begins in a slot, if one does
 abbrev pub slot_text : Option Instr → List ℕ

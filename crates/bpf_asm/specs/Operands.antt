@@ -8,7 +8,7 @@ use Rattle.bpf_asm.specs.declared.number.Number.{Number}
 use Rattle.bpf_asm.specs.declared.mnemonic.Mnemonic.{Mnemonic}
 use Rattle.bpf_asm.specs.declared.mnemonic.Mnemonic.TheVariants as kind
 use Rattle.bpf_asm.specs.Parts.{Part, Word, Mark, is_none_left}
-use Rattle.bpf_asm.specs.Words.{number_of, signed, register_of, is_name, in_range, in_wide_range}
+use Rattle.bpf_asm.specs.Words.{number_of, number_with_sign, register_of, is_name, in_range, in_wide_range}
 
 infixl 10 ◌>>=◌
 abbrev pub ◌>>=◌ : {A B : Type 0} → Option A → (A → Option B) → Option B
@@ -30,14 +30,14 @@ register (Word w ∷ rest) = option_map (λ r. (r, rest)) (register_of w)
 register _ = None
 
 -- a number without a sign, as the magnitude of one with this sign
-unfoldable pub unsigned : Bool → Reading Number
-unsigned negative (Word w ∷ rest) = option_map (λ n. (signed negative n, rest)) (number_of w)
-unsigned negative _ = None
+unfoldable pub magnitude_of : Bool → Reading Number
+magnitude_of negative (Word w ∷ rest) = option_map (λ n. (number_with_sign negative n, rest)) (number_of w)
+magnitude_of negative _ = None
 
 -- a number, or `-` and a number
 unfoldable pub number : Reading Number
-number (Mark m ∷ rest) = if m == 45 then unsigned true rest else None
-number ps = unsigned false ps
+number (Mark m ∷ rest) = if m == 45 then magnitude_of true rest else None
+number ps = magnitude_of false ps
 
 -- `+` or `-`; the value is whether it is `-`
 unfoldable pub sign : Reading Bool
@@ -48,7 +48,7 @@ sign _ = None
 unfoldable pub distance : Reading Number
 distance ps = do
   s ← sign ps
-  unsigned s.0 s.1
+  magnitude_of s.0 s.1
 
 -- a register, or else an immediate
 pub data Operand : Type 0 where
@@ -81,10 +81,10 @@ target (Word w ∷ rest) = if is_name w then Some (To w, rest) else None
 target ps = option_map (λ x. (At x.0, x.1)) (distance ps)
 
 -- the last operand
-abbrev pub ended : {A : Type 0} → Option (A × List Part) → Option A
-ended None = None
-ended (Some (x, [])) = Some x
-ended (Some (x, _ ∷ _)) = None
+abbrev pub last_operand : {A : Type 0} → Option (A × List Part) → Option A
+last_operand None = None
+last_operand (Some (x, [])) = Some x
+last_operand (Some (x, _ ∷ _)) = None
 
 -- an operand and a comma
 abbrev pub with_comma : {A : Type 0} → Option (A × List Part) → Option (A × List Part)
@@ -93,19 +93,19 @@ with_comma (Some x) = option_map (λ rest. (x.0, rest)) (mark 44 x.1)
 
 -- one, two or three operands with commas between, and nothing behind them
 abbrev pub one : {A : Type 0} → Reading A → List Part → Option A
-one first ps = ended (first ps)
+one first ps = last_operand (first ps)
 
 abbrev pub two : {A B : Type 0} → Reading A → Reading B → List Part → Option (A × B)
 two first second ps = do
   a ← with_comma (first ps)
-  b ← ended (second a.1)
+  b ← last_operand (second a.1)
   Some (a.0, b)
 
 abbrev pub three : {A B C : Type 0} → Reading A → Reading B → Reading C → List Part → Option (A × B × C)
 three first second third ps = do
   a ← with_comma (first ps)
   b ← with_comma (second a.1)
-  c ← ended (third b.1)
+  c ← last_operand (third b.1)
   Some (a.0, b.0, c)
 
 -- An instruction as a line says it. Where a label tells its distance, the distance is 0 until the label's slot is known.
@@ -128,9 +128,9 @@ abbrev pub immediate_in_range : Number → Option ℤ
 immediate_in_range n = in_range 0x8000_0000 n
 
 -- a distance with its label, in its range
-abbrev pub aimed : (Number → Option ℤ) → Target → Option (ℤ × Option (List ℕ))
-aimed range (At n) = option_map (λ d. (d, None)) (range n)
-aimed range (To name) = Some (pos 0, Some name)
+abbrev pub distance_to : (Number → Option ℤ) → Target → Option (ℤ × Option (List ℕ))
+distance_to range (At n) = option_map (λ d. (d, None)) (range n)
+distance_to range (To name) = Some (pos 0, Some name)
 
 -- the operands behind the name of each instruction, then their ranges
 unfoldable pub draft : Mnemonic → List Part → Option Draft
@@ -149,16 +149,16 @@ draft (kind.ByteOrder o s) ps = do
   Some (whole (instr.ByteOrder o s dst))
 draft kind.Jump ps = do
   to ← one target ps
-  d ← aimed offset_in_range to
+  d ← distance_to offset_in_range to
   Some (record { instr = instr.Jump d.0; label = d.1 })
 draft kind.LongJump ps = do
   to ← one target ps
-  d ← aimed immediate_in_range to
+  d ← distance_to immediate_in_range to
   Some (record { instr = instr.LongJump d.0; label = d.1 })
 draft (kind.Branch w c) ps = do
   x ← three register operand target ps
   s ← source_in_range x.1
-  d ← aimed offset_in_range x.2
+  d ← distance_to offset_in_range x.2
   Some (record { instr = instr.Branch w c x.0 s d.0; label = d.1 })
 draft kind.CallHelper ps = do
   n ← one number ps
@@ -166,7 +166,7 @@ draft kind.CallHelper ps = do
   Some (whole (instr.CallHelper helper))
 draft kind.CallLocal ps = do
   to ← one target ps
-  d ← aimed immediate_in_range to
+  d ← distance_to immediate_in_range to
   Some (record { instr = instr.CallLocal d.0; label = d.1 })
 draft kind.Exit ps = if is_none_left ps then Some (whole instr.Exit) else None
 draft (kind.Load s) ps = do

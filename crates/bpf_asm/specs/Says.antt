@@ -44,14 +44,14 @@ abbrev pub away : ℕ → ℕ → ℤ
 away slot to = pos to -ℤ pos (slot + 1)
 
 -- the instruction at this slot, where the labels stand for these slots
-unfoldable pub placed : (List ℕ → Option ℕ) → ℕ → Draft → Option Instr
-placed label_at slot d = option_map_or (λ name. option_map (λ to. aim (away slot to) d.instr) (label_at name)) d.label (Some d.instr)
+unfoldable pub instr_at : (List ℕ → Option ℕ) → ℕ → Draft → Option Instr
+instr_at label_at slot d = option_map_or (λ name. option_map (λ to. aim (away slot to) d.instr) (label_at name)) d.label (Some d.instr)
 
 -- the instructions from this slot on
 abbrev pub all_placed : (List ℕ → Option ℕ) → ℕ → List Draft → Option (List Instr)
 all_placed label_at slot [] = Some []
 all_placed label_at slot (d ∷ rest) = do
-  first ← placed label_at slot d
+  first ← instr_at label_at slot d
   others ← all_placed label_at (slot + slots_in d) rest
   Some (first ∷ others)
 

@@ -32,12 +32,12 @@ unfoldable pub number_of : List ℕ → Option ℕ
 number_of word = if is_hexadecimal word then numeral 16 (drop 2 word) else numeral 10 word
 
 -- a magnitude of 64 bits; what is above is in no range
-abbrev pub held : ℕ → Option ℕ
-held n = if nat_lt n (2 ^ 64) then Some n else None
+abbrev pub in_64_bits : ℕ → Option ℕ
+in_64_bits n = if nat_lt n (2 ^ 64) then Some n else None
 
 -- a number behind its sign
-abbrev pub signed : Bool → ℕ → Number
-signed negative n = record { negative = negative; magnitude = held n }
+abbrev pub number_with_sign : Bool → ℕ → Number
+number_with_sign negative n = record { negative = negative; magnitude = in_64_bits n }
 
 -- `r` and one digit
 abbrev pub is_short_register : List ℕ → Bool

@@ -4,7 +4,7 @@ ghost use Rattle.std.specs.Prelude.{◌≡◌, ◌⊎◌, ◌<◌, ◌≤◌, �
 ghost use Rattle.std.specs.HashMap as hash;
 ghost use Rattle.bpf_asm.specs.Statements.{name_value};
 ghost use Rattle.base.specs.declared.causes.AsmCause.TheVariants.{Memory};
-ghost use Rattle.bpf_asm.specs.Says.{Says, SaysNone, SaysNothing, aim, away, placed, memory_fault, empty_fault};
+ghost use Rattle.bpf_asm.specs.Says.{Says, SaysNone, SaysNothing, aim, away, instr_at, memory_fault, empty_fault};
 ghost use Rattle.bpf_asm.specs.Outlines.{Stands, IsPlaced, IsUnplaced, LabelsFit};
 
 use crate::fault::{AsmCause, AsmFault, of_code};
@@ -53,7 +53,7 @@ fn distance(slot: usize, to: usize) -> i16
 }
 
 /// The instruction at this slot, with the distance to the label that it names.
-#[tactic(auto, unfolding(crate::specs::Says::placed))]
+#[tactic(auto, unfolding(crate::specs::Says::instr_at))]
 fn place(
     labels: &IndexMap<&[u8], usize>,
     instr: Instr,
@@ -62,7 +62,7 @@ fn place(
 ) -> Option<Instr>
     requires slot { slot ≤ 4096 }
     requires labels { LabelsFit (λ q. hash.get_by (λ k. bytes_eq q k.now) labels.now) }
-    ensures { result ≡ placed (λ q. hash.get_by (λ k. bytes_eq q k.now) labels.now) slot (record { instr = instr; label = name_value label.entry }) }
+    ensures { result ≡ instr_at (λ q. hash.get_by (λ k. bytes_eq q k.now) labels.now) slot (record { instr = instr; label = name_value label.entry }) }
 {
     let Some(name) = label else {
         return Some(instr);

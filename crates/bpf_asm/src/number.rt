@@ -1,7 +1,7 @@
 //! Numbers of a text.
 
 ghost use Rattle.std.specs.Prelude.{ℕ, ◌≡◌, ◌<◌, ◌≤◌, ◌^◌, ◌+◌, ◌*◌, true, false, option_map, if◌then◌else◌};
-ghost use Rattle.bpf_asm.specs.Words.{digit, numeral, number_of, held, is_hexadecimal, in_range, in_wide_range};
+ghost use Rattle.bpf_asm.specs.Words.{digit, numeral, number_of, in_64_bits, is_hexadecimal, in_range, in_wide_range};
 
 /// A number with its sign, before it is known which range it has to keep.
 #[derive(Clone, Copy)]
@@ -75,7 +75,7 @@ fn with_digit(magnitude: Option<u64>, base: u64, digit: u64) -> Option<u64>
     requires base { 0 < base }
     requires small { base ≤ 16 }
     requires digit { digit ≤ 16 }
-    ensures { (n : ℕ) → magnitude ≡ held n → result ≡ held (base * n + digit) }
+    ensures { (n : ℕ) → magnitude ≡ in_64_bits n → result ≡ in_64_bits (base * n + digit) }
 {
     let Some(magnitude) = magnitude else {
         return None;
@@ -90,7 +90,7 @@ fn with_digit(magnitude: Option<u64>, base: u64, digit: u64) -> Option<u64>
 fn numeral(digits: &[u8], base: u64) -> Option<Option<u64>>
     requires base { 0 < base }
     requires small { base ≤ 16 }
-    ensures { result ≡ option_map held (numeral base digits.now) }
+    ensures { result ≡ option_map in_64_bits (numeral base digits.now) }
 {
     if digits.is_empty() {
         return None;
@@ -116,7 +116,7 @@ fn is_hexadecimal(word: &[u8]) -> bool
 /// The magnitude of the number that a word is, if it is one.
 #[tactic(auto, unfolding(crate::specs::Words::number_of))]
 pub(crate) fn magnitude(word: &[u8]) -> Option<Option<u64>>
-    ensures { result ≡ option_map held (number_of word.now) }
+    ensures { result ≡ option_map in_64_bits (number_of word.now) }
 {
     if is_hexadecimal(word) {
         numeral(word.split_at(2).1, 16)

@@ -1,10 +1,10 @@
 //! The operands of a line, each with the line behind it.
-#![tactic(auto, unfolding(crate::specs::Operands::register, crate::specs::Operands::unsigned, crate::specs::Operands::number, crate::specs::Operands::sign, crate::specs::Operands::distance, crate::specs::Operands::operand, crate::specs::Operands::place, crate::specs::Operands::target, crate::specs::Words::register_of, crate::specs::Words::is_name))]
+#![tactic(auto, unfolding(crate::specs::Operands::register, crate::specs::Operands::magnitude_of, crate::specs::Operands::number, crate::specs::Operands::sign, crate::specs::Operands::distance, crate::specs::Operands::operand, crate::specs::Operands::place, crate::specs::Operands::target, crate::specs::Words::register_of, crate::specs::Words::is_name))]
 
 ghost use Rattle.std.specs.Prelude.{◌≡◌, option_map};
 ghost use Rattle.bpf_asm.specs.Parts.{parts, first_word, is_none_left};
-ghost use Rattle.bpf_asm.specs.Words.{register_of, is_name, signed};
-ghost use Rattle.bpf_asm.specs.Operands.{mark, register, unsigned, number, sign, distance, operand, place, target, with_comma, one, two, three, source_in_range, aimed, offset_in_range, immediate_in_range};
+ghost use Rattle.bpf_asm.specs.Words.{register_of, is_name, number_with_sign};
+ghost use Rattle.bpf_asm.specs.Operands.{mark, register, magnitude_of, number, sign, distance, operand, place, target, with_comma, one, two, three, source_in_range, distance_to, offset_in_range, immediate_in_range};
 ghost use Rattle.bpf_asm.specs.Reads.{Reads, operand_value, target_value, aim_value};
 
 use crate::number::{Number, magnitude};
@@ -41,7 +41,7 @@ pub(crate) enum Target<'t> {
 impl<'t> Target<'t> {
     /// The distance of 16 bits, if it is in its range, and the label that is to tell it.
     pub(crate) fn near(self) -> Option<(i16, Option<&'t [u8]>)>
-        ensures { option_map aim_value result ≡ aimed offset_in_range (target_value self.entry) }
+        ensures { option_map aim_value result ≡ distance_to offset_in_range (target_value self.entry) }
     {
         match self {
             Target::Distance(number) => Some((number.offset()?, None)),
@@ -51,7 +51,7 @@ impl<'t> Target<'t> {
 
     /// The distance of 32 bits, if it is in its range, and the label that is to tell it.
     pub(crate) fn far(self) -> Option<(i32, Option<&'t [u8]>)>
-        ensures { option_map aim_value result ≡ aimed immediate_in_range (target_value self.entry) }
+        ensures { option_map aim_value result ≡ distance_to immediate_in_range (target_value self.entry) }
     {
         match self {
             Target::Distance(number) => Some((number.immediate()?, None)),
@@ -100,7 +100,7 @@ fn register(line: &[u8]) -> Option<(Register, &[u8])>
 
 /// A number without a sign, as the magnitude of one with this sign.
 fn unsigned(line: &[u8], negative: bool) -> Option<(Number, &[u8])>
-    ensures { Reads (λ x. x) result (unsigned negative (parts line.now)) }
+    ensures { Reads (λ x. x) result (magnitude_of negative (parts line.now)) }
 {
     let (word, rest) = part::word(line)?;
     let magnitude = magnitude(word)?;

@@ -22,7 +22,7 @@ use Rattle.bpf_isa.specs.declared.instr.OrderSize.TheVariants as bits
 use Rattle.bpf_isa.specs.declared.instr.Size.TheVariants as size
 use Rattle.bpf_isa.specs.declared.instr.SignedSize.TheVariants as signed
 use Rattle.bpf_isa.specs.Table.{form_of, opcode_of, arithmetic_form, jump_form, memory_form, operator_of, condition_of, size_of, signed_size_of, operator_code, condition_code, source_bit, alu_class, jump_class}
-use Rattle.bpf_isa.specs.Forms.{unsigned, as_told, shape}
+use Rattle.bpf_isa.specs.Forms.{unsigned_form, as_told, shape}
 use Rattle.bpf_isa.specs.Spelling.{fields_of, second_of, IsInRange, operator_offset, extension_width, extension_offset, order_immediate}
 use Rattle.bpf_isa.specs.Faults.{checks, layout_of, is_one_of, offsets_of, move_offsets, register_offsets}
 use Rattle.bpf_isa.specs.Decoding.{Follows}
@@ -85,7 +85,7 @@ jmp_told width.W64 c true =
 
 -- A last case stands for each constructor that is left, and is checked at each.
 
-operator_told : (w : Width) (register : Bool) (o : Operator) → arithmetic_form w (operator_code o) register ≡ Some (form.Arithmetic w (unsigned o) register)
+operator_told : (w : Width) (register : Bool) (o : Operator) → arithmetic_form w (operator_code o) register ≡ Some (form.Arithmetic w (unsigned_form o) register)
 unfolding arithmetic_form operator_of
 operator_told w register op.Add = refl
 operator_told w register _ = refl
@@ -138,7 +138,7 @@ shape_told (instr.LoadImmediate dst value) = told form.LoadImmediate
 
 -- An instruction passes the tests of its form.
 
-offset_known : (o : Operator) → is_one_of (offsets_of (unsigned o)) (operator_offset o) ≡ true
+offset_known : (o : Operator) → is_one_of (offsets_of (unsigned_form o)) (operator_offset o) ≡ true
 offset_known op.Add = refl
 offset_known _ = refl
 
@@ -146,7 +146,7 @@ move_known : (w : Width) → is_one_of (move_offsets w) 0 ≡ true
 move_known width.W32 = refl
 move_known width.W64 = refl
 
-register_offset_known : (w : Width) (o : Operator) → is_one_of (register_offsets w (unsigned o)) (operator_offset o) ≡ true
+register_offset_known : (w : Width) (o : Operator) → is_one_of (register_offsets w (unsigned_form o)) (operator_offset o) ≡ true
 register_offset_known w op.Mov = move_known w
 register_offset_known w _ = refl
 

@@ -21,7 +21,7 @@ use Rattle.bpf_isa.specs.declared.instr.SignExtension.TheVariants as extension
 use Rattle.bpf_isa.specs.declared.instr.OrderSize.{OrderSize}
 use Rattle.bpf_isa.specs.declared.instr.OrderSize.TheVariants as bits
 use Rattle.bpf_isa.specs.Table.{form_of}
-use Rattle.bpf_isa.specs.Forms.{unsigned, shape}
+use Rattle.bpf_isa.specs.Forms.{unsigned_form, shape}
 use Rattle.bpf_isa.specs.Fields.{fields, fields_at, field_bytes, slot_at}
 use Rattle.bpf_isa.specs.Spelling.{fields_of, second_of, IsInRange, operator_offset, extension_width, extension_offset, order_immediate}
 use Rattle.bpf_isa.specs.Program.{entry, slots_of, spelling, slot_bytes, AllInRange, AreSlots, IsSpelledBy, Begins, checks_at, FirstFault, IsWhole, cut, count, at_slot}
@@ -118,7 +118,7 @@ read (form.StoreImmediate size) s t = instr.StoreImmediate size s.dst (cast_sign
 read (form.Store size) s t = instr.Store size s.dst (cast_signed w16 s.offset) s.src
 read form.LoadImmediate s t = instr.LoadImmediate s.dst (t.immediate * 2 ^ 32 + s.immediate)
 
-operator_back : (o : Operator) → with_offset (unsigned o) (operator_offset o) ≡ o
+operator_back : (o : Operator) → with_offset (unsigned_form o) (operator_offset o) ≡ o
 unfolding with_offset
 operator_back op.Add = refl
 operator_back _ = refl
@@ -128,7 +128,7 @@ unfolding with_register extension_with
 extension_back extension.From8To64 dst src opcode = refl
 extension_back _ dst src opcode = refl
 
-register_back : (o : Operator) (w : Width) (dst src opcode : ℕ) → with_register w (unsigned o) (fields opcode dst src (operator_offset o) 0) ≡ instr.Arithmetic w o dst (source.Register src)
+register_back : (o : Operator) (w : Width) (dst src opcode : ℕ) → with_register w (unsigned_form o) (fields opcode dst src (operator_offset o) 0) ≡ instr.Arithmetic w o dst (source.Register src)
 unfolding with_register with_offset
 register_back op.Add w dst src opcode = refl
 register_back _ w dst src opcode = refl

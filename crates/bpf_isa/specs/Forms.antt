@@ -11,19 +11,19 @@ use Rattle.bpf_isa.specs.Table.{form_of, opcode_of}
 use Rattle.bpf_isa.specs.Spelling.{extension_width}
 
 -- signed division and modulo share the opcode of the unsigned ones
-abbrev pub unsigned : Operator → Operator
-unsigned op.SignedDiv = op.Div
-unsigned op.SignedMod = op.Mod
-unsigned o = o
+abbrev pub unsigned_form : Operator → Operator
+unsigned_form op.SignedDiv = op.Div
+unsigned_form op.SignedMod = op.Mod
+unsigned_form o = o
 
 abbrev pub as_told : Form → Form
-as_told (form.Arithmetic w o register) = form.Arithmetic w (unsigned o) register
+as_told (form.Arithmetic w o register) = form.Arithmetic w (unsigned_form o) register
 as_told f = f
 
 -- the form that the opcode of an instruction tells
 abbrev pub shape : Instr → Form
-shape (instr.Arithmetic w o dst (source.Immediate n)) = form.Arithmetic w (unsigned o) false
-shape (instr.Arithmetic w o dst (source.Register src)) = form.Arithmetic w (unsigned o) true
+shape (instr.Arithmetic w o dst (source.Immediate n)) = form.Arithmetic w (unsigned_form o) false
+shape (instr.Arithmetic w o dst (source.Register src)) = form.Arithmetic w (unsigned_form o) true
 shape (instr.Negate w dst) = form.Negate w
 shape (instr.SignExtend e dst src) = form.Arithmetic (extension_width e) op.Mov true
 shape (instr.ByteOrder o size dst) = form.ByteOrder o

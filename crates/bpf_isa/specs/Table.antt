@@ -106,8 +106,8 @@ jump_form w code register =
     option_map_or (λ c. Some (form.Branch w c register)) (condition_of code) (if register then None else other_jump w code)
 
 -- classes LDX, ST and STX, mode MEM
-abbrev pub moved : ℕ → ℕ → Option Form
-moved class size =
+abbrev pub move_form : ℕ → ℕ → Option Form
+move_form class size =
     if class == 1 then option_map form.Load (size_of size)
     else if class == 2 then option_map form.StoreImmediate (size_of size)
     else option_map form.Store (size_of size)
@@ -116,7 +116,7 @@ moved class size =
 unfoldable pub memory_form : ℕ → ℕ → ℕ → Option Form
 memory_form class mode size =
     if class == 0 then (if mode == 0 then (if size == 3 then Some form.LoadImmediate else None) else None)
-    else if mode == 3 then moved class size
+    else if mode == 3 then move_form class size
     else if mode == 4 then (if class == 1 then option_map form.LoadSigned (signed_size_of size) else None)
     else None
 

@@ -3,7 +3,7 @@ use Rattle.std.proofs.Common.{ℕ, ◌≡◌, ◌+◌, ◌<◌, ◌⊎◌, Bool,
 use Rattle.std.proofs.lemmas.Bool.{cases_Bool, cases_lt, cases_eq}
 use Rattle.std.proofs.lemmas.List.{get_or-set_same, get_or-set_other, length-set, get_or_past}
 use Rattle.std.proofs.lemmas.List.Sums.{sum_by-set}
-use Rattle.bpf_shape.specs.Search.{IsMarked, is_new, marks_after, waiting_after, Has, unmarked, Met}
+use Rattle.bpf_shape.specs.Search.{IsMarked, is_new, marks_after, waiting_after, Has, unmarked_count, Met}
 
 pub has_left : (xs ys : List ℕ) (t : ℕ) → Has xs t → Has (xs ++ ys) t
 has_left [] ys t h = absurd h
@@ -44,7 +44,7 @@ new_parts b m s h =
     ]
 
 -- one slot less without a mark
-marked_size : (m : List Bool) (s : ℕ) → s < length m → get_or m s false ≡ false → unmarked (set m s true) + 1 ≡ unmarked m
+marked_size : (m : List Bool) (s : ℕ) → s < length m → get_or m s false ≡ false → unmarked_count (set m s true) + 1 ≡ unmarked_count m
 marked_size m s inside is =
     let change = sum_by-set (λ b. if not b then 1 else 0) m s true false inside in
     let one : ℕ = 1 in

@@ -5,7 +5,7 @@ use Rattle.std.proofs.lemmas.List.{get_or-set_same, get_or-set_other, length-set
 use Rattle.std.proofs.lemmas.List.Sums.{sum_by-set, count_by-le-length}
 use Rattle.std.proofs.Math.Nat.{mul-le-mul}
 use Rattle.bpf_shape.specs.declared.edges.Edges.{Edges}
-use Rattle.bpf_shape.specs.Lengths.{weight_at, heaviest, length_of, behind_edge, length_from, known, AreHeavy, ArePartial, IsStuck}
+use Rattle.bpf_shape.specs.Lengths.{weight_at, heaviest, length_of, behind_edge, length_from, known_count, AreHeavy, ArePartial, IsStuck}
 
 -- a slot weighs no more than the heaviest,
 pub le_heaviest : (ws : List ℕ) (s : ℕ) → s < length ws → weight_at ws s ≤ heaviest ws
@@ -79,7 +79,7 @@ kept_from weight v s k j e none is =
     })
 
 -- one slot more has a length
-one_more : (v : List (Option ℕ)) (s k : ℕ) → s < length v → length_of v s ≡ None → known (set v s (Some k)) ≡ known v + 1
+one_more : (v : List (Option ℕ)) (s k : ℕ) → s < length v → length_of v s ≡ None → known_count (set v s (Some k)) ≡ known_count v + 1
 one_more v s k inside none =
     let change = sum_by-set (λ (x : Option ℕ). if is_some x then 1 else 0) v s (Some k) None inside in
     let nought : ℕ = 0 in
@@ -95,12 +95,12 @@ pub grow : (next : ℕ → Edges) (n : ℕ) (ws : List ℕ) (v : List (Option �
     → length_from (weight_at ws s) v (next s) ≡ Some k → ArePartial next n ws (set v s (Some k))
 grow next n ws v s k inside p none is =
     let within : s < length v = omega (arith, inside, p.long) in
-    let more : known (set v s (Some k)) ≡ known v + 1 = one_more v s k within none in
-    let room : known (set v s (Some k)) * heaviest ws ≡ known v * heaviest ws + heaviest ws =
-    ap (λ (x : ℕ). x * heaviest ws) more ∙ one_more_times (known v) (heaviest ws) in
+    let more : known_count (set v s (Some k)) ≡ known_count v + 1 = one_more v s k within none in
+    let room : known_count (set v s (Some k)) * heaviest ws ≡ known_count v * heaviest ws + heaviest ws =
+    ap (λ (x : ℕ). x * heaviest ws) more ∙ one_more_times (known_count v) (heaviest ws) in
     let c = comes (weight_at ws s) v (next s) k is in
-    let a = edge_bound v (next s).next c.next (known v * heaviest ws) p.bound c.next_is in
-    let b = edge_bound v (next s).target c.target (known v * heaviest ws) p.bound c.target_is in
+    let a = edge_bound v (next s).next c.next (known_count v * heaviest ws) p.bound c.next_is in
+    let b = edge_bound v (next s).target c.target (known_count v * heaviest ws) p.bound c.target_is in
     let heavy : weight_at ws s ≤ heaviest ws = le_heaviest ws s (omega (arith, inside, p.heavy.long)) in
     let here : length_of (set v s (Some k)) s ≡ Some k = get_or-set_same v s (Some k) None within in
     record {
@@ -130,7 +130,7 @@ grow next n ws v s k inside p none is =
 
 -- and one slot more has a length
 pub grows : (next : ℕ → Edges) (n : ℕ) (ws : List ℕ) (v : List (Option ℕ)) (s k : ℕ) → s < n → ArePartial next n ws v → length_of v s ≡ None
-    → known v < known (set v s (Some k))
+    → known_count v < known_count (set v s (Some k))
 grows next n ws v s k inside p none =
     let within : s < length v = omega (arith, inside, p.long) in
     omega (arith, one_more v s k within none)
@@ -139,8 +139,8 @@ grows next n ws v s k inside p none =
 pub at_most : (next : ℕ → Edges) (n : ℕ) (ws : List ℕ) (v : List (Option ℕ)) → ArePartial next n ws v → (s k : ℕ) → length_of v s ≡ Some k → k ≤ n * heaviest ws
 at_most next n ws v p s k h =
     let all = count_by-le-length (λ (x : Option ℕ). is_some x) v in
-    let few : known v ≤ n = omega (arith, all, p.long) in
-    let times : known v * heaviest ws ≤ n * heaviest ws = mul-le-mul_right (heaviest ws) few in
+    let few : known_count v ≤ n = omega (arith, all, p.long) in
+    let times : known_count v * heaviest ws ≤ n * heaviest ws = mul-le-mul_right (heaviest ws) few in
     omega (arith, times, p.bound s k h)
 
 -- a length is at most 4096 times the heaviest weight
@@ -170,8 +170,8 @@ none_known next n ws heavy = record {
 -- A sweep from the highest slot down to this one.
 pub record Swept (next : ℕ → Edges) (n : ℕ) (ws : List ℕ) (old new : List (Option ℕ)) (slot : ℕ) (found : Bool) : Type 0 where
   pub partial : ArePartial next n ws new
-  pub least : known old ≤ known new
-  pub more : IsTrue found → known old < known new
+  pub least : known_count old ≤ known_count new
+  pub more : IsTrue found → known_count old < known_count new
   pub stuck : IsFalse found → (s : ℕ) → slot ≤ s → s < n → IsStuck next ws new s
   pub inside : slot ≤ n
 
@@ -185,7 +185,7 @@ swept_none next n ws v p = record {
 }
 
 pub swept_found : (next : ℕ → Edges) (n : ℕ) (ws : List ℕ) (old v new : List (Option ℕ)) (slot : ℕ) (found : Bool) → Swept next n ws old v slot found
-    → ArePartial next n ws new → known v < known new → Swept next n ws old new (slot - 1) true
+    → ArePartial next n ws new → known_count v < known_count new → Swept next n ws old new (slot - 1) true
 swept_found next n ws old v new slot found s p more = record {
   partial = p;
   least = omega (arith, s.least, more);

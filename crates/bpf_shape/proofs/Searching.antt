@@ -7,7 +7,7 @@ use Rattle.bpf_isa.specs.declared.instr.Instr.{Instr}
 use Rattle.bpf_shape.specs.Edges.{edges}
 use Rattle.bpf_shape.specs.Calls.{callee}
 use Rattle.bpf_shape.specs.Paths.{Leads, IsWalk, end_of, LeadsTo}
-use Rattle.bpf_shape.specs.Search.{IsMarked, Has, unmarked, Met, EdgesFit, EntriesFit, AllWait, Enters, AreMarks}
+use Rattle.bpf_shape.specs.Search.{IsMarked, Has, unmarked_count, Met, EdgesFit, EntriesFit, AllWait, Enters, AreMarks}
 use Rattle.bpf_shape.proofs.Walks.{leads_more, leads_first}
 use Rattle.bpf_shape.proofs.Meeting.{has_left, has_right, has_last, same, meet_both}
 
@@ -105,7 +105,7 @@ go_on next n starts m marks w waiting all s fits is before met =
 
 -- it takes one that waits each time
 pub fewer : (P : ℕ → Type 0) (m marks : List Bool) (w waiting all : List ℕ) (s : ℕ) → all ≡ w ++ s ∷ [] → Met P m w marks waiting
-    → 2 * unmarked marks + length waiting < 2 * unmarked m + length all
+    → 2 * unmarked_count marks + length waiting < 2 * unmarked_count m + length all
 fewer P m marks w waiting all s is met =
     let long = ap length is ∙ length-append w (s ∷ []) in
     omega (arith, long, met.size)

@@ -42,8 +42,8 @@ length_from weight lengths e =
     option_and_then (λ a. option_map (λ b. weight + max a b) (behind_edge lengths e.target)) (behind_edge lengths e.next)
 
 -- how many slots have a length
-abbrev pub known : List (Option ℕ) → ℕ
-known lengths = count_by is_some lengths
+abbrev pub known_count : List (Option ℕ) → ℕ
+known_count lengths = count_by is_some lengths
 
 -- each slot weighs something
 pub record AreHeavy (n : ℕ) (weights : List ℕ) : Type 0 where
@@ -55,7 +55,7 @@ pub record ArePartial (next : ℕ → Edges) (n : ℕ) (weights : List ℕ) (len
   pub heavy : AreHeavy n weights
   pub long : length lengths ≡ n
   pub right : (s k : ℕ) → length_of lengths s ≡ Some k → length_from (weight_at weights s) lengths (next s) ≡ Some k
-  pub bound : (s k : ℕ) → length_of lengths s ≡ Some k → k ≤ known lengths * heaviest weights
+  pub bound : (s k : ℕ) → length_of lengths s ≡ Some k → k ≤ known_count lengths * heaviest weights
 
 -- a slot without a length has an edge to one without
 abbrev pub IsStuck : (ℕ → Edges) → List ℕ → List (Option ℕ) → ℕ → Type 0

@@ -16,22 +16,22 @@ use Rattle.bpf_shape.specs.Chains.{IsRecursive, IsFourth}
 use Rattle.bpf_shape.specs.Budget.{IsBudget, most_steps}
 
 -- the register that arithmetic, a load or a 64-bit immediate writes
-abbrev pub written : Instr → Option ℕ
-written (instr.Arithmetic w o dst from) = Some dst
-written (instr.Negate w dst) = Some dst
-written (instr.SignExtend e dst src) = Some dst
-written (instr.ByteOrder o size dst) = Some dst
-written (instr.Load size dst base offset) = Some dst
-written (instr.LoadSigned size dst base offset) = Some dst
-written (instr.LoadImmediate dst value) = Some dst
-written (instr.Jump distance) = None
-written (instr.LongJump distance) = None
-written (instr.Branch w c dst from distance) = None
-written (instr.CallHelper number) = None
-written (instr.CallLocal distance) = None
-written instr.Exit = None
-written (instr.StoreImmediate size base offset immediate) = None
-written (instr.Store size base offset src) = None
+abbrev pub written_register : Instr → Option ℕ
+written_register (instr.Arithmetic w o dst from) = Some dst
+written_register (instr.Negate w dst) = Some dst
+written_register (instr.SignExtend e dst src) = Some dst
+written_register (instr.ByteOrder o size dst) = Some dst
+written_register (instr.Load size dst base offset) = Some dst
+written_register (instr.LoadSigned size dst base offset) = Some dst
+written_register (instr.LoadImmediate dst value) = Some dst
+written_register (instr.Jump distance) = None
+written_register (instr.LongJump distance) = None
+written_register (instr.Branch w c dst from distance) = None
+written_register (instr.CallHelper number) = None
+written_register (instr.CallLocal distance) = None
+written_register instr.Exit = None
+written_register (instr.StoreImmediate size base offset immediate) = None
+written_register (instr.Store size base offset src) = None
 
 -- the answer of `again` is compared for equal or not equal
 abbrev pub is_equality : Option Condition → Bool
@@ -54,7 +54,7 @@ unfoldable pub keeps : List (Option Instr) → VerifierCause → ℕ → Bool
 keeps program cause.Target slot =
     option_map_or (begins program) (control program slot).target true && option_map_or (begins program) (callee program slot) true
 keeps program cause.End slot = option_map_or (begins program) (control program slot).next true
-keeps program cause.FramePointer slot = option_map_or (λ r. not (r == 10)) (option_and_then written (at program slot)) true
+keeps program cause.FramePointer slot = option_map_or (λ r. not (r == 10)) (option_and_then written_register (at program slot)) true
 keeps program cause.UnknownHelper slot = option_map_or (λ n. nat_le 1 n && nat_le n 7) (option_and_then helper_number (at program slot)) true
 keeps program cause.AgainForm slot = if calls_again program slot then has_form program slot else true
 keeps program _ slot = true

@@ -36,8 +36,8 @@ Has [] x = ⊥
 Has (y ∷ ys) x = (x ≡ y) ⊎ Has ys x
 
 -- how many slots have no mark
-abbrev pub unmarked : List Bool → ℕ
-unmarked marks = count_by not marks
+abbrev pub unmarked_count : List Bool → ℕ
+unmarked_count marks = count_by not marks
 
 -- From these marks and waiting slots the slots of P were met: they are marked, no other slot is that
 -- wasn't, and each that wasn't waits.
@@ -49,7 +49,7 @@ pub record Met (P : ℕ → Type 0) (m : List Bool) (w : List ℕ) (marks : List
   pub wait : (t : ℕ) → IsMarked marks t → IsMarked m t ⊎ Has waiting t
   pub come : (t : ℕ) → Has waiting t → Has w t ⊎ IsMarked marks t
   pub long : length marks ≡ length m
-  pub size : 2 * unmarked marks + length waiting ≤ 2 * unmarked m + length w
+  pub size : 2 * unmarked_count marks + length waiting ≤ 2 * unmarked_count m + length w
 
 -- the edges, and one to the entry of a local call, if there is one
 abbrev pub with_entry : Option ℕ → Edges → Edges
@@ -61,10 +61,10 @@ unfoldable pub entering : List (Option Instr) → ℕ → Edges
 entering program slot = with_entry (callee program slot) (control program slot)
 
 -- the edges that a search follows
-abbrev pub followed : Kind → List (Option Instr) → ℕ → Edges
-followed kind.All program = control program
-followed kind.Plain program = plain program
-followed kind.Entering program = entering program
+abbrev pub search_edges : Kind → List (Option Instr) → ℕ → Edges
+search_edges kind.All program = control program
+search_edges kind.Plain program = plain program
+search_edges kind.Entering program = entering program
 
 -- each edge leads to a slot
 abbrev pub EdgesFit : (ℕ → Edges) → ℕ → Type 0

@@ -3,7 +3,7 @@
 ghost use Rattle.std.specs.Prelude.{◌≡◌, ◌<◌, ◌≤◌, ℕ, IsTrue, IsFalse, OnOk, IfOk, Some, length};
 ghost use Rattle.bpf_isa.specs.Program.{IsProgram};
 ghost use Rattle.bpf_shape.specs.Again.{plain};
-ghost use Rattle.bpf_shape.specs.Lengths.{weight_at, heaviest, length_of, behind_edge, length_from, known, AreHeavy, ArePartial, AreSettled, IsStuck};
+ghost use Rattle.bpf_shape.specs.Lengths.{weight_at, heaviest, length_of, behind_edge, length_from, known_count, AreHeavy, ArePartial, AreSettled, IsStuck};
 
 use crate::again::plain;
 use crate::edges::Edges;
@@ -58,7 +58,7 @@ fn settle(
     requires weights { heaviest weights.now.items ≤ 137438953472 }
     requires partial { ArePartial (plain program.now) (length program.now) weights.now.items lengths.old.items }
     ensures partial { ArePartial (plain program.now) (length program.now) weights.now.items lengths.new.items }
-    ensures more { IsTrue result → known lengths.old.items < known lengths.new.items }
+    ensures more { IsTrue result → known_count lengths.old.items < known_count lengths.new.items }
     ensures same { IsFalse result → lengths.new.items ≡ lengths.old.items }
     ensures stuck { IsFalse result → IsStuck (plain program.now) weights.now.items lengths.new.items slot }
 {
@@ -79,7 +79,7 @@ fn sweep(program: &Program, weights: &Vec<u64>, lengths: &mut Vec<Option<u64>>) 
     requires weights { heaviest weights.now.items ≤ 137438953472 }
     requires partial { ArePartial (plain program.now) (length program.now) weights.now.items lengths.old.items }
     ensures partial { ArePartial (plain program.now) (length program.now) weights.now.items lengths.new.items }
-    ensures more { IsTrue result → known lengths.old.items < known lengths.new.items }
+    ensures more { IsTrue result → known_count lengths.old.items < known_count lengths.new.items }
     ensures stuck { IsFalse result → (s : ℕ) → s < length program.now → IsStuck (plain program.now) weights.now.items lengths.new.items s }
 {
     let mut found = false;

@@ -6,7 +6,7 @@ ghost use Rattle.bpf_isa.specs.Slots.{at};
 ghost use Rattle.bpf_shape.specs.Edges.{begins};
 ghost use Rattle.bpf_shape.specs.Again.{helper_number};
 ghost use Rattle.bpf_shape.specs.Calls.{callee};
-ghost use Rattle.bpf_shape.specs.Rules.{written, is_equality, has_form, keeps, Holds, FirstBroken};
+ghost use Rattle.bpf_shape.specs.Rules.{written_register, is_equality, has_form, keeps, Holds, FirstBroken};
 ghost use Rattle.bpf_shape.specs.Keeping.{IsOfSlots, IsBrokenAt, KeepsAll};
 
 use crate::again::{answer_test, calls_again, helper_number, is_target, limit_before};
@@ -20,7 +20,7 @@ use bpf_isa::register::Register;
 
 /// The register that arithmetic, a load or a 64-bit immediate writes.
 fn written(instr: &Instr) -> Option<Register>
-    ensures { result ≡ written instr.now }
+    ensures { result ≡ written_register instr.now }
 {
     match instr {
         Instr::Arithmetic { dst, .. } => Some(*dst),
@@ -53,7 +53,7 @@ fn begins(program: &Program, slot: Option<usize>) -> bool
 
 /// Whether the instruction at a slot leaves r10 as it is.
 fn keeps_frame_pointer(program: &Program, slot: usize) -> bool
-    ensures { result ≡ option_map_or (λ r. not (r == 10)) (option_and_then written (at program.now slot)) true }
+    ensures { result ≡ option_map_or (λ r. not (r == 10)) (option_and_then written_register (at program.now slot)) true }
 {
     match program.at(slot) {
         Some(instr) => match written(&instr) {

@@ -4,7 +4,7 @@ ghost use Rattle.std.specs.Prelude.{◌≡◌, ◌<◌, ℕ, Some, OnOk, IfOk, l
 ghost use Rattle.bpf_shape.specs.Paths.{Leads};
 ghost use Rattle.bpf_shape.specs.Edges.{control};
 ghost use Rattle.bpf_shape.specs.Calls.{callee};
-ghost use Rattle.bpf_shape.specs.Search.{entering, followed, marks_after, waiting_after, IsMarked, Met, EdgesFit, EntriesFit, AllWait, Enters, AreMarks};
+ghost use Rattle.bpf_shape.specs.Search.{entering, search_edges, marks_after, waiting_after, IsMarked, Met, EdgesFit, EntriesFit, AllWait, Enters, AreMarks};
 
 use crate::again::plain;
 use crate::calls::callee;
@@ -40,7 +40,7 @@ fn entering(program: &Program, slot: usize) -> Edges
 
 /// The edges of a slot of that kind.
 fn edges_by(program: &Program, kind: Kind, slot: usize) -> Edges
-    ensures { result ≡ followed kind program.now slot }
+    ensures { result ≡ search_edges kind program.now slot }
 {
     match kind {
         Kind::All => control(program, slot),
@@ -86,9 +86,9 @@ fn spread(
     marks: &mut Vec<bool>,
     waiting: &mut Vec<usize>,
 ) -> Result<(), AllocError>
-    requires edges { EdgesFit (followed kind program.now) (length program.now) }
+    requires edges { EdgesFit (search_edges kind program.now) (length program.now) }
     requires wait { AllWait (length program.now) marks.old.items waiting.old.items }
-    ensures { OnOk result (AreMarks (followed kind program.now) (length program.now) (IsMarked marks.old.items) marks.new.items) }
+    ensures { OnOk result (AreMarks (search_edges kind program.now) (length program.now) (IsMarked marks.old.items) marks.new.items) }
 {
     while let Some(slot) = waiting.pop() {
         meet(marks, waiting, edges_by(program, kind, slot))?;
@@ -103,9 +103,9 @@ pub(crate) fn reached(
     kind: Kind,
     from: Edges,
 ) -> Result<Vec<bool>, AllocError>
-    requires edges { EdgesFit (followed kind program.now) (length program.now) }
+    requires edges { EdgesFit (search_edges kind program.now) (length program.now) }
     requires within { (t : ℕ) → Leads from t → t < length program.now }
-    ensures { IfOk result (λ marks. AreMarks (followed kind program.now) (length program.now) (Leads from) marks.items) }
+    ensures { IfOk result (λ marks. AreMarks (search_edges kind program.now) (length program.now) (Leads from) marks.items) }
 {
     let mut marks = Vec::new(alloc);
     marks.resize(program.slots(), false)?;
@@ -122,9 +122,9 @@ pub(crate) fn reached_from(
     kind: Kind,
     slot: usize,
 ) -> Result<Vec<bool>, AllocError>
-    requires edges { EdgesFit (followed kind program.now) (length program.now) }
+    requires edges { EdgesFit (search_edges kind program.now) (length program.now) }
     requires within { slot < length program.now }
-    ensures { IfOk result (λ marks. AreMarks (followed kind program.now) (length program.now) (λ t. slot ≡ t) marks.items) }
+    ensures { IfOk result (λ marks. AreMarks (search_edges kind program.now) (length program.now) (λ t. slot ≡ t) marks.items) }
 {
     let start = Edges {
         next: Some(slot),

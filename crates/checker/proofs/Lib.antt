@@ -1,2 +1,4 @@
 pub mod Verified
 pub mod Suiting
+pub mod Alike
+pub mod Kept

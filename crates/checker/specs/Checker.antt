@@ -34,5 +34,5 @@ AreFor sectors [] = Unit {0}
 AreFor sectors (c ∷ checkers) = IsFor sectors c.verified × AreFor sectors checkers
 
 -- what the checker ends in on that device and in that context
-unfoldable pub judged : CheckerValue → List (List ℕ) → Context → Ending
-judged checker device context = outcome checker.program device context checker.limit
+unfoldable pub judgement : CheckerValue → List (List ℕ) → Context → Ending
+judgement checker device context = outcome checker.program device context checker.limit

@@ -1,2 +1,3 @@
 -- What a checker is, and what it answers.
 pub mod Checker
+pub mod Footprints

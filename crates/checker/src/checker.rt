@@ -2,25 +2,42 @@
 
 ghost use Rattle.std.specs.Prelude.{◌≡◌, length, None, Some, is_some};
 ghost use Rattle.interp.specs.Ending.{ending_of};
+ghost use Rattle.helpers.specs.Footprint.{noted_all, unread};
+ghost use Rattle.machine.specs.Footprint.{footprint};
 ghost use Rattle.machine.specs.Outcome.{outcome};
 ghost use Rattle.plain.specs.Runs.{IsVerdict};
-ghost use Rattle.checker.specs.Checker.{Suits, judged};
+ghost use Rattle.checker.specs.Checker.{Suits, judgement};
+ghost use Rattle.checker.specs.Footprints.{kept};
 
 use bpf_isa::program::Program;
 use helpers::{Context, Device};
-use interp::{Outcome, Verdict, run_checked};
+use interp::{Noted, Outcome, Verdict, run_noted};
 use plain::{Ended, run};
 use soundness::accepted_runs_safely;
 use std::marker::Model;
 use verifier::Verified;
 
 /// Runs a program without checks, which is known to end in a verdict within so many steps.
-fn run_plain<D: Device>(program: &Program, context: &Context, device: &D, budget: u64) -> Outcome
+#[inline(always)]
+fn run_plain<D: Device, const ROOM: usize>(
+    program: &Program,
+    context: &Context,
+    device: &D,
+    budget: u64,
+) -> Noted<ROOM>
     requires ends { IsVerdict (outcome program.now (D.content device.now) context.now budget) }
-    ensures { ending_of result ≡ outcome program.now (D.content device.now) context.now budget }
+    ensures ends { ending_of result.outcome ≡ outcome program.now (D.content device.now) context.now budget }
+    ensures reads { result.footprint ≡ noted_all (unread ROOM) (footprint program.now (D.content device.now) context.now budget) }
 {
-    let Ended { answer, codes } = run(program, context, device, budget);
-    Outcome::Verdict(Verdict { answer, codes })
+    let Ended {
+        answer,
+        codes,
+        footprint,
+    } = run(program, context, device, budget);
+    Noted {
+        outcome: Outcome::Verdict(Verdict { answer, codes }),
+        footprint,
+    }
 }
 
 /// A program that judges crash images: one that the verifier accepted, with its budget, or one that no
@@ -92,10 +109,24 @@ impl<'p> Checker<'p> {
 
     /// Runs the program on an image, and answers what it ends in (docs/MACHINE.md, Outcome). A verified one is
     /// run without checks, on an image of a device of the size for which it was verified.
-    #[tactic(auto, unfolding(crate::specs::Checker::judged))]
     pub fn judge<D: Device>(&self, context: &Context, device: &D) -> Outcome
         requires image { Suits self.now.verified (D.content device.now) context.now }
-        ensures { ending_of result ≡ judged self.now (D.content device.now) context.now }
+        ensures { ending_of result ≡ judgement self.now (D.content device.now) context.now }
+    {
+        self.judge_noted::<D, 0>(context, device).outcome
+    }
+
+    /// The same, with the footprint of the run (docs/MACHINE.md, Footprint) in so much room.
+    #[inline(always)]
+    #[tactic(auto, unfolding(crate::specs::Checker::judgement, crate::specs::Footprints::looked))]
+    pub fn judge_noted<D: Device, const ROOM: usize>(
+        &self,
+        context: &Context,
+        device: &D,
+    ) -> Noted<ROOM>
+        requires image { Suits self.now.verified (D.content device.now) context.now }
+        ensures ends { ending_of result.outcome ≡ judgement self.now (D.content device.now) context.now }
+        ensures reads { result.footprint ≡ kept ROOM self.now (D.content device.now) context.now }
     {
         match self.verified {
             Some(_sectors) => {
@@ -103,7 +134,7 @@ impl<'p> Checker<'p> {
                 accepted_runs_safely();
                 run_plain(self.program, context, device, self.limit)
             }
-            None => run_checked(self.program, context, device, self.limit),
+            None => run_noted(self.program, context, device, self.limit),
         }
     }
 }

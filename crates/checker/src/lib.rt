@@ -18,6 +18,12 @@
 //! verifier accepts for that size of devices, with that budget (`specs/Checker.antt`). So of a verified checker
 //! `judge` asks for an image of a device of the size for which it was verified (`Suits`), and tests nothing.
 //!
+//! `judge_noted` answers the same, and in so much room the footprint of the run, the sectors at which it looked
+//! (docs/MACHINE.md, Footprint): what a `Footprint` keeps of the `footprint` of `machine`, by whichever of the two runs.
+//! That is a list of these sectors, each once, or no list where there is no room for all (`kept_is_the_footprint`). Where it
+//! is a list, the checker ends in the same on each device of that size that has the same bytes in these sectors
+//! (`agreeing_devices_are_judged_alike`; `specs/Footprints.antt`).
+//!
 //! No call takes memory, and each returns.
 //!
 //! # Example
@@ -37,5 +43,7 @@
 #![tactic(auto)]
 
 mod checker;
+mod laws;
 
 pub use checker::Checker;
+pub use laws::{agreeing_devices_are_judged_alike, kept_is_the_footprint};

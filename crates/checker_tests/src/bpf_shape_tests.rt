@@ -1,10 +1,9 @@
 //! The heads and edges of programs of docs/VERIFIER.md. Their budgets and refusals are shown by the program
 //! (tests/rows/refusals.py).
 
+use crate::slots::{EXIT, NESTED_LOOPS, Slot, program_of};
 use base::causes::VerifierCause;
-use bpf_isa::codec::decode;
 use bpf_isa::instr::Instr;
-use bpf_isa::program::Program;
 use bpf_shape::laws::{
     again_has_form, calls_are_nested, deeper_is_the_same, edges_are_split,
     edges_lead_to_instructions, entries_are_instructions, heads_are_targets, heads_by_slot,
@@ -13,11 +12,6 @@ use bpf_shape::laws::{
 use bpf_shape::{Edges, callee, callee_of, control, edges_of, shape};
 use std::alloc::Global;
 use std::test::Fail;
-
-/// A slot: opcode, registers (the source in the high half), offset, immediate.
-type Slot = (u8, u8, i16, i32);
-
-const EXIT: Slot = (0x95, 0, 0, 0);
 
 /// first_byte
 const FIRST_BYTE: [Slot; 7] = [
@@ -56,19 +50,6 @@ const SUM_WORDS: [Slot; 22] = [
     EXIT, // 21: exit
 ];
 
-/// nested_loops
-const NESTED_LOOPS: [Slot; 9] = [
-    (0xb7, 1, 0, 2), // 0: mov64 r1, 2
-    (0x85, 0, 0, 3), // 1: call 3
-    (0x15, 0, 4, 0), // 2: jeq r0, 0, +4
-    (0xb7, 1, 0, 3), // 3: mov64 r1, 3
-    (0x85, 0, 0, 3), // 4: call 3
-    (0x15, 0, -6, 0), // 5: jeq r0, 0, -6
-    (0x05, 0, -4, 0), // 6: ja -4
-    (0xb7, 0, 0, 0), // 7: mov64 r0, 0
-    EXIT, // 8: exit
-];
-
 /// The same slot at both edges of the test.
 const BOTH_EDGES: [Slot; 4] = [
     (0xb7, 1, 0, 1), // 0: mov64 r1, 1
@@ -86,17 +67,6 @@ const LOCAL_CALL: [Slot; 6] = [
     (0x07, 0, 0, 1), // 4: add64 r0, 1
     EXIT, // 5: exit
 ];
-
-/// The program of these slots.
-fn program_of(alloc: Global, slots: &[Slot]) -> Result<Program, Fail> {
-    let mut bytes = Vec::new(alloc);
-    for (opcode, registers, offset, immediate) in slots {
-        bytes.extend_from_slice(&[*opcode, *registers])?;
-        bytes.extend_from_slice(&offset.to_le_bytes())?;
-        bytes.extend_from_slice(&immediate.to_le_bytes())?;
-    }
-    Ok(decode(alloc, &bytes)?)
-}
 
 /// Whether a program has this budget, and its heads are exactly these slots.
 fn has_heads(alloc: Global, slots: &[Slot], budget: u64, heads: &[usize]) -> Result<bool, Fail> {

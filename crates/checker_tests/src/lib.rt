@@ -19,4 +19,6 @@ mod intervals_tests;
 #[cfg(test)]
 mod ranges_tests;
 #[cfg(test)]
+mod slots;
+#[cfg(test)]
 mod verifier_tests;

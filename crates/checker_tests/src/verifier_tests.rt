@@ -3,7 +3,7 @@
 
 ghost use Rattle.bpf_shape.specs.Shape.{IsShapeOf};
 
-use bpf_isa::codec::decode;
+use crate::slots::{EXIT, NESTED_LOOPS, program_of};
 use bpf_isa::program::Program;
 use bpf_shape::{Shape, shape};
 use intervals::Range;
@@ -17,35 +17,6 @@ use verifier::{
     Pointer, Table, UnsignedGroup, UnsignedState, UnsignedTable, UnsignedValue, check_table, raise,
     verify,
 };
-
-/// A slot: opcode, registers (the source in the high half), offset, immediate.
-type Slot = (u8, u8, i16, i32);
-
-const EXIT: Slot = (0x95, 0, 0, 0);
-
-/// nested_loops
-const NESTED_LOOPS: [Slot; 9] = [
-    (0xb7, 1, 0, 2), // 0: mov64 r1, 2
-    (0x85, 0, 0, 3), // 1: call 3
-    (0x15, 0, 4, 0), // 2: jeq r0, 0, +4
-    (0xb7, 1, 0, 3), // 3: mov64 r1, 3
-    (0x85, 0, 0, 3), // 4: call 3
-    (0x15, 0, -6, 0), // 5: jeq r0, 0, -6
-    (0x05, 0, -4, 0), // 6: ja -4
-    (0xb7, 0, 0, 0), // 7: mov64 r0, 0
-    EXIT, // 8: exit
-];
-
-/// The program of these slots.
-fn program_of(alloc: Global, slots: &[Slot]) -> Result<Program, Fail> {
-    let mut bytes = Vec::new(alloc);
-    for (opcode, registers, offset, immediate) in slots {
-        bytes.extend_from_slice(&[*opcode, *registers])?;
-        bytes.extend_from_slice(&offset.to_le_bytes())?;
-        bytes.extend_from_slice(&immediate.to_le_bytes())?;
-    }
-    Ok(decode(alloc, &bytes)?)
-}
 
 /// A table without the state of a slot.
 fn without(alloc: Global, table: &Table, missing: usize) -> Result<Table, Fail> {

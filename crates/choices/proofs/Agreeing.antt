@@ -1,13 +1,12 @@
 -- Where no entry has more than one sector, parts by write are parts by sector.
-use Rattle.std.proofs.Common.{ℕ, zero, suc, ◌≡◌, ◌+◌, ◌*◌, ◌≤◌, List, [], ◌∷◌, ◌++◌, map, filter, take, length, slice_get, Some, None, refl, sym, ◌∙◌, ap, arith}
-use Rattle.std.specs.List.{range_with_len}
+use Rattle.std.proofs.Common.{ℕ, zero, suc, ◌≡◌, ◌+◌, ◌≤◌, List, [], ◌∷◌, ◌++◌, map, filter, take, length, slice_get, Some, None, refl, ◌∙◌, ap, arith}
 use Rattle.logfmt.specs.declared.entry.Entry.{Entry}
 use Rattle.epochs.specs.declared.part.By.TheVariants as by
 use Rattle.epochs.specs.declared.part.Part.{Part}
 use Rattle.epochs.specs.Units.{of_entries}
-use Rattle.epochs.specs.Parts.{part_size, part_count, part_of, parts_of_entry, parts_before, is_volatile, volatile_parts}
+use Rattle.epochs.specs.Parts.{parts_of_entry, is_volatile, volatile_parts}
 use Rattle.epochs.specs.Cuts.{cuts_of}
-use Rattle.choices.specs.Choices.{ChoiceValue, departure_of, choice_of, choices_at, choices_over, ranked}
+use Rattle.choices.specs.Choices.{departure_of, choice_of, choices_at, choices_over, ranked_choices}
 use Rattle.choices.specs.Picks.{picks_within, fates_of}
 use Rattle.choices.specs.Laws.{WaysAgree}
 
@@ -51,5 +50,5 @@ over_alike es m bound place (cut ∷ cuts) small =
     ∙ ap (λ cs. choices_at by.Sector es m bound place cut ++ cs) (over_alike es m bound (place + 1) cuts small)
 
 pub ways_agree : WaysAgree
-unfolding ranked
+unfolding ranked_choices
 ways_agree log kind bound tears small = over_alike log.entries (fates_of tears) bound 0 (cuts_of kind log.entries) small

@@ -19,7 +19,7 @@ use Rattle.choices.specs.declared.fate.Fate.{Fate}
 use Rattle.choices.specs.declared.choice.Departure.{Departure}
 use Rattle.choices.specs.Picks.{fates_of, picks_within}
 use Rattle.choices.specs.Laws.{AreRising, IsChoice, Precedes, ListsModel, RankedIsModel}
-use Rattle.choices.specs.Choices.{ChoiceValue, departure_of, choice_of, choices_at, choices_over, ranked}
+use Rattle.choices.specs.Choices.{ChoiceValue, departure_of, choice_of, choices_at, choices_over, ranked_choices}
 use Rattle.choices.specs.CrashModel.{IsFate, IsAdmissible, DiffersFirst, ChoicePrecedes}
 use Rattle.choices.proofs.Departing.{departs_as}
 use Rattle.choices.proofs.Following.{in_front}
@@ -325,5 +325,5 @@ model_lists plan bound tears =
     }
 
 pub ranked_is_model : RankedIsModel
-unfolding ranked
+unfolding ranked_choices
 ranked_is_model plan bound tears = model_lists plan bound tears

@@ -10,10 +10,6 @@ use Rattle.choices.specs.declared.fate.Fate.{Fate}
 use Rattle.choices.specs.declared.choice.Departure.{Departure}
 use Rattle.choices.specs.Choices.{departure_of, fate_of, nowhere}
 
--- the loop over the picks: none yet
-pub no_departures : (parts : List Part) (picks : List Pick) → [] ≡ map (departure_of parts) (take 0 picks)
-no_departures parts picks = refl
-
 -- a part and a fate that were found by their numbers are the departure of these
 pub departs_as : (parts : List Part) (pick : Pick) (u : Part) (f : Fate) → slice_get parts pick.part ≡ Some u → f ≡ fate_of pick.fate
     → record { part = u; fate = f } ≡ departure_of parts pick

@@ -7,8 +7,8 @@ use Rattle.std.proofs.lemmas.List.{length-map}
 use Rattle.std.proofs.lemmas.Option.{slice_get-map, slice_get_within, slice_get_cases, same_Some}
 use Rattle.base.proofs.Lists.{slice_get-append_left, slice_get-append_right, slice_get_of_append}
 use Rattle.choices.specs.declared.pick.Pick.{Pick}
-use Rattle.choices.specs.Picks.{beginning, chosen, fewer, ArePicks}
-use Rattle.choices.specs.Steps.{first_picks, stepped, after_rest, following, or_else, one_more, following_below}
+use Rattle.choices.specs.Picks.{beginning, ranked_picks, fewer, ArePicks}
+use Rattle.choices.specs.Steps.{first_picks, next_picks, after_rest, following, or_else, one_more, following_below}
 use Rattle.choices.proofs.Rows.{below_more}
 use Rattle.choices.proofs.Ranks.{behind, length-beginning, at_beginning}
 
@@ -70,28 +70,28 @@ no_rows a t zero = refl
 no_rows a t (suc j) = no_rows a (t + 1) j
 
 -- the first of the choices of i departures among k parts: none, or the first i parts dropped
-pub head_none : (m i a k : ℕ) → k < i → chosen m i a k ≡ []
-unfolding chosen
+pub head_none : (m i a k : ℕ) → k < i → ranked_picks m i a k ≡ []
+unfolding ranked_picks
 head_none m zero a k h = absurd (omega (arith, h))
 head_none m (suc i) a zero h = refl
 head_none m (suc i) a (suc k) h =
-    let rests : chosen m i (a + 1) k ≡ [] = head_none m i (a + 1) k (omega (arith, h)) in
-    let more : chosen m (suc i) (a + 1) k ≡ [] = head_none m (suc i) (a + 1) k (omega (arith, h)) in
+    let rests : ranked_picks m i (a + 1) k ≡ [] = head_none m i (a + 1) k (omega (arith, h)) in
+    let more : ranked_picks m (suc i) (a + 1) k ≡ [] = head_none m (suc i) (a + 1) k (omega (arith, h)) in
     rw (rests, more, no_rows a 0 m) refl
 
-pub head_some : (m i a k : ℕ) → 1 ≤ m → i ≤ k → slice_get (chosen m i a k) 0 ≡ Some (first_picks i a)
-unfolding chosen first_picks
+pub head_some : (m i a k : ℕ) → 1 ≤ m → i ≤ k → slice_get (ranked_picks m i a k) 0 ≡ Some (first_picks i a)
+unfolding ranked_picks first_picks
 head_some m zero a k some h = refl
 head_some m (suc i) a zero some h = absurd (omega (arith, h))
 head_some m (suc i) a (suc k) some h =
-    let rests : List (List Pick) = chosen m i (a + 1) k in
+    let rests : List (List Pick) = ranked_picks m i (a + 1) k in
     let inner : slice_get rests 0 ≡ Some (first_picks i (a + 1)) = head_some m i (a + 1) k some (omega (arith, h)) in
     let lt : 0 < length rests = slice_get_within rests 0 (first_picks i (a + 1)) inner in
     let here : 0 ≡ 0 * length rests + 0 = omega arith in
     let at = at_beginning a 0 m rests 0 0 (omega (arith, some)) lt in
     let first : slice_get (beginning a 0 m rests) 0 ≡ Some (first_picks (suc i) a) =
     ap (slice_get (beginning a 0 m rests)) here ∙ at ∙ ap (option_map (behind a 0)) inner in
-    slice_get-append_left (beginning a 0 m rests) (chosen m (suc i) (a + 1) k) 0 (slice_get_within (beginning a 0 m rests) 0 (first_picks (suc i) a) first) ∙ first
+    slice_get-append_left (beginning a 0 m rests) (ranked_picks m (suc i) (a + 1) k) 0 (slice_get_within (beginning a 0 m rests) 0 (first_picks (suc i) a) first) ∙ first
 
 -- the step of a first departure
 lt_true : (a b : ℕ) → a < b → nat_lt a b ≡ true
@@ -100,18 +100,18 @@ lt_true a b h = lt-ltb a b h
 lt_false : (a b : ℕ) → b ≤ a → nat_lt a b ≡ false
 lt_false a b h = le-ltb a b h
 
-stepped_fate : (m e : ℕ) (d : Pick) (b : ℕ) → d.fate + 1 < m
-    → stepped m e d b ≡ Some (record { part = d.part; fate = d.fate + 1 } ∷ first_picks b (d.part + 1))
-unfolding stepped
+pub stepped_fate : (m e : ℕ) (d : Pick) (b : ℕ) → d.fate + 1 < m
+    → next_picks m e d b ≡ Some (record { part = d.part; fate = d.fate + 1 } ∷ first_picks b (d.part + 1))
+unfolding next_picks
 stepped_fate m e d b h = rw (lt_true (d.fate + 1) m h) refl
 
-stepped_part : (m e : ℕ) (d : Pick) (b : ℕ) → m ≤ d.fate + 1 → d.part + 1 + b < e
-    → stepped m e d b ≡ Some (record { part = d.part + 1; fate = 0 } ∷ first_picks b (d.part + 1 + 1))
-unfolding stepped
+pub stepped_part : (m e : ℕ) (d : Pick) (b : ℕ) → m ≤ d.fate + 1 → d.part + 1 + b < e
+    → next_picks m e d b ≡ Some (record { part = d.part + 1; fate = 0 } ∷ first_picks b (d.part + 1 + 1))
+unfolding next_picks
 stepped_part m e d b h k = rw (lt_false (d.fate + 1) m h, lt_true (d.part + 1 + b) e k) refl
 
-stepped_none : (m e : ℕ) (d : Pick) (b : ℕ) → m ≤ d.fate + 1 → e ≤ d.part + 1 + b → stepped m e d b ≡ None
-unfolding stepped
+stepped_none : (m e : ℕ) (d : Pick) (b : ℕ) → m ≤ d.fate + 1 → e ≤ d.part + 1 + b → next_picks m e d b ≡ None
+unfolding next_picks
 stepped_none m e d b h k = rw (lt_false (d.fate + 1) m h, lt_false (d.part + 1 + b) e k) refl
 
 -- at the end of a list
@@ -132,28 +132,28 @@ pub in_front : {X : Type 0} (xs ys : List X) (n : ℕ) (x : X) → slice_get xs 
 in_front xs ys n x h = slice_get-append_left xs ys n (slice_get_within xs n x h) ∙ h
 
 -- a choice of departures among no fewer parts than departures
-room : (m i a k n : ℕ) (ds : List Pick) → slice_get (chosen m i a k) n ≡ Some ds → i ≤ k
+room : (m i a k n : ℕ) (ds : List Pick) → slice_get (ranked_picks m i a k) n ≡ Some ds → i ≤ k
 room m i a k n ds h = elim (cases_lt k i) [
   | inl few ↦ absurd (let bad : None ≡ Some ds = sym (ap (λ xs. slice_get xs n) (head_none m i a k few)) ∙ h in cc)
   | inr some ↦ some
 ]
 
 -- a choice of i departures has i departures
-pub member_length : (m i a k n : ℕ) (ds : List Pick) → slice_get (chosen m i a k) n ≡ Some ds → length ds ≡ i
-unfolding chosen
+pub member_length : (m i a k n : ℕ) (ds : List Pick) → slice_get (ranked_picks m i a k) n ≡ Some ds → length ds ≡ i
+unfolding ranked_picks
 member_length m zero a k zero ds h = ap length (same_Some ds [] (sym h))
 member_length m zero a k (suc n) ds h = absurd (let bad : None ≡ Some ds = h in cc)
 member_length m (suc i) a zero n ds h = absurd (let bad : None ≡ Some ds = h in cc)
-member_length m (suc i) a (suc k) n ds h = elim (slice_get_of_append (beginning a 0 m (chosen m i (a + 1) k)) (chosen m (suc i) (a + 1) k) n ds h) [
+member_length m (suc i) a (suc k) n ds h = elim (slice_get_of_append (beginning a 0 m (ranked_picks m i (a + 1) k)) (ranked_picks m (suc i) (a + 1) k) n ds h) [
   | inl first ↦
-      let it = of_beginning a 0 m (chosen m i (a + 1) k) n ds first.1 in
+      let it = of_beginning a 0 m (ranked_picks m i (a + 1) k) n ds first.1 in
       let rest = member_length m i (a + 1) k it.y it.rest it.there in
       ap length it.is ∙ ap suc rest
-  | inr more ↦ member_length m (suc i) (a + 1) k (n - length (beginning a 0 m (chosen m i (a + 1) k))) ds more.1
+  | inr more ↦ member_length m (suc i) (a + 1) k (n - length (beginning a 0 m (ranked_picks m i (a + 1) k))) ds more.1
 ]
 
 -- behind the last choice that begins with a part: the first of those that begin behind it
-next_part : (m i a k x : ℕ) → 1 ≤ m → i ≤ k → m ≤ x + 1 → slice_get (chosen m (suc i) (a + 1) k) 0 ≡ stepped m (a + suc k) (record { part = a; fate = x }) i
+next_part : (m i a k x : ℕ) → 1 ≤ m → i ≤ k → m ≤ x + 1 → slice_get (ranked_picks m (suc i) (a + 1) k) 0 ≡ next_picks m (a + suc k) (record { part = a; fate = x }) i
 unfolding first_picks
 next_part m i a k x some le last = elim (cases_lt i k) [
   | inl less ↦ head_some m (suc i) (a + 1) k some (omega (arith, less)) ∙ sym (stepped_part m (a + suc k) (record { part = a; fate = x }) i last (omega (arith, less)))
@@ -163,21 +163,21 @@ next_part m i a k x some le last = elim (cases_lt i k) [
 ]
 
 -- behind a choice that begins with part a and fate x
-behind_row : (m i a k x y n : ℕ) → 1 ≤ m → x < m → n ≡ x * length (chosen m i (a + 1) k) + y → y < length (chosen m i (a + 1) k) → i ≤ k
-    → (o : Option (List Pick)) → slice_get (chosen m i (a + 1) k) (suc y) ≡ o
-    → slice_get (beginning a 0 m (chosen m i (a + 1) k) ++ chosen m (suc i) (a + 1) k) (suc n)
-    ≡ after_rest (record { part = a; fate = x }) o (stepped m (a + suc k) (record { part = a; fate = x }) i)
+behind_row : (m i a k x y n : ℕ) → 1 ≤ m → x < m → n ≡ x * length (ranked_picks m i (a + 1) k) + y → y < length (ranked_picks m i (a + 1) k) → i ≤ k
+    → (o : Option (List Pick)) → slice_get (ranked_picks m i (a + 1) k) (suc y) ≡ o
+    → slice_get (beginning a 0 m (ranked_picks m i (a + 1) k) ++ ranked_picks m (suc i) (a + 1) k) (suc n)
+    ≡ after_rest (record { part = a; fate = x }) o (next_picks m (a + suc k) (record { part = a; fate = x }) i)
 behind_row m i a k x y n some fate at lt le (Some r) h =
-    let rests : List (List Pick) = chosen m i (a + 1) k in
+    let rests : List (List Pick) = ranked_picks m i (a + 1) k in
     let here : suc n ≡ x * length rests + suc y = omega (arith, at) in
     let within : suc y < length rests = slice_get_within rests (suc y) r h in
     let zero_x : 0 + x ≡ x = omega arith in
     let found : slice_get (beginning a 0 m rests) (suc n) ≡ Some (behind a x r) =
     ap (slice_get (beginning a 0 m rests)) here ∙ at_beginning a 0 m rests x (suc y) fate within ∙ ap (option_map (behind a (0 + x))) h
     ∙ ap (λ s. Some (behind a s r)) zero_x in
-    in_front (beginning a 0 m rests) (chosen m (suc i) (a + 1) k) (suc n) (behind a x r) found
+    in_front (beginning a 0 m rests) (ranked_picks m (suc i) (a + 1) k) (suc n) (behind a x r) found
 behind_row m i a k x y n some fate at lt le None h =
-    let rests : List (List Pick) = chosen m i (a + 1) k in
+    let rests : List (List Pick) = ranked_picks m i (a + 1) k in
     let width : length rests ≡ suc y = at_end rests y lt h in
     elim (cases_lt (x + 1) m) [
       | inl less ↦
@@ -186,26 +186,26 @@ behind_row m i a k x y n some fate at lt le None h =
           let found : slice_get (beginning a 0 m rests) (suc n) ≡ Some (behind a (x + 1) (first_picks i (a + 1))) =
           ap (slice_get (beginning a 0 m rests)) here ∙ at_beginning a 0 m rests (suc x) 0 (omega (arith, less)) (omega (arith, lt))
           ∙ ap (option_map (behind a (0 + suc x))) (head_some m i (a + 1) k some le) ∙ ap (λ s. Some (behind a s (first_picks i (a + 1)))) zero_x in
-          in_front (beginning a 0 m rests) (chosen m (suc i) (a + 1) k) (suc n) (behind a (x + 1) (first_picks i (a + 1))) found
+          in_front (beginning a 0 m rests) (ranked_picks m (suc i) (a + 1) k) (suc n) (behind a (x + 1) (first_picks i (a + 1))) found
           ∙ sym (stepped_fate m (a + suc k) (record { part = a; fate = x }) i less)
       | inr more ↦
           let whole : x + 1 ≡ m = omega (arith, more, fate) in
           let long : length (beginning a 0 m rests) ≡ suc n = length-beginning a 0 m rests ∙ ap (λ j. j * length rests) (sym whole) ∙ omega (arith, at, width) in
-          behind_end (beginning a 0 m rests) (chosen m (suc i) (a + 1) k) (suc n) long ∙ next_part m i a k x some le more
+          behind_end (beginning a 0 m rests) (ranked_picks m (suc i) (a + 1) k) (suc n) long ∙ next_part m i a k x some le more
     ]
 
 -- the choice behind another, among those of one number of departures
-pub follows : (m i a k : ℕ) → 1 ≤ m → (n : ℕ) (ds : List Pick) → slice_get (chosen m i a k) n ≡ Some ds
-    → slice_get (chosen m i a k) (suc n) ≡ following m (a + k) ds
-unfolding chosen following
+pub follows : (m i a k : ℕ) → 1 ≤ m → (n : ℕ) (ds : List Pick) → slice_get (ranked_picks m i a k) n ≡ Some ds
+    → slice_get (ranked_picks m i a k) (suc n) ≡ following m (a + k) ds
+unfolding ranked_picks following
 follows m zero a k some zero ds h = let same : ds ≡ [] = same_Some ds [] (sym h) in rw same refl
 follows m zero a k some (suc n) ds h = absurd (let bad : None ≡ Some ds = h in cc)
 follows m (suc i) a zero some n ds h = absurd (let bad : None ≡ Some ds = h in cc)
 follows m (suc i) a (suc k) some n ds h =
-    let rests : List (List Pick) = chosen m i (a + 1) k in
+    let rests : List (List Pick) = ranked_picks m i (a + 1) k in
     let first : List (List Pick) = beginning a 0 m rests in
     let end : a + 1 + k ≡ a + suc k = omega arith in
-    elim (slice_get_of_append first (chosen m (suc i) (a + 1) k) n ds h) [
+    elim (slice_get_of_append first (ranked_picks m (suc i) (a + 1) k) n ds h) [
       | inl it ↦
           let in_row = of_beginning a 0 m rests n ds it.1 in
           let o : Option (List Pick) = following m (a + suc k) in_row.rest in
@@ -216,12 +216,12 @@ follows m (suc i) a (suc k) some n ds h =
           let size : length in_row.rest ≡ i = member_length m i (a + 1) k in_row.y in_row.rest in_row.there in
           behind_row m i a k in_row.x in_row.y n some in_row.fate in_row.place
           (slice_get_within rests in_row.y in_row.rest in_row.there) (room m i (a + 1) k in_row.y in_row.rest in_row.there) o inner
-          ∙ ap (λ s. after_rest (record { part = a; fate = in_row.x }) o (stepped m (a + suc k) (record { part = a; fate = in_row.x }) s)) (sym size)
+          ∙ ap (λ s. after_rest (record { part = a; fate = in_row.x }) o (next_picks m (a + suc k) (record { part = a; fate = in_row.x }) s)) (sym size)
           ∙ ap (following m (a + suc k)) (sym is)
       | inr it ↦
           let at : suc n ≡ length first + suc (n - length first) = omega (arith, it.0) in
-          ap (slice_get (first ++ chosen m (suc i) (a + 1) k)) at
-          ∙ slice_get-append_right first (chosen m (suc i) (a + 1) k) (suc (n - length first))
+          ap (slice_get (first ++ ranked_picks m (suc i) (a + 1) k)) at
+          ∙ slice_get-append_right first (ranked_picks m (suc i) (a + 1) k) (suc (n - length first))
           ∙ follows m (suc i) (a + 1) k some (n - length first) ds it.1
           ∙ ap (λ e. following m e ds) end
     ]
@@ -250,7 +250,7 @@ or_none (Some ds) = refl
 pub fewer_length : (m s v n : ℕ) (ds : List Pick) → slice_get (fewer m s v) n ≡ Some ds → length ds < s
 unfolding fewer
 fewer_length m zero v n ds h = absurd (let bad : None ≡ Some ds = h in cc)
-fewer_length m (suc s) v n ds h = elim (slice_get_of_append (fewer m s v) (chosen m s 0 v) n ds h) [
+fewer_length m (suc s) v n ds h = elim (slice_get_of_append (fewer m s v) (ranked_picks m s 0 v) n ds h) [
   | inl first ↦ let less = fewer_length m s v n ds first.1 in omega (arith, less)
   | inr more ↦ let same = member_length m s 0 v (n - length (fewer m s v)) ds more.1 in omega (arith, same)
 ]
@@ -258,21 +258,21 @@ fewer_length m (suc s) v n ds h = elim (slice_get_of_append (fewer m s v) (chose
 -- behind the last choice of fewer than s departures comes the first of s
 next_size : (m s v n : ℕ) (ds : List Pick) → 1 ≤ m → n < length (fewer m s v) → length ds < s
     → slice_get (fewer m s v) (suc n) ≡ one_more s v (length ds)
-    → slice_get (fewer m s v ++ chosen m s 0 v) (suc n) ≡ one_more (suc s) v (length ds)
+    → slice_get (fewer m s v ++ ranked_picks m s 0 v) (suc n) ≡ one_more (suc s) v (length ds)
 next_size m s v n ds some lt short h = elim (cases_lt (length ds) v) [
   | inr few ↦
       let last : length (fewer m s v) ≡ suc n = at_end (fewer m s v) n lt (h ∙ more_few s v (length ds) few) in
-      behind_end (fewer m s v) (chosen m s 0 v) (suc n) last
+      behind_end (fewer m s v) (ranked_picks m s 0 v) (suc n) last
       ∙ ap (λ xs. slice_get xs 0) (head_none m s 0 v (omega (arith, few, short)))
       ∙ sym (more_few (suc s) v (length ds) few)
   | inl room ↦ elim (cases_lt (length ds + 1) s) [
     | inl less ↦
-        in_front (fewer m s v) (chosen m s 0 v) (suc n) (first_picks (length ds + 1) 0) (h ∙ more_yes s v (length ds) less room)
+        in_front (fewer m s v) (ranked_picks m s 0 v) (suc n) (first_picks (length ds + 1) 0) (h ∙ more_yes s v (length ds) less room)
         ∙ sym (more_yes (suc s) v (length ds) (omega (arith, less)) room)
     | inr top ↦
         let same : s ≡ length ds + 1 = omega (arith, top, short) in
         let last : length (fewer m s v) ≡ suc n = at_end (fewer m s v) n lt (h ∙ more_short s v (length ds) top) in
-        behind_end (fewer m s v) (chosen m s 0 v) (suc n) last
+        behind_end (fewer m s v) (ranked_picks m s 0 v) (suc n) last
         ∙ head_some m s 0 v some (omega (arith, same, room))
         ∙ ap (λ i. Some (first_picks i 0)) same
         ∙ sym (more_yes (suc s) v (length ds) (omega (arith, same)) room)
@@ -281,8 +281,8 @@ next_size m s v n ds some lt short h = elim (cases_lt (length ds) v) [
 
 behind_fewer : (m s v n : ℕ) (ds : List Pick) → 1 ≤ m → n < length (fewer m s v) → length ds < s
     → (o : Option (List Pick)) → slice_get (fewer m s v) (suc n) ≡ or_else o (one_more s v (length ds))
-    → slice_get (fewer m s v ++ chosen m s 0 v) (suc n) ≡ or_else o (one_more (suc s) v (length ds))
-behind_fewer m s v n ds some lt short (Some r) h = in_front (fewer m s v) (chosen m s 0 v) (suc n) r h
+    → slice_get (fewer m s v ++ ranked_picks m s 0 v) (suc n) ≡ or_else o (one_more (suc s) v (length ds))
+behind_fewer m s v n ds some lt short (Some r) h = in_front (fewer m s v) (ranked_picks m s 0 v) (suc n) r h
 behind_fewer m s v n ds some lt short None h = next_size m s v n ds some lt short h
 
 -- the steps of the code
@@ -308,7 +308,7 @@ pub follows_below : (m s v : ℕ) → 1 ≤ m → (n : ℕ) (ds : List Pick) →
     → slice_get (fewer m s v) (suc n) ≡ following_below m s v ds
 unfolding fewer following_below
 follows_below m zero v some n ds h = absurd (let bad : None ≡ Some ds = h in cc)
-follows_below m (suc s) v some n ds h = elim (slice_get_of_append (fewer m s v) (chosen m s 0 v) n ds h) [
+follows_below m (suc s) v some n ds h = elim (slice_get_of_append (fewer m s v) (ranked_picks m s 0 v) n ds h) [
   | inl it ↦
       behind_fewer m s v n ds some it.0 (fewer_length m s v n ds it.1) (following m v ds) (follows_below m s v some n ds it.1)
   | inr it ↦
@@ -316,8 +316,8 @@ follows_below m (suc s) v some n ds h = elim (slice_get_of_append (fewer m s v) 
       let end : 0 + v ≡ v = omega arith in
       let size : length ds ≡ s = member_length m s 0 v (n - length (fewer m s v)) ds it.1 in
       let top : one_more (suc s) v (length ds) ≡ None = more_short (suc s) v (length ds) (omega (arith, size)) in
-      ap (slice_get (fewer m s v ++ chosen m s 0 v)) at
-      ∙ slice_get-append_right (fewer m s v) (chosen m s 0 v) (suc (n - length (fewer m s v)))
+      ap (slice_get (fewer m s v ++ ranked_picks m s 0 v)) at
+      ∙ slice_get-append_right (fewer m s v) (ranked_picks m s 0 v) (suc (n - length (fewer m s v)))
       ∙ follows m s 0 v some (n - length (fewer m s v)) ds it.1
       ∙ ap (λ e. following m e ds) end
       ∙ sym (or_none (following m v ds))
@@ -332,8 +332,8 @@ All_cons P x xs p ps = λ k. elim k as (λ j. (d : Pick) → j < length (x ∷ x
 ]
 
 -- the parts and fates of a choice are among those that it is made of
-pub are_picks : (m i a k n : ℕ) (ds : List Pick) → slice_get (chosen m i a k) n ≡ Some ds → ArePicks m (a + k) ds
-unfolding chosen
+pub are_picks : (m i a k n : ℕ) (ds : List Pick) → slice_get (ranked_picks m i a k) n ≡ Some ds → ArePicks m (a + k) ds
+unfolding ranked_picks
 are_picks m zero a k zero ds h =
     let P : List Pick → Type 0 = λ xs. ArePicks m (a + k) xs in
     subst P (same_Some [] ds h) (λ j d lt. absurd (omega (arith, lt)))
@@ -342,21 +342,21 @@ are_picks m (suc i) a zero n ds h = absurd (let bad : None ≡ Some ds = h in cc
 are_picks m (suc i) a (suc k) n ds h =
     let P : ℕ → List Pick → Type 0 = λ e xs. ArePicks m e xs in
     let end : a + 1 + k ≡ a + suc k = omega arith in
-    elim (slice_get_of_append (beginning a 0 m (chosen m i (a + 1) k)) (chosen m (suc i) (a + 1) k) n ds h) [
+    elim (slice_get_of_append (beginning a 0 m (ranked_picks m i (a + 1) k)) (ranked_picks m (suc i) (a + 1) k) n ds h) [
       | inl first ↦
-          let it = of_beginning a 0 m (chosen m i (a + 1) k) n ds first.1 in
+          let it = of_beginning a 0 m (ranked_picks m i (a + 1) k) n ds first.1 in
           let fate : it.x < m = it.fate in
           let rest : ArePicks m (a + suc k) it.rest = subst (λ e. P e it.rest) end (are_picks m i (a + 1) k it.y it.rest it.there) in
           let own : (a < a + suc k) × (0 + it.x < m) = (omega arith, omega (arith, fate)) in
           let whole = All_cons (λ (p : Pick). (p.part < a + suc k) × (p.fate < m)) (record { part = a; fate = 0 + it.x }) it.rest own rest in
           subst (P (a + suc k)) (sym it.is) whole
-      | inr more ↦ subst (λ e. P e ds) end (are_picks m (suc i) (a + 1) k (n - length (beginning a 0 m (chosen m i (a + 1) k))) ds more.1)
+      | inr more ↦ subst (λ e. P e ds) end (are_picks m (suc i) (a + 1) k (n - length (beginning a 0 m (ranked_picks m i (a + 1) k))) ds more.1)
     ]
 
 pub fewer_picks : (m s v n : ℕ) (ds : List Pick) → slice_get (fewer m s v) n ≡ Some ds → ArePicks m v ds
 unfolding fewer
 fewer_picks m zero v n ds h = absurd (let bad : None ≡ Some ds = h in cc)
-fewer_picks m (suc s) v n ds h = elim (slice_get_of_append (fewer m s v) (chosen m s 0 v) n ds h) [
+fewer_picks m (suc s) v n ds h = elim (slice_get_of_append (fewer m s v) (ranked_picks m s 0 v) n ds h) [
   | inl first ↦ fewer_picks m s v n ds first.1
   | inr more ↦
       let end : 0 + v ≡ v = omega arith in

@@ -11,3 +11,4 @@ pub mod Order
 pub mod CrashModel
 pub mod Naming
 pub mod Agreeing
+pub mod Passing

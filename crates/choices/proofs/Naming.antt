@@ -18,7 +18,7 @@ use Rattle.choices.specs.declared.fate.Fate.{Fate}
 use Rattle.choices.specs.declared.name.Name.{Name}
 use Rattle.choices.specs.Picks.{fates_of, most_fates, picks_within, tears_of_part, ArePicks}
 use Rattle.choices.specs.Laws.{AreRising, IsChoice}
-use Rattle.choices.specs.Choices.{ChoiceValue, departure_of, fate_of, choice_of, choices_at, ranked, ranked_at, ranked_before}
+use Rattle.choices.specs.Choices.{ChoiceValue, departure_of, fate_of, choice_of, choices_at, ranked_choices, ranked_at, ranked_before}
 use Rattle.choices.specs.Named.{name_of, IsNamed, NoneIsNamed}
 use Rattle.choices.specs.Seeking.{number_of, is_named, pick_name, NoneNamed, IsFirstNamed, IsPickOf, NoPickOf, IsFirstPick, ArePicksOf, NoPicksOf, LacksCut}
 use Rattle.choices.proofs.CrashModel.{listed}
@@ -249,7 +249,7 @@ pub record Told (plan : PlanValue) (b : ℕ) (tears : Bool) (cut : ℕ) (names :
 
 pub told : (plan : PlanValue) (b : ℕ) (tears : Bool) (cut : ℕ) (names : List Name) (choice : ChoiceValue) → IsNamed plan b tears cut names choice
     → Told plan b tears cut names
-unfolding ranked
+unfolding ranked_choices
 told plan b tears cut names choice is =
     let way = plan.by in
     let es = plan.log.entries in

@@ -12,10 +12,10 @@ use Rattle.epochs.specs.Cuts.{cuts_of}
 use Rattle.epochs.specs.Plan.{PlanValue}
 use Rattle.epochs.proofs.Wanted.{cuts_within}
 use Rattle.choices.specs.declared.pick.Pick.{Pick}
-use Rattle.choices.specs.Picks.{chosen, fewer, most_fates, fates_of, picks_within, ArePicks}
+use Rattle.choices.specs.Picks.{ranked_picks, fewer, most_fates, fates_of, picks_within, ArePicks}
 use Rattle.choices.specs.Ways.{ways_within}
 use Rattle.choices.specs.Steps.{following_below}
-use Rattle.choices.specs.Choices.{ChoiceValue, departure_of, choice_of, choices_at, choices_over, ranked, ranked_before, ranked_at, limit, IsFirstPast, InCut}
+use Rattle.choices.specs.Choices.{ChoiceValue, departure_of, choice_of, choices_at, choices_over, ranked_choices, ranked_before, ranked_at, limit, IsFirstPast, InCut}
 use Rattle.choices.proofs.Ranks.{length-fewer}
 use Rattle.choices.proofs.Following.{follows_below, fewer_picks, at_end, behind_end, in_front}
 
@@ -67,8 +67,8 @@ unfolding ranked_before choices_over
 before_none plan b tears = refl
 
 pub before_all : (plan : PlanValue) (b : ℕ) (tears : Bool) (i : ℕ) → length (cuts_of plan.kind plan.log.entries) ≤ i
-    → ranked_before plan b tears i ≡ ranked plan b tears
-unfolding ranked_before ranked
+    → ranked_before plan b tears i ≡ ranked_choices plan b tears
+unfolding ranked_before ranked_choices
 before_all plan b tears i h =
     ap (choices_over plan.by plan.log.entries (fates_of tears) b 0) (take_all i (cuts_of plan.kind plan.log.entries) h)
 
@@ -101,8 +101,8 @@ over_at way es m b p (suc i) r (c ∷ cuts) cut h lt =
 pub found_choice : (plan : PlanValue) (b : ℕ) (tears : Bool) (number place rest : ℕ) → (at : InCut plan b tears number place rest)
     → (cut : ℕ) → slice_get (cuts_of plan.kind plan.log.entries) place ≡ Some cut
     → (picks : List Pick) → slice_get (picks_within (fates_of tears) b (length (volatile_parts plan.by plan.log.entries cut))) rest ≡ Some picks
-    → slice_get (ranked plan b tears) number ≡ Some (choice_of plan.by plan.log.entries place cut picks)
-unfolding ranked ranked_before ranked_at choices_at
+    → slice_get (ranked_choices plan b tears) number ≡ Some (choice_of plan.by plan.log.entries place cut picks)
+unfolding ranked_choices ranked_before ranked_at choices_at
 found_choice plan b tears number place rest at cut wanted picks there =
     let way = plan.by in
     let es = plan.log.entries in
@@ -124,7 +124,7 @@ wanted_within plan place cut h =
     subst P (get_or_from_slice_get (cuts_of plan.kind plan.log.entries) place cut cut h) within
 
 -- the cuts before a choice's own are some, not all
-pub not_past : (plan : PlanValue) (b : ℕ) (tears : Bool) (number place rest : ℕ) → number < length (ranked plan b tears)
+pub not_past : (plan : PlanValue) (b : ℕ) (tears : Bool) (number place rest : ℕ) → number < length (ranked_choices plan b tears)
     → number ≡ length (ranked_before plan b tears place) + rest → place < length (cuts_of plan.kind plan.log.entries)
 not_past plan b tears number place rest lt sum = elim (cases_lt place (length (cuts_of plan.kind plan.log.entries))) [
   | inl less ↦ less
@@ -133,9 +133,9 @@ not_past plan b tears number place rest lt sum = elim (cases_lt place (length (c
 
 -- the first choice of a cut departs nowhere
 fewer_head : (m b v : ℕ) → slice_get (fewer m (suc b) v) 0 ≡ Some []
-unfolding fewer chosen
+unfolding fewer ranked_picks
 fewer_head m zero v = refl
-fewer_head m (suc b) v = in_front (fewer m (suc b) v) (chosen m (suc b) 0 v) 0 [] (fewer_head m b v)
+fewer_head m (suc b) v = in_front (fewer m (suc b) v) (ranked_picks m (suc b) 0 v) 0 [] (fewer_head m b v)
 
 at_head : (way : By) (es : List Entry) (m b p cut : ℕ) → slice_get (choices_at way es m b p cut) 0 ≡ Some (choice_of way es p cut [])
 unfolding choices_at
@@ -248,7 +248,7 @@ pub record Walks (plan : PlanValue) (b : ℕ) (tears : Bool) (number : ℕ) (cut
 
 -- the loop over the cuts: there is one, the first, room for a next, and the next
 pub walk_begins : (plan : PlanValue) (b : ℕ) (tears : Bool) (number : ℕ) (cuts : List ℕ) → cuts ≡ cuts_of plan.kind plan.log.entries
-    → number < length (ranked plan b tears) → 0 < length cuts
+    → number < length (ranked_choices plan b tears) → 0 < length cuts
 walk_begins plan b tears number cuts is lt =
     let sum : number ≡ length (ranked_before plan b tears 0) + number = omega (arith, before_none plan b tears) in
     omega (arith, not_past plan b tears number 0 number lt sum, ap length is)
@@ -273,14 +273,14 @@ sum_on plan b tears number cuts place rest own so is le =
 
 -- a number that isn't at this cut has a cut behind it
 pub walk_room : (plan : PlanValue) (b : ℕ) (tears : Bool) (number : ℕ) (cuts : List ℕ) (place rest own : ℕ) → Walks plan b tears number cuts place rest own
-    → cuts ≡ cuts_of plan.kind plan.log.entries → own ≤ rest → number < length (ranked plan b tears) → place + 1 < length cuts
+    → cuts ≡ cuts_of plan.kind plan.log.entries → own ≤ rest → number < length (ranked_choices plan b tears) → place + 1 < length cuts
 walk_room plan b tears number cuts place rest own so is le lt =
     let next = sum_on plan b tears number cuts place rest own so is le in
     omega (arith, not_past plan b tears number (place + 1) (rest - own) lt next, ap length is)
 
 -- and the walk goes on there
 pub walk_on : (plan : PlanValue) (b : ℕ) (tears : Bool) (number : ℕ) (cuts : List ℕ) (place rest own : ℕ) → Walks plan b tears number cuts place rest own
-    → cuts ≡ cuts_of plan.kind plan.log.entries → own ≤ rest → number < length (ranked plan b tears)
+    → cuts ≡ cuts_of plan.kind plan.log.entries → own ≤ rest → number < length (ranked_choices plan b tears)
     → (more : ℕ) → more ≡ length (ranked_at plan b tears (slice_index_or cuts (place + 1) 0))
     → Walks plan b tears number cuts (place + 1) (rest - own) more
 walk_on plan b tears number cuts place rest own so is le lt more ways = record {
@@ -312,7 +312,7 @@ first_past plan b tears cuts i sum own is lt so ways low high = record {
 
 -- behind the last cut the sum is that of all choices
 pub counted_all : (plan : PlanValue) (b : ℕ) (tears : Bool) (cuts : List ℕ) (i sum : ℕ) → cuts ≡ cuts_of plan.kind plan.log.entries → length cuts ≤ i
-    → sum ≡ length (ranked_before plan b tears i) → sum ≡ length (ranked plan b tears)
+    → sum ≡ length (ranked_before plan b tears i) → sum ≡ length (ranked_choices plan b tears)
 counted_all plan b tears cuts i sum is le so = so ∙ ap length (before_all plan b tears i (omega (arith, le, ap length is)))
 
 -- departures by few fates
@@ -324,14 +324,14 @@ pub record Standing (plan : PlanValue) (b : ℕ) (tears : Bool) (n : ℕ) (old :
   pub wanted : slice_get (cuts_of plan.kind plan.log.entries) old.place ≡ Some old.cut
   pub within : old.cut ≤ length plan.log.entries
   pub picks : ArePicks (fates_of tears) (length (volatile_parts plan.by plan.log.entries old.cut)) old.picks
-  pub next : slice_get (ranked plan b tears) (n + 1)
+  pub next : slice_get (ranked_choices plan b tears) (n + 1)
       ≡ next_choice plan.by plan.log.entries old.place old.cut (following_below (fates_of tears) (b + 1) (length (volatile_parts plan.by plan.log.entries old.cut)) old.picks)
       (slice_get (cuts_of plan.kind plan.log.entries) (old.place + 1))
 
 stands_at : (plan : PlanValue) (b : ℕ) (tears : Bool) (n index cut number : ℕ) (picks : List Pick)
     → slice_get (cuts_of plan.kind plan.log.entries) index ≡ Some cut
     → slice_get (picks_within (fates_of tears) b (length (volatile_parts plan.by plan.log.entries cut))) number ≡ Some picks
-    → slice_get (ranked plan b tears) (suc n)
+    → slice_get (ranked_choices plan b tears) (suc n)
     ≡ next_choice plan.by plan.log.entries (0 + index) cut (following_below (fates_of tears) (suc b) (length (volatile_parts plan.by plan.log.entries cut)) picks)
     (slice_get (cuts_of plan.kind plan.log.entries) (suc index))
     → Standing plan b tears n (choice_of plan.by plan.log.entries (0 + index) cut picks)
@@ -349,8 +349,8 @@ stands_at plan b tears n index cut number picks wanted there next =
     }
 
 -- each choice of a plan has such a place
-pub stands : (plan : PlanValue) (b : ℕ) (tears : Bool) (n : ℕ) (old : ChoiceValue) → slice_get (ranked plan b tears) n ≡ Some old → Standing plan b tears n old
-unfolding ranked
+pub stands : (plan : PlanValue) (b : ℕ) (tears : Bool) (n : ℕ) (old : ChoiceValue) → slice_get (ranked_choices plan b tears) n ≡ Some old → Standing plan b tears n old
+unfolding ranked_choices
 stands plan b tears n old h =
     let so = goes plan.by plan.log.entries (fates_of tears) b 0 (cuts_of plan.kind plan.log.entries) n old (fates_low tears) h in
     let P : ChoiceValue → Type 0 = λ c. Standing plan b tears n c in
@@ -363,7 +363,7 @@ same_step m m' s v v' ds o same parts h = ap (λ f. following_below f s v' ds) (
 -- the next choice: one of the same cut, the first of the next, or none
 pub stepped_on : (plan : PlanValue) (b : ℕ) (tears : Bool) (n : ℕ) (old : ChoiceValue) (picks : List Pick) → Standing plan b tears n old
     → following_below (fates_of tears) (b + 1) (length (volatile_parts plan.by plan.log.entries old.cut)) old.picks ≡ Some picks
-    → slice_get (ranked plan b tears) (n + 1) ≡ Some (choice_of plan.by plan.log.entries old.place old.cut picks)
+    → slice_get (ranked_choices plan b tears) (n + 1) ≡ Some (choice_of plan.by plan.log.entries old.place old.cut picks)
 stepped_on plan b tears n old picks so h =
     so.next ∙ ap (λ o. next_choice plan.by plan.log.entries old.place old.cut o (slice_get (cuts_of plan.kind plan.log.entries) (old.place + 1))) h
 
@@ -379,23 +379,23 @@ new_picks plan b tears n old picks so h =
 pub moved_on : (plan : PlanValue) (b : ℕ) (tears : Bool) (n : ℕ) (old : ChoiceValue) (cut : ℕ) → Standing plan b tears n old
     → following_below (fates_of tears) (b + 1) (length (volatile_parts plan.by plan.log.entries old.cut)) old.picks ≡ None
     → slice_get (cuts_of plan.kind plan.log.entries) (old.place + 1) ≡ Some cut
-    → slice_get (ranked plan b tears) (n + 1) ≡ Some (choice_of plan.by plan.log.entries (old.place + 1) cut [])
+    → slice_get (ranked_choices plan b tears) (n + 1) ≡ Some (choice_of plan.by plan.log.entries (old.place + 1) cut [])
 moved_on plan b tears n old cut so none more =
     so.next ∙ ap (λ o. next_choice plan.by plan.log.entries old.place old.cut o (slice_get (cuts_of plan.kind plan.log.entries) (old.place + 1))) none
     ∙ ap (option_map (first_at plan.by plan.log.entries (old.place + 1))) more
 
 -- the last choice of the last cut is the last of all
 pub at_last : (plan : PlanValue) (b : ℕ) (tears : Bool) (n : ℕ) (old : ChoiceValue) → Standing plan b tears n old
-    → slice_get (ranked plan b tears) n ≡ Some old
+    → slice_get (ranked_choices plan b tears) n ≡ Some old
     → following_below (fates_of tears) (b + 1) (length (volatile_parts plan.by plan.log.entries old.cut)) old.picks ≡ None
     → slice_get (cuts_of plan.kind plan.log.entries) (old.place + 1) ≡ None
-    → n + 1 ≡ length (ranked plan b tears)
+    → n + 1 ≡ length (ranked_choices plan b tears)
 at_last plan b tears n old so here none last =
-    let past : slice_get (ranked plan b tears) (suc n) ≡ None =
-    ap (slice_get (ranked plan b tears)) (sym (add-one n)) ∙ so.next
+    let past : slice_get (ranked_choices plan b tears) (suc n) ≡ None =
+    ap (slice_get (ranked_choices plan b tears)) (sym (add-one n)) ∙ so.next
     ∙ ap (λ o. next_choice plan.by plan.log.entries old.place old.cut o (slice_get (cuts_of plan.kind plan.log.entries) (old.place + 1))) none
     ∙ ap (option_map (first_at plan.by plan.log.entries (old.place + 1))) last in
-    let long = at_end (ranked plan b tears) n (slice_get_within (ranked plan b tears) n old here) past in
+    let long = at_end (ranked_choices plan b tears) n (slice_get_within (ranked_choices plan b tears) n old here) past in
     omega (arith, long)
 
 -- a choice by its number at its cut

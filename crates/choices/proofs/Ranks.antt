@@ -1,5 +1,5 @@
 -- Choices by their numbers.
-use Rattle.std.proofs.Common.{ℕ, zero, suc, ◌≡◌, ◌+◌, ◌-◌, ◌*◌, ◌/◌, ◌%◌, ◌<◌, ◌≤◌, List, [], ◌∷◌, ◌++◌, length, map, slice_get, Option, Some, None, refl, sym, ◌∙◌, ap, inl, inr, arith, append_assoc, length-append}
+use Rattle.std.proofs.Common.{ℕ, zero, suc, ◌≡◌, ◌+◌, ◌-◌, ◌*◌, ◌/◌, ◌%◌, ◌<◌, ◌≤◌, List, ◌∷◌, ◌++◌, length, map, slice_get, Option, Some, refl, sym, ◌∙◌, ap, inl, inr, arith, length-append}
 use Rattle.std.specs.Option.{option_map}
 use Rattle.std.proofs.lemmas.Bool.{cases_lt}
 use Rattle.std.proofs.lemmas.List.{length-map, append-nil}
@@ -7,7 +7,7 @@ use Rattle.std.proofs.lemmas.Option.{slice_get-map}
 use Rattle.std.proofs.lemmas.Nat.{div-add-mod', div_below, mod_below}
 use Rattle.base.proofs.Lists.{slice_get-append_left, slice_get-append_right}
 use Rattle.choices.specs.declared.pick.Pick.{Pick}
-use Rattle.choices.specs.Picks.{beginning, chosen, fewer}
+use Rattle.choices.specs.Picks.{beginning, ranked_picks, fewer}
 use Rattle.choices.specs.Ways.{ways, ways_below}
 use Rattle.choices.specs.Seeks.{Begins, Reaches}
 
@@ -41,15 +41,15 @@ at_beginning a t (suc j) rests (suc x) y lt h =
     ∙ ap (λ s. option_map (behind a s) (slice_get rests y)) same
 
 -- how many choices of i departures there are
-pub length-chosen : (m i a k : ℕ) → length (chosen m i a k) ≡ ways m i k
-unfolding chosen ways
+pub length-chosen : (m i a k : ℕ) → length (ranked_picks m i a k) ≡ ways m i k
+unfolding ranked_picks ways
 length-chosen m zero a k = refl
 length-chosen m (suc i) a zero = refl
 length-chosen m (suc i) a (suc k) =
     omega (
       arith,
-      length-append (beginning a 0 m (chosen m i (a + 1) k)) (chosen m (suc i) (a + 1) k),
-      length-beginning a 0 m (chosen m i (a + 1) k),
+      length-append (beginning a 0 m (ranked_picks m i (a + 1) k)) (ranked_picks m (suc i) (a + 1) k),
+      length-beginning a 0 m (ranked_picks m i (a + 1) k),
       ap (λ x. m * x) (length-chosen m i (a + 1) k),
       length-chosen m (suc i) (a + 1) k,
     )
@@ -58,7 +58,7 @@ length-chosen m (suc i) a (suc k) =
 pub length-fewer : (m s v : ℕ) → length (fewer m s v) ≡ ways_below m s v
 unfolding fewer ways_below
 length-fewer m zero v = refl
-length-fewer m (suc s) v = omega (arith, length-append (fewer m s v) (chosen m s 0 v), length-fewer m s v, length-chosen m s 0 v)
+length-fewer m (suc s) v = omega (arith, length-append (fewer m s v) (ranked_picks m s 0 v), length-fewer m s v, length-chosen m s 0 v)
 
 -- more parts have no fewer choices
 ways_rise : (m i r u : ℕ) → ways m (suc i) r ≤ ways m (suc i) (u + r)
@@ -70,32 +70,32 @@ ways_rise m i r (suc u) =
 
 -- the last choices begin behind the first u parts
 later : (m i a r u left : ℕ) → left ≤ ways m (suc i) r
-    → slice_get (chosen m (suc i) a (u + r)) (ways m (suc i) (u + r) - left) ≡ slice_get (chosen m (suc i) (a + u) r) (ways m (suc i) r - left)
-unfolding chosen ways
+    → slice_get (ranked_picks m (suc i) a (u + r)) (ways m (suc i) (u + r) - left) ≡ slice_get (ranked_picks m (suc i) (a + u) r) (ways m (suc i) r - left)
+unfolding ranked_picks ways
 later m i a r zero left h =
     let e : zero + r ≡ r = omega arith in
     let b : a + zero ≡ a = omega arith in
     rw (e, b) refl
 later m i a r (suc u) left h =
     let e : suc u + r ≡ suc (u + r) = omega arith in
-    let first : List (List Pick) = beginning a 0 m (chosen m i (a + 1) (u + r)) in
+    let first : List (List Pick) = beginning a 0 m (ranked_picks m i (a + 1) (u + r)) in
     let long : length first ≡ m * ways m i (u + r) =
-    length-beginning a 0 m (chosen m i (a + 1) (u + r)) ∙ ap (λ x. m * x) (length-chosen m i (a + 1) (u + r)) in
+    length-beginning a 0 m (ranked_picks m i (a + 1) (u + r)) ∙ ap (λ x. m * x) (length-chosen m i (a + 1) (u + r)) in
     let here : ways m (suc i) (suc (u + r)) - left ≡ length first + (ways m (suc i) (u + r) - left) = omega (arith, long, ways_rise m i r u, h) in
     let b : a + 1 + u ≡ a + suc u = omega arith in
-    ap (λ k. slice_get (chosen m (suc i) a k) (ways m (suc i) k - left)) e
-    ∙ ap (slice_get (chosen m (suc i) a (suc (u + r)))) here
-    ∙ slice_get-append_right first (chosen m (suc i) (a + 1) (u + r)) (ways m (suc i) (u + r) - left)
+    ap (λ k. slice_get (ranked_picks m (suc i) a k) (ways m (suc i) k - left)) e
+    ∙ ap (slice_get (ranked_picks m (suc i) a (suc (u + r)))) here
+    ∙ slice_get-append_right first (ranked_picks m (suc i) (a + 1) (u + r)) (ways m (suc i) (u + r) - left)
     ∙ later m i (a + 1) r u left h
-    ∙ ap (λ c. slice_get (chosen m (suc i) c r) (ways m (suc i) r - left)) b
+    ∙ ap (λ c. slice_get (ranked_picks m (suc i) c r) (ways m (suc i) r - left)) b
 
 -- a choice among those that begin with the first part: a row for each fate
 row : (m i a r q : ℕ) → q < m * ways m i r
-    → (slice_get (chosen m (suc i) a (suc r)) q ≡ option_map (behind a (q / ways m i r)) (slice_get (chosen m i (a + 1) r) (q % ways m i r)))
+    → (slice_get (ranked_picks m (suc i) a (suc r)) q ≡ option_map (behind a (q / ways m i r)) (slice_get (ranked_picks m i (a + 1) r) (q % ways m i r)))
     × (q / ways m i r < m) × (q % ways m i r < ways m i r)
-unfolding chosen
+unfolding ranked_picks
 row m i a r q lt =
-    let rests : List (List Pick) = chosen m i (a + 1) r in
+    let rests : List (List Pick) = ranked_picks m i (a + 1) r in
     let width : length rests ≡ ways m i r = length-chosen m i (a + 1) r in
     let some : 0 < ways m i r = elim (cases_lt 0 (ways m i r)) [
       | inl more ↦ more
@@ -112,7 +112,7 @@ row m i a r q lt =
     let at : q ≡ x * length rests + y = sym (ap (λ w. x * w + y) width ∙ parts) in
     let long : length (beginning a 0 m rests) ≡ m * ways m i r = length-beginning a 0 m rests ∙ ap (λ w. m * w) width in
     let fate : 0 + x ≡ x = omega arith in (
-      slice_get-append_left (beginning a 0 m rests) (chosen m (suc i) (a + 1) r) q (omega (arith, long, lt))
+      slice_get-append_left (beginning a 0 m rests) (ranked_picks m (suc i) (a + 1) r) q (omega (arith, long, lt))
           ∙ ap (slice_get (beginning a 0 m rests)) at
           ∙ at_beginning a 0 m rests x y in_rows (omega (arith, width, in_row))
           ∙ ap (λ s. option_map (behind a s) (slice_get rests y)) fate,
@@ -143,8 +143,8 @@ begins_inside m i r left so =
 -- what the search finds
 begins_at : (m i begin u r number : ℕ) → number < ways m (suc i) (u + suc r)
     → Reaches m (suc i) (ways m (suc i) (u + suc r) - number) (suc r) → (left : ℕ) → left ≡ ways m (suc i) (u + suc r) - number
-    → (slice_get (chosen m (suc i) begin (u + suc r)) number
-    ≡ option_map (behind (begin + u) ((ways m (suc i) (suc r) - left) / ways m i r)) (slice_get (chosen m i (begin + u + 1) r) ((ways m (suc i) (suc r) - left) % ways m i r)))
+    → (slice_get (ranked_picks m (suc i) begin (u + suc r)) number
+    ≡ option_map (behind (begin + u) ((ways m (suc i) (suc r) - left) / ways m i r)) (slice_get (ranked_picks m i (begin + u + 1) r) ((ways m (suc i) (suc r) - left) % ways m i r)))
     × ((ways m (suc i) (suc r) - left) / ways m i r < m)
     × ((ways m (suc i) (suc r) - left) % ways m i r < ways m i r)
 begins_at m i begin u r number lt so left is =
@@ -152,7 +152,7 @@ begins_at m i begin u r number lt so left is =
     let at : number ≡ ways m (suc i) (u + suc r) - left = omega (arith, lt, is) in
     let inside = begins_inside m i r left reaches in
     let here = row m i (begin + u) r (ways m (suc i) (suc r) - left) inside in (
-      ap (slice_get (chosen m (suc i) begin (u + suc r))) at ∙ later m i begin (suc r) u left reaches.reach ∙ here.0,
+      ap (slice_get (ranked_picks m (suc i) begin (u + suc r))) at ∙ later m i begin (suc r) u left reaches.reach ∙ here.0,
       here.1,
       here.2,
     )
@@ -191,40 +191,12 @@ found_pick m (suc i) begin end number (suc r) some le lt within so left left_is 
 pub record Seeks (m left begin end number : ℕ) (front : List Pick) (target : Option (List Pick)) : Type 0 where
   pub low : begin ≤ end
   pub within : number < ways m left (end - begin)
-  pub value : option_map (λ (ds : List Pick). front ++ ds) (slice_get (chosen m left begin (end - begin)) number) ≡ target
-
-same_option : (o : Option (List Pick)) → option_map (λ (ds : List Pick). [] ++ ds) o ≡ o
-same_option None = refl
-same_option (Some ds) = refl
-
--- the search at its start: no departure is found yet
-pub seeks_first : (m size end number : ℕ) → number < ways m size end → Seeks m size 0 end number [] (slice_get (chosen m size 0 end) number)
-seeks_first m size end number lt =
-    let all : end - 0 ≡ end = omega arith in
-    record { low = omega arith; within = rw all lt; value = rw all (same_option (slice_get (chosen m size 0 end) number)) }
-
-regroup : (front : List Pick) (pick : Pick) (o : Option (List Pick))
-    → option_map (λ (ds : List Pick). (front ++ pick ∷ []) ++ ds) o ≡ option_map (λ (ds : List Pick). front ++ ds) (option_map (λ (ds : List Pick). pick ∷ ds) o)
-regroup front pick None = refl
-regroup front pick (Some ds) = ap (λ xs. Some xs) (append_assoc front (pick ∷ []) ds)
-
--- one departure more is found
-pub takes : (m left begin end number : ℕ) (front : List Pick) (target : Option (List Pick)) → Seeks m left begin end number front target
-    → (pick : Pick) (rest : ℕ) → Begins m left begin end number pick rest
-    → Seeks m (left - 1) (pick.part + 1) end rest (front ++ pick ∷ []) target
-takes m left begin end number front target so pick rest here = record {
-  low = omega (arith, here.high);
-  within = here.within;
-  value =
-      regroup front pick (slice_get (chosen m (left - 1) (pick.part + 1) (end - (pick.part + 1))) rest)
-      ∙ ap (λ o. option_map (λ (ds : List Pick). front ++ ds) o) (sym here.value)
-      ∙ so.value;
-}
+  pub value : option_map (λ (ds : List Pick). front ++ ds) (slice_get (ranked_picks m left begin (end - begin)) number) ≡ target
 
 -- nothing is to come
 none_left : (m begin end number : ℕ) (front : List Pick) (target : Option (List Pick)) → Seeks m 0 begin end number front target
     → target ≡ Some front
-unfolding chosen ways
+unfolding ranked_picks ways
 none_left m begin end zero front target so = sym so.value ∙ ap (λ xs. Some xs) (append-nil front)
 none_left m begin end (suc n) front target so = let bad : suc n < 1 = so.within in absurd (omega (arith, bad))
 
@@ -245,19 +217,19 @@ ways_below_rise m size (suc s) v h = elim (cases_lt size s) [
 ]
 
 -- the choices of one number of departures stand behind those of fewer
-pub at_fewer : (m s v size r : ℕ) → size < s → r < ways m size v → slice_get (fewer m s v) (ways_below m size v + r) ≡ slice_get (chosen m size 0 v) r
+pub at_fewer : (m s v size r : ℕ) → size < s → r < ways m size v → slice_get (fewer m s v) (ways_below m size v + r) ≡ slice_get (ranked_picks m size 0 v) r
 unfolding fewer
 at_fewer m zero v size r h lt = absurd (omega (arith, h))
 at_fewer m (suc s) v size r h lt = elim (cases_lt size s) [
   | inl less ↦
       let rise : ways_below m size v + ways m size v ≤ ways_below m s v = ways_below_rise m size s v less in
-      slice_get-append_left (fewer m s v) (chosen m s 0 v) (ways_below m size v + r) (omega (arith, length-fewer m s v, rise, lt))
+      slice_get-append_left (fewer m s v) (ranked_picks m s 0 v) (ways_below m size v + r) (omega (arith, length-fewer m s v, rise, lt))
       ∙ at_fewer m s v size r less lt
   | inr more ↦
       let same : size ≡ s = omega (arith, h, more) in
       let here : ways_below m size v + r ≡ length (fewer m s v) + r = omega (arith, length-fewer m s v, ap (λ n. ways_below m n v) same) in
-      ap (slice_get (fewer m s v ++ chosen m s 0 v)) here ∙ slice_get-append_right (fewer m s v) (chosen m s 0 v) r
-      ∙ ap (λ n. slice_get (chosen m n 0 v) r) (sym same)
+      ap (slice_get (fewer m s v ++ ranked_picks m s 0 v)) here ∙ slice_get-append_right (fewer m s v) (ranked_picks m s 0 v) r
+      ∙ ap (λ n. slice_get (ranked_picks m n 0 v) r) (sym same)
 ]
 
 -- what the computation of the first departure needs

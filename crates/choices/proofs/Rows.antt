@@ -5,7 +5,7 @@ use Rattle.std.specs.List.{slice_index_or}
 use Rattle.std.proofs.lemmas.List.{append-nil, length-drop, take-append-drop}
 use Rattle.std.specs.Option.{option_map}
 use Rattle.choices.specs.declared.pick.Pick.{Pick}
-use Rattle.choices.specs.Steps.{first_picks, stepped, after_rest, following, or_else, one_more, following_below}
+use Rattle.choices.specs.Steps.{first_picks, next_picks, after_rest, following, or_else, one_more, following_below}
 
 -- a row of no parts adds nothing
 pub no_row : (xs : List Pick) (a : ℕ) → xs ≡ xs ++ first_picks 0 a
@@ -28,15 +28,15 @@ row_more xs ys i a u so at =
     rw (so, at, add-one i, row_end i a) (append_assoc xs (first_picks i a) (record { part = a + i; fate = 0 } ∷ []))
 
 -- what stands before a departure stays
-following_front : (m e : ℕ) (front rest ds : List Pick) → following m e rest ≡ Some ds → following m e (front ++ rest) ≡ Some (front ++ ds)
+pub following_front : (m e : ℕ) (front rest ds : List Pick) → following m e rest ≡ Some ds → following m e (front ++ rest) ≡ Some (front ++ ds)
 unfolding following
 following_front m e [] rest ds h = h
 following_front m e (d ∷ front) rest ds h =
-    ap (λ o. after_rest d o (stepped m e d (length (front ++ rest)))) (following_front m e front rest ds h)
+    ap (λ o. after_rest d o (next_picks m e d (length (front ++ rest)))) (following_front m e front rest ds h)
 
-following_cons : (m e : ℕ) (d : Pick) (ds : List Pick) → following m e ds ≡ None → following m e (d ∷ ds) ≡ stepped m e d (length ds)
+following_cons : (m e : ℕ) (d : Pick) (ds : List Pick) → following m e ds ≡ None → following m e (d ∷ ds) ≡ next_picks m e d (length ds)
 unfolding following
-following_cons m e d ds h = ap (λ o. after_rest d o (stepped m e d (length ds))) h
+following_cons m e d ds h = ap (λ o. after_rest d o (next_picks m e d (length ds))) h
 
 -- behind the last departure nothing goes on
 pub none_behind : (m e : ℕ) (ds : List Pick) (n : ℕ) → length ds ≤ n → following m e (drop n ds) ≡ None
@@ -46,26 +46,22 @@ none_behind m e [] (suc n) h = refl
 none_behind m e (d ∷ ds) zero h = absurd (omega (arith, h))
 none_behind m e (d ∷ ds) (suc n) h = none_behind m e ds n (omega (arith, h))
 
--- nothing goes on from the first departure on, so nothing goes on at all
-pub all_of : (m e : ℕ) (ds : List Pick) → following m e (drop 0 ds) ≡ None → following m e ds ≡ None
-all_of m e ds h = h
-
 -- the step of the departure with `behind` others after it, which have none
 pub step_at : (m e : ℕ) (ds : List Pick) (place behind : ℕ) (d : Pick) → place ≡ length ds - 1 - behind → behind < length ds
     → following m e (drop (length ds - behind) ds) ≡ None
-    → following m e (drop place ds) ≡ stepped m e (slice_index_or ds place d) behind
+    → following m e (drop place ds) ≡ next_picks m e (slice_index_or ds place d) behind
 step_at m e ds place behind d at lt none =
     let next : suc place ≡ length ds - behind = omega (arith, at, lt) in
     let split : drop place ds ≡ slice_index_or ds place d ∷ drop (suc place) ds = drop-cons ds place d (omega (arith, at, lt)) in
     let last : following m e (drop (suc place) ds) ≡ None = rw next none in
     let size : length (drop (suc place) ds) ≡ behind = length-drop (suc place) ds ∙ omega (arith, at, lt) in
     ap (following m e) split ∙ following_cons m e (slice_index_or ds place d) (drop (suc place) ds) last
-    ∙ ap (stepped m e (slice_index_or ds place d)) size
+    ∙ ap (next_picks m e (slice_index_or ds place d)) size
 
 -- the search from the end: the last departure that has a next one, and one that has none
 pub step_found : (m e : ℕ) (ds : List Pick) (place behind : ℕ) (d next : Pick) → place ≡ length ds - 1 - behind → behind < length ds
     → following m e (drop (length ds - behind) ds) ≡ None
-    → option_map (λ (p : Pick). p ∷ first_picks behind (p.part + 1)) (Some next) ≡ stepped m e (slice_index_or ds place d) behind
+    → option_map (λ (p : Pick). p ∷ first_picks behind (p.part + 1)) (Some next) ≡ next_picks m e (slice_index_or ds place d) behind
     → following m e ds ≡ Some (take place ds ++ next ∷ first_picks (length ds - place - 1) (next.part + 1))
 step_found m e ds place behind d next at lt none found =
     let others : length ds - place - 1 ≡ behind = omega (arith, at, lt) in
@@ -75,7 +71,7 @@ step_found m e ds place behind d next at lt none found =
 
 -- where one place can't step, the search goes on one place before it
 pub step_missed : (m e : ℕ) (ds : List Pick) (place behind : ℕ) (d : Pick) → place ≡ length ds - 1 - behind → behind < length ds
-    → following m e (drop (length ds - behind) ds) ≡ None → None ≡ stepped m e (slice_index_or ds place d) behind
+    → following m e (drop (length ds - behind) ds) ≡ None → None ≡ next_picks m e (slice_index_or ds place d) behind
     → following m e (drop (length ds - (behind + 1)) ds) ≡ None
 step_missed m e ds place behind d at lt none missed =
     let here : length ds - (behind + 1) ≡ place = omega (arith, at, lt) in

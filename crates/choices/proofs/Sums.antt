@@ -8,7 +8,7 @@ use Rattle.epochs.specs.declared.part.By.{By}
 use Rattle.epochs.specs.Cuts.{cuts_of}
 use Rattle.epochs.specs.Plan.{PlanValue}
 use Rattle.choices.specs.Picks.{fates_of}
-use Rattle.choices.specs.Choices.{choices_at, choices_over, ranked, ranked_before, InCut}
+use Rattle.choices.specs.Choices.{choices_at, choices_over, ranked_choices, ranked_before, InCut}
 use Rattle.choices.specs.Sums.{AreSumsUpTo, AreSums, FallsAt}
 use Rattle.choices.proofs.Plans.{before_none, before_more, before_all}
 
@@ -26,8 +26,8 @@ over_within way es m b p (suc i) (c ∷ cuts) =
       length-append (choices_at way es m b p c) (choices_over way es m b (p + 1) cuts),
     )
 
-pub before_within : (plan : PlanValue) (b : ℕ) (tears : Bool) (i : ℕ) → length (ranked_before plan b tears i) ≤ length (ranked plan b tears)
-unfolding ranked_before ranked
+pub before_within : (plan : PlanValue) (b : ℕ) (tears : Bool) (i : ℕ) → length (ranked_before plan b tears i) ≤ length (ranked_choices plan b tears)
+unfolding ranked_before ranked_choices
 before_within plan b tears i = over_within plan.by plan.log.entries (fates_of tears) b 0 i (cuts_of plan.kind plan.log.entries)
 
 -- the sums before the first cut, and with one cut more
@@ -57,7 +57,7 @@ one_sum_more plan b tears i sum sums more was is told =
     }
 
 -- the number of a choice falls into the table
-pub some_cut : (plan : PlanValue) (b : ℕ) (tears : Bool) (number : ℕ) (sums : List ℕ) → AreSums plan b tears sums → number < length (ranked plan b tears) → 1 < length sums
+pub some_cut : (plan : PlanValue) (b : ℕ) (tears : Bool) (number : ℕ) (sums : List ℕ) → AreSums plan b tears sums → number < length (ranked_choices plan b tears) → 1 < length sums
 some_cut plan b tears number sums are lt = elim (cases_lt 0 (length (cuts_of plan.kind plan.log.entries))) [
   | inl some ↦ let long = are.long in omega (arith, long, some)
   | inr none ↦
@@ -73,7 +73,7 @@ not_below plan b tears number sums are =
     omega (arith, first)
 
 -- and a number of a choice isn't behind the last
-pub not_above : (plan : PlanValue) (b : ℕ) (tears : Bool) (number : ℕ) (sums : List ℕ) → AreSums plan b tears sums → number < length (ranked plan b tears)
+pub not_above : (plan : PlanValue) (b : ℕ) (tears : Bool) (number : ℕ) (sums : List ℕ) → AreSums plan b tears sums → number < length (ranked_choices plan b tears)
     → number < slice_index_or sums (length sums - 1) 0
 not_above plan b tears number sums are lt =
     let count : ℕ = length (cuts_of plan.kind plan.log.entries) in

@@ -48,8 +48,8 @@ choices_over way es m bound place [] = []
 choices_over way es m bound place (cut ∷ cuts) = choices_at way es m bound place cut ++ choices_over way es m bound (place + 1) cuts
 
 -- all choices of a plan, with at most `bound` departures, torn writes or none
-unfoldable pub ranked : PlanValue → ℕ → Bool → List ChoiceValue
-ranked plan bound tears = choices_over plan.by plan.log.entries (fates_of tears) bound 0 (cuts_of plan.kind plan.log.entries)
+unfoldable pub ranked_choices : PlanValue → ℕ → Bool → List ChoiceValue
+ranked_choices plan bound tears = choices_over plan.by plan.log.entries (fates_of tears) bound 0 (cuts_of plan.kind plan.log.entries)
 
 -- the choices of a plan at the first i of its wanted cuts
 unfoldable pub ranked_before : PlanValue → ℕ → Bool → ℕ → List ChoiceValue

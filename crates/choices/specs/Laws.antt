@@ -10,7 +10,7 @@ use Rattle.epochs.specs.Laws.{IsWanted}
 use Rattle.choices.specs.declared.pick.Pick.{Pick}
 use Rattle.choices.specs.declared.choice.Departure.{Departure}
 use Rattle.choices.specs.Picks.{picks_within}
-use Rattle.choices.specs.Choices.{ChoiceValue, ranked}
+use Rattle.choices.specs.Choices.{ChoiceValue, ranked_choices}
 use Rattle.choices.specs.CrashModel.{IsAdmissible, ChoicePrecedes}
 
 -- the list has the pairs of a wanted cut and an admissible choice there and no other, each once, in
@@ -24,13 +24,13 @@ pub record ListsModel (plan : PlanValue) (bound : ℕ) (tears : Bool) (list : Li
   pub once : (i j : ℕ) (a b : ChoiceValue) → slice_get list i ≡ Some a → slice_get list j ≡ Some b → a.cut ≡ b.cut → a.departures ≡ b.departures → i ≡ j
 
 abbrev pub RankedIsModel : Type 0
-RankedIsModel = (plan : PlanValue) (bound : ℕ) (tears : Bool) → ListsModel plan bound tears (ranked plan bound tears)
+RankedIsModel = (plan : PlanValue) (bound : ℕ) (tears : Bool) → ListsModel plan bound tears (ranked_choices plan bound tears)
 
 -- where no entry has more than one sector, a write is a sector: by either the same choices are in the list, in the same order
 abbrev pub WaysAgree : Type 0
 WaysAgree =
     (log : LogValue) (kind : Cuts) (bound : ℕ) (tears : Bool) → ((e : ℕ) (entry : Entry) → slice_get log.entries e ≡ Some entry → entry.count ≤ 1)
-    → ranked (record { log = log; kind = kind; by = by.Write }) bound tears ≡ ranked (record { log = log; kind = kind; by = by.Sector }) bound tears
+    → ranked_choices (record { log = log; kind = kind; by = by.Write }) bound tears ≡ ranked_choices (record { log = log; kind = kind; by = by.Sector }) bound tears
 
 -- departures rising by part, of parts from a on and below e, by fates below m
 abbrev pub AreRising : ℕ → ℕ → ℕ → List Pick → Type 0

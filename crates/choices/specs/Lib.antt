@@ -10,3 +10,4 @@ pub mod Sums
 pub mod Named
 pub mod Seeking
 pub mod Numbers
+pub mod Picked

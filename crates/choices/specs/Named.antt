@@ -4,7 +4,7 @@ use Rattle.std.specs.Prelude.{ℕ, ◌≡◌, Bool, List, map, slice_get, Some}
 use Rattle.epochs.specs.Plan.{PlanValue}
 use Rattle.choices.specs.declared.choice.Departure.{Departure}
 use Rattle.choices.specs.declared.name.Name.{Name}
-use Rattle.choices.specs.Choices.{ChoiceValue, ranked}
+use Rattle.choices.specs.Choices.{ChoiceValue, ranked_choices}
 
 -- the name of a departure
 abbrev pub name_of : Departure → Name
@@ -13,7 +13,7 @@ name_of d = record { entry = d.part.entry; place = d.part.place; fate = d.fate }
 -- one of the plan's choices at that cut, whose departures have these names
 pub record IsNamed (plan : PlanValue) (bound : ℕ) (tears : Bool) (cut : ℕ) (names : List Name) (choice : ChoiceValue) : Type 0 where
   pub number : ℕ
-  pub there : slice_get (ranked plan bound tears) number ≡ Some choice
+  pub there : slice_get (ranked_choices plan bound tears) number ≡ Some choice
   pub at : choice.cut ≡ cut
   pub named : map name_of choice.departures ≡ names
 

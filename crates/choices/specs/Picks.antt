@@ -25,15 +25,15 @@ beginning a t (suc j) rests = map (λ (rest : List Pick). record { part = a; fat
 
 -- all choices of i departures among k parts from part a on, with m fates, in order: those that begin
 -- with part a come before those that begin behind it
-unfoldable pub chosen : ℕ → ℕ → ℕ → ℕ → List (List Pick)
-chosen m zero a k = [] ∷ []
-chosen m (suc i) a zero = []
-chosen m (suc i) a (suc k) = beginning a 0 m (chosen m i (a + 1) k) ++ chosen m (suc i) (a + 1) k
+unfoldable pub ranked_picks : ℕ → ℕ → ℕ → ℕ → List (List Pick)
+ranked_picks m zero a k = [] ∷ []
+ranked_picks m (suc i) a zero = []
+ranked_picks m (suc i) a (suc k) = beginning a 0 m (ranked_picks m i (a + 1) k) ++ ranked_picks m (suc i) (a + 1) k
 
 -- all choices of fewer than s departures among v parts, by the number of departures
 unfoldable pub fewer : ℕ → ℕ → ℕ → List (List Pick)
 fewer m zero v = []
-fewer m (suc s) v = fewer m s v ++ chosen m s 0 v
+fewer m (suc s) v = fewer m s v ++ ranked_picks m s 0 v
 
 -- all choices of at most `bound` departures
 abbrev pub picks_within : ℕ → ℕ → ℕ → List (List Pick)

@@ -9,8 +9,8 @@ first_picks (suc i) a = record { part = a; fate = 0 } ∷ first_picks i (a + 1)
 
 -- the next choice whose first departure is behind d: the next fate, or else the next part, if there is
 -- one with `behind` parts after it below e
-unfoldable pub stepped : ℕ → ℕ → Pick → ℕ → Option (List Pick)
-stepped m e d behind =
+unfoldable pub next_picks : ℕ → ℕ → Pick → ℕ → Option (List Pick)
+next_picks m e d behind =
     if nat_lt (d.fate + 1) m then Some (record { part = d.part; fate = d.fate + 1 } ∷ first_picks behind (d.part + 1))
     else if nat_lt (d.part + 1 + behind) e then Some (record { part = d.part + 1; fate = 0 } ∷ first_picks behind (d.part + 1 + 1))
     else None
@@ -23,7 +23,7 @@ after_rest d None other = other
 -- the choice after another with as many departures, among the parts below e
 unfoldable pub following : ℕ → ℕ → List Pick → Option (List Pick)
 following m e [] = None
-following m e (d ∷ ds) = after_rest d (following m e ds) (stepped m e d (length ds))
+following m e (d ∷ ds) = after_rest d (following m e ds) (next_picks m e d (length ds))
 
 -- the first choice of one departure more, where fewer than s are wanted and e parts are there
 unfoldable pub one_more : ℕ → ℕ → ℕ → Option (List Pick)

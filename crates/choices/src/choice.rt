@@ -63,6 +63,13 @@ impl Choice {
         self.cut
     }
 
+    /// The place of its cut among the wanted cuts.
+    pub fn place(&self) -> usize
+        ensures { result ≡ self.now.place }
+    {
+        self.place
+    }
+
     /// The departures, rising by part. Every other part is whole.
     pub fn departures(&self) -> &[Departure]
         ensures value { result.now ≡ self.now.departures }

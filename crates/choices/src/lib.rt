@@ -22,6 +22,10 @@
 //! | `starts.range_of(place)` | the numbers of the choices at the wanted cut of a place |
 //! | `choice.cut()`, `choice.departures()` | the cut, and the departures with their fates |
 //! | `choice.departures_owned()` | the same departures, for what outlives the choice |
+//! | `Picked::of(choice)`, `picked.choice(plan)` | a choice by the numbers of its departures alone, and the choice again |
+//! | `picked.next(plan, bound, tears)` | goes on to the following choice, as `next` does |
+//! | `picked.pass(tears, count)` | goes on over so many choices in which the last departure alone changes |
+//! | `picked.only(plan, marks)` | the choice of some of its departures |
 //!
 //! # Place
 //!
@@ -31,7 +35,7 @@
 //!
 //! # What is proved
 //!
-//! `ranked plan bound tears` (`specs/Choices.antt`) is the list of all choices, written down in its
+//! `ranked_choices plan bound tears` (`specs/Choices.antt`) is the list of all choices, written down in its
 //! order by a recursion over the parts (`specs/Picks.antt`), with no count in it. Each call is a
 //! function of this list:
 //!
@@ -42,6 +46,9 @@
 //! - `next` leads from each element to the one behind it, and leaves the last as it is.
 //! - `choice_named` answers an element at that cut of which the departures, each by its entry, its place there and its fate,
 //!   are the names, exactly where there is one (`specs/Named.antt`).
+//!
+//! A `Picked` is an element of the list too (`IsRanked`, `specs/Picked.antt`): `choice` answers this element, `next` and `pass`
+//! lead to the one that is one or so many behind it, and what `only` answers is an element as well.
 //!
 //! Above the recursion stands a law, so that nobody has to believe it (`ranked_is_model`): the list has
 //! exactly the pairs of a wanted cut and an admissible choice there, each once, in the order above.
@@ -57,10 +64,10 @@
 //! number of departures by taking off the smaller ones, then each departure by a search by halves for
 //! its part and a division for its fate. `step` changes the last departure that has a next fate or a
 //! next part. A choice keeps its departures as numbers too, so `next` needs no search but those of
-//! `Plan::part`. `nth` walks the wanted cuts up to its own, a few products at each. A `Starts` keeps the
-//! sums of these products, 4 bytes for each wanted cut, and finds the cut by a search by halves
-//! (`starts`). A caller that wants many choices in a row takes `nth` once, and then `next`; one that
-//! begins at many places makes a `Starts`.
+//! `Plan::part`. A `Picked` keeps the numbers alone, and needs none (`picked`). `nth` walks the wanted
+//! cuts up to its own, a few products at each. A `Starts` keeps the sums of these products, 4 bytes for
+//! each wanted cut, and finds the cut by a search by halves (`starts`). A caller that wants many choices
+//! in a row takes `nth` once, and then `next`; one that begins at many places makes a `Starts`.
 //!
 //! Which fates there are stands in one place: their number (`most_fates`) and what a fate's number
 //! means (`fate_of`). All else goes by numbers.
@@ -87,6 +94,7 @@ mod name;
 mod named;
 mod numbers;
 mod pick;
+mod picked;
 mod rank;
 mod ranked;
 mod starts;
@@ -99,5 +107,7 @@ pub use laws::{list_is_set, ranked_is_model, ways_agree};
 pub use name::Name;
 pub use named::choice_named;
 pub use numbers::numbers_at;
+pub use pick::Pick;
+pub use picked::{Picked, fates};
 pub use ranked::{TooMany, count, count_at, next, nth};
 pub use starts::Starts;

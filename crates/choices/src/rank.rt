@@ -1,7 +1,7 @@
 //! A choice by its number.
 
 ghost use Rattle.std.specs.Prelude.{◌≡◌, ◌+◌, ◌-◌, ◌<◌, ◌≤◌, slice_get, Some, length};
-ghost use Rattle.choices.specs.Picks.{chosen, most_fates, picks_within};
+ghost use Rattle.choices.specs.Picks.{ranked_picks, most_fates, picks_within};
 ghost use Rattle.choices.specs.Ways.{ways, ways_below, ways_within};
 ghost use Rattle.choices.specs.Seeks.{Begins, Reaches};
 
@@ -62,7 +62,7 @@ pub(crate) fn nth_of_size(fates: u8, size: u8, parts: u32, number: u64) -> Array
     requires size { size ≤ 3 }
     requires parts { parts ≤ 262144 }
     requires number { number < ways fates size parts }
-    ensures { slice_get (chosen fates size 0 parts) number ≡ Some result.items }
+    ensures { slice_get (ranked_picks fates size 0 parts) number ≡ Some result.items }
 {
     let mut picks = ArrayVec::new();
     let mut begin = 0;

@@ -1,7 +1,7 @@
 //! The ranked choices of a plan.
 
 ghost use Rattle.std.specs.Prelude.{◌≡◌, ◌+◌, ◌<◌, ◌≤◌, ℕ, length, slice_get, Some, IfOk, IfErr, IsTrue, IsFalse};
-ghost use Rattle.choices.specs.Choices.{ranked, ranked_at, limit, IsFirstPast, InCut};
+ghost use Rattle.choices.specs.Choices.{ranked_choices, ranked_at, limit, IsFirstPast, InCut};
 
 use crate::choice::{Choice, departures_of};
 use crate::fate::fates_of;
@@ -35,7 +35,7 @@ pub(crate) fn ways_at(plan: &Plan, bound: u8, tears: bool, cut: u32) -> u64
 /// refused at the wanted cut with which the number first passes 16,777,216.
 pub fn count(plan: &Plan, bound: u8, tears: bool) -> Result<u64, TooMany>
     requires { bound ≤ 3 }
-    ensures value { IfOk result (λ number. number ≡ length (ranked plan.now bound tears)) }
+    ensures value { IfOk result (λ number. number ≡ length (ranked_choices plan.now bound tears)) }
     ensures limit { IfOk result (λ number. number ≤ limit) }
     ensures past { IfErr result (λ fault. IsFirstPast plan.now bound tears fault.at) }
 {
@@ -69,7 +69,7 @@ pub fn count_at(plan: &Plan, bound: u8, tears: bool, cut: u32) -> Result<u64, To
 /// The place of a choice's cut among the wanted cuts, and its number among the choices at that cut.
 fn place_of(plan: &Plan, bound: u8, tears: bool, number: u64) -> (usize, u64)
     requires bound { bound ≤ 3 }
-    requires number { number < length (ranked plan.now bound tears) }
+    requires number { number < length (ranked_choices plan.now bound tears) }
     ensures { InCut plan.now bound tears number result.0 result.1 }
 {
     let cuts = plan.cuts();
@@ -89,7 +89,7 @@ pub(crate) fn choice_at(plan: &Plan, bound: u8, tears: bool, place: usize, rest:
     requires bound { bound ≤ 3 }
     requires inside { (number : ℕ) × InCut plan.now bound tears number place rest }
     ensures { (number : ℕ) → InCut plan.now bound tears number place rest
-        → slice_get (ranked plan.now bound tears) number ≡ Some result }
+        → slice_get (ranked_choices plan.now bound tears) number ≡ Some result }
 {
     let cut = plan.cuts()[place];
     let picks = nth_within(fates_of(tears), bound, plan.volatile(cut), rest);
@@ -103,8 +103,8 @@ pub(crate) fn choice_at(plan: &Plan, bound: u8, tears: bool, place: usize, rest:
 /// numbers makes a `Starts`.
 pub fn nth(plan: &Plan, bound: u8, tears: bool, number: u64) -> Choice
     requires bound { bound ≤ 3 }
-    requires number { number < length (ranked plan.now bound tears) }
-    ensures { slice_get (ranked plan.now bound tears) number ≡ Some result }
+    requires number { number < length (ranked_choices plan.now bound tears) }
+    ensures { slice_get (ranked_choices plan.now bound tears) number ≡ Some result }
 {
     let (place, rest) = place_of(plan, bound, tears, number);
     choice_at(plan, bound, tears, place, rest)
@@ -117,11 +117,11 @@ pub fn nth(plan: &Plan, bound: u8, tears: bool, number: u64) -> Choice
 /// takes no memory.
 pub fn next(plan: &Plan, bound: u8, tears: bool, choice: &mut Choice) -> bool
     requires bound { bound ≤ 3 }
-    requires member { (n : ℕ) × (slice_get (ranked plan.now bound tears) n ≡ Some choice.old) }
-    ensures moved { IsTrue result → (n : ℕ) → slice_get (ranked plan.now bound tears) n ≡ Some choice.old
-        → slice_get (ranked plan.now bound tears) (n + 1) ≡ Some choice.new }
-    ensures last { IsFalse result → (n : ℕ) → slice_get (ranked plan.now bound tears) n ≡ Some choice.old
-        → n + 1 ≡ length (ranked plan.now bound tears) }
+    requires member { (n : ℕ) × (slice_get (ranked_choices plan.now bound tears) n ≡ Some choice.old) }
+    ensures moved { IsTrue result → (n : ℕ) → slice_get (ranked_choices plan.now bound tears) n ≡ Some choice.old
+        → slice_get (ranked_choices plan.now bound tears) (n + 1) ≡ Some choice.new }
+    ensures last { IsFalse result → (n : ℕ) → slice_get (ranked_choices plan.now bound tears) n ≡ Some choice.old
+        → n + 1 ≡ length (ranked_choices plan.now bound tears) }
     ensures same { IsFalse result → choice.new ≡ choice.old }
 {
     if step(

@@ -3,7 +3,7 @@
 ghost use Rattle.std.specs.Prelude.{◌≡◌, ◌+◌, ◌-◌, ℕ, ◌<◌, ◌≤◌, length, IfOk};
 ghost use Rattle.std.specs.List.{slice_index_or};
 ghost use Rattle.epochs.specs.Cuts.{cuts_of};
-ghost use Rattle.choices.specs.Choices.{ranked, ranked_at, ranked_before, limit};
+ghost use Rattle.choices.specs.Choices.{ranked_choices, ranked_at, ranked_before, limit};
 ghost use Rattle.choices.specs.Sums.{AreSums, FallsAt};
 
 use crate::choice::Choice;
@@ -53,7 +53,7 @@ impl<'a> Starts<'a> {
         tears: bool,
     ) -> Result<Starts<'a>, AllocError>
         requires bound { bound ≤ 3 }
-        requires counted { length (ranked plan.now bound tears) ≤ limit }
+        requires counted { length (ranked_choices plan.now bound tears) ≤ limit }
         ensures { IfOk result (λ starts. starts ≡ record { plan = plan.now; bound = bound; tears = tears }) }
     {
         let sums = sums_of(alloc, plan, bound, tears)?;
@@ -70,8 +70,8 @@ impl<'a> Starts<'a> {
     /// It takes a search by halves among the wanted cuts, and one among the volatile parts for each
     /// departure. It takes no memory.
     pub fn nth(&self, number: u64) -> Choice
-        requires { number < length (ranked self.now.plan self.now.bound self.now.tears) }
-        ensures { slice_get (ranked self.now.plan self.now.bound self.now.tears) number ≡ Some result }
+        requires { number < length (ranked_choices self.now.plan self.now.bound self.now.tears) }
+        ensures { slice_get (ranked_choices self.now.plan self.now.bound self.now.tears) number ≡ Some result }
     {
         let (place, rest) = self.place_of(number);
         choice_at(self.plan, self.bound, self.tears, place, rest)
@@ -113,7 +113,7 @@ impl<'a> Starts<'a> {
 
     /// The place of a choice's cut among the wanted cuts, and its number among the choices at that cut.
     fn place_of(&self, number: u64) -> (usize, u64)
-        requires { number < length (ranked self.now.plan self.now.bound self.now.tears) }
+        requires { number < length (ranked_choices self.now.plan self.now.bound self.now.tears) }
         ensures { InCut self.now.plan self.now.bound self.now.tears number result.0 result.1 }
     {
         let sums = self.sums.as_slice();
@@ -125,7 +125,7 @@ impl<'a> Starts<'a> {
 /// How many choices the first wanted cuts have: none, one, and so on up to all of them.
 fn sums_of(alloc: Global, plan: &Plan, bound: u8, tears: bool) -> Result<Vec<u32>, AllocError>
     requires bound { bound ≤ 3 }
-    requires counted { length (ranked plan.now bound tears) ≤ limit }
+    requires counted { length (ranked_choices plan.now bound tears) ≤ limit }
     ensures { IfOk result (λ sums. AreSums plan.now bound tears sums.items) }
 {
     let cuts = plan.cuts();

@@ -4,7 +4,7 @@ ghost use Rattle.std.specs.Prelude.{◌≡◌, ◌+◌, ◌-◌, ◌<◌, ◌≤
 ghost use Rattle.std.specs.Option.{option_map};
 ghost use Rattle.arrayvec.specs.ArrayVec.{array_vec_len};
 ghost use Rattle.choices.specs.Picks.{ArePicks};
-ghost use Rattle.choices.specs.Steps.{first_picks, stepped, following, one_more, following_below};
+ghost use Rattle.choices.specs.Steps.{first_picks, next_picks, following, one_more, following_below};
 
 use crate::pick::Pick;
 use arrayvec::ArrayVec;
@@ -25,13 +25,13 @@ fn put_row(picks: &mut ArrayVec<Pick, 3>, count: usize, first: u32)
 
 /// The next departure in place of one that `behind` others follow: its next fate, or else the next
 /// part, if the others find room behind it.
-#[tactic(auto, unfolding(crate::specs::Steps::stepped))]
+#[tactic(auto, unfolding(crate::specs::Steps::next_picks))]
 fn stepped(fates: u8, parts: u32, pick: Pick, behind: usize) -> Option<Pick>
     requires some { 1 ≤ fates }
     requires parts { parts ≤ 262144 }
     requires below { pick.part < parts }
     requires behind { behind ≤ 3 }
-    ensures value { option_map (λ next. next ∷ first_picks behind (next.part + 1)) result ≡ stepped fates parts pick behind }
+    ensures value { option_map (λ next. next ∷ first_picks behind (next.part + 1)) result ≡ next_picks fates parts pick behind }
     ensures below { IfSome result (λ next. next.part < parts) }
 {
     if pick.fate < fates - 1 {

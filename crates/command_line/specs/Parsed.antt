@@ -25,8 +25,8 @@ use Rattle.command_line.specs.declared.parsed.Verb.TheVariants as verb
 use Rattle.command_line.specs.FlushList.{IsFlushList, NoFlushList}
 
 -- the bytes of a word, if it was written
-abbrev pub written : Option (Bor (List ℕ)) → Option (List ℕ)
-written = option_map (λ w. w.now)
+abbrev pub word_bytes : Option (Bor (List ℕ)) → Option (List ℕ)
+word_bytes = option_map (λ w. w.now)
 
 -- the command that a name names
 abbrev pub command_named : List ℕ → Option Verb
@@ -79,12 +79,12 @@ options_with p added = record {
   sectors = unwrap_or p.sectors (sector_limit (limits_named p.large));
   limits = limits_named p.large;
   flushes = added;
-  cuts = cuts_named (written p.cuts);
+  cuts = cuts_named (word_bytes p.cuts);
   from = p.from;
   to = p.to;
   bound = unwrap_or p.bound 1;
   tears = p.tears;
-  by = parts_named (written p.by);
+  by = parts_named (word_bytes p.by);
   workers = unwrap_or p.workers 1;
   cache = unwrap_or p.cache 0;
   checked = p.checked;
@@ -93,12 +93,12 @@ options_with p added = record {
 
 -- the options that are asked for
 pub record AreOptions (p : Parsed) (w : OptionWords) : Type 0 where
-  pub added : AreFlushes (written p.flush) w.flushes
+  pub added : AreFlushes (word_bytes p.flush) w.flushes
   pub others : w ≡ options_with p w.flushes
 
 -- the text of a choice, kept if it has at most 96 bytes
 abbrev pub choice_named : Parsed → List ℕ
-choice_named p = unwrap_or (written p.choice) []
+choice_named p = unwrap_or (word_bytes p.choice) []
 
 -- which image is meant: with --cut that of this cut and of the choice, else that of the number
 abbrev pub IsWhich : Parsed → Which → Type 0
@@ -136,7 +136,7 @@ program_files None = []
 program_files (Some programs) = map (λ w. w.now) programs.now
 
 abbrev pub files_named : Parsed → List (List ℕ)
-files_named p = first_file (written p.file) ++ first_file (written p.image) ++ program_files p.programs
+files_named p = first_file (word_bytes p.file) ++ first_file (word_bytes p.image) ++ program_files p.programs
 
 -- the number behind an option: none where nothing stands there, and else that of its decimal digits, if 64 bits hold it
 pub record IsNumberOf (found : Found) (option : List ℕ) (number : Option ℕ) : Type 0 where
@@ -151,19 +151,19 @@ pub record IsFlagOf (found : Found) (option : List ℕ) (flag : Bool) : Type 0 w
 
 -- what was read is what `clap` found, each word and option under its own name
 pub record IsRead (found : Found) (p : Parsed) : Type 0 where
-  pub file : written p.file ≡ first_value found (codes "file")
-  pub image : written p.image ≡ first_value found (codes "image")
+  pub file : word_bytes p.file ≡ first_value found (codes "file")
+  pub image : word_bytes p.image ≡ first_value found (codes "image")
   pub programs : option_map (λ ws. map (λ w. w.now) ws.now) p.programs ≡ option_map raw_values (matched_of found (codes "programs"))
   pub sectors : IsNumberOf found (codes "sectors") p.sectors
   pub large : IsFlagOf found (codes "large") p.large
-  pub flush : written p.flush ≡ first_value found (codes "flush")
-  pub base : written p.base ≡ first_value found (codes "base")
-  pub cuts : written p.cuts ≡ first_value found (codes "cuts")
+  pub flush : word_bytes p.flush ≡ first_value found (codes "flush")
+  pub base : word_bytes p.base ≡ first_value found (codes "base")
+  pub cuts : word_bytes p.cuts ≡ first_value found (codes "cuts")
   pub from : IsNumberOf found (codes "from") p.from
   pub to : IsNumberOf found (codes "to") p.to
   pub bound : IsNumberOf found (codes "bound") p.bound
   pub tears : IsFlagOf found (codes "tears") p.tears
-  pub parts : written p.by ≡ first_value found (codes "by")
+  pub parts : word_bytes p.by ≡ first_value found (codes "by")
   pub workers : IsNumberOf found (codes "workers") p.workers
   pub cache : IsNumberOf found (codes "cache") p.cache
   pub checked : IsNumberOf found (codes "checked") p.checked
@@ -171,7 +171,7 @@ pub record IsRead (found : Found) (p : Parsed) : Type 0 where
   pub progress : IsFlagOf found (codes "progress") p.progress
   pub number : IsNumberOf found (codes "number") p.number
   pub cut : IsNumberOf found (codes "cut") p.cut
-  pub choice : written p.choice ≡ first_value found (codes "choice")
+  pub choice : word_bytes p.choice ≡ first_value found (codes "choice")
   pub slots : IsFlagOf found (codes "slots") p.slots
   pub epoch : IsNumberOf found (codes "epoch") p.epoch
   pub marks : IsNumberOf found (codes "marks") p.marks

@@ -9,7 +9,7 @@ use Rattle.clap.specs.declared.parser.matches.ArgMatches.{ArgMatches}
 use Rattle.request.specs.declared.command.Request.{Request}
 use Rattle.request.specs.declared.command.Request.TheVariants as asks
 use Rattle.command_line.specs.declared.parsed.Parsed.{Parsed}
-use Rattle.command_line.specs.Parsed.{Asks, command_named, files_named, written, IsRead}
+use Rattle.command_line.specs.Parsed.{Asks, command_named, files_named, word_bytes, IsRead}
 
 -- the request, the names of its files in order and of that behind --base, and whether it is to be said how far an exploration is
 pub record WordsValue : Type 0 where
@@ -60,7 +60,7 @@ stored_run = record { request = asks.StoredRun; files = []; base = None; progres
 pub record AreAsked (p : Parsed) (w : WordsValue) : Type 0 where
   pub request : Asks p (command_named p.command.now) w.request
   pub files : w.files ≡ files_named p
-  pub base : w.base ≡ written p.base
+  pub base : w.base ≡ word_bytes p.base
   pub progress : w.progress ≡ p.progress
 
 -- what `clap` found behind the name of a command, each word and option under its own name, asks for this

@@ -3,7 +3,7 @@
 ghost use Rattle.std.specs.Prelude.{◌≡◌, ◌<◌, ◌++◌, length, map, option_map, unwrap_or, string_bytes, IfOk, MatchOption, OnOk};
 ghost use Rattle.limits.specs.Sizes.{sector_limit};
 ghost use Rattle.clap.specs.Words.{found_of};
-ghost use Rattle.command_line.specs.Parsed.{Asks, AreFlushes, AreOptions, command_named, cuts_named, files_named, limits_named, options_with, parts_named, trial_asked, written, IsFlagOf, IsNumberOf, IsRead, IsWhich};
+ghost use Rattle.command_line.specs.Parsed.{Asks, AreFlushes, AreOptions, command_named, cuts_named, files_named, limits_named, options_with, parts_named, trial_asked, word_bytes, IsFlagOf, IsNumberOf, IsRead, IsWhich};
 
 use crate::flush_list::flushes_in;
 use arrayvec::ArrayString;
@@ -334,7 +334,7 @@ impl<'a> Parsed<'a> {
     ///
     /// Want of memory.
     pub fn base_file(&self, alloc: Global) -> Result<Option<String>, AllocError>
-        ensures { IfOk result (λ file. option_map string_bytes file ≡ written self.now.base) }
+        ensures { IfOk result (λ file. option_map string_bytes file ≡ word_bytes self.now.base) }
     {
         match self.base {
             Some(name) => Ok(Some(name.to_string(alloc)?)),

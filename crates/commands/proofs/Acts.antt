@@ -1,5 +1,5 @@
 -- What commands answer and refuse, by what their files hold.
-use Rattle.std.proofs.Common.{ℕ, zero, suc, ◌≡◌, ◌+◌, ◌<◌, ◌≤◌, Bool, true, false, cond, nat_lt, List, [], ◌∷◌, ◌++◌, length, map, take, get_or, append-nil, add-one, Option, None, Some, position, is_none, refl, sym, ◌∙◌, ap, subst, arith}
+use Rattle.std.proofs.Common.{ℕ, zero, suc, ◌≡◌, ◌+◌, ◌<◌, ◌≤◌, Bool, true, false, cond, nat_lt, List, [], ◌∷◌, ◌++◌, length, map, take, get_or, append-nil, add-one, Option, None, Some, position, is_none, refl, ap, arith}
 use Rattle.std.proofs.lemmas.Bool.Decides.{nat_tests}
 use Rattle.std.proofs.lemmas.List.{map-append}
 use Rattle.std.specs.Option.{option_map, option_to_list}
@@ -8,11 +8,10 @@ use Rattle.base.specs.declared.refusal.Refusal.{Refusal}
 use Rattle.base.specs.Refusals.{memory_refusal}
 use Rattle.request.specs.declared.settings.Settings.{Settings}
 use Rattle.request.specs.Refusals.{file_refusal}
-use Rattle.runs.specs.Explore.{Refuses}
 use Rattle.request.specs.Source.{Recording}
 use Rattle.request.specs.declared.trials.TrialWords.{TrialWords}
 use Rattle.commands.specs.Acting.{second_held, RefusesCheck, for_program_file, for_image_file}
-use Rattle.commands.specs.Acting.{Files, first_held, initial_of, unread, RefusesFile, for_file, RefusesRecording, for_log_file, for_base_file, for_recording, RefusesFiles, for_unread, for_base, for_run, for_memory, AnswersFiles, AnswersRun}
+use Rattle.commands.specs.Acting.{Files, first_held, initial_of, unread, RefusesFile, for_file, RefusesRecording, for_log_file, for_base_file, for_recording, RefusesFiles, for_unread, for_base, for_memory}
 
 -- the first file can't be read
 pub unread_file : (files : Files) (Rest : List ℕ → Refusal → Type 0) (r : Refusal) → (first_held files ≡ None) × (r ≡ file_refusal 0) → RefusesFile files Rest r

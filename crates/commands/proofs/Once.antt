@@ -1,5 +1,5 @@
 -- Each image on which a program fails stands once in what `why` prints.
-use Rattle.std.proofs.Common.{ℕ, ◌≡◌, ◌+◌, Bool, List, length, map, slice_get, Some, refl, sym, ◌∙◌, ap, subst, arith}
+use Rattle.std.proofs.Common.{ℕ, ◌+◌, List, map, refl, sym, ◌∙◌, subst}
 use Rattle.std.proofs.lemmas.List.{length-map}
 use Rattle.choices.specs.Laws.{ListIsSet}
 use Rattle.choices.specs.Sums.{StartsValue}
@@ -53,4 +53,4 @@ pub each_image_stands_once : LinesAreSet → ListIsSet → EachStandsOnce → Al
 each_image_stands_once set listed law all text files s bytes failing e program cuts at =
     let ls : List FailingLine = failing_lines (subject_of s e.value e.checkers) in
     stand_at_cuts listed law all (starts_of s e.value) (images_failing program ls) (outcomes_failing program ls) cuts
-    (run_images set s e.value e.checkers program) (e.causes.each program cuts at)
+    (run_images set s e.value e.checkers program) (e.tells.each program cuts at)

@@ -12,12 +12,8 @@ use Rattle.verifier.specs.Verdicts.{IsAccepted}
 use Rattle.lines.specs.Line.{fails}
 use Rattle.choices.specs.Choices.{ChoiceValue}
 use Rattle.checker.specs.Checker.{CheckerValue}
-use Rattle.images.specs.Views.{view_of, sectors_of}
-use Rattle.crash_text.specs.Shown.{shown_text}
 use Rattle.notes.specs.LogTable.{log_table}
-use Rattle.workers.specs.Failing.{failing_lines}
 use Rattle.request.specs.declared.settings.Settings.{Settings}
-use Rattle.request.specs.declared.settings.Telling.{Telling}
 use Rattle.request.specs.declared.settings.Telling.TheVariants as telling
 use Rattle.request.specs.declared.command.OptionWords.{OptionWords}
 use Rattle.request.specs.declared.command.Which.{Which}
@@ -29,24 +25,21 @@ use Rattle.trial.specs.Trial.{trial_text, ending_of_trial, IsTried}
 use Rattle.request.specs.declared.command.Request.TheVariants as request
 use Rattle.request.specs.OptionWords.{AskFor}
 use Rattle.request.specs.Source.{Recording, plan_of}
-use Rattle.runs.specs.Explore.{subject_of}
-use Rattle.runs.specs.Why.{TellsOfLines, PageOfLines, IsExplained, IsPaged, IsTold}
-use Rattle.runs.specs.Cured.{TellsCure, IsCured}
+use Rattle.runs.specs.Cured.{TellsWanted, IsAnswered}
 use Rattle.limits.specs.Sizes.{sector_limit}
 use Rattle.limits.specs.declared.Limits.{Limits}
 use Rattle.raw_log.specs.Imported.{IsImported}
 use Rattle.raw_log.proofs.Profile.{one_import}
 use Rattle.looks.specs.Which.{IsMeant, IsOnly}
-use Rattle.looks.specs.Image.{joined, IsImage}
-use Rattle.looks.specs.Image.{whole_view, IsShown}
+use Rattle.looks.specs.Image.{text_in, IsImageIn, IsImage, IsShown}
 use Rattle.looks.specs.Survey.{survey_text, IsSurvey}
 use Rattle.looks.specs.Table.{IsTable}
 use Rattle.looks.specs.Verifying.{accepted_text, IsAcceptedText}
 use Rattle.looks.specs.Assembly.{listing_text, IsAssembled, IsListed}
-use Rattle.commands.specs.declared.action.Wanted.{Wanted}
-use Rattle.commands.specs.declared.action.Wanted.TheVariants as wanted
-use Rattle.commands.specs.Acting.{Files, initial_of, recording, status_of, IsAnswered, AnswersRun, AnswersFiles, AnswersExplore, AnswersFile, AnswersLog, AnswersOf, AnswersWith, AnswersTrial, Answers}
-use Rattle.commands.proofs.OneReport.{same_log, same_asked, same_checkers, same_test, one_report}
+use Rattle.runs.specs.declared.explore_command.Wanted.{Wanted}
+use Rattle.runs.specs.declared.explore_command.Wanted.TheVariants as wanted
+use Rattle.commands.specs.Acting.{Files, initial_of, recording, status_of, AnswersRun, AnswersFiles, AnswersExplore, AnswersFile, AnswersLog, AnswersOf, AnswersWith, AnswersTrial, Answers}
+use Rattle.commands.proofs.OneReport.{same_log, same_asked, one_run}
 use Rattle.commands.proofs.OneText.{one_explanation}
 use Rattle.commands.proofs.OnePage.{one_page}
 use Rattle.commands.proofs.OneCure.{one_cure}
@@ -62,46 +55,17 @@ pub record Laws : Type 0 where
 abbrev pub Same : List ℕ → List ℕ → ℕ → ℕ → Type 0
 Same bytes others status ended = (bytes ≡ others) × (status ≡ ended)
 
-explained_once : Laws → (text : Recording) (files : List (List ℕ)) (s : Settings) (bytes others : List ℕ) (failing fails : Bool)
-    → IsExplained text files s bytes failing → IsExplained text files s others fails → (bytes ≡ others) × (failing ≡ fails)
-explained_once laws text files s bytes others failing fails h k =
-    let value = same_log laws.texts text s h.value k.value h.source k.source in
-    let checkers = same_checkers laws.programs laws.verdicts s files h.checkers k.checkers h.made k.made in
-    let lines : failing_lines (subject_of s h.value h.checkers) ≡ failing_lines (subject_of s k.value k.checkers) = λ i. failing_lines (subject_of s (value i) (checkers i)) in
-    let by_value = subst (λ (v : LogValue). TellsOfLines s v k.checkers (failing_lines (subject_of s v k.checkers)) others) (sym value) k.causes in
-    let causes = subst (λ (cs : List CheckerValue). TellsOfLines s h.value cs (failing_lines (subject_of s h.value cs)) others) (sym checkers) by_value in
-    (one_explanation _ _ _ bytes others h.causes causes, same_test failing fails _ _ h.fails k.fails lines)
+-- what is told of a log and of checkers is one
+one_told : (w : Wanted) (s : Settings) (value : LogValue) (checkers : List CheckerValue) (bytes others : List ℕ)
+    → TellsWanted w s value checkers bytes → TellsWanted w s value checkers others → bytes ≡ others
+one_told (wanted.Told telling.Report) s value checkers bytes others a b = a ∙ sym b
+one_told (wanted.Told telling.Causes) s value checkers bytes others a b = one_explanation _ _ _ bytes others a b
+one_told (wanted.Told telling.Page) s value checkers bytes others a b = one_page _ _ _ _ bytes others a b
+one_told wanted.Cured s value checkers bytes others a b = one_cure s value checkers bytes others a b
 
-paged_once : Laws → (text : Recording) (files : List (List ℕ)) (s : Settings) (bytes others : List ℕ) (failing fails : Bool)
-    → IsPaged text files s bytes failing → IsPaged text files s others fails → (bytes ≡ others) × (failing ≡ fails)
-paged_once laws text files s bytes others failing fails h k =
-    let value = same_log laws.texts text s h.value k.value h.source k.source in
-    let checkers = same_checkers laws.programs laws.verdicts s files h.checkers k.checkers h.made k.made in
-    let lines : failing_lines (subject_of s h.value h.checkers) ≡ failing_lines (subject_of s k.value k.checkers) = λ i. failing_lines (subject_of s (value i) (checkers i)) in
-    let by_value = subst (λ (v : LogValue). PageOfLines s v k.checkers (failing_lines (subject_of s v k.checkers)) others) (sym value) k.page in
-    let page = subst (λ (cs : List CheckerValue). PageOfLines s h.value cs (failing_lines (subject_of s h.value cs)) others) (sym checkers) by_value in
-    (one_page _ _ _ _ bytes others h.page page, same_test failing fails _ _ h.fails k.fails lines)
-
-told_once : Laws → (t : Telling) (text : Recording) (files : List (List ℕ)) (s : Settings) (bytes others : List ℕ) (failing fails : Bool)
-    → IsTold t text files s bytes failing → IsTold t text files s others fails → (bytes ≡ others) × (failing ≡ fails)
-told_once laws telling.Report text files s bytes others failing fails h k = one_report laws.texts laws.programs laws.verdicts text files s bytes others failing fails h k
-told_once laws telling.Causes text files s bytes others failing fails h k = explained_once laws text files s bytes others failing fails h k
-told_once laws telling.Page text files s bytes others failing fails h k = paged_once laws text files s bytes others failing fails h k
-
-cured_once : Laws → (text : Recording) (files : List (List ℕ)) (s : Settings) (bytes others : List ℕ) (failing fails : Bool)
-    → IsCured text files s bytes failing → IsCured text files s others fails → (bytes ≡ others) × (failing ≡ fails)
-cured_once laws text files s bytes others failing fails h k =
-    let value = same_log laws.texts text s h.value k.value h.source k.source in
-    let checkers = same_checkers laws.programs laws.verdicts s files h.checkers k.checkers h.made k.made in
-    let lines : failing_lines (subject_of s h.value h.checkers) ≡ failing_lines (subject_of s k.value k.checkers) = λ i. failing_lines (subject_of s (value i) (checkers i)) in
-    let by_value = subst (λ (v : LogValue). TellsCure s v k.checkers others) (sym value) k.cure in
-    let cure = subst (λ (cs : List CheckerValue). TellsCure s h.value cs others) (sym checkers) by_value in
-    (one_cure s h.value h.checkers bytes others h.cure cure, same_test failing fails _ _ h.fails k.fails lines)
-
-answered_once : Laws → (t : Wanted) (text : Recording) (files : List (List ℕ)) (s : Settings) (bytes others : List ℕ) (failing fails : Bool)
-    → IsAnswered t text files s bytes failing → IsAnswered t text files s others fails → (bytes ≡ others) × (failing ≡ fails)
-answered_once laws (wanted.Told t) text files s bytes others failing fails h k = told_once laws t text files s bytes others failing fails h k
-answered_once laws wanted.Cured text files s bytes others failing fails h k = cured_once laws text files s bytes others failing fails h k
+answered_once : Laws → (w : Wanted) (text : Recording) (files : List (List ℕ)) (s : Settings) (bytes others : List ℕ) (failing fails : Bool)
+    → IsAnswered w text files s bytes failing → IsAnswered w text files s others fails → (bytes ≡ others) × (failing ≡ fails)
+answered_once laws w = one_run laws.texts laws.programs laws.verdicts (λ s value checkers bytes. TellsWanted w s value checkers bytes) (one_told w)
 
 run_once : Laws → (t : Wanted) (s : Settings) (log : Recording) (programs : List (List ℕ)) (bytes others : List ℕ) (status ended : ℕ)
     → AnswersRun t s log programs bytes status → AnswersRun t s log programs others ended → Same bytes others status ended
@@ -195,23 +159,11 @@ same_choice : (s : Settings) (which : Which) (v w : LogValue) (c d : ChoiceValue
     → IsOnly (IsMeant (plan_of s w) s.bound s.tears which) d → c ≡ d
 same_choice s which v w c d same a b = sym (a.only d (subst (λ (x : LogValue). IsMeant (plan_of s x) s.bound s.tears which d) (sym same) b.is))
 
-one_image : Laws → (which : Which) (s : Settings) → IsOneOf (λ text bytes. IsImage text s which bytes)
-one_image laws which s text bytes others a b =
+one_image : Laws → (form : _) (which : Which) (s : Settings) → IsOneOf (λ text bytes. IsImageIn form text s which bytes)
+one_image laws form which s text bytes others a b =
     let value = same_log laws.texts text s a.value b.value a.source b.source in
     let choice = same_choice s which a.value b.value a.choice b.choice value a.meant b.meant in
-    let same : joined (sectors_of (view_of (plan_of s a.value) a.choice)) ≡ joined (sectors_of (view_of (plan_of s b.value) b.choice)) =
-    λ i. joined (sectors_of (view_of (plan_of s (value i)) (choice i))) in
-    a.shown ∙ same ∙ sym b.shown
-
--- the text of an image of a log
-abbrev text_shown : Settings → LogValue → ChoiceValue → List ℕ
-text_shown s v c = shown_text (plan_of s v) s.bound s.tears c (sectors_of (whole_view v c.cut)) (sectors_of (view_of (plan_of s v) c))
-
-one_show : Laws → (which : Which) (s : Settings) → IsOneOf (λ text bytes. IsShown text s which bytes)
-one_show laws which s text bytes others a b =
-    let value = same_log laws.texts text s a.value b.value a.source b.source in
-    let choice = same_choice s which a.value b.value a.choice b.choice value a.meant b.meant in
-    let same : text_shown s a.value a.choice ≡ text_shown s b.value b.choice = λ i. text_shown s (value i) (choice i) in
+    let same : text_in form s (plan_of s a.value) a.choice ≡ text_in form s (plan_of s b.value) b.choice = λ i. text_in form s (plan_of s (value i)) (choice i) in
     a.shown ∙ same ∙ sym b.shown
 
 one_verified : Laws → (s : Settings) → IsOne (λ code bytes. IsAcceptedText code s.sectors bytes)
@@ -272,8 +224,8 @@ one_answer laws (request.Cure w) files bytes others status ended a b = explore_o
 one_answer laws (request.Page w) files bytes others status ended a b = explore_once laws (wanted.Told telling.Page) w files bytes others status ended a b
 one_answer laws (request.Images w) files bytes others status ended a b = of_once w (λ s text. IsSurvey text s) (one_survey laws) files bytes others status ended a b
 one_answer laws (request.Log w) files bytes others status ended a b = of_once w (λ s text. IsTable text s) (one_table laws) files bytes others status ended a b
-one_answer laws (request.Image w which) files bytes others status ended a b = of_once w (λ s text. IsImage text s which) (one_image laws which) files bytes others status ended a b
-one_answer laws (request.Show w which) files bytes others status ended a b = of_once w (λ s text. IsShown text s which) (one_show laws which) files bytes others status ended a b
+one_answer laws (request.Image w which) files bytes others status ended a b = of_once w (λ s text. IsImage text s which) (one_image laws _ which) files bytes others status ended a b
+one_answer laws (request.Show w which) files bytes others status ended a b = of_once w (λ s text. IsShown text s which) (one_image laws _ which) files bytes others status ended a b
 one_answer laws (request.Verify w) files bytes others status ended a b = with_once w (λ s code. IsAcceptedText code s.sectors) (one_verified laws) files bytes others status ended a b
 one_answer laws (request.Import limits) files bytes others status ended a b =
     file_once (λ raw. IsImported raw (sector_limit limits) limits) (one_imported limits) files bytes others status ended a b

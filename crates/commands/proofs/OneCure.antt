@@ -1,7 +1,7 @@
 -- The cure of a log, tried, has one text.
 use Rattle.std.proofs.Common.{ℕ, zero, suc, ◌≡◌, ◌+◌, ◌<◌, ◌≤◌, false, List, [], ◌∷◌, ◌++◌, length, take, length-append, Some, slice_get, refl, sym, ◌∙◌, ap, subst, arith}
 use Rattle.logfmt.specs.Bounds.{LogValue}
-use Rattle.logfmt.specs.Flushed.{flushed}
+use Rattle.logfmt.specs.Flushed.{with_flushes}
 use Rattle.logfmt.specs.declared.entry.Entry.{Entry}
 use Rattle.epochs.specs.declared.part.By.{By}
 use Rattle.epochs.specs.Cuts.{cuts_of}
@@ -10,7 +10,7 @@ use Rattle.choices.specs.Choices.{choices_at, choices_over, ranked_before, IsFir
 use Rattle.checker.specs.Checker.{CheckerValue}
 use Rattle.flushes.specs.declared.window.Window.{Window}
 use Rattle.flushes.specs.declared.counted.MissingFlush.{MissingFlush}
-use Rattle.flushes.specs.Counted.{missing, AreMissing}
+use Rattle.flushes.specs.Counted.{AreMissing}
 use Rattle.lines.specs.Line.{FailingLine}
 use Rattle.report.specs.Report.{HeadValue}
 use Rattle.cure.specs.declared.failure.Failure.{Failure}
@@ -90,10 +90,10 @@ same_rounds s cs value [] (q ∷ qs) end other a b = absurd (no_round s cs value
 same_rounds s cs value (r ∷ rs) [] end other a b = absurd (no_round s cs value r other a.are.0 b.ends)
 same_rounds s cs value (r ∷ rs) (q ∷ qs) end other a b =
     let one : r ≡ q = same_round s cs value r q a.are.0 b.are.0 in
-    let behind : Rounds s cs (flushed (places_in q) value) qs other = record { are = b.are.1; ends = b.ends } in
-    let moved : Rounds s cs (flushed (places_in r) value) qs other = subst (λ (ms : List MissingFlush). Rounds s cs (flushed (places_in ms) value) qs other) (sym one) behind in
-    let own : Rounds s cs (flushed (places_in r) value) rs end = record { are = a.are.1; ends = a.ends } in
-    let rest = same_rounds s cs (flushed (places_in r) value) rs qs end other own moved in
+    let behind : Rounds s cs (with_flushes (places_in q) value) qs other = record { are = b.are.1; ends = b.ends } in
+    let moved : Rounds s cs (with_flushes (places_in r) value) qs other = subst (λ (ms : List MissingFlush). Rounds s cs (with_flushes (places_in ms) value) qs other) (sym one) behind in
+    let own : Rounds s cs (with_flushes (places_in r) value) rs end = record { are = a.are.1; ends = a.ends } in
+    let rest = same_rounds s cs (with_flushes (places_in r) value) rs qs end other own moved in
     (λ i. one i ∷ rest.0 i, rest.1)
 
 same_tale : (s : Settings) (cs : List CheckerValue) (value : LogValue) (number : ℕ) (text other : List ℕ) → TellsRounds s cs value number text

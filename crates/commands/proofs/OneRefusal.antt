@@ -15,7 +15,6 @@ use Rattle.choices.specs.Choices.{ChoiceValue}
 use Rattle.verifier.specs.Verdicts.{IsAccepted, Refused}
 use Rattle.request.specs.declared.settings.OptionPlace.TheVariants as place
 use Rattle.request.specs.declared.settings.Settings.{Settings}
-use Rattle.request.specs.declared.settings.Telling.{Telling}
 use Rattle.request.specs.declared.settings.Telling.TheVariants as telling
 use Rattle.request.specs.declared.command.OptionWords.{OptionWords}
 use Rattle.request.specs.declared.command.Which.{Which}
@@ -24,10 +23,10 @@ use Rattle.request.specs.declared.command.Request.TheVariants as request
 use Rattle.request.specs.Settings.{option_refusal, settings_refusal}
 use Rattle.request.specs.OptionWords.{AskFor, settings_with, words_refusal}
 use Rattle.request.specs.Source.{Recording, plan_of, HasImages}
-use Rattle.runs.specs.Explore.{report_of, Refuses}
-use Rattle.runs.specs.Why.{IsTold}
-use Rattle.commands.specs.declared.action.Wanted.{Wanted}
-use Rattle.commands.specs.declared.action.Wanted.TheVariants as wanted
+use Rattle.runs.specs.Explore.{Refuses}
+use Rattle.runs.specs.Cured.{TellsWanted}
+use Rattle.runs.specs.declared.explore_command.Wanted.{Wanted}
+use Rattle.runs.specs.declared.explore_command.Wanted.TheVariants as wanted
 use Rattle.limits.specs.Sizes.{sector_limit}
 use Rattle.limits.specs.declared.Limits.{Limits}
 use Rattle.raw_log.specs.Imported.{IsImported}
@@ -35,8 +34,7 @@ use Rattle.raw_log.proofs.NoFault.{imported_has_no_fault}
 use Rattle.looks.specs.Import.{RefusesImport, with_raw_fault, no_raw_memory}
 use Rattle.looks.specs.Which.{IsMeant}
 use Rattle.looks.specs.Image as image
-use Rattle.looks.specs.Image.{IsImage, RefusesImage}
-use Rattle.looks.specs.Image.{IsShown}
+use Rattle.looks.specs.Image.{IsImage, RefusesImage, IsShown}
 use Rattle.looks.specs.Survey as survey
 use Rattle.looks.specs.Survey.{IsSurvey, RefusesSurvey}
 use Rattle.looks.specs.Table as table
@@ -44,7 +42,7 @@ use Rattle.looks.specs.Table.{IsTable, RefusesTable}
 use Rattle.looks.specs.Verifying.{IsAcceptedText, RefusesVerified, with_code_fault, no_code_memory, with_verifier_fault, no_verifier_memory, no_text_memory}
 use Rattle.looks.specs.Assembly as assembly
 use Rattle.looks.specs.Assembly.{IsAssembled, IsListed, RefusesText, RefusesBytes}
-use Rattle.commands.specs.Acting.{Files, initial_of, recording, first_held, unread, IsAnswered, AnswersRun, AnswersFiles, AnswersExplore, AnswersFile, AnswersOf, AnswersWith, Answers, RefusesWith, for_words, for_settings, RefusesFile, for_file, for_held, RefusesRecording, for_log_file, for_base_file, for_recording, RefusesFiles, for_unread, for_base, for_run, for_memory, RefusesToAct}
+use Rattle.commands.specs.Acting.{Files, initial_of, recording, first_held, unread, AnswersRun, AnswersFiles, AnswersExplore, AnswersFile, AnswersOf, AnswersWith, Answers, RefusesWith, for_words, for_settings, RefusesFile, for_file, for_held, RefusesRecording, for_log_file, for_base_file, for_recording, RefusesFiles, for_unread, for_base, for_run, for_memory, RefusesToAct}
 use Rattle.request.specs.declared.trials.Trial.{Trial}
 use Rattle.request.specs.declared.trials.TrialWords.{TrialWords}
 use Rattle.trial.specs.Image.{sectors_of}
@@ -52,7 +50,7 @@ use Rattle.trial.specs.Trial as trials
 use Rattle.trial.specs.Trial.{IsTried, RefusesLimit, RefusesTrial}
 use Rattle.commands.specs.Acting.{AnswersTrial, RefusesCheck, for_trial_words, for_program_file, for_image_file, for_trial}
 use Rattle.commands.specs.Laws.{IsOfMemory}
-use Rattle.commands.proofs.OneReport.{Below, same_log, of_log, of_source, report_or_refusal}
+use Rattle.commands.proofs.OneReport.{Below, same_log, of_log, of_source, run_or_refusal}
 use Rattle.commands.proofs.OneAnswer.{same_files, same_initial, same_settings, same_held, tried_alike}
 
 -- words that ask for settings are not refused
@@ -115,25 +113,6 @@ of_alone : (Is : List ℕ → List ℕ → Type 0) (Rest : List ℕ → Refusal 
     → (files : Files) (bytes : List ℕ) (status : ℕ) (r : Refusal) → AnswersFile Is files bytes status → RefusesFile files Rest r → IsOfMemory r.code
 of_alone Is Rest one files bytes status r h why = of_file files h.held Rest r h.read (λ q. one h.held bytes q h.is) why
 
--- a run that is told has a report
-of_told : Below → (t : Telling) (text : Recording) (files : List (List ℕ)) (s : Settings) (bytes : List ℕ) (failing : Bool) (r : Refusal)
-    → IsTold t text files s bytes failing → Refuses text files s r → IsOfMemory r.code
-of_told below telling.Report text files s bytes failing r h why = report_or_refusal below text files s bytes failing r h why
-of_told below telling.Causes text files s bytes failing r h why =
-    report_or_refusal below text files s (report_of s h.value h.checkers) failing r
-    (record { count = h.count; value = h.value; source = h.source; checkers = h.checkers; made = h.made; report = refl; fails = h.fails; faultless = h.faultless }) why
-of_told below telling.Page text files s bytes failing r h why =
-    report_or_refusal below text files s (report_of s h.value h.checkers) failing r
-    (record { count = h.count; value = h.value; source = h.source; checkers = h.checkers; made = h.made; report = refl; fails = h.fails; faultless = h.faultless }) why
-
--- a run that is answered has a report
-of_answered : Below → (t : Wanted) (text : Recording) (files : List (List ℕ)) (s : Settings) (bytes : List ℕ) (failing : Bool) (r : Refusal)
-    → IsAnswered t text files s bytes failing → Refuses text files s r → IsOfMemory r.code
-of_answered below (wanted.Told t) text files s bytes failing r h why = of_told below t text files s bytes failing r h why
-of_answered below wanted.Cured text files s bytes failing r h why =
-    report_or_refusal below text files s (report_of s h.value h.checkers) failing r
-    (record { count = h.count; value = h.value; source = h.source; checkers = h.checkers; made = h.made; report = refl; fails = h.fails; faultless = h.faultless }) why
-
 -- each of the files can be read
 read_all : (xs : List (List ℕ)) → length xs ≤ position_or_len is_none (map Some xs)
 read_all [] = omega arith
@@ -166,7 +145,7 @@ of_files below t files s bytes status _ h (for_run log programs initial r read b
     let others : programs ≡ h.programs = cc in
     let same : recording log initial ≡ recording h.log h.initial = λ i. recording (text i) (same_initial files initial h.initial based h.based i) in
     let by_log = subst (λ (held : Recording). Refuses held programs s r) same why in
-    of_answered below t (recording h.log h.initial) h.programs s bytes h.answers.failing r h.answers.told
+    run_or_refusal below (λ s value checkers bytes. TellsWanted t s value checkers bytes) (recording h.log h.initial) h.programs s bytes h.answers.failing r h.answers.told
     (subst (λ (ps : List (List ℕ)). Refuses (recording h.log h.initial) ps s r) others by_log)
 of_files below t files s bytes status _ h (for_memory readable) = refl
 
@@ -178,7 +157,7 @@ of_explore below t w files bytes status r h why =
 of_stored : Below → (t : Wanted) (text : Recording) (files : List (List ℕ)) (s : Settings) (bytes : List ℕ) (status : ℕ) (r : Refusal) → AnswersRun t s text files bytes status
     → (r ≡ memory_refusal) ⊎ Refuses text files s r → IsOfMemory r.code
 of_stored below t text files s bytes status r h (inl same) = subst (λ (q : Refusal). IsOfMemory q.code) (sym same) refl
-of_stored below t text files s bytes status r h (inr why) = of_answered below t text files s bytes h.failing r h.told why
+of_stored below t text files s bytes status r h (inr why) = run_or_refusal below (λ s value checkers bytes. TellsWanted t s value checkers bytes) text files s bytes h.failing r h.told why
 
 of_survey : Below → (s : Settings) (text : Recording) (bytes : List ℕ) (r : Refusal) → IsSurvey text s bytes → RefusesSurvey text s r → IsOfMemory r.code
 of_survey below s text bytes _ h (survey.for_source r why) = of_source below text s h.value r h.source why

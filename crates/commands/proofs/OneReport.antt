@@ -1,5 +1,5 @@
 -- There is at most one report, and no refusal beside it but for memory.
-use Rattle.std.proofs.Common.{ℕ, zero, suc, ◌≡◌, ◌≢◌, ◌+◌, ◌<◌, ◌≤◌, ◌↔◌, Bool, true, false, IsTrue, List, [], ◌∷◌, ◌++◌, length, take, Option, None, Some, slice_get, refl, sym, ◌∙◌, ap, subst, arith, length-append}
+use Rattle.std.proofs.Common.{ℕ, zero, suc, ◌≡◌, ◌≢◌, ◌+◌, ◌≤◌, ◌↔◌, Bool, true, false, IsTrue, List, [], ◌∷◌, length, take, Option, None, Some, slice_get, refl, sym, ◌∙◌, ap, subst, arith, length-append}
 use Rattle.std.proofs.lemmas.Bool.{false≢true}
 use Rattle.base.specs.declared.causes.VerifierCause.{VerifierCause}
 use Rattle.base.specs.declared.refusal.Refusal.{Refusal}
@@ -10,9 +10,8 @@ use Rattle.logfmt.specs.Laws.{TextOfOneLog, TextHasNoFault}
 use Rattle.epochs.specs.Cuts.{cuts_of}
 use Rattle.choices.specs.Picks.{fates_of}
 use Rattle.epochs.specs.declared.part.By.{By}
-use Rattle.choices.specs.Choices.{choices_at, choices_over, ranked, ranked_before, limit, IsFirstPast}
+use Rattle.choices.specs.Choices.{choices_at, choices_over, ranked_choices, ranked_before, limit, IsFirstPast}
 use Rattle.bpf_isa.specs.declared.instr.Instr.{Instr}
-use Rattle.bpf_isa.specs.Program.{IsSpelledBy}
 use Rattle.bpf_isa.specs.Laws.{OneProgram, NoFaultInSpelled}
 use Rattle.verifier.specs.Verdicts.{Refused}
 use Rattle.verifier.specs.Laws.{OneVerdict}
@@ -20,19 +19,19 @@ use Rattle.checker.specs.Checker.{CheckerValue}
 use Rattle.lines.specs.Line.{FailingLine}
 use Rattle.workers.specs.Failing.{failing_lines}
 use Rattle.request.specs.declared.settings.Settings.{Settings}
-use Rattle.logfmt.specs.Flushed.{flushed}
+use Rattle.logfmt.specs.Flushed.{with_flushes}
 use Rattle.epochs.specs.Flushes.{places_of}
 use Rattle.request.specs.Source.{Recording, plan_of, images_of, HasImages, IsLogOf, IsRecorded, lacking, RefusesLog, past_device, with_fault, no_memory, lacks, RefusesPlan, too_many, no_plan_memory, RefusesSource, for_log, for_plan}
-use Rattle.runs.specs.Programs.{IsRunWithin, IsCodeFault, IsVerifierFault}
+use Rattle.runs.specs.Programs.{IsRunWithin}
 use Rattle.runs.specs.Explore as explore
-use Rattle.runs.specs.Explore.{IsCheckerOf, AreCheckersOf, subject_of, report_of, IsReport, RefusesProgram, with_code_fault, with_verifier_fault, no_code_memory, no_verifier_memory, no_list_memory, Refuses, for_count, for_program}
-use Rattle.commands.specs.Laws.{IsOfMemory}
+use Rattle.runs.specs.Explore.{IsCheckerOf, AreCheckersOf, subject_of, report_of, IsRun, RefusesProgram, with_code_fault, with_verifier_fault, no_code_memory, no_verifier_memory, no_list_memory, Refuses, for_count, for_program}
+use Rattle.commands.specs.Laws.{IsOfMemory, OneReport}
 
 same_recorded : TextOfOneLog → (text : Recording) (s : Settings) (v w : LogValue) → IsRecorded text s v → IsRecorded text s w → v ≡ w
 same_recorded texts text s v w h k = texts text.text v w h.of_log k.of_log (h.device ∙ sym k.device) (h.initial ∙ sym k.initial)
 
 pub same_asked : TextOfOneLog → (text : Recording) (s : Settings) (v w : LogValue) → IsLogOf text s v → IsLogOf text s w → v ≡ w
-same_asked texts text s v w h k = h.added ∙ ap (flushed (places_of s.cuts.flushes)) (same_recorded texts text s h.read k.read h.recorded k.recorded) ∙ sym k.added
+same_asked texts text s v w h k = h.added ∙ ap (with_flushes (places_of s.cuts.flushes)) (same_recorded texts text s h.read k.read h.recorded k.recorded) ∙ sym k.added
 
 pub same_log : TextOfOneLog → (text : Recording) (s : Settings) (v w : LogValue) → HasImages text s v → HasImages text s w → v ≡ w
 same_log texts text s v w h k = same_asked texts text s v w h.reads k.reads
@@ -40,7 +39,7 @@ same_log texts text s v w h k = same_asked texts text s v w h.reads k.reads
 -- a program runs within one limit
 same_limit : OneVerdict → (checked : Option ℕ) (sectors : ℕ) (c d : CheckerValue) → c.program ≡ d.program → IsRunWithin checked sectors c → IsRunWithin checked sectors d
     → (c.limit ≡ d.limit) × (c.verified ≡ d.verified)
-same_limit verdicts (Some limit) sectors c d same h k = (h.0 ∙ sym k.0, h.1 ∙ sym k.1)
+same_limit verdicts (Some most) sectors c d same h k = (h.0 ∙ sym k.0, h.1 ∙ sym k.1)
 same_limit verdicts None sectors c d same h k = ((verdicts.accepted _ _ h.0.1 k.0.1 same refl).0, h.1 ∙ sym k.1)
 
 same_checker : OneProgram → OneVerdict → (s : Settings) (bytes : List ℕ) (c d : CheckerValue) → IsCheckerOf s bytes c → IsCheckerOf s bytes d → c ≡ d
@@ -66,14 +65,21 @@ same_test false false ls ms h k same = refl
 same_test true false ls ms h k same = absurd (false≢true (k.1 (λ none. h.0 refl (same ∙ none))))
 same_test false true ls ms h k same = absurd (false≢true (h.1 (λ none. k.0 refl (sym same ∙ none))))
 
-pub one_report : TextOfOneLog → OneProgram → OneVerdict → (text : Recording) (files : List (List ℕ)) (s : Settings) (bytes others : List ℕ) (failing fails : Bool)
-    → IsReport text files s bytes failing → IsReport text files s others fails → (bytes ≡ others) × (failing ≡ fails)
-one_report texts programs verdicts text files s bytes others failing fails h k =
+-- a run has one answer, where what is told of a log and of checkers is one
+pub one_run : TextOfOneLog → OneProgram → OneVerdict → (Tells : Settings → LogValue → List CheckerValue → List ℕ → Type 0)
+    → ((s : Settings) (value : LogValue) (checkers : List CheckerValue) (bytes others : List ℕ) → Tells s value checkers bytes → Tells s value checkers others → bytes ≡ others)
+    → (text : Recording) (files : List (List ℕ)) (s : Settings) (bytes others : List ℕ) (failing fails : Bool)
+    → IsRun Tells text files s bytes failing → IsRun Tells text files s others fails → (bytes ≡ others) × (failing ≡ fails)
+one_run texts programs verdicts Tells one text files s bytes others failing fails h k =
     let value = same_log texts text s h.value k.value h.source k.source in
     let checkers = same_checkers programs verdicts s files h.checkers k.checkers h.made k.made in
-    let same : report_of s h.value h.checkers ≡ report_of s k.value k.checkers = λ i. report_of s (value i) (checkers i) in
     let lines : failing_lines (subject_of s h.value h.checkers) ≡ failing_lines (subject_of s k.value k.checkers) = λ i. failing_lines (subject_of s (value i) (checkers i)) in
-    (h.report ∙ same ∙ sym k.report, same_test failing fails _ _ h.fails k.fails lines)
+    let by_value = subst (λ (v : LogValue). Tells s v k.checkers others) (sym value) k.tells in
+    let tells = subst (λ (cs : List CheckerValue). Tells s h.value cs others) (sym checkers) by_value in
+    (one s h.value h.checkers bytes others h.tells tells, same_test failing fails _ _ h.fails k.fails lines)
+
+pub one_report : TextOfOneLog → OneProgram → OneVerdict → OneReport
+one_report texts programs verdicts = one_run texts programs verdicts (λ s value checkers bytes. bytes ≡ report_of s value checkers) (λ s value checkers bytes others a b. a ∙ sym b)
 
 -- the first cuts have no more choices than all
 few_over : (way : By) (es : List Entry) (m bound place : ℕ) (n : ℕ) (cuts : List ℕ) → length (choices_over way es m bound place (take n cuts)) ≤ length (choices_over way es m bound place cuts)
@@ -90,7 +96,7 @@ few_over way es m bound place (suc n) (cut ∷ cuts) =
 
 -- a log with few enough images has no cut with which there are too many
 pub not_past : (s : Settings) (value : LogValue) (cut : ℕ) → length (images_of s value) ≤ limit → IsFirstPast (plan_of s value) s.bound s.tears cut → ⊥
-unfolding ranked ranked_before
+unfolding ranked_choices ranked_before
 not_past s value cut few past =
     omega (arith, few, past.past, few_over s.by value.entries (fates_of s.tears) s.bound 0 (past.place + 1) (cuts_of s.cuts value.entries))
 
@@ -156,8 +162,8 @@ of_program below s files checkers r made (no_code_memory program bytes before fi
 of_program below s files checkers r made (no_verifier_memory program bytes slots before first there spelled unlimited) = refl
 of_program below s files checkers r made no_list_memory = refl
 
-pub report_or_refusal : Below → (text : Recording) (files : List (List ℕ)) (s : Settings) (bytes : List ℕ) (failing : Bool) (r : Refusal)
-    → IsReport text files s bytes failing → Refuses text files s r → IsOfMemory r.code
-report_or_refusal below text files s bytes failing r h (for_count none) = absurd (none h.count)
-report_or_refusal below text files s bytes failing _ h (explore.for_source r count why) = of_source below text s h.value r h.source why
-report_or_refusal below text files s bytes failing _ h (for_program r value count images why) = of_program below s files h.checkers r h.made why
+pub run_or_refusal : Below → (Tells : Settings → LogValue → List CheckerValue → List ℕ → Type 0) (text : Recording) (files : List (List ℕ)) (s : Settings) (bytes : List ℕ) (failing : Bool)
+    (r : Refusal) → IsRun Tells text files s bytes failing → Refuses text files s r → IsOfMemory r.code
+run_or_refusal below Tells text files s bytes failing r h (for_count none) = absurd (none h.count)
+run_or_refusal below Tells text files s bytes failing _ h (explore.for_source r count why) = of_source below text s h.value r h.source why
+run_or_refusal below Tells text files s bytes failing _ h (for_program r value count images why) = of_program below s files h.checkers r h.made why

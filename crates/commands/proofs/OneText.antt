@@ -4,11 +4,9 @@ use Rattle.std.specs.List.{flat_map}
 use Rattle.epochs.specs.declared.part.By.{By}
 use Rattle.choices.specs.Sums.{StartsValue}
 use Rattle.flushes.specs.declared.window.Window.{Window}
-use Rattle.flushes.specs.declared.counted.MissingFlush.{MissingFlush}
 use Rattle.flushes.specs.Counted.{AreMissing}
 use Rattle.lines.specs.Line.{FailingLine}
 use Rattle.report.specs.Report.{HeadValue}
-use Rattle.cure.specs.declared.failure.Failure.{Failure}
 use Rattle.cure.specs.Failures.{windows_in}
 use Rattle.outcomes.specs.Outcomes.{outcomes_failing}
 use Rattle.why.specs.declared.cut.CutFailures.{CutFailures}

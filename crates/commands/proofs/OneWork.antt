@@ -9,7 +9,6 @@ use Rattle.epochs.specs.declared.part.By.{By}
 use Rattle.request.specs.declared.settings.OptionPlace.TheVariants as place
 use Rattle.limits.specs.Sizes.{sector_limit}
 use Rattle.request.specs.declared.settings.Settings.{Settings}
-use Rattle.request.specs.declared.settings.Telling.{Telling}
 use Rattle.request.specs.declared.settings.Telling.TheVariants as telling
 use Rattle.request.specs.declared.command.OptionWords.{OptionWords}
 use Rattle.request.specs.declared.command.Request.{Request}
@@ -19,19 +18,17 @@ use Rattle.request.specs.OptionWords.{settings_with, AskFor}
 use Rattle.request.specs.Source.{Recording, IsLogOf, HasImages}
 use Rattle.runs.specs.Explore.{AreCheckersOf, head_of}
 use Rattle.checker.specs.Checker.{CheckerValue}
-use Rattle.runs.specs.Why.{IsTold}
-use Rattle.logfmt.specs.Flushed.{flushed}
+use Rattle.logfmt.specs.Flushed.{with_flushes}
 use Rattle.cure.specs.Failures.{places_in}
-use Rattle.runs.specs.Cured.{AreRounds, Ends, with_totals, with_refusal}
+use Rattle.runs.specs.Cured.{AreRounds, Ends, with_totals, with_refusal, TellsWanted, IsAnswered}
 use Rattle.flushes.specs.declared.counted.MissingFlush.{MissingFlush}
-use Rattle.commands.specs.declared.action.Wanted.{Wanted}
-use Rattle.commands.specs.declared.action.Wanted.TheVariants as wanted
-use Rattle.looks.specs.Image.{IsImage}
-use Rattle.looks.specs.Image.{IsShown}
+use Rattle.runs.specs.declared.explore_command.Wanted.{Wanted}
+use Rattle.runs.specs.declared.explore_command.Wanted.TheVariants as wanted
+use Rattle.looks.specs.Image.{IsImage, IsShown}
 use Rattle.looks.specs.Survey.{IsSurvey}
 use Rattle.looks.specs.Table.{IsTable}
 use Rattle.looks.specs.Verifying.{IsAcceptedText}
-use Rattle.commands.specs.Acting.{Files, recording, IsAnswered, AnswersExplore, AnswersOf, AnswersWith, Answers}
+use Rattle.commands.specs.Acting.{Files, recording, AnswersExplore, AnswersOf, AnswersWith, Answers}
 use Rattle.commands.specs.OneAnswer.{OneAnswer, alone, asked_alone, WorkChangesNothing}
 
 -- the same settings for one worker without a cache
@@ -93,91 +90,63 @@ checkers_alone s (bytes ∷ files) [] h = h
 checkers_alone s (bytes ∷ files) (c ∷ cs) h =
     (record { spelled = h.0.spelled; clean = h.0.clean; within = h.0.within }, checkers_alone s files cs h.1)
 
-told_alone : (t : Telling) (text : Recording) (files : List (List ℕ)) (s : Settings) (bytes : List ℕ) (failing : Bool)
-    → IsTold t text files s bytes failing → IsTold t text files (set_alone s) bytes failing
-unfolding head_of
-told_alone telling.Report text files s bytes failing h =
-    record {
-      count = h.count;
-      value = h.value;
-      source = images_alone h.source;
-      checkers = h.checkers;
-      made = checkers_alone s files h.checkers h.made;
-      report = h.report;
-      fails = h.fails;
-      faultless = h.faultless;
-    }
-told_alone telling.Causes text files s bytes failing h =
-    record {
-      count = h.count;
-      value = h.value;
-      source = images_alone h.source;
-      checkers = h.checkers;
-      made = checkers_alone s files h.checkers h.made;
-      causes = record {
-        failures = h.causes.failures;
-        missing = h.causes.missing;
-        are_missing = record { failures = h.causes.are_missing.failures; missing = h.causes.are_missing.missing };
-        causes = h.causes.causes;
-        all = h.causes.all;
-        each = h.causes.each;
-        text = h.causes.text;
-      };
-      fails = h.fails;
-      faultless = h.faultless;
-    }
-told_alone telling.Page text files s bytes failing h =
-    record {
-      count = h.count;
-      value = h.value;
-      source = images_alone h.source;
-      checkers = h.checkers;
-      made = checkers_alone s files h.checkers h.made;
-      page = record {
-        failures = h.page.failures;
-        are_failures = h.page.are_failures;
-        programs = h.page.programs;
-        are = record { all = h.page.are.all; named = h.page.are.named; each = h.page.are.each };
-        page = h.page.page;
-      };
-      fails = h.fails;
-      faultless = h.faultless;
-    }
-
 rounds_alone : (s : Settings) (cs : List CheckerValue) (v : LogValue) (rounds : List (List MissingFlush)) → AreRounds s cs v rounds → AreRounds (set_alone s) cs v rounds
 rounds_alone s cs v [] h = h
 rounds_alone s cs v (ms ∷ rounds) h =
-    (record { few = h.0.few; failures = h.0.failures; fail = h.0.fail; some = h.0.some; missing = h.0.missing }, rounds_alone s cs (flushed (places_in ms) v) rounds h.1)
+    (record { few = h.0.few; failures = h.0.failures; fail = h.0.fail; some = h.0.some; missing = h.0.missing }, rounds_alone s cs (with_flushes (places_in ms) v) rounds h.1)
 
 ends_alone : {s : Settings} {cs : List CheckerValue} {v : LogValue} {end : List ℕ} → Ends s cs v end → Ends (set_alone s) cs v end
 ends_alone (with_totals failures few fail none) = with_totals failures few fail none
 ends_alone (with_refusal cut past) = with_refusal cut (record { place = past.place; wanted = past.wanted; before = past.before; past = past.past })
 
-answered_alone : (t : Wanted) (text : Recording) (files : List (List ℕ)) (s : Settings) (bytes : List ℕ) (failing : Bool)
-    → IsAnswered t text files s bytes failing → IsAnswered t text files (set_alone s) bytes failing
+-- what is told is the same
+tells_alone : (w : Wanted) (s : Settings) (value : LogValue) (cs : List CheckerValue) (bytes : List ℕ) → TellsWanted w s value cs bytes → TellsWanted w (set_alone s) value cs bytes
 unfolding head_of
-answered_alone (wanted.Told t) text files s bytes failing h = told_alone t text files s bytes failing h
-answered_alone wanted.Cured text files s bytes failing h =
-    let tells = h.cure.tells in
+tells_alone (wanted.Told telling.Report) s value cs bytes h = h
+tells_alone (wanted.Told telling.Causes) s value cs bytes h =
+    record {
+      failures = h.failures;
+      missing = h.missing;
+      are_missing = record { failures = h.are_missing.failures; missing = h.are_missing.missing };
+      causes = h.causes;
+      all = h.all;
+      each = h.each;
+      text = h.text;
+    }
+tells_alone (wanted.Told telling.Page) s value cs bytes h =
+    record {
+      failures = h.failures;
+      are_failures = h.are_failures;
+      programs = h.programs;
+      are = record { all = h.are.all; named = h.are.named; each = h.are.each };
+      page = h.page;
+    }
+tells_alone wanted.Cured s value cs bytes h =
+    let tells = h.tells in
+    record {
+      failures = h.failures;
+      fail = h.fail;
+      rounds = h.rounds;
+      tells = record {
+        rounds = tells.rounds;
+        are = rounds_alone s cs value tells.rounds tells.are;
+        end = tells.end;
+        ends = ends_alone tells.ends;
+        told = tells.told;
+      };
+      text = h.text;
+    }
+
+answered_alone : (w : Wanted) (text : Recording) (files : List (List ℕ)) (s : Settings) (bytes : List ℕ) (failing : Bool)
+    → IsAnswered w text files s bytes failing → IsAnswered w text files (set_alone s) bytes failing
+answered_alone w text files s bytes failing h =
     record {
       count = h.count;
       value = h.value;
       source = images_alone h.source;
       checkers = h.checkers;
       made = checkers_alone s files h.checkers h.made;
-      cure = record {
-        failures = h.cure.failures;
-        fail = h.cure.fail;
-        rounds = h.cure.rounds;
-        tells = record {
-          rounds = tells.rounds;
-          are = rounds_alone s h.checkers h.value tells.rounds tells.are;
-          end = tells.end;
-          ends = ends_alone tells.ends;
-          told = tells.told;
-        };
-        text = h.cure.text;
-      };
+      tells = tells_alone w s h.value h.checkers bytes h.tells;
       fails = h.fails;
       faultless = h.faultless;
     }

@@ -5,8 +5,8 @@ use Rattle.std.specs.Option.{option_map}
 use Rattle.base.specs.declared.refusal.Refusal.{Refusal}
 use Rattle.base.specs.Refusals.{memory_refusal}
 use Rattle.commands.specs.declared.action.Held.{Held}
-use Rattle.commands.specs.declared.action.Wanted.{Wanted}
-use Rattle.commands.specs.declared.action.Wanted.TheVariants as wanted
+use Rattle.commands.specs.declared.action.Look.{Look}
+use Rattle.commands.specs.declared.action.Look.TheVariants as look
 use Rattle.commands.specs.Stored.{stored_log, stored_programs, stored_settings}
 use Rattle.request.specs.declared.settings.Settings.{Settings}
 use Rattle.request.specs.declared.command.OptionWords.{OptionWords}
@@ -19,14 +19,14 @@ use Rattle.request.specs.declared.trials.TrialWords.{TrialWords}
 use Rattle.request.specs.Trials.{AskForTrial, trial_refusal}
 use Rattle.request.specs.Source.{Recording}
 use Rattle.request.specs.declared.settings.Telling.TheVariants as telling
+use Rattle.runs.specs.declared.explore_command.Wanted.{Wanted}
+use Rattle.runs.specs.declared.explore_command.Wanted.TheVariants as wanted
 use Rattle.runs.specs.Explore.{Refuses}
-use Rattle.runs.specs.Why.{IsTold}
-use Rattle.runs.specs.Cured.{IsCured}
+use Rattle.runs.specs.Cured.{IsAnswered}
 use Rattle.limits.specs.Sizes.{sector_limit}
 use Rattle.raw_log.specs.Imported.{IsImported}
 use Rattle.looks.specs.Import.{RefusesImport}
-use Rattle.looks.specs.Image.{IsImage, RefusesImage}
-use Rattle.looks.specs.Image.{IsShown}
+use Rattle.looks.specs.Image.{IsImage, RefusesImage, IsShown}
 use Rattle.looks.specs.Survey.{IsSurvey, RefusesSurvey}
 use Rattle.looks.specs.Table.{IsTable, RefusesTable}
 use Rattle.looks.specs.Verifying.{IsAcceptedText, RefusesVerified}
@@ -83,11 +83,6 @@ pub record HoldsRecording (files : Files) (r : Recording) : Type 0 where
 -- the status of a run is 1 exactly where it found a failing image
 abbrev pub status_of : Bool → ℕ
 status_of failing = if failing then 1 else 0
-
--- what a run answers that is asked for this: what is told of it, or where flushes are missing, run by run
-abbrev pub IsAnswered : Wanted → Recording → List (List ℕ) → Settings → List ℕ → Bool → Type 0
-IsAnswered (wanted.Told t) log programs s bytes failing = IsTold t log programs s bytes failing
-IsAnswered wanted.Cured log programs s bytes failing = IsCured log programs s bytes failing
 
 -- what a run answers, and its status
 pub record AnswersRun (t : Wanted) (s : Settings) (log : Recording) (programs : List (List ℕ)) (bytes : List ℕ) (status : ℕ) : Type 0 where
@@ -150,6 +145,13 @@ pub record AnswersTrial (w : TrialWords) (files : Files) (bytes : List ℕ) (sta
   pub tried : IsTried program image trial bytes failing
   pub ends : status ≡ status_of failing
 
+-- what is shown of a log
+abbrev pub Shows : Look → Settings → Recording → List ℕ → Type 0
+Shows look.Images s text = IsSurvey text s
+Shows look.Log s text = IsTable text s
+Shows (look.Image which) s text = IsImage text s which
+Shows (look.Show which) s text = IsShown text s which
+
 -- the bytes for standard output, and the status, of what the command line asks for
 abbrev pub Answers : Request → Files → List ℕ → ℕ → Type 0
 Answers request.StoredRun files bytes status = AnswersRun (wanted.Told telling.Report) stored_settings (recording stored_log []) stored_programs bytes status
@@ -202,6 +204,13 @@ pub data RefusesCheck (w : TrialWords) (files : Files) : Refusal → Type 0 wher
   for_image_file : second_held files ≡ None → RefusesCheck w files (file_refusal 1)
   for_trial : (t : Trial) (program image : List ℕ) (r : Refusal) → AskForTrial w t → first_held files ≡ Some program → second_held files ≡ Some image
       → RefusesTrial program image t r → RefusesCheck w files r
+
+-- when it is refused to show that of a log
+abbrev pub RefusesLook : Look → Settings → Recording → Refusal → Type 0
+RefusesLook look.Images s text = RefusesSurvey text s
+RefusesLook look.Log s text = RefusesTable text s
+RefusesLook (look.Image which) s text = RefusesImage text s which
+RefusesLook (look.Show which) s text = RefusesImage text s which
 
 -- when what the command line asks for is refused
 abbrev pub RefusesToAct : Request → Files → Refusal → Type 0

@@ -28,5 +28,5 @@ pub record StandAtCuts (s : StartsValue) (images : List ℕ) (outcomes : List (L
 -- The images on which a program fails, by the lines of the report, stand once in what `why` says of it.
 abbrev pub EachImageStandsOnce : Type 0
 EachImageStandsOnce = (text : Recording) (files : List (List ℕ)) (s : Settings) (bytes : List ℕ) (failing : Bool) (e : IsExplained text files s bytes failing) (program : ℕ)
-    (cuts : List CutFailures) → slice_get e.causes.causes program ≡ Some cuts
+    (cuts : List CutFailures) → slice_get e.tells.causes program ≡ Some cuts
     → StandAtCuts (starts_of s e.value) (images_failing program (failing_lines (subject_of s e.value e.checkers))) (outcomes_failing program (failing_lines (subject_of s e.value e.checkers))) cuts

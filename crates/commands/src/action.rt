@@ -6,8 +6,8 @@ ghost use Rattle.base.specs.Refusals.{memory_refusal};
 ghost use Rattle.request.specs.declared.command.Request.TheVariants as asks;
 ghost use Rattle.runs.specs.Explore.{Refuses};
 ghost use Rattle.request.specs.Refusals.{file_refusal};
-ghost use Rattle.commands.specs.declared.action.Wanted.TheVariants as wants;
-ghost use Rattle.commands.specs.Acting.{first_held, second_held, files_of, held_by, initial_of, recording, status_of, HoldsRecording, RefusesRecording, IsAnswered, AnswersRun, AnswersFiles, AnswersExplore, Answers, RefusesWith, RefusesToAct, RefusesFiles};
+ghost use Rattle.runs.specs.declared.explore_command.Wanted.TheVariants as wants;
+ghost use Rattle.commands.specs.Acting.{first_held, second_held, files_of, held_by, initial_of, recording, status_of, HoldsRecording, RefusesRecording, AnswersRun, AnswersFiles, AnswersExplore, Shows, AnswersOf, Answers, RefusesWith, RefusesLook, RefusesToAct, RefusesFiles};
 ghost use Rattle.commands.specs.Stored.{stored_log, stored_programs, stored_settings};
 ghost use Rattle.request.specs.declared.settings.Telling.TheVariants as tells;
 
@@ -20,20 +20,24 @@ use looks::{assembled, image, imported, listed, show, shown_log, survey, verifie
 use request::{
     OptionWords, Options, Request, Telling, TrialWords, Which, options_of, trial_of, unreadable,
 };
-use runs::{Explored, Question, cured, run_with};
+use runs::{Question, Wanted, run_with};
 use std::alloc::{AllocError, Global};
 use std::sync::Wait;
 use std::thread::Threads;
 use trial::try_image;
 use workers::Gate;
 
-/// What a command asks a run for.
+/// What is shown of a log, for which no program runs.
 #[derive(Clone, Copy)]
-pub(crate) enum Wanted {
-    /// To be told of its failing images.
-    Told(Telling),
-    /// To be told where flushes are missing, run by run.
-    Cured,
+pub(crate) enum Look {
+    /// How many crash images each cut has.
+    Images,
+    /// Its entries as a table.
+    Log,
+    /// One crash image as bytes.
+    Image(Which),
+    /// One crash image in words.
+    Show(Which),
 }
 
 /// What each file of a command holds, none where it could not be read: those that it names by themselves, and the one behind
@@ -108,28 +112,6 @@ struct Asked<'x> {
     files: &'x Held<'x>,
 }
 
-/// A log and programs, and the options of their run.
-#[derive(Clone, Copy)]
-struct Run<'x> {
-    recording: &'x Recording<'x>,
-    programs: &'x [Vec<u8>],
-    options: &'x Options,
-}
-
-impl<'x> Run<'x> {
-    /// The question of it, of which that is to be told.
-    fn question(self, telling: Telling) -> Question<'x>
-        ensures { result ≡ record { telling = telling; recording = self.entry.recording; programs = self.entry.programs; options = self.entry.options } }
-    {
-        Question {
-            telling,
-            recording: self.recording,
-            programs: self.programs,
-            options: self.options,
-        }
-    }
-}
-
 /// The place of the first file that cannot be read.
 fn first_unreadable(files: &[Option<Vec<u8>>]) -> Option<usize>
     ensures { result ≡ position is_none files.now }
@@ -150,37 +132,18 @@ fn programs_of(alloc: Global, files: &[Option<Vec<u8>>]) -> Result<Vec<Vec<u8>>,
     Ok(programs)
 }
 
-/// What a run answers that is asked for this.
-fn answered<G: Gate + Sync, R: Threads + Wait + Sync>(
-    rt: &R,
-    alloc: Global,
-    gate: &G,
-    wanted: Wanted,
-    run: &Run<'_>,
-    facts: &mut Facts,
-) -> Result<Explored, Refusal>
-    ensures answers { IfOk result (λ e. IsAnswered wanted run.now.recording.now (map (λ f. f.items) run.now.programs.now) run.now.options.now e.bytes.items e.failing) }
-    ensures refused { IfErr result (Refuses run.now.recording.now (map (λ f. f.items) run.now.programs.now) run.now.options.now) }
-{
-    match wanted {
-        Wanted::Told(telling) => run_with(rt, alloc, gate, &run.question(telling), facts),
-        Wanted::Cured => cured(rt, alloc, gate, &run.question(Telling::Report), facts),
-    }
-}
-
 /// Explores a log, and answers what is wanted with its status: 1 where there is a failing image.
 fn explore_files<G: Gate + Sync, R: Threads + Wait + Sync>(
     rt: &R,
     alloc: Global,
     gate: &G,
-    wanted: Wanted,
-    run: &Run<'_>,
+    question: &Question<'_>,
     facts: &mut Facts,
 ) -> Result<(Vec<u8>, u8), Refusal>
-    ensures answers { IfOk result (λ answer. AnswersRun wanted run.now.options.now run.now.recording.now (map (λ f. f.items) run.now.programs.now) answer.0.items answer.1) }
-    ensures refused { IfErr result (Refuses run.now.recording.now (map (λ f. f.items) run.now.programs.now) run.now.options.now) }
+    ensures answers { IfOk result (λ answer. AnswersRun question.now.wanted question.now.options.now question.now.recording.now (map (λ f. f.items) question.now.programs.now) answer.0.items answer.1) }
+    ensures refused { IfErr result (Refuses question.now.recording.now (map (λ f. f.items) question.now.programs.now) question.now.options.now) }
 {
-    let explored = answered(rt, alloc, gate, wanted, run, facts)?;
+    let explored = run_with(rt, alloc, gate, question, facts)?;
     let status = if explored.failing { 1 } else { 0 };
     Ok((explored.bytes, status))
 }
@@ -225,12 +188,13 @@ fn explore_readable<G: Gate + Sync, R: Threads + Wait + Sync>(
     let recording = Recording::of(log.as_slice(), initial);
     match programs_of(alloc, others) {
         Ok(programs) => {
-            let run = Run {
+            let question = Question {
+                wanted: asked.wanted,
                 recording: &recording,
                 programs: programs.as_slice(),
                 options,
             };
-            explore_files(rt, alloc, gate, asked.wanted, &run, facts)
+            explore_files(rt, alloc, gate, &question, facts)
         }
         Err(_error) => Err(Refusal::of_memory()),
     }
@@ -250,46 +214,51 @@ fn act_stored<G: Gate + Sync, R: Threads + Wait + Sync>(
     match stored_files(alloc) {
         Ok((log, programs)) => {
             let recording = Recording::of(log.as_slice(), &[]);
-            let run = Run {
+            let question = Question {
+                wanted: Wanted::Told(Telling::Report),
                 recording: &recording,
                 programs: programs.as_slice(),
                 options: &options,
             };
-            explore_files(rt, alloc, gate, Wanted::Told(Telling::Report), &run, facts)
+            explore_files(rt, alloc, gate, &question, facts)
         }
         Err(_error) => Err(Refusal::of_memory()),
     }
 }
 
-/// The survey of a log's crash images.
-fn act_images(
+/// What is shown of a log.
+fn shown(
     alloc: Global,
-    words: OptionWords,
-    files: &Held<'_>,
+    look: Look,
+    recording: &Recording<'_>,
+    options: &Options,
     facts: &mut Facts,
-) -> Result<(Vec<u8>, u8), Refusal>
-    ensures answers { IfOk result (λ answer. Answers (asks.Images words) (held_by files.now) answer.0.items answer.1) }
-    ensures refused { IfErr result (RefusesToAct (asks.Images words) (held_by files.now)) }
+) -> Result<Vec<u8>, Refusal>
+    ensures shown { IfOk result (λ bytes. Shows look options.now recording.now bytes.items) }
+    ensures refused { IfErr result (RefusesLook look options.now recording.now) }
 {
-    let options = options_of(words)?;
-    let recording = files.recording()?;
-    let bytes = survey(alloc, &recording, &options, facts)?;
-    Ok((bytes, 0))
+    match look {
+        Look::Images => survey(alloc, recording, options, facts),
+        Look::Log => shown_log(alloc, recording, options, facts),
+        Look::Image(which) => image(alloc, recording, which, options, facts),
+        Look::Show(which) => show(alloc, recording, which, options, facts),
+    }
 }
 
-/// A log as a table.
-fn act_log(
+/// What is shown of the log that the first file holds.
+fn act_look(
     alloc: Global,
+    look: Look,
     words: OptionWords,
     files: &Held<'_>,
     facts: &mut Facts,
 ) -> Result<(Vec<u8>, u8), Refusal>
-    ensures answers { IfOk result (λ answer. Answers (asks.Log words) (held_by files.now) answer.0.items answer.1) }
-    ensures refused { IfErr result (RefusesToAct (asks.Log words) (held_by files.now)) }
+    ensures answers { IfOk result (λ answer. AnswersOf words (λ s text. Shows look s text) (held_by files.now) answer.0.items answer.1) }
+    ensures refused { IfErr result (RefusesWith words (λ s. RefusesRecording (held_by files.now) (λ text. RefusesLook look s text))) }
 {
     let options = options_of(words)?;
     let recording = files.recording()?;
-    let bytes = shown_log(alloc, &recording, &options, facts)?;
+    let bytes = shown(alloc, look, &recording, &options, facts)?;
     Ok((bytes, 0))
 }
 
@@ -301,40 +270,6 @@ fn act_import(alloc: Global, limits: Limits, files: &Held<'_>) -> Result<(Vec<u8
     let raw = files.first()?;
     let text = imported(alloc, raw, limits)?;
     Ok((text, 0))
-}
-
-/// One crash image of a log.
-fn act_image(
-    alloc: Global,
-    words: OptionWords,
-    which: Which,
-    files: &Held<'_>,
-    facts: &mut Facts,
-) -> Result<(Vec<u8>, u8), Refusal>
-    ensures answers { IfOk result (λ answer. Answers (asks.Image words which) (held_by files.now) answer.0.items answer.1) }
-    ensures refused { IfErr result (RefusesToAct (asks.Image words which) (held_by files.now)) }
-{
-    let options = options_of(words)?;
-    let recording = files.recording()?;
-    let bytes = image(alloc, &recording, which, &options, facts)?;
-    Ok((bytes, 0))
-}
-
-/// One crash image of a log, in words.
-fn act_show(
-    alloc: Global,
-    words: OptionWords,
-    which: Which,
-    files: &Held<'_>,
-    facts: &mut Facts,
-) -> Result<(Vec<u8>, u8), Refusal>
-    ensures answers { IfOk result (λ answer. Answers (asks.Show words which) (held_by files.now) answer.0.items answer.1) }
-    ensures refused { IfErr result (RefusesToAct (asks.Show words which) (held_by files.now)) }
-{
-    let options = options_of(words)?;
-    let recording = files.recording()?;
-    let bytes = show(alloc, &recording, which, &options, facts)?;
-    Ok((bytes, 0))
 }
 
 /// What the verifier says of a program.
@@ -428,11 +363,11 @@ pub(crate) fn act_known<G: Gate + Sync, R: Threads + Wait + Sync>(
             let asked = files.asked(Wanted::Told(Telling::Page), words);
             act_explore(rt, alloc, gate, &asked, facts)
         }
-        Request::Images(words) => act_images(alloc, words, files, facts),
-        Request::Log(words) => act_log(alloc, words, files, facts),
+        Request::Images(words) => act_look(alloc, Look::Images, words, files, facts),
+        Request::Log(words) => act_look(alloc, Look::Log, words, files, facts),
         Request::Import(limits) => act_import(alloc, limits, files),
-        Request::Image(words, which) => act_image(alloc, words, which, files, facts),
-        Request::Show(words, which) => act_show(alloc, words, which, files, facts),
+        Request::Image(words, which) => act_look(alloc, Look::Image(which), words, files, facts),
+        Request::Show(words, which) => act_look(alloc, Look::Show(which), words, files, facts),
         Request::Verify(words) => act_verify(alloc, words, files, facts),
         Request::Check(words) => act_check(alloc, words, files, facts),
         Request::Asm => act_asm(alloc, files),

@@ -4,7 +4,7 @@ use Rattle.limits.specs.Sizes.{most_sectors}
 use Rattle.logfmt.specs.Bounds.{LogValue, IsLog}
 use Rattle.epochs.specs.Plan.{PlanValue}
 use Rattle.choices.specs.declared.choice.Departure.{Departure}
-use Rattle.choices.specs.Choices.{ChoiceValue, ranked}
+use Rattle.choices.specs.Choices.{ChoiceValue, ranked_choices}
 use Rattle.choices.specs.Named.{name_of, IsNamed, NoneIsNamed}
 use Rattle.choices.proofs.CrashModel.{ranked_is_model}
 use Rattle.images.specs.Views.{ViewValue, IsMember, view_of, sectors_of}
@@ -14,7 +14,7 @@ use Rattle.choices.specs.Sums.{StartsValue}
 use Rattle.why.specs.declared.group.Group.{Group}
 use Rattle.why.specs.Text.{IsNumbered}
 
-pub member_of : (plan : PlanValue) (bound : ℕ) (tears : Bool) (n : ℕ) (c : ChoiceValue) → slice_get (ranked plan bound tears) n ≡ Some c → IsMember plan c
+pub member_of : (plan : PlanValue) (bound : ℕ) (tears : Bool) (n : ℕ) (c : ChoiceValue) → slice_get (ranked_choices plan bound tears) n ≡ Some c → IsMember plan c
 member_of plan bound tears n c there = record { bound = bound; tears = tears; number = n; there = there }
 
 pub named_member : (plan : PlanValue) (bound : ℕ) (tears : Bool) (cut : ℕ) (c : ChoiceValue) → IsNamed plan bound tears cut [] c → IsMember plan c
@@ -52,5 +52,5 @@ small plan history l view c devices bounds own same is =
     omega (arith, count, most)
 
 -- the images of groups are those of the run
-pub images_within : (s : StartsValue) (lines : ℕ) (gs : List Group) → All (IsNumbered s lines) gs → All (λ (g : Group). g.image < length (ranked s.plan s.bound s.tears)) gs
+pub images_within : (s : StartsValue) (lines : ℕ) (gs : List Group) → All (IsNumbered s lines) gs → All (λ (g : Group). g.image < length (ranked_choices s.plan s.bound s.tears)) gs
 images_within s lines gs are = λ k d lt. (are k d lt).image

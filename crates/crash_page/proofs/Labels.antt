@@ -1,9 +1,9 @@
 -- Texts of marks.
-use Rattle.std.proofs.Common.{ℕ, ◌≡◌, Bool, true, false, List, [], ◌∷◌, map, chars, IsUtf8, refl, sym, ◌∙◌, ap}
+use Rattle.std.proofs.Common.{ℕ, ◌≡◌, Bool, true, false, List, [], ◌∷◌, map, chars, IsUtf8, refl, ap}
 use Rattle.std.proofs.lemmas.Str.{IsUtf8-from_is_utf8, is_utf8-from_IsUtf8}
 use Rattle.std.specs.List.{flat_map}
 use Rattle.std.specs.Str.{is_utf8}
-use Rattle.notes.specs.Escaped.{escaped}
+use Rattle.notes.specs.Escaped.{escaped_text}
 use Rattle.crash_page.specs.Html.{html, mark_char, mark_label}
 
 pub map_self : (cs : List ℕ) → map (λ c. c) cs ≡ cs
@@ -17,5 +17,5 @@ not_utf8 : (text : List ℕ) (b : Bool) → is_utf8 text ≡ b → (¬ (IsUtf8 t
 not_utf8 text true e isnt = absurd (isnt (IsUtf8-from_is_utf8 text e))
 not_utf8 text false e isnt = e
 
-pub label_of_others : (text : List ℕ) → (¬ (IsUtf8 text)) → mark_label text ≡ html (escaped text)
+pub label_of_others : (text : List ℕ) → (¬ (IsUtf8 text)) → mark_label text ≡ html (escaped_text text)
 label_of_others text isnt = rw (not_utf8 text (is_utf8 text) refl isnt) refl

@@ -8,8 +8,8 @@ use Rattle.std.proofs.lemmas.Str.{inside_one}
 use Rattle.std.specs.Char.{encode_utf8}
 use Rattle.std.specs.List.{flat_map}
 use Rattle.std.specs.Str.{is_utf8}
-use Rattle.notes.specs.Escaped.{escaped}
-use Rattle.crash_page.specs.Html.{plain_byte, html_byte, html, is_odd, low_char, mark_char, mark_label}
+use Rattle.notes.specs.Escaped.{escaped_text}
+use Rattle.crash_page.specs.Html.{plain_byte, html_byte, html, is_odd, mark_char, mark_label}
 use Rattle.crash_page.specs.Laws.{is_markup, TextIsNoMarkup}
 
 -- no byte of some bytes is markup
@@ -74,7 +74,7 @@ encoded c big = highs (encode_utf8 c) each
     ]
 
 marked : (c : ℕ) (low odd : Bool) → nat_lt c 160 ≡ low → is_odd c ≡ odd → Clean (mark_char c)
-marked c true true small is = rw (small, is) (all (escaped (c ∷ [])))
+marked c true true small is = rw (small, is) (all (escaped_text (c ∷ [])))
 marked c true false small is = rw (small, is) (one c (c == 38) (c == 60) (c == 62) (c == 34) (c == 39) refl refl refl refl refl)
 marked c false odd big is = let high : 160 ≤ c = grind (arith, nat_tests) in rw big (encoded c high)
 
@@ -85,7 +85,7 @@ all_marked (c ∷ cs) = both (mark_char c) (flat_map mark_char cs) (marked c (na
 
 labelled : (text : List ℕ) (is : Bool) → is_utf8 text ≡ is → Clean (mark_label text)
 labelled text true e = rw e (all_marked (chars text))
-labelled text false e = rw e (all (escaped text))
+labelled text false e = rw e (all (escaped_text text))
 
 pub text_is_no_markup : TextIsNoMarkup
 text_is_no_markup = λ bytes i b. (at (html bytes) i b (all bytes), at (mark_label bytes) i b (labelled bytes (is_utf8 bytes) refl))

@@ -1,8 +1,6 @@
 -- Texts of a list, element after element: what is written, before what is still to come.
-use Rattle.std.proofs.Common.{ℕ, zero, suc, ◌≡◌, ◌+◌, ◌-◌, ◌<◌, ◌≤◌, ◌==◌, ◌&&◌, Bool, true, All, List, [], ◌∷◌, ◌++◌, length, length-append, append_assoc, filter, take, drop, get_or, slice_get, Some, None, refl, sym, ap, ◌∙◌, arith}
+use Rattle.std.proofs.Common.{ℕ, zero, suc, ◌≡◌, ◌+◌, ◌-◌, ◌<◌, ◌≤◌, ◌==◌, ◌&&◌, Bool, true, All, List, [], ◌∷◌, ◌++◌, length, append_assoc, drop, get_or, slice_get, Some, None, refl, sym, ap, ◌∙◌, arith}
 use Rattle.std.proofs.lemmas.Option.{same_Some, slice_get_read}
-use Rattle.std.proofs.lemmas.List.{take_more}
-use Rattle.std.proofs.lemmas.List.Elements.{filter-append}
 use Rattle.std.proofs.lemmas.List.{append-nil}
 use Rattle.logfmt.specs.declared.entry.Entry.{Entry}
 use Rattle.logfmt.specs.Bounds.{LogValue}
@@ -16,7 +14,7 @@ use Rattle.crash_page.specs.Lacking.{named_text, named_from}
 use Rattle.crash_page.specs.Cells.{cut_cell, strip_from}
 use Rattle.crash_page.specs.Entries.{cells_text}
 use Rattle.crash_page.specs.Groups.{shown_of, showing, cut_text, cuts_text}
-use Rattle.crash_page.specs.Page.{fails, program_text, programs_text, IsOfRun}
+use Rattle.crash_page.specs.Page.{program_text, programs_text, IsOfRun}
 
 drop_next : {A : Type 0} → (xs : List A) (n : ℕ) (x : A) → slice_get xs n ≡ Some x → drop n xs ≡ x ∷ drop (n + 1) xs
 drop_next {A = A} [] n x there = absurd (let bad : None ≡ Some x = there in cc)

@@ -1,5 +1,5 @@
 -- What a page takes.
-use Rattle.std.proofs.Common.{ℕ, ◌≡◌, List, get_or, slice_get, Some}
+use Rattle.std.proofs.Common.{get_or, slice_get}
 use Rattle.std.proofs.lemmas.Option.{slice_get-get_or}
 use Rattle.choices.proofs.Plans.{wanted_within}
 use Rattle.why.specs.declared.cut.CutFailures.{CutFailures}

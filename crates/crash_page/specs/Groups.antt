@@ -4,7 +4,7 @@ use Rattle.std.specs.Fmt.{decimal}
 use Rattle.std.specs.List.{flat_map}
 use Rattle.std.specs.Option.{option_map_or}
 use Rattle.epochs.specs.Units.{epoch_at, marks_at}
-use Rattle.choices.specs.Choices.{ChoiceValue, ranked}
+use Rattle.choices.specs.Choices.{ChoiceValue, ranked_choices}
 use Rattle.choices.specs.Sums.{StartsValue}
 use Rattle.choice_text.specs.Text.{departures_text}
 use Rattle.images.specs.Views.{ViewValue, view_of, sectors_of}
@@ -15,7 +15,7 @@ use Rattle.why.specs.Groups.{ends_at}
 use Rattle.crash_page.specs.declared.pieces.Piece.TheVariants as piece
 use Rattle.crash_page.specs.Pieces.{piece_text}
 use Rattle.crash_page.specs.declared.cut.Showing.{Showing}
-use Rattle.crash_page.specs.Html.{html, sided}
+use Rattle.crash_page.specs.Html.{html, side_by_side}
 use Rattle.crash_page.specs.Shares.{share_of, share_class}
 use Rattle.crash_page.specs.Cells.{place_name, count_text}
 
@@ -34,12 +34,12 @@ longest = 16384
 -- a text, or how long it is where it is too long
 unfoldable pub block_text : List ℕ → List ℕ
 block_text text =
-    if nat_le (length text) longest then piece_text piece.TextOpen ++ sided text ++ piece_text piece.TextClose
+    if nat_le (length text) longest then piece_text piece.TextOpen ++ side_by_side text ++ piece_text piece.TextClose
     else piece_text piece.LongOpen ++ decimal (length text) ++ piece_text piece.LongClose
 
 -- the choice of an image
 abbrev pub choice_at : StartsValue → ℕ → List ℕ
-choice_at s image = option_map_or (λ (c : ChoiceValue). departures_text s.plan.by c.departures) (slice_get (ranked s.plan s.bound s.tears) image) []
+choice_at s image = option_map_or (λ (c : ChoiceValue). departures_text s.plan.by c.departures) (slice_get (ranked_choices s.plan s.bound s.tears) image) []
 
 -- what the sides of its differences are, where something departs
 abbrev pub sides_text : ChoiceValue → List ℕ
@@ -70,7 +70,7 @@ chosen_text s outcomes is_open g choice =
     group_line s outcomes is_open g choice ++ sides_text choice ++ block_text (image_text s choice) ++ piece_text piece.GroupClose
 
 abbrev pub group_text : StartsValue → List (List ℕ) → Bool → Group → List ℕ
-group_text s outcomes is_open g = option_map_or (chosen_text s outcomes is_open g) (slice_get (ranked s.plan s.bound s.tears) g.image) []
+group_text s outcomes is_open g = option_map_or (chosen_text s outcomes is_open g) (slice_get (ranked_choices s.plan s.bound s.tears) g.image) []
 
 -- groups, of which the first may be open
 unfoldable pub groups_text : StartsValue → List (List ℕ) → Bool → List Group → List ℕ

@@ -1,9 +1,9 @@
 -- Text on a page (docs/REPORT.md, The page of `page`).
-use Rattle.std.specs.Prelude.{ℕ, ◌==◌, nat_lt, ◌||◌, Bool, true, false, if◌then◌else◌, List, [], ◌∷◌, ◌++◌, codes, chars}
+use Rattle.std.specs.Prelude.{ℕ, ◌==◌, nat_lt, ◌||◌, Bool, true, if◌then◌else◌, List, [], ◌∷◌, ◌++◌, codes, chars}
 use Rattle.std.specs.List.{flat_map}
 use Rattle.std.specs.Str.{is_utf8}
 use Rattle.std.specs.Char.{encode_utf8, is_control}
-use Rattle.notes.specs.Escaped.{escaped}
+use Rattle.notes.specs.Escaped.{escaped_text}
 use Rattle.crash_page.specs.declared.pieces.Piece.TheVariants as piece
 use Rattle.crash_page.specs.Pieces.{piece_text}
 
@@ -26,14 +26,14 @@ is_odd c = is_control c || c == 92
 
 -- a character below 160 of the text of a mark: an odd one as `log` shows its number, any other as it is
 abbrev pub low_char : ℕ → List ℕ
-low_char c = if is_odd c then html (escaped (c ∷ [])) else html_byte c
+low_char c = if is_odd c then html (escaped_text (c ∷ [])) else html_byte c
 
 abbrev pub mark_char : ℕ → List ℕ
 mark_char c = if nat_lt c 160 then low_char c else encode_utf8 c
 
 -- the text of a mark: by its characters where it is UTF-8, else as `log` shows it
 abbrev pub mark_label : List ℕ → List ℕ
-mark_label text = if is_utf8 text then flat_map mark_char (chars text) else html (escaped text)
+mark_label text = if is_utf8 text then flat_map mark_char (chars text) else html (escaped_text text)
 
 -- which of two images a line of a difference is of: `<` begins one of the image where nothing departs, `>` one of this image
 abbrev pub side_text : ℕ → List ℕ
@@ -53,5 +53,5 @@ abbrev pub sided_from : Bool → List ℕ → List ℕ
 sided_from begins [] = []
 sided_from begins (b ∷ bs) = sided_byte begins b ++ sided_from (b == 10) bs
 
-abbrev pub sided : List ℕ → List ℕ
-sided bytes = sided_from true bytes
+abbrev pub side_by_side : List ℕ → List ℕ
+side_by_side bytes = sided_from true bytes

@@ -2,7 +2,7 @@
 
 ghost use Rattle.std.specs.Prelude.{◌≡◌, ◌<◌, ◌≤◌, ◌++◌, ◌-◌, All, false, length, map, take, OnOk, string_bytes};
 ghost use Rattle.std.specs.List.{flat_map};
-ghost use Rattle.choices.specs.Choices.{ranked};
+ghost use Rattle.choices.specs.Choices.{ranked_choices};
 ghost use Rattle.why.specs.declared.group.Group.{Group as GroupValue};
 ghost use Rattle.why.specs.Text.{IsNumbered};
 ghost use Rattle.crash_page.specs.Groups.{group_text, groups_text, first_text, stand_text, bar_text, cut_line, cut_open, cut_body, cut_head, rest_text, most_of_cut, shown_of, cut_shown, cut_text};
@@ -33,7 +33,7 @@ pub(crate) struct Showing {
 /// Appends the first of the choices of a cut, and how many there are.
 #[tactic(auto, unfolding(crate::specs::Groups::first_text))]
 fn put_first(out: &mut String, run: &Run<'_>, groups: &[Group]) -> Result<(), AllocError>
-    requires images { All (λ (g : GroupValue). g.image < length (ranked run.now.starts.now.plan run.now.starts.now.bound run.now.starts.now.tears)) groups.now }
+    requires images { All (λ (g : GroupValue). g.image < length (ranked_choices run.now.starts.now.plan run.now.starts.now.bound run.now.starts.now.tears)) groups.now }
     ensures { OnOk result (string_bytes out.new ≡ string_bytes out.old ++ first_text run.now.starts.now groups.now) }
 {
     match groups {
@@ -119,7 +119,7 @@ fn put_head(
     cut: &CutFailures,
 ) -> Result<(), AllocError>
     requires cut { cut.now.cut ≤ length run.now.starts.now.plan.log.entries }
-    requires images { All (λ (g : GroupValue). g.image < length (ranked run.now.starts.now.plan run.now.starts.now.bound run.now.starts.now.tears)) cut.now.groups.items }
+    requires images { All (λ (g : GroupValue). g.image < length (ranked_choices run.now.starts.now.plan run.now.starts.now.bound run.now.starts.now.tears)) cut.now.groups.items }
     ensures { OnOk result (string_bytes out.new ≡ string_bytes out.old ++ cut_head run.now.starts.now how cut.now) }
 {
     put_open(out, how.is_open, cut)?;

@@ -1,7 +1,7 @@
 //! A group of a cut: the choice of its example, with its image in words.
 
 ghost use Rattle.std.specs.Prelude.{◌≡◌, ◌<◌, ◌++◌, [], length, map, IfOk, OnOk, string_bytes};
-ghost use Rattle.choices.specs.Choices.{ranked};
+ghost use Rattle.choices.specs.Choices.{ranked_choices};
 ghost use Rattle.images.specs.Views.{IsMember};
 ghost use Rattle.why.specs.Text.{IsNumbered};
 ghost use Rattle.crash_page.specs.Groups.{image_text, block_text, choice_at, sides_text, group_open, group_choice, group_size, same_text, group_end, group_line, chosen_text, group_text};
@@ -73,7 +73,7 @@ fn put_block(out: &mut String, text: &str) -> Result<(), AllocError>
 
 /// Appends the choice of an image.
 pub(crate) fn put_choice_at(out: &mut String, run: &Run<'_>, image: u64) -> Result<(), AllocError>
-    requires image { image < length (ranked run.now.starts.now.plan run.now.starts.now.bound run.now.starts.now.tears) }
+    requires image { image < length (ranked_choices run.now.starts.now.plan run.now.starts.now.bound run.now.starts.now.tears) }
     ensures { OnOk result (string_bytes out.new ≡ string_bytes out.old ++ choice_at run.now.starts.now image) }
 {
     let choice = run.starts.nth(image);

@@ -2,8 +2,8 @@
 
 ghost use Rattle.std.specs.Prelude.{◌≡◌, ◌<◌, ◌++◌, chars, OnOk, IfOk, string_bytes};
 ghost use Rattle.std.specs.List.{flat_map};
-ghost use Rattle.notes.specs.Escaped.{escaped};
-ghost use Rattle.crash_page.specs.Html.{plain_byte, html_byte, html, is_odd, low_char, mark_char, mark_label, side_text, begin_text, end_text, sided_byte, sided};
+ghost use Rattle.notes.specs.Escaped.{escaped_text};
+ghost use Rattle.crash_page.specs.Html.{plain_byte, html_byte, html, is_odd, low_char, mark_char, mark_label, side_text, begin_text, end_text, sided_byte, side_by_side};
 
 use crate::pieces::{Piece, put};
 use notes::put_escaped;
@@ -47,7 +47,7 @@ pub(crate) fn put_html(out: &mut String, bytes: &[u8]) -> Result<(), AllocError>
 
 /// Bytes of a foreign text, printable.
 fn printable(alloc: Global, bytes: &[u8]) -> Result<String, AllocError>
-    ensures { IfOk result (λ text. string_bytes text ≡ escaped bytes.now) }
+    ensures { IfOk result (λ text. string_bytes text ≡ escaped_text bytes.now) }
 {
     let mut text = String::new(alloc);
     put_escaped(&mut text, bytes)?;
@@ -56,7 +56,7 @@ fn printable(alloc: Global, bytes: &[u8]) -> Result<String, AllocError>
 
 /// Appends bytes as `log` shows them.
 fn put_printable(alloc: Global, out: &mut String, bytes: &[u8]) -> Result<(), AllocError>
-    ensures { OnOk result (string_bytes out.new ≡ string_bytes out.old ++ html (escaped bytes.now)) }
+    ensures { OnOk result (string_bytes out.new ≡ string_bytes out.old ++ html (escaped_text bytes.now)) }
 {
     let text = printable(alloc, bytes)?;
     put_html(out, text.as_bytes())
@@ -157,7 +157,7 @@ fn put_sided_byte(out: &mut String, begins: bool, byte: u8) -> Result<(), AllocE
 /// (`>`), or neither.
 #[tactic(auto, using(crate::proofs::Rows::sided_more, crate::proofs::Rows::sided_end))]
 pub(crate) fn put_sided(out: &mut String, bytes: &[u8]) -> Result<(), AllocError>
-    ensures { OnOk result (string_bytes out.new ≡ string_bytes out.old ++ sided bytes.now) }
+    ensures { OnOk result (string_bytes out.new ≡ string_bytes out.old ++ side_by_side bytes.now) }
 {
     let mut begins = true;
     for byte in bytes {

@@ -1,5 +1,5 @@
 -- What stands at a cut (docs/REPORT.md, The text of `show`).
-use Rattle.std.specs.Prelude.{ℕ, ◌+◌, ◌-◌, ◌*◌, ◌==◌, Bool, true, false, nat_lt, if◌then◌else◌, List, [], ◌∷◌, ◌++◌, codes, length, take, filter, slice_get, Option, Some, None}
+use Rattle.std.specs.Prelude.{ℕ, ◌+◌, ◌-◌, ◌*◌, ◌==◌, Bool, false, if◌then◌else◌, List, ◌++◌, codes, length, take, filter, slice_get, Option, None}
 use Rattle.std.specs.List.{flat_map, range_with_len, last_or}
 use Rattle.std.specs.Option.{option_map_or}
 use Rattle.std.specs.Fmt.{decimal}

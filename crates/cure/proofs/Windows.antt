@@ -10,7 +10,7 @@ use Rattle.epochs.specs.declared.cuts.CutKind.TheVariants as kind
 use Rattle.epochs.specs.declared.part.By.{By}
 use Rattle.epochs.specs.Laws.{IsOfKind, IsWanted}
 use Rattle.choices.specs.declared.choice.Departure.{Departure}
-use Rattle.choices.specs.Choices.{ChoiceValue, ranked}
+use Rattle.choices.specs.Choices.{ChoiceValue, ranked_choices}
 use Rattle.choices.specs.CrashModel.{IsAdmissible}
 use Rattle.choices.specs.Laws.{RankedIsModel}
 use Rattle.choices.specs.Sums.{StartsValue}
@@ -31,7 +31,7 @@ kind_within kind.AfterMark es k at = let lt = slice_get_within es at.0 at.1 at.3
 cut_within : (wanted : Cuts) (es : List Entry) (k : ℕ) → IsWanted wanted es k → k ≤ length es
 cut_within wanted es k is = kind_within wanted.kind es k is.of_kind
 
-pub cut_inside : RankedIsModel → (s : StartsValue) (image : ℕ) (c : ChoiceValue) (cut : ℕ) (es : List Entry) → slice_get (ranked s.plan s.bound s.tears) image ≡ Some c
+pub cut_inside : RankedIsModel → (s : StartsValue) (image : ℕ) (c : ChoiceValue) (cut : ℕ) (es : List Entry) → slice_get (ranked_choices s.plan s.bound s.tears) image ≡ Some c
     → cut ≡ c.cut → s.plan.log.entries ≡ es → cut ≤ length es
 cut_inside law s image c cut es there same own =
     let within = cut_within s.plan.kind s.plan.log.entries c.cut ((law s.plan s.bound s.tears).wanted image c there) in
@@ -39,7 +39,7 @@ cut_inside law s image c cut es there same own =
     omega (arith, within, same, long)
 
 -- what departs stands before the cut
-pub departs_before : RankedIsModel → (s : StartsValue) (image : ℕ) (c : ChoiceValue) (cut : ℕ) (ds : List Departure) → slice_get (ranked s.plan s.bound s.tears) image ≡ Some c
+pub departs_before : RankedIsModel → (s : StartsValue) (image : ℕ) (c : ChoiceValue) (cut : ℕ) (ds : List Departure) → slice_get (ranked_choices s.plan s.bound s.tears) image ≡ Some c
     → cut ≡ c.cut → ds ≡ c.departures → All (λ (d : Departure). d.part.entry < cut) ds
 departs_before law s image c cut ds there same own k d small =
     let here : slice_get c.departures k ≡ Some (get_or ds k d) = ap (λ (xs : List Departure). slice_get xs k) (sym own) ∙ slice_get-get_or ds k d small in
@@ -78,7 +78,7 @@ either way es cut ds (Some w) some none = some
 
 -- the failure of a mark
 pub failure_is : RankedIsModel → (s : StartsValue) (m : Mark) (c : ChoiceValue) (way : By) (es : List Entry) (cut : ℕ) (ds : List Departure) (w : Option Window)
-    → slice_get (ranked s.plan s.bound s.tears) m.image ≡ Some c → way ≡ s.plan.by → s.plan.log.entries ≡ es → cut ≡ c.cut → ds ≡ c.departures
+    → slice_get (ranked_choices s.plan s.bound s.tears) m.image ≡ Some c → way ≡ s.plan.by → s.plan.log.entries ≡ es → cut ≡ c.cut → ds ≡ c.departures
     → IfSome w (IsWindow way es cut ds) → IfNone w (HasNoWindow way es cut ds) → IsFailureAt s m (record { program = m.program; window = w })
 failure_is law s m c way es cut ds w there ways own cuts departs some none =
     let window : IsWindowIf s.plan.by s.plan.log.entries c.cut c.departures w =
@@ -98,14 +98,6 @@ failure_is law s m c way es cut ds w there ways own cuts departs some none =
 -- the windows of one failure more
 windows_more : (fs : List Failure) (f : Failure) → windows_in (fs ++ f ∷ []) ≡ windows_in fs ++ own_window f
 windows_more fs f = flat_map-append own_window fs (f ∷ []) ∙ ap (λ (ws : List Window). windows_in fs ++ ws) (append-nil (own_window f))
-
-pub none_yet : (s : StartsValue) → AreFailuresAt s [] []
-none_yet s = record {
-  all = refl;
-  each = λ i m f at here. absurd (let bad : None ≡ Some m = at in cc);
-  inside = λ i w here. absurd (let bad : None ≡ Some w = here in cc);
-  calm = λ i w p e here holds there. absurd (let bad : None ≡ Some w = here in cc);
-}
 
 pub one_more : (s : StartsValue) (ms : List Mark) (k : ℕ) (m : Mark) (fs : List Failure) (f : Failure) → slice_get ms k ≡ Some m → AreFailuresAt s (take k ms) fs → IsFailureAt s m f
     → AreFailuresAt s (take (k + 1) ms) (fs ++ f ∷ [])

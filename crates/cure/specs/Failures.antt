@@ -4,7 +4,7 @@ use Rattle.std.specs.List.{flat_map}
 use Rattle.logfmt.specs.declared.entry.Entry.{Entry}
 use Rattle.epochs.specs.declared.part.By.{By}
 use Rattle.choices.specs.declared.choice.Departure.{Departure}
-use Rattle.choices.specs.Choices.{ChoiceValue, ranked}
+use Rattle.choices.specs.Choices.{ChoiceValue, ranked_choices}
 use Rattle.choices.specs.Sums.{StartsValue}
 use Rattle.flushes.specs.declared.window.Window.{Window}
 use Rattle.flushes.specs.declared.counted.MissingFlush.{MissingFlush}
@@ -59,7 +59,7 @@ calm_entries es = length (filter (λ (e : Entry). not e.flags.flush) es)
 pub record IsFailureAt (s : StartsValue) (m : Mark) (f : Failure) : Type 0 where
   pub program : f.program ≡ m.program
   pub choice : ChoiceValue
-  pub there : slice_get (ranked s.plan s.bound s.tears) m.image ≡ Some choice
+  pub there : slice_get (ranked_choices s.plan s.bound s.tears) m.image ≡ Some choice
   pub window : IsWindowIf s.plan.by s.plan.log.entries choice.cut choice.departures f.window
   pub inside : AreWindows (length s.plan.log.entries) (if_window f.window)
   pub calm : HoldNoFlush s.plan.log.entries (if_window f.window)

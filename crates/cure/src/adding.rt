@@ -1,7 +1,7 @@
 //! The log of the next round.
 
 ghost use Rattle.std.specs.Prelude.{◌≡◌, ◌≢◌, ◌<◌, [], length, IfOk};
-ghost use Rattle.logfmt.specs.Flushed.{flushed};
+ghost use Rattle.logfmt.specs.Flushed.{with_flushes};
 ghost use Rattle.flushes.specs.Counted.{AreMissing};
 ghost use Rattle.flushes.specs.Places.{AreWindows};
 ghost use Rattle.cure.specs.Failures.{places_in, HoldNoFlush, calm_entries};
@@ -41,7 +41,7 @@ pub fn add_missing(alloc: Global, log: Log, windows: &[Window]) -> Result<Added,
     requires inside { AreWindows (length log.entries) windows.now }
     requires calm { HoldNoFlush log.entries windows.now }
     ensures missing { IfOk result (λ added. AreMissing windows.now added.flushes.items) }
-    ensures log { IfOk result (λ added. added.log ≡ flushed (places_in added.flushes.items) log) }
+    ensures log { IfOk result (λ added. added.log ≡ with_flushes (places_in added.flushes.items) log) }
     ensures fewer { IfOk result (λ added. calm_entries added.log.entries < calm_entries log.entries) }
 {
     let flushes = missing_flushes(alloc, windows, log.entries().len())?;

@@ -2,7 +2,7 @@
 
 ghost use Rattle.std.specs.Prelude.{◌≡◌, ◌<◌, ◌++◌, ℕ, length, slice_get, Some, IfOk, OnOk};
 ghost use Rattle.lines.specs.declared.marks.Mark.{Mark as MarkValue};
-ghost use Rattle.choices.specs.Choices.{ranked};
+ghost use Rattle.choices.specs.Choices.{ranked_choices};
 ghost use Rattle.flushes.specs.Places.{AreWindows};
 ghost use Rattle.cure.specs.Failures.{IsFailureAt, AreFailuresAt, windows_in, own_window, HoldNoFlush};
 
@@ -18,7 +18,7 @@ use std::alloc::{AllocError, Global};
 fn failure_at(by: By, starts: &Starts<'_>, log: &Log, mark: Mark) -> Failure
     requires by { by ≡ starts.now.plan.by }
     requires log { starts.now.plan.log ≡ log.now }
-    requires image { mark.image < length (ranked starts.now.plan starts.now.bound starts.now.tears) }
+    requires image { mark.image < length (ranked_choices starts.now.plan starts.now.bound starts.now.tears) }
     ensures { IsFailureAt starts.now mark result }
 {
     // A law of the choices of a plan, which does nothing: what departs stands before the cut.
@@ -46,7 +46,7 @@ pub fn failures_of(
 ) -> Result<Vec<Failure>, AllocError>
     requires by { by ≡ starts.now.plan.by }
     requires log { starts.now.plan.log ≡ log.now }
-    requires images { (i : ℕ) (m : MarkValue) → slice_get marks.now i ≡ Some m → m.image < length (ranked starts.now.plan starts.now.bound starts.now.tears) }
+    requires images { (i : ℕ) (m : MarkValue) → slice_get marks.now i ≡ Some m → m.image < length (ranked_choices starts.now.plan starts.now.bound starts.now.tears) }
     ensures { IfOk result (λ failures. AreFailuresAt starts.now marks.now failures.items) }
 {
     let mut failures = Vec::with_capacity(alloc, marks.len())?;

@@ -15,10 +15,10 @@ use Rattle.epochs.specs.Laws.{IsOfKind, IsWanted, CutsAreSet}
 use Rattle.epochs.proofs.Wanted.{kept_cut, left_cut}
 
 -- a list has the numbers below n that pass a test, rising
-record Keeps (p : ℕ → Bool) (n : ℕ) (xs : List ℕ) : Type 0 where
-  sound : (i k : ℕ) → slice_get xs i ≡ Some k → (k < n) × (p k ≡ true)
-  complete : (k : ℕ) → k < n → p k ≡ true → (i : ℕ) × (slice_get xs i ≡ Some k)
-  rising : (i j a b : ℕ) → i < j → slice_get xs i ≡ Some a → slice_get xs j ≡ Some b → a < b
+pub record Keeps (p : ℕ → Bool) (n : ℕ) (xs : List ℕ) : Type 0 where
+  pub sound : (i k : ℕ) → slice_get xs i ≡ Some k → (k < n) × (p k ≡ true)
+  pub complete : (k : ℕ) → k < n → p k ≡ true → (i : ℕ) × (slice_get xs i ≡ Some k)
+  pub rising : (i j a b : ℕ) → i < j → slice_get xs i ≡ Some a → slice_get xs j ≡ Some b → a < b
 
 keeps_none : (p : ℕ → Bool) → Keeps p 0 []
 keeps_none p = record {
@@ -70,7 +70,7 @@ keeps_left p n xs h so = record {
   rising = so.rising;
 }
 
-keeps_filter : (p : ℕ → Bool) (n : ℕ) → Keeps p n (filter p (range_with_len 0 n))
+pub keeps_filter : (p : ℕ → Bool) (n : ℕ) → Keeps p n (filter p (range_with_len 0 n))
 keeps_filter p zero = keeps_none p
 keeps_filter p (suc n) =
     let P : List ℕ → Type 0 = λ xs. Keeps p (suc n) xs in

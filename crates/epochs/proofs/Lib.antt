@@ -9,3 +9,4 @@ pub mod Whole
 pub mod Sets
 pub mod Contents
 pub mod CutSets
+pub mod Touching

@@ -17,7 +17,7 @@ choose_le : (flush : Bool) (k m : ℕ) → m ≤ k → (if flush then k else m) 
 choose_le true k m h = omega arith
 choose_le false k m h = omega (arith, h)
 
-last_flush_le : (es : List Entry) (k : ℕ) → last_flush es k ≤ k
+pub last_flush_le : (es : List Entry) (k : ℕ) → last_flush es k ≤ k
 last_flush_le es zero = omega arith
 last_flush_le es (suc k) = choose_le (is_flush_at es k) k (last_flush es k) (last_flush_le es k)
 

@@ -19,7 +19,7 @@ use Rattle.epochs.proofs.Growth.{own_parts, unforced_parts-next}
 use Rattle.epochs.proofs.Rows.{length-own_parts, first_is_row}
 
 -- the parts of a cut are the first of those of a later cut
-unforced_parts-prefix : (way : By) (es : List Entry) (k d : ℕ) → k + d ≤ length es → (rest : List Part) × (unforced_parts way es (k + d) ≡ unforced_parts way es k ++ rest)
+pub unforced_parts-prefix : (way : By) (es : List Entry) (k d : ℕ) → k + d ≤ length es → (rest : List Part) × (unforced_parts way es (k + d) ≡ unforced_parts way es k ++ rest)
 unforced_parts-prefix way es k zero h =
     let here : k + 0 ≡ k = omega arith in
     ([], ap (unforced_parts way es) here ∙ sym (append-nil (unforced_parts way es k)))
@@ -152,6 +152,7 @@ found way es rows t count e are lt splits before =
             there = a.2;
             low = low;
             place = part.1;
+            high = high;
             part = unforced_parts-keep way es (suc e) (length es) t (omega (arith, here, high_bound)) (omega arith) high ∙ part.0;
           }
       | inr past ↦ absurd (omega (arith, past.0, here, high_bound))

@@ -4,5 +4,6 @@ pub mod Parts
 pub mod Flushes
 pub mod Cuts
 pub mod Table
+pub mod Touching
 pub mod Plan
 pub mod Laws

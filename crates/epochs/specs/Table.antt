@@ -1,6 +1,6 @@
 -- The table of a plan: a row for each cut. The volatile parts of a cut are the end of a list that only
 -- grows from cut to cut, the parts that are not forced.
-use Rattle.std.specs.Prelude.{ℕ, ◌+◌, ◌-◌, ◌≡◌, ◌<◌, ◌≤◌, not, if◌then◌else◌, List, length, filter, drop, slice_get, Some}
+use Rattle.std.specs.Prelude.{ℕ, suc, ◌+◌, ◌-◌, ◌≡◌, ◌<◌, ◌≤◌, not, if◌then◌else◌, List, length, filter, drop, slice_get, Some}
 use Rattle.logfmt.specs.declared.entry.Entry.{Entry}
 use Rattle.epochs.specs.declared.part.Part.{Part}
 use Rattle.epochs.specs.declared.part.By.{By}
@@ -46,4 +46,5 @@ pub record Found (way : By) (es : List Entry) (t e : ℕ) : Type 0 where
   pub there : slice_get es e ≡ Some entry
   pub low : length (unforced_parts way es e) ≤ t
   pub place : t - length (unforced_parts way es e) < part_count way entry
+  pub high : t < length (unforced_parts way es (suc e))
   pub part : slice_get (unforced_parts way es (length es)) t ≡ Some (part_of way e entry (t - length (unforced_parts way es e)))

@@ -17,6 +17,7 @@
 //! | `plan.marks(k)` | how many marks stand before cut k |
 //! | `plan.volatile(k)` | how many volatile parts cut k has |
 //! | `plan.part(k, i)` | the volatile part of cut k with number i, in their order |
+//! | `plan.put_touching(numbers, k, sectors, most)` | appends the numbers of the volatile parts of cut k that cover one of some sectors, if they are few |
 //!
 //! # Place
 //!
@@ -34,6 +35,8 @@
 //!   `part(k, i)` its element i, with the first device sector that it covers. Both kinds of parts are
 //!   one definition: how many sectors a part has (`part_size`), and how many parts an entry has
 //!   (`part_count`).
+//! - `touching by entries k sectors` (`specs/Touching.antt`) are the places in that list at which a part covers one of the
+//!   sectors. `put_touching` appends exactly these, or none where they are more than it may.
 //! - `epoch(k)` and `marks(k)` count the flush entries and the marks among the first k entries.
 //! - `cuts()` is exactly the list of the wanted cuts, `cuts_of kind entries`.
 //!
@@ -48,7 +51,8 @@
 //! `table` has a row of four numbers for each cut: how many parts before it are not forced, how many
 //! of these are durable, the epoch and the marks. The volatile parts of a cut are the others, one run,
 //! so their number is a difference, and a part is found by a search by halves in the rows. A plan
-//! takes 16 bytes for each cut, and 4 to 8 for each wanted cut, and none for a part.
+//! takes 16 bytes for each cut, and 4 to 8 for each wanted cut, and none for a part. Which parts cover a
+//! sector is found entry by entry, from that of the first volatile part on.
 //!
 //! # Example
 //!

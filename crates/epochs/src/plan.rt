@@ -1,10 +1,11 @@
 //! What each cut of a log leaves open.
 
-ghost use Rattle.std.specs.Prelude.{◌≡◌, ◌<◌, ◌≤◌, length, slice_get, IfOk, All, Some};
+ghost use Rattle.std.specs.Prelude.{ℕ, ◌≡◌, ◌+◌, ◌<◌, ◌≤◌, ◌++◌, nat_le, List, length, slice_get, IfOk, OnOk, IsTrue, IsFalse, All, Some};
 ghost use Rattle.epochs.specs.Units.{epoch_at, marks_at};
 ghost use Rattle.epochs.specs.Parts.{volatile_parts};
 ghost use Rattle.epochs.specs.Cuts.{cuts_of};
 ghost use Rattle.epochs.specs.Table.{unforced_parts, IsRow, RowFits, Found};
+ghost use Rattle.epochs.specs.Touching.{touching, touching_before};
 
 use crate::cuts::Cuts;
 use crate::part::{By, Part};
@@ -113,6 +114,59 @@ impl<'a> Plan<'a> {
         ensures before { result.entry < cut }
     {
         self.find(self.row(cut).durable + number)
+    }
+
+    /// Appends the volatile parts of a cut that cover one of those sectors, by their numbers, rising, and answers `true`.
+    /// Where they are more than `most`, it answers `false`, and appends none.
+    ///
+    /// It looks at each entry from the first volatile part on, until there are too many.
+    pub fn put_touching(
+        &self,
+        parts: &mut Vec<u32>,
+        cut: u32,
+        sectors: &[u32],
+        most: u32,
+    ) -> Result<bool, AllocError>
+        requires cut { cut ≤ length self.now.log.entries }
+        ensures value { IfOk result (λ few. few ≡ nat_le (length (touching self.now.by self.now.log.entries cut sectors.now)) most) }
+        ensures told { IfOk result (λ few. IsTrue few → parts.new.items ≡ parts.old.items ++ touching self.now.by self.now.log.entries cut sectors.now) }
+        ensures none { IfOk result (λ few. IsFalse few → parts.new.items ≡ parts.old.items) }
+        ensures kept { (more : List ℕ) × (parts.new.items ≡ parts.old.items ++ more) }
+    {
+        let row = self.row(cut);
+        if row.start == row.durable {
+            return Ok(true);
+        }
+        let before = parts.len();
+        for entry in self.entry_of(row.durable)..cut {
+            self.put_touching_of(parts, row.durable, entry, sectors)?;
+            if parts.len() - before > most as usize {
+                parts.truncate(before);
+                return Ok(false);
+            }
+        }
+        Ok(true)
+    }
+
+    /// Appends the parts of an entry that cover one of those sectors, by their numbers among the parts from `durable` on.
+    fn put_touching_of(
+        &self,
+        parts: &mut Vec<u32>,
+        durable: u32,
+        entry: u32,
+        sectors: &[u32],
+    ) -> Result<(), AllocError>
+        requires entry { entry < length self.now.log.entries }
+        requires durable { durable ≤ length (unforced_parts self.now.by self.now.log.entries entry) }
+        ensures put { (front : List ℕ) → parts.old.items ≡ front ++ touching_before self.now.by self.now.log.entries sectors.now durable entry
+            → OnOk result (parts.new.items ≡ front ++ touching_before self.now.by self.now.log.entries sectors.now durable (entry + 1)) }
+        ensures kept { (more : List ℕ) × (parts.new.items ≡ parts.old.items ++ more) }
+    {
+        let own = &self.log.entries()[entry as usize];
+        let start = self.row(entry).start;
+        let count = self.row(entry + 1).start - start;
+        self.by
+            .put_touching(parts, own, sectors, start - durable, count)
     }
 
     /// A part by its number among those that are not forced.

@@ -9,7 +9,7 @@ use Rattle.explore_core.specs.declared.hand.Hand.TheVariants.{Idle, Holding, End
 use Rattle.explore_core.specs.declared.piece.Found.TheVariants.{Lines, Passed}
 use Rattle.explore_core.specs.declared.event.Event.TheVariants.{Draw, Take, Look, Put, Post, Pass, Done, Quit}
 use Rattle.explore_core.specs.Jobs.{block_at, failing, lies_after}
-use Rattle.explore_core.specs.State.{State, may_draw, drawn, given, next_job, looked, last_judged, put, lowered, posted, handed_over, piece_passed, piece_done, quit}
+use Rattle.explore_core.specs.State.{State, may_draw, after_draw, after_steal, next_job, after_look, last_judged, after_put, lower_image, after_post, handed_over, piece_passed, piece_done, quit}
 use Rattle.explore_core.specs.May.{May, UnlessItMay}
 use Rattle.explore_core.specs.Lists.{is_under, listed_under}
 use Rattle.explore_core.proofs.Each.{any_at}
@@ -26,7 +26,7 @@ found_at (j ∷ js) job e = step j.fails refl e (found_at js job)
     step true k e rest = (zero, j, refl, k)
     step false k e rest = let there = rest e in (suc there.0, there.1, there.2, there.3)
 
-draw_not : (s : State) (w : ℕ) (hand : Option Hand) (late : Option Bool) → slice_get s.hands w ≡ hand → slice_get s.late w ≡ late → (May s (Draw w) → ⊥) → drawn s w (may_draw hand late) ≡ s
+draw_not : (s : State) (w : ℕ) (hand : Option Hand) (late : Option Bool) → slice_get s.hands w ≡ hand → slice_get s.late w ≡ late → (May s (Draw w) → ⊥) → after_draw s w (may_draw hand late) ≡ s
 draw_not s w None late at is h = refl
 draw_not s w (Some Ended) late at is h = refl
 draw_not s w (Some (Lost b)) late at is h = refl
@@ -38,7 +38,7 @@ draw_not s w (Some (Holding b judged)) (Some true) at is h = refl
 draw_not s w (Some (Holding b judged)) (Some false) at is h = absurd (h (inr (b, judged, at), is))
 
 take_not : (s : State) (w from block : ℕ) (hand : Option Hand) (listed : Bool) → slice_get s.hands w ≡ hand → listed_under from block s.lists ≡ listed
-    → (May s (Take w from block) → ⊥) → given s w from block hand listed ≡ s
+    → (May s (Take w from block) → ⊥) → after_steal s w from block hand listed ≡ s
 take_not s w from block None listed at there h = refl
 take_not s w from block (Some Ended) listed at there h = refl
 take_not s w from block (Some (Lost b)) listed at there h = refl
@@ -55,37 +55,37 @@ take_not s w from block (Some Idle) true at there h =
     both true b e = (refl, e)
     both false b e = absurd (let bad : false ≡ true = e in cc)
 
-look_not : (s : State) (w : ℕ) (hand : Option Hand) → slice_get s.hands w ≡ hand → (May s (Look w) → ⊥) → looked s w hand (next_job s.blocks hand) ≡ s
+look_not : (s : State) (w : ℕ) (hand : Option Hand) → slice_get s.hands w ≡ hand → (May s (Look w) → ⊥) → after_look s w hand (next_job s.blocks hand) ≡ s
 look_not s w None at h = refl
 look_not s w (Some Idle) at h = refl
 look_not s w (Some Ended) at h = refl
 look_not s w (Some (Lost b)) at h = refl
 look_not s w (Some (Holding b judged)) at h = step (slice_get (block_at s.blocks b) (length judged)) refl
   where
-    step : (job : Option Job) → slice_get (block_at s.blocks b) (length judged) ≡ job → looked s w (Some (Holding b judged)) job ≡ s
+    step : (job : Option Job) → slice_get (block_at s.blocks b) (length judged) ≡ job → after_look s w (Some (Holding b judged)) job ≡ s
     step None e = refl
     step (Some job) e = absurd (h (b, judged, at, slice_get_within (block_at s.blocks b) (length judged) job e))
 
 put_not : (s : State) (w : ℕ) (gone : List ℕ) (hand : Option Hand) → slice_get s.hands w ≡ hand
-    → ((block : ℕ) × (judged : List Job) × (slice_get s.hands w ≡ Some (Holding block judged)) × (0 < length judged) → ⊥) → put s gone (last_judged hand) ≡ s
+    → ((block : ℕ) × (judged : List Job) × (slice_get s.hands w ≡ Some (Holding block judged)) × (0 < length judged) → ⊥) → after_put s gone (last_judged hand) ≡ s
 put_not s w gone None at h = refl
 put_not s w gone (Some Idle) at h = refl
 put_not s w gone (Some Ended) at h = refl
 put_not s w gone (Some (Lost b)) at h = refl
 put_not s w gone (Some (Holding b judged)) at h = step (slice_get judged (length judged - 1)) refl
   where
-    step : (job : Option Job) → slice_get judged (length judged - 1) ≡ job → put s gone job ≡ s
+    step : (job : Option Job) → slice_get judged (length judged - 1) ≡ job → after_put s gone job ≡ s
     step None e = refl
     step (Some job) e = let within = slice_get_within judged (length judged - 1) job e in absurd (h (b, judged, at, omega (arith, within)))
 
-post_not : (s : State) (w : ℕ) (hand : Option Hand) → slice_get s.hands w ≡ hand → (May s (Post w) → ⊥) → posted s hand ≡ s
+post_not : (s : State) (w : ℕ) (hand : Option Hand) → slice_get s.hands w ≡ hand → (May s (Post w) → ⊥) → after_post s hand ≡ s
 post_not s w None at h = refl
 post_not s w (Some Idle) at h = refl
 post_not s w (Some Ended) at h = refl
 post_not s w (Some (Lost b)) at h = refl
 post_not s w (Some (Holding b judged)) at h = step (find (λ (j : Job). j.fails) judged) refl
   where
-    step : (o : Option Job) → find (λ (j : Job). j.fails) judged ≡ o → record s { least = lowered s.least (option_map (λ (j : Job). j.image) o) } ≡ s
+    step : (o : Option Job) → find (λ (j : Job). j.fails) judged ≡ o → record s { least = lower_image s.least (option_map (λ (j : Job). j.image) o) } ≡ s
     step None e = refl
     step (Some job) e = absurd (h (b, judged, at, found_at judged job e))
 

@@ -10,8 +10,8 @@ use Rattle.explore_core.specs.declared.hand.Hand.{Hand}
 use Rattle.explore_core.specs.declared.hand.Hand.TheVariants.{Idle, Holding}
 use Rattle.explore_core.specs.declared.piece.Piece.{Piece}
 use Rattle.explore_core.specs.declared.lists.Drawn.{Drawn}
-use Rattle.explore_core.specs.Lists.{is_under, listed_under, unlisted}
-use Rattle.explore_core.specs.Sound.{holds, loses, held, lost, handed, ArePlaced}
+use Rattle.explore_core.specs.Lists.{is_under, listed_under, lists_without}
+use Rattle.explore_core.specs.Sound.{holds, loses, hold_count, loss_count, piece_count, ArePlaced}
 use Rattle.explore_core.proofs.Each.{count_set, left_out, none_out, any_counts}
 
 abbrev bit : Bool → ℕ
@@ -53,7 +53,7 @@ placed_over blocks next lists hands pieces w judged piece at placed = record {
   beyond = λ b le. omega (arith, moved b, placed.beyond b le);
 }
   where
-    moved : (b : ℕ) → held lists (slice_set hands w Idle) b + (lost (slice_set hands w Idle) b + handed (pieces ++ piece ∷ []) b) ≡ held lists hands b + (lost hands b + handed pieces b)
+    moved : (b : ℕ) → hold_count lists (slice_set hands w Idle) b + (loss_count (slice_set hands w Idle) b + piece_count (pieces ++ piece ∷ []) b) ≡ hold_count lists hands b + (loss_count hands b + piece_count pieces b)
     moved b =
         let holding = count_set (holds b) hands w (Holding piece.block judged) Idle at in
         let losing = count_set (loses b) hands w (Holding piece.block judged) Idle at in
@@ -110,7 +110,7 @@ listed_within blocks next lists hands pieces from block there placed =
 
 -- from a list to a hand
 pub placed_given : (blocks next : ℕ) (lists : List Drawn) (hands : List Hand) (pieces : List Piece) (w from block : ℕ) → slice_get hands w ≡ Some Idle → listed_under from block lists ≡ true
-    → ArePlaced blocks next lists hands pieces → ArePlaced blocks next (unlisted from block lists) (slice_set hands w (Holding block [])) pieces
+    → ArePlaced blocks next lists hands pieces → ArePlaced blocks next (lists_without from block lists) (slice_set hands w (Holding block [])) pieces
 placed_given blocks next lists hands pieces w from block at there placed = record {
   drawn = λ b lt within. omega (arith, moved b, placed.drawn b lt within);
   waiting = λ b le. omega (arith, moved b, placed.waiting b le);
@@ -120,7 +120,7 @@ placed_given blocks next lists hands pieces w from block at there placed = recor
     some : 0 < count_by (is_under from block) lists
     some = any_counts (is_under from block) lists there
 
-    parts : count_by (λ (d : Drawn). d.block == block) (unlisted from block lists) + count_by (is_under from block) lists ≡ count_by (λ (d : Drawn). d.block == block) lists
+    parts : count_by (λ (d : Drawn). d.block == block) (lists_without from block lists) + count_by (is_under from block) lists ≡ count_by (λ (d : Drawn). d.block == block) lists
     parts = left_out (λ (d : Drawn). d.block == block) (is_under from block) lists (is_block from block)
 
     once : count_by (λ (d : Drawn). d.block == block) lists ≤ 1
@@ -131,16 +131,16 @@ placed_given blocks next lists hands pieces w from block at there placed = recor
           | inr past ↦ omega (arith, placed.waiting block past)
         ]
 
-    own : bit (block == block) ≡ 1 → count_by (λ (d : Drawn). d.block == block) (unlisted from block lists) + bit (block == block) ≡ count_by (λ (d : Drawn). d.block == block) lists
+    own : bit (block == block) ≡ 1 → count_by (λ (d : Drawn). d.block == block) (lists_without from block lists) + bit (block == block) ≡ count_by (λ (d : Drawn). d.block == block) lists
     own one = omega (arith, some, parts, once, one)
 
-    left : (b : ℕ) → count_by (λ (d : Drawn). d.block == b) (unlisted from block lists) + bit (block == b) ≡ count_by (λ (d : Drawn). d.block == b) lists
+    left : (b : ℕ) → count_by (λ (d : Drawn). d.block == b) (lists_without from block lists) + bit (block == b) ≡ count_by (λ (d : Drawn). d.block == b) lists
     left b = elim (bit_of block b) [
-      | inl this ↦ subst (λ c. count_by (λ (d : Drawn). d.block == c) (unlisted from block lists) + bit (block == c) ≡ count_by (λ (d : Drawn). d.block == c) lists) this.0 (own (subst (λ c. bit (block == c) ≡ 1) (sym this.0) this.1))
+      | inl this ↦ subst (λ c. count_by (λ (d : Drawn). d.block == c) (lists_without from block lists) + bit (block == c) ≡ count_by (λ (d : Drawn). d.block == c) lists) this.0 (own (subst (λ c. bit (block == c) ≡ 1) (sym this.0) this.1))
       | inr other ↦ omega (arith, other.1, none_out (λ (d : Drawn). d.block == b) (is_under from block) lists (λ d. no_other from block b d other.0))
     ]
 
-    moved : (b : ℕ) → held (unlisted from block lists) (slice_set hands w (Holding block [])) b + (lost (slice_set hands w (Holding block [])) b + handed pieces b) ≡ held lists hands b + (lost hands b + handed pieces b)
+    moved : (b : ℕ) → hold_count (lists_without from block lists) (slice_set hands w (Holding block [])) b + (loss_count (slice_set hands w (Holding block [])) b + piece_count pieces b) ≡ hold_count lists hands b + (loss_count hands b + piece_count pieces b)
     moved b =
         let holding = count_set (holds b) hands w Idle (Holding block []) at in
         let losing = count_set (loses b) hands w Idle (Holding block []) at in

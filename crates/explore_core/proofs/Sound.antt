@@ -15,7 +15,7 @@ use Rattle.explore_core.specs.declared.piece.Found.TheVariants.{Lines, Passed}
 use Rattle.explore_core.specs.declared.event.Event.{Event}
 use Rattle.explore_core.specs.declared.event.Event.TheVariants.{Draw, Take, Look, Put, Post, Pass, Done, Quit}
 use Rattle.explore_core.specs.Jobs.{AreJobs, all_jobs, block_at, failing, first_failing_image, lies_after}
-use Rattle.explore_core.specs.State.{State, start, with_hand, may_draw, listed, too_late, drawn, given, taken, next_job, looked, last_judged, put, lowered, posted, handed_over, piece_passed, piece_done, quit, after, after_all}
+use Rattle.explore_core.specs.State.{State, start, with_hand, may_draw, after_list, too_late, after_draw, after_steal, job_by_cache, next_job, after_look, last_judged, after_put, lower_image, after_post, handed_over, piece_passed, piece_done, quit, after, after_all}
 use Rattle.explore_core.specs.Lists.{listed_under}
 use Rattle.explore_core.specs.Sound.{Each, IsJob, IsTrueEntry, IsFailing, IsFailingIfAny, ComesBefore, IsTrueHand, IsTruePiece, ArePlaced, is_passed, IsSound}
 use Rattle.explore_core.proofs.Each.{each_none, each_cons, each_push, each_set, each_replicate, each_filter, found, taken_at}
@@ -36,8 +36,8 @@ in_hand blocks b judged h i job at =
     of_block blocks b i job (taken_at (length judged) (block_at blocks b) i job first)
 
 -- what a job takes from a true cache is its own outcome
-taken_same : (blocks : List (List Job)) (cache : List Entry) (job : Job) → Each (IsTrueEntry blocks) cache → IsJob blocks job → taken cache job ≡ job
-taken_same blocks cache job h listed = step (find (λ (e : Entry). e.key == job.key) cache) refl
+taken_same : (blocks : List (List Job)) (cache : List Entry) (job : Job) → Each (IsTrueEntry blocks) cache → IsJob blocks job → job_by_cache cache job ≡ job
+taken_same blocks cache job h after_list = step (find (λ (e : Entry). e.key == job.key) cache) refl
   where
     step : (o : Option Entry) → find (λ (e : Entry). e.key == job.key) cache ≡ o
         → record { image = job.image; key = job.key; outcome = unwrap_or (option_map (λ (e : Entry). e.outcome) o) job.outcome; fails = job.fails } ≡ job
@@ -45,15 +45,15 @@ taken_same blocks cache job h listed = step (find (λ (e : Entry). e.key == job.
     step (Some entry) e =
         let there = found (IsTrueEntry blocks) (λ (e : Entry). e.key == job.key) cache entry h e in
         let same : job.key ≡ entry.key = grind (arith, nat_tests, there.1) in
-        let own : entry.outcome ≡ job.outcome = sym (there.0.outcome job listed same) in
+        let own : entry.outcome ≡ job.outcome = sym (there.0.outcome job after_list same) in
         λ i. record { image = job.image; key = job.key; outcome = own i; fails = job.fails }
 
-sound_drawn : (s : State) (w : ℕ) (may : Bool) → IsSound s → IsSound (drawn s w may)
+sound_drawn : (s : State) (w : ℕ) (may : Bool) → IsSound s → IsSound (after_draw s w may)
 sound_drawn s w false sound = sound
 sound_drawn s w true sound = step (nat_lt s.next (length s.blocks)) refl
   where
     step : (b : Bool) → nat_lt s.next (length s.blocks) ≡ b
-        → IsSound (if b then listed s w else too_late s w)
+        → IsSound (if b then after_list s w else too_late s w)
     step true e =
         let more : s.next < length s.blocks = grind (arith, nat_tests, e) in
         record {
@@ -77,11 +77,11 @@ sound_drawn s w true sound = step (nat_lt s.next (length s.blocks)) refl
           places = placed_late (length s.blocks) s.next s.lists s.hands s.pieces late sound.places;
         }
 
-sound_given : (s : State) (w from block : ℕ) (hand : Option Hand) (listed : Bool) → slice_get s.hands w ≡ hand → listed_under from block s.lists ≡ listed → IsSound s → IsSound (given s w from block hand listed)
-sound_given s w from block None listed at there sound = sound
-sound_given s w from block (Some (Holding b judged)) listed at there sound = sound
-sound_given s w from block (Some Ended) listed at there sound = sound
-sound_given s w from block (Some (Lost b)) listed at there sound = sound
+sound_given : (s : State) (w from block : ℕ) (hand : Option Hand) (after_list : Bool) → slice_get s.hands w ≡ hand → listed_under from block s.lists ≡ after_list → IsSound s → IsSound (after_steal s w from block hand after_list)
+sound_given s w from block None after_list at there sound = sound
+sound_given s w from block (Some (Holding b judged)) after_list at there sound = sound
+sound_given s w from block (Some Ended) after_list at there sound = sound
+sound_given s w from block (Some (Lost b)) after_list at there sound = sound
 sound_given s w from block (Some Idle) false at there sound = sound
 sound_given s w from block (Some Idle) true at there sound = record {
   jobs = sound.jobs;
@@ -93,7 +93,7 @@ sound_given s w from block (Some Idle) true at there sound = record {
   places = placed_given (length s.blocks) s.next s.lists s.hands s.pieces w from block at there sound.places;
 }
 
-sound_looked : (s : State) (w : ℕ) (hand : Option Hand) → slice_get s.hands w ≡ hand → IsSound s → IsSound (looked s w hand (next_job s.blocks hand))
+sound_looked : (s : State) (w : ℕ) (hand : Option Hand) → slice_get s.hands w ≡ hand → IsSound s → IsSound (after_look s w hand (next_job s.blocks hand))
 sound_looked s w None at sound = sound
 sound_looked s w (Some Idle) at sound = sound
 sound_looked s w (Some Ended) at sound = sound
@@ -103,10 +103,10 @@ sound_looked s w (Some (Holding b judged)) at sound = step (slice_get (block_at 
     holding : IsTrueHand s.blocks (Holding b judged)
     holding = sound.hands w (Holding b judged) at
 
-    step : (job : Option Job) → slice_get (block_at s.blocks b) (length judged) ≡ job → IsSound (looked s w (Some (Holding b judged)) job)
+    step : (job : Option Job) → slice_get (block_at s.blocks b) (length judged) ≡ job → IsSound (after_look s w (Some (Holding b judged)) job)
     step None e = sound
     step (Some job) e =
-        let own : taken s.cache job ≡ job = taken_same s.blocks s.cache job sound.cache (of_block s.blocks b (length judged) job e) in
+        let own : job_by_cache s.cache job ≡ job = taken_same s.blocks s.cache job sound.cache (of_block s.blocks b (length judged) job e) in
         let count : length (judged ++ job ∷ []) ≡ suc (length judged) = omega (arith, length-append judged (job ∷ [])) in
         let more : judged ++ job ∷ [] ≡ take (length (judged ++ job ∷ [])) (block_at s.blocks b) =
         ap (λ js. js ++ job ∷ []) holding.1 ∙ sym (take-suc_place (block_at s.blocks b) (length judged) job e) ∙ ap (λ n. take n (block_at s.blocks b)) (sym count) in
@@ -124,25 +124,25 @@ sound_looked s w (Some (Holding b judged)) at sound = step (slice_get (block_at 
 
 -- the entry of a job
 entry_true : (blocks : List (List Job)) (job : Job) → AreJobs blocks → IsJob blocks job → IsTrueEntry blocks (record { key = job.key; outcome = job.outcome })
-entry_true blocks job jobs listed = record {
+entry_true blocks job jobs after_list = record {
   job = job;
-  listed = listed;
+  listed = after_list;
   key = refl;
-  outcome = λ other there same. jobs.agree there.0 listed.0 other job there.1 listed.1 same;
+  outcome = λ other there same. jobs.agree there.0 after_list.0 other job there.1 after_list.1 same;
 }
 
-sound_put : (s : State) (gone : List ℕ) (hand : Option Hand) (w : ℕ) → slice_get s.hands w ≡ hand → IsSound s → IsSound (put s gone (last_judged hand))
+sound_put : (s : State) (gone : List ℕ) (hand : Option Hand) (w : ℕ) → slice_get s.hands w ≡ hand → IsSound s → IsSound (after_put s gone (last_judged hand))
 sound_put s gone None w at sound = sound
 sound_put s gone (Some Idle) w at sound = sound
 sound_put s gone (Some Ended) w at sound = sound
 sound_put s gone (Some (Lost b)) w at sound = sound
 sound_put s gone (Some (Holding b judged)) w at sound = step (slice_get judged (length judged - 1)) refl
   where
-    step : (job : Option Job) → slice_get judged (length judged - 1) ≡ job → IsSound (put s gone job)
+    step : (job : Option Job) → slice_get judged (length judged - 1) ≡ job → IsSound (after_put s gone job)
     step None e = sound
     step (Some job) e =
-        let listed = in_hand s.blocks b judged (sound.hands w (Holding b judged) at) (length judged - 1) job e in
-        let more = each_push (IsTrueEntry s.blocks) s.cache (record { key = job.key; outcome = job.outcome }) sound.cache (entry_true s.blocks job sound.jobs listed) in
+        let after_list = in_hand s.blocks b judged (sound.hands w (Holding b judged) at) (length judged - 1) job e in
+        let more = each_push (IsTrueEntry s.blocks) s.cache (record { key = job.key; outcome = job.outcome }) sound.cache (entry_true s.blocks job sound.jobs after_list) in
         let left = each_filter (IsTrueEntry s.blocks) (λ (e : Entry). not (list_any (λ key. key == e.key) gone)) (s.cache ++ record { key = job.key; outcome = job.outcome } ∷ []) more in
         record {
           jobs = sound.jobs;
@@ -154,7 +154,7 @@ sound_put s gone (Some (Holding b judged)) w at sound = step (slice_get judged (
           cache = λ i x there. (left i x there).0;
         }
 
-lower_fails : (blocks : List (List Job)) (a b : Option ℕ) → IsFailingIfAny blocks a → IsFailingIfAny blocks b → IsFailingIfAny blocks (lowered a b)
+lower_fails : (blocks : List (List Job)) (a b : Option ℕ) → IsFailingIfAny blocks a → IsFailingIfAny blocks b → IsFailingIfAny blocks (lower_image a b)
 lower_fails blocks None None h g = tt
 lower_fails blocks (Some a) None h g = h
 lower_fails blocks None (Some b) h g = g
@@ -170,7 +170,7 @@ first_fails blocks judged h = step (find (λ (j : Job). j.fails) judged) refl
     step None e = tt
     step (Some job) e = let there = found (IsJob blocks) (λ (j : Job). j.fails) judged job h e in (job, there.0, there.1, refl)
 
-sound_posted : (s : State) (hand : Option Hand) (w : ℕ) → slice_get s.hands w ≡ hand → IsSound s → IsSound (posted s hand)
+sound_posted : (s : State) (hand : Option Hand) (w : ℕ) → slice_get s.hands w ≡ hand → IsSound s → IsSound (after_post s hand)
 sound_posted s None w at sound = sound
 sound_posted s (Some Idle) w at sound = sound
 sound_posted s (Some Ended) w at sound = sound

@@ -11,7 +11,7 @@ use Rattle.explore_core.specs.declared.piece.Found.{Found}
 use Rattle.explore_core.specs.declared.piece.Found.TheVariants.{Lines, Passed}
 use Rattle.explore_core.specs.Jobs.{Rise, all_jobs, block_at, failing}
 use Rattle.explore_core.specs.State.{State}
-use Rattle.explore_core.specs.Sound.{Each, IsFailing, ComesBefore, IsTrueFound, IsTruePiece, passes, is_passed, handed, lines_of, lines_at, by_block, first_lines, BeginsWith, IsSound, IsComplete}
+use Rattle.explore_core.specs.Sound.{Each, IsFailing, ComesBefore, IsTrueFound, IsTruePiece, passes, is_passed, piece_count, lines_of, lines_at, by_block, first_lines, BeginsWith, IsSound, IsComplete}
 use Rattle.explore_core.proofs.Each.{each_filter}
 
 -- the one piece of a block
@@ -44,7 +44,7 @@ alone (p ∷ []) h = (p, refl, all (lines_of p.found))
 alone (p ∷ q ∷ ps) h = absurd (omega (arith, h))
 
 -- the piece of a block of which there is one
-one_piece : (blocks : List (List Job)) (P : Piece → Type 0) (pieces : List Piece) (b : ℕ) → Each P pieces → handed pieces b ≡ 1
+one_piece : (blocks : List (List Job)) (P : Piece → Type 0) (pieces : List Piece) (b : ℕ) → Each P pieces → piece_count pieces b ≡ 1
     → (p : Piece) × P p × (p.block ≡ b) × (lines_at pieces b ≡ lines_of p.found)
 one_piece blocks P pieces b h one =
     let count : length (filter (λ (p : Piece). p.block == b) pieces) ≡ 1 = length-filter (λ (p : Piece). p.block == b) pieces ∙ one in
@@ -52,7 +52,7 @@ one_piece blocks P pieces b h one =
     let is = each_filter P (λ (p : Piece). p.block == b) pieces h 0 p.0 p.1 in
     (p.0, is.0, (grind (arith, nat_tests, is.1)), p.2)
 
-piece_row : (blocks : List (List Job)) (pieces : List Piece) (b : ℕ) → Each (IsTruePiece blocks) pieces → handed pieces b ≡ 1
+piece_row : (blocks : List (List Job)) (pieces : List Piece) (b : ℕ) → Each (IsTruePiece blocks) pieces → piece_count pieces b ≡ 1
     → IsRow blocks (block_at blocks b) (lines_at pieces b)
 piece_row blocks pieces b h one =
     let p = one_piece blocks (IsTruePiece blocks) pieces b h one in
@@ -75,7 +75,7 @@ none_counted (q ∷ qs) h i p at = step (none_counted qs rest) (is_passed q) ref
     step more false e zero at = let same : q ≡ p = (let s : Some q ≡ Some p = at in cc) in rw same at e
     step more false e (suc i) at = more i p at
 
-whole_row : (blocks : List (List Job)) (pieces : List Piece) (b : ℕ) → Each (IsTruePiece blocks) pieces → count_by is_passed pieces ≡ 0 → handed pieces b ≡ 1
+whole_row : (blocks : List (List Job)) (pieces : List Piece) (b : ℕ) → Each (IsTruePiece blocks) pieces → count_by is_passed pieces ≡ 0 → piece_count pieces b ≡ 1
     → lines_at pieces b ≡ failing (block_at blocks b)
 whole_row blocks pieces b h none one =
     let full = none_counted pieces none in
@@ -194,7 +194,7 @@ lowest_at m (j ∷ js) (suc i) job h at fails = lowest_at m js i job h.1 at fail
 
 -- the whole
 
-each_once : (s : State) → IsSound s → IsComplete s → (b : ℕ) → b < length s.blocks → handed s.pieces b ≡ 1
+each_once : (s : State) → IsSound s → IsComplete s → (b : ℕ) → b < length s.blocks → piece_count s.pieces b ≡ 1
 each_once s sound complete b lt = omega (arith, complete.held b, complete.lost b, sound.places.drawn b (omega (arith, lt, complete.drawn)) lt)
 
 pub whole_is_failing : (s : State) → IsSound s → IsComplete s → count_by is_passed s.pieces ≡ 0 → by_block s.pieces (length s.blocks) ≡ failing (all_jobs s.blocks)

@@ -4,8 +4,8 @@ use Rattle.std.specs.List.{list_any}
 use Rattle.explore_core.specs.declared.cache.Entry.{Entry}
 
 -- the outcome that the cache has for a key
-abbrev pub cached : List Entry → ℕ → Option ℕ
-cached cache key = option_map (λ (e : Entry). e.outcome) (find (λ (e : Entry). e.key == key) cache)
+abbrev pub cache_outcome : List Entry → ℕ → Option ℕ
+cache_outcome cache key = option_map (λ (e : Entry). e.outcome) (find (λ (e : Entry). e.key == key) cache)
 
 -- the entries whose keys aren't among those
 abbrev pub without : List ℕ → List Entry → List Entry

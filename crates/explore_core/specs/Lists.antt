@@ -12,5 +12,5 @@ abbrev pub listed_under : ℕ → ℕ → List Drawn → Bool
 listed_under worker block lists = list_any (is_under worker block) lists
 
 -- the lists without a block of a worker
-abbrev pub unlisted : ℕ → ℕ → List Drawn → List Drawn
-unlisted worker block lists = filter (λ (d : Drawn). not (is_under worker block d)) lists
+abbrev pub lists_without : ℕ → ℕ → List Drawn → List Drawn
+lists_without worker block lists = filter (λ (d : Drawn). not (is_under worker block d)) lists

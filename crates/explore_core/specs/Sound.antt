@@ -67,20 +67,20 @@ loses b (Lost block) = block == b
 loses b hand = false
 
 -- a block in a list counts as held
-abbrev pub held : List Drawn → List Hand → ℕ → ℕ
-held lists hands b = count_by (λ (d : Drawn). d.block == b) lists + count_by (holds b) hands
+abbrev pub hold_count : List Drawn → List Hand → ℕ → ℕ
+hold_count lists hands b = count_by (λ (d : Drawn). d.block == b) lists + count_by (holds b) hands
 
-abbrev pub lost : List Hand → ℕ → ℕ
-lost hands b = count_by (loses b) hands
+abbrev pub loss_count : List Hand → ℕ → ℕ
+loss_count hands b = count_by (loses b) hands
 
-abbrev pub handed : List Piece → ℕ → ℕ
-handed pieces b = count_by (λ (p : Piece). p.block == b) pieces
+abbrev pub piece_count : List Piece → ℕ → ℕ
+piece_count pieces b = count_by (λ (p : Piece). p.block == b) pieces
 
 -- each block that was drawn is in one list or hand, in one piece or lost by one worker, and the others are nowhere
 pub record ArePlaced (blocks next : ℕ) (lists : List Drawn) (hands : List Hand) (pieces : List Piece) : Type 0 where
-  pub drawn : (b : ℕ) → b < next → b < blocks → held lists hands b + (lost hands b + handed pieces b) ≡ 1
-  pub waiting : (b : ℕ) → next ≤ b → held lists hands b + (lost hands b + handed pieces b) ≡ 0
-  pub beyond : (b : ℕ) → blocks ≤ b → held lists hands b + (lost hands b + handed pieces b) ≡ 0
+  pub drawn : (b : ℕ) → b < next → b < blocks → hold_count lists hands b + (loss_count hands b + piece_count pieces b) ≡ 1
+  pub waiting : (b : ℕ) → next ≤ b → hold_count lists hands b + (loss_count hands b + piece_count pieces b) ≡ 0
+  pub beyond : (b : ℕ) → blocks ≤ b → hold_count lists hands b + (loss_count hands b + piece_count pieces b) ≡ 0
 
 abbrev pub passes : Found → Bool
 passes (Lines js) = false
@@ -102,8 +102,8 @@ pub record IsSound (s : State) : Type 0 where
 -- all blocks are drawn, and none is held or lost
 pub record IsComplete (s : State) : Type 0 where
   pub drawn : length s.blocks ≤ s.next
-  pub held : (b : ℕ) → held s.lists s.hands b ≡ 0
-  pub lost : (b : ℕ) → lost s.hands b ≡ 0
+  pub held : (b : ℕ) → hold_count s.lists s.hands b ≡ 0
+  pub lost : (b : ℕ) → loss_count s.hands b ≡ 0
 
 abbrev pub lines_of : Found → List Job
 lines_of (Lines js) = js

@@ -10,9 +10,9 @@ use Rattle.explore_core.specs.declared.event.Event.{Event}
 use Rattle.explore_core.specs.declared.event.Event.TheVariants.{Draw, Take, Look, Put, Post, Pass, Done, Quit}
 use Rattle.explore_core.specs.Jobs.{block_at, failing, first_failing_image, lies_after}
 use Rattle.explore_core.specs.declared.cache.Entry.{Entry}
-use Rattle.explore_core.specs.Cache.{cached, without}
+use Rattle.explore_core.specs.Cache.{cache_outcome, without}
 use Rattle.explore_core.specs.declared.lists.Drawn.{Drawn}
-use Rattle.explore_core.specs.Lists.{listed_under, unlisted}
+use Rattle.explore_core.specs.Lists.{listed_under, lists_without}
 
 pub record State : Type 0 where
   -- the jobs, in blocks
@@ -52,28 +52,28 @@ may_draw (Some (Holding block judged)) (Some false) = true
 may_draw hand late = false
 
 -- the next block is in the list of the worker
-abbrev pub listed : State → ℕ → State
-listed s w = record s { next = s.next + 1; lists = s.lists ++ record { worker = w; block = s.next } ∷ [] }
+abbrev pub after_list : State → ℕ → State
+after_list s w = record s { next = s.next + 1; lists = s.lists ++ record { worker = w; block = s.next } ∷ [] }
 
 -- the worker found no block
 abbrev pub too_late : State → ℕ → State
 too_late s w = record s { next = s.next + 1; late = slice_set s.late w true }
 
-abbrev pub drawn : State → ℕ → Bool → State
-drawn s w true = if nat_lt s.next (length s.blocks) then listed s w else too_late s w
-drawn s w false = s
+abbrev pub after_draw : State → ℕ → Bool → State
+after_draw s w true = if nat_lt s.next (length s.blocks) then after_list s w else too_late s w
+after_draw s w false = s
 
 -- Take: an idle worker gets a block out of a worker's list
 
-abbrev pub given : State → ℕ → ℕ → ℕ → Option Hand → Bool → State
-given s w from block (Some Idle) true = record s { lists = unlisted from block s.lists; hands = slice_set s.hands w (Holding block []) }
-given s w from block hand listed = s
+abbrev pub after_steal : State → ℕ → ℕ → ℕ → Option Hand → Bool → State
+after_steal s w from block (Some Idle) true = record s { lists = lists_without from block s.lists; hands = slice_set s.hands w (Holding block []) }
+after_steal s w from block hand after_list = s
 
 -- Look: a worker takes the outcome of the next job of its block
 
 -- the job with the outcome that the cache has for its key, or else with its own
-abbrev pub taken : List Entry → Job → Job
-taken cache job = record job { outcome = unwrap_or (cached cache job.key) job.outcome }
+abbrev pub job_by_cache : List Entry → Job → Job
+job_by_cache cache job = record job { outcome = unwrap_or (cache_outcome cache job.key) job.outcome }
 
 -- the first job of the block in hand that isn't judged yet, if there is one
 abbrev pub next_job : List (List Job) → Option Hand → Option Job
@@ -85,9 +85,9 @@ abbrev pub judging : Job → Hand → Hand
 judging job (Holding block judged) = Holding block (judged ++ job ∷ [])
 judging job hand = hand
 
-abbrev pub looked : State → ℕ → Option Hand → Option Job → State
-looked s w (Some hand) (Some job) = with_hand s w (judging (taken s.cache job) hand)
-looked s w hand job = s
+abbrev pub after_look : State → ℕ → Option Hand → Option Job → State
+after_look s w (Some hand) (Some job) = with_hand s w (judging (job_by_cache s.cache job) hand)
+after_look s w hand job = s
 
 -- Put: the pair of what a worker judged last enters the cache, and then pairs leave it
 
@@ -95,21 +95,21 @@ abbrev pub last_judged : Option Hand → Option Job
 last_judged (Some (Holding block judged)) = slice_get judged (length judged - 1)
 last_judged hand = None
 
-abbrev pub put : State → List ℕ → Option Job → State
-put s gone (Some job) = record s { cache = without gone (s.cache ++ record { key = job.key; outcome = job.outcome } ∷ []) }
-put s gone None = s
+abbrev pub after_put : State → List ℕ → Option Job → State
+after_put s gone (Some job) = record s { cache = without gone (s.cache ++ record { key = job.key; outcome = job.outcome } ∷ []) }
+after_put s gone None = s
 
 -- Post: the least image is lowered to the first failing one in hand
 
 -- the lower of the least image so far and another
-abbrev pub lowered : Option ℕ → Option ℕ → Option ℕ
-lowered least None = least
-lowered None (Some image) = Some image
-lowered (Some least) (Some image) = Some (min least image)
+abbrev pub lower_image : Option ℕ → Option ℕ → Option ℕ
+lower_image least None = least
+lower_image None (Some image) = Some image
+lower_image (Some least) (Some image) = Some (min least image)
 
-abbrev pub posted : State → Option Hand → State
-posted s (Some (Holding block judged)) = record s { least = lowered s.least (first_failing_image judged) }
-posted s hand = s
+abbrev pub after_post : State → Option Hand → State
+after_post s (Some (Holding block judged)) = record s { least = lower_image s.least (first_failing_image judged) }
+after_post s hand = s
 
 -- Pass and Done: a worker hands over a piece of its block, and is idle
 
@@ -138,11 +138,11 @@ quit s w hand = s
 
 -- the state after an event; where there is no such worker, or the event's condition fails, it is the state before
 abbrev pub after : State → Event → State
-after s (Draw w) = drawn s w (may_draw (slice_get s.hands w) (slice_get s.late w))
-after s (Take w from block) = given s w from block (slice_get s.hands w) (listed_under from block s.lists)
-after s (Look w) = looked s w (slice_get s.hands w) (next_job s.blocks (slice_get s.hands w))
-after s (Put w gone) = put s gone (last_judged (slice_get s.hands w))
-after s (Post w) = posted s (slice_get s.hands w)
+after s (Draw w) = after_draw s w (may_draw (slice_get s.hands w) (slice_get s.late w))
+after s (Take w from block) = after_steal s w from block (slice_get s.hands w) (listed_under from block s.lists)
+after s (Look w) = after_look s w (slice_get s.hands w) (next_job s.blocks (slice_get s.hands w))
+after s (Put w gone) = after_put s gone (last_judged (slice_get s.hands w))
+after s (Post w) = after_post s (slice_get s.hands w)
 after s (Pass w) = handed_over s w (piece_passed s.blocks s.first s.least (slice_get s.hands w))
 after s (Done w) = handed_over s w (piece_done s.blocks (slice_get s.hands w))
 after s (Quit w) = quit s w (slice_get s.hands w)

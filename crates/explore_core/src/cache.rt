@@ -2,7 +2,7 @@
 
 ghost use Rattle.std.specs.Prelude.{◌≡◌, ◌==◌, not, find, option_copied, option_map};
 ghost use Rattle.std.specs.List.{list_any};
-ghost use Rattle.explore_core.specs.Cache.{cached, without};
+ghost use Rattle.explore_core.specs.Cache.{cache_outcome, without};
 
 /// An entry of the cache.
 #[derive(Clone, Copy)]
@@ -13,7 +13,7 @@ pub struct Entry {
 
 /// The outcome that the cache has for a key.
 pub(crate) fn cached(cache: &[Entry], key: u64) -> Option<u64>
-    ensures { result ≡ cached cache.now key }
+    ensures { result ≡ cache_outcome cache.now key }
 {
     entry_of(cache, key).map(|entry| entry.outcome)
 }

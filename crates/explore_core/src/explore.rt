@@ -5,7 +5,7 @@ ghost use Rattle.explore_core.specs.Jobs.{lies_after};
 ghost use Rattle.explore_core.specs.Sound.{IsSound};
 ghost use Rattle.explore_core.specs.Lists.{listed_under};
 ghost use Rattle.explore_core.specs.declared.piece.Found.TheVariants.{Passed};
-ghost use Rattle.explore_core.specs.State.{start, after, after_all, taken, lowered, may_draw, listed, drawn, given, next_job, looked, last_judged, put, posted, piece_passed, piece_done, handed_over, quit};
+ghost use Rattle.explore_core.specs.State.{start, after, after_all, job_by_cache, lower_image, may_draw, after_list, after_draw, after_steal, next_job, after_look, last_judged, after_put, after_post, piece_passed, piece_done, handed_over, quit};
 
 use crate::cache::{Entry, cached, take_out};
 use crate::event::Event;
@@ -117,7 +117,7 @@ impl<'a> Explore<'a> {
     /// Puts the next block into a worker's list.
     fn list_next(&mut self, worker: usize) -> Result<(), AllocError>
         requires { self.old.next < length self.old.blocks }
-        ensures listed { OnOk result (self.new ≡ listed self.old worker) }
+        ensures listed { OnOk result (self.new ≡ after_list self.old worker) }
         ensures kept { OnErr result (self.new ≡ self.old) }
     {
         let _blocks = self.jobs.block_count();
@@ -129,7 +129,7 @@ impl<'a> Explore<'a> {
     }
 
     fn draw(&mut self, worker: usize) -> Result<(), AllocError>
-        ensures drawn { OnOk result (self.new ≡ drawn self.old worker (may_draw (slice_get self.old.hands worker) (slice_get self.old.late worker))) }
+        ensures drawn { OnOk result (self.new ≡ after_draw self.old worker (may_draw (slice_get self.old.hands worker) (slice_get self.old.late worker))) }
         ensures kept { OnErr result (self.new ≡ self.old) }
     {
         if !self.may_draw(worker) {
@@ -144,7 +144,7 @@ impl<'a> Explore<'a> {
     }
 
     fn take(&mut self, alloc: Global, worker: u8, from: u8, block: usize)
-        ensures { self.new ≡ given self.old worker from block (slice_get self.old.hands worker) (listed_under from block self.old.lists) }
+        ensures { self.new ≡ after_steal self.old worker from block (slice_get self.old.hands worker) (listed_under from block self.old.lists) }
     {
         let taker = usize::from(worker);
         let owner = usize::from(from);
@@ -178,7 +178,7 @@ impl<'a> Explore<'a> {
     }
 
     fn look(&mut self, worker: usize) -> Result<(), AllocError>
-        ensures looked { OnOk result (self.new ≡ looked self.old worker (slice_get self.old.hands worker) (next_job self.old.blocks (slice_get self.old.hands worker))) }
+        ensures looked { OnOk result (self.new ≡ after_look self.old worker (slice_get self.old.hands worker) (next_job self.old.blocks (slice_get self.old.hands worker))) }
         ensures kept { OnErr result (self.new ≡ self.old) }
     {
         let Some(job) = self.next_job(worker) else {
@@ -200,7 +200,7 @@ impl<'a> Explore<'a> {
     }
 
     fn put(&mut self, worker: usize, gone: &[u64]) -> Result<(), AllocError>
-        ensures put { OnOk result (self.new ≡ put self.old gone.now (last_judged (slice_get self.old.hands worker))) }
+        ensures put { OnOk result (self.new ≡ after_put self.old gone.now (last_judged (slice_get self.old.hands worker))) }
         ensures kept { OnErr result (self.new ≡ self.old) }
     {
         let Some(job) = self.last_judged(worker) else {
@@ -215,7 +215,7 @@ impl<'a> Explore<'a> {
     }
 
     fn post(&mut self, worker: usize)
-        ensures { self.new ≡ posted self.old (slice_get self.old.hands worker) }
+        ensures { self.new ≡ after_post self.old (slice_get self.old.hands worker) }
     {
         let image = match self.hands.get(worker) {
             Some(Hand::Holding { block: _, judged }) => first_failing_image(judged.as_slice()),
@@ -358,7 +358,7 @@ fn passed_by(image: u64, block: usize, jobs: &[Job]) -> Option<Piece>
 
 /// The job with the outcome that the cache has for its key, or else with its own.
 fn taken(cache: &[Entry], job: Job) -> Job
-    ensures { result ≡ taken cache.now job }
+    ensures { result ≡ job_by_cache cache.now job }
 {
     Job {
         outcome: cached(cache, job.key).unwrap_or(job.outcome),
@@ -368,7 +368,7 @@ fn taken(cache: &[Entry], job: Job) -> Job
 
 /// The lower of the least image so far and another.
 fn lowered(least: Option<u64>, image: Option<u64>) -> Option<u64>
-    ensures { result ≡ lowered least image }
+    ensures { result ≡ lower_image least image }
 {
     match (least, image) {
         (Some(least), Some(image)) => Some(least.min(image)),

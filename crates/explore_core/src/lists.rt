@@ -1,7 +1,7 @@
 //! The workers' lists of drawn blocks.
 
 ghost use Rattle.std.specs.Prelude.{◌≡◌, not};
-ghost use Rattle.explore_core.specs.Lists.{is_under, listed_under, unlisted};
+ghost use Rattle.explore_core.specs.Lists.{is_under, listed_under, lists_without};
 
 /// A drawn block that nobody has in hand, and the worker in whose list it is.
 #[derive(Clone, Copy)]
@@ -21,7 +21,7 @@ pub(crate) fn listed_under(lists: &[Drawn], worker: usize, block: usize) -> bool
 
 /// Takes a block out of the list of a worker.
 pub(crate) fn unlist(lists: &mut Vec<Drawn>, worker: usize, block: usize)
-    ensures { lists.new.items ≡ unlisted worker block lists.old.items }
+    ensures { lists.new.items ≡ lists_without worker block lists.old.items }
 {
     lists.retain(
         |drawn: &Drawn| -> bool

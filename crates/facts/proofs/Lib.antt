@@ -1,2 +1,1 @@
-pub mod Breaches
 pub mod Bounds

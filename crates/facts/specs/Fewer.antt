@@ -4,7 +4,7 @@ use Rattle.logfmt.specs.Bounds.{LogValue}
 use Rattle.epochs.specs.declared.cuts.CutKind.{CutKind}
 use Rattle.epochs.specs.declared.cuts.CutKind.TheVariants as cuts
 use Rattle.epochs.specs.Plan.{PlanValue}
-use Rattle.choices.specs.Choices.{ranked, limit, IsFirstPast}
+use Rattle.choices.specs.Choices.{ranked_choices, limit, IsFirstPast}
 use Rattle.request.specs.declared.settings.Settings.{Settings}
 use Rattle.request.specs.Source.{Recording, plan_of, IsLogOf}
 use Rattle.facts.specs.Large.{is_large}
@@ -12,7 +12,7 @@ use Rattle.facts.specs.declared.fewer.Fewer.{Fewer}
 
 -- how many images a plan has; none where they are too many
 abbrev pub CountsImages : PlanValue → ℕ → Bool → Option ℕ → Type 0
-CountsImages plan bound tears (Some n) = (n ≡ length (ranked plan bound tears)) × (n ≤ limit)
+CountsImages plan bound tears (Some n) = (n ≡ length (ranked_choices plan bound tears)) × (n ≤ limit)
 CountsImages plan bound tears None = (cut : ℕ) × IsFirstPast plan bound tears cut
 
 -- the plan that is asked for, but with cuts of that kind

@@ -1,5 +1,5 @@
 -- What a command finds for its notes.
-use Rattle.std.specs.Prelude.{ℕ, ◌≡◌, List, [], ◌∷◌, ◌++◌, length, Option, None, Some}
+use Rattle.std.specs.Prelude.{ℕ, ◌≡◌, List, [], ◌∷◌, ◌++◌, Option, None, Some}
 use Rattle.std.specs.Option.{option_map}
 use Rattle.bpf_isa.specs.declared.instr.Instr.{Instr}
 use Rattle.bpf_isa.specs.Slots.{at}
@@ -8,7 +8,7 @@ use Rattle.ranges.specs.SeenStates.{state_of}
 use Rattle.verifier.specs.declared.unreached.Unreached.{Unreached}
 use Rattle.verifier.specs.declared.verified.Unaccepted.{Unaccepted}
 use Rattle.verifier.specs.Inferred.{IsKnown}
-use Rattle.verifier.specs.Reach.{unreached_slots, counted}
+use Rattle.verifier.specs.Reach.{unreached_slots, count_and_first}
 use Rattle.verifier.specs.Verdicts.{VerifiedValue, IsVerified}
 use Rattle.request.specs.Source.{Recording}
 use Rattle.facts.specs.declared.found.Breach.{Breach}
@@ -28,7 +28,7 @@ pub record IsUnreached (program : List (Option Instr)) (sectors : ℕ) (found : 
   pub is : IsVerified verified
   pub of_program : verified.program ≡ program
   pub for_sectors : verified.sectors ≡ sectors
-  pub counts : option_map (λ (u : Unreached). (u.count, u.first)) found ≡ counted (unreached_slots verified)
+  pub counts : option_map (λ (u : Unreached). (u.count, u.first)) found ≡ count_and_first (unreached_slots verified)
 
 -- that is found of one more program
 pub record AddsUnreached (program : List (Option Instr)) (sectors : ℕ) (old new : List (Option Unreached)) : Type 0 where

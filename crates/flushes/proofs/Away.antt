@@ -15,7 +15,7 @@ use Rattle.epochs.specs.Laws.{IsVolatile}
 use Rattle.choices.specs.declared.choice.Departure.{Departure}
 use Rattle.choices.specs.CrashModel.{IsAdmissible}
 use Rattle.flushes.specs.declared.window.Window.{Window}
-use Rattle.flushes.specs.Windows.{IsWindow, arrived}
+use Rattle.flushes.specs.Windows.{IsWindow, entry_arrives}
 use Rattle.flushes.specs.Laws.{up_to, FlushTakesAway, FlushElsewhereLeaves}
 
 -- with a flush between its entry and the cut a part isn't volatile
@@ -34,7 +34,7 @@ inside way es cut ds w p is order =
       | inr past ↦
           elim (slice_get_cases es w.end).1 [
             | inl b ↦ let within = b.1 in let end = past.0 in absurd (omega (arith, within, end, order))
-            | inr none ↦ let no : false ≡ true = ap (λ o. option_map_or (λ (entry : Entry). entry.flags.mark || arrived way ds w.end entry) o false) (sym none.1) ∙ is.end in cc
+            | inr none ↦ let no : false ≡ true = ap (λ o. option_map_or (λ (entry : Entry). entry.flags.mark || entry_arrives way ds w.end entry) o false) (sym none.1) ∙ is.end in cc
           ]
     ]
 

@@ -23,7 +23,7 @@ use Rattle.choices.specs.declared.choice.Departure.{Departure}
 use Rattle.choices.specs.CrashModel.{IsAdmissible}
 use Rattle.images.specs.Images.{keeps, is_in, byte_in, survives, writes, byte_after, sector_after, device_after}
 use Rattle.flushes.specs.declared.window.Window.{Window}
-use Rattle.flushes.specs.Windows.{is_drop, drops, arrived, is_end, IsWindow}
+use Rattle.flushes.specs.Windows.{is_drop, drops, entry_arrives, is_end, IsWindow}
 use Rattle.flushes.specs.Laws.{up_to, SameIsLeft}
 use Rattle.flushes.proofs.Away.{kept_from, kept_two}
 
@@ -191,8 +191,8 @@ none_of_range test f a (suc n) fails =
 none_written : (way : By) (es : List Entry) (cut bound : ℕ) (tears : Bool) (ds : List Departure) (e s i : ℕ) (x : Entry)
     → IsAdmissible way es cut bound tears ds → slice_get es e ≡ Some x → is_end way es ds e ≡ false → filter (writes ds s i) (units_of_entry e x) ≡ []
 none_written way es cut bound tears ds e s i x is here none =
-    let test : (x.flags.mark || arrived way ds e x) ≡ false = sym (ap (λ o. option_map_or (λ (entry : Entry). entry.flags.mark || arrived way ds e entry) o false) here) ∙ none in
-    let few : nat_lt (length (filter (drops e) ds)) (part_count way x) ≡ false = or_right x.flags.mark (arrived way ds e x) test in
+    let test : (x.flags.mark || entry_arrives way ds e x) ≡ false = sym (ap (λ o. option_map_or (λ (entry : Entry). entry.flags.mark || entry_arrives way ds e entry) o false) here) ∙ none in
+    let few : nat_lt (length (filter (drops e) ds)) (part_count way x) ≡ false = or_right x.flags.mark (entry_arrives way ds e x) test in
     let many : part_count way x ≤ length (filter (drops e) ds) = grind (arith, nat_tests, few) in
     none_of_range (writes ds s i) (unit_of e x) 0 x.count (λ j from to.
     let own = found way es cut bound tears ds e j x is here many (omega (arith, to)) in
@@ -256,8 +256,8 @@ marks way es cut ds w (suc n) inside is within =
     elim (slice_get_cases es k).1 [
       | inl a ↦
           let none = is.last k (omega arith) (omega (arith, within)) in
-          let test : (a.0.flags.mark || arrived way ds k a.0) ≡ false = sym (ap (λ o. option_map_or (λ (entry : Entry). entry.flags.mark || arrived way ds k entry) o false) a.2) ∙ none in
-          let mark : a.0.flags.mark ≡ false = or_left a.0.flags.mark (arrived way ds k a.0) test in
+          let test : (a.0.flags.mark || entry_arrives way ds k a.0) ≡ false = sym (ap (λ o. option_map_or (λ (entry : Entry). entry.flags.mark || entry_arrives way ds k entry) o false) a.2) ∙ none in
+          let mark : a.0.flags.mark ≡ false = or_left a.0.flags.mark (entry_arrives way ds k a.0) test in
           let own : Bool → ℕ = λ b. if b then 1 else 0 in
           let more : marks_at es (suc k) ≡ marks_at es k + own a.0.flags.mark =
           ap (count_by (λ (entry : Entry). entry.flags.mark)) (take-suc_place es k a.0 a.2) ∙ count_by-push (λ (entry : Entry). entry.flags.mark) (take k es) a.0 in

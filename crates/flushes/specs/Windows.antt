@@ -20,12 +20,12 @@ abbrev pub drops : ℕ → Departure → Bool
 drops e d = (d.part.entry == e) && is_drop d.fate
 
 -- something of entry e arrived: it has more parts than are lost
-abbrev pub arrived : By → List Departure → ℕ → Entry → Bool
-arrived way ds e entry = nat_lt (length (filter (drops e) ds)) (part_count way entry)
+abbrev pub entry_arrives : By → List Departure → ℕ → Entry → Bool
+entry_arrives way ds e entry = nat_lt (length (filter (drops e) ds)) (part_count way entry)
 
 -- entry e may end a window: something of it arrived, or it is a mark
 abbrev pub is_end : By → List Entry → List Departure → ℕ → Bool
-is_end way es ds e = option_map_or (λ (entry : Entry). entry.flags.mark || arrived way ds e entry) (slice_get es e) false
+is_end way es ds e = option_map_or (λ (entry : Entry). entry.flags.mark || entry_arrives way ds e entry) (slice_get es e) false
 
 -- the window: from behind the first entry of which something departs to the last one behind it that may end a window
 pub record IsWindow (way : By) (es : List Entry) (cut : ℕ) (ds : List Departure) (w : Window) : Type 0 where

@@ -1,1 +1,3 @@
 pub mod CopiedBytes
+pub mod CallerLemmas
+pub mod KeptSectors

@@ -2,3 +2,4 @@
 pub mod Helper
 pub mod Answers
 pub mod Filled
+pub mod Footprint

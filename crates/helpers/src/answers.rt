@@ -3,7 +3,7 @@
 ghost use Rattle.std.specs.Prelude.{◌≡◌, ◌+◌, ◌*◌, ◌<◌, ◌≤◌, nat_eq, length, slice_get};
 ghost use Rattle.std.specs.List.{list_all};
 ghost use Rattle.std.specs.Option.{option_map};
-ghost use Rattle.helpers.specs.Answers.{sector_answer, device_byte, copied, copy_answer, zero_answer, mix_answer, same_answer};
+ghost use Rattle.helpers.specs.Answers.{sector_answer, device_byte, device_bytes, copy_answer, zero_answer, mix_answer, same_answer};
 
 use crate::device::Device;
 

@@ -1,7 +1,7 @@
 //! The bytes of a device that `copy` gives.
 
 ghost use Rattle.std.specs.Prelude.{◌≡◌, ◌+◌, ◌*◌, ◌<◌, ◌≤◌, length};
-ghost use Rattle.helpers.specs.Answers.{device_byte, copied, copy_answer};
+ghost use Rattle.helpers.specs.Answers.{device_byte, device_bytes, copy_answer};
 
 use crate::device::Device;
 
@@ -28,7 +28,7 @@ fn byte_of<D: Device>(device: &D, position: u64, distance: u64) -> u8
 /// them is past the device, else 0.
 pub fn copy<D: Device>(device: &D, position: u64, window: &mut [u8]) -> u64
     requires { length window.old ≤ 512 }
-    ensures filled { window.new ≡ copied (D.content device.now) position (length window.old) }
+    ensures filled { window.new ≡ device_bytes (D.content device.now) position (length window.old) }
     ensures answer { result ≡ copy_answer (D.content device.now) position (length window.old) }
 {
     for i in 0..window.len() {

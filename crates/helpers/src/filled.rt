@@ -39,9 +39,9 @@ impl Filled {
 }
 
 impl Device for Filled {
-    ghost use Rattle.helpers.specs.Filled.{filled, whole_filled};
+    ghost use Rattle.helpers.specs.Filled.{filled_device, whole_filled};
 
-    ghost content = { λ d. filled d.count d.byte };
+    ghost content = { λ d. filled_device d.count d.byte };
 
     fn sectors(&self) -> u32 {
         self.count

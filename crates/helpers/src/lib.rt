@@ -34,6 +34,8 @@
 //!   defined answer. Positions do not wrap. A window has at most 512 bytes.
 //! - `Helper::of` knows the numbers 1 to 7 and no other.
 //! - `Filled` is a device in which each byte is the same, as one that nothing has written.
+//! - A `Footprint` keeps the sectors at which a run looked, each once, in the order in which it first did, up to its room;
+//!   where they are more it keeps none (`noted` in `specs/Footprint.antt`).
 //!
 //! No call takes memory, and none refuses.
 //!
@@ -51,8 +53,10 @@ pub mod answers;
 pub mod copying;
 mod device;
 mod filled;
+mod footprint;
 mod helper;
 
 pub use device::{Context, Device};
 pub use filled::Filled;
+pub use footprint::Footprint;
 pub use helper::Helper;

@@ -17,9 +17,6 @@ use Rattle.images.specs.Keys.{base_of}
 use Rattle.images.specs.Laws.{EpochHasBase}
 use Rattle.images.proofs.Blank.{first_device, zero_device}
 
-is_flush : Entry → Bool
-is_flush entry = entry.flags.flush
-
 -- the epoch of the next cut
 next_epoch : (es : List Entry) (k : ℕ) → epoch_at es (suc k) ≡ epoch_at es k + (if is_flush_at es k then 1 else 0)
 next_epoch es k = elim (slice_get_cases es k).1 [

@@ -17,7 +17,7 @@ use Rattle.images.specs.Images.{survives, writes, byte_after, sector_after}
 use Rattle.images.specs.Table.{AreParts}
 use Rattle.images.specs.Views.{ViewValue, sectors_of}
 use Rattle.images.specs.Whole.{length_view}
-use Rattle.images.specs.Keys.{ChangedValue, base_of, content_at, changed, changed_below}
+use Rattle.images.specs.Keys.{ChangedValue, base_of, content_at, changed_sectors, changed_below}
 use Rattle.images.specs.Changes.{change_at, changes, with_sector, with_sectors, whole_image, image_of}
 use Rattle.images.proofs.Entries.{unit_of_entry}
 use Rattle.images.proofs.Rows.{all_units}
@@ -27,7 +27,7 @@ use Rattle.images.proofs.Tears.{one_sector}
 use Rattle.images.proofs.Sectors.{view_there, base_there}
 use Rattle.images.proofs.Listed.{change_alike, changes_alike, changes_of_key, others_there, others_before, others_behind, sectors_less}
 
-filter_within : (p q : LogUnit → Bool) (us : List LogUnit) → All (λ u. p u ≡ q u) us → filter p us ≡ filter q us
+pub filter_within : (p q : LogUnit → Bool) (us : List LogUnit) → All (λ u. p u ≡ q u) us → filter p us ≡ filter q us
 filter_within p q [] same = refl
 filter_within p q (u ∷ us) same =
     let here : p u ≡ q u = same 0 u (omega arith) in
@@ -208,7 +208,7 @@ change_here base new image n = change_alike base base new (with_sector image n (
 
 -- the list of a key
 pub list_of_key : (view : ViewValue) (flush : ℕ) → flush ≡ last_flush view.log.entries view.cut
-    → changes (whole_image view.log flush) (image_of view) 0 view.log.sectors ≡ changed (base_of view.log view.cut) (sectors_of view)
+    → changes (whole_image view.log flush) (image_of view) 0 view.log.sectors ≡ changed_sectors (base_of view.log view.cut) (sectors_of view)
 unfolding changed_below
 list_of_key view flush is =
     let base = base_of view.log view.cut in

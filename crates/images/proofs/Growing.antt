@@ -6,7 +6,6 @@ use Rattle.std.proofs.lemmas.List.{append-nil}
 use Rattle.logfmt.specs.declared.entry.Entry.{Entry}
 use Rattle.logfmt.specs.Bounds.{LogValue, IsLog}
 use Rattle.epochs.specs.declared.unit.Unit.{Unit as LogUnit}
-use Rattle.epochs.specs.Laws.{last_flush}
 use Rattle.epochs.specs.Plan.{IsUnit}
 use Rattle.epochs.specs.Units.{units_before, unit_content, epoch_at}
 use Rattle.images.specs.Images.{departures_of, sector_after}
@@ -67,10 +66,6 @@ known_on log before epoch flush first cut old new was one le same is = record {
   last = was.last ∙ one_flush_of log.entries first cut (sym was.told ∙ one ∙ same);
   listed = is;
 }
-
-pub known_anew : (log : LogValue) (epoch flush cut : ℕ) (new : List ChangedValue) → cut ≤ length log.entries
-    → epoch ≡ epoch_at log.entries cut → flush ≡ last_flush log.entries cut → new ≡ changes_between log flush cut → IsKnown log epoch flush cut new
-known_anew log epoch flush cut new le same flushed is = record { within = le; told = same; last = flushed; listed = is }
 
 -- the units of an entry, of which none is there yet
 pub up_to_none : (es : List Entry) (e : ℕ) (entry : Entry) → units_up_to es e entry 0 ≡ units_before es e

@@ -9,7 +9,7 @@ use Rattle.logfmt.specs.Bounds.{LogValue}
 use Rattle.epochs.specs.declared.unit.Unit.{Unit as LogUnit}
 use Rattle.epochs.specs.Units.{unit_content}
 use Rattle.choices.specs.declared.choice.Departure.{Departure}
-use Rattle.images.specs.Images.{survives, writes, byte_after, sector_after, device_after}
+use Rattle.images.specs.Images.{survives, writes, byte_after, sector_after}
 use Rattle.images.proofs.Writers.{byte_after-push, byte_after_lost}
 
 -- whether a unit writes in another sector, and in its own
@@ -95,8 +95,3 @@ pub sector_tail : (log : LogValue) (us : List LogUnit) (u : LogUnit) (ds : List 
 sector_tail log us u ds new old m le content long below old_long kept =
     sector_laid log us u ds new old (take m old ++ drop m new) (λ i. nat_le m i) content below (spliced_size old new m le old_long long) kept
     (λ i lt. tail_byte new old m i (omega (arith, old_long, le)))
-
--- laying units keeps the number of sectors
-pub length-device_after : (log : LogValue) (us : List LogUnit) (ds : List Departure) → length (device_after log us ds) ≡ log.sectors
-unfolding device_after
-length-device_after log us ds = length-map-range_with_len (sector_after log us ds) 0 log.sectors

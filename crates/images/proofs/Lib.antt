@@ -14,6 +14,7 @@ pub mod Entries
 pub mod Members
 pub mod Listed
 pub mod Departing
+pub mod Covering
 pub mod Growing
 pub mod Identity
 pub mod Shards

@@ -12,7 +12,7 @@ use Rattle.epochs.specs.Laws.{IsVolatile, Precedes as PartPrecedes}
 use Rattle.epochs.specs.Plan.{PlanValue, IsPart}
 use Rattle.epochs.proofs.Parts.{parts_apart}
 use Rattle.epochs.specs.Cuts.{cuts_of}
-use Rattle.choices.specs.Choices.{ChoiceValue, choice_of, ranked}
+use Rattle.choices.specs.Choices.{ChoiceValue, choice_of, ranked_choices}
 use Rattle.choices.specs.Picks.{fates_of}
 use Rattle.choices.proofs.Plans.{goes, Goes, fates_low, wanted_within}
 use Rattle.choices.proofs.CrashModel.{ranked_is_model}
@@ -25,7 +25,7 @@ use Rattle.images.proofs.Shares.{lies_in}
 
 -- the cut of a choice of a plan is one of its log
 pub member_cut : (plan : PlanValue) (choice : ChoiceValue) → IsMember plan choice → choice.cut ≤ length plan.log.entries
-unfolding ranked choice_of
+unfolding ranked_choices choice_of
 member_cut plan choice is =
     let at : Goes plan.by plan.log.entries (fates_of is.tears) is.bound 0 (cuts_of plan.kind plan.log.entries) is.number choice =
     goes plan.by plan.log.entries (fates_of is.tears) is.bound 0 (cuts_of plan.kind plan.log.entries) is.number choice (fates_low is.tears) is.there in

@@ -189,15 +189,3 @@ pub tears_by : (f : Fate) (n j : ℕ) (g : Fate) → share_of f n j ≡ Some g �
 tears_by fate.Drop n j g h left = ap (λ (k : Fate). leaves (Some k)) (same_Some fate.Drop g h) ∙ left
 tears_by (fate.Head t) n j g h left = refl
 tears_by (fate.Tail t) n j g h left = refl
-
--- the eighths of a part: at least one for each of its sectors, and fewer than all
-pub mul_bounds : (t n : ℕ) → 1 ≤ t → t < 8 → (n ≤ t * n) × (t * n ≤ 7 * n)
-mul_bounds zero n low high = absurd (omega (arith, low))
-mul_bounds (suc zero) n low high = (omega arith, omega arith)
-mul_bounds (suc (suc zero)) n low high = (omega arith, omega arith)
-mul_bounds (suc (suc (suc zero))) n low high = (omega arith, omega arith)
-mul_bounds (suc (suc (suc (suc zero)))) n low high = (omega arith, omega arith)
-mul_bounds (suc (suc (suc (suc (suc zero))))) n low high = (omega arith, omega arith)
-mul_bounds (suc (suc (suc (suc (suc (suc zero)))))) n low high = (omega arith, omega arith)
-mul_bounds (suc (suc (suc (suc (suc (suc (suc zero))))))) n low high = (omega arith, omega arith)
-mul_bounds (suc (suc (suc (suc (suc (suc (suc (suc t)))))))) n low high = absurd (omega (arith, high))

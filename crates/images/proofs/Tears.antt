@@ -31,17 +31,6 @@ pub record TornSoFar (log : LogValue) (cut : ℕ) (ds : List Departure) (n : ℕ
       → t.content ≡ sector_after log (units_before log.entries cut) ds t.number
   pub each : (i : ℕ) (d : Departure) → i < n → slice_get ds i ≡ Some d → leaves (Some d.fate) ≡ true → HasSector torn (tear_sector d)
 
--- the loop over the departures: the torn sectors before it, with one more, and at its end
-pub none_torn : (log : LogValue) (cut : ℕ) (ds : List Departure) (torn : List TornSector) → torn ≡ [] → TornSoFar log cut ds 0 torn
-none_torn log cut ds torn none =
-    let first : TornSoFar log cut ds 0 [] = record {
-      few = omega arith;
-      bytes = λ j t there. absurd (let bad : None ≡ Some t = there in cc);
-      each = λ i d lt there tears. absurd (omega (arith, lt));
-    } in
-    let P : List TornSector → Type 0 = λ ts. TornSoFar log cut ds 0 ts in
-    subst P (sym none) first
-
 -- a departure that tears nothing
 pub not_torn : (log : LogValue) (cut : ℕ) (ds : List Departure) (n : ℕ) (torn : List TornSector) (d : Departure) → TornSoFar log cut ds n torn
     → slice_get ds n ≡ Some d → leaves (Some d.fate) ≡ false → TornSoFar log cut ds (n + 1) torn

@@ -10,7 +10,7 @@ use Rattle.epochs.specs.Units.{epoch_at, marks_at}
 use Rattle.helpers.specs.declared.device.Context.{Context}
 use Rattle.images.specs.Views.{ViewValue, sectors_of, context_at}
 use Rattle.images.specs.Whole.{length_view}
-use Rattle.images.specs.Keys.{ChangedValue, KeyValue, base_of, content_at, differs, with_content, changed_below, changed, most_changed, identity_of, key_of, with_program}
+use Rattle.images.specs.Keys.{ChangedValue, KeyValue, base_of, content_at, differs, with_content, changed_below, changed_sectors, most_changed, identity_of, key_of, with_program}
 use Rattle.images.specs.Laws.{KeysTell}
 use Rattle.images.proofs.Bases.{one_base}
 
@@ -72,12 +72,12 @@ restored_from base image a (suc m) n le lt =
     (λ further. restored_from base image (a + 1) m n (omega (arith, further)) (omega (arith, lt)))
     (λ here. absent base image (a + 1) m n (content_at base n) (omega (arith, here)))
 
-restored : (base image : List (List ℕ)) (n : ℕ) → n < length image → content_in (changed base image) n (content_at base n) ≡ content_at image n
+restored : (base image : List (List ℕ)) (n : ℕ) → n < length image → content_in (changed_sectors base image) n (content_at base n) ≡ content_at image n
 unfolding changed_below
 restored base image n lt = restored_from base image 0 (length image) n (omega arith) (omega (arith, lt))
 
 -- images of one size are the same where their changed sectors are
-images_told : (base one other : List (List ℕ)) → length one ≡ length other → changed base one ≡ changed base other → one ≡ other
+images_told : (base one other : List (List ℕ)) → length one ≡ length other → changed_sectors base one ≡ changed_sectors base other → one ≡ other
 images_told base one other long same = same_lists one other long (λ n d lt.
     let within : n < length other = omega (arith, long, lt) in
     get_or_default one n d [] lt
@@ -94,7 +94,7 @@ key_is view program key false h = same_Some (identity_of view program) key h
 
 key_of_view : (view : ViewValue) (program : ℕ) (key : KeyValue) → key_of view program ≡ Some key → identity_of view program ≡ key
 unfolding key_of
-key_of_view view program key h = key_is view program key (nat_lt most_changed (length (changed (base_of view.log view.cut) (sectors_of view)))) h
+key_of_view view program key h = key_is view program key (nat_lt most_changed (length (changed_sectors (base_of view.log view.cut) (sectors_of view)))) h
 
 one_base_of : (a b : ViewValue) → a.log ≡ b.log → epoch_at a.log.entries a.cut ≡ epoch_at b.log.entries b.cut → base_of a.log a.cut ≡ base_of b.log b.cut
 one_base_of a b same epoch =
@@ -107,12 +107,12 @@ tells a b p q same is =
     let epoch : epoch_at a.log.entries a.cut ≡ epoch_at b.log.entries b.cut = ap (λ (key : KeyValue). key.epoch) is in
     let marks : marks_at a.log.entries a.cut ≡ marks_at b.log.entries b.cut = ap (λ (key : KeyValue). key.marks) is in
     let size : a.log.sectors ≡ b.log.sectors = ap (λ (log : LogValue). log.sectors) same in
-    let listed : changed (base_of a.log a.cut) (sectors_of a) ≡ changed (base_of b.log b.cut) (sectors_of b) = ap (λ (key : KeyValue). key.changed) is in
+    let listed : changed_sectors (base_of a.log a.cut) (sectors_of a) ≡ changed_sectors (base_of b.log b.cut) (sectors_of b) = ap (λ (key : KeyValue). key.changed) is in
     let base = one_base_of a b same epoch in (
       ap (λ (key : KeyValue). key.program) is,
       λ i. record { sectors = size i; epoch = epoch i; marks = marks i },
       images_told (base_of b.log b.cut) (sectors_of a) (sectors_of b) (length_view a ∙ size ∙ sym (length_view b))
-          (ap (λ durable. changed durable (sectors_of a)) (sym base) ∙ listed),
+          (ap (λ durable. changed_sectors durable (sectors_of a)) (sym base) ∙ listed),
     )
 
 told_by : (a b : ViewValue) (p q : ℕ) → a.log ≡ b.log → p ≡ q → context_at a.log a.cut ≡ context_at b.log b.cut → sectors_of a ≡ sectors_of b
@@ -120,8 +120,8 @@ told_by : (a b : ViewValue) (p q : ℕ) → a.log ≡ b.log → p ≡ q → cont
 told_by a b p q same program context image =
     let epoch : epoch_at a.log.entries a.cut ≡ epoch_at b.log.entries b.cut = ap (λ (c : Context). c.epoch) context in
     let marks : marks_at a.log.entries a.cut ≡ marks_at b.log.entries b.cut = ap (λ (c : Context). c.marks) context in
-    let listed : changed (base_of a.log a.cut) (sectors_of a) ≡ changed (base_of b.log b.cut) (sectors_of b) =
-    ap (λ durable. changed durable (sectors_of a)) (one_base_of a b same epoch) ∙ ap (changed (base_of b.log b.cut)) image in
+    let listed : changed_sectors (base_of a.log a.cut) (sectors_of a) ≡ changed_sectors (base_of b.log b.cut) (sectors_of b) =
+    ap (λ durable. changed_sectors durable (sectors_of a)) (one_base_of a b same epoch) ∙ ap (changed_sectors (base_of b.log b.cut)) image in
     λ i. record { program = program i; epoch = epoch i; marks = marks i; changed = listed i }
 
 pub keys_tell : KeysTell
@@ -140,7 +140,7 @@ other_by view p q key false h = ap (λ (k : KeyValue). Some (with_program k q)) 
 
 pub other_program : (view : ViewValue) (p q : ℕ) (key : KeyValue) → key_of view p ≡ Some key → key_of view q ≡ Some (with_program key q)
 unfolding key_of
-other_program view p q key h = other_by view p q key (nat_lt most_changed (length (changed (base_of view.log view.cut) (sectors_of view)))) h
+other_program view p q key h = other_by view p q key (nat_lt most_changed (length (changed_sectors (base_of view.log view.cut) (sectors_of view)))) h
 
 -- an image without a key has none for any program
 none_by : (view : ViewValue) (p q : ℕ) (b : Bool) → (if b then None else Some (identity_of view p)) ≡ None → None ≡ (if b then None else Some (identity_of view q))
@@ -149,4 +149,4 @@ none_by view p q false h = absurd (let bad : Some (identity_of view p) ≡ None 
 
 pub no_program : (view : ViewValue) (p q : ℕ) → key_of view p ≡ None → None ≡ key_of view q
 unfolding key_of
-no_program view p q h = none_by view p q (nat_lt most_changed (length (changed (base_of view.log view.cut) (sectors_of view)))) h
+no_program view p q h = none_by view p q (nat_lt most_changed (length (changed_sectors (base_of view.log view.cut) (sectors_of view)))) h

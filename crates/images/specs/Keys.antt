@@ -37,12 +37,12 @@ unfoldable pub changed_below : List (List ℕ) → List (List ℕ) → ℕ → L
 changed_below base image m = map (with_content image) (filter (differs base image) (range_with_len 0 m))
 
 -- the sectors of an image that differ from the base
-abbrev pub changed : List (List ℕ) → List (List ℕ) → List ChangedValue
-changed base image = changed_below base image (length image)
+abbrev pub changed_sectors : List (List ℕ) → List (List ℕ) → List ChangedValue
+changed_sectors base image = changed_below base image (length image)
 
 -- the sectors in which a view differs from the base of its cut
 abbrev pub changed_of : ViewValue → List ChangedValue
-changed_of view = changed (base_of view.log view.cut) (sectors_of view)
+changed_of view = changed_sectors (base_of view.log view.cut) (sectors_of view)
 
 -- how many sectors a key has at most
 abbrev pub most_changed : ℕ

@@ -8,4 +8,5 @@ pub mod Contents
 pub mod Changes
 pub mod Number
 pub mod Equal
+pub mod Covering
 pub mod Laws

@@ -5,7 +5,7 @@ use Rattle.logfmt.specs.Bounds.{LogValue}
 use Rattle.epochs.specs.Units.{epoch_at, marks_at}
 use Rattle.epochs.specs.Plan.{PlanValue}
 use Rattle.choices.specs.declared.choice.Departure.{Departure}
-use Rattle.choices.specs.Choices.{ChoiceValue, ranked}
+use Rattle.choices.specs.Choices.{ChoiceValue, ranked_choices}
 use Rattle.helpers.specs.declared.device.Context.{Context}
 use Rattle.images.specs.Images.{crash_image}
 
@@ -24,7 +24,7 @@ pub record IsMember (plan : PlanValue) (choice : ChoiceValue) : Type 0 where
   pub bound : ℕ
   pub tears : Bool
   pub number : ℕ
-  pub there : slice_get (ranked plan bound tears) number ≡ Some choice
+  pub there : slice_get (ranked_choices plan bound tears) number ≡ Some choice
 
 -- the sectors of a view
 unfoldable pub sectors_of : ViewValue → List (List ℕ)

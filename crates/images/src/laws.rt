@@ -1,5 +1,6 @@
 //! Laws of crash images. The functions do nothing; each contract is a theorem.
 
+ghost use Rattle.images.specs.Covering.{CoveringTells, TouchingTells};
 ghost use Rattle.images.specs.Laws.{LastWriterShows, FatesShow, EpochHasBase, KeysTell, EqualKeysAreSame, ImagesAreDevices};
 
 /// A byte of a crash image is that of the last unit that writes it: a unit that is laid over others
@@ -35,4 +36,15 @@ pub fn equal_keys_are_same()
 /// numbers of its context are at most 65,536.
 pub fn images_are_devices()
     ensures { ImagesAreDevices }
+{}
+
+/// What an image has in a sector hangs on those departures alone whose parts cover it.
+pub fn covering_tells()
+    ensures { CoveringTells }
+{}
+
+/// Two choices of a cut, of which one has the other's departures and more, leave the same bytes in each sector that no part
+/// of a further departure covers.
+pub fn touching_tells()
+    ensures { TouchingTells }
 {}

@@ -73,6 +73,9 @@
 //! - Two keys of one log are the same exactly where program, context and image are (`keys_tell`).
 //! - `==` answers whether two keys are the same (`equal_keys_are_same`), so a map finds a key exactly
 //!   where it has that key.
+//! - What an image has in a sector hangs on those departures alone whose parts cover it (`covering_tells`,
+//!   `specs/Covering.antt`). So two choices of a cut, of which one has the other's departures and beside them none whose part
+//!   covers one of some sectors, have the same bytes in these (`touching_tells`).
 //! - A crash image is a device of the log's size, of sectors of 512 bytes, and the numbers of its context
 //!   are at most 65,536 (`images_are_devices`).
 //!
@@ -142,8 +145,8 @@ pub use changes::Changes;
 pub use history::History;
 pub use key::Key;
 pub use laws::{
-    epoch_has_base, equal_keys_are_same, fates_show, images_are_devices, keys_tell,
-    last_writer_shows,
+    covering_tells, epoch_has_base, equal_keys_are_same, fates_show, images_are_devices, keys_tell,
+    last_writer_shows, touching_tells,
 };
 pub use number::initial_number;
 pub use view::View;

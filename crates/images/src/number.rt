@@ -1,7 +1,7 @@
 //! The number by which a report tells what a device held before entry 0.
 
 ghost use Rattle.std.specs.Prelude.{◌≡◌, ◌%◌, ◌^◌};
-ghost use Rattle.lanes.specs.Sector.{joined};
+ghost use Rattle.lanes.specs.Sector.{horner};
 ghost use Rattle.images.specs.Number.{initial_mix, initial_number};
 
 use logfmt::Log;
@@ -11,7 +11,7 @@ const JOIN_FACTOR: u64 = 16_777_619;
 
 /// The mixes of all sectors, joined into one number, sector 0 first.
 fn joined_mixes(log: &Log) -> u64
-    ensures { result ≡ joined (initial_mix log.now) log.now.sectors % 2 ^ 64 }
+    ensures { result ≡ horner (initial_mix log.now) log.now.sectors % 2 ^ 64 }
 {
     let initial = log.initial();
     let mut mixed: u64 = 0;

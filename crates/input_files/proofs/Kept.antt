@@ -9,7 +9,7 @@ use Rattle.logfmt.specs.declared.entry.Entry.{Entry}
 use Rattle.logfmt.specs.Bounds.{data_of, place}
 use Rattle.raw_log.specs.Raw.{IsTimes, StandsRaw, RawText, bytes_in}
 use Rattle.raw_log.proofs.NoFault.{positive}
-use Rattle.input_files.specs.RawLogs.{read_raw, needed, RawIsImportedAlike}
+use Rattle.input_files.specs.RawLogs.{read_raw, needed_length, RawIsImportedAlike}
 
 little_kept : (n j : ℕ) (xs ys : List ℕ) → j + n ≤ length xs → little_from j n (xs ++ ys) ≡ little_from j n xs
 little_kept zero j xs ys h = refl
@@ -78,11 +78,11 @@ raw_kept k xs ys es raw =
 
 pub imported_alike : RawIsImportedAlike
 imported_alike bytes text sectors limits made =
-    let all : read_raw bytes ++ drop (needed bytes) bytes ≡ bytes = take-append-drop (needed bytes) bytes in
+    let all : read_raw bytes ++ drop (needed_length bytes) bytes ≡ bytes = take-append-drop (needed_length bytes) bytes in
     record {
       k = made.k;
       entries = made.entries;
-      raw = subst (λ (xs : List ℕ). RawText made.k xs made.entries) all (raw_kept made.k (read_raw bytes) (drop (needed bytes) bytes) made.entries made.raw);
+      raw = subst (λ (xs : List ℕ). RawText made.k xs made.entries) all (raw_kept made.k (read_raw bytes) (drop (needed_length bytes) bytes) made.entries made.raw);
       importable = made.importable;
       same = made.same;
     }

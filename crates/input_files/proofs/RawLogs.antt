@@ -15,7 +15,7 @@ use Rattle.logfmt.specs.Bounds.{place}
 use Rattle.raw_log.specs.Raw.{bytes_in}
 use Rattle.raw_log.specs.Faults.{FirstRawFault, in_super, in_entry, EntriesPass, raw_super_checks, raw_entry_checks, raw_entry_fault, size_at, times_at, header, units_before, written_before, data_sectors}
 use Rattle.raw_log.proofs.NoFault.{header_place, known_size, told}
-use Rattle.input_files.specs.RawLogs.{is_known, entries_of, needed, read_raw, RawIsRefusedAlike, NoMoreIsRead, ReadRawIsShort}
+use Rattle.input_files.specs.RawLogs.{is_known, entries_of, needed_length, read_raw, RawIsRefusedAlike, NoMoreIsRead, ReadRawIsShort}
 use Rattle.input_files.proofs.Kept.{number_kept}
 
 -- the two sizes of sectors
@@ -56,18 +56,18 @@ pub up_to : (k : ℕ) (bytes : List ℕ) (i n : ℕ) → i ≤ n → header k by
 up_to k bytes i n h = let e : i + (n - i) ≡ n = omega (arith, h) in rw (← e) (later k bytes i (n - i))
 
 -- what is needed, where the size of sectors is known
-pub needed_known : (bytes : List ℕ) → is_known bytes ≡ true → needed bytes ≡ min 201326592 (header (times_at bytes) bytes (entries_of bytes))
-unfolding needed
+pub needed_known : (bytes : List ℕ) → is_known bytes ≡ true → needed_length bytes ≡ min 201326592 (header (times_at bytes) bytes (entries_of bytes))
+unfolding needed_length
 needed_known bytes known = rw known refl
 
-needed_unknown : (bytes : List ℕ) → is_known bytes ≡ false → needed bytes ≡ 512
-unfolding needed
+needed_unknown : (bytes : List ℕ) → is_known bytes ≡ false → needed_length bytes ≡ 512
+unfolding needed_length
 needed_unknown bytes unknown = rw unknown refl
 
-pub some_needed : (bytes : List ℕ) → 512 ≤ needed bytes
+pub some_needed : (bytes : List ℕ) → 512 ≤ needed_length bytes
 some_needed bytes =
-    let by_size : (b : Bool) → is_known bytes ≡ b → 512 ≤ needed bytes =
-    λ b. elim b as (λ v. is_known bytes ≡ v → 512 ≤ needed bytes) [
+    let by_size : (b : Bool) → is_known bytes ≡ b → 512 ≤ needed_length bytes =
+    λ b. elim b as (λ v. is_known bytes ≡ v → 512 ≤ needed_length bytes) [
       | true ↦ λ e.
           let is = needed_known bytes e in
           let first : header (times_at bytes) bytes 0 ≡ 1 * size_at bytes = sectors_in bytes 1 e in
@@ -78,10 +78,10 @@ some_needed bytes =
     ] in
     by_size (is_known bytes) refl
 
-needed_most : (bytes : List ℕ) → needed bytes ≤ 201326592
+needed_most : (bytes : List ℕ) → needed_length bytes ≤ 201326592
 needed_most bytes =
-    let by_size : (b : Bool) → is_known bytes ≡ b → needed bytes ≤ 201326592 =
-    λ b. elim b as (λ v. is_known bytes ≡ v → needed bytes ≤ 201326592) [
+    let by_size : (b : Bool) → is_known bytes ≡ b → needed_length bytes ≤ 201326592 =
+    λ b. elim b as (λ v. is_known bytes ≡ v → needed_length bytes ≤ 201326592) [
       | true ↦ λ e. let is = needed_known bytes e in omega (arith, clamps, is)
       | false ↦ λ e. let is = needed_unknown bytes e in omega (arith, is)
     ] in
@@ -89,7 +89,7 @@ needed_most bytes =
 
 pub read_short : ReadRawIsShort
 read_short bytes =
-    let long : length (read_raw bytes) ≡ min (needed bytes) (length bytes) = length-take (needed bytes) bytes in
+    let long : length (read_raw bytes) ≡ min (needed_length bytes) (length bytes) = length-take (needed_length bytes) bytes in
     let most = needed_most bytes in
     omega (arith, clamps, long, most)
 
@@ -101,7 +101,7 @@ no_more k sectors limits bytes es raw can =
     let count : entries_of bytes ≡ length es = raw.super.entries in
     let same : header (times_at bytes) bytes (entries_of bytes) ≡ header k bytes (length es) = rw (times, count) refl in
     let placed : header k bytes (length es) ≡ bytes_in k (place es (length es)) = header_place k bytes es (length es) raw.stands (omega arith) in
-    let long : length (read_raw bytes) ≡ min (needed bytes) (length bytes) = length-take (needed bytes) bytes in
+    let long : length (read_raw bytes) ≡ min (needed_length bytes) (length bytes) = length-take (needed_length bytes) bytes in
     omega (arith, clamps, is, same, placed, long)
 
 -- checks of which none fails
@@ -228,12 +228,12 @@ refused_first sectors limits xs ys _ _ first whole (in_entry c at clean lt pass 
     (alike at lt pass ∙ h)
 
 pub refused_alike : RawIsRefusedAlike
-refused_alike bytes sectors limits c at fault = elim (cases_lt (needed bytes) (length bytes)) [
+refused_alike bytes sectors limits c at fault = elim (cases_lt (needed_length bytes) (length bytes)) [
   | inl more ↦
       let xs : List ℕ = read_raw bytes in
-      let ys : List ℕ = drop (needed bytes) bytes in
-      let all : xs ++ ys ≡ bytes = take-append-drop (needed bytes) bytes in
-      let long : length xs ≡ needed bytes = length-take-le (needed bytes) bytes (omega (arith, more)) in
+      let ys : List ℕ = drop (needed_length bytes) bytes in
+      let all : xs ++ ys ≡ bytes = take-append-drop (needed_length bytes) bytes in
+      let long : length xs ≡ needed_length bytes = length-take-le (needed_length bytes) bytes (omega (arith, more)) in
       let some : 512 ≤ length xs = let least = some_needed bytes in omega (arith, least, long) in
       let size : size_at bytes ≡ size_at xs = ap (λ zs. number_at 4 24 zs) (sym all) ∙ number_kept 4 24 xs ys (omega (arith, some)) in
       let count : entries_of bytes ≡ entries_of xs = ap (λ zs. number_at 8 16 zs) (sym all) ∙ number_kept 8 16 xs ys (omega (arith, some)) in
@@ -251,5 +251,5 @@ refused_alike bytes sectors limits c at fault = elim (cases_lt (needed bytes) (l
       let most = (sizes bytes k_known).1 in
       omega (arith, clamps, long, is, begins, behind, size, most) in
       subst (λ zs. FirstRawFault zs sectors limits c at) all (refused_first sectors limits xs ys c at first whole fault)
-  | inr less ↦ subst (λ zs. FirstRawFault zs sectors limits c at) (take_all (needed bytes) bytes (omega (arith, less))) fault
+  | inr less ↦ subst (λ zs. FirstRawFault zs sectors limits c at) (take_all (needed_length bytes) bytes (omega (arith, less))) fault
 ]

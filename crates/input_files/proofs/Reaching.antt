@@ -9,7 +9,7 @@ use Rattle.base.specs.Numbers.{number_at}
 use Rattle.raw_log.specs.Raw.{bytes_in}
 use Rattle.raw_log.specs.Faults.{size_at, times_at, header, data_sectors}
 use Rattle.input_files.specs.declared.reach.Reach.{Reach}
-use Rattle.input_files.specs.RawLogs.{is_known, entries_of, needed, read_raw, IsNext, IsReach}
+use Rattle.input_files.specs.RawLogs.{is_known, entries_of, needed_length, read_raw, IsNext, IsReach}
 use Rattle.input_files.proofs.Kept.{number_kept}
 use Rattle.input_files.proofs.RawLogs.{sectors_in, sizes, up_to, needed_known, some_needed}
 
@@ -63,7 +63,7 @@ cases_zero zero = inl refl
 cases_zero (suc n) = inr (omega arith)
 
 -- what is needed is no less than what is read next
-pub reached_needed : (bytes : List ℕ) (r : Reach) → r.needed ≤ 201326592 → Reaches bytes r → r.needed ≤ needed bytes
+pub reached_needed : (bytes : List ℕ) (r : Reach) → r.needed ≤ 201326592 → Reaches bytes r → r.needed ≤ needed_length bytes
 reached_needed bytes r most is = elim (cases_zero r.left) [
   | inl none ↦ let e = is.last none in omega (arith, e)
   | inr some ↦
@@ -80,7 +80,7 @@ reached_needed bytes r most is = elim (cases_zero r.left) [
 
 -- the first bytes of a raw log tell how far it is to be read next
 pub first_unknown : (raw rest : List ℕ) (size : ℕ) → 512 ≤ length raw → size ≡ number_at 4 24 raw → size ≢ 512 → size ≢ 4096 → IsReach (raw ++ rest) 512 512 0
-unfolding needed
+unfolding needed_length
 first_unknown raw rest size long is other none =
     let all : size_at (raw ++ rest) ≡ size = number_kept 4 24 raw rest (omega (arith, long)) ∙ sym is in
     let small : (size == 512) ≡ false = grind (arith, nat_tests, other) in
@@ -202,7 +202,7 @@ pub all_read : (a b : Option (List ℕ)) (bs : List ℕ) (r : Reach) → Consume
 all_read None b bs r p is none long = tt
 all_read (Some xs) None bs r p is none long = absurd p
 all_read (Some xs) (Some ys) bs r p is none long =
-    let most : needed xs ≡ length bs = sym (is.last none) ∙ sym long in
+    let most : needed_length xs ≡ length bs = sym (is.last none) ∙ sym long in
     sym (take-append_seam bs ys) ∙ ap (take (length bs)) (sym p) ∙ ap (λ n. take n xs) (sym most)
 
 pub read_to_end : (a b : Option (List ℕ)) (bs : List ℕ) (r : Reach) → r.needed ≤ 201326592 → Consumes a b bs → IsAtEnd b → OfKnown a r → length bs ≤ r.needed
@@ -213,7 +213,7 @@ read_to_end (Some xs) (Some ys) bs r most p end is within =
     let whole : xs ≡ bs = p ∙ ap (λ l. bs ++ l) end ∙ append-nil bs in
     let far = reached_needed xs r most is in
     let long = ap length whole in
-    sym whole ∙ sym (take_all (needed xs) xs (omega (arith, far, long, within)))
+    sym whole ∙ sym (take_all (needed_length xs) xs (omega (arith, far, long, within)))
 
 pub read_short_file : (a b : Option (List ℕ)) (bs : List ℕ) → Consumes a b bs → IsAtEnd b → length bs ≤ 512 → IfSome a (λ xs. bs ≡ read_raw xs)
 read_short_file None b bs p end within = tt
@@ -222,4 +222,4 @@ read_short_file (Some xs) (Some ys) bs p end within =
     let whole : xs ≡ bs = p ∙ ap (λ l. bs ++ l) end ∙ append-nil bs in
     let far = some_needed xs in
     let long = ap length whole in
-    sym whole ∙ sym (take_all (needed xs) xs (omega (arith, far, long, within)))
+    sym whole ∙ sym (take_all (needed_length xs) xs (omega (arith, far, long, within)))

@@ -18,12 +18,12 @@ abbrev pub entries_of : List ℕ → ℕ
 entries_of bytes = number_at 8 16 bytes
 
 -- how many bytes of a raw log are needed: up to where its last entry ends, as the headers tell, and at most 192 MiB
-unfoldable pub needed : List ℕ → ℕ
-needed bytes = if is_known bytes then min 201326592 (header (times_at bytes) bytes (entries_of bytes)) else 512
+unfoldable pub needed_length : List ℕ → ℕ
+needed_length bytes = if is_known bytes then min 201326592 (header (times_at bytes) bytes (entries_of bytes)) else 512
 
 -- the bytes that are read of a raw log
 abbrev pub read_raw : List ℕ → List ℕ
-read_raw bytes = take (needed bytes) bytes
+read_raw bytes = take (needed_length bytes) bytes
 
 -- what is imported of the bytes that are read is imported of the raw log: the bytes behind change nothing
 abbrev pub RawIsImportedAlike : Type 0
@@ -55,4 +55,4 @@ pub record IsNext (bytes : List ℕ) (size reached left : ℕ) : Type 0 where
 -- how far a raw log is to be read: to the end of the header of the first entry that is left, or else to the end of what is needed
 pub record IsReach (bytes : List ℕ) (size reached left : ℕ) : Type 0 where
   pub next : 0 < left → IsNext bytes size reached left
-  pub last : left ≡ 0 → reached ≡ needed bytes
+  pub last : left ≡ 0 → reached ≡ needed_length bytes

@@ -5,5 +5,6 @@ pub mod Cells
 pub mod Reading
 pub mod Frames
 pub mod Stopping
+pub mod Looks
 pub mod Accesses
 pub mod Walks

@@ -4,8 +4,8 @@
 ghost use Rattle.std.specs.Prelude.{◌≡◌, ◌≤◌, ◌<◌, ◌+◌, length, replicate};
 ghost use Rattle.machine.specs.Memory.{byte_count};
 ghost use Rattle.machine.specs.State.{unset_stack};
-ghost use Rattle.interp.specs.Cells.{written};
-ghost use Rattle.interp.specs.Reading.{reading, stacked};
+ghost use Rattle.interp.specs.Cells.{stack_with};
+ghost use Rattle.interp.specs.Reading.{reading, stack_byte};
 
 use crate::stack::{is_marked, number};
 use arithmetic::byte_count;
@@ -64,7 +64,7 @@ impl CalledStack {
     /// Reads an access that begins at a place of the stack.
     pub(crate) fn read(&self, place: u64, size: Size) -> Result<u64, MachineFault>
         requires { place < 512 }
-        ensures { result ≡ reading (stacked self.now) place (byte_count size) }
+        ensures { result ≡ reading (stack_byte self.now) place (byte_count size) }
     {
         let (bytes, marks) = (&self.bytes, &self.marks);
         if place + byte_count(size) > 512 {
@@ -79,7 +79,7 @@ impl CalledStack {
     /// Writes bytes from a place of the stack on.
     pub(crate) fn write(&mut self, place: usize, bytes: &[u8])
         requires { place + length bytes.now ≤ 512 }
-        ensures written { self.new ≡ written self.old place bytes.now }
+        ensures written { self.new ≡ stack_with self.old place bytes.now }
         ensures long { length self.new ≡ 512 }
     {
         let end = place + bytes.len();

@@ -5,7 +5,7 @@ ghost use Rattle.std.specs.Option.{option_map};
 ghost use Rattle.machine.specs.State.{unset_stack};
 ghost use Rattle.machine.specs.Step.{caller_of};
 ghost use Rattle.machine.specs.Memory.{change_at};
-ghost use Rattle.interp.specs.Cells.{written};
+ghost use Rattle.interp.specs.Cells.{stack_with};
 ghost use Rattle.interp.specs.Frames.{called_frame, caller_value, AreLong};
 
 use crate::called_stack::CalledStack;
@@ -109,7 +109,7 @@ impl Frames {
         requires number { number < length self.old }
         requires few { number < 3 }
         requires fits { place + length bytes.now ≤ 512 }
-        ensures { self.new ≡ change_at number (λ f. record f { stack = written f.stack place bytes.now }) self.old }
+        ensures { self.new ≡ change_at number (λ f. record f { stack = stack_with f.stack place bytes.now }) self.old }
     {
         self.stacks[number].write(place, bytes);
     }

@@ -4,13 +4,13 @@
 ghost use Rattle.std.specs.Prelude.{◌≡◌, ◌≤◌, ◌<◌, ◌+◌, ◌-◌, ◌*◌, ◌/◌, ◌^◌, ◌⊎◌, ℕ, List, Ok, Err, length, nat_le, slice_get, IfNone, IfSome, IfOk, Some, if◌then◌else◌};
 ghost use Rattle.base.specs.declared.causes.MachineFault.TheVariants.{ReadOnly, Unmapped};
 ghost use Rattle.std.specs.Option.{option_map};
-ghost use Rattle.machine.specs.Memory.{byte_count, byte_at, change_at, stored};
+ghost use Rattle.machine.specs.Memory.{byte_count, byte_at, change_at, frames_with};
 ghost use Rattle.machine.specs.State.{context_start, stack_start};
 ghost use Rattle.machine.specs.Step.{memory};
 ghost use Rattle.helpers.specs.Answers.{sector_start};
-ghost use Rattle.interp.specs.Cells.{written};
+ghost use Rattle.interp.specs.Cells.{stack_with};
 ghost use Rattle.interp.specs.Frames.{AreLong, BeginsAt, LieAt, frames_above};
-ghost use Rattle.interp.specs.Reading.{reading, refused, write_fault};
+ghost use Rattle.interp.specs.Reading.{reading, fault_of, write_fault};
 
 use crate::frames::Frames;
 use crate::stack::{Stack, read_plain};
@@ -163,7 +163,7 @@ fn write_above(called: &mut [Frames], number: usize, place: usize, bytes: &[u8])
     requires number { number < length (frames_above called.old) }
     requires few { number < 3 }
     requires fits { place + length bytes.now ≤ 512 }
-    ensures { frames_above called.new ≡ change_at number (λ f. record f { stack = written f.stack place bytes.now }) (frames_above called.old) }
+    ensures { frames_above called.new ≡ change_at number (λ f. record f { stack = stack_with f.stack place bytes.now }) (frames_above called.old) }
 {
     called[0].write(number, place, bytes);
 }
@@ -238,7 +238,7 @@ impl<const COUNTS: usize, const FRAMES: usize> Machine<COUNTS, FRAMES> {
     ) -> Result<Spot, MachineFault>
         requires some { 0 < count }
         requires few { count ≤ 512 }
-        ensures fault { refused result ≡ write_fault (memory world.now.context (D.content world.now.device.now) self.now) address count }
+        ensures fault { fault_of result ≡ write_fault (memory world.now.context (D.content world.now.device.now) self.now) address count }
         ensures spot { IfOk result (λ s. LieAt self.now.frames address count s.frame s.place) }
     {
         let (_stack, _called) = (&self.stack, &self.called);
@@ -269,7 +269,7 @@ impl<const COUNTS: usize, const FRAMES: usize> Machine<COUNTS, FRAMES> {
         requires some { 0 < count }
         requires few { count ≤ 512 }
         requires first { (address < stack_start) ⊎ (stack_start + 512 ≤ address) }
-        ensures fault { refused result ≡ write_fault (memory world.now.context (D.content world.now.device.now) self.now) address count }
+        ensures fault { fault_of result ≡ write_fault (memory world.now.context (D.content world.now.device.now) self.now) address count }
         ensures spot { IfOk result (λ s. LieAt self.now.frames address count s.frame s.place) }
     {
         match block_fault(self, world, address, count) {
@@ -302,7 +302,7 @@ impl<const COUNTS: usize, const FRAMES: usize> Machine<COUNTS, FRAMES> {
         requires below { address < sector_start }
         requires context { (address < context_start) ⊎ (context_start + 32 ≤ address) }
         requires first { (address < stack_start) ⊎ (stack_start + 512 ≤ address) }
-        ensures fault { (context : List ℕ) (device : List (List ℕ)) → length context ≡ 32 → refused result ≡ write_fault (byte_at context device self.now.frames) address count }
+        ensures fault { (context : List ℕ) (device : List (List ℕ)) → length context ≡ 32 → fault_of result ≡ write_fault (byte_at context device self.now.frames) address count }
         ensures spot { IfOk result (λ s. LieAt self.now.frames address count s.frame s.place) }
     {
         let (_stack, _called) = (&self.stack, &self.called);
@@ -322,7 +322,7 @@ impl<const COUNTS: usize, const FRAMES: usize> Machine<COUNTS, FRAMES> {
         requires frame { spot.frame < length self.old.frames }
         requires few { spot.frame < 4 }
         requires fits { spot.place + length bytes.now ≤ 512 }
-        ensures { (a : ℕ) → LieAt self.old.frames a (length bytes.now) spot.frame spot.place → self.new ≡ record self.old { frames = stored self.old.frames a bytes.now } }
+        ensures { (a : ℕ) → LieAt self.old.frames a (length bytes.now) spot.frame spot.place → self.new ≡ record self.old { frames = frames_with self.old.frames a bytes.now } }
     {
         if spot.frame == 0 {
             self.stack.write(spot.place, bytes);

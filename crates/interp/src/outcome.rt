@@ -2,6 +2,7 @@
 
 use arrayvec::ArrayVec;
 use base::causes::MachineFault;
+use helpers::Footprint;
 
 /// The most codes that a verdict keeps.
 pub const MAX_CODES: usize = 16;
@@ -22,4 +23,11 @@ pub enum Outcome {
     Fault { code: MachineFault, slot: u32 },
     /// All steps were made, and none of them ended the checker.
     OutOfSteps,
+}
+
+/// What a run of a checker comes to, and its footprint (docs/MACHINE.md, Footprint) in so much room.
+#[derive(Drop)]
+pub struct Noted<const ROOM: usize> {
+    pub outcome: Outcome,
+    pub footprint: Footprint<ROOM>,
 }

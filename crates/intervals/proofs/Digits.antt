@@ -8,7 +8,7 @@ use Rattle.std.proofs.lemmas.Bool.Decides.{nat_tests}
 use Rattle.std.proofs.Math.Numerals.{add-one}
 use Rattle.std.proofs.Math.Nat.{mod-le, pow-suc, mul-suc, suc-mul, mul_comm, div-eq_of_lt-le, pow-le-pow_right}
 use Rattle.intervals.specs.Spans.{Span, IsSpan, Within}
-use Rattle.intervals.specs.Rounding.{floor, ceiling, rounded, IsFloor, IsCeiling}
+use Rattle.intervals.specs.Rounding.{floor, ceiling, round_span, IsFloor, IsCeiling}
 
 -- The digits of a word: so many as stand behind its leading zeros.
 pub record Digits (a : ℕ) : Type 0 where
@@ -131,15 +131,15 @@ ceiling_fits a k h lt =
     let f = ceiling_nearest a h in
     omega (arith, f.least k (omega (arith, lt)), pow_pos k)
 
-pub rounded_within : (x : Span) → IsSpan (2 ^ 64 - 1) x → Within x (rounded x)
-unfolding rounded
+pub rounded_within : (x : Span) → IsSpan (2 ^ 64 - 1) x → Within x (round_span x)
+unfolding round_span
 rounded_within x s =
     let f = floor_nearest x.low (omega (arith, s.ordered, s.most)) in
     let g = ceiling_nearest x.high (omega (arith, s.most)) in
     record { from = f.below; upto = g.above }
 
-pub rounded_fits : (bits : ℕ) (x : Span) → bits ≤ 64 → IsSpan (2 ^ bits - 1) x → IsSpan (2 ^ bits - 1) (rounded x)
-unfolding rounded
+pub rounded_fits : (bits : ℕ) (x : Span) → bits ≤ 64 → IsSpan (2 ^ bits - 1) x → IsSpan (2 ^ bits - 1) (round_span x)
+unfolding round_span
 rounded_fits bits x b s =
     let words : 2 ^ bits ≤ 2 ^ 64 = pow-le-pow_right {n = 2} (omega arith) b in
     let h : x.high < 2 ^ 64 = omega (arith, s.most, pow_pos bits, words) in
@@ -148,8 +148,8 @@ rounded_fits bits x b s =
     let e = ceiling_fits x.high bits h (omega (arith, s.most, pow_pos bits)) in
     record { ordered = omega (arith, f.below, g.above, s.ordered); most = omega (arith, e) }
 
-pub rounded_mono : (x s : Span) → IsSpan (2 ^ 64 - 1) x → IsSpan (2 ^ 64 - 1) s → Within x s → Within (rounded x) (rounded s)
-unfolding rounded
+pub rounded_mono : (x s : Span) → IsSpan (2 ^ 64 - 1) x → IsSpan (2 ^ 64 - 1) s → Within x s → Within (round_span x) (round_span s)
+unfolding round_span
 rounded_mono x s hx hs w =
     record {
       from = floor_mono s.low x.low w.from (omega (arith, hx.ordered, hx.most));

@@ -8,9 +8,9 @@ use Rattle.bpf_isa.specs.declared.instr.Width.{Width}
 use Rattle.bpf_isa.specs.declared.instr.Width.TheVariants as width
 use Rattle.bpf_isa.specs.declared.instr.Condition.{Condition}
 use Rattle.bpf_isa.specs.declared.instr.Condition.TheVariants as cond
-use Rattle.machine.specs.Arithmetic.{compared, holds}
+use Rattle.machine.specs.Arithmetic.{condition_holds, holds}
 use Rattle.intervals.specs.Spans.{Span, span, Has, Within}
-use Rattle.intervals.specs.Edges.{both, equal, without, apart, above, at_most, at_least, below, narrowed, is_same, refined}
+use Rattle.intervals.specs.Edges.{both, equal, without, apart, above, at_most, at_least, below, condition_edge, is_same, jump_edge}
 use Rattle.intervals.specs.Laws.{Leaves, Shrinks, WithinBoth, IsWordSpan}
 
 -- two spans that have words are left
@@ -66,9 +66,9 @@ below_leaves x y a b h k e =
     h.from (omega (arith, h.upto, k.upto, e)) (omega (arith, h.from, k.from, e)) k.upto
 
 -- what the edge of a condition leaves
-pub narrowed_leaves : (c : Condition) (taken : Bool) (x y : Span) (a b : ℕ) → Has x a → Has y b → compared width.W64 c a b ≡ taken
-    → Leaves (narrowed c taken x y) a b
-unfolding narrowed compared
+pub narrowed_leaves : (c : Condition) (taken : Bool) (x y : Span) (a b : ℕ) → Has x a → Has y b → condition_holds width.W64 c a b ≡ taken
+    → Leaves (condition_edge c taken x y) a b
+unfolding condition_edge condition_holds
 narrowed_leaves cond.Eq true x y a b h k e = equal_leaves x y a b h k (grind (arith, nat_tests, e))
 narrowed_leaves cond.Eq false x y a b h k e = apart_leaves x y a b h k (grind (arith, nat_tests, e))
 narrowed_leaves cond.Ne true x y a b h k e = apart_leaves x y a b h k (grind (arith, nat_tests, e))
@@ -92,11 +92,11 @@ leave_if true p q a b h k = h
 leave_if false p q a b h k = k
 
 pub refined_leaves : (w : Width) (c : Condition) (dst : ℕ) (from : Source) (offset : ℤ) (taken : Bool) (x y : Span) (a b : ℕ)
-    → Has x a → Has y b → holds w c a b ≡ taken → Leaves (refined (instr.Branch w c dst from offset) taken x y) a b
-unfolding refined holds
+    → Has x a → Has y b → holds w c a b ≡ taken → Leaves (jump_edge (instr.Branch w c dst from offset) taken x y) a b
+unfolding jump_edge holds
 refined_leaves width.W32 c dst from offset taken x y a b h k e = (h, k)
 refined_leaves width.W64 c dst from offset taken x y a b h k e =
-    leave_if (is_same dst from) (Some (x, y)) (narrowed c taken x y) a b (h, k) (narrowed_leaves c taken x y a b h k e)
+    leave_if (is_same dst from) (Some (x, y)) (condition_edge c taken x y) a b (h, k) (narrowed_leaves c taken x y a b h k e)
 
 -- what is left lies in the ranges before
 shrink_if : (t : Bool) (x y p q : Span) → (t ≡ true → IsWordSpan p × IsWordSpan q) → Within p x → Within q y
@@ -175,8 +175,8 @@ apart_shrinks x y hx hy = both_shrink x y (without x y) (without y x) hx hy (wit
 kept_shrinks : (x y : Span) → IsWordSpan x → IsWordSpan y → Shrinks (Some (x, y)) x y
 kept_shrinks x y hx hy = (hx, hy, record { from = omega arith; upto = omega arith }, record { from = omega arith; upto = omega arith })
 
-pub narrowed_shrinks : (c : Condition) (taken : Bool) (x y : Span) → IsWordSpan x → IsWordSpan y → Shrinks (narrowed c taken x y) x y
-unfolding narrowed
+pub narrowed_shrinks : (c : Condition) (taken : Bool) (x y : Span) → IsWordSpan x → IsWordSpan y → Shrinks (condition_edge c taken x y) x y
+unfolding condition_edge
 narrowed_shrinks cond.Eq true x y hx hy = equal_shrinks x y hx hy
 narrowed_shrinks cond.Eq false x y hx hy = apart_shrinks x y hx hy
 narrowed_shrinks cond.Ne true x y hx hy = apart_shrinks x y hx hy
@@ -199,10 +199,10 @@ shrink_either : (t : Bool) (p q : Option (Span × Span)) (x y : Span) → Shrink
 shrink_either true p q x y h k = h
 shrink_either false p q x y h k = k
 
-pub refined_shrinks : (i : Instr) (taken : Bool) (x y : Span) → IsWordSpan x → IsWordSpan y → Shrinks (refined i taken x y) x y
-unfolding refined
+pub refined_shrinks : (i : Instr) (taken : Bool) (x y : Span) → IsWordSpan x → IsWordSpan y → Shrinks (jump_edge i taken x y) x y
+unfolding jump_edge
 refined_shrinks (instr.Branch width.W64 c dst from offset) taken x y hx hy =
-    shrink_either (is_same dst from) (Some (x, y)) (narrowed c taken x y) x y (kept_shrinks x y hx hy) (narrowed_shrinks c taken x y hx hy)
+    shrink_either (is_same dst from) (Some (x, y)) (condition_edge c taken x y) x y (kept_shrinks x y hx hy) (narrowed_shrinks c taken x y hx hy)
 refined_shrinks (instr.Branch width.W32 c dst from offset) taken x y hx hy = kept_shrinks x y hx hy
 refined_shrinks _ taken x y hx hy = kept_shrinks x y hx hy
 
@@ -254,8 +254,8 @@ apart_mono x y s t hx hy a b =
     both_within (without x y) (without y x) (without s t) (without t s) (without_mono x y s t hy a b) (without_mono y x t s hx b a)
 
 pub narrowed_mono : (c : Condition) (taken : Bool) (x y s t : Span) → IsWordSpan x → IsWordSpan y → Within x s → Within y t
-    → WithinBoth (narrowed c taken x y) (narrowed c taken s t)
-unfolding narrowed
+    → WithinBoth (condition_edge c taken x y) (condition_edge c taken s t)
+unfolding condition_edge
 narrowed_mono cond.Eq true x y s t hx hy a b = equal_mono x y s t a b
 narrowed_mono cond.Eq false x y s t hx hy a b = apart_mono x y s t hx hy a b
 narrowed_mono cond.Ne true x y s t hx hy a b = apart_mono x y s t hx hy a b
@@ -280,9 +280,9 @@ within_either true p q r s h k = h
 within_either false p q r s h k = k
 
 pub refined_mono : (i : Instr) (taken : Bool) (x y s t : Span) → IsWordSpan x → IsWordSpan y → Within x s → Within y t
-    → WithinBoth (refined i taken x y) (refined i taken s t)
-unfolding refined
+    → WithinBoth (jump_edge i taken x y) (jump_edge i taken s t)
+unfolding jump_edge
 refined_mono (instr.Branch width.W64 c dst from offset) taken x y s t hx hy a b =
-    within_either (is_same dst from) (Some (x, y)) (narrowed c taken x y) (Some (s, t)) (narrowed c taken s t) (a, b) (narrowed_mono c taken x y s t hx hy a b)
+    within_either (is_same dst from) (Some (x, y)) (condition_edge c taken x y) (Some (s, t)) (condition_edge c taken s t) (a, b) (narrowed_mono c taken x y s t hx hy a b)
 refined_mono (instr.Branch width.W32 c dst from offset) taken x y s t hx hy a b = (a, b)
 refined_mono _ taken x y s t hx hy a b = (a, b)

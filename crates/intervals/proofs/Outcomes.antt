@@ -11,13 +11,13 @@ use Rattle.bpf_isa.specs.declared.instr.Width.{Width}
 use Rattle.bpf_isa.specs.declared.instr.Width.TheVariants as width
 use Rattle.bpf_isa.specs.declared.instr.Operator.TheVariants as op
 use Rattle.bpf_isa.specs.declared.instr.Condition.{Condition}
-use Rattle.machine.specs.Arithmetic.{arithmetic, extended, in_order, holds}
+use Rattle.machine.specs.Arithmetic.{arithmetic, sign_extension, in_order, holds}
 use Rattle.intervals.specs.Spans.{Span, span, only, IsSpan, Has, Within}
 use Rattle.intervals.specs.Results.{result_of}
-use Rattle.intervals.specs.Edges.{narrowed, is_same}
+use Rattle.intervals.specs.Edges.{condition_edge, is_same}
 use Rattle.intervals.specs.Laws.{IsWordSpan, HasResult, FitsWords, WithinOne, Leaves, Shrinks, WithinBoth, ResultsCover, ResultsFit, ResultsAreMonotone}
 use Rattle.intervals.specs.SignedSpans.{SignedSpan, signed_span, signed_full, IsSignedSpan, HasSigned, SignedWithin}
-use Rattle.intervals.specs.Reducing.{Limits, limits, HasWord, LimitsWithin, reduced, IsReduced, IsWordLimits, IsLimits, any_sign}
+use Rattle.intervals.specs.Reducing.{Limits, limits, HasWord, LimitsWithin, reduction, IsReduced, IsWordLimits, IsLimits, any_sign}
 use Rattle.intervals.specs.SignedResults.{signed_result_of, limits_result_of}
 use Rattle.intervals.specs.SignedEdges.{both_of, signed_narrowed, limits_narrowed, limits_refined}
 use Rattle.intervals.specs.LimitLaws.{Related, BothWithin, LimitResultsCover, LimitResultsFit, LimitResultsAreMonotone, LimitRefinementsCover, LimitRefinementsFit, LimitRefinementsAreMonotone}
@@ -59,10 +59,10 @@ word_fits : (x : Limits) (a : ℕ) → IsWordLimits x → HasWord x a → a < 2 
 word_fits x a h k = omega (arith, h.words.most, k.word.upto)
 
 -- a word of both ranges stays: its own limits are reduced, and lie in what is left
-pub reduced_has : (x : Limits) (a : ℕ) → IsWordLimits x → HasWord x a → IsSomeAnd (reduced x) (λ y. HasWord y a)
+pub reduced_has : (x : Limits) (a : ℕ) → IsWordLimits x → HasWord x a → IsSomeAnd (reduction x) (λ y. HasWord y a)
 reduced_has x a hx k =
     let f = word_fits x a hx k in
-    weaken (reduced x) (reduced_has_within (point a) x (point_fits a f) hx (point_is_reduced a f) (point_within x a k))
+    weaken (reduction x) (reduced_has_within (point a) x (point_fits a f) hx (point_is_reduced a f) (point_within x a k))
   where
     weaken : (r : Option Limits) → IsSomeAnd r (λ z. LimitsWithin (point a) z) → IsSomeAnd r (λ z. HasWord z a)
     weaken None h = absurd h
@@ -75,7 +75,7 @@ limits_from_settled x y s = record { words = s.fits.words; readings = s.fits.rea
 -- results
 
 result_has : (r : Option Span) (s : SignedSpan) (c : ℕ) → FitsWords r → IsSignedSpan s → HasResult r c → HasSigned s (cast_signed w64 c)
-    → IsSomeAnd (option_and_then (λ u. reduced (limits u s)) r) (λ z. HasWord z c)
+    → IsSomeAnd (option_and_then (λ u. reduction (limits u s)) r) (λ z. HasWord z c)
 result_has None s c f hs h k = absurd h
 result_has (Some u) s c f hs h k = reduced_has (limits u s) c (record { words = f; readings = hs }) (record { word = h; reading = k })
 
@@ -101,9 +101,9 @@ results_cover_limits covers fit =
           (covers.opposites w dst x.unsigned x.unsigned a hx.words ka.word) (full_reading (arithmetic w op.Sub 0 a));
       signs =
           λ e dst src x y b hy kb.
-          result_has (result_of (instr.SignExtend e dst src) y.unsigned y.unsigned) signed_full (extended e b)
+          result_has (result_of (instr.SignExtend e dst src) y.unsigned y.unsigned) signed_full (sign_extension e b)
           (fit (instr.SignExtend e dst src) y.unsigned y.unsigned hy.words hy.words) full_fits
-          (covers.signs e dst src y.unsigned y.unsigned b hy.words kb.word) (full_reading (extended e b));
+          (covers.signs e dst src y.unsigned y.unsigned b hy.words kb.word) (full_reading (sign_extension e b));
       orders =
           λ o size dst x y a hx ka.
           result_has (result_of (instr.ByteOrder o size dst) x.unsigned x.unsigned) signed_full (in_order o size a)
@@ -117,7 +117,7 @@ results_fit_limits fit i x y z hx hy e =
     done (result_of i x.unsigned y.unsigned) (signed_result_of i x.signed y.signed) (fit i x.unsigned y.unsigned hx.words hy.words)
     (signed_result_fits i x.signed y.signed hx.readings hy.readings) e
   where
-    done : (r : Option Span) (s : SignedSpan) → FitsWords r → IsSignedSpan s → option_and_then (λ u. reduced (limits u s)) r ≡ Some z → IsLimits z
+    done : (r : Option Span) (s : SignedSpan) → FitsWords r → IsSignedSpan s → option_and_then (λ u. reduction (limits u s)) r ≡ Some z → IsLimits z
     done None s f hs e = absurd (let bad : None ≡ Some z = e in cc)
     done (Some u) s f hs e = limits_from_settled (limits u s) z (reduced_twice (limits u s) z (record { words = f; readings = hs }) e).0
 
@@ -131,7 +131,7 @@ results_mono_limits mono fit i x y s t hx hy hs ht wx wy =
     (signed_result_mono i x.signed y.signed s.signed t.signed wx.signed wy.signed)
   where
     step : (p q : Option Span) (l m : SignedSpan) → FitsWords p → FitsWords q → IsSignedSpan l → IsSignedSpan m → WithinOne p q → SignedWithin l m
-        → Related LimitsWithin (option_and_then (λ u. reduced (limits u l)) p) (option_and_then (λ v. reduced (limits v m)) q)
+        → Related LimitsWithin (option_and_then (λ u. reduction (limits u l)) p) (option_and_then (λ v. reduction (limits v m)) q)
     step None q l m f g hl hm w z = tt
     step (Some u) None l m f g hl hm w z = absurd w
     step (Some u) (Some v) l m f g hl hm w z =
@@ -147,11 +147,11 @@ pair_has (Some l) (Some r) a b h k = (h, k)
 
 edge_has : (o : Option (Span × Span)) (q : Option (SignedSpan × SignedSpan)) (x y : Limits) (a b : ℕ) → Leaves o a b → Shrinks o x.unsigned y.unsigned
     → IsSomeAnd q (HasTwo (cast_signed w64 a) (cast_signed w64 b)) → Whenever (TwoOf x.signed y.signed) q
-    → IsSomeAnd (option_and_then (λ u. option_and_then (λ s. both_of (reduced (limits u.0 s.0)) (reduced (limits u.1 s.1))) q) o) (λ p. HasWord p.0 a × HasWord p.1 b)
+    → IsSomeAnd (option_and_then (λ u. option_and_then (λ s. both_of (reduction (limits u.0 s.0)) (reduction (limits u.1 s.1))) q) o) (λ p. HasWord p.0 a × HasWord p.1 b)
 edge_has None q x y a b h f k g = absurd h
 edge_has (Some u) None x y a b h f k g = absurd k
 edge_has (Some u) (Some s) x y a b h f k g =
-    pair_has (reduced (limits u.0 s.0)) (reduced (limits u.1 s.1)) a b
+    pair_has (reduction (limits u.0 s.0)) (reduction (limits u.1 s.1)) a b
     (reduced_has (limits u.0 s.0) a (record { words = f.0; readings = g.0 }) (record { word = h.0; reading = k.0 }))
     (reduced_has (limits u.1 s.1) b (record { words = f.1; readings = g.1 }) (record { word = h.1; reading = k.1 }))
 
@@ -164,7 +164,7 @@ narrowed_has : (c : Condition) (taken : Bool) (x y : Limits) (a b : ℕ) → IsW
     → holds width.W64 c a b ≡ taken → IsSomeAnd (limits_narrowed c taken x y) (λ p. HasWord p.0 a × HasWord p.1 b)
 unfolding limits_narrowed holds
 narrowed_has c taken x y a b hx hy ka kb e =
-    edge_has (narrowed c taken x.unsigned y.unsigned) (signed_narrowed c taken x.signed y.signed) x y a b
+    edge_has (condition_edge c taken x.unsigned y.unsigned) (signed_narrowed c taken x.signed y.signed) x y a b
     (narrowed_leaves c taken x.unsigned y.unsigned a b ka.word kb.word e) (narrowed_shrinks c taken x.unsigned y.unsigned hx.words hy.words)
     (signed_narrowed_leaves c taken x.signed y.signed a b ka.reading kb.reading e) (signed_narrowed_two c taken x.signed y.signed hx.readings hy.readings)
 
@@ -194,11 +194,11 @@ pair_left x y m n (Some l) (Some r) v w h k =
 
 edge_left : (o : Option (Span × Span)) (q : Option (SignedSpan × SignedSpan)) (x y : Limits) → Shrinks o x.unsigned y.unsigned
     → Whenever (TwoOf x.signed y.signed) q
-    → Whenever (Left x y) (option_and_then (λ u. option_and_then (λ s. both_of (reduced (limits u.0 s.0)) (reduced (limits u.1 s.1))) q) o)
+    → Whenever (Left x y) (option_and_then (λ u. option_and_then (λ s. both_of (reduction (limits u.0 s.0)) (reduction (limits u.1 s.1))) q) o)
 edge_left None q x y f g = tt
 edge_left (Some u) None x y f g = tt
 edge_left (Some u) (Some s) x y f g =
-    pair_left x y (limits u.0 s.0) (limits u.1 s.1) (reduced (limits u.0 s.0)) (reduced (limits u.1 s.1))
+    pair_left x y (limits u.0 s.0) (limits u.1 s.1) (reduction (limits u.0 s.0)) (reduction (limits u.1 s.1))
     (record { unsigned = f.2; signed = g.2 }) (record { unsigned = f.3; signed = g.3 })
     (reduced_settles (limits u.0 s.0) (record { words = f.0; readings = g.0 })) (reduced_settles (limits u.1 s.1) (record { words = f.1; readings = g.1 }))
 
@@ -209,7 +209,7 @@ left_either false x y p q h k = k
 narrowed_left : (c : Condition) (taken : Bool) (x y : Limits) → IsWordLimits x → IsWordLimits y → Whenever (Left x y) (limits_narrowed c taken x y)
 unfolding limits_narrowed
 narrowed_left c taken x y hx hy =
-    edge_left (narrowed c taken x.unsigned y.unsigned) (signed_narrowed c taken x.signed y.signed) x y
+    edge_left (condition_edge c taken x.unsigned y.unsigned) (signed_narrowed c taken x.signed y.signed) x y
     (narrowed_shrinks c taken x.unsigned y.unsigned hx.words hy.words) (signed_narrowed_two c taken x.signed y.signed hx.readings hy.readings)
 
 within_self : (x : Limits) → LimitsWithin x x
@@ -239,14 +239,14 @@ pair_within (Some l) (Some m) (Some n) (Some r) h k = (h, k)
 
 edge_within : (o p : Option (Span × Span)) (q r : Option (SignedSpan × SignedSpan)) (x y s t : Limits) → Shrinks o x.unsigned y.unsigned
     → Shrinks p s.unsigned t.unsigned → Whenever (TwoOf x.signed y.signed) q → Whenever (TwoOf s.signed t.signed) r → WithinBoth o p → Related TwoWithin q r
-    → Related BothWithin (option_and_then (λ u. option_and_then (λ z. both_of (reduced (limits u.0 z.0)) (reduced (limits u.1 z.1))) q) o)
-    (option_and_then (λ u. option_and_then (λ z. both_of (reduced (limits u.0 z.0)) (reduced (limits u.1 z.1))) r) p)
+    → Related BothWithin (option_and_then (λ u. option_and_then (λ z. both_of (reduction (limits u.0 z.0)) (reduction (limits u.1 z.1))) q) o)
+    (option_and_then (λ u. option_and_then (λ z. both_of (reduction (limits u.0 z.0)) (reduction (limits u.1 z.1))) r) p)
 edge_within None p q r x y s t f g h k v w = tt
 edge_within (Some u) None q r x y s t f g h k v w = absurd v
 edge_within (Some u) (Some v) None r x y s t f g h k a w = tt
 edge_within (Some u) (Some v) (Some z) None x y s t f g h k a w = absurd w
 edge_within (Some u) (Some v) (Some y) (Some z) xs ys s t f g h k a w =
-    pair_within (reduced (limits u.0 y.0)) (reduced (limits u.1 y.1)) (reduced (limits v.0 z.0)) (reduced (limits v.1 z.1))
+    pair_within (reduction (limits u.0 y.0)) (reduction (limits u.1 y.1)) (reduction (limits v.0 z.0)) (reduction (limits v.1 z.1))
     (reduced_related (limits u.0 y.0) (limits v.0 z.0) (record { words = f.0; readings = h.0 }) (record { words = g.0; readings = k.0 }) (record { unsigned = a.0; signed = w.0 }))
     (reduced_related (limits u.1 y.1) (limits v.1 z.1) (record { words = f.1; readings = h.1 }) (record { words = g.1; readings = k.1 }) (record { unsigned = a.1; signed = w.1 }))
 
@@ -254,7 +254,7 @@ narrowed_within : (c : Condition) (taken : Bool) (x y s t : Limits) → IsWordLi
     → LimitsWithin x s → LimitsWithin y t → Related BothWithin (limits_narrowed c taken x y) (limits_narrowed c taken s t)
 unfolding limits_narrowed
 narrowed_within c taken x y s t hx hy hs ht wx wy =
-    edge_within (narrowed c taken x.unsigned y.unsigned) (narrowed c taken s.unsigned t.unsigned) (signed_narrowed c taken x.signed y.signed)
+    edge_within (condition_edge c taken x.unsigned y.unsigned) (condition_edge c taken s.unsigned t.unsigned) (signed_narrowed c taken x.signed y.signed)
     (signed_narrowed c taken s.signed t.signed) x y s t (narrowed_shrinks c taken x.unsigned y.unsigned hx.words hy.words)
     (narrowed_shrinks c taken s.unsigned t.unsigned hs.words ht.words) (signed_narrowed_two c taken x.signed y.signed hx.readings hy.readings)
     (signed_narrowed_two c taken s.signed t.signed hs.readings ht.readings)
@@ -276,8 +276,8 @@ refined_mono _ taken x y s t hx hy hs ht wx wy = (wx, wy)
 
 -- reducing
 
-pub reduces_words : (x : Limits) (a : ℕ) → IsWordLimits x → IsSomeAnd (reduced x) (λ y. HasWord y a) → HasWord x a
-reduces_words x a hx k = back (reduced x) (reduced_settles x hx) k
+pub reduces_words : (x : Limits) (a : ℕ) → IsWordLimits x → IsSomeAnd (reduction x) (λ y. HasWord y a) → HasWord x a
+reduces_words x a hx k = back (reduction x) (reduced_settles x hx) k
   where
     back : (r : Option Limits) → Whenever (Settled x) r → IsSomeAnd r (λ y. HasWord y a) → HasWord x a
     back None s h = absurd h
@@ -288,7 +288,7 @@ reduces_words x a hx k = back (reduced x) (reduced_settles x hx) k
 pub any_holds : (x : Limits) (u : Span) → IsLimits x → IsWordSpan u → Within x.unsigned u → LimitsWithin x (any_sign u)
 any_holds x u hx hu w =
     let readings : SignedWithin x.signed signed_full = record { from = omega (arith, ints, hx.readings.low_fits); upto = omega (arith, ints, hx.readings.high_fits) } in
-    let k : IsSomeAnd (reduced (limits u signed_full)) (λ y. LimitsWithin x y) =
+    let k : IsSomeAnd (reduction (limits u signed_full)) (λ y. LimitsWithin x y) =
     reduced_has_within x (limits u signed_full) (record { words = hx.words; readings = hx.readings }) (record { words = hu; readings = full_fits })
     hx.reduced (record { unsigned = w; signed = readings }) in
     subst (λ r. IsSomeAnd r (λ y. LimitsWithin x y)) (any_reduces u hu) k

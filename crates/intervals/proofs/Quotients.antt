@@ -5,7 +5,7 @@ use Rattle.std.proofs.lemmas.Nat.{le-div}
 use Rattle.std.proofs.lemmas.Bool.Decides.{nat_tests}
 use Rattle.std.proofs.Math.Nat.{mod-lt, mod-le, mod-eq_of_lt, div-le_self, div-zero, div-mul-le_self}
 use Rattle.intervals.specs.Spans.{Span, IsSpan, Has, Within}
-use Rattle.intervals.specs.Operators.{divided, remaining}
+use Rattle.intervals.specs.Operators.{quotient_of, remaining}
 
 abbrev pub quotient : ℕ → ℕ → ℕ
 quotient a b = if b == 0 then 0 else a / b
@@ -17,8 +17,8 @@ pub div_mono : (a b k : ℕ) → a ≤ b → a / k ≤ b / k
 div_mono a b zero le = omega (arith, div-zero a, div-zero b)
 div_mono a b (suc k) le = le-div (a / suc k) b (suc k) (omega arith) (omega (arith, div-mul-le_self a (suc k), le))
 
-pub divided_has : (x y : Span) (a b : ℕ) → Has x a → Has y b → Has (divided x y) (quotient a b)
-unfolding divided
+pub divided_has : (x y : Span) (a b : ℕ) → Has x a → Has y b → Has (quotient_of x y) (quotient a b)
+unfolding quotient_of
 divided_has x y a b h k =
     let least : x.low / y.low ≤ a / y.low = div_mono _ _ y.low h.from in
     let greatest : a / y.low ≤ x.high / y.low = div_mono _ _ y.low h.upto in
@@ -26,15 +26,15 @@ divided_has x y a b h k =
     let same : y.low ≡ y.high → a / b ≡ a / y.low = λ e. ap (λ n. a / n) (omega (arith, e, k.from, k.upto)) in
     record { from = grind (arith, nat_tests, h.from, h.upto, k.from, k.upto); upto = grind (arith, nat_tests, h.from, h.upto, k.from, k.upto) }
 
-pub divided_fits : (m : ℕ) (x y : Span) → IsSpan m x → IsSpan m (divided x y)
-unfolding divided
+pub divided_fits : (m : ℕ) (x y : Span) → IsSpan m x → IsSpan m (quotient_of x y)
+unfolding quotient_of
 divided_fits m x y hx =
     let order : x.low / y.low ≤ x.high / y.low = div_mono _ _ y.low hx.ordered in
     let small : x.high / y.low ≤ x.high = div-le_self x.high y.low in
     record { ordered = grind (arith, nat_tests, hx.ordered, hx.most); most = grind (arith, nat_tests, hx.ordered, hx.most) }
 
-pub divided_mono : (m : ℕ) (x y s t : Span) → IsSpan m x → IsSpan m y → Within x s → Within y t → Within (divided x y) (divided s t)
-unfolding divided
+pub divided_mono : (m : ℕ) (x y s t : Span) → IsSpan m x → IsSpan m y → Within x s → Within y t → Within (quotient_of x y) (quotient_of s t)
+unfolding quotient_of
 divided_mono m x y s t hx hy a b =
     let least : s.low / t.low ≤ x.low / t.low = div_mono _ _ t.low a.from in
     let greatest : x.high / t.low ≤ s.high / t.low = div_mono _ _ t.low a.upto in

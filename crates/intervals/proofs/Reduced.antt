@@ -6,9 +6,9 @@ use Rattle.std.specs.Int.{cast_signed, cast_unsigned, int_min, int_max, w64}
 use Rattle.std.specs.Int.RustNames.{FitsSigned}
 use Rattle.std.proofs.lemmas.Bool.Decides.{nat_tests}
 use Rattle.std.proofs.lemmas.Int.{of_z-to_z, to_z-of_z, ints, clamps}
-use Rattle.intervals.specs.Spans.{Span, span, IsSpan, Has, Within, inhabited}
+use Rattle.intervals.specs.Spans.{Span, span, IsSpan, Has, Within, nonempty}
 use Rattle.intervals.specs.SignedSpans.{SignedSpan, signed_span, signed_full, IsSignedSpan, HasSigned, SignedWithin, inhabited_signed, cut_between}
-use Rattle.intervals.specs.Reducing.{Limits, limits, has_one_sign, has_one_sign_signed, signed_cut, unsigned_cut, LimitsWithin, reduced, IsReduced, IsWordLimits, IsLimits, AreAlike, AreMixed, any_sign}
+use Rattle.intervals.specs.Reducing.{Limits, limits, has_one_sign, has_one_sign_signed, signed_cut, unsigned_cut, LimitsWithin, reduction, IsReduced, IsWordLimits, IsLimits, AreAlike, AreMixed, any_sign}
 use Rattle.intervals.proofs.Readings.{natural_reading, negative_reading, ordered_readings, ordered_words, one_sign, both_signs, one_sign_signed, both_signs_signed, says_one_sign, says_both_signs, says_both_signs_signed}
 
 -- what holds where there is something
@@ -46,7 +46,7 @@ pub record IsCutSpan (c u : Span) : Type 0 where
   pub is : u ≡ c
   pub ordered : c.low ≤ c.high
 
-pub span_inhabited : (c : Span) → Whenever (IsCutSpan c) (inhabited c)
+pub span_inhabited : (c : Span) → Whenever (IsCutSpan c) (nonempty c)
 span_inhabited c = by (nat_le c.low c.high) refl
   where
     by : (t : Bool) → nat_le c.low c.high ≡ t → Whenever (IsCutSpan c) (if t then Some c else None)
@@ -57,7 +57,7 @@ pub signed_stays : (c : SignedSpan) → c.low ≤ℤ c.high → inhabited_signed
 unfolding inhabited_signed
 signed_stays c h = let t : true ≡ int_le c.low c.high = omega (arith, ints, h) in rw (← t) refl
 
-pub span_stays : (c : Span) → c.low ≤ c.high → inhabited c ≡ Some c
+pub span_stays : (c : Span) → c.low ≤ c.high → nonempty c ≡ Some c
 span_stays c h = let t : nat_le c.low c.high ≡ true = grind (arith, nat_tests, h) in rw t refl
 
 -- a cut range lies in what it was
@@ -97,7 +97,7 @@ signed_min_is y z h = omega (arith, ints, clamps, h)
 
 -- ranges of which each is what the other leaves of it are reduced
 pub fixed : (x : Limits) → IsWordLimits x → signed_cut x.unsigned x.signed ≡ x.signed → unsigned_cut x.signed x.unsigned ≡ x.unsigned → IsReduced x
-unfolding reduced
+unfolding reduction
 fixed x h a b =
     let c = signed_stays x.signed h.readings.ordered in
     let d = span_stays x.unsigned h.words.ordered in
@@ -270,15 +270,15 @@ settle x s u t h c d e =
       kind = rw e.is (kind_left x.unsigned u x.signed s h.words fs c d);
     }
 
-pub reduced_settles : (x : Limits) → IsWordLimits x → Whenever (Settled x) (reduced x)
-unfolding reduced
+pub reduced_settles : (x : Limits) → IsWordLimits x → Whenever (Settled x) (reduction x)
+unfolding reduction
 reduced_settles x h =
     then_whenever (IsCut (signed_cut x.unsigned x.signed)) (Settled x)
-    (λ s. option_and_then (λ u. option_map (limits u) (inhabited_signed (signed_cut u s))) (inhabited (unsigned_cut s x.unsigned)))
+    (λ s. option_and_then (λ u. option_map (limits u) (inhabited_signed (signed_cut u s))) (nonempty (unsigned_cut s x.unsigned)))
     (inhabited_signed (signed_cut x.unsigned x.signed))
     (λ s c.
     then_whenever (IsCutSpan (unsigned_cut s x.unsigned)) (Settled x) (λ u. option_map (limits u) (inhabited_signed (signed_cut u s)))
-    (inhabited (unsigned_cut s x.unsigned))
+    (nonempty (unsigned_cut s x.unsigned))
     (λ u d.
     map_whenever (IsCut (signed_cut u s)) (Settled x) (limits u) (inhabited_signed (signed_cut u s))
     (λ t e. settle x s u t h c d e) (signed_inhabited (signed_cut u s)))
@@ -286,17 +286,17 @@ reduced_settles x h =
     (signed_inhabited (signed_cut x.unsigned x.signed))
 
 -- what reducing leaves is reduced
-pub reduced_twice : (x y : Limits) → IsWordLimits x → reduced x ≡ Some y → Settled x y × IsReduced y
+pub reduced_twice : (x y : Limits) → IsWordLimits x → reduction x ≡ Some y → Settled x y × IsReduced y
 reduced_twice x y h e =
-    let s = whenever_is (Settled x) (reduced x) y e (reduced_settles x h) in
+    let s = whenever_is (Settled x) (reduction x) y e (reduced_settles x h) in
     (s, agree_is_reduced y s.fits s.kind)
 
 -- the three steps as the code makes them
 pub made_reduced : (u v : Span) (r s t : SignedSpan) → IsSpan (2 ^ 64 - 1) u → IsSignedSpan r → Some s ≡ inhabited_signed (signed_cut u r)
-    → Some v ≡ inhabited (unsigned_cut s u) → Some t ≡ inhabited_signed (signed_cut v s) → IsReduced (limits v t)
+    → Some v ≡ nonempty (unsigned_cut s u) → Some t ≡ inhabited_signed (signed_cut v s) → IsReduced (limits v t)
 made_reduced u v r s t hu hr e f g =
     let c = whenever_is (IsCut (signed_cut u r)) (inhabited_signed (signed_cut u r)) s (sym e) (signed_inhabited (signed_cut u r)) in
-    let d = whenever_is (IsCutSpan (unsigned_cut s u)) (inhabited (unsigned_cut s u)) v (sym f) (span_inhabited (unsigned_cut s u)) in
+    let d = whenever_is (IsCutSpan (unsigned_cut s u)) (nonempty (unsigned_cut s u)) v (sym f) (span_inhabited (unsigned_cut s u)) in
     let k = whenever_is (IsCut (signed_cut v s)) (inhabited_signed (signed_cut v s)) t (sym g) (signed_inhabited (signed_cut v s)) in
     let z = settle (limits u r) s v t (record { words = hu; readings = hr }) c d k in
     agree_is_reduced (limits v t) z.fits z.kind
@@ -329,15 +329,15 @@ any_fits u h =
     record { words = k.0.words; readings = k.0.readings; reduced = agree_is_reduced (any_sign u) k.0 k.1 }
 
 -- the words of a range, with all readings, are reduced at the first step
-pub any_reduces : (u : Span) → IsSpan (2 ^ 64 - 1) u → reduced (limits u signed_full) ≡ Some (any_sign u)
-unfolding reduced
+pub any_reduces : (u : Span) → IsSpan (2 ^ 64 - 1) u → reduction (limits u signed_full) ≡ Some (any_sign u)
+unfolding reduction
 any_reduces u h =
     let k = any_kind u h in
     let e = agree_is_fixed (any_sign u) k.0 k.1 in
     steps (signed_cut u signed_full) (signed_stays (signed_cut u signed_full) k.0.readings.ordered) e.0 e.1 (span_stays u h.ordered)
   where
-    steps : (s : SignedSpan) → inhabited_signed s ≡ Some s → signed_cut u s ≡ s → unsigned_cut s u ≡ u → inhabited u ≡ Some u
-        → option_and_then (λ r. option_and_then (λ v. option_map (limits v) (inhabited_signed (signed_cut v r))) (inhabited (unsigned_cut r u))) (inhabited_signed s)
+    steps : (s : SignedSpan) → inhabited_signed s ≡ Some s → signed_cut u s ≡ s → unsigned_cut s u ≡ u → nonempty u ≡ Some u
+        → option_and_then (λ r. option_and_then (λ v. option_map (limits v) (inhabited_signed (signed_cut v r))) (nonempty (unsigned_cut r u))) (inhabited_signed s)
         ≡ Some (limits u s)
     steps s c a b d = rw (c, b, d, a, c) refl
 

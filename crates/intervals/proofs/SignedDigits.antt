@@ -7,10 +7,10 @@ use Rattle.std.specs.Int.RustNames.{FitsSigned}
 use Rattle.std.proofs.lemmas.Int.{ints}
 use Rattle.std.proofs.lemmas.Nat.{pow_pos}
 use Rattle.intervals.specs.Spans.{Span, IsSpan, Within}
-use Rattle.intervals.specs.Rounding.{ceiling, rounded}
+use Rattle.intervals.specs.Rounding.{ceiling, round_span}
 use Rattle.intervals.specs.SignedSpans.{SignedSpan, IsSignedSpan, SignedWithin}
-use Rattle.intervals.specs.SignedRounding.{signed_floor, signed_ceiling, signed_rounded, widened, limits_rounded, IsSignedFloor, IsSignedCeiling}
-use Rattle.intervals.specs.Reducing.{Limits, limits, LimitsWithin, reduced, IsReduced, IsWordLimits, IsLimits}
+use Rattle.intervals.specs.SignedRounding.{signed_floor, signed_ceiling, signed_rounded, round_limits, limits_rounded, IsSignedFloor, IsSignedCeiling}
+use Rattle.intervals.specs.Reducing.{Limits, limits, LimitsWithin, reduction, IsReduced, IsWordLimits, IsLimits}
 use Rattle.intervals.specs.LimitLaws.{Related}
 use Rattle.intervals.proofs.Digits.{ceiling_zero, ceiling_nearest, ceiling_mono, ceiling_fits, rounded_within, rounded_fits, rounded_mono}
 use Rattle.intervals.proofs.Reduced.{reduced_twice}
@@ -60,7 +60,7 @@ ceiling_signed_mono (pos a) (negsuc b) le f g = absurd (omega (arith, ints, le))
 ceiling_signed_mono (negsuc a) (pos b) le f g = omega (arith, ints)
 ceiling_signed_mono (negsuc a) (negsuc b) le f g = omega (arith, ints)
 
-pub widened_within : (x : Limits) → IsWordLimits x → LimitsWithin x (widened x)
+pub widened_within : (x : Limits) → IsWordLimits x → LimitsWithin x (round_limits x)
 unfolding signed_rounded
 widened_within x h =
     record {
@@ -68,7 +68,7 @@ widened_within x h =
       signed = record { from = floor_below x.signed.low h.readings.low_fits; upto = ceiling_above x.signed.high h.readings.high_fits };
     }
 
-pub widened_fits : (x : Limits) → IsWordLimits x → IsWordLimits (widened x)
+pub widened_fits : (x : Limits) → IsWordLimits x → IsWordLimits (round_limits x)
 unfolding signed_rounded
 widened_fits x h =
     let a = floor_below x.signed.low h.readings.low_fits in
@@ -82,7 +82,7 @@ widened_fits x h =
       };
     }
 
-pub widened_mono : (x y : Limits) → IsWordLimits x → IsWordLimits y → LimitsWithin x y → LimitsWithin (widened x) (widened y)
+pub widened_mono : (x y : Limits) → IsWordLimits x → IsWordLimits y → LimitsWithin x y → LimitsWithin (round_limits x) (round_limits y)
 unfolding signed_rounded
 widened_mono x y hx hy w =
     record {
@@ -95,25 +95,25 @@ widened_mono x y hx hy w =
 
 -- what is rounded is there, and is what the definition says
 pub record IsRounded (x y : Limits) : Type 0 where
-  pub is : reduced (widened x) ≡ Some y
+  pub is : reduction (round_limits x) ≡ Some y
   pub rounded_is : limits_rounded x ≡ y
   pub within : LimitsWithin x y
 
-pub rounded_there : (x : Limits) → IsLimits x → (r : Option Limits) → r ≡ reduced (widened x) → IsSomeAnd r (λ y. IsRounded x y)
+pub rounded_there : (x : Limits) → IsLimits x → (r : Option Limits) → r ≡ reduction (round_limits x) → IsSomeAnd r (λ y. IsRounded x y)
 unfolding limits_rounded
-rounded_there x h r e = found r e (subst (λ o. IsSomeAnd o (λ y. LimitsWithin x y)) (sym e) (reduced_has_within x (widened x) hx (widened_fits x hx) h.reduced (widened_within x hx)))
+rounded_there x h r e = found r e (subst (λ o. IsSomeAnd o (λ y. LimitsWithin x y)) (sym e) (reduced_has_within x (round_limits x) hx (widened_fits x hx) h.reduced (widened_within x hx)))
   where
     hx : IsWordLimits x
     hx = record { words = h.words; readings = h.readings }
 
-    found : (o : Option Limits) → o ≡ reduced (widened x) → IsSomeAnd o (λ y. LimitsWithin x y) → IsSomeAnd o (λ y. IsRounded x y)
+    found : (o : Option Limits) → o ≡ reduction (round_limits x) → IsSomeAnd o (λ y. LimitsWithin x y) → IsSomeAnd o (λ y. IsRounded x y)
     found None e k = absurd k
     found (Some y) e k = record { is = sym e; rounded_is = ap (λ o. unwrap_or o x) (sym e); within = k }
 
 pub rounded_is : (x : Limits) → IsLimits x → IsRounded x (limits_rounded x)
-rounded_is x h = is_it (reduced (widened x)) refl (rounded_there x h (reduced (widened x)) refl)
+rounded_is x h = is_it (reduction (round_limits x)) refl (rounded_there x h (reduction (round_limits x)) refl)
   where
-    is_it : (r : Option Limits) → r ≡ reduced (widened x) → IsSomeAnd r (λ y. IsRounded x y) → IsRounded x (limits_rounded x)
+    is_it : (r : Option Limits) → r ≡ reduction (round_limits x) → IsSomeAnd r (λ y. IsRounded x y) → IsRounded x (limits_rounded x)
     is_it None e k = absurd k
     is_it (Some y) e k = subst (IsRounded x) (sym k.rounded_is) k
 
@@ -122,17 +122,17 @@ words_of x h = record { words = h.words; readings = h.readings }
 
 pub limits_rounded_fits : (x : Limits) → IsLimits x → IsLimits (limits_rounded x)
 limits_rounded_fits x h =
-    let k = reduced_twice (widened x) (limits_rounded x) (widened_fits x (words_of x h)) (rounded_is x h).is in
+    let k = reduced_twice (round_limits x) (limits_rounded x) (widened_fits x (words_of x h)) (rounded_is x h).is in
     record { words = k.0.fits.words; readings = k.0.fits.readings; reduced = k.1 }
 
 pub limits_rounded_mono : (x y : Limits) → IsLimits x → IsLimits y → LimitsWithin x y → LimitsWithin (limits_rounded x) (limits_rounded y)
 limits_rounded_mono x y hx hy w =
     both (rounded_is x hx).is (rounded_is y hy).is
-    (reduced_related (widened x) (widened y) (widened_fits x (words_of x hx)) (widened_fits y (words_of y hy)) (widened_mono x y (words_of x hx) (words_of y hy) w))
+    (reduced_related (round_limits x) (round_limits y) (widened_fits x (words_of x hx)) (widened_fits y (words_of y hy)) (widened_mono x y (words_of x hx) (words_of y hy) w))
   where
-    both : reduced (widened x) ≡ Some (limits_rounded x) → reduced (widened y) ≡ Some (limits_rounded y)
-        → Related LimitsWithin (reduced (widened x)) (reduced (widened y)) → LimitsWithin (limits_rounded x) (limits_rounded y)
-    both p q r = subst (λ o. Related LimitsWithin (Some (limits_rounded x)) o) q (subst (λ o. Related LimitsWithin o (reduced (widened y))) p r)
+    both : reduction (round_limits x) ≡ Some (limits_rounded x) → reduction (round_limits y) ≡ Some (limits_rounded y)
+        → Related LimitsWithin (reduction (round_limits x)) (reduction (round_limits y)) → LimitsWithin (limits_rounded x) (limits_rounded y)
+    both p q r = subst (λ o. Related LimitsWithin (Some (limits_rounded x)) o) q (subst (λ o. Related LimitsWithin o (reduction (round_limits y))) p r)
 
 -- the nearest ends
 

@@ -12,7 +12,7 @@ use Rattle.bpf_isa.specs.declared.instr.Width.{Width}
 use Rattle.bpf_isa.specs.declared.instr.Width.TheVariants as width
 use Rattle.bpf_isa.specs.declared.instr.Operator.{Operator}
 use Rattle.bpf_isa.specs.declared.instr.Operator.TheVariants as op
-use Rattle.machine.specs.Arithmetic.{arithmetic, computed}
+use Rattle.machine.specs.Arithmetic.{arithmetic, operator_value}
 use Rattle.intervals.specs.SignedSpans.{SignedSpan, signed_span, signed_full, least, greatest, IsSignedSpan, HasSigned, SignedWithin}
 use Rattle.intervals.specs.SignedResults.{if_signed, signed_or_full, signed_result_of}
 
@@ -75,7 +75,7 @@ or_full_mono l h m n p q = by (int_le least l) (int_le h greatest) (int_le least
 pub signed_result_has : (w : Width) (o : Operator) (dst : ℕ) (from : Source) (x y : SignedSpan) (a b : ℕ) → a < 2 ^ 64 → b < 2 ^ 64
     → HasSigned x (cast_signed w64 a) → HasSigned y (cast_signed w64 b)
     → HasSigned (signed_result_of (instr.Arithmetic w o dst from) x y) (cast_signed w64 (arithmetic w o a b))
-unfolding signed_result_of arithmetic computed
+unfolding signed_result_of arithmetic operator_value
 signed_result_has width.W64 op.Mov dst from x y a b h k hx hy = hy
 signed_result_has width.W64 op.Add dst from x y a b h k hx hy =
     or_full_has (x.low +ℤ y.low) (x.high +ℤ y.high) (cast_signed w64 a +ℤ cast_signed w64 b) ((a + b) % 2 ^ 64)

@@ -9,7 +9,7 @@ use Rattle.std.proofs.Math.Nat.{mod-le, div-le_self}
 use Rattle.bpf_isa.specs.declared.instr.Width.{Width}
 use Rattle.bpf_isa.specs.declared.instr.Width.TheVariants as width
 use Rattle.bpf_isa.specs.declared.instr.Operator.TheVariants as op
-use Rattle.machine.specs.Arithmetic.{signed, unsigned, computed, width_bits}
+use Rattle.machine.specs.Arithmetic.{signed_part, part_of_signed, operator_value, width_bits}
 use Rattle.intervals.specs.Spans.{Span, IsSpan, Has, Within}
 use Rattle.intervals.specs.Operators.{most, half, signed_divided, signed_remaining, signed_shifted}
 use Rattle.intervals.proofs.Quotients.{divided_has, divided_fits, divided_mono, remaining_has, remaining_fits, remaining_mono}
@@ -24,7 +24,7 @@ negative_upto : (m n : ℕ) → Upto m (neg_ℤ (pos n))
 negative_upto m zero = omega arith
 negative_upto m (suc n) = tt
 
-unsigned_upto : (w : Width) (z : ℤ) → Upto (most w) z → unsigned w z ≤ most w
+unsigned_upto : (w : Width) (z : ℤ) → Upto (most w) z → part_of_signed w z ≤ most w
 unsigned_upto width.W32 (pos n) h = h
 unsigned_upto width.W32 (negsuc n) h = omega arith
 unsigned_upto width.W64 (pos n) h = h
@@ -40,10 +40,10 @@ size_upto m (pos n) h = h
 size_upto m (negsuc n) h = tt
 
 -- a number of no greater size has bits of the width
-pub sized_most : (w : Width) (z : ℤ) → size z ≤ most w → unsigned w z ≤ most w
+pub sized_most : (w : Width) (z : ℤ) → size z ≤ most w → part_of_signed w z ≤ most w
 sized_most w z h = unsigned_upto w z (size_upto (most w) z h)
 
-signed_size : (w : Width) (a : ℕ) → a ≤ most w → size (signed w a) ≤ most w
+signed_size : (w : Width) (a : ℕ) → a ≤ most w → size (signed_part w a) ≤ most w
 signed_size width.W32 a h = grind (arith, ints, nat_tests, h)
 signed_size width.W64 a h = grind (arith, ints, nat_tests, h)
 
@@ -63,49 +63,49 @@ shift_upto : (m : ℕ) (a : ℤ) (k : ℕ) → size a ≤ m → Upto m (int_shr 
 shift_upto m (pos a) k h = omega (arith, div-le_self a (2 ^ k), h)
 shift_upto m (negsuc a) k h = tt
 
-quotient_plain : (w : Width) (a b : ℕ) → a < half w → b < half w → unsigned w (int_div (signed w a) (signed w b)) ≡ a / b
+quotient_plain : (w : Width) (a b : ℕ) → a < half w → b < half w → part_of_signed w (int_div (signed_part w a) (signed_part w b)) ≡ a / b
 quotient_plain width.W32 a b h k = rw (to_z_pos w32 a h, to_z_pos w32 b k) refl
 quotient_plain width.W64 a b h k = rw (to_z_pos w64 a h, to_z_pos w64 b k) refl
 
-remainder_plain : (w : Width) (a b : ℕ) → a < half w → b < half w → unsigned w (int_rem (signed w a) (signed w b)) ≡ a % b
+remainder_plain : (w : Width) (a b : ℕ) → a < half w → b < half w → part_of_signed w (int_rem (signed_part w a) (signed_part w b)) ≡ a % b
 remainder_plain width.W32 a b h k = rw (to_z_pos w32 a h, to_z_pos w32 b k) refl
 remainder_plain width.W64 a b h k = rw (to_z_pos w64 a h, to_z_pos w64 b k) refl
 
-shift_plain : (w : Width) (a k : ℕ) → a < half w → unsigned w (int_shr (signed w a) k) ≡ a / 2 ^ k
+shift_plain : (w : Width) (a k : ℕ) → a < half w → part_of_signed w (int_shr (signed_part w a) k) ≡ a / 2 ^ k
 shift_plain width.W32 a k h = rw (to_z_pos w32 a h) refl
 shift_plain width.W64 a k h = rw (to_z_pos w64 a h) refl
 
 pub signed_divided_has : (w : Width) (x y : Span) (a b : ℕ) → IsSpan (most w) x → IsSpan (most w) y → Has x a → Has y b
-    → Has (signed_divided (most w) (half w) x y) (computed w op.SignedDiv a b)
-unfolding signed_divided computed
+    → Has (signed_divided (most w) (half w) x y) (operator_value w op.SignedDiv a b)
+unfolding signed_divided operator_value
 signed_divided_has w x y a b hx hy h k =
     let d = divided_has x y a b h k in
-    let plain : a < half w → b < half w → unsigned w (int_div (signed w a) (signed w b)) ≡ a / b = quotient_plain w a b in
-    let bound : unsigned w (int_div (signed w a) (signed w b)) ≤ most w =
-    unsigned_upto w (int_div (signed w a) (signed w b))
-    (quotient_upto (most w) (signed w a) (signed w b) (signed_size w a (omega (arith, h.upto, hx.most)))) in
+    let plain : a < half w → b < half w → part_of_signed w (int_div (signed_part w a) (signed_part w b)) ≡ a / b = quotient_plain w a b in
+    let bound : part_of_signed w (int_div (signed_part w a) (signed_part w b)) ≤ most w =
+    unsigned_upto w (int_div (signed_part w a) (signed_part w b))
+    (quotient_upto (most w) (signed_part w a) (signed_part w b) (signed_size w a (omega (arith, h.upto, hx.most)))) in
     record { from = grind (arith, nat_tests, d.from, h.upto, k.upto); upto = grind (arith, nat_tests, d.upto, h.upto, k.upto) }
 
 pub signed_remaining_has : (w : Width) (x y : Span) (a b : ℕ) → IsSpan (most w) x → IsSpan (most w) y → Has x a → Has y b
-    → Has (signed_remaining (most w) (half w) x y) (computed w op.SignedMod a b)
-unfolding signed_remaining computed
+    → Has (signed_remaining (most w) (half w) x y) (operator_value w op.SignedMod a b)
+unfolding signed_remaining operator_value
 signed_remaining_has w x y a b hx hy h k =
     let d = remaining_has x y a b h k in
-    let plain : a < half w → b < half w → unsigned w (int_rem (signed w a) (signed w b)) ≡ a % b = remainder_plain w a b in
-    let bound : unsigned w (int_rem (signed w a) (signed w b)) ≤ most w =
-    unsigned_upto w (int_rem (signed w a) (signed w b))
-    (remainder_upto (most w) (signed w a) (signed w b) (signed_size w a (omega (arith, h.upto, hx.most)))) in
+    let plain : a < half w → b < half w → part_of_signed w (int_rem (signed_part w a) (signed_part w b)) ≡ a % b = remainder_plain w a b in
+    let bound : part_of_signed w (int_rem (signed_part w a) (signed_part w b)) ≤ most w =
+    unsigned_upto w (int_rem (signed_part w a) (signed_part w b))
+    (remainder_upto (most w) (signed_part w a) (signed_part w b) (signed_size w a (omega (arith, h.upto, hx.most)))) in
     record { from = grind (arith, nat_tests, d.from, h.upto, k.upto, hx.most); upto = grind (arith, nat_tests, d.upto, h.upto, k.upto, hx.most) }
 
 pub signed_shifted_has : (w : Width) (x y : Span) (a b : ℕ) → IsSpan (most w) x → Has x a → Has y b
-    → Has (signed_shifted (most w) (half w) (width_bits w) x y) (computed w op.Arsh a b)
-unfolding signed_shifted computed
+    → Has (signed_shifted (most w) (half w) (width_bits w) x y) (operator_value w op.Arsh a b)
+unfolding signed_shifted operator_value
 signed_shifted_has w x y a b hx h k =
     let d = shifted_right_has (width_bits w) x y a b h k in
-    let plain : a < half w → unsigned w (int_shr (signed w a) (b % width_bits w)) ≡ a / 2 ^ (b % width_bits w) = shift_plain w a (b % width_bits w) in
-    let bound : unsigned w (int_shr (signed w a) (b % width_bits w)) ≤ most w =
-    unsigned_upto w (int_shr (signed w a) (b % width_bits w))
-    (shift_upto (most w) (signed w a) (b % width_bits w) (signed_size w a (omega (arith, h.upto, hx.most)))) in
+    let plain : a < half w → part_of_signed w (int_shr (signed_part w a) (b % width_bits w)) ≡ a / 2 ^ (b % width_bits w) = shift_plain w a (b % width_bits w) in
+    let bound : part_of_signed w (int_shr (signed_part w a) (b % width_bits w)) ≤ most w =
+    unsigned_upto w (int_shr (signed_part w a) (b % width_bits w))
+    (shift_upto (most w) (signed_part w a) (b % width_bits w) (signed_size w a (omega (arith, h.upto, hx.most)))) in
     record { from = grind (arith, nat_tests, d.from, h.upto); upto = grind (arith, nat_tests, d.upto, h.upto) }
 
 pub signed_divided_fits : (m half : ℕ) (x y : Span) → IsSpan m x → IsSpan m (signed_divided m half x y)

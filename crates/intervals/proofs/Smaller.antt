@@ -6,9 +6,9 @@ use Rattle.std.specs.Int.{cast_signed, cast_unsigned, int_min, int_max, w64}
 use Rattle.std.specs.Int.RustNames.{FitsSigned}
 use Rattle.std.proofs.lemmas.Bool.Decides.{nat_tests}
 use Rattle.std.proofs.lemmas.Int.{of_z-to_z, ints, clamps}
-use Rattle.intervals.specs.Spans.{Span, span, IsSpan, Has, Within, inhabited, hull}
+use Rattle.intervals.specs.Spans.{Span, span, IsSpan, Has, Within, nonempty, hull}
 use Rattle.intervals.specs.SignedSpans.{SignedSpan, signed_span, signed_full, IsSignedSpan, HasSigned, SignedWithin, inhabited_signed, cut_between, signed_hull}
-use Rattle.intervals.specs.Reducing.{Limits, limits, HasWord, LimitsWithin, has_one_sign, has_one_sign_signed, signed_cut, unsigned_cut, reduced, IsReduced, IsWordLimits, IsLimits, AreAlike, AreMixed, any_sign, limits_hull}
+use Rattle.intervals.specs.Reducing.{Limits, limits, HasWord, LimitsWithin, has_one_sign, has_one_sign_signed, signed_cut, unsigned_cut, reduction, IsReduced, IsWordLimits, IsLimits, AreAlike, AreMixed, any_sign, limits_hull}
 use Rattle.intervals.specs.LimitLaws.{Related}
 use Rattle.intervals.proofs.Readings.{natural_reading, negative_reading, ordered_readings, ordered_words, one_sign, both_signs, one_sign_signed, says_one_sign, says_both_signs}
 use Rattle.intervals.proofs.Reduced.{IsCut, IsCutSpan, signed_cut_within, unsigned_cut_within, narrower, narrower_span, agree_is_reduced, reduced_twice}
@@ -40,7 +40,7 @@ signed_inhabited_related c d w = by (int_le c.low c.high) (int_le d.low d.high) 
     by true false e f = absurd (omega (arith, ints, e, f, w.from, w.upto))
     by false r e f = tt
 
-pub span_inhabited_related : (c d : Span) → Within c d → Related (BothCutSpans c d) (inhabited c) (inhabited d)
+pub span_inhabited_related : (c d : Span) → Within c d → Related (BothCutSpans c d) (nonempty c) (nonempty d)
 span_inhabited_related c d w = by (nat_le c.low c.high) (nat_le d.low d.high) refl refl
   where
     by : (t r : Bool) → nat_le c.low c.high ≡ t → nat_le d.low d.high ≡ r → Related (BothCutSpans c d) (if t then Some c else None) (if r then Some d else None)
@@ -122,12 +122,12 @@ left_signed u r s h c = rw c.is (narrower (signed_cut u r) r h (signed_cut_withi
 left_words : (s : SignedSpan) (u v : Span) → IsSpan (2 ^ 64 - 1) u → IsCutSpan (unsigned_cut s u) v → IsSpan (2 ^ 64 - 1) v
 left_words s u v h c = rw c.is (narrower_span (2 ^ 64 - 1) (unsigned_cut s u) u h (unsigned_cut_within s u) c.ordered)
 
-pub reduced_related : (x y : Limits) → IsWordLimits x → IsWordLimits y → LimitsWithin x y → Related LimitsWithin (reduced x) (reduced y)
-unfolding reduced
+pub reduced_related : (x y : Limits) → IsWordLimits x → IsWordLimits y → LimitsWithin x y → Related LimitsWithin (reduction x) (reduction y)
+unfolding reduction
 reduced_related x y hx hy w =
     then_related (BothCut (signed_cut x.unsigned x.signed) (signed_cut y.unsigned y.signed)) LimitsWithin
-    (λ s. option_and_then (λ u. option_map (limits u) (inhabited_signed (signed_cut u s))) (inhabited (unsigned_cut s x.unsigned)))
-    (λ t. option_and_then (λ v. option_map (limits v) (inhabited_signed (signed_cut v t))) (inhabited (unsigned_cut t y.unsigned)))
+    (λ s. option_and_then (λ u. option_map (limits u) (inhabited_signed (signed_cut u s))) (nonempty (unsigned_cut s x.unsigned)))
+    (λ t. option_and_then (λ v. option_map (limits v) (inhabited_signed (signed_cut v t))) (nonempty (unsigned_cut t y.unsigned)))
     (inhabited_signed (signed_cut x.unsigned x.signed)) (inhabited_signed (signed_cut y.unsigned y.signed))
     (λ s t c. second s t c.0 c.1)
     (signed_inhabited_related (signed_cut x.unsigned x.signed) (signed_cut y.unsigned y.signed) first)
@@ -145,8 +145,8 @@ reduced_related x y hx hy w =
         (signed_inhabited_related (signed_cut u s) (signed_cut v t) w3)
 
     second : (s t : SignedSpan) → IsCut (signed_cut x.unsigned x.signed) s → IsCut (signed_cut y.unsigned y.signed) t
-        → Related LimitsWithin (option_and_then (λ u. option_map (limits u) (inhabited_signed (signed_cut u s))) (inhabited (unsigned_cut s x.unsigned)))
-        (option_and_then (λ v. option_map (limits v) (inhabited_signed (signed_cut v t))) (inhabited (unsigned_cut t y.unsigned)))
+        → Related LimitsWithin (option_and_then (λ u. option_map (limits u) (inhabited_signed (signed_cut u s))) (nonempty (unsigned_cut s x.unsigned)))
+        (option_and_then (λ v. option_map (limits v) (inhabited_signed (signed_cut v t))) (nonempty (unsigned_cut t y.unsigned)))
     second s t c d =
         let hs = left_signed x.unsigned x.signed s hx.readings c in
         let ht = left_signed y.unsigned y.signed t hy.readings d in
@@ -154,7 +154,7 @@ reduced_related x y hx hy w =
         let w2 = unsigned_cut_mono x.unsigned y.unsigned s t hs ht ws w.unsigned in
         then_related (BothCutSpans (unsigned_cut s x.unsigned) (unsigned_cut t y.unsigned)) LimitsWithin
         (λ u. option_map (limits u) (inhabited_signed (signed_cut u s))) (λ v. option_map (limits v) (inhabited_signed (signed_cut v t)))
-        (inhabited (unsigned_cut s x.unsigned)) (inhabited (unsigned_cut t y.unsigned))
+        (nonempty (unsigned_cut s x.unsigned)) (nonempty (unsigned_cut t y.unsigned))
         (λ u v k.
         last s t u v (left_words s x.unsigned u hx.words k.0) (left_words t y.unsigned v hy.words k.1) ws
         (rw (k.0.is, k.1.is) w2))
@@ -162,8 +162,8 @@ reduced_related x y hx hy w =
 
 -- where there is one, what larger ranges are reduced to has it
 pub reduced_has_within : (x y : Limits) → IsWordLimits x → IsWordLimits y → IsReduced x → LimitsWithin x y
-    → IsSomeAnd (reduced y) (λ z. LimitsWithin x z)
-reduced_has_within x y hx hy e w = found (reduced y) (subst (λ r. Related LimitsWithin r (reduced y)) e (reduced_related x y hx hy w))
+    → IsSomeAnd (reduction y) (λ z. LimitsWithin x z)
+reduced_has_within x y hx hy e w = found (reduction y) (subst (λ r. Related LimitsWithin r (reduction y)) e (reduced_related x y hx hy w))
   where
     found : (r : Option Limits) → Related LimitsWithin (Some x) r → IsSomeAnd r (λ z. LimitsWithin x z)
     found None h = absurd h

@@ -5,7 +5,7 @@ use Rattle.bpf_isa.specs.declared.instr.Width.{Width}
 use Rattle.bpf_isa.specs.declared.instr.Width.TheVariants as width
 use Rattle.bpf_isa.specs.declared.instr.Operator.{Operator}
 use Rattle.bpf_isa.specs.declared.instr.Operator.TheVariants as op
-use Rattle.machine.specs.Arithmetic.{computed, width_bits}
+use Rattle.machine.specs.Arithmetic.{operator_value, width_bits}
 use Rattle.intervals.specs.Spans.{Span, IsSpan, Has, Within}
 use Rattle.intervals.specs.Operators.{most, half, in_table}
 use Rattle.intervals.proofs.Sums.{added_has, added_fits, added_mono, subtracted_has, subtracted_fits, subtracted_mono, multiplied_has, multiplied_fits, multiplied_mono}
@@ -23,8 +23,8 @@ words width.W32 = omega arith
 words width.W64 = omega arith
 
 pub table_has : (w : Width) (o : Operator) (x y : Span) (a b : ℕ) → IsSpan (most w) x → IsSpan (most w) y → Has x a → Has y b
-    → Has (in_table w o x y) (computed w o a b)
-unfolding in_table computed
+    → Has (in_table w o x y) (operator_value w o a b)
+unfolding in_table operator_value
 table_has w op.Add x y a b hx hy h k = added_has (most w) (2 ^ width_bits w) x y a b (numbers w) hx hy h k
 table_has w op.Sub x y a b hx hy h k = subtracted_has (most w) (2 ^ width_bits w) x y a b (numbers w) hx hy h k
 table_has w op.Mul x y a b hx hy h k = multiplied_has (most w) (2 ^ width_bits w) x y a b (numbers w) h k

@@ -46,20 +46,20 @@ unfoldable pub below : Span → Span → Option (Span × Span)
 below x y = both (span x.low (min x.high (y.high - 1))) (span (max y.low (x.low + 1)) y.high)
 
 -- the edge of a condition that holds, or does not; the others tell nothing
-unfoldable pub narrowed : Condition → Bool → Span → Span → Option (Span × Span)
-narrowed cond.Eq true x y = equal x y
-narrowed cond.Eq false x y = apart x y
-narrowed cond.Ne true x y = apart x y
-narrowed cond.Ne false x y = equal x y
-narrowed cond.Gt true x y = above x y
-narrowed cond.Gt false x y = at_most x y
-narrowed cond.Ge true x y = at_least x y
-narrowed cond.Ge false x y = below x y
-narrowed cond.Lt true x y = below x y
-narrowed cond.Lt false x y = at_least x y
-narrowed cond.Le true x y = at_most x y
-narrowed cond.Le false x y = above x y
-narrowed _ _ x y = Some (x, y)
+unfoldable pub condition_edge : Condition → Bool → Span → Span → Option (Span × Span)
+condition_edge cond.Eq true x y = equal x y
+condition_edge cond.Eq false x y = apart x y
+condition_edge cond.Ne true x y = apart x y
+condition_edge cond.Ne false x y = equal x y
+condition_edge cond.Gt true x y = above x y
+condition_edge cond.Gt false x y = at_most x y
+condition_edge cond.Ge true x y = at_least x y
+condition_edge cond.Ge false x y = below x y
+condition_edge cond.Lt true x y = below x y
+condition_edge cond.Lt false x y = at_least x y
+condition_edge cond.Le true x y = at_most x y
+condition_edge cond.Le false x y = above x y
+condition_edge _ _ x y = Some (x, y)
 
 -- whether the second operand is the register dst
 abbrev pub is_same : ℕ → Source → Bool
@@ -71,6 +71,6 @@ is_branch (instr.Branch w c dst from offset) = true
 is_branch _ = false
 
 -- the edge of a jump: only a test of two operands in 64 bits tells something
-unfoldable pub refined : Instr → Bool → Span → Span → Option (Span × Span)
-refined (instr.Branch width.W64 c dst from offset) taken x y = if is_same dst from then Some (x, y) else narrowed c taken x y
-refined _ taken x y = Some (x, y)
+unfoldable pub jump_edge : Instr → Bool → Span → Span → Option (Span × Span)
+jump_edge (instr.Branch width.W64 c dst from offset) taken x y = if is_same dst from then Some (x, y) else condition_edge c taken x y
+jump_edge _ taken x y = Some (x, y)

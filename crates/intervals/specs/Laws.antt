@@ -12,13 +12,13 @@ use Rattle.bpf_isa.specs.declared.instr.SignExtension.{SignExtension}
 use Rattle.bpf_isa.specs.declared.instr.Order.{Order}
 use Rattle.bpf_isa.specs.declared.instr.OrderSize.{OrderSize}
 use Rattle.bpf_isa.specs.declared.instr.Condition.{Condition}
-use Rattle.machine.specs.Arithmetic.{arithmetic, extended, in_order, holds}
+use Rattle.machine.specs.Arithmetic.{arithmetic, sign_extension, in_order, holds}
 use Rattle.machine.specs.State.{State}
 use Rattle.machine.specs.Step.{second}
 use Rattle.intervals.specs.Spans.{Span, IsSpan, Has, Within, hull}
-use Rattle.intervals.specs.Rounding.{floor, ceiling, rounded, IsFloor, IsCeiling}
+use Rattle.intervals.specs.Rounding.{floor, ceiling, round_span, IsFloor, IsCeiling}
 use Rattle.intervals.specs.Results.{result_of}
-use Rattle.intervals.specs.Edges.{refined}
+use Rattle.intervals.specs.Edges.{jump_edge}
 use Rattle.intervals.specs.Seen.{immediate_span}
 
 -- a range of words
@@ -36,7 +36,7 @@ pub record ResultsCover : Type 0 where
   pub operators : (w : Width) (o : Operator) (dst : ℕ) (from : Source) (x y : Span) (a b : ℕ) → IsWordSpan x → IsWordSpan y → Has x a → Has y b
       → HasResult (result_of (instr.Arithmetic w o dst from) x y) (arithmetic w o a b)
   pub opposites : (w : Width) (dst : ℕ) (x y : Span) (a : ℕ) → IsWordSpan x → Has x a → HasResult (result_of (instr.Negate w dst) x y) (arithmetic w op.Sub 0 a)
-  pub signs : (e : SignExtension) (dst src : ℕ) (x y : Span) (b : ℕ) → IsWordSpan y → Has y b → HasResult (result_of (instr.SignExtend e dst src) x y) (extended e b)
+  pub signs : (e : SignExtension) (dst src : ℕ) (x y : Span) (b : ℕ) → IsWordSpan y → Has y b → HasResult (result_of (instr.SignExtend e dst src) x y) (sign_extension e b)
   pub orders : (o : Order) (size : OrderSize) (dst : ℕ) (x y : Span) (a : ℕ) → IsWordSpan x → Has x a
       → HasResult (result_of (instr.ByteOrder o size dst) x y) (in_order o size a)
 
@@ -70,7 +70,7 @@ Leaves (Some p) a b = Has p.0 a × Has p.1 b
 -- where the test of the machine goes the way of an edge, the edge leaves the words that were tested
 abbrev pub RefinementsCover : Type 0
 RefinementsCover = (w : Width) (c : Condition) (dst : ℕ) (from : Source) (offset : ℤ) (taken : Bool) (x y : Span) (a b : ℕ)
-    → Has x a → Has y b → holds w c a b ≡ taken → Leaves (refined (instr.Branch w c dst from offset) taken x y) a b
+    → Has x a → Has y b → holds w c a b ≡ taken → Leaves (jump_edge (instr.Branch w c dst from offset) taken x y) a b
 
 -- an edge that leaves ranges of words, none larger than before
 abbrev pub Shrinks : Option (Span × Span) → Span → Span → Type 0
@@ -78,7 +78,7 @@ Shrinks None x y = Unit {0}
 Shrinks (Some p) x y = IsWordSpan p.0 × IsWordSpan p.1 × Within p.0 x × Within p.1 y
 
 abbrev pub RefinementsFit : Type 0
-RefinementsFit = (i : Instr) (taken : Bool) (x y : Span) → IsWordSpan x → IsWordSpan y → Shrinks (refined i taken x y) x y
+RefinementsFit = (i : Instr) (taken : Bool) (x y : Span) → IsWordSpan x → IsWordSpan y → Shrinks (jump_edge i taken x y) x y
 
 -- what one edge leaves lies in what another leaves; an edge that isn't taken lies in any
 abbrev pub WithinBoth : Option (Span × Span) → Option (Span × Span) → Type 0
@@ -88,7 +88,7 @@ WithinBoth (Some p) (Some q) = Within p.0 q.0 × Within p.1 q.1
 
 abbrev pub RefinementsAreMonotone : Type 0
 RefinementsAreMonotone = (i : Instr) (taken : Bool) (x y s t : Span) → IsWordSpan x → IsWordSpan y → Within x s → Within y t
-    → WithinBoth (refined i taken x y) (refined i taken s t)
+    → WithinBoth (jump_edge i taken x y) (jump_edge i taken s t)
 
 -- the hull of two ranges is the least that holds both, and it is the first where that holds the other
 pub record HullIsLeast : Type 0 where
@@ -102,8 +102,8 @@ pub record HullIsLeast : Type 0 where
 pub record RoundingContains : Type 0 where
   pub low : (a : ℕ) → a < 2 ^ 64 → IsFloor a (floor a)
   pub high : (a : ℕ) → a < 2 ^ 64 → IsCeiling a (ceiling a)
-  pub contains : (x : Span) → IsWordSpan x → Within x (rounded x)
-  pub fits : (bits : ℕ) (x : Span) → bits ≤ 64 → IsSpan (2 ^ bits - 1) x → IsSpan (2 ^ bits - 1) (rounded x)
+  pub contains : (x : Span) → IsWordSpan x → Within x (round_span x)
+  pub fits : (bits : ℕ) (x : Span) → bits ≤ 64 → IsSpan (2 ^ bits - 1) x → IsSpan (2 ^ bits - 1) (round_span x)
 
 abbrev pub RoundingIsMonotone : Type 0
-RoundingIsMonotone = (x s : Span) → IsWordSpan x → IsWordSpan s → Within x s → Within (rounded x) (rounded s)
+RoundingIsMonotone = (x s : Span) → IsWordSpan x → IsWordSpan s → Within x s → Within (round_span x) (round_span s)

@@ -14,12 +14,12 @@ use Rattle.bpf_isa.specs.declared.instr.SignExtension.{SignExtension}
 use Rattle.bpf_isa.specs.declared.instr.Order.{Order}
 use Rattle.bpf_isa.specs.declared.instr.OrderSize.{OrderSize}
 use Rattle.bpf_isa.specs.declared.instr.Condition.{Condition}
-use Rattle.machine.specs.Arithmetic.{arithmetic, extended, in_order, holds}
+use Rattle.machine.specs.Arithmetic.{arithmetic, sign_extension, in_order, holds}
 use Rattle.intervals.specs.Spans.{Span, Has, Within}
 use Rattle.intervals.specs.Laws.{IsWordSpan}
 use Rattle.intervals.specs.SignedSpans.{signed_full}
-use Rattle.intervals.specs.Reducing.{Limits, limits, HasWord, LimitsWithin, reduced, IsWordLimits, IsLimits, AreAlike, AreMixed, any_sign, limits_hull}
-use Rattle.intervals.specs.SignedRounding.{signed_floor, signed_ceiling, widened, limits_rounded, IsSignedFloor, IsSignedCeiling}
+use Rattle.intervals.specs.Reducing.{Limits, limits, HasWord, LimitsWithin, reduction, IsWordLimits, IsLimits, AreAlike, AreMixed, any_sign, limits_hull}
+use Rattle.intervals.specs.SignedRounding.{signed_floor, signed_ceiling, round_limits, limits_rounded, IsSignedFloor, IsSignedCeiling}
 use Rattle.intervals.specs.SignedResults.{limits_result_of}
 use Rattle.intervals.specs.SignedEdges.{limits_refined}
 
@@ -32,18 +32,18 @@ Related R (Some p) (Some q) = R p q
 -- Reducing keeps the words that both ranges have, and finds no range empty that has one. A second
 -- time it changes nothing, and of smaller ranges it makes smaller ones.
 pub record Reduces : Type 0 where
-  pub words : (x : Limits) (a : ℕ) → IsWordLimits x → a < 2 ^ 64 → HasWord x a ↔ IsSomeAnd (reduced x) (λ y. HasWord y a)
-  pub shrinks : (x y : Limits) → IsWordLimits x → reduced x ≡ Some y → LimitsWithin y x
-  pub idempotent : (x y : Limits) → IsWordLimits x → reduced x ≡ Some y → IsLimits y
-  pub monotone : (x y : Limits) → IsWordLimits x → IsWordLimits y → LimitsWithin x y → Related LimitsWithin (reduced x) (reduced y)
+  pub words : (x : Limits) (a : ℕ) → IsWordLimits x → a < 2 ^ 64 → HasWord x a ↔ IsSomeAnd (reduction x) (λ y. HasWord y a)
+  pub shrinks : (x y : Limits) → IsWordLimits x → reduction x ≡ Some y → LimitsWithin y x
+  pub idempotent : (x y : Limits) → IsWordLimits x → reduction x ≡ Some y → IsLimits y
+  pub monotone : (x y : Limits) → IsWordLimits x → IsWordLimits y → LimitsWithin x y → Related LimitsWithin (reduction x) (reduction y)
 
 -- Ranges are reduced just where both say the same, or both have numbers of both signs.
 abbrev pub ReducedAgree : Type 0
-ReducedAgree = (x : Limits) → IsWordLimits x → (reduced x ≡ Some x) ↔ (AreAlike x ⊎ AreMixed x)
+ReducedAgree = (x : Limits) → IsWordLimits x → (reduction x ≡ Some x) ↔ (AreAlike x ⊎ AreMixed x)
 
 -- The words of a range, whatever their readings are: the greatest limits that have these words alone.
 pub record AnySign : Type 0 where
-  pub reduces : (u : Span) → IsWordSpan u → reduced (limits u signed_full) ≡ Some (any_sign u)
+  pub reduces : (u : Span) → IsWordSpan u → reduction (limits u signed_full) ≡ Some (any_sign u)
   pub fits : (u : Span) → IsWordSpan u → IsLimits (any_sign u)
   pub words : (u : Span) (a : ℕ) → IsWordSpan u → Has u a ↔ HasWord (any_sign u) a
   pub greatest : (x : Limits) (u : Span) → IsLimits x → IsWordSpan u → Within x.unsigned u → LimitsWithin x (any_sign u)
@@ -56,7 +56,7 @@ pub record LimitResultsCover : Type 0 where
   pub opposites : (w : Width) (dst : ℕ) (x y : Limits) (a : ℕ) → IsWordLimits x → HasWord x a
       → IsSomeAnd (limits_result_of (instr.Negate w dst) x y) (λ z. HasWord z (arithmetic w op.Sub 0 a))
   pub signs : (e : SignExtension) (dst src : ℕ) (x y : Limits) (b : ℕ) → IsWordLimits y → HasWord y b
-      → IsSomeAnd (limits_result_of (instr.SignExtend e dst src) x y) (λ z. HasWord z (extended e b))
+      → IsSomeAnd (limits_result_of (instr.SignExtend e dst src) x y) (λ z. HasWord z (sign_extension e b))
   pub orders : (o : Order) (size : OrderSize) (dst : ℕ) (x y : Limits) (a : ℕ) → IsWordLimits x → HasWord x a
       → IsSomeAnd (limits_result_of (instr.ByteOrder o size dst) x y) (λ z. HasWord z (in_order o size a))
 
@@ -101,7 +101,7 @@ pub record LimitsHullIsLeast : Type 0 where
 pub record LimitsRound : Type 0 where
   pub low : (z : ℤ) → FitsSigned w64 z → IsSignedFloor z (signed_floor z)
   pub high : (z : ℤ) → FitsSigned w64 z → IsSignedCeiling z (signed_ceiling z)
-  pub is_reduced : (x : Limits) → IsLimits x → reduced (widened x) ≡ Some (limits_rounded x)
+  pub is_reduced : (x : Limits) → IsLimits x → reduction (round_limits x) ≡ Some (limits_rounded x)
   pub contains : (x : Limits) → IsLimits x → LimitsWithin x (limits_rounded x)
   pub fits : (x : Limits) → IsLimits x → IsLimits (limits_rounded x)
   pub monotone : (x y : Limits) → IsLimits x → IsLimits y → LimitsWithin x y → LimitsWithin (limits_rounded x) (limits_rounded y)

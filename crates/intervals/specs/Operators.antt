@@ -21,24 +21,24 @@ half w = 2 ^ (width_bits w - 1)
 abbrev pub full : ℕ → Span
 full m = span 0 m
 
-unfoldable pub added : ℕ → Span → Span → Span
-added m x y =
+unfoldable pub sum_of : ℕ → Span → Span → Span
+sum_of m x y =
     if nat_le (x.high + y.high) m then span (x.low + y.low) (x.high + y.high)
     else if nat_lt m (x.low + y.low) then span (x.low + y.low - (m + 1)) (x.high + y.high - (m + 1))
     else full m
 
-unfoldable pub subtracted : ℕ → Span → Span → Span
-subtracted m x y =
+unfoldable pub difference_of : ℕ → Span → Span → Span
+difference_of m x y =
     if nat_le y.high x.low then span (x.low - y.high) (x.high - y.low)
     else if nat_lt x.high y.low then span (x.low + (m + 1) - y.high) (x.high + (m + 1) - y.low)
     else full m
 
-unfoldable pub multiplied : ℕ → Span → Span → Span
-multiplied m x y = if nat_le (x.high * y.high) m then span (x.low * y.low) (x.high * y.high) else full m
+unfoldable pub product_of : ℕ → Span → Span → Span
+product_of m x y = if nat_le (x.high * y.high) m then span (x.low * y.low) (x.high * y.high) else full m
 
 -- a quotient by zero is zero
-unfoldable pub divided : Span → Span → Span
-divided x y =
+unfoldable pub quotient_of : Span → Span → Span
+quotient_of x y =
     if is_constant y then (if y.low == 0 then only 0 else span (x.low / y.low) (x.high / y.low))
     else span 0 x.high
 
@@ -69,7 +69,7 @@ shifted_right bits x y =
 -- A signed operation is the unsigned one where no operand is negative.
 
 unfoldable pub signed_divided : ℕ → ℕ → Span → Span → Span
-signed_divided m half x y = if nat_lt x.high half && nat_lt y.high half then divided x y else full m
+signed_divided m half x y = if nat_lt x.high half && nat_lt y.high half then quotient_of x y else full m
 
 unfoldable pub signed_remaining : ℕ → ℕ → Span → Span → Span
 signed_remaining m half x y = if nat_lt x.high half && nat_lt y.high half then remaining x y else full m
@@ -79,10 +79,10 @@ signed_shifted m half bits x y = if nat_lt x.high half then shifted_right bits x
 
 -- the line of an operator, for operands that are numbers of the width
 unfoldable pub in_table : Width → Operator → Span → Span → Span
-in_table w op.Add x y = added (most w) x y
-in_table w op.Sub x y = subtracted (most w) x y
-in_table w op.Mul x y = multiplied (most w) x y
-in_table w op.Div x y = divided x y
+in_table w op.Add x y = sum_of (most w) x y
+in_table w op.Sub x y = difference_of (most w) x y
+in_table w op.Mul x y = product_of (most w) x y
+in_table w op.Div x y = quotient_of x y
 in_table w op.SignedDiv x y = signed_divided (most w) (half w) x y
 in_table w op.Or x y = bits_of_either x y
 in_table w op.And x y = bits_of_both x y

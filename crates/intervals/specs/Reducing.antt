@@ -3,7 +3,7 @@
 use Rattle.std.specs.Prelude.{◌≡◌, ℕ, ℤ, pos, ◌-◌, ◌^◌, ◌<◌, ◌≤◌, ◌<ℤ◌, ◌≤ℤ◌, nat_lt, nat_le, int_lt, int_le, ◌||◌, ◌⊎◌, Bool, if◌then◌else◌, Option, None, Some, min, max}
 use Rattle.std.specs.Option.{option_map, option_and_then}
 use Rattle.std.specs.Int.{cast_signed, cast_unsigned, w64}
-use Rattle.intervals.specs.Spans.{Span, span, only, IsSpan, Has, Within, inhabited, hull}
+use Rattle.intervals.specs.Spans.{Span, span, only, IsSpan, Has, Within, nonempty, hull}
 use Rattle.intervals.specs.SignedSpans.{SignedSpan, signed_span, signed_full, IsSignedSpan, HasSigned, SignedWithin, inhabited_signed, cut_between, signed_hull}
 
 pub record Limits : Type 0 where
@@ -43,15 +43,15 @@ unsigned_cut s u =
 
 -- The signed range is cut, then the other, then the signed one once more. None where one of them is
 -- left empty.
-unfoldable pub reduced : Limits → Option Limits
-reduced x =
+unfoldable pub reduction : Limits → Option Limits
+reduction x =
     option_and_then
-    (λ s. option_and_then (λ u. option_map (limits u) (inhabited_signed (signed_cut u s))) (inhabited (unsigned_cut s x.unsigned)))
+    (λ s. option_and_then (λ u. option_map (limits u) (inhabited_signed (signed_cut u s))) (nonempty (unsigned_cut s x.unsigned)))
     (inhabited_signed (signed_cut x.unsigned x.signed))
 
 -- reducing leaves it as it is
 abbrev pub IsReduced : Limits → Type 0
-IsReduced x = reduced x ≡ Some x
+IsReduced x = reduction x ≡ Some x
 
 -- ranges of words and of their readings
 pub record IsWordLimits (x : Limits) : Type 0 where

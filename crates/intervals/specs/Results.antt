@@ -14,15 +14,15 @@ use Rattle.bpf_isa.specs.declared.instr.Order.TheVariants as order
 use Rattle.bpf_isa.specs.declared.instr.OrderSize.{OrderSize}
 use Rattle.bpf_isa.specs.declared.instr.OrderSize.TheVariants as bits
 use Rattle.bpf_isa.specs.Spelling.{extension_width}
-use Rattle.machine.specs.Arithmetic.{computed, extended, in_order}
+use Rattle.machine.specs.Arithmetic.{operator_value, sign_extension, in_order}
 use Rattle.intervals.specs.Spans.{Span, span, only, is_constant}
 use Rattle.intervals.specs.Operators.{most, full, in_table}
 
 -- The part of a range that a width computes with. Numbers with one upper half keep their order in
 -- the lower one.
-unfoldable pub cut : Width → Span → Span
-cut width.W32 x = if x.low / 2 ^ 32 == x.high / 2 ^ 32 then span (x.low % 2 ^ 32) (x.high % 2 ^ 32) else full (2 ^ 32 - 1)
-cut width.W64 x = x
+unfoldable pub part_of_width : Width → Span → Span
+part_of_width width.W32 x = if x.low / 2 ^ 32 == x.high / 2 ^ 32 then span (x.low % 2 ^ 32) (x.high % 2 ^ 32) else full (2 ^ 32 - 1)
+part_of_width width.W64 x = x
 
 -- the operators that are exact over constants
 abbrev pub is_exact : Operator → Bool
@@ -35,19 +35,19 @@ is_exact op.Arsh = true
 is_exact _ = false
 
 -- the result of an operator over operands that are numbers of the width
-unfoldable pub operated : Width → Operator → Span → Span → Span
-operated w o x y =
-    if is_exact o && (is_constant x && is_constant y) then only (computed w o x.low y.low) else in_table w o x y
+unfoldable pub operator_result : Width → Operator → Span → Span → Span
+operator_result w o x y =
+    if is_exact o && (is_constant x && is_constant y) then only (operator_value w o x.low y.low) else in_table w o x y
 
 unfoldable pub arithmetic_result : Width → Operator → Span → Span → Span
-arithmetic_result w o x y = operated w o (cut w x) (cut w y)
+arithmetic_result w o x y = operator_result w o (part_of_width w x) (part_of_width w y)
 
 -- the opposite is exact over constants
 unfoldable pub opposite : Width → Span → Span
-opposite w x = if is_constant x then only (computed w op.Sub 0 x.low) else full (most w)
+opposite w x = if is_constant x then only (operator_value w op.Sub 0 x.low) else full (most w)
 
 unfoldable pub negated_result : Width → Span → Span
-negated_result w x = opposite w (cut w x)
+negated_result w x = opposite w (part_of_width w x)
 
 -- the least number whose sign is set
 abbrev pub sign_of : SignExtension → ℕ
@@ -59,12 +59,12 @@ sign_of extension.From16To32 = 2 ^ 15
 
 unfoldable pub sign_extended : SignExtension → Span → Span
 sign_extended e x =
-    if is_constant x then only (extended e x.low)
+    if is_constant x then only (sign_extension e x.low)
     else if nat_lt x.high (sign_of e) then x
     else full (most (extension_width e))
 
 unfoldable pub extended_result : SignExtension → Span → Span
-extended_result e x = sign_extended e (cut (extension_width e) x)
+extended_result e x = sign_extended e (part_of_width (extension_width e) x)
 
 -- the greatest number of so many bits
 abbrev pub most_of : OrderSize → ℕ

@@ -12,8 +12,8 @@ floor a = if a == 0 then 0 else 2 ^ (63 - leading_zeros w64 a)
 unfoldable pub ceiling : ℕ → ℕ
 ceiling a = 2 ^ (64 - leading_zeros w64 a) - 1
 
-unfoldable pub rounded : Span → Span
-rounded x = span (floor x.low) (ceiling x.high)
+unfoldable pub round_span : Span → Span
+round_span x = span (floor x.low) (ceiling x.high)
 
 -- what floor and ceiling answer, in their own words
 pub record IsFloor (a m : ℕ) : Type 0 where

@@ -8,9 +8,9 @@ use Rattle.bpf_isa.specs.declared.instr.Instr.TheVariants as instr
 use Rattle.bpf_isa.specs.declared.instr.Width.TheVariants as width
 use Rattle.bpf_isa.specs.declared.instr.Condition.{Condition}
 use Rattle.bpf_isa.specs.declared.instr.Condition.TheVariants as cond
-use Rattle.intervals.specs.SignedSpans.{SignedSpan, inhabited_signed, raised, lowered, cut_between}
-use Rattle.intervals.specs.Reducing.{Limits, limits, reduced}
-use Rattle.intervals.specs.Edges.{narrowed, is_same}
+use Rattle.intervals.specs.SignedSpans.{SignedSpan, inhabited_signed, not_below, not_above, cut_between}
+use Rattle.intervals.specs.Reducing.{Limits, limits, reduction}
+use Rattle.intervals.specs.Edges.{condition_edge, is_same}
 
 -- both, where there are both
 abbrev pub both_of : {A : Type 0} → Option A → Option A → Option (A × A)
@@ -26,19 +26,19 @@ signed_equal x y = both_signed (cut_between x y.low y.high) (cut_between x y.low
 
 -- dst > second
 unfoldable pub signed_above : SignedSpan → SignedSpan → Option (SignedSpan × SignedSpan)
-signed_above x y = both_signed (raised x (y.low +ℤ pos 1)) (lowered y (x.high -ℤ pos 1))
+signed_above x y = both_signed (not_below x (y.low +ℤ pos 1)) (not_above y (x.high -ℤ pos 1))
 
 -- dst ≤ second
 unfoldable pub signed_at_most : SignedSpan → SignedSpan → Option (SignedSpan × SignedSpan)
-signed_at_most x y = both_signed (lowered x y.high) (raised y x.low)
+signed_at_most x y = both_signed (not_above x y.high) (not_below y x.low)
 
 -- dst ≥ second
 unfoldable pub signed_at_least : SignedSpan → SignedSpan → Option (SignedSpan × SignedSpan)
-signed_at_least x y = both_signed (raised x y.low) (lowered y x.high)
+signed_at_least x y = both_signed (not_below x y.low) (not_above y x.high)
 
 -- dst < second
 unfoldable pub signed_below : SignedSpan → SignedSpan → Option (SignedSpan × SignedSpan)
-signed_below x y = both_signed (lowered x (y.high -ℤ pos 1)) (raised y (x.low +ℤ pos 1))
+signed_below x y = both_signed (not_above x (y.high -ℤ pos 1)) (not_below y (x.low +ℤ pos 1))
 
 -- the edge of a condition that holds, or does not; that two numbers differ tells nothing of signed
 -- ranges, nor do the unsigned orders
@@ -59,8 +59,8 @@ signed_narrowed _ _ x y = Some (x, y)
 unfoldable pub limits_narrowed : Condition → Bool → Limits → Limits → Option (Limits × Limits)
 limits_narrowed c taken x y =
     option_and_then
-    (λ u. option_and_then (λ s. both_of (reduced (limits u.0 s.0)) (reduced (limits u.1 s.1))) (signed_narrowed c taken x.signed y.signed))
-    (narrowed c taken x.unsigned y.unsigned)
+    (λ u. option_and_then (λ s. both_of (reduction (limits u.0 s.0)) (reduction (limits u.1 s.1))) (signed_narrowed c taken x.signed y.signed))
+    (condition_edge c taken x.unsigned y.unsigned)
 
 -- the edge of a jump: only a test of two operands in 64 bits tells something
 unfoldable pub limits_refined : Instr → Bool → Limits → Limits → Option (Limits × Limits)

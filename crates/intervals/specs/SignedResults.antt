@@ -8,7 +8,7 @@ use Rattle.bpf_isa.specs.declared.instr.Width.TheVariants as width
 use Rattle.bpf_isa.specs.declared.instr.Operator.TheVariants as op
 use Rattle.intervals.specs.Results.{result_of}
 use Rattle.intervals.specs.SignedSpans.{SignedSpan, signed_span, signed_full, least, greatest}
-use Rattle.intervals.specs.Reducing.{Limits, limits, reduced}
+use Rattle.intervals.specs.Reducing.{Limits, limits, reduction}
 
 -- the range with these ends, where neither leaves the signed numbers
 unfoldable pub if_signed : ℤ → ℤ → Option SignedSpan
@@ -28,4 +28,4 @@ signed_result_of _ x y = signed_full
 -- the limits for those of dst and of the second operand, reduced; None where no word is left
 unfoldable pub limits_result_of : Instr → Limits → Limits → Option Limits
 limits_result_of i x y =
-    option_and_then (λ u. reduced (limits u (signed_result_of i x.signed y.signed))) (result_of i x.unsigned y.unsigned)
+    option_and_then (λ u. reduction (limits u (signed_result_of i x.signed y.signed))) (result_of i x.unsigned y.unsigned)

@@ -1,8 +1,8 @@
 -- Signed ranges between powers of two (docs/VERIFIER.md, Abstract states).
 use Rattle.std.specs.Prelude.{◌≡◌, ℕ, ℤ, pos, negsuc, neg_ℤ, ◌-◌, ◌^◌, ◌≤ℤ◌, ◌<ℤ◌, ◌⊎◌, unwrap_or}
-use Rattle.intervals.specs.Rounding.{ceiling, rounded}
+use Rattle.intervals.specs.Rounding.{ceiling, round_span}
 use Rattle.intervals.specs.SignedSpans.{SignedSpan, signed_span}
-use Rattle.intervals.specs.Reducing.{Limits, limits, reduced}
+use Rattle.intervals.specs.Reducing.{Limits, limits, reduction}
 
 -- The greatest of 0, -1, -2, -4, -8, .. that is not above a number. `negsuc n` is -(n + 1), and where
 -- 2 ^ k - 1 is the ceiling of n, `negsuc (2 ^ k - 1)` is -(2 ^ k).
@@ -19,12 +19,12 @@ unfoldable pub signed_rounded : SignedSpan → SignedSpan
 signed_rounded x = signed_span (signed_floor x.low) (signed_ceiling x.high)
 
 -- both ranges between powers of two, before they cut each other
-abbrev pub widened : Limits → Limits
-widened x = limits (rounded x.unsigned) (signed_rounded x.signed)
+abbrev pub round_limits : Limits → Limits
+round_limits x = limits (round_span x.unsigned) (signed_rounded x.signed)
 
 -- what is rounded isn't empty, since it has what was there before
 unfoldable pub limits_rounded : Limits → Limits
-limits_rounded x = unwrap_or (reduced (widened x)) x
+limits_rounded x = unwrap_or (reduction (round_limits x)) x
 
 -- what the two answer, in their own words
 pub record IsSignedFloor (z m : ℤ) : Type 0 where

@@ -42,11 +42,11 @@ unfoldable pub inhabited_signed : SignedSpan → Option SignedSpan
 inhabited_signed x = if int_le x.low x.high then Some x else None
 
 -- the numbers of a range that are not below a number, and those that are not above it
-abbrev pub raised : SignedSpan → ℤ → SignedSpan
-raised x n = signed_span (int_max x.low n) x.high
+abbrev pub not_below : SignedSpan → ℤ → SignedSpan
+not_below x n = signed_span (int_max x.low n) x.high
 
-abbrev pub lowered : SignedSpan → ℤ → SignedSpan
-lowered x n = signed_span x.low (int_min x.high n)
+abbrev pub not_above : SignedSpan → ℤ → SignedSpan
+not_above x n = signed_span x.low (int_min x.high n)
 
 -- those from one number to another
 abbrev pub cut_between : SignedSpan → ℤ → ℤ → SignedSpan

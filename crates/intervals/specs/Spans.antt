@@ -31,8 +31,8 @@ pub record Within (x y : Span) : Type 0 where
   pub upto : x.high ≤ y.high
 
 -- a range that is not empty
-abbrev pub inhabited : Span → Option Span
-inhabited x = if nat_le x.low x.high then Some x else None
+abbrev pub nonempty : Span → Option Span
+nonempty x = if nat_le x.low x.high then Some x else None
 
 -- the least range that holds both
 abbrev pub hull : Span → Span → Span

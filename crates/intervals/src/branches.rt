@@ -2,8 +2,8 @@
 
 ghost use Rattle.std.specs.Prelude.{◌≡◌, IsTrue};
 ghost use Rattle.std.specs.Option.{option_map};
-ghost use Rattle.intervals.specs.Spans.{inhabited};
-ghost use Rattle.intervals.specs.Edges.{equal, apart, above, at_most, at_least, below, without, narrowed, is_same, is_branch, refined};
+ghost use Rattle.intervals.specs.Spans.{nonempty};
+ghost use Rattle.intervals.specs.Edges.{equal, apart, above, at_most, at_least, below, without, condition_edge, is_same, is_branch, jump_edge};
 ghost use Rattle.intervals.specs.Seen.{span_of, spans_of};
 
 use crate::range::Range;
@@ -13,10 +13,10 @@ use bpf_isa::register::Register;
 /// The ranges of dst and of the second operand of a conditional jump on the edge that is taken, or on
 /// the other (docs/VERIFIER.md, Branches). None says that no words go that way. Only unsigned tests
 /// in 64 bits, of two different operands, make ranges smaller; the others give back both.
-#[tactic(auto, unfolding(crate::specs::Edges::refined))]
+#[tactic(auto, unfolding(crate::specs::Edges::jump_edge))]
 pub fn refine(instr: &Instr, taken: bool, first: Range, second: Range) -> Option<(Range, Range)>
     requires { IsTrue (is_branch instr.now) }
-    ensures { option_map spans_of result ≡ refined instr.now taken (span_of first) (span_of second) }
+    ensures { option_map spans_of result ≡ jump_edge instr.now taken (span_of first) (span_of second) }
 {
     match instr {
         Instr::Branch {
@@ -46,14 +46,14 @@ pub(crate) fn is_same(dst: &Register, source: &Source) -> bool
 }
 
 /// What an edge of a condition in 64 bits tells.
-#[tactic(auto, unfolding(crate::specs::Edges::narrowed))]
+#[tactic(auto, unfolding(crate::specs::Edges::condition_edge))]
 pub(crate) fn narrowed(
     condition: Condition,
     taken: bool,
     x: Range,
     y: Range,
 ) -> Option<(Range, Range)>
-    ensures { option_map spans_of result ≡ narrowed condition taken (span_of x) (span_of y) }
+    ensures { option_map spans_of result ≡ condition_edge condition taken (span_of x) (span_of y) }
 {
     match (condition, taken) {
         (Condition::Eq, true) | (Condition::Ne, false) => equal(x, y),
@@ -85,7 +85,7 @@ fn apart(x: Range, y: Range) -> Option<(Range, Range)>
 
 /// A range whose ends are not the constant of the other, if something is left of it.
 fn without(x: Range, y: Range) -> Option<Range>
-    ensures { option_map span_of result ≡ inhabited (without (span_of x) (span_of y)) }
+    ensures { option_map span_of result ≡ nonempty (without (span_of x) (span_of y)) }
 {
     if !y.is_constant() {
         return Some(x);

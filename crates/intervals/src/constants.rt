@@ -2,7 +2,7 @@
 //! the machine computes them.
 
 ghost use Rattle.std.specs.Prelude.{◌≡◌, ◌≤◌};
-ghost use Rattle.machine.specs.Arithmetic.{computed};
+ghost use Rattle.machine.specs.Arithmetic.{operator_value};
 ghost use Rattle.intervals.specs.Operators.{most};
 ghost use Rattle.intervals.specs.Results.{is_exact};
 
@@ -28,7 +28,7 @@ pub(crate) fn is_exact(operator: Operator) -> bool
 pub(crate) fn exact(width: Width, operator: Operator, first: u64, second: u64) -> u64
     requires first { first ≤ most width }
     requires other { second ≤ most width }
-    ensures { result ≡ computed width operator first second }
+    ensures { result ≡ operator_value width operator first second }
 {
     match width {
         Width::W32 => u64::from(arithmetic_32(operator, first as u32, second as u32)),
@@ -39,7 +39,7 @@ pub(crate) fn exact(width: Width, operator: Operator, first: u64, second: u64) -
 /// The opposite of a number of a width.
 pub(crate) fn negated(width: Width, word: u64) -> u64
     requires { word ≤ most width }
-    ensures { result ≡ computed width Operator.Sub 0 word }
+    ensures { result ≡ operator_value width Operator.Sub 0 word }
 {
     exact(width, Operator::Sub, 0, word)
 }

@@ -2,7 +2,7 @@
 //! `most` is the greatest number of the width; the operands are ranges of such numbers.
 
 ghost use Rattle.std.specs.Prelude.{◌≡◌, ◌≤◌, ◌<◌};
-ghost use Rattle.intervals.specs.Operators.{added, subtracted, multiplied, divided, remaining, bits_of_both, bits_of_either, shifted_left, shifted_right, signed_divided, signed_remaining, signed_shifted, in_table, most, half};
+ghost use Rattle.intervals.specs.Operators.{sum_of, difference_of, product_of, quotient_of, remaining, bits_of_both, bits_of_either, shifted_left, shifted_right, signed_divided, signed_remaining, signed_shifted, in_table, most, half};
 ghost use Rattle.intervals.specs.Seen.{span_of};
 ghost use Rattle.machine.specs.Arithmetic.{width_bits};
 
@@ -41,11 +41,11 @@ fn bits(width: Width) -> u64
 }
 
 /// Both ends are moved where no sum wraps, or each.
-#[tactic(auto, unfolding(crate::specs::Operators::added))]
+#[tactic(auto, unfolding(crate::specs::Operators::sum_of))]
 fn added(most: u64, x: Range, y: Range) -> Range
     requires first { x.high ≤ most }
     requires other { y.high ≤ most }
-    ensures { span_of result ≡ added most (span_of x) (span_of y) }
+    ensures { span_of result ≡ sum_of most (span_of x) (span_of y) }
 {
     if x.high <= most - y.high {
         Range {
@@ -63,11 +63,11 @@ fn added(most: u64, x: Range, y: Range) -> Range
 }
 
 /// The differences, where none or all of them wrap, else any number.
-#[tactic(auto, unfolding(crate::specs::Operators::subtracted))]
+#[tactic(auto, unfolding(crate::specs::Operators::difference_of))]
 fn subtracted(most: u64, x: Range, y: Range) -> Range
     requires first { x.high ≤ most }
     requires other { y.high ≤ most }
-    ensures { span_of result ≡ subtracted most (span_of x) (span_of y) }
+    ensures { span_of result ≡ difference_of most (span_of x) (span_of y) }
 {
     if x.low >= y.high {
         Range {
@@ -85,9 +85,9 @@ fn subtracted(most: u64, x: Range, y: Range) -> Range
 }
 
 /// The products, where the greatest doesn't wrap.
-#[tactic(auto, unfolding(crate::specs::Operators::multiplied))]
+#[tactic(auto, unfolding(crate::specs::Operators::product_of))]
 fn multiplied(most: u64, x: Range, y: Range) -> Range
-    ensures { span_of result ≡ multiplied most (span_of x) (span_of y) }
+    ensures { span_of result ≡ product_of most (span_of x) (span_of y) }
 {
     match x.high.checked_mul(y.high) {
         Some(high) if high <= most => Range {
@@ -99,9 +99,9 @@ fn multiplied(most: u64, x: Range, y: Range) -> Range
 }
 
 /// The quotients.
-#[tactic(auto, unfolding(crate::specs::Operators::divided))]
+#[tactic(auto, unfolding(crate::specs::Operators::quotient_of))]
 fn divided(x: Range, y: Range) -> Range
-    ensures { span_of result ≡ divided (span_of x) (span_of y) }
+    ensures { span_of result ≡ quotient_of (span_of x) (span_of y) }
 {
     if !y.is_constant() {
         Range::up_to(x.high)

@@ -18,8 +18,8 @@ pub struct Range {
 impl Range {
     ghost use Rattle.std.specs.Prelude.{◌≡◌, ℕ, ◌-◌, IsTrue, ◌↔◌};
     ghost use Rattle.std.specs.Option.{option_map};
-    ghost use Rattle.intervals.specs.Spans.{span, only, is_constant, inhabited, hull, Within};
-    ghost use Rattle.intervals.specs.Rounding.{rounded};
+    ghost use Rattle.intervals.specs.Spans.{span, only, is_constant, nonempty, hull, Within};
+    ghost use Rattle.intervals.specs.Rounding.{round_span};
     ghost use Rattle.intervals.specs.Seen.{span_of, immediate_span};
 
     /// All words.
@@ -34,7 +34,7 @@ impl Range {
 
     /// The words from one to another, if there are any.
     pub fn new(low: u64, high: u64) -> Option<Range>
-        ensures { option_map span_of result ≡ inhabited (span low high) }
+        ensures { option_map span_of result ≡ nonempty (span low high) }
     {
         if low <= high {
             Some(Range { low, high })
@@ -94,9 +94,9 @@ impl Range {
 
     /// The least range that contains it, begins at 0 or a power of two, and ends at a power of two
     /// less one.
-    #[tactic(auto, unfolding(crate::specs::Rounding::rounded))]
+    #[tactic(auto, unfolding(crate::specs::Rounding::round_span))]
     pub fn round(self) -> Range
-        ensures nearest { span_of result ≡ rounded (span_of self) }
+        ensures nearest { span_of result ≡ round_span (span_of self) }
         ensures contains { Within (span_of self) (span_of result) }
         ensures small { (bits : ℕ) → self.high < 2 ^ bits → result.high < 2 ^ bits }
     {

@@ -2,9 +2,9 @@
 
 ghost use Rattle.std.specs.Prelude.{◌≡◌};
 ghost use Rattle.std.specs.Option.{option_map};
-ghost use Rattle.intervals.specs.Spans.{inhabited};
+ghost use Rattle.intervals.specs.Spans.{nonempty};
 ghost use Rattle.intervals.specs.SignedSpans.{inhabited_signed};
-ghost use Rattle.intervals.specs.Reducing.{limits, has_one_sign, has_one_sign_signed, signed_cut, unsigned_cut, reduced};
+ghost use Rattle.intervals.specs.Reducing.{limits, has_one_sign, has_one_sign_signed, signed_cut, unsigned_cut, reduction};
 ghost use Rattle.intervals.specs.Seen.{span_of};
 ghost use Rattle.intervals.specs.SeenSigned.{signed_span_of};
 ghost use Rattle.intervals.specs.SeenBounds.{limits_of};
@@ -16,9 +16,9 @@ use crate::signed_range::SignedRange;
 /// The two ranges, each cut by the other (docs/VERIFIER.md, Abstract values). None
 /// says that one of them is left empty: then no word is in both. Where both have numbers of both signs
 /// neither is cut, so there a word may be left that has no reading in the signed range.
-#[tactic(auto, unfolding(crate::specs::Reducing::reduced))]
+#[tactic(auto, unfolding(crate::specs::Reducing::reduction))]
 pub fn reduce(unsigned: Range, signed: SignedRange) -> Option<Bounds>
-    ensures { option_map limits_of result ≡ reduced (limits (span_of unsigned) (signed_span_of signed)) }
+    ensures { option_map limits_of result ≡ reduction (limits (span_of unsigned) (signed_span_of signed)) }
 {
     let signed = signed_cut(unsigned, signed)?;
     let unsigned = unsigned_cut(signed, unsigned)?;
@@ -55,7 +55,7 @@ pub(crate) fn signed_cut(unsigned: Range, signed: SignedRange) -> Option<SignedR
 /// The range of words, cut to those that have readings of one sign.
 #[tactic(auto, unfolding(crate::specs::Reducing::unsigned_cut))]
 fn unsigned_cut(signed: SignedRange, unsigned: Range) -> Option<Range>
-    ensures { option_map span_of result ≡ inhabited (unsigned_cut (signed_span_of signed) (span_of unsigned)) }
+    ensures { option_map span_of result ≡ nonempty (unsigned_cut (signed_span_of signed) (span_of unsigned)) }
 {
     if has_one_sign_signed(signed) {
         Range::new(

@@ -3,7 +3,7 @@
 ghost use Rattle.std.specs.Prelude.{◌≡◌, ◌≤◌, IsTrue};
 ghost use Rattle.std.specs.Option.{option_map, IsSome};
 ghost use Rattle.intervals.specs.Operators.{most};
-ghost use Rattle.intervals.specs.Results.{cut, operated, arithmetic_result, opposite, negated_result, sign_of, sign_extended, extended_result, most_of, ordered_result, is_arithmetic, result_of};
+ghost use Rattle.intervals.specs.Results.{part_of_width, operator_result, arithmetic_result, opposite, negated_result, sign_of, sign_extended, extended_result, most_of, ordered_result, is_arithmetic, result_of};
 ghost use Rattle.intervals.specs.Seen.{span_of};
 
 use crate::constants::{exact, is_exact, negated};
@@ -37,9 +37,9 @@ pub fn result(instr: &Instr, first: Range, second: Range) -> Option<Range>
 }
 
 /// The part of a range that a width computes with.
-#[tactic(auto, unfolding(crate::specs::Results::cut))]
+#[tactic(auto, unfolding(crate::specs::Results::part_of_width))]
 fn cut(width: Width, x: Range) -> Range
-    ensures value { span_of result ≡ cut width (span_of x) }
+    ensures value { span_of result ≡ part_of_width width (span_of x) }
     ensures fits { result.high ≤ most width }
 {
     match width {
@@ -63,11 +63,11 @@ fn arithmetic_result(width: Width, operator: Operator, x: Range, y: Range) -> Ra
 }
 
 /// The result for numbers of the width.
-#[tactic(auto, unfolding(crate::specs::Results::operated))]
+#[tactic(auto, unfolding(crate::specs::Results::operator_result))]
 fn operated(width: Width, operator: Operator, x: Range, y: Range) -> Range
     requires first { x.high ≤ most width }
     requires other { y.high ≤ most width }
-    ensures { span_of result ≡ operated width operator (span_of x) (span_of y) }
+    ensures { span_of result ≡ operator_result width operator (span_of x) (span_of y) }
 {
     if is_exact(operator) && x.is_constant() && y.is_constant() {
         Range::constant(exact(width, operator, x.low, y.low))

@@ -21,7 +21,7 @@ pub struct SignedRange {
 impl SignedRange {
     ghost use Rattle.std.specs.Prelude.{◌≡◌, ◌+ℤ◌, ◌-ℤ◌, pos, IsTrue, ◌↔◌};
     ghost use Rattle.std.specs.Option.{option_map};
-    ghost use Rattle.intervals.specs.SignedSpans.{signed_span, signed_full, inhabited_signed, raised, lowered, cut_between, signed_hull, SignedWithin};
+    ghost use Rattle.intervals.specs.SignedSpans.{signed_span, signed_full, inhabited_signed, not_below, not_above, cut_between, signed_hull, SignedWithin};
     ghost use Rattle.intervals.specs.SignedRounding.{signed_rounded};
     ghost use Rattle.intervals.specs.SeenSigned.{signed_span_of};
 
@@ -49,21 +49,21 @@ impl SignedRange {
 
     /// The numbers that aren't below a number, if there are any.
     pub(crate) fn raised(self, least: i64) -> Option<SignedRange>
-        ensures { option_map signed_span_of result ≡ inhabited_signed (raised (signed_span_of self) least) }
+        ensures { option_map signed_span_of result ≡ inhabited_signed (not_below (signed_span_of self) least) }
     {
         SignedRange::new(self.low.max(least), self.high)
     }
 
     /// The numbers that aren't above a number, if there are any.
     pub(crate) fn lowered(self, greatest: i64) -> Option<SignedRange>
-        ensures { option_map signed_span_of result ≡ inhabited_signed (lowered (signed_span_of self) greatest) }
+        ensures { option_map signed_span_of result ≡ inhabited_signed (not_above (signed_span_of self) greatest) }
     {
         SignedRange::new(self.low, self.high.min(greatest))
     }
 
     /// The numbers above a number, if there are any.
     pub(crate) fn above(self, number: i64) -> Option<SignedRange>
-        ensures { option_map signed_span_of result ≡ inhabited_signed (raised (signed_span_of self) (number +ℤ pos 1)) }
+        ensures { option_map signed_span_of result ≡ inhabited_signed (not_below (signed_span_of self) (number +ℤ pos 1)) }
     {
         match number.checked_add(1) {
             Some(least) => self.raised(least),
@@ -73,7 +73,7 @@ impl SignedRange {
 
     /// The numbers below a number, if there are any.
     pub(crate) fn below(self, number: i64) -> Option<SignedRange>
-        ensures { option_map signed_span_of result ≡ inhabited_signed (lowered (signed_span_of self) (number -ℤ pos 1)) }
+        ensures { option_map signed_span_of result ≡ inhabited_signed (not_above (signed_span_of self) (number -ℤ pos 1)) }
     {
         match number.checked_sub(1) {
             Some(greatest) => self.lowered(greatest),

@@ -8,7 +8,7 @@ use Rattle.std.specs.Int.{from_le_bytes}
 use Rattle.std.specs.List.{slice_range}
 use Rattle.std.specs.Simd.Lanes.{number_l, digits_l, chunk, zip2}
 use Rattle.lanes.specs.Rows.{HasLanes, row_of}
-use Rattle.lanes.specs.Sector.{word, column, column_factor, joined, join_factor, mix}
+use Rattle.lanes.specs.Sector.{word, column, column_factor, horner, join_factor, mix}
 
 abbrev pub limit : ℕ
 limit = 18446744073709551616
@@ -92,25 +92,25 @@ columns_more sector sums words next row before here now = record {
 
 -- ---- the columns joined
 
-pub joined_none : (numbers : ℕ → ℕ) → 0 ≡ joined numbers 0 % 2 ^ 64
-unfolding joined
+pub joined_none : (numbers : ℕ → ℕ) → 0 ≡ horner numbers 0 % 2 ^ 64
+unfolding horner
 joined_none numbers = refl
 
 -- one column more
-pub joined_more : (numbers : ℕ → ℕ) (j mixed : ℕ) → mixed ≡ joined numbers j % 2 ^ 64 → (mixed * 16777619 % 2 ^ 64 + numbers j) % 2 ^ 64 ≡ joined numbers (j + 1) % 2 ^ 64
-unfolding joined
+pub joined_more : (numbers : ℕ → ℕ) (j mixed : ℕ) → mixed ≡ horner numbers j % 2 ^ 64 → (mixed * 16777619 % 2 ^ 64 + numbers j) % 2 ^ 64 ≡ horner numbers (j + 1) % 2 ^ 64
+unfolding horner
 joined_more numbers j mixed so_far =
-    rw add-one (mod-add-mod (mixed * join_factor) limit (numbers j) ∙ ap (λ m. (m * join_factor + numbers j) % limit) so_far ∙ step-mod limit (joined numbers j) join_factor (numbers j))
+    rw add-one (mod-add-mod (mixed * join_factor) limit (numbers j) ∙ ap (λ m. (m * join_factor + numbers j) % limit) so_far ∙ step-mod limit (horner numbers j) join_factor (numbers j))
 
 -- it is the same whether the numbers were cut off before or not
-joined-mod : (cut numbers : ℕ → ℕ) (n : ℕ) → ((j : ℕ) → j < n → cut j ≡ numbers j % 2 ^ 64) → joined cut n % 2 ^ 64 ≡ joined numbers n % 2 ^ 64
-unfolding joined
+joined-mod : (cut numbers : ℕ → ℕ) (n : ℕ) → ((j : ℕ) → j < n → cut j ≡ numbers j % 2 ^ 64) → horner cut n % 2 ^ 64 ≡ horner numbers n % 2 ^ 64
+unfolding horner
 joined-mod cut numbers zero each = refl
 joined-mod cut numbers (suc n) each =
     let before = joined-mod cut numbers n (λ j lt. each j (omega arith)) in
-    sym (step-mod limit (joined cut n) join_factor (cut n)) ∙ ap (λ x. (x * join_factor + cut n) % limit) before ∙ step-mod limit (joined numbers n) join_factor (cut n)
-    ∙ ap (λ y. (joined numbers n * join_factor + y) % limit) (each n (omega arith)) ∙ add-mod-mod (joined numbers n * join_factor) (numbers n) limit
+    sym (step-mod limit (horner cut n) join_factor (cut n)) ∙ ap (λ x. (x * join_factor + cut n) % limit) before ∙ step-mod limit (horner numbers n) join_factor (cut n)
+    ∙ ap (λ y. (horner numbers n * join_factor + y) % limit) (each n (omega arith)) ∙ add-mod-mod (horner numbers n * join_factor) (numbers n) limit
 
-pub mix-joined : (sector sums : List ℕ) → HasLanes sums (λ j. column sector j 8 % 2 ^ 64) → joined (λ j. slice_index sums j) 8 % 2 ^ 64 ≡ mix sector
+pub mix-joined : (sector sums : List ℕ) → HasLanes sums (λ j. column sector j 8 % 2 ^ 64) → horner (λ j. slice_index sums j) 8 % 2 ^ 64 ≡ mix sector
 unfolding mix
 mix-joined sector sums is = joined-mod (λ j. slice_index sums j) (λ j. column sector j 8) 8 (λ j lt. is.each j lt)

@@ -26,13 +26,13 @@ column sector j zero = 0
 column sector j (suc row) = column sector j row * column_factor + word sector (8 * row + j)
 
 -- The first n numbers as a polynomial at the other factor, number 0 the highest coefficient.
-unfoldable pub joined : (ℕ → ℕ) → ℕ → ℕ
-joined numbers zero = 0
-joined numbers (suc n) = joined numbers n * join_factor + numbers n
+unfoldable pub horner : (ℕ → ℕ) → ℕ → ℕ
+horner numbers zero = 0
+horner numbers (suc n) = horner numbers n * join_factor + numbers n
 
 -- the eight columns of eight rows, joined, modulo 2 ^ 64
 unfoldable pub mix : List ℕ → ℕ
-mix sector = joined (λ j. column sector j 8) 8 % 2 ^ 64
+mix sector = horner (λ j. column sector j 8) 8 % 2 ^ 64
 
 -- the sector in which word i is 1, and each other word 0
 unfoldable pub one_word : ℕ → List ℕ

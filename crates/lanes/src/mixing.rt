@@ -1,7 +1,7 @@
 //! The mix of a sector (docs/MACHINE.md, "Mixing a sector"): eight sums side by side in the eight
 //! lanes of a vector of words, which wrap as the mix is a number modulo 2^64.
 ghost use Rattle.std.specs.Prelude.{◌≡◌, ◌+◌, ◌*◌, ◌%◌, ◌^◌, ◌≤◌, length, replicate, slice_index};
-ghost use Rattle.lanes.specs.Sector.{mix, joined, column, word, column_factor, one_word};
+ghost use Rattle.lanes.specs.Sector.{mix, horner, column, word, column_factor, one_word};
 ghost use Rattle.lanes.specs.Rows.{HasLanes};
 
 use crate::rows::{ROWS, load_row};
@@ -51,7 +51,7 @@ fn words(sector: &[u8], row: usize) -> u64x8
 
 /// The eight sums joined into one number, lane 0 first.
 fn join(sums: u64x8) -> u64
-    ensures { result ≡ joined (λ lane. slice_index sums lane) 8 % 2 ^ 64 }
+    ensures { result ≡ horner (λ lane. slice_index sums lane) 8 % 2 ^ 64 }
 {
     let mut mixed: u64 = 0;
     for sum in sums.to_array() {

@@ -1,7 +1,7 @@
 //! The keys of images. Their bytes and contexts are shown by the program (tests/rows/small_logs.py).
 
 ghost use Rattle.std.specs.Prelude.{◌≡◌, ◌<◌, ◌≤◌, length, true};
-ghost use Rattle.choices.specs.Choices.{ranked};
+ghost use Rattle.choices.specs.Choices.{ranked_choices};
 
 use crate::log_text::{FLUSH, FUA, Item, MARK, text_of};
 use choices::{count, nth};
@@ -264,7 +264,7 @@ fn compare_keys(
     total: u64,
 ) -> Result<(), Fail>
     requires history { history.now ≡ plan.now }
-    requires total { total ≡ length (ranked plan.now 2 true) }
+    requires total { total ≡ length (ranked_choices plan.now 2 true) }
 {
     let mut changes = Changes::new(alloc, history);
     for number in 0..total {

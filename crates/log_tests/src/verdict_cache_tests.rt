@@ -2,7 +2,7 @@
 
 ghost use Rattle.std.specs.Prelude.{◌≡◌, ◌≤◌, false, is_some, IfOk};
 ghost use Rattle.images.specs.Views.{context_at, sectors_of};
-ghost use Rattle.checker.specs.Checker.{judged};
+ghost use Rattle.checker.specs.Checker.{judgement};
 ghost use Rattle.interp.specs.Ending.{ending_of};
 ghost use Rattle.verdict_cache.specs.Endings.{IsEndingOf};
 
@@ -50,7 +50,7 @@ fn one_write(alloc: Global) -> Result<Log, Fail> {
 /// What a checker with a limit ends in on an image.
 fn ended_on(view: &View<'_>, checker: &Checker<'_>) -> Outcome
     requires limited { is_some checker.now.verified ≡ false }
-    ensures { ending_of result ≡ judged checker.now (sectors_of view.now) (context_at view.now.log view.now.cut) }
+    ensures { ending_of result ≡ judgement checker.now (sectors_of view.now) (context_at view.now.log view.now.cut) }
 {
     checker.judge(&view.context(), view)
 }

@@ -6,7 +6,7 @@ use Rattle.base.proofs.Lists.{take-suc_place}
 use Rattle.std.proofs.lemmas.Bool.Decides.{nat_tests, eqb_tells}
 use Rattle.logfmt.specs.declared.entry.Entry.{Entry}
 use Rattle.logfmt.specs.Bounds.{LogValue, IsLog, IsEntry, units_of, data_of, data_at, place}
-use Rattle.logfmt.specs.Flushed.{with_flush, flushed_at, is_place, flushed}
+use Rattle.logfmt.specs.Flushed.{with_flush, flushed_at, is_place, with_flushes}
 
 -- there are as many
 pub length-flushed : (chosen : ℕ → Bool) (es : List Entry) → length (flushed_at chosen es) ≡ length es
@@ -146,7 +146,7 @@ place-flushed chosen es (suc i) =
     omega (arith, before, own)
 
 -- it is a log within the limits
-pub log-flushed : (places : List ℕ) (log : LogValue) → IsLog log → IsLog (flushed places log)
+pub log-flushed : (places : List ℕ) (log : LogValue) → IsLog log → IsLog (with_flushes places log)
 log-flushed places log is =
     let es : List Entry = log.entries in
     let long = length-flushed (is_place places) es in

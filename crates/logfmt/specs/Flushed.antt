@@ -19,5 +19,5 @@ abbrev pub is_place : List ℕ → ℕ → Bool
 is_place places number = list_any (λ (place : ℕ). place == number) places
 
 -- the log with a flush right before each of these entries
-abbrev pub flushed : List ℕ → LogValue → LogValue
-flushed places log = record { sectors = log.sectors; entries = flushed_at (is_place places) log.entries; initial = log.initial }
+abbrev pub with_flushes : List ℕ → LogValue → LogValue
+with_flushes places log = record { sectors = log.sectors; entries = flushed_at (is_place places) log.entries; initial = log.initial }

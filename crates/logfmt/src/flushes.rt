@@ -1,7 +1,7 @@
 //! A log to which flushes are added, so that it can be seen what they change.
 
 ghost use Rattle.std.specs.Prelude.{◌≡◌, ◌==◌, ◌<◌, ◌≤◌, length, All};
-ghost use Rattle.logfmt.specs.Flushed.{flushed, flushed_at};
+ghost use Rattle.logfmt.specs.Flushed.{with_flushes, flushed_at};
 
 use crate::entry::{Entry, Log};
 
@@ -11,7 +11,7 @@ impl Log {
     /// mark. It takes no memory.
     pub fn flushed(self, places: &[u32]) -> Log
         requires { All (λ place. place < length self.entries) places.now }
-        ensures { result ≡ flushed places.now self }
+        ensures { result ≡ with_flushes places.now self }
     {
         let sectors = self.sectors();
         let (mut entries, initial) = self.into_parts();

@@ -6,7 +6,7 @@ use Rattle.epochs.specs.Plan.{PlanValue}
 use Rattle.epochs.specs.declared.part.By.{By}
 use Rattle.epochs.specs.Parts.{volatile_parts}
 use Rattle.choices.specs.Picks.{picks_within, fates_of}
-use Rattle.choices.specs.Choices.{choice_of, choices_at, choices_over, ranked, ranked_at}
+use Rattle.choices.specs.Choices.{choice_of, choices_at, choices_over, ranked_choices, ranked_at}
 
 pub long : {X Y : Type 0} (f : X → Y) (xs : List X) → length (map f xs) ≡ length xs
 long f [] = refl
@@ -30,6 +30,6 @@ part_of_all way es m bound place (c ∷ cs) (suc i) cut h =
 
 -- a wanted cut has no more choices than all have
 pub few_at : (plan : PlanValue) (bound : ℕ) (tears : Bool) (i cut : ℕ) → slice_get (cuts_of plan.kind plan.log.entries) i ≡ Some cut
-    → length (ranked_at plan bound tears cut) ≤ length (ranked plan bound tears)
-unfolding ranked ranked_at
+    → length (ranked_at plan bound tears cut) ≤ length (ranked_choices plan bound tears)
+unfolding ranked_choices ranked_at
 few_at plan bound tears i cut h = part_of_all plan.by plan.log.entries (fates_of tears) bound 0 (cuts_of plan.kind plan.log.entries) i cut h

@@ -7,7 +7,7 @@ use Rattle.base.specs.declared.refusal.Refusal.{Refusal}
 use Rattle.base.specs.Refusals.{memory_refusal}
 use Rattle.logfmt.specs.Bounds.{LogValue}
 use Rattle.epochs.specs.Plan.{PlanValue}
-use Rattle.choices.specs.Choices.{ChoiceValue, ranked}
+use Rattle.choices.specs.Choices.{ChoiceValue, ranked_choices}
 use Rattle.images.specs.Views.{IsMember}
 use Rattle.request.specs.declared.settings.Settings.{Settings}
 use Rattle.request.specs.declared.command.Which.{Which}
@@ -20,10 +20,10 @@ use Rattle.looks.specs.Image.{text_in, IsImageIn, RefusesImage, for_number, for_
 
 -- the choice of a number is the one that is meant by it
 pub numbered_meant : (plan : PlanValue) (bound : ℕ) (tears : Bool) (n : ℕ) (found : Option ChoiceValue)
-    → MatchOption found (length (ranked plan bound tears) ≤ n) (λ c. slice_get (ranked plan bound tears) n ≡ Some c)
+    → MatchOption found (length (ranked_choices plan bound tears) ≤ n) (λ c. slice_get (ranked_choices plan bound tears) n ≡ Some c)
     → MatchOption found (NoneIs (IsMeant plan bound tears (which.Number n))) (IsOnly (IsMeant plan bound tears (which.Number n)))
 numbered_meant plan bound tears n None past = record {
-  none = λ c there. let within = slice_get_within (ranked plan bound tears) n c there in omega (arith, past, within);
+  none = λ c there. let within = slice_get_within (ranked_choices plan bound tears) n c there in omega (arith, past, within);
 }
 numbered_meant plan bound tears n (Some c) there = record { is = there; only = λ other is. same_Some other c (sym is ∙ there) }
 

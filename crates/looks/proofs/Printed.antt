@@ -15,7 +15,7 @@ use Rattle.choices.specs.declared.choice.Departure.{Departure}
 use Rattle.choices.specs.declared.fate.Fate.{Fate}
 use Rattle.choices.specs.declared.fate.Fate.TheVariants as fate
 use Rattle.choices.specs.declared.name.Name.{Name}
-use Rattle.choices.specs.Choices.{ChoiceValue, ranked}
+use Rattle.choices.specs.Choices.{ChoiceValue, ranked_choices}
 use Rattle.choices.specs.CrashModel.{IsFate}
 use Rattle.choices.specs.Named.{name_of, IsNamed, NoneIsNamed}
 use Rattle.choices.proofs.CrashModel.{ranked_is_model}
@@ -73,7 +73,7 @@ all_names way (d ∷ ds) each zero n l = each 0 d refl
 all_names way (d ∷ ds) each (suc k) n l = all_names way ds (λ i e there. each (suc i) e there) k n (omega (arith, l))
 
 pub names_are : (plan : PlanValue) (bound : ℕ) (tears : Bool) (number : ℕ) (c : ChoiceValue) → IsLog plan.log → bound ≤ 3
-    → slice_get (ranked plan bound tears) number ≡ Some c → AreNames plan.by (map name_of c.departures)
+    → slice_get (ranked_choices plan bound tears) number ≡ Some c → AreNames plan.by (map name_of c.departures)
 names_are plan bound tears number c bounds small there =
     let model = (ranked_is_model plan bound tears).sound number c there in
     let few = model.few in
@@ -115,14 +115,14 @@ same_departures way es k l (c ∷ cs) (d ∷ ds) first second e =
     ap (λ (x : Departure). x ∷ cs) (same_departure way es k l c d (first 0 c refl) (second 0 d refl) head)
     ∙ ap (λ (xs : List Departure). d ∷ xs) (same_departures way es k l cs ds (λ i x there. first (suc i) x there) (λ i x there. second (suc i) x there) tail)
 
-same_choice : (plan : PlanValue) (bound : ℕ) (tears : Bool) (n m : ℕ) (a b : ChoiceValue) → slice_get (ranked plan bound tears) n ≡ Some a
-    → slice_get (ranked plan bound tears) m ≡ Some b → a.cut ≡ b.cut → map name_of a.departures ≡ map name_of b.departures → a ≡ b
+same_choice : (plan : PlanValue) (bound : ℕ) (tears : Bool) (n m : ℕ) (a b : ChoiceValue) → slice_get (ranked_choices plan bound tears) n ≡ Some a
+    → slice_get (ranked_choices plan bound tears) m ≡ Some b → a.cut ≡ b.cut → map name_of a.departures ≡ map name_of b.departures → a ≡ b
 same_choice plan bound tears n m a b first second cut names =
     let model = ranked_is_model plan bound tears in
     let departures : a.departures ≡ b.departures =
     same_departures plan.by plan.log.entries a.cut b.cut a.departures b.departures ((model.sound n a first).volatile) ((model.sound m b second).volatile) names in
     let number : n ≡ m = model.once n m a b first second cut departures in
-    same_Some a b (sym first ∙ ap (slice_get (ranked plan bound tears)) number ∙ second)
+    same_Some a b (sym first ∙ ap (slice_get (ranked_choices plan bound tears)) number ∙ second)
 
 -- what is found by a text
 

@@ -10,7 +10,7 @@ use Rattle.epochs.specs.Plan.{PlanValue}
 use Rattle.choices.specs.declared.fate.Fate.{Fate}
 use Rattle.choices.specs.declared.fate.Fate.TheVariants as fate
 use Rattle.choices.specs.declared.name.Name.{Name}
-use Rattle.choices.specs.Choices.{ChoiceValue, ranked}
+use Rattle.choices.specs.Choices.{ChoiceValue, ranked_choices}
 use Rattle.choices.specs.CrashModel.{IsFate}
 use Rattle.choices.specs.Named.{name_of}
 use Rattle.lines.specs.Text.{choice_text}
@@ -57,7 +57,7 @@ names_short way (n ∷ ns) are =
 
 -- a choice's text has at most 96 bytes
 pub choices_are_short : (plan : PlanValue) (bound : ℕ) (tears : Bool) (n : ℕ) (c : ChoiceValue) → IsLog plan.log → bound ≤ 3
-    → slice_get (ranked plan bound tears) n ≡ Some c → length (choice_text plan.by c.departures) ≤ 96
+    → slice_get (ranked_choices plan bound tears) n ≡ Some c → length (choice_text plan.by c.departures) ≤ 96
 choices_are_short plan bound tears n c bounds small there =
     let same : length (choice_text plan.by c.departures) ≡ length (names_text plan.by (map name_of c.departures)) = ap length (prints_choices plan.by c.departures) in
     omega (arith, same, names_short plan.by (map name_of c.departures) (names_are plan bound tears n c bounds small there))

@@ -17,8 +17,8 @@ use Rattle.looks.specs.Which.{IsMeant, IsOnly, NoneIs, which_place}
 use Rattle.request.specs.Source.{Recording, plan_of, HasImages, RefusesSource}
 
 -- sectors one after the other
-abbrev pub joined : List (List ℕ) → List ℕ
-joined sectors = flat_map (λ (sector : List ℕ). sector) sectors
+abbrev pub sector_bytes : List (List ℕ) → List ℕ
+sector_bytes sectors = flat_map (λ (sector : List ℕ). sector) sectors
 
 -- the image of a cut where nothing departs
 abbrev pub whole_view : LogValue → ℕ → ViewValue
@@ -26,7 +26,7 @@ whole_view log cut = record { log = log; cut = cut; departures = [] }
 
 -- the image of a choice: its sectors one after the other; or in words, beside the image of its cut where nothing departs
 abbrev pub text_in : Form → Settings → PlanValue → ChoiceValue → List ℕ
-text_in form.Bytes s plan choice = joined (sectors_of (view_of plan choice))
+text_in form.Bytes s plan choice = sector_bytes (sectors_of (view_of plan choice))
 text_in form.Words s plan choice = shown_text plan s.bound s.tears choice (sectors_of (whole_view plan.log choice.cut)) (sectors_of (view_of plan choice))
 
 -- the bytes tell the image that is meant

@@ -9,7 +9,7 @@ use Rattle.epochs.specs.Units.{epoch_at, marks_at}
 use Rattle.epochs.specs.Parts.{volatile_parts}
 use Rattle.epochs.specs.Cuts.{cuts_of}
 use Rattle.epochs.specs.Plan.{PlanValue}
-use Rattle.choices.specs.Choices.{ranked, ranked_at}
+use Rattle.choices.specs.Choices.{ranked_choices, ranked_at}
 use Rattle.request.specs.declared.settings.Settings.{Settings}
 use Rattle.request.specs.Source.{Recording, plan_of, HasImages, RefusesSource}
 
@@ -28,7 +28,7 @@ cut_line plan bound tears cut = cut_text plan cut ++ open_text plan bound tears 
 -- a line for each wanted cut, and the number of all images
 unfoldable pub survey_text : PlanValue → ℕ → Bool → List ℕ
 survey_text plan bound tears =
-    flat_map (cut_line plan bound tears) (cuts_of plan.kind plan.log.entries) ++ codes "total " ++ decimal (length (ranked plan bound tears)) ++ codes "\n"
+    flat_map (cut_line plan bound tears) (cuts_of plan.kind plan.log.entries) ++ codes "total " ++ decimal (length (ranked_choices plan bound tears)) ++ codes "\n"
 
 pub record IsSurvey (text : Recording) (s : Settings) (bytes : List ℕ) : Type 0 where
   pub value : LogValue

@@ -4,7 +4,7 @@ use Rattle.logfmt.specs.Bounds.{IsLog}
 use Rattle.epochs.specs.declared.part.By.{By}
 use Rattle.epochs.specs.Plan.{PlanValue}
 use Rattle.choices.specs.declared.choice.Departure.{Departure}
-use Rattle.choices.specs.Choices.{ChoiceValue, ranked}
+use Rattle.choices.specs.Choices.{ChoiceValue, ranked_choices}
 use Rattle.lines.specs.Text.{choice_text}
 use Rattle.choice_text.specs.Text.{departures_text}
 use Rattle.request.specs.declared.settings.OptionPlace.{OptionPlace}
@@ -15,13 +15,13 @@ use Rattle.request.specs.declared.command.Which.TheVariants as which
 -- a choice of the plan at that cut, for which the report prints that text
 pub record IsPrinted (plan : PlanValue) (bound : ℕ) (tears : Bool) (cut : ℕ) (text : List ℕ) (choice : ChoiceValue) : Type 0 where
   pub number : ℕ
-  pub there : slice_get (ranked plan bound tears) number ≡ Some choice
+  pub there : slice_get (ranked_choices plan bound tears) number ≡ Some choice
   pub at : choice.cut ≡ cut
   pub printed : text ≡ choice_text plan.by choice.departures
 
 -- the choice of the plan that is meant; a text of more than 96 bytes, which no choice has, means none
 abbrev pub IsMeant : PlanValue → ℕ → Bool → Which → ChoiceValue → Type 0
-IsMeant plan bound tears (which.Number n) choice = slice_get (ranked plan bound tears) n ≡ Some choice
+IsMeant plan bound tears (which.Number n) choice = slice_get (ranked_choices plan bound tears) n ≡ Some choice
 IsMeant plan bound tears (which.Printed cut None) choice = ⊥
 IsMeant plan bound tears (which.Printed cut (Some text)) choice = IsPrinted plan bound tears cut text.bytes choice
 
@@ -47,4 +47,4 @@ PrintsChoices = (way : By) (ds : List Departure) → choice_text way ds ≡ depa
 abbrev pub ChoicesAreShort : Type 0
 ChoicesAreShort =
     (plan : PlanValue) (bound : ℕ) (tears : Bool) (n : ℕ) (choice : ChoiceValue) → IsLog plan.log → bound ≤ 3
-    → slice_get (ranked plan bound tears) n ≡ Some choice → length (choice_text plan.by choice.departures) ≤ 96
+    → slice_get (ranked_choices plan bound tears) n ≡ Some choice → length (choice_text plan.by choice.departures) ≤ 96

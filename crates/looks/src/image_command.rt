@@ -5,7 +5,7 @@ ghost use Rattle.logfmt.specs.Bounds.{IsLog};
 ghost use Rattle.images.specs.Views.{view_of, sectors_of, IsMember};
 ghost use Rattle.request.specs.Source.{plan_of};
 ghost use Rattle.facts.specs.Fewer.{FindsFewer};
-ghost use Rattle.looks.specs.Image.{joined, text_in, IsImageIn, IsImage, RefusesImage};
+ghost use Rattle.looks.specs.Image.{sector_bytes, text_in, IsImageIn, IsImage, RefusesImage};
 
 use crate::show_command::text_of;
 use crate::which::choice_meant;
@@ -32,7 +32,7 @@ fn put_sector<D: Device>(bytes: &mut Vec<u8>, device: &D, number: u32) -> Result
 
 /// The sectors of a device one after the other.
 fn bytes_of<D: Device>(alloc: Global, device: &D) -> Result<Vec<u8>, AllocError>
-    ensures { IfOk result (λ bytes. bytes.items ≡ joined (D.content device.now)) }
+    ensures { IfOk result (λ bytes. bytes.items ≡ sector_bytes (D.content device.now)) }
 {
     let mut bytes = Vec::new(alloc);
     for number in 0..device.sectors() {
@@ -50,7 +50,7 @@ fn shown<'x>(
 ) -> Result<Vec<u8>, AllocError>
     requires plan { plan.now.log ≡ log.now }
     requires member { IsMember plan.now choice.now }
-    ensures { IfOk result (λ bytes. bytes.items ≡ joined (sectors_of (view_of plan.now choice.now))) }
+    ensures { IfOk result (λ bytes. bytes.items ≡ sector_bytes (sectors_of (view_of plan.now choice.now))) }
 {
     let history = History::new(alloc, plan, log)?;
     let view = history.view(alloc, choice)?;

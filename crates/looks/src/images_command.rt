@@ -4,7 +4,7 @@ ghost use Rattle.std.specs.Prelude.{◌≡◌, ◌≤◌, ◌++◌, length, code
 ghost use Rattle.std.specs.Fmt.{decimal};
 ghost use Rattle.std.specs.List.{flat_map};
 ghost use Rattle.epochs.specs.Cuts.{cuts_of};
-ghost use Rattle.choices.specs.Choices.{ranked, ranked_at, limit};
+ghost use Rattle.choices.specs.Choices.{ranked_choices, ranked_at, limit};
 ghost use Rattle.facts.specs.Fewer.{FindsLarge, FindsFewer};
 ghost use Rattle.looks.specs.Survey.{cut_text, open_text, cut_line, survey_text, IsSurvey, RefusesSurvey};
 
@@ -70,7 +70,7 @@ fn text_of(
     images: u64,
 ) -> Result<Vec<u8>, AllocError>
     requires bound { bound ≤ 3 }
-    requires count { images ≡ length (ranked plan.now bound tears) }
+    requires count { images ≡ length (ranked_choices plan.now bound tears) }
     requires few { images ≤ limit }
     ensures { IfOk result (λ bytes. bytes.items ≡ survey_text plan.now bound tears) }
 {

@@ -2,7 +2,7 @@
 
 ghost use Rattle.std.specs.Prelude.{◌≡◌, ◌≤◌, ◌⊎◌, length, slice_get, Some, IfOk, IfErr, MatchOption};
 ghost use Rattle.base.specs.Refusals.{memory_refusal};
-ghost use Rattle.choices.specs.Choices.{ranked};
+ghost use Rattle.choices.specs.Choices.{ranked_choices};
 ghost use Rattle.logfmt.specs.Bounds.{IsLog};
 ghost use Rattle.request.specs.Settings.{option_refusal};
 ghost use Rattle.looks.specs.Which.{IsMeant, IsOnly, IsPrinted, NoneIs, which_place};
@@ -16,9 +16,9 @@ use std::alloc::{AllocError, Global};
 
 /// The choice of that number, of a plan that has so many images.
 fn choice_numbered(plan: &Plan<'_>, images: u64, options: &Options, number: u64) -> Option<Choice>
-    requires count { images ≡ length (ranked plan.now options.now.bound options.now.tears) }
-    ensures { MatchOption result (length (ranked plan.now options.now.bound options.now.tears) ≤ number)
-        (λ choice. slice_get (ranked plan.now options.now.bound options.now.tears) number ≡ Some choice) }
+    requires count { images ≡ length (ranked_choices plan.now options.now.bound options.now.tears) }
+    ensures { MatchOption result (length (ranked_choices plan.now options.now.bound options.now.tears) ≤ number)
+        (λ choice. slice_get (ranked_choices plan.now options.now.bound options.now.tears) number ≡ Some choice) }
 {
     if number >= images {
         return None;
@@ -55,7 +55,7 @@ fn choice_of(
     options: &Options,
     which: &Which,
 ) -> Result<Option<Choice>, AllocError>
-    requires count { images ≡ length (ranked plan.now options.now.bound options.now.tears) }
+    requires count { images ≡ length (ranked_choices plan.now options.now.bound options.now.tears) }
     requires by { plan.now.by ≡ options.now.by }
     requires log { IsLog plan.now.log }
     ensures { IfOk result (λ found. MatchOption found (NoneIs (IsMeant plan.now options.now.bound options.now.tears which.now))
@@ -99,7 +99,7 @@ pub(crate) fn choice_meant(
     options: &Options,
     which: Which,
 ) -> Result<Choice, Refusal>
-    requires count { images ≡ length (ranked plan.now options.now.bound options.now.tears) }
+    requires count { images ≡ length (ranked_choices plan.now options.now.bound options.now.tears) }
     requires by { plan.now.by ≡ options.now.by }
     requires log { IsLog plan.now.log }
     ensures meant { IfOk result (IsOnly (IsMeant plan.now options.now.bound options.now.tears which)) }

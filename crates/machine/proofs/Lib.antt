@@ -1,3 +1,4 @@
 pub mod Order
 pub mod Longer
 pub mod HelperNumbers
+pub mod Footprints

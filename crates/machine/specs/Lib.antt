@@ -5,3 +5,4 @@ pub mod Memory
 pub mod Step
 pub mod Outcome
 pub mod Laws
+pub mod Footprint

@@ -1,13 +1,14 @@
 //! Laws of the definitions. Nothing here is called.
 
 ghost use Rattle.std.specs.Prelude.{◌≡◌, ◌-◌, ◌^◌};
-ghost use Rattle.machine.specs.Arithmetic.{arithmetic, extended, in_order};
+ghost use Rattle.machine.specs.Arithmetic.{arithmetic, sign_extension, in_order};
+ghost use Rattle.machine.specs.Footprint.{FootprintTells};
 ghost use Rattle.machine.specs.Laws.{AreInOrder, OneJudgement};
 
 use bpf_isa::instr::{Operator, Order, OrderSize, SignExtension, Width};
 
 /// The values of arithmetic that docs/MACHINE.md works out.
-#[tactic(auto, unfolding(crate::specs::Arithmetic::arithmetic, crate::specs::Arithmetic::computed))]
+#[tactic(auto, unfolding(crate::specs::Arithmetic::arithmetic, crate::specs::Arithmetic::operator_value))]
 pub fn worked_arithmetic()
     ensures least_divided_by_minus_one { arithmetic Width.W64 Operator.SignedDiv (2 ^ 63) (2 ^ 64 - 1) ≡ 9223372036854775808 }
     ensures its_remainder { arithmetic Width.W64 Operator.SignedMod (2 ^ 63) (2 ^ 64 - 1) ≡ 0 }
@@ -27,10 +28,10 @@ pub fn worked_arithmetic()
 {}
 
 /// The extensions and byte orders that docs/MACHINE.md works out.
-#[tactic(auto, unfolding(crate::specs::Arithmetic::extended, crate::specs::Arithmetic::kept_low, crate::specs::Arithmetic::turned_round))]
+#[tactic(auto, unfolding(crate::specs::Arithmetic::sign_extension, crate::specs::Arithmetic::kept_low, crate::specs::Arithmetic::turned_round))]
 pub fn worked_bytes()
-    ensures sign_of_byte { extended SignExtension.From8To64 128 ≡ 18446744073709551488 }
-    ensures sign_in_half { extended SignExtension.From8To32 128 ≡ 4294967168 }
+    ensures sign_of_byte { sign_extension SignExtension.From8To64 128 ≡ 18446744073709551488 }
+    ensures sign_in_half { sign_extension SignExtension.From8To32 128 ≡ 4294967168 }
     ensures big { in_order Order.Big OrderSize.Bits16 0x1234 ≡ 13330 }
     ensures little { in_order Order.Little OrderSize.Bits64 0x1_0000_0000 ≡ 4294967296 }
     ensures swapped { in_order Order.Swap OrderSize.Bits32 0x1234_5678 ≡ 2018915346 }
@@ -44,4 +45,9 @@ pub fn checks_in_order()
 /// A program has at most one judgement.
 pub fn one_judgement()
     ensures { OneJudgement }
+{}
+
+/// What a run comes to hangs on no sector but those of its footprint.
+pub fn footprint_tells()
+    ensures { FootprintTells }
 {}

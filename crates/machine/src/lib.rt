@@ -9,17 +9,18 @@
 //! # The definitions
 //!
 //! - `Arithmetic`: `arithmetic width operator a b` is the value of each operator in each width, and
-//!   `holds` says whether a condition holds. `extended` and `in_order` are the moves that extend the
+//!   `condition_holds` says whether a condition holds. `sign_extension` and `in_order` are the moves that extend the
 //!   sign and the byte swaps.
 //! - `State`: what the machine holds between two steps, and the state at the start. The frames are a
 //!   list, the outermost first; each but the first has what its call saved.
 //! - `Memory`: `byte_at` is the memory, one partial function of addresses that answers a `ByteAt`.
-//!   An access is the list of its addresses, `loaded` the number that stands there, `stored` the
+//!   An access is the list of its addresses, `number_from` the number there, `frames_with` the
 //!   frames when bytes were written.
 //! - `Step`: `checks` lists the checks of an instruction in the order of the fault table, `effect` is
 //!   what it does where all of them pass, and `step` the effect or the first fault.
 //! - `Outcome`: `outcome` is what a number of steps from the start end in, a verdict, a fault or
 //!   neither, and `IsJudgement` says which verdict some limit gives.
+//! - `Footprint`: `footprint` is the list of the sectors at which the helpers and the loads of a run look.
 //!
 //! # What is proved
 //!
@@ -30,6 +31,7 @@
 //! - `checks_in_order`: the checks of each instruction stand in the order of the fault table, each
 //!   fault at most once.
 //! - `one_judgement`: a program has at most one judgement on an image.
+//! - `footprint_tells`: what a run comes to hangs on the sectors of its footprint alone, and on how many the device has.
 //!
 //! # Example
 //!
@@ -40,7 +42,7 @@
 
 mod laws;
 
-pub use laws::{checks_in_order, one_judgement, worked_arithmetic, worked_bytes};
+pub use laws::{checks_in_order, footprint_tells, one_judgement, worked_arithmetic, worked_bytes};
 
 /// What stands at an address of a program's memory (docs/MACHINE.md, Address space).
 #[derive(Clone, Copy)]

@@ -6,7 +6,7 @@ use Rattle.std.specs.Fmt.{decimal}
 use Rattle.logfmt.specs.declared.entry.Entry.{Entry}
 use Rattle.logfmt.specs.declared.flags.Flags.{Flags}
 use Rattle.epochs.specs.Units.{epoch_at}
-use Rattle.notes.specs.Escaped.{escaped}
+use Rattle.notes.specs.Escaped.{escaped_text}
 
 -- a word that stands where something is so
 abbrev pub word_text : Bool → List ℕ → List ℕ
@@ -26,7 +26,7 @@ abbrev pub sectors_text : Entry → List ℕ
 sectors_text e = if e.count == 0 then [] else codes " sector " ++ decimal e.sector ++ codes " count " ++ decimal e.count
 
 abbrev pub mark_text : Entry → List ℕ
-mark_text e = if e.flags.mark then codes " text \"" ++ escaped e.text ++ codes "\"" else []
+mark_text e = if e.flags.mark then codes " text \"" ++ escaped_text e.text ++ codes "\"" else []
 
 unfoldable pub head_text : ℕ → ℕ → List ℕ
 head_text number epoch = codes "entry " ++ decimal number ++ codes " epoch " ++ decimal epoch

@@ -2,7 +2,7 @@
 
 ghost use Rattle.std.specs.Prelude.{◌≡◌, ◌++◌, OnOk, string_bytes};
 ghost use Rattle.std.specs.List.{flat_map};
-ghost use Rattle.notes.specs.Escaped.{is_plain, escaped_byte, escaped};
+ghost use Rattle.notes.specs.Escaped.{is_plain, escaped_byte, escaped_text};
 
 use std::alloc::AllocError;
 
@@ -26,7 +26,7 @@ fn put_byte(out: &mut String, byte: u8) -> Result<(), AllocError>
 
 /// Appends bytes, each printable ASCII character but `"` and `\` as it is, any other as `\x{0}` to `\x{ff}`.
 pub fn put_escaped(out: &mut String, bytes: &[u8]) -> Result<(), AllocError>
-    ensures { OnOk result (string_bytes out.new ≡ string_bytes out.old ++ escaped bytes.now) }
+    ensures { OnOk result (string_bytes out.new ≡ string_bytes out.old ++ escaped_text bytes.now) }
 {
     for byte in bytes {
         put_byte(out, *byte)?;

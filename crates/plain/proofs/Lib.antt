@@ -7,3 +7,4 @@ pub mod Leaving
 pub mod Loading
 pub mod Agreeing
 pub mod Runs
+pub mod Footprints

@@ -4,4 +4,5 @@ pub mod Machine
 pub mod Callers
 pub mod Blocks
 pub mod Steps
+pub mod Reads
 pub mod Runs

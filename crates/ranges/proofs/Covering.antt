@@ -1,7 +1,7 @@
 -- The order of groups and of states.
 use Rattle.std.proofs.Common.{◌≡◌, ℕ, zero, suc, ◌&&◌, ◌⊎◌, inl, inr, not, Bool, true, false, IsTrue, List, [], ◌∷◌, length, map, replicate, refl, sym, ◌∙◌, arith, ap, subst}
 use Rattle.ranges.specs.Kinds.{Kind, Unset, Num, Ctx, Stack, Sector, SectorOrNull, is_number, is_unset, join, round}
-use Rattle.ranges.specs.Groups.{GroupKind, Marked, Spilled, zip_with, unset_marks, kept, met, join_group, round_group, GroupContains}
+use Rattle.ranges.specs.Groups.{GroupKind, Marked, Spilled, zip_with, unset_marks, group_kept, marks_at_join, join_group, round_group, GroupContains}
 use Rattle.ranges.specs.States.{Abstract, join_state, round_state, StateContains}
 use Rattle.ranges.specs.Order.{Under, MarksUnder, GroupUnder, EachUnder, StateUnder, IsBounded, IsGroup, Each, IsState}
 use Rattle.ranges.proofs.Joins.{join_first, join_other, join_least, under_contains, round_under, round_mono}
@@ -72,7 +72,7 @@ unset_under zs e = rw e (marks_refl unset_marks)
 
 -- groups
 
-over_kept : (k m : Kind) → Under k m → GroupUnder (Spilled k) (kept m)
+over_kept : (k m : Kind) → Under k m → GroupUnder (Spilled k) (group_kept m)
 over_kept k Unset p = inr refl
 over_kept k (Num x) p = p
 over_kept k (Ctx a) p = p
@@ -80,7 +80,7 @@ over_kept k (Stack a) p = p
 over_kept k (Sector x) p = p
 over_kept k SectorOrNull p = p
 
-kept_unset : (k : Kind) (zs : List Bool) → zs ≡ unset_marks → GroupUnder (kept k) (Marked zs)
+kept_unset : (k : Kind) (zs : List Bool) → zs ≡ unset_marks → GroupUnder (group_kept k) (Marked zs)
 kept_unset Unset zs e = rw e (marks_refl unset_marks)
 kept_unset (Num x) zs e = inr e
 kept_unset (Ctx a) zs e = inr e
@@ -90,7 +90,7 @@ kept_unset SectorOrNull zs e = inr e
 
 -- where both are numbers all bytes are written, and where one may be a pointer nothing is known
 kept_joined : (k l : Kind) (zs : List Bool) → IsTrue (is_number k) ⊎ (zs ≡ unset_marks) → IsTrue (is_number l) ⊎ (zs ≡ unset_marks)
-    → GroupUnder (kept (join k l)) (Marked zs)
+    → GroupUnder (group_kept (join k l)) (Marked zs)
 unfolding join
 kept_joined (Num x) (Num y) zs p q = inl refl
 kept_joined k l zs (inr e) q = kept_unset (join k l) zs e
@@ -106,7 +106,7 @@ kept_joined (Num x) (Stack a) zs p (inl n) = absurd (let bad : false ≡ true = 
 kept_joined (Num x) (Sector y) zs p (inl n) = absurd (let bad : false ≡ true = n in cc)
 kept_joined (Num x) SectorOrNull zs p (inl n) = absurd (let bad : false ≡ true = n in cc)
 
-kept_under : (k m : Kind) → IsTrue (not (is_unset m)) → Under k m → GroupUnder (kept k) (Spilled m)
+kept_under : (k m : Kind) → IsTrue (not (is_unset m)) → Under k m → GroupUnder (group_kept k) (Spilled m)
 kept_under k Unset t p = absurd (let bad : false ≡ true = t in cc)
 kept_under (Num x) (Num y) t p = p
 kept_under k (Num y) t p = absurd p
@@ -119,7 +119,7 @@ kept_under k (Sector y) t p = absurd p
 kept_under SectorOrNull SectorOrNull t p = p
 kept_under k SectorOrNull t p = absurd p
 
-kept_known : (k : Kind) → IsTrue (not (is_unset k)) → kept k ≡ Spilled k
+kept_known : (k : Kind) → IsTrue (not (is_unset k)) → group_kept k ≡ Spilled k
 kept_known Unset t = absurd (let bad : false ≡ true = t in cc)
 kept_known (Num x) t = refl
 kept_known (Ctx a) t = refl
@@ -129,7 +129,7 @@ kept_known SectorOrNull t = refl
 
 -- marks where a value is kept instead
 
-marks_met : (xs : List Bool) (k : Kind) → length xs ≡ 8 → MarksUnder xs (met xs k)
+marks_met : (xs : List Bool) (k : Kind) → length xs ≡ 8 → MarksUnder xs (marks_at_join xs k)
 marks_met xs (Num x) e = marks_refl xs
 marks_met xs Unset e = marks_unset xs 8 e
 marks_met xs (Ctx a) e = marks_unset xs 8 e
@@ -137,7 +137,7 @@ marks_met xs (Stack a) e = marks_unset xs 8 e
 marks_met xs (Sector x) e = marks_unset xs 8 e
 marks_met xs SectorOrNull e = marks_unset xs 8 e
 
-value_met : (xs : List Bool) (k : Kind) → GroupUnder (Spilled k) (Marked (met xs k))
+value_met : (xs : List Bool) (k : Kind) → GroupUnder (Spilled k) (Marked (marks_at_join xs k))
 value_met xs (Num x) = inl refl
 value_met xs Unset = inr refl
 value_met xs (Ctx a) = inr refl
@@ -145,7 +145,7 @@ value_met xs (Stack a) = inr refl
 value_met xs (Sector x) = inr refl
 value_met xs SectorOrNull = inr refl
 
-met_under : (xs : List Bool) (k : Kind) (zs : List Bool) → MarksUnder xs zs → IsTrue (is_number k) ⊎ (zs ≡ unset_marks) → MarksUnder (met xs k) zs
+met_under : (xs : List Bool) (k : Kind) (zs : List Bool) → MarksUnder xs zs → IsTrue (is_number k) ⊎ (zs ≡ unset_marks) → MarksUnder (marks_at_join xs k) zs
 met_under xs (Num x) zs p q = p
 met_under xs Unset zs p q = unset_under zs (or_unset Unset zs refl q)
 met_under xs (Ctx a) zs p q = unset_under zs (or_unset (Ctx a) zs refl q)
@@ -153,7 +153,7 @@ met_under xs (Stack a) zs p q = unset_under zs (or_unset (Stack a) zs refl q)
 met_under xs (Sector x) zs p q = unset_under zs (or_unset (Sector x) zs refl q)
 met_under xs SectorOrNull zs p q = unset_under zs (or_unset SectorOrNull zs refl q)
 
-met_same : (xs : List Bool) (k : Kind) → IsTrue (is_number k) ⊎ (xs ≡ unset_marks) → met xs k ≡ xs
+met_same : (xs : List Bool) (k : Kind) → IsTrue (is_number k) ⊎ (xs ≡ unset_marks) → marks_at_join xs k ≡ xs
 met_same xs (Num x) q = refl
 met_same xs Unset q = sym (or_unset Unset xs refl q)
 met_same xs (Ctx a) q = sym (or_unset (Ctx a) xs refl q)
@@ -199,7 +199,7 @@ unfolding join_group
 group_same (Marked xs) (Marked ys) a p = ap (λ z. Marked z) (marks_same xs ys p)
 group_same (Marked xs) (Spilled l) a p = ap (λ z. Marked z) (met_same xs l p)
 group_same (Spilled k) (Marked ys) a p = absurd p
-group_same (Spilled k) (Spilled l) a p = ap kept (under_contains k l p) ∙ kept_known k a.0
+group_same (Spilled k) (Spilled l) a p = ap group_kept (under_contains k l p) ∙ kept_known k a.0
 
 group_round : (g : GroupKind) → IsGroup g → GroupUnder g (round_group g)
 unfolding round_group

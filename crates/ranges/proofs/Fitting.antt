@@ -7,7 +7,7 @@ use Rattle.intervals.proofs.Digits.{rounded_fits}
 use Rattle.intervals.proofs.Smaller as limits
 use Rattle.intervals.proofs.SignedDigits.{limits_rounded_fits}
 use Rattle.ranges.specs.Kinds.{Kind, Unset, Num, Ctx, Stack, Sector, SectorOrNull, is_unset, join, round}
-use Rattle.ranges.specs.Groups.{GroupKind, Marked, Spilled, zip_with, unset_marks, kept, met, join_group, round_group}
+use Rattle.ranges.specs.Groups.{GroupKind, Marked, Spilled, zip_with, unset_marks, group_kept, marks_at_join, join_group, round_group}
 use Rattle.ranges.specs.States.{Abstract, join_state, round_state, start, unset_groups}
 use Rattle.ranges.specs.Order.{IsBounded, IsGroup, Each, IsState}
 
@@ -86,7 +86,7 @@ round_known SectorOrNull t = t
 
 -- groups
 
-kept_fits : (k : Kind) → IsBounded k → IsGroup (kept k)
+kept_fits : (k : Kind) → IsBounded k → IsGroup (group_kept k)
 kept_fits Unset h = refl
 kept_fits (Num x) h = (refl, h)
 kept_fits (Ctx a) h = (refl, h)
@@ -94,7 +94,7 @@ kept_fits (Stack a) h = (refl, h)
 kept_fits (Sector x) h = (refl, h)
 kept_fits SectorOrNull h = (refl, tt)
 
-met_fits : (marks : List Bool) (k : Kind) → length marks ≡ 8 → IsGroup (Marked (met marks k))
+met_fits : (marks : List Bool) (k : Kind) → length marks ≡ 8 → IsGroup (Marked (marks_at_join marks k))
 met_fits marks (Num x) e = e
 met_fits marks Unset e = refl
 met_fits marks (Ctx a) e = refl

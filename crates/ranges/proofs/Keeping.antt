@@ -33,12 +33,12 @@ use Rattle.ranges.specs.declared.place.Place.TheVariants as place
 use Rattle.ranges.specs.Kinds.{Kind, Unset, Num, Ctx, Stack, Sector, is_unset}
 use Rattle.ranges.specs.Groups.{GroupKind, Marked, Spilled, map_places}
 use Rattle.ranges.specs.States.{Abstract, start}
-use Rattle.ranges.specs.Pointers.{offset_in, offsets_in, moved_offset, moved_place, moved_offsets, moved}
+use Rattle.ranges.specs.Pointers.{offset_in, offsets_in, moved_offset, moved_place, moved_offsets, moved_pointer}
 use Rattle.ranges.specs.Reading.{value, second, with_value, with_groups, words, any_word}
 use Rattle.ranges.specs.Places.{place_of, is_group}
 use Rattle.ranges.specs.Rules.{length_of, is_null_test}
-use Rattle.ranges.specs.Passing.{edge_of, with_both, tested_kind, is_equal_edge, given, entry_state}
-use Rattle.ranges.specs.After.{computed, result_kind, context_word, any_of, group_value, loaded_kind, is_touched, marks_after, group_after, written, written_at, stored_groups, answer_kind, answered, copied_state, call_after, after_of}
+use Rattle.ranges.specs.Passing.{edge_of, with_both, tested_kind, is_equal_edge, argument_kind, entry_state}
+use Rattle.ranges.specs.After.{number_result, result_kind, context_word, any_of, group_value, loaded_kind, is_touched, marks_after, group_after, groups_after_write, written_at, stored_groups, answer_kind, after_answer, copied_state, call_after, after_of}
 use Rattle.ranges.specs.Order.{IsBounded, IsGroup, Each, IsState, Holds}
 use Rattle.ranges.proofs.Fitting.{each_set, each_get, start_fits}
 
@@ -86,7 +86,7 @@ pub words_fit : (k : Kind) → IsBounded k → IsLimits (words k)
 words_fit (Num x) h = h
 words_fit _ h = any_word_fits
 
-computed_fits : (i : Instr) (k l : Kind) → IsBounded k → IsBounded l → Holds IsBounded (computed i k l)
+computed_fits : (i : Instr) (k l : Kind) → IsBounded k → IsBounded l → Holds IsBounded (number_result i k l)
 computed_fits i k l h g =
     holds_map IsLimits IsBounded (λ x. Num x) (λ x e. e) (limits_result_of i (words k) (words l))
     (holds_of IsLimits (limits_result_of i (words k) (words l))
@@ -162,8 +162,8 @@ moved_fit down x y h g = by_kind (is_constant y) (nat_le y.high 65535) down
     by_kind false true d = by_way d
     by_kind false false d = tt
 
-pub moved_kind_fits : (down : Bool) (k l : Kind) → IsBounded k → IsBounded l → Holds IsBounded (moved down k l)
-unfolding moved
+pub moved_kind_fits : (down : Bool) (k l : Kind) → IsBounded k → IsBounded l → Holds IsBounded (moved_pointer down k l)
+unfolding moved_pointer
 moved_kind_fits down (Ctx o) (Num y) h g = holds_map (λ n. n ≤ 32) IsBounded (λ p. Ctx p) (λ n e. e) (moved_place 32 down o y.unsigned) (place_fits 32 down o y.unsigned)
 moved_kind_fits down (Stack o) (Num y) h g = holds_map (λ n. n ≤ 512) IsBounded (λ p. Stack p) (λ n e. e) (moved_place 512 down o y.unsigned) (place_fits 512 down o y.unsigned)
 moved_kind_fits down (Sector x) (Num y) h g = holds_map (λ z. IsSpan 65535 z) IsBounded (λ z. Sector z) (λ z e. e) (moved_offsets down x y.unsigned) (moved_fit down x y.unsigned h g.words)
@@ -174,9 +174,9 @@ result_fits : (i : Instr) (k l : Kind) → IsBounded k → IsBounded l → Holds
 unfolding result_kind
 result_fits (instr.Arithmetic width.W64 op.Mov dst from) k l h g = g
 result_fits (instr.Arithmetic width.W64 op.Add dst from) k l h g =
-    holds_or IsBounded (moved false k l) (computed (instr.Arithmetic width.W64 op.Add dst from) k l) (moved_kind_fits false k l h g) (computed_fits (instr.Arithmetic width.W64 op.Add dst from) k l h g)
+    holds_or IsBounded (moved_pointer false k l) (number_result (instr.Arithmetic width.W64 op.Add dst from) k l) (moved_kind_fits false k l h g) (computed_fits (instr.Arithmetic width.W64 op.Add dst from) k l h g)
 result_fits (instr.Arithmetic width.W64 op.Sub dst from) k l h g =
-    holds_or IsBounded (moved true k l) (computed (instr.Arithmetic width.W64 op.Sub dst from) k l) (moved_kind_fits true k l h g) (computed_fits (instr.Arithmetic width.W64 op.Sub dst from) k l h g)
+    holds_or IsBounded (moved_pointer true k l) (number_result (instr.Arithmetic width.W64 op.Sub dst from) k l) (moved_kind_fits true k l h g) (computed_fits (instr.Arithmetic width.W64 op.Sub dst from) k l h g)
 result_fits (instr.Arithmetic width.W64 o dst from) k l h g = computed_fits (instr.Arithmetic width.W64 o dst from) k l h g
 result_fits (instr.Arithmetic width.W32 o dst from) k l h g = computed_fits (instr.Arithmetic width.W32 o dst from) k l h g
 result_fits i k l h g = computed_fits i k l h g
@@ -230,7 +230,7 @@ places_long at n g [] = refl
 places_long at n g (x ∷ xs) = let rest = places_long at n (g + 1) xs in omega (arith, rest)
 
 written_fits : (s : Abstract) (p : Place) (n : ℕ) → IsState s → IsState (with_groups s (written_at s.groups p n))
-unfolding written
+unfolding groups_after_write
 written_fits s (place.Stack at) n a = with_groups_fits s (map_places (group_after at n) 0 s.groups) a (places_fit at n 0 s.groups a.groups) (places_long at n 0 s.groups)
 written_fits s place.Outside n a = a
 written_fits s (place.Context at) n a = a
@@ -240,7 +240,7 @@ stored_fits : (s : Abstract) (k : Kind) (p : Place) (n : ℕ) → IsBounded k �
 unfolding stored_groups
 stored_fits s k (place.Stack at) n h a = by_test (not (is_unset k)) (is_group at n) refl
   where
-    by_test : (b c : Bool) → not (is_unset k) ≡ b → IsState (with_groups s (if b && c then set s.groups (at / 8) (Spilled k) else written at n s.groups))
+    by_test : (b c : Bool) → not (is_unset k) ≡ b → IsState (with_groups s (if b && c then set s.groups (at / 8) (Spilled k) else groups_after_write at n s.groups))
     by_test true true e = with_groups_fits s (set s.groups (at / 8) (Spilled k)) a (each_set IsGroup s.groups (at / 8) (Spilled k) (e, h) a.groups) (length-set s.groups (at / 8) (Spilled k))
     by_test true false e = written_fits s (place.Stack at) n a
     by_test false c e = written_fits s (place.Stack at) n a
@@ -259,7 +259,7 @@ answer_fits helper.Report = up_to_fits 0 1 (omega arith) (omega arith)
 answer_fits helper.Zero = up_to_fits 0 2 (omega arith) (omega arith)
 answer_fits helper.Same = up_to_fits 0 2 (omega arith) (omega arith)
 
-answered_fits : (s : Abstract) (k : Kind) → IsBounded k → IsState s → IsState (answered s k)
+answered_fits : (s : Abstract) (k : Kind) → IsBounded k → IsState s → IsState (after_answer s k)
 answered_fits s k h a =
     let s0 = with_value s 0 k in let a0 = with_value_fits s 0 k h a in
     let s1 = with_value s0 1 Unset in let a1 = with_value_fits s0 1 Unset tt a0 in
@@ -294,17 +294,17 @@ unfolding after_of IsInRange
 after_fits sectors s (instr.Arithmetic w o dst from) h r a =
     register_fits s dst (result_kind (instr.Arithmetic w o dst from) (value s dst) (second s from)) (result_fits (instr.Arithmetic w o dst from) (value s dst) (second s from) (value_fits s dst a) (second_fits s from r.1 a)) a
 after_fits sectors s (instr.Negate w dst) h r a =
-    register_fits s dst (computed (instr.Negate w dst) (value s dst) Unset) (computed_fits (instr.Negate w dst) (value s dst) Unset (value_fits s dst a) tt) a
+    register_fits s dst (number_result (instr.Negate w dst) (value s dst) Unset) (computed_fits (instr.Negate w dst) (value s dst) Unset (value_fits s dst a) tt) a
 after_fits sectors s (instr.SignExtend e dst src) h r a =
-    register_fits s dst (computed (instr.SignExtend e dst src) Unset (value s src)) (computed_fits (instr.SignExtend e dst src) Unset (value s src) tt (value_fits s src a)) a
+    register_fits s dst (number_result (instr.SignExtend e dst src) Unset (value s src)) (computed_fits (instr.SignExtend e dst src) Unset (value s src) tt (value_fits s src a)) a
 after_fits sectors s (instr.ByteOrder o size dst) h r a =
-    register_fits s dst (computed (instr.ByteOrder o size dst) (value s dst) Unset) (computed_fits (instr.ByteOrder o size dst) (value s dst) Unset (value_fits s dst a) tt) a
+    register_fits s dst (number_result (instr.ByteOrder o size dst) (value s dst) Unset) (computed_fits (instr.ByteOrder o size dst) (value s dst) Unset (value_fits s dst a) tt) a
 after_fits sectors s (instr.Jump distance) h r a = a
 after_fits sectors s (instr.LongJump distance) h r a = a
 after_fits sectors s (instr.Branch w c dst from distance) h r a = a
 after_fits sectors s (instr.CallHelper number) h r a = by_helper (helper_of (cast_unsigned w32 number))
   where
-    by_helper : (m : Option Helper) → IsState (option_map_or (call_after s) m (answered s (Num any_word)))
+    by_helper : (m : Option Helper) → IsState (option_map_or (call_after s) m (after_answer s (Num any_word)))
     by_helper None = answered_fits s (Num any_word) any_word_fits a
     by_helper (Some x) = call_fits s x a
 after_fits sectors s (instr.CallLocal distance) h r a = answered_fits s (Num any_word) any_word_fits a
@@ -356,7 +356,7 @@ edge_fits s _ taken r a = a
 
 -- the entry of a local function
 
-given_fits : (k : Kind) → IsBounded k → IsBounded (given k)
+given_fits : (k : Kind) → IsBounded k → IsBounded (argument_kind k)
 given_fits (Num x) h = h
 given_fits _ h = tt
 

@@ -7,7 +7,7 @@ use Rattle.std.proofs.lemmas.Bool.Decides.{nat_tests, eqb_tells}
 use Rattle.intervals.specs.Spans.{Span, span, is_constant, Within}
 use Rattle.intervals.proofs.Readings.{natural_reading}
 use Rattle.ranges.specs.Kinds.{Kind, Num, Ctx, Stack, Sector}
-use Rattle.ranges.specs.Pointers.{offset_in, offsets_in, moved_offset, moved_place, moved_offsets, moved}
+use Rattle.ranges.specs.Pointers.{offset_in, offsets_in, moved_offset, moved_place, moved_offsets, moved_pointer}
 use Rattle.ranges.specs.Order.{Under, IsBounded}
 
 -- where there is a second, there is a first, which is under it
@@ -140,8 +140,8 @@ sector_met down x y s t ox oy w v = by_kind (is_constant t) (nat_le t.high 65535
         let test : nat_le y.high 65535 ≡ true = grind (arith, nat_tests) in
         rw test (range_met down x y s t ox oy w v)
 
-pub moved_met : (down : Bool) (k l m n : Kind) → IsBounded k → IsBounded l → Under k m → Under l n → Met (moved down k l) (moved down m n)
-unfolding moved
+pub moved_met : (down : Bool) (k l m n : Kind) → IsBounded k → IsBounded l → Under k m → Under l n → Met (moved_pointer down k l) (moved_pointer down m n)
+unfolding moved_pointer
 moved_met down (Ctx o) (Num y) (Ctx p) (Num z) h g u v = rw u (place_met (λ a. Ctx a) 32 down p y.unsigned z.unsigned (λ a. refl) g.words.ordered v.unsigned)
 moved_met down (Stack o) (Num y) (Stack p) (Num z) h g u v = rw u (place_met (λ a. Stack a) 512 down p y.unsigned z.unsigned (λ a. refl) g.words.ordered v.unsigned)
 moved_met down (Sector x) (Num y) (Sector s) (Num z) h g u v = sector_met down x y.unsigned s z.unsigned h.ordered g.words.ordered u v.unsigned

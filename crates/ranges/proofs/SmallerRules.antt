@@ -26,8 +26,8 @@ use Rattle.ranges.specs.declared.place.Mark.TheVariants as mark
 use Rattle.ranges.specs.Kinds.{Kind, Unset, Num, Ctx, Stack, Sector, is_number, is_unset}
 use Rattle.ranges.specs.Groups.{GroupKind, Marked, Spilled, unset_marks}
 use Rattle.ranges.specs.States.{Abstract}
-use Rattle.ranges.specs.Pointers.{offset_in, moved}
-use Rattle.ranges.specs.Places.{landed, place_of, is_inside, mark_in, mark_at, is_mark, none_is}
+use Rattle.ranges.specs.Pointers.{offset_in, moved_pointer}
+use Rattle.ranges.specs.Places.{landing, place_of, is_inside, mark_in, mark_at, is_mark, none_is}
 use Rattle.ranges.specs.Reading.{value, second, are_set, is_stack, is_base, has_length}
 use Rattle.ranges.specs.Rules.{may_compute, is_null_test, compares, has_no, is_whole, load_rules, store_rules, length_of, call_rules, rules}
 use Rattle.ranges.specs.Order.{Under, MarksUnder, GroupUnder, EachUnder, StateUnder, IsBounded, IsState}
@@ -145,7 +145,7 @@ offset_some limit (pos n) a b =
     rw t refl
 
 -- an offset between two that fall in a region falls there
-landed_between : (n a b o : ℕ) (d : ℤ) → a ≤ o → o ≤ b → is_some (landed 512 n a d) ≡ true → is_some (landed 512 n b d) ≡ true → is_some (landed 512 n o d) ≡ true
+landed_between : (n a b o : ℕ) (d : ℤ) → a ≤ o → o ≤ b → is_some (landing 512 n a d) ≡ true → is_some (landing 512 n b d) ≡ true → is_some (landing 512 n o d) ≡ true
 landed_between n a b o d p q e f = by_size (nat_le n 512) e f
   where
     by_size : (c : Bool) → is_some (if c then offset_in (512 - n) (pos a +ℤ d) else None) ≡ true → is_some (if c then offset_in (512 - n) (pos b +ℤ d) else None) ≡ true
@@ -161,13 +161,13 @@ pub place_under : (k l : Kind) (d : ℤ) (n : ℕ) → IsBounded k → Under k l
 unfolding place_of
 place_under (Ctx a) (Ctx b) d n h u e = rw u refl
 place_under (Stack a) (Stack b) d n h u e = rw u refl
-place_under (Sector x) (Sector y) d n h u e = by_both (is_some (landed 512 n y.low d)) (is_some (landed 512 n y.high d)) refl refl e
+place_under (Sector x) (Sector y) d n h u e = by_both (is_some (landing 512 n y.low d)) (is_some (landing 512 n y.high d)) refl refl e
   where
-    by_both : (a b : Bool) → is_some (landed 512 n y.low d) ≡ a → is_some (landed 512 n y.high d) ≡ b → is_inside (if a && b then place.Sector else place.Outside) ≡ true
-        → (if is_some (landed 512 n x.low d) && is_some (landed 512 n x.high d) then place.Sector else place.Outside) ≡ (if a && b then place.Sector else place.Outside)
+    by_both : (a b : Bool) → is_some (landing 512 n y.low d) ≡ a → is_some (landing 512 n y.high d) ≡ b → is_inside (if a && b then place.Sector else place.Outside) ≡ true
+        → (if is_some (landing 512 n x.low d) && is_some (landing 512 n x.high d) then place.Sector else place.Outside) ≡ (if a && b then place.Sector else place.Outside)
     by_both true true p q e =
-        let low : is_some (landed 512 n x.low d) ≡ true = landed_between n y.low y.high x.low d (u.from) (omega (arith, h.ordered, u.upto)) p q in
-        let high : is_some (landed 512 n x.high d) ≡ true = landed_between n y.low y.high x.high d (omega (arith, h.ordered, u.from)) (u.upto) p q in
+        let low : is_some (landing 512 n x.low d) ≡ true = landed_between n y.low y.high x.low d (u.from) (omega (arith, h.ordered, u.upto)) p q in
+        let high : is_some (landing 512 n x.high d) ≡ true = landed_between n y.low y.high x.high d (omega (arith, h.ordered, u.from)) (u.upto) p q in
         rw (low, high) refl
     by_both true false p q e = absurd (let bad : false ≡ true = e in cc)
     by_both false b p q e = absurd (let bad : false ≡ true = e in cc)
@@ -340,11 +340,11 @@ unfolding may_compute
 may_under width.W64 op.Mov k l m n h g u v e = refl
 may_under width.W32 op.Mov k l m n h g u v e = number_under l n v e
 may_under width.W64 op.Add k l m n h g u v e =
-    or_mono (is_number k && is_number l) (is_some (moved false k l)) (is_number m && is_number n) (is_some (moved false m n))
-    (both_numbers k l m n u v) (met_some (moved false k l) (moved false m n) (moved_met false k l m n h g u v)) e
+    or_mono (is_number k && is_number l) (is_some (moved_pointer false k l)) (is_number m && is_number n) (is_some (moved_pointer false m n))
+    (both_numbers k l m n u v) (met_some (moved_pointer false k l) (moved_pointer false m n) (moved_met false k l m n h g u v)) e
 may_under width.W64 op.Sub k l m n h g u v e =
-    or_mono (is_number k && is_number l) (is_some (moved true k l)) (is_number m && is_number n) (is_some (moved true m n))
-    (both_numbers k l m n u v) (met_some (moved true k l) (moved true m n) (moved_met true k l m n h g u v)) e
+    or_mono (is_number k && is_number l) (is_some (moved_pointer true k l)) (is_number m && is_number n) (is_some (moved_pointer true m n))
+    (both_numbers k l m n u v) (met_some (moved_pointer true k l) (moved_pointer true m n) (moved_met true k l m n h g u v)) e
 may_under w o k l m n h g u v e = both_numbers k l m n u v e
 
 compares_under : (s t : Abstract) (w : Width) (c : Condition) (dst : ℕ) (from : Source) → StateUnder s t → compares t w c dst from ≡ true → compares s w c dst from ≡ true

@@ -33,12 +33,12 @@ use Rattle.ranges.specs.declared.place.Mark.TheVariants as mark
 use Rattle.ranges.specs.Kinds.{Kind, Unset, Num, is_number, is_unset}
 use Rattle.ranges.specs.Groups.{GroupKind, Marked, Spilled, map_places}
 use Rattle.ranges.specs.States.{Abstract}
-use Rattle.ranges.specs.Pointers.{moved}
+use Rattle.ranges.specs.Pointers.{moved_pointer}
 use Rattle.ranges.specs.Places.{place_of, is_inside, mark_in, mark_at, is_mark, none_is, is_group}
 use Rattle.ranges.specs.Reading.{value, second, with_value, with_groups, words, any_word, are_set, is_stack, is_base, has_length}
 use Rattle.ranges.specs.Rules.{may_compute, compares, has_no, is_whole, load_rules, store_rules, length_of, call_rules, rules}
-use Rattle.ranges.specs.Passing.{edge_of, given, entry_state, sent, passes}
-use Rattle.ranges.specs.After.{computed, result_kind, any_of, group_value, loaded_kind, is_among, mark_after, is_touched, marks_after, group_after, written, written_at, stored_groups, answer_kind, answered, copied_state, call_after, load_after, store_after, after_of}
+use Rattle.ranges.specs.Passing.{edge_of, argument_kind, entry_state, passed_state, passes}
+use Rattle.ranges.specs.After.{number_result, result_kind, any_of, group_value, loaded_kind, is_among, mark_after, is_touched, marks_after, group_after, groups_after_write, written_at, stored_groups, answer_kind, after_answer, copied_state, call_after, load_after, store_after, after_of}
 use Rattle.ranges.specs.Order.{Under, GroupUnder, EachUnder, StateUnder, IsBounded, IsGroup, Each, IsState, Holds, EdgeUnder, SentUnder}
 use Rattle.ranges.specs.Laws.{AfterIsMonotone, PassesAreMonotone}
 use Rattle.ranges.proofs.Chains.{under_self, group_self, each_self}
@@ -84,7 +84,7 @@ map_related None n h = tt
 map_related (Some x) None h = absurd h
 map_related (Some x) (Some y) h = h
 
-computed_mono : (i : Instr) (k l m n : Kind) → IsBounded k → IsBounded l → IsBounded m → IsBounded n → Under k m → Under l n → Related Under (computed i k l) (computed i m n)
+computed_mono : (i : Instr) (k l m n : Kind) → IsBounded k → IsBounded l → IsBounded m → IsBounded n → Under k m → Under l n → Related Under (number_result i k l) (number_result i m n)
 computed_mono i k l m n fk fl fm fn u v =
     map_related (limits_result_of i (words k) (words l)) (limits_result_of i (words m) (words n))
     (limits_monotone i (words k) (words l) (words m) (words n)
@@ -97,8 +97,8 @@ or_related (Some x) l None n h f r = absurd (let bad : Some x ≡ None = f refl 
 or_related None l (Some y) n h f r = absurd h
 or_related (Some x) l (Some y) n h f r = h
 
-number_stays : (down : Bool) (k l : Kind) → is_number k ≡ true → moved down k l ≡ None
-unfolding moved
+number_stays : (down : Bool) (k l : Kind) → is_number k ≡ true → moved_pointer down k l ≡ None
+unfolding moved_pointer
 number_stays down (Num x) l e = refl
 number_stays down k l e = absurd (let bad : false ≡ true = e in cc)
 
@@ -107,22 +107,22 @@ nothing_there None e t = let bad : false ≡ true = t in cc
 nothing_there (Some k) e t = let bad : Some k ≡ None = e in cc
 
 -- where a larger pointer isn't moved, both operands are numbers, and so are smaller ones
-no_move : (down : Bool) (k l m n : Kind) → Under k m → ((is_number m && is_number n) || is_some (moved down m n)) ≡ true → moved down m n ≡ None → moved down k l ≡ None
+no_move : (down : Bool) (k l m n : Kind) → Under k m → ((is_number m && is_number n) || is_some (moved_pointer down m n)) ≡ true → moved_pointer down m n ≡ None → moved_pointer down k l ≡ None
 no_move down k l m n u e none = by_test (is_number m && is_number n) refl e
   where
-    by_test : (b : Bool) → (is_number m && is_number n) ≡ b → (b || is_some (moved down m n)) ≡ true → moved down k l ≡ None
+    by_test : (b : Bool) → (is_number m && is_number n) ≡ b → (b || is_some (moved_pointer down m n)) ≡ true → moved_pointer down k l ≡ None
     by_test true t e = number_stays down k l (number_under k m u (and_left (is_number m) (is_number n) t))
-    by_test false t e = absurd (nothing_there (moved down m n) none e)
+    by_test false t e = absurd (nothing_there (moved_pointer down m n) none e)
 
 result_mono : (w : Width) (o : Operator) (dst : ℕ) (from : Source) (k l m n : Kind) → IsBounded k → IsBounded l → IsBounded m → IsBounded n → Under k m → Under l n
     → may_compute w o m n ≡ true → Related Under (result_kind (instr.Arithmetic w o dst from) k l) (result_kind (instr.Arithmetic w o dst from) m n)
 unfolding result_kind may_compute
 result_mono width.W64 op.Mov dst from k l m n fk fl fm fn u v e = v
 result_mono width.W64 op.Add dst from k l m n fk fl fm fn u v e =
-    or_related (moved false k l) (computed (instr.Arithmetic width.W64 op.Add dst from) k l) (moved false m n) (computed (instr.Arithmetic width.W64 op.Add dst from) m n)
+    or_related (moved_pointer false k l) (number_result (instr.Arithmetic width.W64 op.Add dst from) k l) (moved_pointer false m n) (number_result (instr.Arithmetic width.W64 op.Add dst from) m n)
     (moved_met false k l m n fk fl u v) (no_move false k l m n u e) (computed_mono (instr.Arithmetic width.W64 op.Add dst from) k l m n fk fl fm fn u v)
 result_mono width.W64 op.Sub dst from k l m n fk fl fm fn u v e =
-    or_related (moved true k l) (computed (instr.Arithmetic width.W64 op.Sub dst from) k l) (moved true m n) (computed (instr.Arithmetic width.W64 op.Sub dst from) m n)
+    or_related (moved_pointer true k l) (number_result (instr.Arithmetic width.W64 op.Sub dst from) k l) (moved_pointer true m n) (number_result (instr.Arithmetic width.W64 op.Sub dst from) m n)
     (moved_met true k l m n fk fl u v) (no_move true k l m n u e) (computed_mono (instr.Arithmetic width.W64 op.Sub dst from) k l m n fk fl fm fn u v)
 result_mono width.W64 o dst from k l m n fk fl fm fn u v e = computed_mono (instr.Arithmetic width.W64 o dst from) k l m n fk fl fm fn u v
 result_mono width.W32 o dst from k l m n fk fl fm fn u v e = computed_mono (instr.Arithmetic width.W32 o dst from) k l m n fk fl fm fn u v
@@ -223,7 +223,7 @@ places_under at n g (x ∷ xs) [] u = absurd u
 places_under at n g (x ∷ xs) (y ∷ ys) u = (group_after_under at n g x y u.0, places_under at n (g + 1) xs ys u.1)
 
 written_under : (p : Place) (n : ℕ) (gs hs : List GroupKind) → EachUnder GroupUnder gs hs → EachUnder GroupUnder (written_at gs p n) (written_at hs p n)
-unfolding written
+unfolding groups_after_write
 written_under (place.Stack at) n gs hs u = places_under at n 0 gs hs u
 written_under place.Outside n gs hs u = u
 written_under (place.Context at) n gs hs u = u
@@ -231,10 +231,10 @@ written_under place.Sector n gs hs u = u
 
 stored_under : (k l : Kind) (gs hs : List GroupKind) (p : Place) (n : ℕ) → Under k l → not (is_unset l) ≡ true → EachUnder GroupUnder gs hs
     → EachUnder GroupUnder (stored_groups k gs p n) (stored_groups l hs p n)
-unfolding stored_groups written
+unfolding stored_groups groups_after_write
 stored_under k l gs hs (place.Stack at) n v e u = rw (known_under k l v e, e) (by_test (is_group at n))
   where
-    by_test : (b : Bool) → EachUnder GroupUnder (if b then set gs (at / 8) (Spilled k) else written at n gs) (if b then set hs (at / 8) (Spilled l) else written at n hs)
+    by_test : (b : Bool) → EachUnder GroupUnder (if b then set gs (at / 8) (Spilled k) else groups_after_write at n gs) (if b then set hs (at / 8) (Spilled l) else groups_after_write at n hs)
     by_test true = each_with GroupUnder gs hs (at / 8) (Spilled k) (Spilled l) v u
     by_test false = places_under at n 0 gs hs u
 stored_under k l gs hs place.Outside n v e u = u
@@ -261,7 +261,7 @@ store_under s t set k l size base d a u v known e =
 
 -- calls
 
-answered_under : (s t : Abstract) (k : Kind) → StateUnder s t → StateUnder (answered s k) (answered t k)
+answered_under : (s t : Abstract) (k : Kind) → StateUnder s t → StateUnder (after_answer s k) (after_answer t k)
 answered_under s t k u =
     let s0 = with_value s 0 k in let t0 = with_value t 0 k in let u0 = with_value_under s t 0 k k (under_self k) u in
     let s1 = with_value s0 1 Unset in let t1 = with_value t0 1 Unset in let u1 = with_value_under s0 t0 1 Unset Unset tt u0 in
@@ -308,13 +308,13 @@ after_mono sectors s t (instr.Arithmetic w o dst from) r a b u e =
     (result_mono w o dst from (value s dst) (second s from) (value t dst) (second t from) (value_fits s dst a) (second_fits s from r.1 a) (value_fits t dst b) (second_fits t from r.1 b)
     (value_under s t dst u) (second_under s t from u) told.1) u
 after_mono sectors s t (instr.Negate w dst) r a b u e =
-    register_under s t dst (computed (instr.Negate w dst) (value s dst) Unset) (computed (instr.Negate w dst) (value t dst) Unset)
+    register_under s t dst (number_result (instr.Negate w dst) (value s dst) Unset) (number_result (instr.Negate w dst) (value t dst) Unset)
     (computed_mono (instr.Negate w dst) (value s dst) Unset (value t dst) Unset (value_fits s dst a) tt (value_fits t dst b) tt (value_under s t dst u) tt) u
 after_mono sectors s t (instr.SignExtend x dst src) r a b u e =
-    register_under s t dst (computed (instr.SignExtend x dst src) Unset (value s src)) (computed (instr.SignExtend x dst src) Unset (value t src))
+    register_under s t dst (number_result (instr.SignExtend x dst src) Unset (value s src)) (number_result (instr.SignExtend x dst src) Unset (value t src))
     (computed_mono (instr.SignExtend x dst src) Unset (value s src) Unset (value t src) tt (value_fits s src a) tt (value_fits t src b) tt (value_under s t src u)) u
 after_mono sectors s t (instr.ByteOrder o size dst) r a b u e =
-    register_under s t dst (computed (instr.ByteOrder o size dst) (value s dst) Unset) (computed (instr.ByteOrder o size dst) (value t dst) Unset)
+    register_under s t dst (number_result (instr.ByteOrder o size dst) (value s dst) Unset) (number_result (instr.ByteOrder o size dst) (value t dst) Unset)
     (computed_mono (instr.ByteOrder o size dst) (value s dst) Unset (value t dst) Unset (value_fits s dst a) tt (value_fits t dst b) tt (value_under s t dst u) tt) u
 after_mono sectors s t (instr.Jump distance) r a b u e = u
 after_mono sectors s t (instr.LongJump distance) r a b u e = u
@@ -322,7 +322,7 @@ after_mono sectors s t (instr.Branch w c dst from distance) r a b u e = u
 after_mono sectors s t (instr.CallHelper number) r a b u e = by_helper (helper_of (cast_unsigned w32 number)) e
   where
     by_helper : (m : Option Helper) → first_failing (option_map_or (call_rules t) m []) ≡ None
-        → StateUnder (option_map_or (call_after s) m (answered s (Num any_word))) (option_map_or (call_after t) m (answered t (Num any_word)))
+        → StateUnder (option_map_or (call_after s) m (after_answer s (Num any_word))) (option_map_or (call_after t) m (after_answer t (Num any_word)))
     by_helper None e = answered_under s t (Num any_word) u
     by_helper (Some h) e = call_under s t h a u e
 after_mono sectors s t (instr.CallLocal distance) r a b u e = answered_under s t (Num any_word) u
@@ -337,7 +337,7 @@ after_mono sectors s t (instr.LoadImmediate dst x) r a b u e = with_value_under 
 
 -- what is passed
 
-given_under : (k l : Kind) → Under k l → Under (given k) (given l)
+given_under : (k l : Kind) → Under k l → Under (argument_kind k) (argument_kind l)
 given_under (Num x) (Num y) u = u
 given_under k (Num y) u = absurd u
 given_under k l u = tt
@@ -351,7 +351,7 @@ entry_under s t u =
       groups = each_self GroupUnder group_self (entry_state s).groups;
     }
 
-sent_under : (slot : ℕ) (m n : Option Abstract) → EdgeUnder m n → SentUnder (sent slot m) (sent slot n)
+sent_under : (slot : ℕ) (m n : Option Abstract) → EdgeUnder m n → SentUnder (passed_state slot m) (passed_state slot n)
 sent_under slot None n h = tt
 sent_under slot (Some s) None h = absurd h
 sent_under slot (Some s) (Some t) h = inl (refl, h, tt)
@@ -373,13 +373,13 @@ passes_mono sectors slot s t (instr.Jump distance) r a b u e = inl (refl, u, tt)
 passes_mono sectors slot s t (instr.LongJump distance) r a b u e = inl (refl, u, tt)
 passes_mono sectors slot s t (instr.Branch w c dst from distance) r a b u e =
     let told = two_tell cause.UnsetRegister cause.PointerAsNumber (are_set t (dst ∷ source_registers from)) (compares t w c dst from) e in
-    both_under (sent (slot + 1) (edge_of s (instr.Branch w c dst from distance) false)) (sent (slot + 1) (edge_of t (instr.Branch w c dst from distance) false))
-    (sent (target_slot slot distance) (edge_of s (instr.Branch w c dst from distance) true)) (sent (target_slot slot distance) (edge_of t (instr.Branch w c dst from distance) true))
+    both_under (passed_state (slot + 1) (edge_of s (instr.Branch w c dst from distance) false)) (passed_state (slot + 1) (edge_of t (instr.Branch w c dst from distance) false))
+    (passed_state (target_slot slot distance) (edge_of s (instr.Branch w c dst from distance) true)) (passed_state (target_slot slot distance) (edge_of t (instr.Branch w c dst from distance) true))
     (sent_under (slot + 1) (edge_of s (instr.Branch w c dst from distance) false) (edge_of t (instr.Branch w c dst from distance) false) (edge_mono s t w c dst from distance false r.1 a b u told.1))
     (sent_under (target_slot slot distance) (edge_of s (instr.Branch w c dst from distance) true) (edge_of t (instr.Branch w c dst from distance) true) (edge_mono s t w c dst from distance true r.1 a b u told.1))
 passes_mono sectors slot s t instr.Exit r a b u e = tt
 passes_mono sectors slot s t (instr.CallLocal distance) r a b u e =
-    both_under (sent (slot + 1) (after_of sectors s (instr.CallLocal distance))) (sent (slot + 1) (after_of sectors t (instr.CallLocal distance)))
+    both_under (passed_state (slot + 1) (after_of sectors s (instr.CallLocal distance))) (passed_state (slot + 1) (after_of sectors t (instr.CallLocal distance)))
     ((target_slot slot distance, entry_state s) ∷ []) ((target_slot slot distance, entry_state t) ∷ [])
     (sent_under (slot + 1) (after_of sectors s (instr.CallLocal distance)) (after_of sectors t (instr.CallLocal distance)) (after_mono sectors s t (instr.CallLocal distance) r a b u e))
     (inl (refl, entry_under s t u, tt))
@@ -389,7 +389,7 @@ passes_mono sectors slot s t i r a b u e = sent_under (slot + 1) (after_of secto
 
 -- what is passed are states
 
-sent_fits : (slot : ℕ) (m : Option Abstract) → Holds IsState m → Each (λ p. IsState p.1) (sent slot m)
+sent_fits : (slot : ℕ) (m : Option Abstract) → Holds IsState m → Each (λ p. IsState p.1) (passed_state slot m)
 sent_fits slot None h = tt
 sent_fits slot (Some s) h = (h, tt)
 
@@ -402,12 +402,12 @@ unfolding passes
 passes_fit sectors slot s (instr.Jump distance) h r a = (a, tt)
 passes_fit sectors slot s (instr.LongJump distance) h r a = (a, tt)
 passes_fit sectors slot s (instr.Branch w c dst from distance) h r a =
-    each_both (λ p. IsState p.1) (sent (slot + 1) (edge_of s (instr.Branch w c dst from distance) false)) (sent (target_slot slot distance) (edge_of s (instr.Branch w c dst from distance) true))
+    each_both (λ p. IsState p.1) (passed_state (slot + 1) (edge_of s (instr.Branch w c dst from distance) false)) (passed_state (target_slot slot distance) (edge_of s (instr.Branch w c dst from distance) true))
     (sent_fits (slot + 1) (edge_of s (instr.Branch w c dst from distance) false) (edge_fits s (instr.Branch w c dst from distance) false r a))
     (sent_fits (target_slot slot distance) (edge_of s (instr.Branch w c dst from distance) true) (edge_fits s (instr.Branch w c dst from distance) true r a))
 passes_fit sectors slot s instr.Exit h r a = tt
 passes_fit sectors slot s (instr.CallLocal distance) h r a =
-    each_both (λ p. IsState p.1) (sent (slot + 1) (after_of sectors s (instr.CallLocal distance))) ((target_slot slot distance, entry_state s) ∷ [])
+    each_both (λ p. IsState p.1) (passed_state (slot + 1) (after_of sectors s (instr.CallLocal distance))) ((target_slot slot distance, entry_state s) ∷ [])
     (sent_fits (slot + 1) (after_of sectors s (instr.CallLocal distance)) (after_fits sectors s (instr.CallLocal distance) h r a)) (entry_fits s a, tt)
 passes_fit sectors slot s (instr.LoadImmediate dst x) h r a =
     sent_fits (slot + 2) (after_of sectors s (instr.LoadImmediate dst x)) (after_fits sectors s (instr.LoadImmediate dst x) h r a)

@@ -22,22 +22,22 @@ use Rattle.ranges.specs.declared.place.Mark.TheVariants as mark
 use Rattle.ranges.specs.Kinds.{Kind, Unset, Num, SectorOrNull, is_unset}
 use Rattle.ranges.specs.Groups.{GroupKind, Marked, Spilled, map_places}
 use Rattle.ranges.specs.States.{Abstract}
-use Rattle.ranges.specs.Pointers.{moved}
+use Rattle.ranges.specs.Pointers.{moved_pointer}
 use Rattle.ranges.specs.Places.{place_of, mark_in, is_mark, is_group}
 use Rattle.ranges.specs.Reading.{value, second, with_value, with_groups, words, any_word}
 use Rattle.ranges.specs.Rules.{length_of}
 
 -- what arithmetic makes of the words of two numbers; None where it leaves no word
-abbrev pub computed : Instr → Kind → Kind → Option Kind
-computed i k l = option_map (λ x. Num x) (limits_result_of i (words k) (words l))
+abbrev pub number_result : Instr → Kind → Kind → Option Kind
+number_result i k l = option_map (λ x. Num x) (limits_result_of i (words k) (words l))
 
 -- what it makes of two values, dst and the second operand: a move in 64 bits copies, and pointers
 -- move
 unfoldable pub result_kind : Instr → Kind → Kind → Option Kind
 result_kind (instr.Arithmetic width.W64 op.Mov dst from) k l = Some l
-result_kind (instr.Arithmetic width.W64 op.Add dst from) k l = option_or (moved false k l) (computed (instr.Arithmetic width.W64 op.Add dst from) k l)
-result_kind (instr.Arithmetic width.W64 op.Sub dst from) k l = option_or (moved true k l) (computed (instr.Arithmetic width.W64 op.Sub dst from) k l)
-result_kind i k l = computed i k l
+result_kind (instr.Arithmetic width.W64 op.Add dst from) k l = option_or (moved_pointer false k l) (number_result (instr.Arithmetic width.W64 op.Add dst from) k l)
+result_kind (instr.Arithmetic width.W64 op.Sub dst from) k l = option_or (moved_pointer true k l) (number_result (instr.Arithmetic width.W64 op.Sub dst from) k l)
+result_kind i k l = number_result i k l
 
 -- an aligned word of the context: the number of sectors, the epoch and the marks, and 0
 abbrev pub context_word : ℕ → ℕ → Kind
@@ -82,18 +82,18 @@ unfoldable pub group_after : ℕ → ℕ → ℕ → GroupKind → GroupKind
 group_after at n g group = if is_touched at n g then Marked (marks_after at n g group) else group
 
 -- the groups where n bytes from a place on are written
-unfoldable pub written : ℕ → ℕ → List GroupKind → List GroupKind
-written at n groups = map_places (group_after at n) 0 groups
+unfoldable pub groups_after_write : ℕ → ℕ → List GroupKind → List GroupKind
+groups_after_write at n groups = map_places (group_after at n) 0 groups
 
 -- the groups where the bytes of an access are written
 abbrev pub written_at : List GroupKind → Place → ℕ → List GroupKind
-written_at groups (place.Stack at) n = written at n groups
+written_at groups (place.Stack at) n = groups_after_write at n groups
 written_at groups p n = groups
 
 -- a value stored to a group is kept there; other stores make bytes written
 unfoldable pub stored_groups : Kind → List GroupKind → Place → ℕ → List GroupKind
 stored_groups k groups (place.Stack at) n =
-    if not (is_unset k) && is_group at n then slice_set groups (at / 8) (Spilled k) else written at n groups
+    if not (is_unset k) && is_group at n then slice_set groups (at / 8) (Spilled k) else groups_after_write at n groups
 stored_groups k groups p n = groups
 
 -- what a helper answers
@@ -107,8 +107,8 @@ answer_kind helper.Same = Num (any_sign (span 0 2))
 answer_kind helper.Mix = Num any_word
 
 -- a call answers in register 0 and unsets registers 1 to 5; of a local function any word
-abbrev pub answered : Abstract → Kind → Abstract
-answered s k =
+abbrev pub after_answer : Abstract → Kind → Abstract
+after_answer s k =
     with_value (with_value (with_value (with_value (with_value (with_value s 0 k) 1 Unset) 2 Unset) 3 Unset) 4 Unset) 5 Unset
 
 -- helper 2 writes bytes of the stack
@@ -116,8 +116,8 @@ abbrev pub copied_state : Abstract → Abstract
 copied_state s = with_groups s (written_at s.groups (place_of (value s 2) (pos 0) (length_of (value s 3))) (length_of (value s 3)))
 
 unfoldable pub call_after : Abstract → Helper → Abstract
-call_after s helper.Copy = answered (copied_state s) (answer_kind helper.Copy)
-call_after s h = answered s (answer_kind h)
+call_after s helper.Copy = after_answer (copied_state s) (answer_kind helper.Copy)
+call_after s h = after_answer s (answer_kind h)
 
 abbrev pub load_after : ℕ → Abstract → ℕ → Size → ℕ → ℤ → Abstract
 load_after sectors s dst size base distance =
@@ -131,16 +131,16 @@ store_after s k size base distance =
 -- arithmetic leaves no word, so that no machine gets there
 unfoldable pub after_of : ℕ → Abstract → Instr → Option Abstract
 after_of sectors s (instr.Arithmetic w o dst from) = option_map (with_value s dst) (result_kind (instr.Arithmetic w o dst from) (value s dst) (second s from))
-after_of sectors s (instr.Negate w dst) = option_map (with_value s dst) (computed (instr.Negate w dst) (value s dst) Unset)
-after_of sectors s (instr.SignExtend e dst src) = option_map (with_value s dst) (computed (instr.SignExtend e dst src) Unset (value s src))
-after_of sectors s (instr.ByteOrder o size dst) = option_map (with_value s dst) (computed (instr.ByteOrder o size dst) (value s dst) Unset)
+after_of sectors s (instr.Negate w dst) = option_map (with_value s dst) (number_result (instr.Negate w dst) (value s dst) Unset)
+after_of sectors s (instr.SignExtend e dst src) = option_map (with_value s dst) (number_result (instr.SignExtend e dst src) Unset (value s src))
+after_of sectors s (instr.ByteOrder o size dst) = option_map (with_value s dst) (number_result (instr.ByteOrder o size dst) (value s dst) Unset)
 after_of sectors s (instr.Load size dst base distance) = Some (load_after sectors s dst size base distance)
 after_of sectors s (instr.LoadSigned size dst base distance) = Some (with_value s dst (Num any_word))
 after_of sectors s (instr.StoreImmediate size base distance n) = Some (store_after s (second s (source.Immediate n)) size base distance)
 after_of sectors s (instr.Store size base distance src) = Some (store_after s (value s src) size base distance)
 after_of sectors s (instr.LoadImmediate dst x) = Some (with_value s dst (Num (any_sign (only x))))
-after_of sectors s (instr.CallHelper number) = Some (option_map_or (call_after s) (helper_of (cast_unsigned w32 number)) (answered s (Num any_word)))
-after_of sectors s (instr.CallLocal distance) = Some (answered s (Num any_word))
+after_of sectors s (instr.CallHelper number) = Some (option_map_or (call_after s) (helper_of (cast_unsigned w32 number)) (after_answer s (Num any_word)))
+after_of sectors s (instr.CallLocal distance) = Some (after_answer s (Num any_word))
 after_of sectors s (instr.Jump distance) = Some s
 after_of sectors s (instr.LongJump distance) = Some s
 after_of sectors s (instr.Branch w c dst from distance) = Some s

@@ -22,21 +22,21 @@ abbrev pub unset_marks : List Bool
 unset_marks = replicate 8 false
 
 -- a value that is kept in eight bytes; what may be anything leaves them unset
-abbrev pub kept : Kind → GroupKind
-kept Unset = Marked unset_marks
-kept k = Spilled k
+abbrev pub group_kept : Kind → GroupKind
+group_kept Unset = Marked unset_marks
+group_kept k = Spilled k
 
 -- what bytes that are known by marks are where a value is kept instead: all bytes of a number are
 -- written, and those of a pointer become unset
-abbrev pub met : List Bool → Kind → List Bool
-met marks k = if is_number k then marks else unset_marks
+abbrev pub marks_at_join : List Bool → Kind → List Bool
+marks_at_join marks k = if is_number k then marks else unset_marks
 
 -- bytes of different kinds become unset; spilled values join as values do
 unfoldable pub join_group : GroupKind → GroupKind → GroupKind
 join_group (Marked xs) (Marked ys) = Marked (zip_with (λ a b. a && b) xs ys)
-join_group (Marked xs) (Spilled l) = Marked (met xs l)
-join_group (Spilled k) (Marked ys) = Marked (met ys k)
-join_group (Spilled k) (Spilled l) = kept (join k l)
+join_group (Marked xs) (Spilled l) = Marked (marks_at_join xs l)
+join_group (Spilled k) (Marked ys) = Marked (marks_at_join ys k)
+join_group (Spilled k) (Spilled l) = group_kept (join k l)
 
 unfoldable pub round_group : GroupKind → GroupKind
 round_group (Marked xs) = Marked xs

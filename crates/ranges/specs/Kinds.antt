@@ -2,7 +2,7 @@
 -- one is rounded (Abstract states). Offsets have no bound here; the types of the code keep them.
 use Rattle.std.specs.Prelude.{◌≡◌, ℕ, ◌==◌, if◌then◌else◌, Bool, true, false}
 use Rattle.intervals.specs.Spans.{Span, hull}
-use Rattle.intervals.specs.Rounding.{rounded}
+use Rattle.intervals.specs.Rounding.{round_span}
 use Rattle.intervals.specs.Reducing.{Limits, limits_hull}
 use Rattle.intervals.specs.SignedRounding.{limits_rounded}
 
@@ -45,5 +45,5 @@ Contains k l = join k l ≡ k
 -- rounding widens ranges
 unfoldable pub round : Kind → Kind
 round (Num x) = Num (limits_rounded x)
-round (Sector x) = Sector (rounded x)
+round (Sector x) = Sector (round_span x)
 round k = k

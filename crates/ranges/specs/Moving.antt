@@ -3,6 +3,6 @@ use Rattle.std.specs.Prelude.{Bool, true, false, Option, None, Some}
 use Rattle.ranges.specs.States.{Abstract}
 
 -- the state where something gets there
-abbrev pub reached : Bool → Abstract → Option Abstract
-reached true s = Some s
-reached false s = None
+abbrev pub reach : Bool → Abstract → Option Abstract
+reach true s = Some s
+reach false s = None

@@ -57,28 +57,28 @@ edge_of s (instr.Store size base distance src) taken = Some s
 edge_of s (instr.LoadImmediate dst x) taken = Some s
 
 -- what a local function is given of a register: a number, and no pointer
-abbrev pub given : Kind → Kind
-given (Num x) = Num x
-given _ = Unset
+abbrev pub argument_kind : Kind → Kind
+argument_kind (Num x) = Num x
+argument_kind _ = Unset
 
 -- The state at the entry of a local function: registers 1 to 5 where they are numbers, the end of a
 -- stack of its own, and nothing else of its caller.
 unfoldable pub entry_state : Abstract → Abstract
 entry_state s = record {
   values =
-      Unset ∷ given (value s 1) ∷ given (value s 2) ∷ given (value s 3) ∷ given (value s 4) ∷ given (value s 5)
+      Unset ∷ argument_kind (value s 1) ∷ argument_kind (value s 2) ∷ argument_kind (value s 3) ∷ argument_kind (value s 4) ∷ argument_kind (value s 5)
       ∷ Unset ∷ Unset ∷ Unset ∷ Unset ∷ Stack 512 ∷ [];
   groups = unset_groups;
 }
 
 -- a state that is passed to a slot, if it is
-abbrev pub sent : ℕ → Option Abstract → List (ℕ × Abstract)
-sent slot None = []
-sent slot (Some s) = (slot, s) ∷ []
+abbrev pub passed_state : ℕ → Option Abstract → List (ℕ × Abstract)
+passed_state slot None = []
+passed_state slot (Some s) = (slot, s) ∷ []
 
 -- the state behind an instruction, passed to the next slot, if there is one
 abbrev pub behind : ℕ → Abstract → ℕ → Instr → List (ℕ × Abstract)
-behind sectors s slot i = sent (slot + 1) (after_of sectors s i)
+behind sectors s slot i = passed_state (slot + 1) (after_of sectors s i)
 
 -- to which slots what state is passed, the next slot first; rounding where it arrives is not a part
 -- of it
@@ -86,12 +86,12 @@ unfoldable pub passes : ℕ → Abstract → ℕ → Instr → List (ℕ × Abst
 passes sectors s slot (instr.Jump distance) = (target_slot slot distance, s) ∷ []
 passes sectors s slot (instr.LongJump distance) = (target_slot slot distance, s) ∷ []
 passes sectors s slot (instr.Branch w c dst from distance) =
-    sent (slot + 1) (edge_of s (instr.Branch w c dst from distance) false)
-    ++ sent (target_slot slot distance) (edge_of s (instr.Branch w c dst from distance) true)
+    passed_state (slot + 1) (edge_of s (instr.Branch w c dst from distance) false)
+    ++ passed_state (target_slot slot distance) (edge_of s (instr.Branch w c dst from distance) true)
 passes sectors s slot instr.Exit = []
 passes sectors s slot (instr.CallLocal distance) =
-    sent (slot + 1) (after_of sectors s (instr.CallLocal distance)) ++ (target_slot slot distance, entry_state s) ∷ []
-passes sectors s slot (instr.LoadImmediate dst x) = sent (slot + 2) (after_of sectors s (instr.LoadImmediate dst x))
+    passed_state (slot + 1) (after_of sectors s (instr.CallLocal distance)) ++ (target_slot slot distance, entry_state s) ∷ []
+passes sectors s slot (instr.LoadImmediate dst x) = passed_state (slot + 2) (after_of sectors s (instr.LoadImmediate dst x))
 passes sectors s slot (instr.Arithmetic w o dst from) = behind sectors s slot (instr.Arithmetic w o dst from)
 passes sectors s slot (instr.Negate w dst) = behind sectors s slot (instr.Negate w dst)
 passes sectors s slot (instr.SignExtend e dst src) = behind sectors s slot (instr.SignExtend e dst src)

@@ -11,15 +11,15 @@ use Rattle.ranges.specs.Groups.{GroupKind, Marked, Spilled}
 use Rattle.ranges.specs.Pointers.{offset_in}
 
 -- where n bytes from an offset on begin, if they lie below the size of a region
-abbrev pub landed : ℕ → ℕ → ℕ → ℤ → Option ℕ
-landed size n o distance = if nat_le n size then offset_in (size - n) (pos o +ℤ distance) else None
+abbrev pub landing : ℕ → ℕ → ℕ → ℤ → Option ℕ
+landing size n o distance = if nat_le n size then offset_in (size - n) (pos o +ℤ distance) else None
 
 -- where n bytes lie at a distance from a base
 unfoldable pub place_of : Kind → ℤ → ℕ → Place
-place_of (Ctx o) distance n = option_map_or (λ at. place.Context at) (landed 32 n o distance) place.Outside
-place_of (Stack o) distance n = option_map_or (λ at. place.Stack at) (landed 512 n o distance) place.Outside
+place_of (Ctx o) distance n = option_map_or (λ at. place.Context at) (landing 32 n o distance) place.Outside
+place_of (Stack o) distance n = option_map_or (λ at. place.Stack at) (landing 512 n o distance) place.Outside
 place_of (Sector x) distance n =
-    if is_some (landed 512 n x.low distance) && is_some (landed 512 n x.high distance) then place.Sector else place.Outside
+    if is_some (landing 512 n x.low distance) && is_some (landing 512 n x.high distance) then place.Sector else place.Outside
 place_of k distance n = place.Outside
 
 -- n bytes in the stack lie below its end

@@ -16,12 +16,12 @@ abbrev pub offsets_in : ℕ → ℤ → ℤ → Option Span
 offsets_in limit a b = option_and_then (λ low. option_map (λ high. span low high) (offset_in limit b)) (offset_in limit a)
 
 -- the signed number of a constant
-abbrev pub signed : Span → ℤ
-signed y = cast_signed w64 y.low
+abbrev pub constant_of : Span → ℤ
+constant_of y = cast_signed w64 y.low
 
 -- an offset at the distance of a constant, behind it or before it
 abbrev pub moved_offset : Bool → ℕ → Span → ℤ
-moved_offset down o y = if down then pos o -ℤ signed y else pos o +ℤ signed y
+moved_offset down o y = if down then pos o -ℤ constant_of y else pos o +ℤ constant_of y
 
 -- an offset of one place, moved by a constant
 unfoldable pub moved_place : ℕ → Bool → ℕ → Span → Option ℕ
@@ -41,8 +41,8 @@ moved_offsets down x y =
     else None
 
 -- a pointer moved by a number, forward or down; None where it isn't allowed
-unfoldable pub moved : Bool → Kind → Kind → Option Kind
-moved down (Ctx o) (Num y) = option_map (λ p. Ctx p) (moved_place 32 down o y.unsigned)
-moved down (Stack o) (Num y) = option_map (λ p. Stack p) (moved_place 512 down o y.unsigned)
-moved down (Sector x) (Num y) = option_map (λ z. Sector z) (moved_offsets down x y.unsigned)
-moved down k l = None
+unfoldable pub moved_pointer : Bool → Kind → Kind → Option Kind
+moved_pointer down (Ctx o) (Num y) = option_map (λ p. Ctx p) (moved_place 32 down o y.unsigned)
+moved_pointer down (Stack o) (Num y) = option_map (λ p. Stack p) (moved_place 512 down o y.unsigned)
+moved_pointer down (Sector x) (Num y) = option_map (λ z. Sector z) (moved_offsets down x y.unsigned)
+moved_pointer down k l = None

@@ -28,7 +28,7 @@ use Rattle.ranges.specs.declared.place.Mark.TheVariants as mark
 use Rattle.ranges.specs.Kinds.{Kind, SectorOrNull, is_number}
 use Rattle.ranges.specs.Groups.{GroupKind}
 use Rattle.ranges.specs.States.{Abstract}
-use Rattle.ranges.specs.Pointers.{moved}
+use Rattle.ranges.specs.Pointers.{moved_pointer}
 use Rattle.ranges.specs.Places.{place_of, is_inside, none_is, is_group}
 use Rattle.ranges.specs.Reading.{value, second, are_set, words, is_stack, is_base, has_length}
 
@@ -41,8 +41,8 @@ reads s registers = check cause.UnsetRegister (are_set s registers)
 unfoldable pub may_compute : Width → Operator → Kind → Kind → Bool
 may_compute width.W64 op.Mov k l = true
 may_compute width.W32 op.Mov k l = is_number l
-may_compute width.W64 op.Add k l = (is_number k && is_number l) || is_some (moved false k l)
-may_compute width.W64 op.Sub k l = (is_number k && is_number l) || is_some (moved true k l)
+may_compute width.W64 op.Add k l = (is_number k && is_number l) || is_some (moved_pointer false k l)
+may_compute width.W64 op.Sub k l = (is_number k && is_number l) || is_some (moved_pointer true k l)
 may_compute _ _ k l = is_number k && is_number l
 
 abbrev pub computes : Bool → Check VerifierCause

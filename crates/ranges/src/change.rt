@@ -3,7 +3,7 @@
 ghost use Rattle.std.specs.Prelude.{◌≡◌, ◌==◌, ◌<◌, nat_le, if◌then◌else◌, Some, slice_index_or, []};
 ghost use Rattle.std.specs.Option.{option_map, option_map_or};
 ghost use Rattle.helpers.specs.declared.helper.Helper.TheVariants as helper;
-ghost use Rattle.ranges.specs.After.{after_of, answered, call_after, load_after, store_after, written};
+ghost use Rattle.ranges.specs.After.{after_of, after_answer, call_after, load_after, store_after, groups_after_write};
 ghost use Rattle.ranges.specs.Changing.{Leaves};
 ghost use Rattle.ranges.specs.Groups.{Marked};
 ghost use Rattle.ranges.specs.Kinds.{Num, Unset};
@@ -92,14 +92,14 @@ fn group_behind(n: usize, group: Group, k: usize, other: Group) -> Group
 /// Group k of a state's stack where bytes are written.
 fn group_written(bytes: Stretch, state: &State, k: usize) -> Group
     requires { k < 64 }
-    ensures { group_of result ≡ slice_index_or (written bytes.at bytes.n (state_of state.now).groups) k (Marked []) }
+    ensures { group_of result ≡ slice_index_or (groups_after_write bytes.at bytes.n (state_of state.now).groups) k (Marked []) }
 {
     group_after(bytes.at, bytes.n, k, state.group(k))
 }
 
 impl Change {
     ghost use Rattle.std.specs.Prelude.{◌≡◌, ◌<◌, slice_index_or, []};
-    ghost use Rattle.ranges.specs.Changing.{changed};
+    ghost use Rattle.ranges.specs.Changing.{after_change};
     ghost use Rattle.ranges.specs.Groups.{Marked};
     ghost use Rattle.ranges.specs.Reading.{value};
     ghost use Rattle.ranges.specs.Seen.{kind_of};
@@ -109,7 +109,7 @@ impl Change {
     #[inline(always)]
     pub fn value_at(&self, state: &State, k: usize) -> Value
         requires { k < 11 }
-        ensures { kind_of result ≡ value (changed (state_of state.now) self.now) k }
+        ensures { kind_of result ≡ value (after_change (state_of state.now) self.now) k }
     {
         match self {
             Change::Register(n, value) => value_behind(*n, *value, k, state.at(k)),
@@ -127,7 +127,7 @@ impl Change {
     #[inline(always)]
     pub fn group_at(&self, state: &State, k: usize) -> Group
         requires { k < 64 }
-        ensures { group_of result ≡ slice_index_or (changed (state_of state.now) self.now).groups k (Marked []) }
+        ensures { group_of result ≡ slice_index_or (after_change (state_of state.now) self.now).groups k (Marked []) }
     {
         match self {
             Change::Group(n, group) => group_behind(*n, *group, k, state.group(k)),
@@ -200,7 +200,7 @@ fn copied(state: &State) -> Effect
 /// A call of a helper.
 #[tactic(auto, unfolding(crate::specs::After::call_after))]
 fn called(state: &State, helper: Option<Helper>) -> Effect
-    ensures { Leaves (state_of state.now) result (Some (option_map_or (call_after (state_of state.now)) helper (answered (state_of state.now) (Num any_word)))) }
+    ensures { Leaves (state_of state.now) result (Some (option_map_or (call_after (state_of state.now)) helper (after_answer (state_of state.now) (Num any_word)))) }
 {
     match helper {
         Some(Helper::Copy) => copied(state),

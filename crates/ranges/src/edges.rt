@@ -2,7 +2,7 @@
 
 ghost use Rattle.std.specs.Prelude.{◌≡◌, IsTrue};
 ghost use Rattle.std.specs.Option.{option_map};
-ghost use Rattle.ranges.specs.Passing.{is_equal_edge, tested_kind, edge_of, given, entry_state};
+ghost use Rattle.ranges.specs.Passing.{is_equal_edge, tested_kind, edge_of, argument_kind, entry_state};
 ghost use Rattle.ranges.specs.Seen.{kind_of};
 ghost use Rattle.ranges.specs.SeenStates.{state_of};
 
@@ -50,7 +50,7 @@ pub fn branch(instr: &Instr, taken: bool, state: &State) -> Option<State>
 
 /// What a local function is given of a register: a number, and no pointer.
 fn given(value: Value) -> Value
-    ensures { kind_of result ≡ given (kind_of value) }
+    ensures { kind_of result ≡ argument_kind (kind_of value) }
 {
     match value {
         Value::Num(_) => value,

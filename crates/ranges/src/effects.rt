@@ -9,7 +9,7 @@ ghost use Rattle.intervals.specs.Results.{is_arithmetic};
 ghost use Rattle.ranges.specs.Places.{Fits};
 ghost use Rattle.ranges.specs.Kinds.{Num};
 ghost use Rattle.ranges.specs.Reading.{any_word};
-ghost use Rattle.ranges.specs.After.{computed, result_kind, context_word, any_of, group_value, loaded_kind, answer_kind, after_of};
+ghost use Rattle.ranges.specs.After.{number_result, result_kind, context_word, any_of, group_value, loaded_kind, answer_kind, after_of};
 ghost use Rattle.ranges.specs.Seen.{kind_of};
 ghost use Rattle.ranges.specs.SeenStates.{group_of, state_of};
 
@@ -28,7 +28,7 @@ use intervals::{Bounds, Range, result_bounds};
 /// What arithmetic makes of the words of two numbers; None where it leaves no word.
 pub(crate) fn computed(instr: &Instr, first: Value, other: Value) -> Option<Value>
     requires { IsTrue (is_arithmetic instr.now) }
-    ensures { option_map kind_of result ≡ computed instr.now (kind_of first) (kind_of other) }
+    ensures { option_map kind_of result ≡ number_result instr.now (kind_of first) (kind_of other) }
 {
     match result_bounds(instr, first.words(), other.words()) {
         Some(bounds) => Some(Value::Num(bounds)),
@@ -44,7 +44,7 @@ fn moved_or_computed(
     other: Value,
 ) -> Option<Value>
     requires { IsTrue (is_arithmetic instr.now) }
-    ensures { option_map kind_of result ≡ option_or (option_map kind_of moved) (computed instr.now (kind_of first) (kind_of other)) }
+    ensures { option_map kind_of result ≡ option_or (option_map kind_of moved) (number_result instr.now (kind_of first) (kind_of other)) }
 {
     match moved {
         Some(value) => Some(value),

@@ -1,7 +1,7 @@
 //! Eight bytes of a stack.
 
 ghost use Rattle.std.specs.Prelude.{◌≡◌, ◌<◌, IsTrue, ◌&&◌, ◌↔◌};
-ghost use Rattle.ranges.specs.Groups.{Marked, zip_with, kept, met, join_group, round_group, GroupContains};
+ghost use Rattle.ranges.specs.Groups.{Marked, zip_with, group_kept, marks_at_join, join_group, round_group, GroupContains};
 ghost use Rattle.ranges.specs.Seen.{kind_of};
 ghost use Rattle.ranges.specs.SeenStates.{group_of};
 
@@ -26,7 +26,7 @@ pub const UNSET: Group = Group::Marked(ByteMarks {
 
 /// A value that is kept in the eight bytes. What may be anything leaves them unset.
 fn kept(value: Value) -> Group
-    ensures { group_of result ≡ kept (kind_of value) }
+    ensures { group_of result ≡ group_kept (kind_of value) }
 {
     match value {
         Value::Unset => UNSET,
@@ -56,7 +56,7 @@ fn both(x: ByteMarks, y: ByteMarks) -> ByteMarks
 /// What bytes that are known by marks are where a value is kept instead: all bytes of a number are
 /// written, and those of a pointer become unset.
 fn met(marks: ByteMarks, value: Value) -> Group
-    ensures { group_of result ≡ Marked (met marks.written (kind_of value)) }
+    ensures { group_of result ≡ Marked (marks_at_join marks.written (kind_of value)) }
 {
     if value.is_number() {
         Group::Marked(marks)

@@ -6,8 +6,8 @@ ghost use Rattle.std.specs.Option.{option_map};
 ghost use Rattle.intervals.specs.SeenBounds.{limits_of};
 ghost use Rattle.ranges.specs.Passing.{with_second, edge_of, entry_state};
 ghost use Rattle.ranges.specs.Reading.{with_value};
-ghost use Rattle.ranges.specs.After.{answered, call_after, load_after, store_after, copied_state, after_of};
-ghost use Rattle.ranges.specs.Moving.{reached};
+ghost use Rattle.ranges.specs.After.{after_answer, call_after, load_after, store_after, copied_state, after_of};
+ghost use Rattle.ranges.specs.Moving.{reach};
 ghost use Rattle.ranges.specs.Seen.{kind_of};
 ghost use Rattle.ranges.specs.SeenStates.{state_of};
 
@@ -26,7 +26,7 @@ use intervals::{Bounds, refine_bounds};
 
 /// Puts a value into a register, if there is one. Whether there is.
 fn put(state: &mut State, register: Register, value: Option<Value>) -> bool
-    ensures { option_map (with_value (state_of state.old) register) (option_map kind_of value) ≡ reached result (state_of state.new) }
+    ensures { option_map (with_value (state_of state.old) register) (option_map kind_of value) ≡ reach result (state_of state.new) }
 {
     match value {
         Some(value) => {
@@ -39,7 +39,7 @@ fn put(state: &mut State, register: Register, value: Option<Value>) -> bool
 
 /// A call answers: r1 to r5 are unset.
 fn answer(state: &mut State, value: Value)
-    ensures { state_of state.new ≡ answered (state_of state.old) (kind_of value) }
+    ensures { state_of state.new ≡ after_answer (state_of state.old) (kind_of value) }
 {
     state.set_at(0, value);
     state.set_at(1, Value::Unset);
@@ -94,7 +94,7 @@ fn store_to(state: &mut State, stored: Value, size: Size, base: Register, offset
 /// stays.
 #[tactic(auto, unfolding(crate::specs::After::after_of))]
 pub fn advance(instr: &Instr, state: &mut State, sectors: u32) -> bool
-    ensures { after_of sectors (state_of state.old) instr.now ≡ reached result (state_of state.new) }
+    ensures { after_of sectors (state_of state.old) instr.now ≡ reach result (state_of state.new) }
 {
     match instr {
         Instr::Arithmetic { dst, source, .. } => {
@@ -174,7 +174,7 @@ fn put_second(state: &mut State, source: &Source, bounds: Bounds)
 /// the state stays.
 #[tactic(auto, unfolding(crate::specs::Passing::edge_of))]
 pub fn follow(instr: &Instr, taken: bool, state: &mut State) -> bool
-    ensures { edge_of (state_of state.old) instr.now taken ≡ reached result (state_of state.new) }
+    ensures { edge_of (state_of state.old) instr.now taken ≡ reach result (state_of state.new) }
 {
     match instr {
         Instr::Branch {

@@ -1,7 +1,7 @@
 //! Where an access falls.
 
 ghost use Rattle.std.specs.Prelude.{◌≡◌, ◌≤◌, ◌+◌, IfSome};
-ghost use Rattle.ranges.specs.Places.{landed, place_of, Fits};
+ghost use Rattle.ranges.specs.Places.{landing, place_of, Fits};
 ghost use Rattle.ranges.specs.Seen.{kind_of};
 
 use crate::pointers::offset_in;
@@ -33,7 +33,7 @@ pub enum Mark {
 
 /// Where n bytes at a distance from an offset begin, if they lie below the size of a region.
 fn landed(size: u64, n: u64, offset: u64, distance: i16) -> Option<u64>
-    ensures value { result ≡ landed size n offset distance }
+    ensures value { result ≡ landing size n offset distance }
     ensures bound { IfSome result (λ at. at + n ≤ size) }
 {
     if n <= size {

@@ -3,7 +3,7 @@
 ghost use Rattle.std.specs.Prelude.{◌≡◌, ◌≤◌, ◌≤ℤ◌, IfSome};
 ghost use Rattle.std.specs.Option.{option_map};
 ghost use Rattle.intervals.specs.Seen.{span_of};
-ghost use Rattle.ranges.specs.Pointers.{offset_in, offsets_in, moved_offset, moved_place, moved_offsets, moved};
+ghost use Rattle.ranges.specs.Pointers.{offset_in, offsets_in, moved_offset, moved_place, moved_offsets, moved_pointer};
 ghost use Rattle.ranges.specs.Seen.{kind_of, offsets_of};
 
 use crate::value::{ContextOffset, SectorOffsets, StackOffset, Value};
@@ -87,9 +87,9 @@ fn moved_offsets(down: bool, x: SectorOffsets, y: Range) -> Option<SectorOffsets
 }
 
 /// A pointer moved by a number, up or down; None where that isn't allowed.
-#[tactic(auto, unfolding(crate::specs::Pointers::moved))]
+#[tactic(auto, unfolding(crate::specs::Pointers::moved_pointer))]
 pub(crate) fn moved(down: bool, pointer: Value, number: Value) -> Option<Value>
-    ensures { option_map kind_of result ≡ moved down (kind_of pointer) (kind_of number) }
+    ensures { option_map kind_of result ≡ moved_pointer down (kind_of pointer) (kind_of number) }
 {
     match (pointer, number) {
         (Value::Ctx(o), Value::Num(y)) => {

@@ -148,7 +148,7 @@ impl Value {
 impl SectorOffsets {
     ghost use Rattle.std.specs.Prelude.{◌≡◌};
     ghost use Rattle.intervals.specs.Spans.{hull};
-    ghost use Rattle.intervals.specs.Rounding.{rounded};
+    ghost use Rattle.intervals.specs.Rounding.{round_span};
     ghost use Rattle.ranges.specs.Seen.{offsets_of};
 
     fn join(self, other: SectorOffsets) -> SectorOffsets
@@ -161,7 +161,7 @@ impl SectorOffsets {
     }
 
     fn round(self) -> SectorOffsets
-        ensures { offsets_of result ≡ rounded (offsets_of self) }
+        ensures { offsets_of result ≡ round_span (offsets_of self) }
     {
         let rounded = Range {
             low: u64::from(self.low),

@@ -2,7 +2,7 @@
 
 ghost use Rattle.std.specs.Prelude.{◌≡◌, ◌<◌, ◌≤◌, ◌+◌, map};
 ghost use Rattle.ranges.specs.Places.{Fits};
-ghost use Rattle.ranges.specs.After.{mark_after, group_after, written, written_at, stored_groups};
+ghost use Rattle.ranges.specs.After.{mark_after, group_after, groups_after_write, written_at, stored_groups};
 ghost use Rattle.ranges.specs.Reading.{with_groups};
 ghost use Rattle.ranges.specs.Seen.{kind_of};
 ghost use Rattle.ranges.specs.SeenStates.{group_of, state_of};
@@ -55,7 +55,7 @@ pub(crate) fn group_after(at: u64, n: u64, g: usize, group: Group) -> Group
 /// The groups where n bytes from a place on are written.
 fn written(x: &[Group; 64], at: u64, n: u64) -> [Group; 64]
     requires { at + n ≤ 512 }
-    ensures { map group_of result ≡ written at n (map group_of x.now) }
+    ensures { map group_of result ≡ groups_after_write at n (map group_of x.now) }
 {
     let mut groups = [UNSET; 64];
     for g in 0..64 {

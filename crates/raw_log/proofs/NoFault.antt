@@ -17,7 +17,7 @@ use Rattle.logfmt.specs.Faults.{has_mark_form}
 use Rattle.logfmt.proofs.FlagBits.{flag_flush, flag_fua, flag_discard, flag_mark, flag_word-lt}
 use Rattle.raw_log.specs.Raw.{IsTimes, StandsRaw, AllStandRaw, RawText, bytes_in}
 use Rattle.raw_log.specs.Faults.{in_super, in_entry, raw_super_checks, raw_entry_checks, raw_entry_fault, is_on_device, size_at, times_at, header, units_before, written_before, data_sectors, sector_at, count_at, word_at, length_at}
-use Rattle.raw_log.specs.Imported.{IsImportable, divided}
+use Rattle.raw_log.specs.Imported.{IsImportable, entry_of_raw}
 use Rattle.raw_log.specs.Laws.{RawHasNoFault, ImportedHasNoFault}
 use Rattle.raw_log.proofs.Progress.{same_data}
 
@@ -58,7 +58,7 @@ super_passes k sectors limits bytes es raw can =
     let some : 1 ≤ k = positive k raw.times in
     let whole : nat_le 512 (length bytes) ≡ true = grind (arith, nat_tests, raw.super.whole, some) in
     let size : nat_le (size_at bytes) (length bytes) ≡ true = grind (arith, nat_tests, raw.super.whole, raw.super.sector_size) in
-    let few : nat_le (number_at 8 16 bytes) 65536 ≡ true = grind (arith, nat_tests, raw.super.entries, can.log.count, length-map es (divided k)) in
+    let few : nat_le (number_at 8 16 bytes) 65536 ≡ true = grind (arith, nat_tests, raw.super.entries, can.log.count, length-map es (entry_of_raw k)) in
     rw (whole, raw.super.magic, raw.super.version, known_size k bytes es raw, size, few) refl
 
 -- the flags of an entry and the bits of the word in its header
@@ -66,7 +66,7 @@ bit_is : (k : ℕ) (bytes : List ℕ) (s : ℕ) (e : Entry) (bit : ℕ) (flag : 
     → has_bit (word_at bytes s) bit ≡ flag
 bit_is k bytes s e bit flag stands is = ap (λ w. has_bit w bit) (sym stands.flags) ∙ sym is
 
-length_passes : (k sectors : ℕ) (bytes : List ℕ) (s : ℕ) (e : Entry) → StandsRaw k bytes s e → IsEntry sectors (divided k e)
+length_passes : (k sectors : ℕ) (bytes : List ℕ) (s : ℕ) (e : Entry) → StandsRaw k bytes s e → IsEntry sectors (entry_of_raw k e)
     → (has_bit (word_at bytes s) 8 || (length_at bytes s == 0)) ≡ true
 length_passes k sectors bytes s e stands is =
     let bit = bit_is k bytes s e 8 e.flags.mark stands (flag_mark e.flags) in
@@ -79,7 +79,7 @@ length_passes k sectors bytes s e stands is =
     ] in
     rw bit (by_kind e.flags.mark refl)
 
-mark_passes : (k sectors : ℕ) (bytes : List ℕ) (s : ℕ) (e : Entry) → IsTimes k → StandsRaw k bytes s e → IsEntry sectors (divided k e)
+mark_passes : (k sectors : ℕ) (bytes : List ℕ) (s : ℕ) (e : Entry) → IsTimes k → StandsRaw k bytes s e → IsEntry sectors (entry_of_raw k e)
     → (e.flags.mark ≡ true → e.flags.flush ≡ false)
     → (not (has_bit (word_at bytes s) 8) || has_mark_form (word_at bytes s) (count_at bytes s) (length_at bytes s)) ≡ true
 unfolding has_mark_form
@@ -92,7 +92,7 @@ mark_passes k sectors bytes s e times stands is recorded =
     → (not m || (not (has_bit (word_at bytes s) 1) && not (has_bit (word_at bytes s) 2) && not (has_bit (word_at bytes s) 4) && (count_at bytes s == 0) && nat_le (length_at bytes s) 480)) ≡ true =
     λ m. elim m as (λ v. e.flags.mark ≡ v → (not v || (not (has_bit (word_at bytes s) 1) && not (has_bit (word_at bytes s) 2) && not (has_bit (word_at bytes s) 4) && (count_at bytes s == 0) && nat_le (length_at bytes s) 480)) ≡ true) [
       | true ↦ λ h.
-          let form : IsMark (divided k e) = is.mark h in
+          let form : IsMark (entry_of_raw k e) = is.mark h in
           let less = no_less k e.count times in
           let no_count : e.count ≡ 0 = omega (arith, less, form.count) in
           let none : count_at bytes s ≡ 0 = sym stands.count ∙ no_count in
@@ -102,7 +102,7 @@ mark_passes k sectors bytes s e times stands is recorded =
     ] in
     rw bit (by_kind e.flags.mark refl)
 
-device_passes : (k sectors : ℕ) (bytes : List ℕ) (s : ℕ) (e : Entry) → IsTimes k → StandsRaw k bytes s e → IsEntry sectors (divided k e)
+device_passes : (k sectors : ℕ) (bytes : List ℕ) (s : ℕ) (e : Entry) → IsTimes k → StandsRaw k bytes s e → IsEntry sectors (entry_of_raw k e)
     → is_on_device k sectors (sector_at bytes s) (count_at bytes s) ≡ true
 device_passes k sectors bytes s e times stands is =
     let less = no_less k e.count times in
@@ -112,7 +112,7 @@ device_passes k sectors bytes s e times stands is =
     let inside : ((e.count == 0) || nat_le (k * e.sector + k * e.count) sectors) ≡ true = grind (arith, nat_tests, device, less) in
     rw (← stands.sector, ← stands.count, small, inside) refl
 
-entry_passes : (k sectors : ℕ) (bytes : List ℕ) (s units room : ℕ) (e : Entry) → IsTimes k → StandsRaw k bytes s e → IsEntry sectors (divided k e)
+entry_passes : (k sectors : ℕ) (bytes : List ℕ) (s units room : ℕ) (e : Entry) → IsTimes k → StandsRaw k bytes s e → IsEntry sectors (entry_of_raw k e)
     → (e.flags.mark ≡ true → e.flags.flush ≡ false) → units + k * e.count ≤ 262144 → 512 * (1 + k * data_of e) ≤ room
     → s + bytes_in k (1 + data_of e) ≤ 201326592
     → first_failing (raw_entry_checks k bytes sectors s units room) ≡ None
@@ -160,16 +160,16 @@ units_so_far k bytes es (suc i) stand h =
       | inr past ↦ absurd (omega (arith, past.0, h))
     ]
 
-units_divided : (k : ℕ) (es : List Entry) → units_of (map (divided k) es) ≡ sum_by (units k) es
+units_divided : (k : ℕ) (es : List Entry) → units_of (map (entry_of_raw k) es) ≡ sum_by (units k) es
 units_divided k [] = refl
 units_divided k (e ∷ es) =
-    let made = sum_by-cons (λ (x : Entry). x.count) (divided k e) (map (divided k) es) in
+    let made = sum_by-cons (λ (x : Entry). x.count) (entry_of_raw k e) (map (entry_of_raw k) es) in
     let raw = sum_by-cons (units k) e es in
     let rest = units_divided k es in
     omega (arith, made, raw, rest)
 
 -- the place of an entry in the log that comes out
-data_kept : (k : ℕ) (e : Entry) → data_of (divided k e) ≡ k * data_of e
+data_kept : (k : ℕ) (e : Entry) → data_of (entry_of_raw k e) ≡ k * data_of e
 data_kept k e =
     let by_kind : (b : Bool) → (if b then 0 else k * e.count) ≡ k * (if b then 0 else e.count) =
     λ b. elim b as (λ v. (if v then 0 else k * e.count) ≡ k * (if v then 0 else e.count)) [
@@ -179,16 +179,16 @@ data_kept k e =
     by_kind e.flags.discard
 
 written_place : (k : ℕ) (bytes : List ℕ) (es : List Entry) (i : ℕ) → AllStandRaw k bytes es → i ≤ length es
-    → written_before k bytes i ≡ 512 * place (map (divided k) es) i
+    → written_before k bytes i ≡ 512 * place (map (entry_of_raw k) es) i
 written_place k bytes es zero stand h = refl
 written_place k bytes es (suc i) stand h =
-    let before : written_before k bytes i ≡ 512 * place (map (divided k) es) i = written_place k bytes es i stand (omega (arith, h)) in
+    let before : written_before k bytes i ≡ 512 * place (map (entry_of_raw k) es) i = written_place k bytes es i stand (omega (arith, h)) in
     let placed : header k bytes i ≡ bytes_in k (place es i) = header_place k bytes es i stand (omega (arith, h)) in
     elim (slice_get_cases es i).1 [
       | inl a ↦
           let behind : data_of a.0 ≡ data_sectors bytes (bytes_in k (place es i)) = same_data k (bytes_in k (place es i)) bytes a.0 (stand i a.0 a.2) in
-          let there : slice_get (map (divided k) es) i ≡ Some (divided k a.0) = slice_get-map (divided k) es i ∙ rw a.2 refl in
-          let kept : data_of (divided k a.0) ≡ k * data_of a.0 = data_kept k a.0 in
+          let there : slice_get (map (entry_of_raw k) es) i ≡ Some (entry_of_raw k a.0) = slice_get-map (entry_of_raw k) es i ∙ rw a.2 refl in
+          let kept : data_of (entry_of_raw k a.0) ≡ k * data_of a.0 = data_kept k a.0 in
           rw (before, placed, there, ← behind, kept) (omega arith)
       | inr past ↦ absurd (omega (arith, past.0, h))
     ]
@@ -204,19 +204,19 @@ later es i (suc n) =
 text_passes : (k sectors : ℕ) (limits : Limits) (bytes : List ℕ) (es : List Entry) (i : ℕ) → RawText k bytes es → IsImportable k sectors limits es → i < length es
     → raw_entry_fault k bytes sectors limits i ≡ None
 text_passes k sectors limits bytes es i raw can h =
-    let made : List Entry = map (divided k) es in
-    let long : length made ≡ length es = length-map es (divided k) in
+    let made : List Entry = map (entry_of_raw k) es in
+    let long : length made ≡ length es = length-map es (entry_of_raw k) in
     let placed : header k bytes i ≡ bytes_in k (place es i) = header_place k bytes es i raw.stands (omega (arith, h)) in
     let before : units_before k bytes i ≡ sum_by (units k) (take i es) = units_so_far k bytes es i raw.stands (omega (arith, h)) in
     let written : written_before k bytes i ≡ 512 * place made i = written_place k bytes es i raw.stands (omega (arith, h)) in
     elim (slice_get_cases es i).1 [
       | inl a ↦
-          let there : slice_get made i ≡ Some (divided k a.0) = slice_get-map (divided k) es i ∙ rw a.2 refl in
+          let there : slice_get made i ≡ Some (entry_of_raw k a.0) = slice_get-map (entry_of_raw k) es i ∙ rw a.2 refl in
           let part = sum_by_more_le (units k) es i a.0 h in
           let same : units k (get_or es i a.0) ≡ units k a.0 = ap (units k) a.3 in
           let all : units_of made ≤ 262144 = can.log.units in
           let sum = units_divided k es in
-          let kept : data_of (divided k a.0) ≡ k * data_of a.0 = data_kept k a.0 in
+          let kept : data_of (entry_of_raw k a.0) ≡ k * data_of a.0 = data_kept k a.0 in
           let next : place made (suc i) ≡ place made i + 1 + k * data_of a.0 = rw (there, kept) refl in
           let next_raw : place es (suc i) ≡ place es i + 1 + data_of a.0 = rw a.2 refl in
           let to_end : suc i + (length es - suc i) ≡ length es = omega (arith, h) in
@@ -228,7 +228,7 @@ text_passes k sectors limits bytes es i raw can h =
           let spread : k * place es (suc i) ≡ k * (place es i + 1 + data_of a.0) = ap (λ (n : ℕ). k * n) next_raw in
           rw (placed, before, written)
           (entry_passes k sectors bytes (bytes_in k (place es i)) (sum_by (units k) (take i es)) (byte_limit limits - 512 * place made i) a.0 raw.times (raw.stands i a.0 a.2)
-          (can.log.entries i (divided k a.0) there) (can.recorded i (divided k a.0) there) (omega (arith, part, same, all, sum)) (omega (arith, next, up, sized)) (omega (arith, can.need, times_up, spread)))
+          (can.log.entries i (entry_of_raw k a.0) there) (can.recorded i (entry_of_raw k a.0) there) (omega (arith, part, same, all, sum)) (omega (arith, next, up, sized)) (omega (arith, can.need, times_up, spread)))
       | inr past ↦ absurd (omega (arith, past.0, h))
     ]
 

@@ -9,23 +9,23 @@ use Rattle.logfmt.specs.Initial.{over}
 use Rattle.logfmt.specs.LogText.{LogText, StandsAt, canonical_text}
 use Rattle.logfmt.proofs.Canonical.{canonical_is_text}
 use Rattle.raw_log.specs.Raw.{StandsRaw, bytes_in}
-use Rattle.raw_log.specs.Imported.{imported, divided}
+use Rattle.raw_log.specs.Imported.{imported_log, entry_of_raw}
 use Rattle.raw_log.specs.Laws.{LogIsRaw, RawIsLog, LogIsKept, ImportedIsText, OneImport}
 use Rattle.raw_log.proofs.Unique.{raw_of_one_log}
 
 -- divided by one an entry stays
-one_divided : (e : Entry) → divided 1 e ≡ e
+one_divided : (e : Entry) → entry_of_raw 1 e ≡ e
 one_divided e =
     let sector : 1 * e.sector ≡ e.sector = omega arith in
     let count : 1 * e.count ≡ e.count = omega arith in
     λ i. record e { sector = sector i; count = count i }
 
-all_divided : (es : List Entry) → map (divided 1) es ≡ es
+all_divided : (es : List Entry) → map (entry_of_raw 1) es ≡ es
 all_divided [] = refl
 all_divided (e ∷ es) = λ i. one_divided e i ∷ all_divided es i
 
 -- what is imported of a log that is divided by one is that log, but for what its device held before
-same_log : (log : LogValue) → imported 1 log.sectors log.entries ≡ over [] log
+same_log : (log : LogValue) → imported_log 1 log.sectors log.entries ≡ over [] log
 same_log log = λ i. record { sectors = log.sectors; entries = all_divided log.entries i; initial = [] }
 
 -- a log over something else
@@ -114,11 +114,11 @@ raw_is_log bytes log limits raw can size held initial =
 pub imported_is_text : ImportedIsText
 imported_is_text k sectors limits bytes text es raw made =
     let same = raw_of_one_log bytes k made.k es made.entries raw made.raw in
-    let there : LogText text (imported made.k sectors made.entries) =
-    subst (λ (t : List ℕ). LogText t (imported made.k sectors made.entries)) (sym made.same)
-    (canonical_is_text (imported made.k sectors made.entries) made.importable.log made.importable.recorded) in
-    let log : imported made.k sectors made.entries ≡ imported k sectors es =
-    ap (λ (n : ℕ). imported n sectors made.entries) (sym same.0) ∙ ap (λ (fs : List Entry). imported k sectors fs) (sym same.1) in
+    let there : LogText text (imported_log made.k sectors made.entries) =
+    subst (λ (t : List ℕ). LogText t (imported_log made.k sectors made.entries)) (sym made.same)
+    (canonical_is_text (imported_log made.k sectors made.entries) made.importable.log made.importable.recorded) in
+    let log : imported_log made.k sectors made.entries ≡ imported_log k sectors es =
+    ap (λ (n : ℕ). imported_log n sectors made.entries) (sym same.0) ∙ ap (λ (fs : List Entry). imported_log k sectors fs) (sym same.1) in
     subst (λ (l : LogValue). LogText text l) log there
 
 pub log_is_kept : LogIsKept
@@ -137,6 +137,6 @@ log_is_kept bytes text log limits is made =
 pub one_import : OneImport
 one_import bytes text other sectors limits a b =
     let same = raw_of_one_log bytes a.k b.k a.entries b.entries a.raw b.raw in
-    let log : imported a.k sectors a.entries ≡ imported b.k sectors b.entries =
-    ap (λ (n : ℕ). imported n sectors a.entries) same.0 ∙ ap (λ (es : List Entry). imported b.k sectors es) same.1 in
+    let log : imported_log a.k sectors a.entries ≡ imported_log b.k sectors b.entries =
+    ap (λ (n : ℕ). imported_log n sectors a.entries) same.0 ∙ ap (λ (es : List Entry). imported_log b.k sectors es) same.1 in
     a.same ∙ ap (λ (l : LogValue). canonical_text l.entries) log ∙ sym b.same

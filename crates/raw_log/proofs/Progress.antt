@@ -20,14 +20,14 @@ use Rattle.raw_log.specs.declared.header.Header.{Header}
 use Rattle.raw_log.specs.Raw.{IsTimes, StandsRaw, AllStandRaw, bytes_in}
 use Rattle.raw_log.specs.Faults.{FirstRawFault, in_entry, EntriesPass, raw_super_checks, raw_entry_checks, header, units_before, written_before, data_sectors, times_at}
 use Rattle.raw_log.specs.Header.{SuperStands, HeaderStands, StandsDivided, data_bytes}
-use Rattle.raw_log.specs.Imported.{IsImported, divided}
+use Rattle.raw_log.specs.Imported.{IsImported, entry_of_raw}
 use Rattle.raw_log.proofs.Lengths.{length_entry, length_super}
 
 -- the first n entries are imported, the next header begins at byte s, the entries have u units, and the text so far is this
 pub record Progress (bytes : List ℕ) (k sectors : ℕ) (limits : Limits) (text : List ℕ) (n s u : ℕ) : Type 0 where
   pub raw : List Entry
   pub made : List Entry
-  pub divided : made ≡ map (divided k) raw
+  pub divided : made ≡ map (entry_of_raw k) raw
   pub count : length raw ≡ n
   pub counted : length made ≡ n
   pub placed : bytes_in k (place raw n) ≡ s
@@ -49,7 +49,7 @@ pub record Progress (bytes : List ℕ) (k sectors : ℕ) (limits : Limits) (text
 abbrev raw_of : List ℕ → ℕ → Entry → Entry
 raw_of bytes s e = record e { sector = number_at 8 s bytes; count = number_at 8 (s + 8) bytes }
 
-divided_back : (k s : ℕ) (bytes : List ℕ) (e : Entry) → StandsDivided k bytes s e → divided k (raw_of bytes s e) ≡ e
+divided_back : (k s : ℕ) (bytes : List ℕ) (e : Entry) → StandsDivided k bytes s e → entry_of_raw k (raw_of bytes s e) ≡ e
 divided_back k s bytes e stands = λ i. record e { sector = sym stands.sector i; count = sym stands.count i }
 
 -- its data in sectors of the raw log
@@ -102,9 +102,9 @@ go_on bytes text k sectors limits n s u e told so w w_is passes stands fits reco
     let long : length (entry_sectors e) ≡ 512 * (1 + data_of e) = length_entry sectors e fits short in
     let r : Entry = raw_of bytes s e in
     let here : StandsRaw k bytes s r = stands_raw k s bytes e stands in
-    let back : divided k r ≡ e = divided_back k s bytes e stands in
-    let more : so.made ++ e ∷ [] ≡ map (divided k) (so.raw ++ r ∷ []) =
-    rw (map-append (divided k) so.raw (r ∷ []), ← so.divided, back) refl in
+    let back : entry_of_raw k r ≡ e = divided_back k s bytes e stands in
+    let more : so.made ++ e ∷ [] ≡ map (entry_of_raw k) (so.raw ++ r ∷ []) =
+    rw (map-append (entry_of_raw k) so.raw (r ∷ []), ← so.divided, back) refl in
     let count : e.count ≡ h.count = stands.count ∙ sym has.count in
     let behind : data_of r ≡ data_sectors bytes s = same_data k s bytes r here in
     let content : data_of e ≡ k * data_of r = data_divided k s bytes e stands in

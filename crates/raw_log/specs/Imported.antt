@@ -8,18 +8,18 @@ use Rattle.logfmt.specs.LogText.{canonical_text}
 use Rattle.raw_log.specs.Raw.{RawText, bytes_in}
 
 -- an entry of a raw log, of which each sector is k sectors of 512 bytes: the same bytes at the same places of the device
-abbrev pub divided : ℕ → Entry → Entry
-divided k e = record e { sector = k * e.sector; count = k * e.count }
+abbrev pub entry_of_raw : ℕ → Entry → Entry
+entry_of_raw k e = record e { sector = k * e.sector; count = k * e.count }
 
 -- the log of these entries, for a device of that many sectors of 512 bytes, of which nothing is known to have been written before
-abbrev pub imported : ℕ → ℕ → List Entry → LogValue
-imported k sectors es = record { sectors = sectors; entries = map (divided k) es; initial = [] }
+abbrev pub imported_log : ℕ → ℕ → List Entry → LogValue
+imported_log k sectors es = record { sectors = sectors; entries = map (entry_of_raw k) es; initial = [] }
 
 -- the entries can be imported: what comes out is a log within these limits, and they need at most 192 MiB of the raw one
 pub record IsImportable (k sectors : ℕ) (limits : Limits) (es : List Entry) : Type 0 where
-  pub log : IsLog (imported k sectors es)
-  pub size : 512 * place (imported k sectors es).entries (length (imported k sectors es).entries) ≤ byte_limit limits
-  pub recorded : AreRecorded (imported k sectors es).entries
+  pub log : IsLog (imported_log k sectors es)
+  pub size : 512 * place (imported_log k sectors es).entries (length (imported_log k sectors es).entries) ≤ byte_limit limits
+  pub recorded : AreRecorded (imported_log k sectors es).entries
   pub need : bytes_in k (place es (length es)) ≤ 201326592
 
 -- the text is the canonical text of the log that is imported of these bytes
@@ -28,4 +28,4 @@ pub record IsImported (bytes : List ℕ) (sectors : ℕ) (limits : Limits) (text
   pub entries : List Entry
   pub raw : RawText k bytes entries
   pub importable : IsImportable k sectors limits entries
-  pub same : text ≡ canonical_text (imported k sectors entries).entries
+  pub same : text ≡ canonical_text (imported_log k sectors entries).entries

@@ -8,7 +8,7 @@ use Rattle.logfmt.specs.Bounds.{LogValue, AreBytes, place}
 use Rattle.logfmt.specs.LogText.{LogText}
 use Rattle.raw_log.specs.Raw.{RawText}
 use Rattle.raw_log.specs.Faults.{FirstRawFault}
-use Rattle.raw_log.specs.Imported.{IsImportable, IsImported, imported}
+use Rattle.raw_log.specs.Imported.{IsImportable, IsImported, imported_log}
 
 -- bytes are a raw log of one size of sectors and of one list of entries
 abbrev pub RawOfOneLog : Type 0
@@ -36,7 +36,7 @@ LogIsKept =
 abbrev pub ImportedIsText : Type 0
 ImportedIsText =
     (k sectors : ℕ) (limits : Limits) (bytes text : List ℕ) (es : List Entry) → RawText k bytes es → IsImported bytes sectors limits text
-    → LogText text (imported k sectors es)
+    → LogText text (imported_log k sectors es)
 
 -- one text is imported of bytes
 abbrev pub OneImport : Type 0

@@ -18,7 +18,7 @@
 //! # What is proved
 //!
 //! - `RawText k bytes es` says by an equation of positions where each field of each entry stands in a raw log whose sectors have
-//!   512 * k bytes. `imported k sectors es` is the log of these entries in sectors of 512 bytes. Where `import` is `Ok`, the bytes are
+//!   512 * k bytes. `imported_log k sectors es` is the log of these entries in sectors of 512 bytes. Where `import` is `Ok`, the bytes are
 //!   a raw log of some entries, these can be imported, and the result is the canonical text of their log (`IsImported`).
 //! - `IsImportable k sectors limits es` has the bounds: what comes out is a log within all its limits, and the entries need at most
 //!   192 MiB of the raw log. What stands behind them is not looked at.

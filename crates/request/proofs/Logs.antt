@@ -8,7 +8,7 @@ use Rattle.logfmt.specs.Initial.{over}
 use Rattle.logfmt.proofs.Flushed.{log-flushed}
 use Rattle.logfmt.specs.Faults as log_fault
 use Rattle.logfmt.specs.LogText.{LogText}
-use Rattle.logfmt.specs.Flushed.{flushed}
+use Rattle.logfmt.specs.Flushed.{with_flushes}
 use Rattle.logfmt.specs.declared.entry.Entry.{Entry}
 use Rattle.std.specs.List.{slice_index_or}
 use Rattle.epochs.specs.declared.cuts.Cuts.{Cuts}
@@ -77,13 +77,13 @@ lacks_place text s cuts log es first place asked recorded same is found =
 
 -- the log that is asked for
 pub log_of : (text : Recording) (s : Settings) (cuts : Cuts) (log value : LogValue) (es : List Entry) (places : List ℕ) (first : Option ℕ) → cuts ≡ s.cuts
-    → IsRecorded text s log → es ≡ log.entries → places ≡ places_of cuts.flushes → first ≡ slice_get (lacking cuts (length es)) 0 → first ≡ None → value ≡ flushed places log
+    → IsRecorded text s log → es ≡ log.entries → places ≡ places_of cuts.flushes → first ≡ slice_get (lacking cuts (length es)) 0 → first ≡ None → value ≡ with_flushes places log
     → IsLogOf text s value
 log_of text s cuts log value es places first asked recorded same are is none added = record {
   read = log;
   recorded = recorded;
   has = subst (λ (c : Cuts). lacking c (length log.entries) ≡ []) asked (nothing cuts log es first same is none);
-  added = added ∙ ap (λ ps. flushed ps log) (are ∙ ap (λ (c : Cuts). places_of c.flushes) asked);
+  added = added ∙ ap (λ ps. with_flushes ps log) (are ∙ ap (λ (c : Cuts). places_of c.flushes) asked);
 }
 
 -- a log that is asked for is one for the device, within the bounds of a log

@@ -4,7 +4,7 @@ use Rattle.logfmt.specs.Bounds.{LogValue}
 use Rattle.epochs.specs.declared.cuts.Cuts.{Cuts}
 use Rattle.epochs.specs.Plan.{PlanValue}
 use Rattle.epochs.specs.declared.part.By.{By}
-use Rattle.choices.specs.Choices.{ranked, IsFirstPast}
+use Rattle.choices.specs.Choices.{ranked_choices, IsFirstPast}
 
 -- a plan is its log and its kind of cuts
 pub same_plan : (plan : PlanValue) (log : LogValue) (kind : Cuts) (way : By) → plan.log ≡ log → plan.kind ≡ kind → plan.by ≡ way
@@ -16,5 +16,5 @@ pub past_of : (plan wanted : PlanValue) (bound b : ℕ) (tears t : Bool) (cut : 
 past_of plan wanted bound b tears t cut e f g h = rw (← e, ← f, ← g) h
 
 pub counted_of : (plan wanted : PlanValue) (bound b : ℕ) (tears t : Bool) (images : ℕ) → plan ≡ wanted → b ≡ bound → t ≡ tears
-    → images ≡ length (ranked wanted bound tears) → images ≡ length (ranked plan b t)
+    → images ≡ length (ranked_choices wanted bound tears) → images ≡ length (ranked_choices plan b t)
 counted_of plan wanted bound b tears t images e f g h = rw (e, f, g) h

@@ -10,11 +10,11 @@ use Rattle.base.specs.declared.refusal.Cause.TheVariants.{Log, Request}
 use Rattle.logfmt.specs.Bounds.{LogValue}
 use Rattle.logfmt.specs.LogText.{LogText}
 use Rattle.logfmt.specs.Faults as log_fault
-use Rattle.logfmt.specs.Flushed.{flushed}
+use Rattle.logfmt.specs.Flushed.{with_flushes}
 use Rattle.epochs.specs.declared.cuts.Cuts.{Cuts}
 use Rattle.epochs.specs.Flushes.{places_of}
 use Rattle.epochs.specs.Plan.{PlanValue}
-use Rattle.choices.specs.Choices.{ChoiceValue, ranked, limit, IsFirstPast}
+use Rattle.choices.specs.Choices.{ChoiceValue, ranked_choices, limit, IsFirstPast}
 use Rattle.request.specs.declared.settings.Settings.{Settings}
 use Rattle.request.specs.declared.settings.OptionPlace.TheVariants as place
 use Rattle.request.specs.Settings.{option_refusal}
@@ -54,7 +54,7 @@ pub record IsLogOf (r : Recording) (s : Settings) (value : LogValue) : Type 0 wh
   pub read : LogValue
   pub recorded : IsRecorded r s read
   pub has : lacking s.cuts (length read.entries) ≡ []
-  pub added : value ≡ flushed (places_of s.cuts.flushes) read
+  pub added : value ≡ with_flushes (places_of s.cuts.flushes) read
 
 -- the log with the cuts and the kind of parts that are asked for
 abbrev pub plan_of : Settings → LogValue → PlanValue
@@ -62,7 +62,7 @@ plan_of s value = record { log = value; kind = s.cuts; by = s.by }
 
 -- the choices of which the images are: image n is that of choice n
 abbrev pub images_of : Settings → LogValue → List ChoiceValue
-images_of s value = ranked (plan_of s value) s.bound s.tears
+images_of s value = ranked_choices (plan_of s value) s.bound s.tears
 
 -- it is the log that is asked for of the recording, and it has no more images than a run may have
 pub record HasImages (r : Recording) (s : Settings) (value : LogValue) : Type 0 where

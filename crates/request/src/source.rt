@@ -4,7 +4,7 @@
 ghost use Rattle.std.specs.Prelude.{◌≡◌, ◌≤◌, ◌*◌, ◌⊎◌, length, filter, nat_le, slice_get, IfOk, IfErr};
 ghost use Rattle.base.specs.declared.causes.LogCause.TheVariants as cause;
 ghost use Rattle.logfmt.specs.Faults.{FirstFault};
-ghost use Rattle.choices.specs.Choices.{ranked, limit};
+ghost use Rattle.choices.specs.Choices.{ranked_choices, limit};
 ghost use Rattle.request.specs.Source.{log_refusal, images_refusal, lacking_refusal, cut_past, either, lacking, plan_of, images_of, IsRecorded, IsLogOf, RefusesLog, RefusesPlan};
 
 use crate::options::Options;

@@ -7,13 +7,13 @@ use Rattle.base.proofs.Lists.{slice_get_of_push}
 use Rattle.logfmt.specs.Bounds.{LogValue}
 use Rattle.epochs.specs.declared.part.By.{By}
 use Rattle.epochs.specs.Plan.{PlanValue}
-use Rattle.choices.specs.Choices.{ranked}
+use Rattle.choices.specs.Choices.{ranked_choices}
 use Rattle.choices.specs.Sums.{StartsValue}
 use Rattle.checker.specs.Checker.{CheckerValue}
 use Rattle.flushes.specs.declared.counted.MissingFlush.{MissingFlush}
 use Rattle.lines.specs.declared.marks.Mark.{Mark}
 use Rattle.lines.specs.Line.{FailingLine}
-use Rattle.lines.specs.Marks.{mark_of, marks_of}
+use Rattle.lines.specs.Marks.{marks_of}
 use Rattle.outcomes.specs.Outcomes.{outcomes_failing, is_marked, AreOutcomes}
 use Rattle.report.specs.Report.{HeadValue, options_text, totals_line}
 use Rattle.cure.specs.declared.failure.Failure.{Failure}
@@ -25,8 +25,8 @@ use Rattle.workers.specs.Laws.{Precedes, LinesAreSet, ListsFailing}
 use Rattle.request.specs.declared.settings.Settings.{Settings}
 use Rattle.request.specs.Source.{plan_of}
 use Rattle.runs.specs.Explore.{subject_of, head_of}
-use Rattle.runs.specs.Why.{images_failing, starts_of, IsMissing, IsCause, AreCauses, causes_from, why_head, missing_text, why_text, TellsCauses, TellsOfLines, with_first}
-use Rattle.runs.specs.Marked.{own_image, images_marked, TellsProgram, TellsPrograms}
+use Rattle.runs.specs.Why.{images_failing, starts_of, IsMissing, IsCause, causes_from, why_head, missing_text, why_text, TellsCauses, TellsOfLines, with_first}
+use Rattle.runs.specs.Marked.{images_marked, TellsProgram, TellsPrograms}
 
 -- the text of one program more
 causes_more : (s : StartsValue) (ls : List FailingLine) (n : ℕ) (causes : List (List CutFailures)) (last : List CutFailures)
@@ -141,7 +141,7 @@ are_images law s value checkers starts ls ms program is found marks =
       within = λ i n at.
           let line = line_of_image program (failing_lines subject) i n at in
           let fails = lists.sound line.place line.line line.there in
-          let within = slice_get_within (ranked (plan_of s value) s.bound s.tears) line.line.image fails.choice fails.of_image in
+          let within = slice_get_within (ranked_choices (plan_of s value) s.bound s.tears) line.line.image fails.choice fails.of_image in
           let image_is = line.image_is in
           omega (arith, within, image_is);
     } in

@@ -1,6 +1,5 @@
 -- What a run finds of its programs.
-use Rattle.std.proofs.Common.{ℕ, zero, suc, ◌≡◌, ◌+◌, ◌≤◌, ◌<◌, List, [], ◌∷◌, ◌++◌, length, take, add-one, Option, None, Some, IfSome, slice_get, refl, sym, ◌∙◌, ap, subst, arith, length-append}
-use Rattle.std.proofs.lemmas.List.{take_all}
+use Rattle.std.proofs.Common.{ℕ, zero, suc, ◌≡◌, ◌+◌, ◌≤◌, List, [], ◌∷◌, ◌++◌, length, take, add-one, Option, None, Some, IfSome, slice_get, sym, ◌∙◌, subst, arith, length-append}
 use Rattle.base.specs.declared.refusal.Refusal.{Refusal}
 use Rattle.bpf_isa.specs.declared.instr.Instr.{Instr}
 use Rattle.logfmt.specs.Bounds.{LogValue}
@@ -8,7 +7,7 @@ use Rattle.verifier.specs.declared.unreached.Unreached.{Unreached}
 use Rattle.facts.specs.declared.fewer.Fewer.{Fewer}
 use Rattle.facts.specs.declared.found.Breach.{Breach}
 use Rattle.facts.specs.Fewer.{AreFewer, FindsFewer}
-use Rattle.facts.specs.Found.{IsUnreached, AddsUnreached, AreUnreached}
+use Rattle.facts.specs.Found.{IsUnreached, AreUnreached}
 use Rattle.request.specs.declared.settings.Settings.{Settings}
 use Rattle.request.specs.Source.{Recording, IsLogOf}
 use Rattle.runs.specs.Programs.{AreDecoded}
@@ -31,10 +30,6 @@ pub record Finding (checked : Option ℕ) (sectors : ℕ) (programs : List (List
   pub found : FindsUnreached checked sectors (take n programs) us
   pub few : length us ≤ n
 
-pub finding : (checked : Option ℕ) (sectors : ℕ) (programs : List (List (Option Instr))) (us : List (Option Unreached)) → us ≡ [] → Finding checked sectors programs 0 us
-finding (Some limit) sectors programs us e = record { found = e; few = rw e (omega arith) }
-finding None sectors programs us e = record { found = rw e tt; few = rw e (omega arith) }
-
 pub find_next : (checked : Option ℕ) (sectors : ℕ) (programs : List (List (Option Instr))) (n : ℕ) (p : List (Option Instr)) (us new : List (Option Unreached))
     → Finding checked sectors programs n us → slice_get programs n ≡ Some p → FindsNext checked sectors p us new → Finding checked sectors programs (n + 1) new
 find_next (Some limit) sectors programs n p us new h there next =
@@ -45,11 +40,6 @@ find_next None sectors programs n p us new h there next =
       found = grow sectors programs n p us next.found h.found there next.is;
       few = omega (arith, h.few, length-append us (next.found ∷ []));
     })
-
-pub all_found : (checked : Option ℕ) (sectors : ℕ) (programs : List (List (Option Instr))) (n : ℕ) (us : List (Option Unreached)) → length programs ≤ n
-    → Finding checked sectors programs n us → FindsUnreached checked sectors programs us
-all_found checked sectors programs n us all h =
-    subst (λ (ps : List (List (Option Instr))). FindsUnreached checked sectors ps us) (take_all n programs all) h.found
 
 -- a breach of one of the programs, by its file
 pub breach_of : (sectors : ℕ) (files : List (List ℕ)) (programs now : List (List (Option Instr))) (refusal : Option Refusal) (r : Refusal) (o : Option Breach) → now ≡ programs

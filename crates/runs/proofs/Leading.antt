@@ -4,7 +4,7 @@ use Rattle.std.specs.List.{flat_map}
 use Rattle.std.proofs.lemmas.Bool.Decides.{eqb_tells}
 use Rattle.logfmt.specs.declared.entry.Entry.{Entry}
 use Rattle.logfmt.specs.Bounds.{LogValue, IsLog}
-use Rattle.logfmt.specs.Flushed.{flushed}
+use Rattle.logfmt.specs.Flushed.{with_flushes}
 use Rattle.choices.specs.Choices.{IsFirstPast}
 use Rattle.checker.specs.Checker.{CheckerValue}
 use Rattle.flushes.specs.declared.window.Window.{Window}
@@ -34,7 +34,7 @@ round_of s checkers value h ls fs ms found some missing =
 -- one round more
 pub leads_more : (s : Settings) (checkers : List CheckerValue) (first : LogValue) (old now new : List ℕ) (number : ℕ) (value : LogValue) (ms : List MissingFlush)
     → LeadsOn s checkers first old number value now → IsRound s checkers value ms → new ≡ now ++ flat_map (flush_line number) ms
-    → LeadsOn s checkers first old (number + 1) (flushed (places_in ms) value) new
+    → LeadsOn s checkers first old (number + 1) (with_flushes (places_in ms) value) new
 leads_more s checkers first old now new number value ms lead round told =
     record {
       leads = λ rest tells.
@@ -101,7 +101,7 @@ trying_first s checkers value old h ls fs ws is device found windows =
 -- the run of the log with the flushes that were missing
 pub trying_more : (s : Settings) (checkers : List CheckerValue) (first : LogValue) (old now new : List ℕ) (number : ℕ) (value next : LogValue) (h k : HeadValue) (ls ms : List FailingLine)
     (fs gs : List Failure) (ws vs asked : List Window) (flushes : List MissingFlush)
-    → Trying s checkers first old number value h ls fs ws now → asked ≢ [] → asked ≡ ws → AreMissing asked flushes → next ≡ flushed (places_in flushes) value
+    → Trying s checkers first old number value h ls fs ws now → asked ≢ [] → asked ≡ ws → AreMissing asked flushes → next ≡ with_flushes (places_in flushes) value
     → calm_entries next.entries < calm_entries value.entries → new ≡ now ++ flat_map (flush_line number) flushes → IsFound s checkers next k ms gs → vs ≡ windows_in gs
     → Trying s checkers first old (number + 1) next k ms gs vs new
 trying_more s checkers first old now new number value next h k ls ms fs gs ws vs asked flushes trying some same missing added fewer told found windows =
@@ -119,7 +119,7 @@ trying_more s checkers first old now new number value next h k ls ms fs gs ws vs
 -- the run of the log with them has too many images
 pub trying_past : (s : Settings) (checkers : List CheckerValue) (first : LogValue) (old now mid new : List ℕ) (number : ℕ) (value next : LogValue) (h : HeadValue) (ls : List FailingLine)
     (fs : List Failure) (ws asked : List Window) (flushes : List MissingFlush) (cut : ℕ)
-    → Trying s checkers first old number value h ls fs ws now → asked ≢ [] → asked ≡ ws → AreMissing asked flushes → next ≡ flushed (places_in flushes) value
+    → Trying s checkers first old number value h ls fs ws now → asked ≢ [] → asked ≡ ws → AreMissing asked flushes → next ≡ with_flushes (places_in flushes) value
     → mid ≡ now ++ flat_map (flush_line number) flushes → IsFirstPast (plan_of s next) s.bound s.tears cut → new ≡ mid ++ refused_line cut
     → TellsOn s checkers first old new
 trying_past s checkers first old now mid new number value next h ls fs ws asked flushes cut trying some same missing added told past ends =

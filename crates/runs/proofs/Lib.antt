@@ -9,5 +9,4 @@ pub mod Missed
 pub mod Pages
 pub mod Tried
 pub mod Leading
-pub mod Cures
 pub mod Finding

@@ -1,37 +1,36 @@
 -- The failures of a run, by the marks of its failing lines.
-use Rattle.std.proofs.Common.{ℕ, ◌≡◌, ◌<◌, List, length, map, refl, Option, None, Some, slice_get, sym, ◌∙◌, ap, subst, arith}
+use Rattle.std.proofs.Common.{ℕ, ◌≡◌, ◌<◌, List, length, refl, Option, None, Some, slice_get, sym, ◌∙◌, ap, subst, arith}
 use Rattle.std.specs.Option.{option_map}
 use Rattle.std.proofs.lemmas.List.{length-map}
 use Rattle.std.proofs.lemmas.Option.{slice_get-map, slice_get_within, same_Some}
-use Rattle.logfmt.specs.declared.entry.Entry.{Entry}
 use Rattle.logfmt.specs.Bounds.{LogValue}
 use Rattle.choices.specs.declared.choice.Departure.{Departure}
-use Rattle.choices.specs.Choices.{ChoiceValue, ranked}
+use Rattle.choices.specs.Choices.{ChoiceValue, ranked_choices}
 use Rattle.choices.specs.Sums.{StartsValue}
 use Rattle.checker.specs.Checker.{CheckerValue}
 use Rattle.flushes.specs.Places.{AreWindows}
 use Rattle.lines.specs.Line.{FailingLine}
 use Rattle.lines.specs.declared.marks.Mark.{Mark}
 use Rattle.lines.specs.Marks.{mark_of, marks_of}
-use Rattle.workers.specs.Failing.{Subject, failing_lines}
+use Rattle.workers.specs.Failing.{failing_lines}
 use Rattle.workers.specs.Laws.{LinesAreSet, ListsFailing}
 use Rattle.cure.specs.declared.failure.Failure.{Failure}
 use Rattle.cure.specs.Failures.{IsWindowIf, IsFailure, AreFailures, AreFailuresAt, windows_in}
 use Rattle.request.specs.declared.settings.Settings.{Settings}
-use Rattle.request.specs.Source.{plan_of, images_of}
+use Rattle.request.specs.Source.{images_of}
 use Rattle.runs.specs.Explore.{subject_of}
 use Rattle.runs.specs.Why.{starts_of}
 
 -- the marks of a run's failing lines are of its images
 pub marks_within : LinesAreSet → (s : Settings) (value : LogValue) (checkers : List CheckerValue) (starts : StartsValue) (ls : List FailingLine) (ms : List Mark) (i : ℕ) (m : Mark)
     → starts ≡ starts_of s value → ls ≡ failing_lines (subject_of s value checkers) → ms ≡ marks_of ls → slice_get ms i ≡ Some m
-    → m.image < length (ranked starts.plan starts.bound starts.tears)
+    → m.image < length (ranked_choices starts.plan starts.bound starts.tears)
 marks_within law s value checkers starts ls ms i m is found marks there =
     let all : List FailingLine = failing_lines (subject_of s value checkers) in
     let lists : ListsFailing (subject_of s value checkers) all = law (subject_of s value checkers) in
     let here : option_map mark_of (slice_get all i) ≡ Some m =
     sym (slice_get-map mark_of all i) ∙ ap (λ (ks : List Mark). slice_get ks i) (sym (marks ∙ ap marks_of found)) ∙ there in
-    subst (λ (t : StartsValue). m.image < length (ranked t.plan t.bound t.tears)) (sym is) (by_line lists (slice_get all i) refl here)
+    subst (λ (t : StartsValue). m.image < length (ranked_choices t.plan t.bound t.tears)) (sym is) (by_line lists (slice_get all i) refl here)
   where
     by_line : ListsFailing (subject_of s value checkers) (failing_lines (subject_of s value checkers)) → (o : Option FailingLine)
         → slice_get (failing_lines (subject_of s value checkers)) i ≡ o → option_map mark_of o ≡ Some m → m.image < length (images_of s value)

@@ -3,15 +3,14 @@ use Rattle.std.proofs.Common.{ℕ, zero, suc, ◌≡◌, ◌+◌, ◌<◌, ◌�
 use Rattle.std.specs.Option.{option_map}
 use Rattle.std.proofs.lemmas.List.{take_all}
 use Rattle.std.proofs.lemmas.Option.{slice_get_read, slice_get-map}
-use Rattle.base.specs.declared.causes.CodeCause.TheVariants as code
 use Rattle.base.specs.declared.causes.VerifierCause.TheVariants as verifier
 use Rattle.base.specs.declared.refusal.Refusal.{Refusal}
 use Rattle.bpf_isa.specs.declared.instr.Instr.{Instr}
 use Rattle.bpf_isa.specs.Program.{IsSpelledBy, HasNoFault}
 use Rattle.checker.specs.Checker.{CheckerValue}
 use Rattle.request.specs.declared.settings.Settings.{Settings}
-use Rattle.runs.specs.Programs.{IsRunWithin, AreFirstOf, AreFirstMade, AreDecoded, IsUndecoded, IsUnaccepted, IsVerifierFault, RefusesOneOf, unaccepted, no_checkers_memory, code_refusal, verifier_refusal}
-use Rattle.runs.specs.Explore.{IsProgramCount, IsCheckerOf, AreCheckersOf, RefusesProgram, with_code_fault, with_verifier_fault, no_code_memory, no_verifier_memory, no_list_memory}
+use Rattle.runs.specs.Programs.{IsRunWithin, AreFirstOf, AreFirstMade, AreDecoded, IsUndecoded, IsUnaccepted, IsVerifierFault, RefusesOneOf, unaccepted, no_checkers_memory, verifier_refusal}
+use Rattle.runs.specs.Explore.{IsProgramCount, AreCheckersOf, RefusesProgram, with_code_fault, with_verifier_fault, no_code_memory, no_verifier_memory, no_list_memory}
 
 -- the bytes of file n
 pub file_there : {V : Type 0} (items : V → List ℕ) (files : List V) (n : ℕ) (f : V) (now : List ℕ) → n < length files → f ≡ get_or files n f

@@ -1,7 +1,7 @@
 -- The cure of a log, tried (docs/REPORT.md, The text of `cure`): runs of the log with more and more flushes.
-use Rattle.std.specs.Prelude.{ℕ, ◌≡◌, ◌≢◌, ◌≤◌, ◌↔◌, Bool, false, IsTrue, List, [], ◌∷◌, ◌++◌, length, None}
+use Rattle.std.specs.Prelude.{ℕ, ◌≡◌, ◌≢◌, ◌≤◌, Bool, false, List, [], ◌∷◌, ◌++◌, length}
 use Rattle.logfmt.specs.Bounds.{LogValue}
-use Rattle.logfmt.specs.Flushed.{flushed}
+use Rattle.logfmt.specs.Flushed.{with_flushes}
 use Rattle.choices.specs.Choices.{limit, IsFirstPast}
 use Rattle.checker.specs.Checker.{CheckerValue}
 use Rattle.flushes.specs.declared.counted.MissingFlush.{MissingFlush}
@@ -13,9 +13,11 @@ use Rattle.cure.specs.Failures.{AreFailures, windows_in, places_in}
 use Rattle.cure.specs.Text.{begin_text, uncured_text, rounds_text, refused_line}
 use Rattle.workers.specs.Failing.{failing_lines}
 use Rattle.request.specs.declared.settings.Settings.{Settings}
-use Rattle.request.specs.Source.{Recording, plan_of, images_of, HasImages}
-use Rattle.runs.specs.Explore.{IsProgramCount, AreCheckersOf, IsFaultless, subject_of, head_of}
-use Rattle.runs.specs.Why.{with_first}
+use Rattle.request.specs.Source.{Recording, plan_of, images_of}
+use Rattle.runs.specs.declared.explore_command.Wanted.{Wanted}
+use Rattle.runs.specs.declared.explore_command.Wanted.TheVariants as wanted
+use Rattle.runs.specs.Explore.{IsRun, subject_of, head_of}
+use Rattle.runs.specs.Why.{Tells, with_first}
 
 -- the failing lines of a run of a log
 abbrev pub run_lines : Settings → List CheckerValue → LogValue → List FailingLine
@@ -36,12 +38,12 @@ pub record IsRound (s : Settings) (checkers : List CheckerValue) (value : LogVal
 -- rounds, each of a run of the log with the flushes of all before it
 abbrev pub AreRounds : Settings → List CheckerValue → LogValue → List (List MissingFlush) → Type 0
 AreRounds s checkers value [] = Unit {0}
-AreRounds s checkers value (ms ∷ rounds) = IsRound s checkers value ms × AreRounds s checkers (flushed (places_in ms) value) rounds
+AreRounds s checkers value (ms ∷ rounds) = IsRound s checkers value ms × AreRounds s checkers (with_flushes (places_in ms) value) rounds
 
 -- the log with the flushes of all rounds
 abbrev pub with_rounds : LogValue → List (List MissingFlush) → LogValue
 with_rounds value [] = value
-with_rounds value (ms ∷ rounds) = with_rounds (flushed (places_in ms) value) rounds
+with_rounds value (ms ∷ rounds) = with_rounds (with_flushes (places_in ms) value) rounds
 
 -- the last run: it is made and no failure of it has a window, or it has too many images, by the first cut with which they are
 pub data Ends (s : Settings) (checkers : List CheckerValue) (value : LogValue) : List ℕ → Type 0 where
@@ -66,12 +68,14 @@ pub record TellsCure (s : Settings) (value : LogValue) (checkers : List CheckerV
   pub text : bytes ≡ begin_text (head_of (with_first false s) value checkers) failures ++ uncured_text (run_lines s checkers value) failures ++ rounds
 
 -- the bytes tell where flushes are missing in the log, and what is left with them
-pub record IsCured (text : Recording) (files : List (List ℕ)) (s : Settings) (bytes : List ℕ) (failing : Bool) : Type 0 where
-  pub count : IsProgramCount (length files)
-  pub value : LogValue
-  pub source : HasImages text s value
-  pub checkers : List CheckerValue
-  pub made : AreCheckersOf s files checkers
-  pub cure : TellsCure s value checkers bytes
-  pub fails : IsTrue failing ↔ (run_lines s checkers value ≢ [])
-  pub faultless : s.checked ≡ None → IsFaultless (subject_of s value checkers)
+abbrev pub IsCured : Recording → List (List ℕ) → Settings → List ℕ → Bool → Type 0
+IsCured text files s bytes failing = IsRun TellsCure text files s bytes failing
+
+-- what the bytes of a run tell that is asked for this: what is told of it, or where flushes are missing, run by run
+abbrev pub TellsWanted : Wanted → Settings → LogValue → List CheckerValue → List ℕ → Type 0
+TellsWanted (wanted.Told t) s value checkers bytes = Tells t s value checkers bytes
+TellsWanted wanted.Cured s value checkers bytes = TellsCure s value checkers bytes
+
+-- what a run answers that is asked for this
+abbrev pub IsAnswered : Wanted → Recording → List (List ℕ) → Settings → List ℕ → Bool → Type 0
+IsAnswered w text files s bytes failing = IsRun (λ s value checkers bytes. TellsWanted w s value checkers bytes) text files s bytes failing

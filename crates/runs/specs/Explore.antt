@@ -69,17 +69,21 @@ pub record IsFaultless (subject : Subject) : Type 0 where
   pub runs : (program : ℕ) (checker : CheckerValue) → slice_get subject.checkers program ≡ Some checker → RunsSafely subject checker
   pub lines : (i : ℕ) (l : FailingLine) → slice_get (failing_lines subject) i ≡ Some l → IsVerdict l.ending
 
--- the bytes report every failing image of the log and no other, or the first alone where that is asked for;
--- where no limit of steps is asked for, nothing has a fault or spends a limit
-pub record IsReport (text : Recording) (files : List (List ℕ)) (s : Settings) (bytes : List ℕ) (failing : Bool) : Type 0 where
+-- the bytes tell this of the programs on the crash images of the log; where no limit of steps is asked for, nothing has a fault
+-- or spends a limit
+pub record IsRun (Tells : Settings → LogValue → List CheckerValue → List ℕ → Type 0) (text : Recording) (files : List (List ℕ)) (s : Settings) (bytes : List ℕ) (failing : Bool) : Type 0 where
   pub count : IsProgramCount (length files)
   pub value : LogValue
   pub source : HasImages text s value
   pub checkers : List CheckerValue
   pub made : AreCheckersOf s files checkers
-  pub report : bytes ≡ report_of s value checkers
+  pub tells : Tells s value checkers bytes
   pub fails : IsTrue failing ↔ (failing_lines (subject_of s value checkers) ≢ [])
   pub faultless : s.checked ≡ None → IsFaultless (subject_of s value checkers)
+
+-- the bytes report every failing image of the log and no other, or the first alone where that is asked for
+abbrev pub IsReport : Recording → List (List ℕ) → Settings → List ℕ → Bool → Type 0
+IsReport text files s bytes failing = IsRun (λ s value checkers bytes. bytes ≡ report_of s value checkers) text files s bytes failing
 
 -- the same, whether or not there is a failing image
 abbrev pub HasReport : Recording → List (List ℕ) → Settings → List ℕ → Type 0

@@ -1,5 +1,5 @@
 -- The page of a run (docs/REPORT.md, The page of `page`).
-use Rattle.std.specs.Prelude.{ℕ, ◌≡◌, List, ◌++◌, length, map, filter, slice_get, Some}
+use Rattle.std.specs.Prelude.{ℕ, ◌≡◌, List, ◌++◌, length, filter, slice_get, Some}
 use Rattle.choices.specs.Sums.{StartsValue}
 use Rattle.flushes.specs.Counted.{AreMissing}
 use Rattle.lines.specs.Line.{FailingLine}

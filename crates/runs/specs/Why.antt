@@ -1,5 +1,5 @@
 -- Why programs fail on the crash images of a log, and what a run is to tell (docs/REPORT.md, The text of `why`).
-use Rattle.std.specs.Prelude.{ℕ, ◌≡◌, ◌≢◌, ◌+◌, ◌==◌, ◌↔◌, Bool, false, IsTrue, List, [], ◌∷◌, ◌++◌, codes, length, map, filter, None, slice_get, Some}
+use Rattle.std.specs.Prelude.{ℕ, ◌≡◌, ◌+◌, ◌==◌, Bool, false, List, [], ◌∷◌, ◌++◌, codes, length, map, filter, slice_get, Some}
 use Rattle.std.specs.List.{flat_map}
 use Rattle.logfmt.specs.Bounds.{LogValue}
 use Rattle.choices.specs.Sums.{StartsValue}
@@ -20,8 +20,8 @@ use Rattle.runs.specs.Paged.{IsPageOf}
 use Rattle.request.specs.declared.settings.Settings.{Settings}
 use Rattle.request.specs.declared.settings.Telling.{Telling}
 use Rattle.request.specs.declared.settings.Telling.TheVariants as telling
-use Rattle.request.specs.Source.{Recording, plan_of, HasImages}
-use Rattle.runs.specs.Explore.{IsProgramCount, AreCheckersOf, IsFaultless, IsReport, subject_of, head_of, report_of}
+use Rattle.request.specs.Source.{Recording, plan_of}
+use Rattle.runs.specs.Explore.{IsRun, subject_of, head_of, report_of}
 
 -- the images on which a program fails, by the failing lines
 abbrev pub images_failing : ℕ → List FailingLine → List ℕ
@@ -102,33 +102,17 @@ Tells telling.Report s value checkers bytes = bytes ≡ report_of s value checke
 Tells telling.Causes s value checkers bytes = TellsOfLines s value checkers (failing_lines (subject_of s value checkers)) bytes
 Tells telling.Page s value checkers bytes = PageOfLines s value checkers (failing_lines (subject_of s value checkers)) bytes
 
--- the bytes say why the programs fail on the crash images of the log: what the report says of them, image by image
-pub record IsExplained (text : Recording) (files : List (List ℕ)) (s : Settings) (bytes : List ℕ) (failing : Bool) : Type 0 where
-  pub count : IsProgramCount (length files)
-  pub value : LogValue
-  pub source : HasImages text s value
-  pub checkers : List CheckerValue
-  pub made : AreCheckersOf s files checkers
-  pub causes : TellsOfLines s value checkers (failing_lines (subject_of s value checkers)) bytes
-  pub fails : IsTrue failing ↔ (failing_lines (subject_of s value checkers) ≢ [])
-  pub faultless : s.checked ≡ None → IsFaultless (subject_of s value checkers)
-
--- the bytes are the page of running the programs on the crash images of the log
-pub record IsPaged (text : Recording) (files : List (List ℕ)) (s : Settings) (bytes : List ℕ) (failing : Bool) : Type 0 where
-  pub count : IsProgramCount (length files)
-  pub value : LogValue
-  pub source : HasImages text s value
-  pub checkers : List CheckerValue
-  pub made : AreCheckersOf s files checkers
-  pub page : PageOfLines s value checkers (failing_lines (subject_of s value checkers)) bytes
-  pub fails : IsTrue failing ↔ (failing_lines (subject_of s value checkers) ≢ [])
-  pub faultless : s.checked ≡ None → IsFaultless (subject_of s value checkers)
-
 -- what a run answers
 abbrev pub IsTold : Telling → Recording → List (List ℕ) → Settings → List ℕ → Bool → Type 0
-IsTold telling.Report text files s bytes failing = IsReport text files s bytes failing
-IsTold telling.Causes text files s bytes failing = IsExplained text files s bytes failing
-IsTold telling.Page text files s bytes failing = IsPaged text files s bytes failing
+IsTold t text files s bytes failing = IsRun (λ s value checkers bytes. Tells t s value checkers bytes) text files s bytes failing
+
+-- the bytes say why the programs fail on the crash images of the log: what the report says of them, image by image
+abbrev pub IsExplained : Recording → List (List ℕ) → Settings → List ℕ → Bool → Type 0
+IsExplained text files s bytes failing = IsTold telling.Causes text files s bytes failing
+
+-- the bytes are the page of running the programs on the crash images of the log
+abbrev pub IsPaged : Recording → List (List ℕ) → Settings → List ℕ → Bool → Type 0
+IsPaged text files s bytes failing = IsTold telling.Page text files s bytes failing
 
 -- whether the first failing image alone is asked for: of why programs fail all images are told
 abbrev pub first_asked : Telling → Bool → Bool

@@ -4,7 +4,7 @@ ghost use Rattle.std.specs.Prelude.{◌≡◌, ◌≢◌, ◌≤◌, ◌<◌, �
 ghost use Rattle.std.specs.List.{flat_map};
 ghost use Rattle.std.specs.List.Sorted.{IsNonDecreasing};
 ghost use Rattle.logfmt.specs.Bounds.{IsLog};
-ghost use Rattle.logfmt.specs.Flushed.{flushed};
+ghost use Rattle.logfmt.specs.Flushed.{with_flushes};
 ghost use Rattle.checker.specs.Checker.{AreFor};
 ghost use Rattle.base.specs.Refusals.{memory_refusal};
 ghost use Rattle.flushes.specs.Places.{AreWindows};
@@ -22,9 +22,7 @@ ghost use Rattle.runs.specs.Finds.{FindsBreach, FindsAll};
 ghost use Rattle.runs.specs.Trials.{HasFailures, IsFound, TellsOn};
 
 use crate::basis::{Basis, worked};
-use crate::explore_command::{
-    Explored, Question, checkers_of, decode_all, head_of_run, is_program_count,
-};
+use crate::explore_command::{Explored, Question, Wanted, head_of_run, run_with};
 use crate::task::Task;
 use base::causes::RequestCause;
 use base::refusal::{Cause, Refusal};
@@ -40,11 +38,11 @@ use images::History;
 use lines::Lines;
 use logfmt::Log;
 use report::{Head, put_totals};
-use request::{OptionPlace, Options, option_refusal_of, planned};
+use request::{Options, planned};
 use std::alloc::{AllocError, Global};
 use std::sync::Wait;
 use std::thread::Threads;
-use workers::{Gate, Work, accepted_checkers_run_safely, lines_are_set};
+use workers::{Gate, Work, lines_are_set};
 
 /// What judges the images of each run.
 #[derive(Clone, Copy)]
@@ -175,7 +173,7 @@ fn next_log(
     requires inside { AreWindows (length log.entries) windows.now }
     requires calm { HoldNoFlush log.entries windows.now }
     ensures missing { IfOk result (λ added. AreMissing windows.now added.flushes.items) }
-    ensures log { IfOk result (λ added. added.log ≡ flushed (places_in added.flushes.items) log) }
+    ensures log { IfOk result (λ added. added.log ≡ with_flushes (places_in added.flushes.items) log) }
     ensures fewer { IfOk result (λ added. calm_entries added.log.entries < calm_entries log.entries) }
     ensures told { IfOk result (λ added. string_bytes out.new ≡ string_bytes out.old ++ flat_map (flush_line round) added.flushes.items) }
     ensures refused { IfErr result (λ r. r ≡ memory_refusal) }
@@ -295,7 +293,7 @@ fn joined(begin: Vec<u8>, rounds: &str) -> Result<Vec<u8>, Refusal>
 }
 
 /// The cure of a log, tried.
-fn cured_log<G: Gate + Sync, R: Threads + Wait + Sync>(
+pub(crate) fn cured_log<G: Gate + Sync, R: Threads + Wait + Sync>(
     rt: &R,
     alloc: Global,
     gate: &G,
@@ -348,24 +346,9 @@ pub fn cured<G: Gate + Sync, R: Threads + Wait + Sync>(
     ensures breach { IfErr result (λ r. IfSome facts.new.breach (FindsBreach question.now.options.now.sectors (map (λ f. f.items) question.now.programs.now) r)) }
     ensures fewer { IfSome facts.new.fewer (FindsFewer question.now.recording.now question.now.options.now) }
 {
-    *facts = Facts::new();
-    let (programs, options) = (question.programs, question.options);
-    if !is_program_count(programs.len()) {
-        return Err(option_refusal_of(OptionPlace::Programs));
-    }
-    let log = question.recording.read(alloc, options, facts)?;
-    // Too many images are refused before the programs are looked at.
-    facts.plan(alloc, &log, options)?;
-    let decoded = decode_all(alloc, programs)?;
-    let checkers = checkers_of(alloc, decoded.programs.as_slice(), options, facts)?;
-    if let Some(refusal) = decoded.refusal {
-        return Err(refusal);
-    }
-    // A law of the machine, which does nothing: an accepted program meets no fault.
-    accepted_checkers_run_safely();
-    let judges = Judges {
-        checkers: checkers.as_slice(),
-        options,
+    let question = Question {
+        wanted: Wanted::Cured,
+        ..*question
     };
-    cured_log(rt, alloc, gate, &judges, log)
+    run_with(rt, alloc, gate, &question, facts)
 }

@@ -9,8 +9,9 @@ ghost use Rattle.base.specs.Refusals.{memory_refusal};
 ghost use Rattle.request.specs.Source.{RefusesPlan};
 ghost use Rattle.runs.specs.Explore.{HasReport, IsReport, IsProgramCount, Refuses, program_head, head_of};
 ghost use Rattle.request.specs.declared.settings.Telling.TheVariants as tells;
-ghost use Rattle.runs.specs.Why.{with_first, first_asked, IsExplained, IsPaged, IsTold};
-ghost use Rattle.runs.specs.Tasks.{lines_of, TellsTask};
+ghost use Rattle.runs.specs.Why.{with_first, first_asked, IsExplained, IsPaged};
+ghost use Rattle.runs.specs.Cured.{IsAnswered};
+ghost use Rattle.runs.specs.Tasks.{lines_of, telling_in, TellsTask};
 ghost use Rattle.runs.specs.Found.{AreFound};
 ghost use Rattle.facts.specs.Fewer.{FindsFewer};
 ghost use Rattle.runs.specs.Finds.{FindsNext, FindsUnreached, IsBreachOf, IsBreachIn, FindsBreach, FindsAll};
@@ -19,6 +20,7 @@ ghost use Rattle.runs.specs.Programs.{IsRunWithin, IsCodeFault, IsUnaccepted, co
 
 use crate::basis::{Basis, worked};
 use crate::causes::causes_text;
+use crate::curing::{Judges, cured_log};
 use crate::paging::page_bytes;
 use crate::reading::Reading;
 use crate::task::{Findings, Task};
@@ -251,30 +253,20 @@ fn reported(alloc: Global, findings: &Findings<'_>) -> Result<Vec<u8>, AllocErro
     write_report(alloc, &head, &findings.work.lines)
 }
 
-/// Why the programs fail, by what was found.
-fn explained(alloc: Global, findings: &Findings<'_>) -> Result<Vec<u8>, AllocError>
-    requires order { IsNonDecreasing (map (λ l. l.image) findings.now.work.now.lines) }
-    requires lines { findings.now.work.now.lines ≡ lines_of findings.now.task.now }
-    ensures { IfOk result (λ bytes. TellsTask tells.Causes findings.now.task.now bytes.items) }
-{
-    let text = printed_text(alloc, &findings.work.lines)?;
-    let marks = findings.work.lines.marks(alloc)?;
-    let head = head_of_run(alloc, findings.task, false)?;
-    // A law of the failing lines, which does nothing: they are in their order, and so are those of each program.
-    lines_are_set();
-    let reading = Reading {
-        findings,
-        text: text.as_str(),
-        marks: marks.as_slice(),
-    };
-    causes_text(alloc, &head, &reading)
+/// In which form it is told why programs fail.
+#[derive(Clone, Copy)]
+pub(crate) enum Form {
+    /// As a text.
+    Text,
+    /// As a page for a browser.
+    Page,
 }
 
-/// Where the programs fail, as a page, by what was found.
-fn paged(alloc: Global, findings: &Findings<'_>) -> Result<Vec<u8>, AllocError>
+/// Why the programs fail, in that form, by what was found.
+fn explained(alloc: Global, form: Form, findings: &Findings<'_>) -> Result<Vec<u8>, AllocError>
     requires order { IsNonDecreasing (map (λ l. l.image) findings.now.work.now.lines) }
     requires lines { findings.now.work.now.lines ≡ lines_of findings.now.task.now }
-    ensures { IfOk result (λ bytes. TellsTask tells.Page findings.now.task.now bytes.items) }
+    ensures { IfOk result (λ bytes. TellsTask (telling_in form) findings.now.task.now bytes.items) }
 {
     let text = printed_text(alloc, &findings.work.lines)?;
     let marks = findings.work.lines.marks(alloc)?;
@@ -286,7 +278,10 @@ fn paged(alloc: Global, findings: &Findings<'_>) -> Result<Vec<u8>, AllocError>
         text: text.as_str(),
         marks: marks.as_slice(),
     };
-    page_bytes(alloc, &head, &reading)
+    match form {
+        Form::Text => causes_text(alloc, &head, &reading),
+        Form::Page => page_bytes(alloc, &head, &reading),
+    }
 }
 
 /// What is to be told of what was found.
@@ -297,8 +292,8 @@ fn told(alloc: Global, telling: Telling, findings: &Findings<'_>) -> Result<Vec<
 {
     match telling {
         Telling::Report => reported(alloc, findings),
-        Telling::Causes => explained(alloc, findings),
-        Telling::Page => paged(alloc, findings),
+        Telling::Causes => explained(alloc, Form::Text, findings),
+        Telling::Page => explained(alloc, Form::Page, findings),
     }
 }
 
@@ -359,11 +354,20 @@ fn judged<'x, G: Gate + Sync, R: Threads + Wait + Sync>(
     }
 }
 
+/// What a run is asked for.
+#[derive(Clone, Copy)]
+pub enum Wanted {
+    /// To be told of its failing images.
+    Told(Telling),
+    /// To be told where flushes are missing, run by run.
+    Cured,
+}
+
 /// What a run is asked: what it is to tell of the images of a log, as one to eight programs judge them.
 #[derive(Clone, Copy)]
 pub struct Question<'a> {
     /// What is to be told.
-    pub telling: Telling,
+    pub wanted: Wanted,
     /// The log, over what the device held before entry 0.
     pub recording: &'a Recording<'a>,
     /// The bytes of each program.
@@ -373,7 +377,7 @@ pub struct Question<'a> {
 }
 
 /// Judges the crash images of a log by one to eight programs, and tells of those that fail what is asked for: what
-/// `explore_with`, `why` or `page` answers. What is found on the way takes the place of what `facts` held.
+/// `explore_with`, `why`, `page` or `cured` answers. What is found on the way takes the place of what `facts` held.
 ///
 /// # Errors
 ///
@@ -385,7 +389,7 @@ pub fn run_with<G: Gate + Sync, R: Threads + Wait + Sync>(
     question: &Question<'_>,
     facts: &mut Facts,
 ) -> Result<Explored, Refusal>
-    ensures told { IfOk result (λ e. IsTold question.now.telling question.now.recording.now (map (λ f. f.items) question.now.programs.now) question.now.options.now e.bytes.items e.failing) }
+    ensures told { IfOk result (λ e. IsAnswered question.now.wanted question.now.recording.now (map (λ f. f.items) question.now.programs.now) question.now.options.now e.bytes.items e.failing) }
     ensures refused { IfErr result (Refuses question.now.recording.now (map (λ f. f.items) question.now.programs.now) question.now.options.now) }
     ensures found { IfOk result (λ _. FindsAll question.now.recording.now (map (λ f. f.items) question.now.programs.now) question.now.options.now facts.new) }
     ensures breach { IfErr result (λ r. IfSome facts.new.breach (FindsBreach question.now.options.now.sectors (map (λ f. f.items) question.now.programs.now) r)) }
@@ -405,14 +409,28 @@ pub fn run_with<G: Gate + Sync, R: Threads + Wait + Sync>(
     }
     // A law of the machine, which does nothing: an accepted program meets no fault.
     accepted_checkers_run_safely();
-    let task = Task {
-        log: &log,
-        plan: &plan,
-        checkers: checkers.as_slice(),
-        options,
-        images,
-    };
-    judged(rt, alloc, gate, question.telling, &task)
+    let made = checkers.as_slice();
+    match question.wanted {
+        Wanted::Told(telling) => {
+            let task = Task {
+                log: &log,
+                plan: &plan,
+                checkers: made,
+                options,
+                images,
+            };
+            judged(rt, alloc, gate, telling, &task)
+        }
+        Wanted::Cured => {
+            // The log is changed from run to run.
+            drop(plan);
+            let judges = Judges {
+                checkers: made,
+                options,
+            };
+            cured_log(rt, alloc, gate, &judges, log)
+        }
+    }
 }
 
 /// Explores the crash images of a log: judges each by the one to eight programs, and reports those that
@@ -437,7 +455,7 @@ pub fn explore_with<G: Gate + Sync, R: Threads + Wait + Sync>(
     ensures refused { IfErr result (Refuses recording.now (map (λ f. f.items) programs.now) options.now) }
 {
     let question = Question {
-        telling: Telling::Report,
+        wanted: Wanted::Told(Telling::Report),
         recording,
         programs,
         options,
@@ -464,7 +482,7 @@ pub fn why<G: Gate + Sync, R: Threads + Wait + Sync>(
     ensures refused { IfErr result (Refuses recording.now (map (λ f. f.items) programs.now) options.now) }
 {
     let question = Question {
-        telling: Telling::Causes,
+        wanted: Wanted::Told(Telling::Causes),
         recording,
         programs,
         options,
@@ -490,7 +508,7 @@ pub fn page<G: Gate + Sync, R: Threads + Wait + Sync>(
     ensures refused { IfErr result (Refuses recording.now (map (λ f. f.items) programs.now) options.now) }
 {
     let question = Question {
-        telling: Telling::Page,
+        wanted: Wanted::Told(Telling::Page),
         recording,
         programs,
         options,

@@ -3,10 +3,10 @@
 //!
 //! # Place
 //!
-//! Below `commands`, which performs `explore`, `why` and `page` by `run_with`. `facts` reads the log, counts its images and takes what the notes say,
-//! `bpf_isa` decodes the programs, `verifier` accepts them, `workers` judges the images by `checker`, `report` writes the lines
-//! and what stands at the head of each text, `why` tells what fails of a program at each cut, `cure` which flushes are missing, and
-//! `crash_page` writes the page.
+//! Below `commands`, which performs `explore`, `why`, `page` and `cure` by `run_with`. `facts` reads the log, counts its
+//! images and takes what the notes say, `bpf_isa` decodes the programs, `verifier` accepts them, `workers` judges the images
+//! by `checker`, `report` writes the lines and what stands at the head of each text, `why` tells what fails of a program at
+//! each cut, `cure` which flushes are missing, and `crash_page` writes the page.
 //!
 //! | Call | Answers |
 //! |---|---|
@@ -14,7 +14,7 @@
 //! | `explore(rt, alloc, recording, programs, options)` | the bytes of the report |
 //! | `why(rt, alloc, gate, recording, programs, options)` | the same run told by its causes (`causes.rt`) |
 //! | `page(rt, alloc, gate, recording, programs, options)` | the same run as a page for a browser (`paging.rt`) |
-//! | `run_with(rt, alloc, gate, question, facts)` | one of the three, by what is to be told |
+//! | `run_with(rt, alloc, gate, question, facts)` | one of the four, by what is wanted |
 //! | `cured(rt, alloc, gate, question, facts)` | where flushes are missing, and what is left with them, run by run (`curing.rt`) |
 //!
 //! # What is proved
@@ -61,4 +61,4 @@ mod reading;
 mod task;
 
 pub use curing::cured;
-pub use explore_command::{Explored, Question, explore, explore_with, page, run_with, why};
+pub use explore_command::{Explored, Question, Wanted, explore, explore_with, page, run_with, why};

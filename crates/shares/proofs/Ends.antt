@@ -7,16 +7,16 @@ use Rattle.atomic_table.proofs.Lists.{at_snoc, set_else, set_again}
 use Rattle.shares.specs.declared.view.View.{View}
 use Rattle.shares.specs.declared.view.Limits.{Limits}
 use Rattle.shares.specs.Steps.{total, least_of, drew, drew_late, image_posted, shown_next, shown_least, draws, late_draws, least_posted, none_posted, posted_it, found_it, posts, finds}
-use Rattle.shares.specs.Board.{known, DrewBelow, ArePosted, Fits, BoardRule}
-use Rattle.shares.specs.Moves.{opened, newcomer, one_part, less_one, joined, entered, learned_next, learned_least}
+use Rattle.shares.specs.Board.{view_of, DrewBelow, ArePosted, Fits, BoardRule}
+use Rattle.shares.specs.Moves.{first_view, newcomer, one_part, less_one, joint_view, enter_move, learned_next, learned_least}
 use Rattle.shares.proofs.Lists.{total_append, total_snoc, total_set, greatest_append, least_bound, least_snoc, least_append, least_set, least_out, least_part, total_alone, least_alone}
 use Rattle.shares.proofs.Moves.{each_after, least_within}
 
 -- a seat that made no step fits whatever words
-fits_new : (limits : Limits) (next least parts : ℕ) → least ≤ none_posted → Fits limits next least (known parts [])
+fits_new : (limits : Limits) (next least parts : ℕ) → least ≤ none_posted → Fits limits next least (view_of parts [])
 fits_new limits next least parts bound = record { late = omega arith; idle = λ e. refl; below = omega arith; above = bound }
 
-pub begins : (limits : Limits) → limits.blocks + limits.seats < 8589934592 → BoardRule limits (opening (0 ∷ none_posted ∷ []) [] (opened limits))
+pub begins : (limits : Limits) → limits.blocks + limits.seats < 8589934592 → BoardRule limits (opening (0 ∷ none_posted ∷ []) [] (first_view limits))
 begins limits small = record {
   next = 0;
   least = none_posted;
@@ -30,8 +30,8 @@ begins limits small = record {
   each = only;
 }
   where
-    only : (j : ℕ) (v : View) → get_elem? (opened limits ∷ []) j ≡ some v → Fits limits 0 none_posted v
-    only zero v at = subst (Fits limits 0 none_posted) (some-injective (opened limits) v at) (fits_new limits 0 none_posted limits.seats (omega arith))
+    only : (j : ℕ) (v : View) → get_elem? (first_view limits ∷ []) j ≡ some v → Fits limits 0 none_posted v
+    only zero v at = subst (Fits limits 0 none_posted) (some-injective (first_view limits) v at) (fits_new limits 0 none_posted limits.seats (omega arith))
     only (suc j) v at = absurd (some-ne-none v (sym at))
 
 -- a seat comes that made no step, where the others know together what they knew
@@ -43,7 +43,7 @@ module _ (limits : Limits) (s : State (Unit {0}) View) (h : BoardRule limits s) 
       → ((i : ℕ) → total (λ (u : View). finds i u.steps) views ≡ total (λ (u : View). finds i u.steps) s.views)
       → ((i : ℕ) → total (λ (u : View). posts i u.steps) views ≡ total (λ (u : View). posts i u.steps) s.views)
       → ((j : ℕ) (u : View) → get_elem? views j ≡ some u → Fits limits h.next h.least u)
-      → BoardRule limits (record { words = s.words; homes = s.homes; views = views ++ known parts [] ∷ [] })
+      → BoardRule limits (record { words = s.words; homes = s.homes; views = views ++ view_of parts [] ∷ [] })
   comes seats same_draws same_late same_least same_finds same_posts each = record {
     next = h.next;
     least = h.least;
@@ -65,9 +65,9 @@ module _ (limits : Limits) (s : State (Unit {0}) View) (h : BoardRule limits s) 
   }
     where
       new : View
-      new = known parts []
+      new = view_of parts []
 
-pub enters : (limits : Limits) (slots : ℕ) (st : Step (Unit {0})) (c : View × List (ℕ × Unit {0})) → Enters (BoardRule limits) slots 0 (λ n w. entered st c n (w, []))
+pub enters : (limits : Limits) (slots : ℕ) (st : Step (Unit {0})) (c : View × List (ℕ × Unit {0})) → Enters (BoardRule limits) slots 0 (λ n w. enter_move st c n (w, []))
 enters limits slots st c s h count fits = (newcomer, comes limits s h 0 s.views (omega (arith, h.parts)) (λ b. refl) refl refl (λ i. refl) (λ i. refl) h.each, refl)
 
 pub gives : (limits : Limits) (id : ℕ) (v : View) → v.steps ≡ [] → 0 < v.parts → Splits (BoardRule limits) id v (less_one v) one_part
@@ -93,7 +93,7 @@ here (x ∷ xs) zero a b at = refl
 here (x ∷ xs) (suc i) a b at = here xs i a b at
 
 -- a seat takes in what another knows, which is left with nothing
-pub takes_in : (limits : Limits) (id : ℕ) (v : View) (other : ℕ) (w : View) → Joins (BoardRule limits) id v other w (joined v w) newcomer
+pub takes_in : (limits : Limits) (id : ℕ) (v : View) (other : ℕ) (w : View) → Joins (BoardRule limits) id v other w (joint_view v w) newcomer
 takes_in limits id v other w s h at apart at_other = record {
   next = h.next;
   least = h.least;
@@ -119,7 +119,7 @@ takes_in limits id v other w s h at apart at_other = record {
 }
   where
     both : View
-    both = joined v w
+    both = joint_view v w
 
     one_set : List View
     one_set = slice_set s.views id both

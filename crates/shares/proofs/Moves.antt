@@ -11,7 +11,7 @@ use Rattle.shares.specs.declared.view.View.{View}
 use Rattle.shares.specs.declared.view.Limits.{Limits}
 use Rattle.shares.specs.Steps.{total, least_of, bit, drew, drew_late, image_posted, shown_next, shown_least, draws, late_draws, least_posted, none_posted, posted_it, found_it, posts, finds}
 use Rattle.shares.specs.Board.{with_step, Fits, BoardRule}
-use Rattle.shares.specs.Moves.{drawn, posted, saw_least, saw_next}
+use Rattle.shares.specs.Moves.{draw_move, post_move, saw_least, saw_next}
 use Rattle.shares.proofs.Lists.{total_snoc, total_set, total_at_most, greatest_snoc, least_snoc, least_set, least_bound, least_counted}
 
 -- what a seat knows fits later words too
@@ -82,7 +82,7 @@ module _ (limits : Limits) (s : State (Unit {0}) View) (h : BoardRule limits s) 
         omega (arith, total_set (λ (u : View). late_draws limits.blocks u.steps) s.views id v w at, total_snoc (drew_late limits.blocks) v.steps made);
     lowest = lowest ∙ ap (λ (n : ℕ). min n (image_posted made)) h.lowest ∙ sym (least_set (λ (u : View). least_posted u.steps) s.views id v w (image_posted made) at (least_snoc image_posted v.steps made));
     found = λ image small often.
-        let posted : total (λ (u : View). posts image u.steps) (slice_set s.views id w) ≡ total (λ (u : View). posts image u.steps) s.views + posted_it image made =
+        let post_move : total (λ (u : View). posts image u.steps) (slice_set s.views id w) ≡ total (λ (u : View). posts image u.steps) s.views + posted_it image made =
         omega (arith, total_set (λ (u : View). posts image u.steps) s.views id v w at, total_snoc (posted_it image) v.steps made) in
         let seen : total (λ (u : View). finds image u.steps) (slice_set s.views id w) ≡ total (λ (u : View). finds image u.steps) s.views + found_it image made =
         omega (arith, total_set (λ (u : View). finds image u.steps) s.views id v w at, total_snoc (found_it image) v.steps made) in
@@ -146,7 +146,7 @@ pub least_within : (limits : Limits) (s : State (Unit {0}) View) (h : BoardRule 
 least_within limits s h = omega (arith, h.lowest, least_bound (λ (u : View). least_posted u.steps) s.views)
 
 pub draws_as : (limits : Limits) (slots id : ℕ) (v : View) (c : List (ℕ × Unit {0})) (st : Step (Unit {0})) → late_draws limits.blocks v.steps < v.parts
-    → Allows (BoardRule limits) slots id (v, c) 0 (λ n. (n + 1) % 2 ^ 64) (drawn st (v, c))
+    → Allows (BoardRule limits) slots id (v, c) 0 (λ n. (n + 1) % 2 ^ 64) (draw_move st (v, c))
 draws_as limits slots id v c st early s h count at fits =
     let found : slice_index s.words 0 ≡ h.next = ap (λ (ws : List ℕ). slice_index ws 0) h.words in
     let after : (slice_index s.words 0 + 1) % 2 ^ 64 ≡ h.next + 1 = mod-eq_of_lt (omega (arith, few_draws limits s h)) ∙ ap (λ (n : ℕ). n + 1) found in
@@ -165,7 +165,7 @@ draws_as limits slots id v c st early s h count at fits =
     )
 
 pub posts_as : (limits : Limits) (slots id : ℕ) (v : View) (c : List (ℕ × Unit {0})) (st : Step (Unit {0})) → 0 < v.parts
-    → Allows (BoardRule limits) slots id (v, c) 1 (λ n. min n st.first) (posted st (v, c))
+    → Allows (BoardRule limits) slots id (v, c) 1 (λ n. min n st.first) (post_move st (v, c))
 posts_as limits slots id v c st some_part s h count at fits =
     let found : slice_index s.words 1 ≡ h.least = ap (λ (ws : List ℕ). slice_index ws 1) h.words in
     let after : min (slice_index s.words 1) st.first ≡ min h.least st.first = ap (λ (n : ℕ). min n st.first) found in

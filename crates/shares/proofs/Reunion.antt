@@ -12,7 +12,7 @@ use Rattle.shares.specs.Deques.{DequeName}
 use Rattle.shares.specs.Owned.{DequeValue, OtherValue, AddsLeft}
 use Rattle.shares.specs.declared.deque.Phase.TheVariants.{Open, Closed}
 use Rattle.shares.specs.Hands.{HandPlace, HandValue, hand_place, hand_value, others_at, AreOthers, AreTogether, AreLeft, IsEmptyHand, IsShut}
-use Rattle.shares.specs.Meeting.{empty_deque, new_other, with_less, with_back, stacked, merged, all_got, unmarked_one, unmarked, AreMet, AreApart, AreWhole, AddsAllLeft}
+use Rattle.shares.specs.Meeting.{empty_deque, new_other, with_less, with_back, stealer_lists, deques_with, all_got, unmarked_one, unmarked_count, AreMet, AreApart, AreWhole, AddsAllLeft}
 use Rattle.shares.proofs.Lists.{total_snoc}
 use Rattle.shares.proofs.Seats.{times_append, all_middle}
 
@@ -66,7 +66,7 @@ pub record IsDealing (names : List DequeName) (made : ℕ) (deques : List DequeV
   pub split : names ≡ waiting ++ served
   pub count : length served ≡ made
   pub deques_are : deques ≡ map (empty_deque (length waiting + 1)) served ++ map (empty_deque (length waiting)) waiting
-  pub others_are : others ≡ stacked names made
+  pub others_are : others ≡ stealer_lists names made
 
 pub dealing_begins : (names : List DequeName) (deques : List DequeValue) → deques ≡ map (empty_deque (length names)) names → IsDealing names 0 deques []
 dealing_begins names deques e = record { waiting = names; served = []; split = sym (append-nil names); count = refl; deques_are = e; others_are = refl }
@@ -181,7 +181,7 @@ module _ (names : List DequeName) (made : ℕ) (deques : List DequeValue) (other
         deques_are = turned_is ∙ (λ i. drop (place i) (after_split i) ++ take (place i) (after_split i)) ∙ rotated now (empty_deque (length rest + 1) own) (length now) refl;
         others_are = rw range_with_len-more-at (
             ap (λ os. os ++ own_others ∷ []) h.others_are
-            ∙ ap (λ (o : List OtherValue). stacked names made ++ o ∷ []) (own_is ∙ ap (map (λ (d : DequeValue). new_other d.name)) taken_is ∙ others_split ∙ sym (ap (map new_other) others_here))
+            ∙ ap (λ (o : List OtherValue). stealer_lists names made ++ o ∷ []) (own_is ∙ ap (map (λ (d : DequeValue). new_other d.name)) taken_is ∙ others_split ∙ sym (ap (map new_other) others_here))
             ∙ sym (map-append (λ (i : ℕ). map new_other (others_at names (length names - 1 - i))) (range_with_len 0 made) (made ∷ [])));
       }
     where
@@ -194,17 +194,17 @@ pub none_met : (names : List DequeName) → AreMet names []
 none_met names = record { deques = refl; each = λ i h there. absurd (let bad : None ≡ Some h = there in cc) }
 
 -- the stealers of the next hand are the last of those that are left
-pub stacked_last : (names : List DequeName) (met : ℕ) (front : List (List OtherValue)) (last : List OtherValue) → met < length names → front ++ last ∷ [] ≡ stacked names (length names - met)
-    → (front ≡ stacked names (length names - (met + 1))) × (last ≡ map new_other (others_at names met))
+pub stacked_last : (names : List DequeName) (met : ℕ) (front : List (List OtherValue)) (last : List OtherValue) → met < length names → front ++ last ∷ [] ≡ stealer_lists names (length names - met)
+    → (front ≡ stealer_lists names (length names - (met + 1))) × (last ≡ map new_other (others_at names met))
 stacked_last names met front last more e =
     let left : ℕ = length names - (met + 1) in
     let count : length names - met ≡ left + 1 = omega (arith, more) in
     let z : 0 + left ≡ left = omega arith in
     let place : length names - 1 - left ≡ met = omega (arith, more) in
-    let split : stacked names (length names - met) ≡ stacked names left ++ map new_other (others_at names (length names - 1 - left)) ∷ [] =
-    ap (stacked names) count ∙ ap (map (λ (i : ℕ). map new_other (others_at names (length names - 1 - i)))) (range_with_len-more 0 left ∙ ap (λ n. range_with_len 0 left ++ n ∷ []) z)
+    let split : stealer_lists names (length names - met) ≡ stealer_lists names left ++ map new_other (others_at names (length names - 1 - left)) ∷ [] =
+    ap (stealer_lists names) count ∙ ap (map (λ (i : ℕ). map new_other (others_at names (length names - 1 - i)))) (range_with_len-more 0 left ∙ ap (λ n. range_with_len 0 left ++ n ∷ []) z)
     ∙ map-append (λ (i : ℕ). map new_other (others_at names (length names - 1 - i))) (range_with_len 0 left) (left ∷ []) in
-    let both = same_ends front (stacked names left) last (map new_other (others_at names (length names - 1 - left))) (e ∙ split) in
+    let both = same_ends front (stealer_lists names left) last (map new_other (others_at names (length names - 1 - left))) (e ∙ split) in
     (both.0, both.1 ∙ ap (λ n. map new_other (others_at names n)) place)
   where
     same_ends : {A : Type 0} (xs ys : List A) (x y : A) → xs ++ x ∷ [] ≡ ys ++ y ∷ [] → (xs ≡ ys) × (x ≡ y)
@@ -348,21 +348,21 @@ apart_next hands left deques others hand list deque own h is shut = record {
 
 -- stealers that are given back, one to each deque in order
 
-merged_none : (ds : List DequeValue) → merged ds [] ≡ []
+merged_none : (ds : List DequeValue) → deques_with ds [] ≡ []
 merged_none [] = refl
 merged_none (d ∷ ds) = refl
 
-pub nothing_back : (ds : List DequeValue) → ds ≡ merged ds [] ++ ds
+pub nothing_back : (ds : List DequeValue) → ds ≡ deques_with ds [] ++ ds
 nothing_back ds = ap (λ fs. fs ++ ds) (sym (merged_none ds))
 
-pub length_back : (ds : List DequeValue) (os : List OtherValue) → length os ≤ length ds → length (merged ds os ++ drop (length os) ds) ≡ length ds
+pub length_back : (ds : List DequeValue) (os : List OtherValue) → length os ≤ length ds → length (deques_with ds os ++ drop (length os) ds) ≡ length ds
 length_back [] [] le = refl
 length_back [] (o ∷ os) le = absurd (omega (arith, le))
 length_back (d ∷ ds) [] le = refl
 length_back (d ∷ ds) (o ∷ os) le = ap suc (length_back ds os (omega (arith, le)))
 
-pub back_next : (ds : List DequeValue) (os : List OtherValue) (o : OtherValue) (d : DequeValue) → length os < length ds → d ≡ slice_index_or (merged ds os ++ drop (length os) ds) (length os) d
-    → slice_set (merged ds os ++ drop (length os) ds) (length os) (with_back d o) ≡ merged ds (os ++ o ∷ []) ++ drop (length (os ++ o ∷ [])) ds
+pub back_next : (ds : List DequeValue) (os : List OtherValue) (o : OtherValue) (d : DequeValue) → length os < length ds → d ≡ slice_index_or (deques_with ds os ++ drop (length os) ds) (length os) d
+    → slice_set (deques_with ds os ++ drop (length os) ds) (length os) (with_back d o) ≡ deques_with ds (os ++ o ∷ []) ++ drop (length (os ++ o ∷ [])) ds
 back_next [] os o d lt at = absurd (omega (arith, lt))
 back_next (e ∷ ds) [] o d lt at = ap (λ f. with_back f o ∷ ds) at ∙ ap (λ fs. with_back e o ∷ (fs ++ ds)) (sym (merged_none ds))
 back_next (e ∷ ds) (p ∷ os) o d lt at = ap (λ fs. with_back e p ∷ fs) (back_next ds os o d (omega (arith, lt)) at)
@@ -370,7 +370,7 @@ back_next (e ∷ ds) (p ∷ os) o d lt at = ap (λ fs. with_back e p ∷ fs) (ba
 -- the deque at hand has the name of the stealer that comes back
 pub back_name : (ds : List DequeValue) (os : List OtherValue) (o : OtherValue) (rest : List OtherValue) (d : DequeValue) → length os < length ds
     → map (λ (p : OtherValue). p.name) (os ++ o ∷ rest) ≡ take (length (os ++ o ∷ rest)) (map (λ (e : DequeValue). e.name) ds)
-    → d ≡ slice_index_or (merged ds os ++ drop (length os) ds) (length os) d → o.name ≡ d.name
+    → d ≡ slice_index_or (deques_with ds os ++ drop (length os) ds) (length os) d → o.name ≡ d.name
 back_name [] os o rest d lt names at = absurd (omega (arith, lt))
 back_name (e ∷ ds) [] o rest d lt names at =
     let first : o.name ≡ e.name = (let whole : o.name ∷ map (λ (p : OtherValue). p.name) rest ≡ e.name ∷ take (length rest) (map (λ (f : DequeValue). f.name) ds) = names in cc) in
@@ -387,48 +387,48 @@ no_more (x ∷ xs) f [] e = absurd (omega (arith, ap length e))
 no_more (x ∷ xs) f (y ∷ ys) e = let tails : map f xs ≡ take (length xs) ys = (let whole : f x ∷ map f xs ≡ y ∷ take (length xs) ys = e in cc) in omega (arith, no_more xs f ys tails)
 
 -- the first deques get the stealers, and the others stay
-merged_front : (ds es : List DequeValue) (os : List OtherValue) → length os ≡ length ds → merged (ds ++ es) os ++ drop (length os) (ds ++ es) ≡ merged ds os ++ es
+merged_front : (ds es : List DequeValue) (os : List OtherValue) → length os ≡ length ds → deques_with (ds ++ es) os ++ drop (length os) (ds ++ es) ≡ deques_with ds os ++ es
 merged_front [] [] [] e = refl
 merged_front [] (x ∷ es) [] e = refl
 merged_front [] es (o ∷ os) e = absurd (omega (arith, e))
 merged_front (d ∷ ds) es [] e = absurd (omega (arith, e))
 merged_front (d ∷ ds) es (o ∷ os) e = ap (λ fs. with_back d o ∷ fs) (merged_front ds es os (omega (arith, e)))
 
-merged_names : (ds : List DequeValue) (os : List OtherValue) → length os ≡ length ds → map (λ (d : DequeValue). d.name) (merged ds os) ≡ map (λ (d : DequeValue). d.name) ds
+merged_names : (ds : List DequeValue) (os : List OtherValue) → length os ≡ length ds → map (λ (d : DequeValue). d.name) (deques_with ds os) ≡ map (λ (d : DequeValue). d.name) ds
 merged_names [] os e = refl
 merged_names (d ∷ ds) [] e = absurd (omega (arith, e))
 merged_names (d ∷ ds) (o ∷ os) e = ap (λ ns. d.name ∷ ns) (merged_names ds os (omega (arith, e)))
 
-merged_parts : (n : ℕ) (ds : List DequeValue) (os : List OtherValue) → All (λ (d : DequeValue). d.parts ≡ n) ds → All (λ (d : DequeValue). d.parts ≡ n + 1) (merged ds os)
+merged_parts : (n : ℕ) (ds : List DequeValue) (os : List OtherValue) → All (λ (d : DequeValue). d.parts ≡ n) ds → All (λ (d : DequeValue). d.parts ≡ n + 1) (deques_with ds os)
 merged_parts n [] os h = All-nil (λ (d : DequeValue). d.parts ≡ n + 1)
 merged_parts n (d ∷ ds) [] h = All-nil (λ (e : DequeValue). e.parts ≡ n + 1)
 merged_parts n (d ∷ ds) (o ∷ os) h =
     let own : d.parts ≡ n = All-head (λ (e : DequeValue). e.parts ≡ n) d ds h in
-    All-cons (λ (e : DequeValue). e.parts ≡ n + 1) (with_back d o) (merged ds os) (omega (arith, own)) (merged_parts n ds os (All-tail (λ (e : DequeValue). e.parts ≡ n) d ds h))
+    All-cons (λ (e : DequeValue). e.parts ≡ n + 1) (with_back d o) (deques_with ds os) (omega (arith, own)) (merged_parts n ds os (All-tail (λ (e : DequeValue). e.parts ≡ n) d ds h))
 
-merged_pushed : (x : ℕ) (ds : List DequeValue) (os : List OtherValue) → length os ≡ length ds → total (λ (d : DequeValue). times x d.pushed) (merged ds os) ≡ total (λ (d : DequeValue). times x d.pushed) ds
+merged_pushed : (x : ℕ) (ds : List DequeValue) (os : List OtherValue) → length os ≡ length ds → total (λ (d : DequeValue). times x d.pushed) (deques_with ds os) ≡ total (λ (d : DequeValue). times x d.pushed) ds
 merged_pushed x [] os e = refl
 merged_pushed x (d ∷ ds) [] e = absurd (omega (arith, e))
 merged_pushed x (d ∷ ds) (o ∷ os) e = omega (arith, merged_pushed x ds os (omega (arith, e)))
 
-merged_got : (x : ℕ) (ds : List DequeValue) (os : List OtherValue) → length os ≡ length ds → total (λ (d : DequeValue). times x d.got) (merged ds os) ≡ total (λ (d : DequeValue). times x d.got) ds + times x (all_got os)
+merged_got : (x : ℕ) (ds : List DequeValue) (os : List OtherValue) → length os ≡ length ds → total (λ (d : DequeValue). times x d.got) (deques_with ds os) ≡ total (λ (d : DequeValue). times x d.got) ds + times x (all_got os)
 merged_got x [] [] e = refl
 merged_got x [] (o ∷ os) e = absurd (omega (arith, e))
 merged_got x (d ∷ ds) [] e = absurd (omega (arith, e))
 merged_got x (d ∷ ds) (o ∷ os) e = omega (arith, merged_got x ds os (omega (arith, e)), times_append x d.got o.got, times_append x o.got (all_got os))
 
-merged_unmarked : (ds : List DequeValue) (os : List OtherValue) → unmarked (merged ds os) ≤ unmarked ds
+merged_unmarked : (ds : List DequeValue) (os : List OtherValue) → unmarked_count (deques_with ds os) ≤ unmarked_count ds
 merged_unmarked [] os = omega arith
 merged_unmarked (d ∷ ds) [] = omega arith
 merged_unmarked (d ∷ ds) (o ∷ os) = omega (arith, merged_unmarked ds os, still_marked d.marks_got o.marks_got)
 
-merged_append : (ds es : List DequeValue) (os : List OtherValue) → merged (ds ++ es) os ≡ merged ds os ++ merged es (drop (length ds) os)
+merged_append : (ds es : List DequeValue) (os : List OtherValue) → deques_with (ds ++ es) os ≡ deques_with ds os ++ deques_with es (drop (length ds) os)
 merged_append [] es os = refl
 merged_append (d ∷ ds) [] [] = refl
 merged_append (d ∷ ds) (e ∷ es) [] = refl
 merged_append (d ∷ ds) es (o ∷ os) = ap (λ fs. with_back d o ∷ fs) (merged_append ds es os)
 
-length_merged : (ds : List DequeValue) (os : List OtherValue) → length ds ≤ length os → length (merged ds os) ≡ length ds
+length_merged : (ds : List DequeValue) (os : List OtherValue) → length ds ≤ length os → length (deques_with ds os) ≡ length ds
 length_merged [] os le = refl
 length_merged (d ∷ ds) [] le = absurd (omega (arith, le))
 length_merged (d ∷ ds) (o ∷ os) le = ap suc (length_merged ds os (omega (arith, le)))
@@ -446,7 +446,7 @@ pub record IsReuniting (first : List DequeValue) (all : List (List OtherValue)) 
   pub waiting_parts : All (λ (d : DequeValue). d.parts ≡ length back + 1) waiting
   pub pushed : (x : ℕ) → total (λ (d : DequeValue). times x d.pushed) deques ≡ total (λ (d : DequeValue). times x d.pushed) first
   pub got : (x : ℕ) → total (λ (d : DequeValue). times x d.got) deques ≡ total (λ (d : DequeValue). times x d.got) first + total (λ (os : List OtherValue). times x (all_got os)) gone
-  pub closed : unmarked deques ≤ unmarked first
+  pub closed : unmarked_count deques ≤ unmarked_count first
 
 pub reuniting_begins : (first : List DequeValue) (all : List (List OtherValue)) → length all ≡ length first → All (λ (d : DequeValue). d.parts ≡ 1) first → IsReuniting first all first all
 reuniting_begins first all count parts = record {
@@ -546,38 +546,38 @@ module _ (first : List DequeValue) (all : List (List OtherValue)) (deques : List
       ∙ ap (λ ds. take (length own) (map (λ (d : DequeValue). d.name) ds)) (sym back_split)
 
   abbrev knowing : List DequeValue
-  knowing = merged (h.back ++ wait) own
+  knowing = deques_with (h.back ++ wait) own
 
-  pub after_split : (after : List DequeValue) → after ≡ merged deques own ++ drop (length own) deques → after ≡ knowing ++ its ∷ []
-  after_split after after_is = after_is ∙ ap (λ ds. merged ds own ++ drop (length own) ds) back_split ∙ merged_front (h.back ++ wait) (its ∷ []) own own_count
+  pub after_split : (after : List DequeValue) → after ≡ deques_with deques own ++ drop (length own) deques → after ≡ knowing ++ its ∷ []
+  after_split after after_is = after_is ∙ ap (λ ds. deques_with ds own ++ drop (length own) ds) back_split ∙ merged_front (h.back ++ wait) (its ∷ []) own own_count
 
-  pub some_after : (after : List DequeValue) → after ≡ merged deques own ++ drop (length own) deques → 1 ≤ length after
+  pub some_after : (after : List DequeValue) → after ≡ deques_with deques own ++ drop (length own) deques → 1 ≤ length after
   some_after after after_is = omega (arith, ap length (after_split after after_is), length-append knowing (its ∷ []))
 
-  pub reuniting_next : (after turned : List DequeValue) → after ≡ merged deques own ++ drop (length own) deques → turned ≡ drop (length after - 1) after ++ take (length after - 1) after → IsReuniting first all turned front
+  pub reuniting_next : (after turned : List DequeValue) → after ≡ deques_with deques own ++ drop (length own) deques → turned ≡ drop (length after - 1) after ++ take (length after - 1) after → IsReuniting first all turned front
   reuniting_next after turned after_is turned_is =
       let split = after_split after after_is in
       let place : length after - 1 ≡ length knowing = omega (arith, ap length split, length-append knowing (its ∷ [])) in
       let turned_split : turned ≡ its ∷ knowing = turned_is ∙ (λ i. drop (place i) (split i) ++ take (place i) (split i)) ∙ rotated knowing its (length knowing) refl in
-      let both : knowing ≡ merged h.back own ++ merged wait (drop (length h.back) own) = merged_append h.back wait own in
+      let both : knowing ≡ deques_with h.back own ++ deques_with wait (drop (length h.back) own) = merged_append h.back wait own in
       let enough : length h.back ≤ length own = omega (arith, own_count, length-append h.back wait) in
-      let back_count : length (merged h.back own) ≡ length h.back = length_merged h.back own enough in
+      let back_count : length (deques_with h.back own) ≡ length h.back = length_merged h.back own enough in
       let its_parts : its.parts ≡ length h.back + 1 = last_holds (λ (d : DequeValue). d.parts ≡ length h.back + 1) wait (subst (All (λ (d : DequeValue). d.parts ≡ length h.back + 1)) wait_is h.waiting_parts) in
-      let now_count : length (its ∷ merged h.back own) ≡ length h.back + 1 = omega (arith, back_count) in
-      let back_names : map (λ (d : DequeValue). d.name) (merged h.back own) ≡ map (λ (d : DequeValue). d.name) h.back = front_names h.back own enough in
-      let wait_names : map (λ (d : DequeValue). d.name) (merged wait (drop (length h.back) own)) ≡ map (λ (d : DequeValue). d.name) wait =
+      let now_count : length (its ∷ deques_with h.back own) ≡ length h.back + 1 = omega (arith, back_count) in
+      let back_names : map (λ (d : DequeValue). d.name) (deques_with h.back own) ≡ map (λ (d : DequeValue). d.name) h.back = front_names h.back own enough in
+      let wait_names : map (λ (d : DequeValue). d.name) (deques_with wait (drop (length h.back) own)) ≡ map (λ (d : DequeValue). d.name) wait =
       merged_names wait (drop (length h.back) own) (omega (arith, dropped h.back own enough, own_count, length-append h.back wait)) in
       record {
-        back = its ∷ merged h.back own;
-        waiting = merged wait (drop (length h.back) own);
+        back = its ∷ deques_with h.back own;
+        waiting = deques_with wait (drop (length h.back) own);
         gone = own ∷ h.gone;
         deques_are = turned_split ∙ ap (λ ds. its ∷ ds) both;
         all_are = all_split;
-        names = map-append (λ (d : DequeValue). d.name) (merged wait (drop (length h.back) own)) (its ∷ merged h.back own) ∙ (λ i. wait_names i ++ (its.name ∷ back_names i)) ∙ sym first_split;
-        count = sym (length_names (merged wait (drop (length h.back) own))) ∙ ap length wait_names ∙ length_names wait ∙ wait_count;
-        back_parts = subst (λ (n : ℕ). All (λ (d : DequeValue). d.parts ≡ n) (its ∷ merged h.back own)) (sym now_count)
-            (All-cons (λ (d : DequeValue). d.parts ≡ length h.back + 1) its (merged h.back own) its_parts (merged_parts (length h.back) h.back own h.back_parts));
-        waiting_parts = subst (λ (n : ℕ). All (λ (d : DequeValue). d.parts ≡ n + 1) (merged wait (drop (length h.back) own))) (sym now_count)
+        names = map-append (λ (d : DequeValue). d.name) (deques_with wait (drop (length h.back) own)) (its ∷ deques_with h.back own) ∙ (λ i. wait_names i ++ (its.name ∷ back_names i)) ∙ sym first_split;
+        count = sym (length_names (deques_with wait (drop (length h.back) own))) ∙ ap length wait_names ∙ length_names wait ∙ wait_count;
+        back_parts = subst (λ (n : ℕ). All (λ (d : DequeValue). d.parts ≡ n) (its ∷ deques_with h.back own)) (sym now_count)
+            (All-cons (λ (d : DequeValue). d.parts ≡ length h.back + 1) its (deques_with h.back own) its_parts (merged_parts (length h.back) h.back own h.back_parts));
+        waiting_parts = subst (λ (n : ℕ). All (λ (d : DequeValue). d.parts ≡ n + 1) (deques_with wait (drop (length h.back) own))) (sym now_count)
             (merged_parts (length h.back + 1) wait (drop (length h.back) own) (front_holds (λ (d : DequeValue). d.parts ≡ length h.back + 1) wait (subst (All (λ (d : DequeValue). d.parts ≡ length h.back + 1)) wait_is h.waiting_parts)));
         pushed = λ x. omega (
           arith,
@@ -597,9 +597,9 @@ module _ (first : List DequeValue) (all : List (List OtherValue)) (deques : List
         );
         closed = omega (
           arith,
-          ap unmarked turned_split,
+          ap unmarked_count turned_split,
           merged_unmarked (h.back ++ wait) own,
-          ap unmarked back_split,
+          ap unmarked_count back_split,
           total_snoc (λ (d : DequeValue). unmarked_one d.marks_got) (h.back ++ wait) its,
           h.closed,
         );
@@ -613,7 +613,7 @@ module _ (first : List DequeValue) (all : List (List OtherValue)) (deques : List
       front_holds P [] f = All-nil P
       front_holds P (d ∷ ds) f = All-cons P d ds (All-head P d (ds ++ its ∷ []) f) (front_holds P ds (All-tail P d (ds ++ its ∷ []) f))
 
-      front_names : (ds : List DequeValue) (os : List OtherValue) → length ds ≤ length os → map (λ (d : DequeValue). d.name) (merged ds os) ≡ map (λ (d : DequeValue). d.name) ds
+      front_names : (ds : List DequeValue) (os : List OtherValue) → length ds ≤ length os → map (λ (d : DequeValue). d.name) (deques_with ds os) ≡ map (λ (d : DequeValue). d.name) ds
       front_names [] os le = refl
       front_names (d ∷ ds) [] le = absurd (omega (arith, le))
       front_names (d ∷ ds) (o ∷ os) le = ap (λ ns. d.name ∷ ns) (front_names ds os (omega (arith, le)))
@@ -699,7 +699,7 @@ pub are_empty : (n : ℕ) (ns : List DequeName) → All (λ (d : DequeValue). d 
 are_empty n [] = All-nil (λ (d : DequeValue). d ≡ empty_deque n d.name)
 are_empty n (m ∷ ms) = All-cons (λ (d : DequeValue). d ≡ empty_deque n d.name) (empty_deque n m) (map (empty_deque n) ms) refl (are_empty n ms)
 
-pub stacked_length : (names : List DequeName) (count : ℕ) → length (stacked names count) ≡ count
+pub stacked_length : (names : List DequeName) (count : ℕ) → length (stealer_lists names count) ≡ count
 stacked_length names count = length-map (range_with_len 0 count) (λ (i : ℕ). map new_other (others_at names (length names - 1 - i))) ∙ length-range_with_len 0 count
 
 pub next_name : (ys : List DequeValue) (x : DequeValue) (rest : List DequeValue)

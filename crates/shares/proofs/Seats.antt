@@ -11,9 +11,9 @@ use Rattle.shares.specs.declared.view.SeatStep.{SeatStep}
 use Rattle.shares.specs.declared.view.View.{View}
 use Rattle.shares.specs.declared.view.SeatStep.TheVariants.{Drew, Posted, SawLeast, SawNext}
 use Rattle.shares.specs.Steps.{bit, drew, drew_late, late_draws, draws, shown_next, shown_least, next_seen, least_seen}
-use Rattle.shares.specs.Board.{known, with_step, DrewBelow}
-use Rattle.shares.specs.Moves.{joined}
-use Rattle.shares.specs.Seats.{BoardName, SeatValue, all_steps, took, taken, all_taken, times, IsFirstUndrawn, AreDrawnOnce, AreTakenOnce}
+use Rattle.shares.specs.Board.{view_of, with_step, DrewBelow}
+use Rattle.shares.specs.Moves.{joint_view}
+use Rattle.shares.specs.Seats.{BoardName, SeatValue, all_steps, took, taken_blocks, all_taken, times, IsFirstUndrawn, AreDrawnOnce, AreTakenOnce}
 use Rattle.shares.proofs.Lists.{total_snoc, total_append, total_parts, greatest_append, least_append}
 
 -- a seat's token after one step
@@ -39,13 +39,13 @@ all_middle P xs ys all x e h =
     subst P (get_or_from_slice_get all (length xs) x x at) (h (length xs) x (slice_get_within all (length xs) x at))
 
 -- the seat that takes in one more of those seats
-pub takes_next : (taken : List SeatValue) (seat : SeatValue) (me token after : Me (Unit {0}) View) → me ≡ (known (length taken) (all_steps taken), []) → token.0.parts ≡ 1 → token.0.steps ≡ seat.steps
-    → after ≡ (joined me.0 token.0, me.1) → after ≡ (known (length (taken ++ seat ∷ [])) (all_steps (taken ++ seat ∷ [])), [])
-takes_next taken seat me token after known_so_far one_part same_steps e =
-    let parts : length taken + token.0.parts ≡ length (taken ++ seat ∷ []) = omega (arith, length-append taken (seat ∷ [])) in
-    let steps : all_steps taken ++ token.0.steps ≡ all_steps (taken ++ seat ∷ []) =
-    ap (λ (s : List SeatStep). all_steps taken ++ s) (same_steps ∙ sym (append-nil seat.steps)) ∙ sym (flat_map-append (λ (s : SeatValue). s.steps) taken (seat ∷ [])) in
-    e ∙ ap (λ (m : Me (Unit {0}) View). (joined m.0 token.0, m.1)) known_so_far ∙ (λ i. (known (parts i) (steps i), []))
+pub takes_next : (taken_blocks : List SeatValue) (seat : SeatValue) (me token after : Me (Unit {0}) View) → me ≡ (view_of (length taken_blocks) (all_steps taken_blocks), []) → token.0.parts ≡ 1 → token.0.steps ≡ seat.steps
+    → after ≡ (joint_view me.0 token.0, me.1) → after ≡ (view_of (length (taken_blocks ++ seat ∷ [])) (all_steps (taken_blocks ++ seat ∷ [])), [])
+takes_next taken_blocks seat me token after known_so_far one_part same_steps e =
+    let parts : length taken_blocks + token.0.parts ≡ length (taken_blocks ++ seat ∷ []) = omega (arith, length-append taken_blocks (seat ∷ [])) in
+    let steps : all_steps taken_blocks ++ token.0.steps ≡ all_steps (taken_blocks ++ seat ∷ []) =
+    ap (λ (s : List SeatStep). all_steps taken_blocks ++ s) (same_steps ∙ sym (append-nil seat.steps)) ∙ sym (flat_map-append (λ (s : SeatValue). s.steps) taken_blocks (seat ∷ [])) in
+    e ∙ ap (λ (m : Me (Unit {0}) View). (joint_view m.0 token.0, m.1)) known_so_far ∙ (λ i. (view_of (parts i) (steps i), []))
 
 pub first_undrawn : (blocks next : ℕ) (steps : List SeatStep) → next < blocks → DrewBelow next (λ b. draws b steps) → IsFirstUndrawn blocks steps next
 first_undrawn blocks next steps lt drew_below = record { there = lt; undrawn = (drew_below next).1 (omega arith); before = λ b below. (drew_below b).0 below }
@@ -164,9 +164,9 @@ all_as_drawn : (board : BoardName) (b : ℕ) (seats : List SeatValue) → b < bo
 all_as_drawn board b [] lt own = refl
 all_as_drawn board b (seat ∷ seats) lt own =
     let here : seat.board ≡ board = own 0 seat (omega arith) in
-    let first : times b (taken seat) ≡ draws b seat.steps = ap (λ (n : BoardName). times b (filter_map (took n.blocks) seat.steps)) here ∙ taken_as_drawn board.blocks b seat.steps lt in
+    let first : times b (taken_blocks seat) ≡ draws b seat.steps = ap (λ (n : BoardName). times b (filter_map (took n.blocks) seat.steps)) here ∙ taken_as_drawn board.blocks b seat.steps lt in
     let rest = all_as_drawn board b seats lt (λ i d within. own (suc i) d (omega (arith, within))) in
-    omega (arith, times_append b (taken seat) (all_taken seats), total_append (drew b) seat.steps (all_steps seats))
+    omega (arith, times_append b (taken_blocks seat) (all_taken seats), total_append (drew b) seat.steps (all_steps seats))
 
 pub all_taken_once : (board : BoardName) (seats : List SeatValue) → All (λ (s : SeatValue). s.board ≡ board) seats → AreDrawnOnce board.blocks (all_steps seats) → AreTakenOnce board.blocks seats
 all_taken_once board seats own drawn_once = record { once = λ b lt. all_as_drawn board b seats lt own ∙ drawn_once.once b lt }

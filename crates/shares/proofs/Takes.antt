@@ -5,7 +5,7 @@ use Rattle.std.proofs.lemmas.List.Elements.{All-append}
 use Rattle.shares.specs.declared.view.SeatStep.{SeatStep}
 use Rattle.shares.specs.declared.view.SeatStep.TheVariants.{Drew}
 use Rattle.shares.specs.Steps.{posted_it, late_draws}
-use Rattle.shares.specs.Seats.{SeatValue, DrawsNone, taken, times}
+use Rattle.shares.specs.Seats.{SeatValue, DrawsNone, taken_blocks, times}
 use Rattle.shares.specs.declared.deque.Phase.{Phase}
 use Rattle.shares.specs.declared.deque.Phase.TheVariants.{Open, Closing, Closed, Refused}
 use Rattle.shares.specs.Hands.{HandValue, FitsMarks, is_open, HasMore, PostsNothing, GivesOwn, KeepsBlock, IsStocked, IsTake}
@@ -36,7 +36,7 @@ pub stocked_self : (hand : HandValue) (seat : SeatValue) → IsStocked 0 hand se
 stocked_self hand seat = record {
   drawn = [];
   pushed = [];
-  draws = sym (append-nil (taken seat));
+  draws = sym (append-nil (taken_blocks seat));
   few = omega arith;
   pushes = sym (append-nil hand.pushed);
   gets = refl;
@@ -44,7 +44,7 @@ stocked_self hand seat = record {
   quiet = posts_none seat.steps;
 }
 
-pub stocked_seen : (most more : ℕ) (hand now : HandValue) (seat seen after : SeatValue) → IsStocked most hand seat now seen → most ≤ more → taken after ≡ taken seen → PostsNothing seat.steps after.steps → IsStocked more hand seat now after
+pub stocked_seen : (most more : ℕ) (hand now : HandValue) (seat seen after : SeatValue) → IsStocked most hand seat now seen → most ≤ more → taken_blocks after ≡ taken_blocks seen → PostsNothing seat.steps after.steps → IsStocked more hand seat now after
 stocked_seen most more hand now seat seen after h le same quiet = record {
   drawn = h.drawn;
   pushed = h.pushed;
@@ -56,7 +56,7 @@ stocked_seen most more hand now seat seen after h le same quiet = record {
   quiet = quiet;
 }
 
-pub stocked_more : (most : ℕ) (hand now next : HandValue) (seat seen after : SeatValue) (block : ℕ) → IsStocked most hand seat now seen → taken after ≡ taken seen ++ block ∷ [] → KeepsBlock now block next → PostsNothing seat.steps after.steps
+pub stocked_more : (most : ℕ) (hand now next : HandValue) (seat seen after : SeatValue) (block : ℕ) → IsStocked most hand seat now seen → taken_blocks after ≡ taken_blocks seen ++ block ∷ [] → KeepsBlock now block next → PostsNothing seat.steps after.steps
     → IsStocked (most + 1) hand seat next after
 stocked_more most hand now next seat seen after block h drew keeps quiet = ⊎_elim
     (λ (k : (next.pushed ≡ now.pushed ++ block ∷ []) × (next.list ≡ now.list)).
@@ -83,8 +83,8 @@ stocked_more most hand now next seat seen after block h drew keeps quiet = ⊎_e
     })
     keeps.1
   where
-    draws : taken after ≡ taken seat ++ (h.drawn ++ block ∷ [])
-    draws = drew ∙ ap (λ (s : List ℕ). s ++ block ∷ []) h.draws ∙ append_assoc (taken seat) h.drawn (block ∷ [])
+    draws : taken_blocks after ≡ taken_blocks seat ++ (h.drawn ++ block ∷ [])
+    draws = drew ∙ ap (λ (s : List ℕ). s ++ block ∷ []) h.draws ∙ append_assoc (taken_blocks seat) h.drawn (block ∷ [])
 
     few : length (h.drawn ++ block ∷ []) ≤ most + 1
     few = omega (arith, h.few, length-append h.drawn (block ∷ []))
@@ -116,7 +116,7 @@ take_own hand after seat block own = ⊎_elim
       drawn = [];
       pushed = [];
       got = [];
-      draws = sym (append-nil (taken seat));
+      draws = sym (append-nil (taken_blocks seat));
       few = omega arith;
       pushes = own.0 ∙ sym (append-nil hand.pushed);
       gets = λ x. omega (arith, ap (times x) k.1);
@@ -129,7 +129,7 @@ take_own hand after seat block own = ⊎_elim
       drawn = [];
       pushed = [];
       got = block ∷ [];
-      draws = sym (append-nil (taken seat));
+      draws = sym (append-nil (taken_blocks seat));
       few = omega arith;
       pushes = own.0 ∙ sym (append-nil hand.pushed);
       gets = k.1;
@@ -139,13 +139,13 @@ take_own hand after seat block own = ⊎_elim
     })
     own.1
 
-pub take_drawn : (hand now after : HandValue) (seat drew done : SeatValue) (block : ℕ) → now ≡ hand → taken drew ≡ taken seat ++ block ∷ [] → PostsNothing seat.steps drew.steps → IsStocked 3 now drew after done
+pub take_drawn : (hand now after : HandValue) (seat drew done : SeatValue) (block : ℕ) → now ≡ hand → taken_blocks drew ≡ taken_blocks seat ++ block ∷ [] → PostsNothing seat.steps drew.steps → IsStocked 3 now drew after done
     → IsTake hand seat (block ∷ []) after done
 take_drawn hand now after seat drew done block same draw quiet h = record {
   drawn = block ∷ h.drawn;
   pushed = h.pushed;
   got = [];
-  draws = h.draws ∙ ap (λ (s : List ℕ). s ++ h.drawn) draw ∙ append_assoc (taken seat) (block ∷ []) h.drawn;
+  draws = h.draws ∙ ap (λ (s : List ℕ). s ++ h.drawn) draw ∙ append_assoc (taken_blocks seat) (block ∷ []) h.drawn;
   few = omega (arith, h.few);
   pushes = h.pushes ∙ ap (λ (v : HandValue). v.pushed ++ h.pushed) same;
   gets = λ x. omega (arith, ap (times x) h.gets, ap (λ (v : HandValue). times x v.got) same);
@@ -158,7 +158,7 @@ take_drawn hand now after seat drew done block same draw quiet h = record {
   };
 }
 
-pub take_stolen : (hand now after : HandValue) (seat seen : SeatValue) (answer : Option ℕ) → now ≡ hand → taken seen ≡ taken seat → PostsNothing seat.steps seen.steps
+pub take_stolen : (hand now after : HandValue) (seat seen : SeatValue) (answer : Option ℕ) → now ≡ hand → taken_blocks seen ≡ taken_blocks seat → PostsNothing seat.steps seen.steps
     → IfNone answer (after ≡ now) → IfSome answer (λ block. (after.list ≡ now.list) × (after.pushed ≡ now.pushed) × HasMore now.got (block ∷ []) after.got)
     → IsTake hand seat (option_to_list answer) after seen
 take_stolen hand now after seat seen None same drew quiet none some =
@@ -167,7 +167,7 @@ take_stolen hand now after seat seen None same drew quiet none some =
       drawn = [];
       pushed = [];
       got = [];
-      draws = drew ∙ sym (append-nil (taken seat));
+      draws = drew ∙ sym (append-nil (taken_blocks seat));
       few = omega arith;
       pushes = ap (λ (v : HandValue). v.pushed) is ∙ sym (append-nil hand.pushed);
       gets = λ x. omega (arith, ap (λ (v : HandValue). times x v.got) is);
@@ -179,7 +179,7 @@ take_stolen hand now after seat seen (Some block) same drew quiet none some = re
   drawn = [];
   pushed = [];
   got = block ∷ [];
-  draws = drew ∙ sym (append-nil (taken seat));
+  draws = drew ∙ sym (append-nil (taken_blocks seat));
   few = omega arith;
   pushes = some.1 ∙ ap (λ (v : HandValue). v.pushed) same ∙ sym (append-nil hand.pushed);
   gets = λ x. omega (arith, some.2 x, ap (λ (v : HandValue). times x v.got) same);

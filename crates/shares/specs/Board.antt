@@ -8,12 +8,12 @@ use Rattle.shares.specs.declared.view.View.{View}
 use Rattle.shares.specs.declared.view.Limits.{Limits}
 use Rattle.shares.specs.Steps.{total, least_of, draws, late_draws, none_posted, least_posted, next_seen, least_seen, posts, finds}
 
-abbrev pub known : ℕ → List SeatStep → View
-known parts steps = record { parts = parts; steps = steps }
+abbrev pub view_of : ℕ → List SeatStep → View
+view_of parts steps = record { parts = parts; steps = steps }
 
 -- the view after one more step
 abbrev pub with_step : View → SeatStep → View
-with_step v made = known v.parts (v.steps ++ made ∷ [])
+with_step v made = view_of v.parts (v.steps ++ made ∷ [])
 
 -- the blocks below n were drawn in those steps, each once, and no other number was
 abbrev pub DrewBelow : ℕ → (ℕ → ℕ) → Type 0

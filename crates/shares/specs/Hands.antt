@@ -4,7 +4,7 @@ use Rattle.shares.specs.declared.view.SeatStep.{SeatStep}
 use Rattle.shares.specs.declared.deque.Phase.{Phase}
 use Rattle.shares.specs.declared.deque.Phase.TheVariants.{Open, Closing, Closed, Refused}
 use Rattle.shares.specs.Steps.{posts, total}
-use Rattle.shares.specs.Seats.{SeatValue, taken, times}
+use Rattle.shares.specs.Seats.{SeatValue, taken_blocks, times}
 use Rattle.shares.specs.Deques.{DequeName}
 
 -- which deque a hand has, how many parts its port has, and from which other deques it steals, in order
@@ -111,7 +111,7 @@ KeepsBlock before block after =
 pub record IsStocked (most : ℕ) (before : HandValue) (seat : SeatValue) (after : HandValue) (seat_after : SeatValue) : Type 0 where
   pub drawn : List ℕ
   pub pushed : List ℕ
-  pub draws : taken seat_after ≡ taken seat ++ drawn
+  pub draws : taken_blocks seat_after ≡ taken_blocks seat ++ drawn
   pub few : length drawn ≤ most
   pub pushes : after.pushed ≡ before.pushed ++ pushed
   pub gets : after.got ≡ before.got
@@ -124,7 +124,7 @@ pub record IsTake (before : HandValue) (seat : SeatValue) (answer : List ℕ) (a
   pub drawn : List ℕ
   pub pushed : List ℕ
   pub got : List ℕ
-  pub draws : taken seat_after ≡ taken seat ++ drawn
+  pub draws : taken_blocks seat_after ≡ taken_blocks seat ++ drawn
   pub few : length drawn ≤ 4
   pub pushes : after.pushed ≡ before.pushed ++ pushed
   pub gets : HasMore before.got got after.got

@@ -21,18 +21,18 @@ abbrev pub with_less : DequeValue → DequeValue
 with_less d = deque_value d.name (port (d.parts - 1) d.pushed d.got d.marks_pushed d.marks_got)
 
 -- the stealers of the last so many hands, those of the last one first
-abbrev pub stacked : List DequeName → ℕ → List (List OtherValue)
-stacked names count = map (λ i. map new_other (others_at names (length names - 1 - i))) (range_with_len 0 count)
+abbrev pub stealer_lists : List DequeName → ℕ → List (List OtherValue)
+stealer_lists names count = map (λ i. map new_other (others_at names (length names - 1 - i))) (range_with_len 0 count)
 
 -- a deque that has taken a stealer back
 abbrev pub with_back : DequeValue → OtherValue → DequeValue
 with_back d o = deque_value d.name (port (d.parts + 1) d.pushed (d.got ++ o.got) d.marks_pushed (d.marks_got + o.marks_got))
 
 -- the deques, each with one of the stealers, as far as both go
-abbrev pub merged : List DequeValue → List OtherValue → List DequeValue
-merged [] os = []
-merged (d ∷ ds) [] = []
-merged (d ∷ ds) (o ∷ os) = with_back d o ∷ merged ds os
+abbrev pub deques_with : List DequeValue → List OtherValue → List DequeValue
+deques_with [] os = []
+deques_with (d ∷ ds) [] = []
+deques_with (d ∷ ds) (o ∷ os) = with_back d o ∷ deques_with ds os
 
 -- what stealers got
 abbrev pub all_got : List OtherValue → List ℕ
@@ -44,8 +44,8 @@ unmarked_one zero = 1
 unmarked_one (suc marks) = 0
 
 -- how many deques there are whose owner got no mark
-abbrev pub unmarked : List DequeValue → ℕ
-unmarked deques = total (λ (d : DequeValue). unmarked_one d.marks_got) deques
+abbrev pub unmarked_count : List DequeValue → ℕ
+unmarked_count deques = total (λ (d : DequeValue). unmarked_one d.marks_got) deques
 
 -- the hands so far: each has its deque by one part, and steals from all others
 pub record AreMet (names : List DequeName) (hands : List HandValue) : Type 0 where
@@ -61,7 +61,7 @@ pub record AreApart (hands : List HandValue) (left : List ℕ) (deques : List De
   pub pushed : (x : ℕ) → total (λ (d : DequeValue). times x d.pushed) deques ≡ total (λ (h : HandValue). times x h.pushed) hands
   pub got : (x : ℕ) → total (λ (d : DequeValue). times x d.got) deques + total (λ (os : List OtherValue). times x (all_got os)) others
       ≡ total (λ (h : HandValue). times x h.got) hands
-  pub closed : All IsShut hands → (left ≡ []) × (unmarked deques ≡ 0)
+  pub closed : All IsShut hands → (left ≡ []) × (unmarked_count deques ≡ 0)
 
 -- deques that have all their stealers back, and know what these got
 pub record AreWhole (workers : ℕ) (before : List DequeValue) (others : List (List OtherValue)) (after : List DequeValue) : Type 0 where
@@ -69,7 +69,7 @@ pub record AreWhole (workers : ℕ) (before : List DequeValue) (others : List (L
   pub pushed : (x : ℕ) → total (λ (d : DequeValue). times x d.pushed) after ≡ total (λ (d : DequeValue). times x d.pushed) before
   pub got : (x : ℕ) → total (λ (d : DequeValue). times x d.got) after
       ≡ total (λ (d : DequeValue). times x d.got) before + total (λ (os : List OtherValue). times x (all_got os)) others
-  pub closed : unmarked after ≤ unmarked before
+  pub closed : unmarked_count after ≤ unmarked_count before
 
 -- what deques pushed and did not get is behind the list now
 pub record AddsAllLeft (blocks : ℕ) (deques : List DequeValue) (before after : List ℕ) : Type 0 where
@@ -77,4 +77,4 @@ pub record AddsAllLeft (blocks : ℕ) (deques : List DequeValue) (before after :
   pub behind : after ≡ before ++ left
   pub together : (x : ℕ) → total (λ (d : DequeValue). times x d.pushed) deques ≡ total (λ (d : DequeValue). times x d.got) deques + times x left
   pub below : All (λ (x : ℕ). x < blocks) left
-  pub closed : unmarked deques ≡ 0 → left ≡ []
+  pub closed : unmarked_count deques ≡ 0 → left ≡ []

@@ -43,12 +43,12 @@ took blocks (Drew found) = if nat_le blocks found then None else Some found
 took blocks _ = None
 
 -- the blocks that a seat took, in order
-abbrev pub taken : SeatValue → List ℕ
-taken seat = filter_map (took seat.board.blocks) seat.steps
+abbrev pub taken_blocks : SeatValue → List ℕ
+taken_blocks seat = filter_map (took seat.board.blocks) seat.steps
 
 -- the blocks that those seats took
 abbrev pub all_taken : List SeatValue → List ℕ
-all_taken seats = flat_map taken seats
+all_taken seats = flat_map taken_blocks seats
 
 -- how often a number is in a list
 abbrev pub times : ℕ → List ℕ → ℕ

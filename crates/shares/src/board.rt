@@ -4,9 +4,9 @@ ghost use Rattle.std.specs.Prelude.{◌≡◌, ℕ, ◌+◌, ◌-◌, ◌<◌, �
 ghost use Rattle.base.specs.declared.causes.WorkCause.TheVariants.{PieceMissing, SeatsMissing};
 ghost use Rattle.shares.specs.declared.view.SeatStep.TheVariants.{Drew, Posted, SawLeast, SawNext};
 ghost use Rattle.shares.specs.Steps.{image_or_none, late_draws, least_posted, next_seen, least_seen};
-ghost use Rattle.shares.specs.Board.{known};
+ghost use Rattle.shares.specs.Board.{view_of};
 ghost use Rattle.shares.specs.Moves.{less_one};
-ghost use Rattle.shares.specs.Seats.{HasEnded, DrawsNone, all_steps, taken, IsFirstUndrawn, AreDrawnOnce, AreTakenOnce, FoundArePosted};
+ghost use Rattle.shares.specs.Seats.{HasEnded, DrawsNone, all_steps, taken_blocks, IsFirstUndrawn, AreDrawnOnce, AreTakenOnce, FoundArePosted};
 ghost use Rattle.base.specs.Refusals.{work_refusal};
 
 use crate::rule::{
@@ -132,10 +132,10 @@ impl Board {
         requires { seat.old.board ≡ self.now.name }
         ensures board { seat.new.board ≡ seat.old.board }
         ensures block { IfSome result (λ block. (block < self.now.name.blocks) × (seat.new.steps ≡ seat.old.steps ++ Drew block ∷ [])) }
-        ensures taken { IfSome result (λ block. taken seat.new ≡ taken seat.old ++ block ∷ []) }
+        ensures taken { IfSome result (λ block. taken_blocks seat.new ≡ taken_blocks seat.old ++ block ∷ []) }
         ensures rising { IfSome result (λ block. next_seen seat.old.steps ≤ block) }
         ensures none { IfNone result (DrawsNone seat.old seat.new) }
-        ensures none_taken { IfNone result (taken seat.new ≡ taken seat.old) }
+        ensures none_taken { IfNone result (taken_blocks seat.new ≡ taken_blocks seat.old) }
         ensures at_end { IfNone result (HasEnded seat.new) }
         ensures ended { HasEnded seat.old → result ≡ None }
     {
@@ -160,7 +160,7 @@ impl Board {
         requires image { image < 16777216 }
         ensures board { seat.new.board ≡ seat.old.board }
         ensures step { (found : ℕ) × (seat.new.steps ≡ seat.old.steps ++ Posted image found ∷ []) × (found ≤ least_seen seat.old.steps) }
-        ensures taken { taken seat.new ≡ taken seat.old }
+        ensures taken { taken_blocks seat.new ≡ taken_blocks seat.old }
     {
         self.table
             .shared
@@ -172,7 +172,7 @@ impl Board {
         requires { seat.old.board ≡ self.now.name }
         ensures board { seat.new.board ≡ seat.old.board }
         ensures step { (found : ℕ) × (result ≡ image_or_none found) × (seat.new.steps ≡ seat.old.steps ++ SawLeast found ∷ []) × (found ≤ least_seen seat.old.steps) }
-        ensures taken { taken seat.new ≡ taken seat.old }
+        ensures taken { taken_blocks seat.new ≡ taken_blocks seat.old }
     {
         let word = self.table.shared.load::<LoadLeast>(&mut seat.token, LEAST);
         image_in(word)
@@ -183,7 +183,7 @@ impl Board {
         requires { seat.old.board ≡ self.now.name }
         ensures board { seat.new.board ≡ seat.old.board }
         ensures step { (found : ℕ) × (result ≡ self.now.name.blocks - found) × (seat.new.steps ≡ seat.old.steps ++ SawNext found ∷ []) × (next_seen seat.old.steps ≤ found) }
-        ensures taken { taken seat.new ≡ taken seat.old }
+        ensures taken { taken_blocks seat.new ≡ taken_blocks seat.old }
     {
         let next = self.table.shared.load::<LoadNext>(&mut seat.token, NEXT);
         u64::from(self.blocks).saturating_sub(next) as u32
@@ -220,7 +220,7 @@ impl Board {
     fn together(&self, seats: Vec<Seat>) -> Token
         requires { All (λ s. s.board ≡ self.now.name) seats.items }
         ensures table { result.table_id ≡ self.now.name.table }
-        ensures whole { result.me ≡ (known (length seats.items) (all_steps seats.items), []) }
+        ensures whole { result.me ≡ (view_of (length seats.items) (all_steps seats.items), []) }
     {
         let (_next, mut whole) = self.table.shared.load_new_seat::<Enter>(NEXT);
         for seat in seats {

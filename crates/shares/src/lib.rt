@@ -48,7 +48,7 @@
 //!   step there.
 //! - `least` and `left` answer what their step found, which is never above, or below, what the seat
 //!   posted or saw before.
-//! - The blocks that a seat took are those that its draws gave (`taken`), and no other call takes one.
+//! - The blocks that a seat took are those that its draws gave (`taken_blocks`), and no other call takes one.
 //! - `gather` refuses with 73 at the number of seats that are missing, tested first, and with 71 at the
 //!   first block that nobody drew, exactly where there is one; where a draw of some seat found no block
 //!   left, there is none. Else each block was taken by one of those seats, once, and the answer is the

@@ -2,7 +2,7 @@
 
 ghost use Rattle.std.specs.Prelude.{◌≡◌, ◌<◌, ◌-◌, ◌++◌, [], length, map, take, drop, All, IfOk, OnOk};
 ghost use Rattle.shares.specs.Hands.{AreLeft, AreTogether, IsEmptyHand, IsShut, AreOthers, some_refused};
-ghost use Rattle.shares.specs.Meeting.{empty_deque, new_other, with_less, stacked, merged, AreApart, AreWhole, AddsAllLeft};
+ghost use Rattle.shares.specs.Meeting.{empty_deque, new_other, with_less, stealer_lists, deques_with, AreApart, AreWhole, AddsAllLeft};
 
 use crate::deque::Deal;
 use crate::hand::Hand;
@@ -47,7 +47,7 @@ fn all_others<H: Deal>(
 ) -> Result<Vec<Vec<Other<H>>>, AllocError>
     requires empty { deques.old.items ≡ map (empty_deque (length deques.old.items)) (map (λ d. d.name) deques.old.items) }
     ensures deques { OnOk result (deques.new.items ≡ map (empty_deque 1) (map (λ d. d.name) deques.old.items)) }
-    ensures others { IfOk result (λ others. map (λ v. v.items) others.items ≡ stacked (map (λ d. d.name) deques.old.items) (length deques.old.items)) }
+    ensures others { IfOk result (λ others. map (λ v. v.items) others.items ≡ stealer_lists (map (λ d. d.name) deques.old.items) (length deques.old.items)) }
 {
     let count = deques.len();
     let mut others = Vec::with_capacity(alloc, count)?;
@@ -107,7 +107,7 @@ fn take_apart<H: Deal>(alloc: Global, hands: Vec<Hand<H>>) -> Result<Apart<H>, A
 /// Gives deques their stealers back, one each, as far as there are some.
 fn take_back<H: Deal>(deques: &mut Vec<Deque<H>>, others: Vec<Other<H>>)
     requires names { map (λ o. o.name) others.items ≡ take (length others.items) (map (λ d. d.name) deques.old.items) }
-    ensures { deques.new.items ≡ merged deques.old.items others.items ++ drop (length others.items) deques.old.items }
+    ensures { deques.new.items ≡ deques_with deques.old.items others.items ++ drop (length others.items) deques.old.items }
 {
     let mut place = 0;
     for other in others {

@@ -1,7 +1,7 @@
 //! The rule of a board's words, and what each kind of step tells the seat that makes it.
 
 ghost use Rattle.shares.specs.Board.{BoardRule};
-ghost use Rattle.shares.specs.Moves.{opened, one_part, less_one, joined, newcomer, drawn, posted, saw_least, saw_next, entered, learned_next, learned_least};
+ghost use Rattle.shares.specs.Moves.{first_view, one_part, less_one, joint_view, newcomer, draw_move, post_move, saw_least, saw_next, enter_move, learned_next, learned_least};
 
 use crate::view::{Limits, View};
 use atomic_table::{Join, Play, Split, TableRule};
@@ -12,21 +12,21 @@ pub struct Rule;
 impl TableRule<(), View, Limits> for Rule {
     ghost holds = { BoardRule };
 
-    ghost first = { opened };
+    ghost first = { first_view };
 }
 
 /// A draw: one fetch_add of the next block.
 pub(crate) struct Draw;
 
 impl Play<(), View> for Draw {
-    ghost then = { drawn };
+    ghost then = { draw_move };
 }
 
 /// A post: one fetch_min of the least image.
 pub(crate) struct Post;
 
 impl Play<(), View> for Post {
-    ghost then = { posted };
+    ghost then = { post_move };
 }
 
 /// One load of the least image.
@@ -47,7 +47,7 @@ impl Play<(), View> for LoadNext {
 pub(crate) struct Enter;
 
 impl Play<(), View> for Enter {
-    ghost then = { entered };
+    ghost then = { enter_move };
 }
 
 /// The seat with every part learns which blocks were drawn.
@@ -77,7 +77,7 @@ impl Split<View> for OnePart {
 pub(crate) struct Together;
 
 impl Join<View> for Together {
-    ghost both = { joined };
+    ghost both = { joint_view };
 
     ghost spent = { newcomer };
 }

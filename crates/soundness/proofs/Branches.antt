@@ -21,11 +21,11 @@ use Rattle.bpf_isa.specs.declared.instr.Width.TheVariants as width
 use Rattle.bpf_isa.specs.declared.instr.Condition.{Condition}
 use Rattle.bpf_isa.specs.declared.instr.Condition.TheVariants as cond
 use Rattle.helpers.specs.Answers.{sector_start}
-use Rattle.machine.specs.Arithmetic.{holds, compared}
+use Rattle.machine.specs.Arithmetic.{holds, condition_holds}
 use Rattle.machine.specs.State.{State, word}
 use Rattle.machine.specs.Step as step
 use Rattle.bpf_isa.specs.Slots.{at, target_slot}
-use Rattle.machine.specs.Step.{source_registers, branch_slot, checks, effect, step_of, tested, go_to, Next}
+use Rattle.machine.specs.Step.{source_registers, branch_slot, checks, effect, step_of, after_checks, go_to, Next}
 use Rattle.intervals.specs.Reducing.{Limits, HasWord}
 use Rattle.intervals.specs.SignedEdges.{limits_refined}
 use Rattle.intervals.proofs.Outcomes.{refined_has}
@@ -34,7 +34,7 @@ use Rattle.ranges.specs.Kinds.{Kind, Unset, Num, SectorOrNull, is_unset}
 use Rattle.ranges.specs.States.{Abstract}
 use Rattle.ranges.specs.Reading.{value, second, are_set, with_value, words}
 use Rattle.ranges.specs.Rules.{rules, compares, is_null_test, is_wide, is_equality, is_zero, may_be_null}
-use Rattle.ranges.specs.Passing.{passes, edge_of, with_both, with_second, tested_kind, is_equal_edge, sent}
+use Rattle.ranges.specs.Passing.{passes, edge_of, with_both, with_second, tested_kind, is_equal_edge, passed_state}
 use Rattle.soundness.specs.Meaning.{Describes, Means}
 use Rattle.soundness.specs.Laws.{Arrives}
 use Rattle.soundness.proofs.Checks.{pass_one, pass_two, two_tell, tested_passes, and_parts}
@@ -106,7 +106,7 @@ zero_second m (source.Immediate (negsuc n)) e = absurd (let bad : false ≡ true
 
 -- which edge a null test takes
 equal_holds : (c : Condition) (a b : ℕ) (taken : Bool) → (c ≡ cond.Eq) ⊎ (c ≡ cond.Ne) → holds width.W64 c a b ≡ taken → (a == b) ≡ is_equal_edge c taken
-unfolding holds compared
+unfolding holds condition_holds
 equal_holds cond.Eq a b taken e h = h
 equal_holds cond.Ne a b taken e h = by (a == b) h
   where
@@ -204,10 +204,10 @@ arrives_right sectors [] ys t a = a
 arrives_right sectors (x ∷ xs) ys t a = inr (arrives_right sectors xs ys t a)
 
 arrives_sent : (sectors : ℕ) (m : Parts) (slot : ℕ) (passed : Option Abstract) → Edge sectors m passed
-    → Arrives sectors (sent slot passed) (machine (record { slot = slot; registers = m.registers; below = m.below; caller = m.caller; stack = m.stack; turns = m.turns; codes = m.codes }))
+    → Arrives sectors (passed_state slot passed) (machine (record { slot = slot; registers = m.registers; below = m.below; caller = m.caller; stack = m.stack; turns = m.turns; codes = m.codes }))
 arrives_sent sectors m slot passed e =
     let to : Parts = record { slot = slot; registers = m.registers; below = m.below; caller = m.caller; stack = m.stack; turns = m.turns; codes = m.codes } in
-    subst (λ o. Arrives sectors (sent slot o) (machine to)) (sym e.is) (inl (refl, covers_machine sectors e.state to e.stands))
+    subst (λ o. Arrives sectors (passed_state slot o) (machine to)) (sym e.is) (inl (refl, covers_machine sectors e.state to e.stands))
 
 pub branch_goes : (program : List (Option Instr)) (context : List ℕ) (device : List (List ℕ)) (sectors : ℕ) (known : Abstract) (m : Parts) (w : Width) (c : Condition) (dst : ℕ) (from : Source) (distance : ℤ)
     → Site sectors known m → IsSourceInRange from → is_some (at program (m.slot + 1)) ≡ true → is_some (at program (target_slot m.slot distance)) ≡ true
@@ -221,14 +221,14 @@ branch_goes program context device sectors known m w c dst from distance site ra
     is = (two_tell cause.UnsetRegister cause.PointerAsNumber (are_set known (dst ∷ source_registers from)) (compares known w c dst from) keeps).0
 
     left : List (ℕ × Abstract)
-    left = sent (m.slot + 1) (edge_of known (instr.Branch w c dst from distance) false)
+    left = passed_state (m.slot + 1) (edge_of known (instr.Branch w c dst from distance) false)
 
     right : List (ℕ × Abstract)
-    right = sent (target_slot m.slot distance) (edge_of known (instr.Branch w c dst from distance) true)
+    right = passed_state (target_slot m.slot distance) (edge_of known (instr.Branch w c dst from distance) true)
 
     goes : (slot : ℕ) → is_some (at program slot) ≡ true
         → Arrives sectors (left ++ right) (machine (record { slot = slot; registers = m.registers; below = m.below; caller = m.caller; stack = m.stack; turns = m.turns; codes = m.codes }))
-        → Goes sectors m (left ++ right) (tested (machine m) (step.reads (machine m) (dst ∷ source_registers from) ∷ step.goes_on program slot ∷ []) (go_to slot (machine m)))
+        → Goes sectors m (left ++ right) (after_checks (machine m) (step.reads (machine m) (dst ∷ source_registers from) ∷ step.goes_on program slot ∷ []) (go_to slot (machine m)))
     goes slot begins arrives =
         let to : Parts = record { slot = slot; registers = m.registers; below = m.below; caller = m.caller; stack = m.stack; turns = m.turns; codes = m.codes } in
         let list_passes = pass_two fault.UnsetRegister fault.NoInstruction (list_all (λ r. is_some (get_or m.registers r None)) (dst ∷ source_registers from)) (is_some (at program slot))
@@ -238,7 +238,7 @@ branch_goes program context device sectors known m w c dst from distance site ra
         (goes_to sectors to (left ++ right) site.stands.words site.stands.cells site.turns arrives)
 
     by : (b : Bool) → holds w c (word (machine m) dst) (step.second (machine m) from) ≡ b
-        → Goes sectors m (left ++ right) (tested (machine m) (step.reads (machine m) (dst ∷ source_registers from) ∷ step.goes_on program (if b then target_slot m.slot distance else m.slot + 1) ∷ [])
+        → Goes sectors m (left ++ right) (after_checks (machine m) (step.reads (machine m) (dst ∷ source_registers from) ∷ step.goes_on program (if b then target_slot m.slot distance else m.slot + 1) ∷ [])
         (go_to (if b then target_slot m.slot distance else m.slot + 1) (machine m)))
     by true h = goes (target_slot m.slot distance) there
         (arrives_right sectors left right (machine (record { slot = target_slot m.slot distance; registers = m.registers; below = m.below; caller = m.caller; stack = m.stack; turns = m.turns; codes = m.codes }))
@@ -248,7 +248,7 @@ branch_goes program context device sectors known m w c dst from distance site ra
         (arrives_sent sectors m (m.slot + 1) (edge_of known (instr.Branch w c dst from distance) false) (edge_stands sectors known m w c dst from distance false site range is h)))
 
 pub jump_goes : (program : List (Option Instr)) (sectors : ℕ) (known : Abstract) (m : Parts) (slot : ℕ) → Site sectors known m → is_some (at program slot) ≡ true
-    → Goes sectors m ((slot, known) ∷ []) (tested (machine m) (step.goes_on program slot ∷ []) (go_to slot (machine m)))
+    → Goes sectors m ((slot, known) ∷ []) (after_checks (machine m) (step.goes_on program slot ∷ []) (go_to slot (machine m)))
 jump_goes program sectors known m slot site begins =
     let to : Parts = record { slot = slot; registers = m.registers; below = m.below; caller = m.caller; stack = m.stack; turns = m.turns; codes = m.codes } in
     subst (Goes sectors m ((slot, known) ∷ [])) (sym (tested_passes (machine m) (step.goes_on program slot ∷ []) (go_to slot (machine m)) (pass_one fault.NoInstruction (is_some (at program slot)) begins)))

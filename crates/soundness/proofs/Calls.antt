@@ -17,13 +17,13 @@ use Rattle.bpf_isa.specs.declared.instr.Instr.{Instr}
 use Rattle.helpers.specs.declared.device.Context.{Context}
 use Rattle.helpers.specs.declared.helper.Helper.{Helper}
 use Rattle.helpers.specs.declared.helper.Helper.TheVariants as helper
-use Rattle.helpers.specs.Answers.{sector_start, sector_answer, device_byte, copied, copy_answer, again_answer, report_answer, reported, one_if, zero_answer, mix_answer, same_answer}
+use Rattle.helpers.specs.Answers.{sector_start, sector_answer, device_byte, device_bytes, copy_answer, again_answer, report_answer, codes_after, one_if, zero_answer, mix_answer, same_answer}
 use Rattle.lanes.specs.Sector.{mix}
 use Rattle.machine.specs.State.{State, word, stack_start}
-use Rattle.machine.specs.Memory.{context_bytes, byte_at, all_mapped, all_in_stacks, stored}
+use Rattle.machine.specs.Memory.{context_bytes, byte_at, all_mapped, all_in_stacks, frames_with}
 use Rattle.machine.specs.Step as step
 use Rattle.bpf_isa.specs.Slots.{at}
-use Rattle.machine.specs.Step.{checks, effect, step_of, tested, Stepped, Next, call_checks, call_effect, is_length, is_limit, turns_here, counted}
+use Rattle.machine.specs.Step.{checks, effect, step_of, after_checks, Stepped, Next, call_checks, call_effect, is_length, is_limit, turns_here, count_turn}
 use Rattle.intervals.specs.Spans.{span, is_constant}
 use Rattle.intervals.specs.Reducing.{any_sign}
 use Rattle.ranges.specs.declared.place.Place.TheVariants as place
@@ -51,14 +51,14 @@ use Rattle.soundness.proofs.Computing.{Site, first_describes, rest_set}
 -- a machine whose counts or codes changed, behind an answer
 answers : (sectors : ℕ) (known : Abstract) (m : Parts) (list : List (Check MachineFault)) (k : Kind) (x : ℕ) (turns codes : List ℕ) → Site sectors known m
     → length turns ≡ 4096 → first_failing list ≡ None → x < 2 ^ 64 → Means sectors (number m) k (Some x)
-    → Goes sectors m ((m.slot + 1, after.answered known k) ∷ [])
-    (tested (machine m) list (step.answered (machine (record { slot = m.slot; registers = m.registers; below = m.below; caller = m.caller; stack = m.stack; turns = turns; codes = codes })) x))
+    → Goes sectors m ((m.slot + 1, after.after_answer known k) ∷ [])
+    (after_checks (machine m) list (step.answer_step (machine (record { slot = m.slot; registers = m.registers; below = m.below; caller = m.caller; stack = m.stack; turns = turns; codes = codes })) x))
 answers sectors known m list k x turns codes site long passes small means =
     let to : Parts = record { slot = m.slot + 1; registers = step.with_answer m.registers x; below = m.below; caller = m.caller; stack = m.stack; turns = turns; codes = codes } in
     let stands = answered_stands sectors (number m) known m.registers m.stack k x site.fits.registers small means site.stands in
     let from : State = machine (record { slot = m.slot; registers = m.registers; below = m.below; caller = m.caller; stack = m.stack; turns = turns; codes = codes }) in
-    subst (Goes sectors m ((m.slot + 1, after.answered known k) ∷ [])) (sym (tested_passes (machine m) list (step.answered from x) passes))
-    (goes_first sectors (after.answered known k) to [] stands long)
+    subst (Goes sectors m ((m.slot + 1, after.after_answer known k) ∷ [])) (sym (tested_passes (machine m) list (step.answer_step from x) passes))
+    (goes_first sectors (after.after_answer known k) to [] stands long)
 
 -- the checks of a call that reads these registers
 reads_pass : (program : List (Option Instr)) (sectors : ℕ) (known : Abstract) (m : Parts) (list : List ℕ) → Site sectors known m → are_set known list ≡ true → is_some (at program (m.slot + 1)) ≡ true
@@ -134,7 +134,7 @@ copy_most device position n = by (nat_le (position + n) (512 * length device))
     by false = omega arith
 
 -- the counts of `again`
-counted_long : (m : Parts) (n : ℕ) → length m.turns ≡ 4096 → length (counted (machine m) n) ≡ 4096
+counted_long : (m : Parts) (n : ℕ) → length m.turns ≡ 4096 → length (count_turn (machine m) n) ≡ 4096
 counted_long m n long = by (nat_lt (turns_here (machine m)) n)
   where
     by : (b : Bool) → length (if b then set m.turns m.slot (turns_here (machine m) + 1) else m.turns) ≡ 4096
@@ -143,8 +143,8 @@ counted_long m n long = by (nat_lt (turns_here (machine m)) n)
 
 -- copied bytes
 
-long_copied : (device : List (List ℕ)) (position n : ℕ) → length (copied device position n) ≡ n
-unfolding copied
+long_copied : (device : List (List ℕ)) (position n : ℕ) → length (device_bytes device position n) ≡ n
+unfolding device_bytes
 long_copied device position n = length-map (range_with_len position n) (device_byte device) ∙ length-range_with_len position n
 
 small_device : (device : List (List ℕ)) (i : ℕ) → ((n : ℕ) (sector : List ℕ) → slice_get device n ≡ Some sector → AreSmall sector) → device_byte device i < 256
@@ -160,22 +160,22 @@ small_mapped f [] h i = omega arith
 small_mapped f (x ∷ xs) h zero = h x
 small_mapped f (x ∷ xs) h (suc i) = small_mapped f xs h i
 
-small_copied : (device : List (List ℕ)) (position n : ℕ) → ((k : ℕ) (sector : List ℕ) → slice_get device k ≡ Some sector → AreSmall sector) → AreSmall (copied device position n)
-unfolding copied
+small_copied : (device : List (List ℕ)) (position n : ℕ) → ((k : ℕ) (sector : List ℕ) → slice_get device k ≡ Some sector → AreSmall sector) → AreSmall (device_bytes device position n)
+unfolding device_bytes
 small_copied device position n h = small_mapped (device_byte device) (range_with_len position n) (λ x. small_device device x h)
 
 -- copy to a place of the stack
 copies : (program : List (Option Instr)) (sectors : ℕ) (device : List (List ℕ)) (context : Context) (known : Abstract) (m : Parts) (p n : ℕ)
     → IsSetting program sectors device context → Site sectors known m → are_set known (1 ∷ 2 ∷ 3 ∷ []) ≡ true → is_length n ≡ true → word (machine m) 3 ≡ n
     → is_some (at program (m.slot + 1)) ≡ true → (word (machine m) 2 ≡ stack_start + 1024 * number m + p) × (p + n ≤ 512)
-    → Goes sectors m ((m.slot + 1, after.answered (with_groups known (written_at known.groups (place.Stack p) n)) (answer_kind helper.Copy)) ∷ [])
-    (tested (machine m) (call_checks program (byte_at (context_bytes context) device (all_frames m)) (machine m) helper.Copy) (call_effect device (machine m) helper.Copy))
+    → Goes sectors m ((m.slot + 1, after.after_answer (with_groups known (written_at known.groups (place.Stack p) n)) (answer_kind helper.Copy)) ∷ [])
+    (after_checks (machine m) (call_checks program (byte_at (context_bytes context) device (all_frames m)) (machine m) helper.Copy) (call_effect device (machine m) helper.Copy))
 unfolding call_checks call_effect
 copies program sectors device context known m p n set site is length_is count next lands =
     let w : ℕ = word (machine m) 3 in
     let a : ℕ = word (machine m) 2 in
     let position : ℕ = word (machine m) 1 in
-    let bytes : List ℕ = copied device position w in
+    let bytes : List ℕ = device_bytes device position w in
     let long : length bytes ≡ n = long_copied device position w ∙ count in
     let small : AreSmall bytes = small_copied device position w (λ k sector e. (set.whole k sector e).bytes) in
     let fits : p + w ≤ 512 = omega (arith, count, lands.1) in
@@ -184,7 +184,7 @@ copies program sectors device context known m p n set site is length_is count ne
     let less : Abstract = with_groups known groups in
     let k : Kind = answer_kind helper.Copy in
     let stack : List (Option ℕ) = filled m.stack p bytes in
-    let frames : stored (all_frames m) a bytes ≡ frames_of m.below m.caller stack = stored_is bytes m.below m.caller m.stack a p site.few.frames lands.0 (omega (arith, long, lands.1)) in
+    let frames : frames_with (all_frames m) a bytes ≡ frames_of m.below m.caller stack = stored_is bytes m.below m.caller m.stack a p site.few.frames lands.0 (omega (arith, long, lands.1)) in
     let stands : Stands sectors (number m) less m.registers stack = record {
       words = site.stands.words;
       cells = filled_is_stack bytes m.stack p small site.stands.cells;
@@ -200,11 +200,11 @@ copies program sectors device context known m p n set site is length_is count ne
     (reads_set sectors (number m) known m.registers (1 ∷ 2 ∷ 3 ∷ []) site.stands.values is) (ap is_length count ∙ length_is)
     (stack_mapped (context_bytes context) device m.below m.caller m.stack a p w site.few.frames site.stands.cells.long lands.0 fits)
     (stack_in_stacks (number m) a p w site.few.frames lands.0 fits) next in
-    subst (Goes sectors m ((m.slot + 1, after.answered less k) ∷ []))
+    subst (Goes sectors m ((m.slot + 1, after.after_answer less k) ∷ []))
     (sym (tested_passes (machine m) (step.reads (machine m) (1 ∷ 2 ∷ 3 ∷ []) ∷ check fault.HelperArgument (is_length w) ∷ step.store_tests program mem (machine m) a w)
-    (step.answered (record { slot = m.slot; registers = m.registers; frames = stored (all_frames m) a bytes; turns = m.turns; codes = m.codes }) x) list_passes
+    (step.answer_step (record { slot = m.slot; registers = m.registers; frames = frames_with (all_frames m) a bytes; turns = m.turns; codes = m.codes }) x) list_passes
     ∙ ap (λ f. Next (record { slot = m.slot + 1; registers = step.with_answer m.registers x; frames = f; turns = m.turns; codes = m.codes })) frames))
-    (goes_first sectors (after.answered less k) to [] last site.turns)
+    (goes_first sectors (after.after_answer less k) to [] last site.turns)
 
 -- the length of a copy
 length_known : (sectors frame : ℕ) (k : Kind) (w : ℕ) → has_length k ≡ true → Describes sectors frame k w → (w ≡ length_of k) × (is_length (length_of k) ≡ true)
@@ -222,7 +222,7 @@ length_known sectors frame (Num x) w e d =
 copy_goes : (program : List (Option Instr)) (sectors : ℕ) (device : List (List ℕ)) (context : Context) (known : Abstract) (m : Parts)
     → IsSetting program sectors device context → Site sectors known m → is_some (at program (m.slot + 1)) ≡ true → first_failing (call_rules known helper.Copy) ≡ None
     → Goes sectors m ((m.slot + 1, call_after known helper.Copy) ∷ [])
-    (tested (machine m) (call_checks program (byte_at (context_bytes context) device (all_frames m)) (machine m) helper.Copy) (call_effect device (machine m) helper.Copy))
+    (after_checks (machine m) (call_checks program (byte_at (context_bytes context) device (all_frames m)) (machine m) helper.Copy) (call_effect device (machine m) helper.Copy))
 unfolding call_rules call_after
 copy_goes program sectors device context known m set site next keeps =
     let n : ℕ = length_of (value known 3) in
@@ -239,8 +239,8 @@ copy_goes program sectors device context known m set site next keeps =
     let small : word (machine m) 2 < 2 ^ 64 = stack_word (value known 2) two.0 (value_fits known 2 site.fits) second in
     let same : (word (machine m) 2 + cast_unsigned w64 (pos 0)) % 2 ^ 64 ≡ word (machine m) 2 = omega (arith, small) in
     let lands_there : Lands sectors (number m) (place_of (value known 2) (pos 0) n) n (word (machine m) 2) = subst (Lands sectors (number m) (place_of (value known 2) (pos 0) n) n) same lands in
-    subst (λ q. Lands sectors (number m) q n (word (machine m) 2) → Goes sectors m ((m.slot + 1, after.answered (with_groups known (written_at known.groups q n)) (answer_kind helper.Copy)) ∷ [])
-    (tested (machine m) (call_checks program (byte_at (context_bytes context) device (all_frames m)) (machine m) helper.Copy) (call_effect device (machine m) helper.Copy)))
+    subst (λ q. Lands sectors (number m) q n (word (machine m) 2) → Goes sectors m ((m.slot + 1, after.after_answer (with_groups known (written_at known.groups q n)) (answer_kind helper.Copy)) ∷ [])
+    (after_checks (machine m) (call_checks program (byte_at (context_bytes context) device (all_frames m)) (machine m) helper.Copy) (call_effect device (machine m) helper.Copy)))
     (sym found.1) (copies program sectors device context known m found.0 n set site tell.0 length_is.1 length_is.0 next) lands_there
   where
     stack_word : (k : Kind) → is_stack k ≡ true → IsBounded k → Describes sectors (number m) k (word (machine m) 2) → word (machine m) 2 < 2 ^ 64
@@ -252,7 +252,7 @@ pub helper_goes : (program : List (Option Instr)) (sectors : ℕ) (device : List
     → IsSetting program sectors device context → Site sectors known m → is_some (at program (m.slot + 1)) ≡ true
     → (h ≡ helper.Again → is_limit (word (machine m) 1) ≡ true) → first_failing (call_rules known h) ≡ None
     → Goes sectors m ((m.slot + 1, call_after known h) ∷ [])
-    (tested (machine m) (call_checks program (byte_at (context_bytes context) device (all_frames m)) (machine m) h) (call_effect device (machine m) h))
+    (after_checks (machine m) (call_checks program (byte_at (context_bytes context) device (all_frames m)) (machine m) h) (call_effect device (machine m) h))
 unfolding call_rules call_after call_checks call_effect
 helper_goes program sectors device context known m helper.Copy set site next limit keeps = copy_goes program sectors device context known m set site next keeps
 helper_goes program sectors device context known m helper.Sector set site next limit keeps =
@@ -267,7 +267,7 @@ helper_goes program sectors device context known m helper.Again set site next li
     let x : ℕ = again_answer (turns_here (machine m)) n in
     let most = again_most (turns_here (machine m)) n in
     answers sectors known m (step.reads (machine m) (1 ∷ []) ∷ check fault.HelperArgument (is_limit n) ∷ step.goes_on program (m.slot + 1) ∷ []) (Num (any_sign (span 0 1))) x
-    (counted (machine m) n) m.codes site (counted_long m n site.turns)
+    (count_turn (machine m) n) m.codes site (counted_long m n site.turns)
     (pass_three fault.UnsetRegister fault.HelperArgument fault.NoInstruction (list_all (λ r. is_some (get_or m.registers r None)) (1 ∷ [])) (is_limit n) (is_some (at program (m.slot + 1)))
     (reads_set sectors (number m) known m.registers (1 ∷ []) site.stands.values is) (limit refl) next)
     (omega (arith, most)) (number_means sectors (number m) 1 x (omega arith) most)
@@ -275,7 +275,7 @@ helper_goes program sectors device context known m helper.Report set site next l
     let is = (two_tell cause.UnsetRegister cause.HelperArgument (are_set known (1 ∷ [])) (is_number (value known 1)) keeps).0 in
     let x : ℕ = report_answer m.codes in
     let most = report_most m.codes in
-    answers sectors known m (step.reads (machine m) (1 ∷ []) ∷ step.goes_on program (m.slot + 1) ∷ []) (Num (any_sign (span 0 1))) x m.turns (reported m.codes (word (machine m) 1)) site site.turns
+    answers sectors known m (step.reads (machine m) (1 ∷ []) ∷ step.goes_on program (m.slot + 1) ∷ []) (Num (any_sign (span 0 1))) x m.turns (codes_after m.codes (word (machine m) 1)) site site.turns
     (reads_pass program sectors known m (1 ∷ []) site is next) (omega (arith, most)) (number_means sectors (number m) 1 x (omega arith) most)
 helper_goes program sectors device context known m helper.Zero set site next limit keeps =
     let is = (two_tell cause.UnsetRegister cause.HelperArgument (are_set known (1 ∷ [])) (is_number (value known 1)) keeps).0 in

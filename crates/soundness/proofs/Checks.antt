@@ -3,7 +3,7 @@ use Rattle.std.proofs.Common.{◌≡◌, Bool, true, false, ◌&&◌, List, [], 
 use Rattle.base.specs.Check.{Check, check, first_failing}
 use Rattle.base.specs.declared.causes.MachineFault.{MachineFault}
 use Rattle.machine.specs.State.{State}
-use Rattle.machine.specs.Step.{Stepped, tested}
+use Rattle.machine.specs.Step.{Stepped, after_checks}
 
 -- where none fails, the first one passes, and none of the rest fails
 pub first_check : {C : Type 0} (c : C) (b : Bool) (rest : List (Check C)) → first_failing (check c b ∷ rest) ≡ None → (b ≡ true) × (first_failing rest ≡ None)
@@ -28,7 +28,7 @@ pub pass_five : {C : Type 0} (c d a b i : C) (x y z u v : Bool) → x ≡ true �
     → first_failing (check c x ∷ check d y ∷ check a z ∷ check b u ∷ check i v ∷ []) ≡ None
 pass_five c d a b i x y z u v e f g h k = rw (e, f, g, h, k) refl
 
-pub tested_passes : (s : State) (list : List (Check MachineFault)) (done : Stepped) → first_failing list ≡ None → tested s list done ≡ done
+pub tested_passes : (s : State) (list : List (Check MachineFault)) (done : Stepped) → first_failing list ≡ None → after_checks s list done ≡ done
 tested_passes s list done e = rw e refl
 
 pub and_parts : (a b : Bool) → (a && b) ≡ true → (a ≡ true) × (b ≡ true)

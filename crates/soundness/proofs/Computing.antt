@@ -19,7 +19,7 @@ use Rattle.bpf_isa.specs.declared.instr.SignExtension.{SignExtension}
 use Rattle.bpf_isa.specs.declared.instr.Order.{Order}
 use Rattle.bpf_isa.specs.declared.instr.OrderSize.{OrderSize}
 use Rattle.bpf_isa.specs.Spelling.{IsSourceInRange}
-use Rattle.machine.specs.Arithmetic.{arithmetic, computed, extended, in_order}
+use Rattle.machine.specs.Arithmetic.{arithmetic, operator_value, sign_extension, in_order}
 use Rattle.machine.specs.State.{word}
 use Rattle.machine.specs.Step as step
 use Rattle.bpf_isa.specs.Slots.{at}
@@ -33,11 +33,11 @@ use Rattle.intervals.proofs.CallerLemmas.{limits_cover, limits_fit, words_are_li
 use Rattle.ranges.specs.Kinds.{Kind, Unset, Num, is_unset, is_number}
 use Rattle.ranges.specs.States.{Abstract}
 use Rattle.ranges.specs.Order.{IsBounded, IsState}
-use Rattle.ranges.specs.Pointers.{moved}
+use Rattle.ranges.specs.Pointers.{moved_pointer}
 use Rattle.ranges.specs.Reading.{value, second, are_set, words, with_value}
 use Rattle.ranges.specs.Rules.{rules, may_compute, computes}
-use Rattle.ranges.specs.After.{computed as computed_kind, result_kind, after_of}
-use Rattle.ranges.specs.Passing.{passes, sent}
+use Rattle.ranges.specs.After.{number_result as computed_kind, result_kind, after_of}
+use Rattle.ranges.specs.Passing.{passes, passed_state}
 use Rattle.ranges.proofs.Keeping.{words_fit, value_fits, second_fits}
 use Rattle.soundness.specs.Meaning.{Describes, Means}
 use Rattle.soundness.proofs.Checks.{first_check, pass_two, pass_three, and_parts}
@@ -122,23 +122,23 @@ computed_describes sectors known m w o dst from s range =
 
 moved_or : (sectors frame : ℕ) (down : Bool) (k l : Kind) (c : Option Kind) (a b v : ℕ) → (v ≡ shifted down a b) → AreFew sectors frame → IsBounded k → IsBounded l
     → Describes sectors frame k a → Describes sectors frame l b → IsSomeAnd c (λ j. Describes sectors frame j v)
-    → IsSomeAnd (option_or (moved down k l) c) (λ j. Describes sectors frame j v)
-moved_or sectors frame down k l c a b v e few fk fl dk dl dc = by (moved down k l) refl
+    → IsSomeAnd (option_or (moved_pointer down k l) c) (λ j. Describes sectors frame j v)
+moved_or sectors frame down k l c a b v e few fk fl dk dl dc = by (moved_pointer down k l) refl
   where
-    by : (p : Option Kind) → moved down k l ≡ p → IsSomeAnd (option_or p c) (λ j. Describes sectors frame j v)
+    by : (p : Option Kind) → moved_pointer down k l ≡ p → IsSomeAnd (option_or p c) (λ j. Describes sectors frame j v)
     by None f = dc
     by (Some p) f = rw e (moved_describes sectors frame down k l p a b few fk fl dk dl f)
 
 move_is : (a b : ℕ) → arithmetic width.W64 op.Mov a b ≡ b
-unfolding arithmetic computed
+unfolding arithmetic operator_value
 move_is a b = refl
 
 sum_is : (a b : ℕ) → arithmetic width.W64 op.Add a b ≡ shifted false a b
-unfolding arithmetic computed
+unfolding arithmetic operator_value
 sum_is a b = refl
 
 difference_is : (a b : ℕ) → arithmetic width.W64 op.Sub a b ≡ shifted true a b
-unfolding arithmetic computed
+unfolding arithmetic operator_value
 difference_is a b = refl
 
 result_describes : (sectors : ℕ) (known : Abstract) (m : Parts) (w : Width) (o : Operator) (dst : ℕ) (from : Source) → Site sectors known m → IsSourceInRange from
@@ -169,7 +169,7 @@ register_checks program m dst list = step.may_write dst ∷ step.reads (machine 
 
 register_goes : (program : List (Option Instr)) (sectors : ℕ) (known : Abstract) (m : Parts) (dst x : ℕ) (k : Kind) (list : List ℕ) → Site sectors known m
     → not (dst == 10) ≡ true → are_set known list ≡ true → is_some (at program (m.slot + 1)) ≡ true → x < 2 ^ 64 → Means sectors (number m) k (Some x)
-    → Goes sectors m ((m.slot + 1, with_value known dst k) ∷ []) (step.tested (machine m) (register_checks program m dst list) (set_and_go 1 (machine m) dst x))
+    → Goes sectors m ((m.slot + 1, with_value known dst k) ∷ []) (step.after_checks (machine m) (register_checks program m dst list) (set_and_go 1 (machine m) dst x))
 register_goes program sectors known m dst x k list s free set next small means =
     set_goes sectors known m (register_checks program m dst list) 1 dst x k
     (pass_three fault.FramePointer fault.UnsetRegister fault.NoInstruction (not (dst == 10)) (list_all (λ r. is_some (get_or m.registers r None)) list)
@@ -180,7 +180,7 @@ register_goes program sectors known m dst x k list s free set next small means =
 result_goes : (program : List (Option Instr)) (sectors : ℕ) (known : Abstract) (m : Parts) (dst x : ℕ) (r : Option Kind) (list : List ℕ) → Site sectors known m
     → not (dst == 10) ≡ true → are_set known list ≡ true → is_some (at program (m.slot + 1)) ≡ true → x < 2 ^ 64
     → IsSomeAnd r (λ k. Describes sectors (number m) k x)
-    → Goes sectors m (sent (m.slot + 1) (option_map (with_value known dst) r)) (step.tested (machine m) (register_checks program m dst list) (set_and_go 1 (machine m) dst x))
+    → Goes sectors m (passed_state (m.slot + 1) (option_map (with_value known dst) r)) (step.after_checks (machine m) (register_checks program m dst list) (set_and_go 1 (machine m) dst x))
 result_goes program sectors known m dst x None list s free set next small describes = absurd describes
 result_goes program sectors known m dst x (Some k) list s free set next small describes =
     register_goes program sectors known m dst x k list s free set next small (word_means sectors (number m) k x describes)
@@ -203,7 +203,7 @@ arithmetic_goes program context device sectors known m w o dst from s range free
 one_goes : (program : List (Option Instr)) (sectors : ℕ) (known : Abstract) (m : Parts) (i : Instr) (k l : Kind) (dst x : ℕ) (list : List ℕ) → Site sectors known m
     → IsBounded k → IsBounded l → not (dst == 10) ≡ true → are_set known list ≡ true → is_some (at program (m.slot + 1)) ≡ true
     → IsSomeAnd (limits_result_of i (words k) (words l)) (λ z. HasWord z x)
-    → Goes sectors m (sent (m.slot + 1) (option_map (with_value known dst) (computed_kind i k l))) (step.tested (machine m) (register_checks program m dst list) (set_and_go 1 (machine m) dst x))
+    → Goes sectors m (passed_state (m.slot + 1) (option_map (with_value known dst) (computed_kind i k l))) (step.after_checks (machine m) (register_checks program m dst list) (set_and_go 1 (machine m) dst x))
 one_goes program sectors known m i k l dst x list s fk fl free set next has =
     result_goes program sectors known m dst x (computed_kind i k l) list s free set next
     (result_small i (words k) (words l) x (words_fit k fk) (words_fit l fl) has) (number_describes sectors (number m) x (limits_result_of i (words k) (words l)) has)
@@ -228,7 +228,7 @@ unfolding rules passes after_of step_of checks effect
 extend_goes program context device sectors known m e dst src s free next keeps =
     let set = (first_check cause.UnsetRegister (are_set known (src ∷ [])) (computes (is_number (value known src)) ∷ []) keeps).0 in
     let fits = value_fits known src s.fits in
-    one_goes program sectors known m (instr.SignExtend e dst src) Unset (value known src) dst (extended e (word (machine m) src)) (src ∷ []) s tt fits free set next
+    one_goes program sectors known m (instr.SignExtend e dst src) Unset (value known src) dst (sign_extension e (word (machine m) src)) (src ∷ []) s tt fits free set next
     (limits_cover.signs e dst src (words Unset) (words (value known src)) (word (machine m) src)
     (words_are_limits (words (value known src)) (words_fit (value known src) fits)) (read_has sectors known m src s))
 

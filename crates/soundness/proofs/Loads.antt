@@ -20,9 +20,9 @@ use Rattle.bpf_isa.specs.declared.instr.Size.TheVariants as size
 use Rattle.bpf_isa.specs.declared.instr.SignedSize.{SignedSize}
 use Rattle.bpf_isa.specs.declared.instr.SignExtension.{SignExtension}
 use Rattle.helpers.specs.declared.device.Context.{Context}
-use Rattle.machine.specs.Arithmetic.{extended}
+use Rattle.machine.specs.Arithmetic.{sign_extension}
 use Rattle.machine.specs.State.{word}
-use Rattle.machine.specs.Memory.{context_bytes, byte_count, plain_size, extension_of, loaded, byte_at, all_mapped, all_set}
+use Rattle.machine.specs.Memory.{context_bytes, byte_count, plain_size, extension_of, number_from, byte_at, all_mapped, all_set}
 use Rattle.machine.specs.declared.ByteAt.{ByteAt}
 use Rattle.machine.specs.Step as step
 use Rattle.bpf_isa.specs.Slots.{at}
@@ -331,18 +331,18 @@ load_goes program sectors device context known m s dst base distance set site fi
     let a : ℕ = step.address (machine m) base distance in
     let f = load_found program sectors device context known m s base distance set site fits tell.0 tell.1 tell.2 in
     let k : Kind = loaded_kind sectors known.groups p n in
-    let x : ℕ = loaded bytes a n in
+    let x : ℕ = number_from bytes a n in
     let small : x < 2 ^ 64 = rw f.reads.number (any_word_below s f.number f.below) in
     let describes : Describes sectors (number m) k x = subst (Describes sectors (number m) k) (sym f.reads.number) f.describes in
     set_goes sectors known m (step.load_checks program bytes (machine m) dst base distance n) 1 dst x k
     (load_passes program bytes sectors known m dst base n f.number distance site f.reads tell.0 free next) site.fits site.stands site.turns small (word_means sectors (number m) k x describes)
 
-extended_word : (e : SignExtension) (x : ℕ) → x < 2 ^ 64 → extended e x < 2 ^ 64
+extended_word : (e : SignExtension) (x : ℕ) → x < 2 ^ 64 → sign_extension e x < 2 ^ 64
 extended_word e x lt =
     let r : Span = extended_result e (only x) in
     let fit : IsSpan (2 ^ 64 - 1) (only x) = record { ordered = omega arith; most = omega arith } in
     let most = extended_fits e (only x) fit in
-    let has : Has r (extended e x) = extended_has e (only x) x fit (record { from = omega arith; upto = omega arith }) in
+    let has : Has r (sign_extension e x) = extended_has e (only x) x fit (record { from = omega arith; upto = omega arith }) in
     omega (arith, most.most, has.upto)
 
 pub signed_load_goes : (program : List (Option Instr)) (sectors : ℕ) (device : List (List ℕ)) (context : Context) (known : Abstract) (m : Parts) (s : SignedSize) (dst base : ℕ) (distance : ℤ)
@@ -358,9 +358,9 @@ signed_load_goes program sectors device context known m s dst base distance set 
     let bytes : ℕ → ByteAt = byte_at (context_bytes context) device (all_frames m) in
     let a : ℕ = step.address (machine m) base distance in
     let f = load_found program sectors device context known m (plain_size s) base distance set site fits tell.0 tell.1 tell.2 in
-    let v : ℕ = loaded bytes a n in
+    let v : ℕ = number_from bytes a n in
     let word : v < 2 ^ 64 = rw f.reads.number (any_word_below (plain_size s) f.number f.below) in
-    let x : ℕ = extended (extension_of s) v in
+    let x : ℕ = sign_extension (extension_of s) v in
     let small : x < 2 ^ 64 = extended_word (extension_of s) v word in
     set_goes sectors known m (step.load_checks program bytes (machine m) dst base distance n) 1 dst x (Num any_word)
     (load_passes program bytes sectors known m dst base n f.number distance site f.reads tell.0 free next) site.fits site.stands site.turns small

@@ -18,18 +18,18 @@ use Rattle.bpf_shape.specs.Rules.{IsShaped}
 use Rattle.bpf_shape.proofs.Kept.{edges_begin}
 use Rattle.machine.specs.State.{Caller, Frame, State, register, word, stack_end, unset_stack}
 use Rattle.machine.specs.Step as step
-use Rattle.machine.specs.Step.{checks, effect, step_of, tested, saved, entered, exited, returns_to, with_answer, Next, Done}
+use Rattle.machine.specs.Step.{checks, effect, step_of, after_checks, saved_caller, enter_function, exit_frame, returns_to, with_answer, Next, Done}
 use Rattle.ranges.specs.Kinds.{Kind, Num, is_number}
 use Rattle.ranges.specs.Groups.{Marked, unset_marks}
 use Rattle.ranges.specs.States.{Abstract, unset_groups}
 use Rattle.ranges.specs.Order.{Each}
 use Rattle.ranges.specs.Reading.{value, are_set, any_word}
 use Rattle.ranges.specs.Rules.{rules}
-use Rattle.ranges.specs.After.{answered, after_of}
-use Rattle.ranges.specs.Passing.{passes, given, entry_state}
+use Rattle.ranges.specs.After.{after_answer, after_of}
+use Rattle.ranges.specs.Passing.{passes, argument_kind, entry_state}
 use Rattle.soundness.specs.Meaning.{Means, GroupMeans, CoversFrame}
 use Rattle.soundness.specs.Machines.{AreRegisters, IsStack, first_caller, IsMachine}
-use Rattle.soundness.specs.Callers.{restored, AreWaiting}
+use Rattle.soundness.specs.Callers.{registers_behind, AreWaiting}
 use Rattle.soundness.specs.Laws.{IsKnown, Enters, Returns, IsCovered}
 use Rattle.soundness.proofs.Checks.{pass_one, pass_two, two_tell, tested_passes}
 use Rattle.soundness.proofs.Meanings.{word_in}
@@ -66,7 +66,7 @@ unset_means sectors frame stack g = nothing_known sectors frame 64 g g stack
 
 -- what a function is given
 
-given_means : (sectors frame other : ℕ) (k : Kind) (c : Option ℕ) → Means sectors frame k c → Means sectors other (given k) c
+given_means : (sectors frame other : ℕ) (k : Kind) (c : Option ℕ) → Means sectors frame k c → Means sectors other (argument_kind k) c
 given_means sectors frame other (Num x) c h = h
 given_means sectors frame other _ c h = tt
 
@@ -128,10 +128,10 @@ eleven (a ∷ b ∷ c ∷ d ∷ f ∷ g ∷ h ∷ i ∷ j ∷ k ∷ l ∷ q ∷ 
 
 -- the frame that waits, behind its call
 restored_stands : (sectors : ℕ) (known : Abstract) (m : Parts) (x : ℕ) → Site sectors known m → x < 2 ^ 64
-    → Stands sectors (number m) (answered known (Num any_word)) (restored (saved (machine m)) x) m.stack
+    → Stands sectors (number m) (after_answer known (Num any_word)) (registers_behind (saved_caller (machine m)) x) m.stack
 restored_stands sectors known m x site lt =
     let word : Means sectors (number m) (Num any_word) (Some x) = (x, refl, word_in 0 (2 ^ 64 - 1) x (omega arith) (omega arith) (omega (arith, lt))) in
-    subst (λ (rs : List (Option ℕ)). Stands sectors (number m) (answered known (Num any_word)) rs m.stack) (eleven m.registers x site.stands.words.long)
+    subst (λ (rs : List (Option ℕ)). Stands sectors (number m) (after_answer known (Num any_word)) rs m.stack) (eleven m.registers x site.stands.words.long)
     (answered_stands sectors (number m) known m.registers m.stack (Num any_word) x site.fits.registers lt word site.stands)
 
 -- a local call
@@ -152,7 +152,7 @@ local_call program context device sectors table known m distance shaped site e w
     let less : length (all_frames m) < 4 = not_deeper program sectors table (all_frames m) m.slot target shaped whole.most waiting calls in
     let few : nat_lt (length (all_frames m)) 4 ≡ true = grind (arith, nat_tests) in
     let list_passes = pass_two fault.FrameLimit fault.NoInstruction (nat_lt (length (all_frames m)) 4) (is_some (at program target)) few (entry_begins program m.slot target shaped calls) in
-    let caller : Caller = saved (machine m) in
+    let caller : Caller = saved_caller (machine m) in
     let to : Parts = record { slot = target; registers = given_registers m; below = all_frames m; caller = Some caller; stack = unset_stack; turns = m.turns; codes = m.codes } in
     let old : Frame = record { stack = m.stack; caller = m.caller } in
     let new : Frame = record { stack = unset_stack; caller = Some caller } in
@@ -166,7 +166,7 @@ local_call program context device sectors table known m distance shaped site e w
     } in
     record {
       to = machine to;
-      is = tested_passes (machine m) (check fault.FrameLimit (nat_lt (length (all_frames m)) 4) ∷ step.goes_on program target ∷ []) (entered (machine m) target) list_passes;
+      is = tested_passes (machine m) (check fault.FrameLimit (nat_lt (length (all_frames m)) 4) ∷ step.goes_on program target ∷ []) (enter_function (machine m) target) list_passes;
       enters = record {
         whole = record {
           registers = words;
@@ -201,7 +201,7 @@ has_below (f ∷ rest) caller stack c none e = omega arith
 -- the machine behind the call, where the frames below the one that ends are these
 returned : (program : List (Option Instr)) (sectors : ℕ) (table : List (Option Abstract)) (m : Parts) (below : List Frame) (f : Frame) (c : Caller) (x : ℕ)
     → IsShaped program → IsMachine (machine m) → AreWaiting program sectors table 0 0 (all_frames m) m.slot → m.below ≡ below ++ f ∷ [] → m.caller ≡ Some c → x < 2 ^ 64
-    → IsKnown program sectors table (record { slot = c.slot; registers = restored c x; frames = below ++ f ∷ []; turns = m.turns; codes = m.codes })
+    → IsKnown program sectors table (record { slot = c.slot; registers = registers_behind c x; frames = below ++ f ∷ []; turns = m.turns; codes = m.codes })
 returned program sectors table m below f c x shaped whole waiting is called lt =
     let g : Frame = record { stack = m.stack; caller = m.caller } in
     let there : AreWaiting program sectors table 0 0 ((below ++ f ∷ []) ++ g ∷ []) m.slot =
@@ -210,7 +210,7 @@ returned program sectors table m below f c x shaped whole waiting is called lt =
     let w = p.waits in
     let leads : Leads (control program w.call) c.slot = subst (λ (s : ℕ). Leads (control program w.call) s) (sym w.back) (behind_call program w.call p.enters w.calls) in
     let known : Abstract = w.known in
-    let covers : CoversFrame sectors (length below) known (restored c x) f.stack = w.covers x lt in
+    let covers : CoversFrame sectors (length below) known (registers_behind c x) f.stack = w.covers x lt in
     let had = length_of m.below g in
     let same : length m.below ≡ length (below ++ f ∷ []) = ap (λ (fs : List Frame). length fs) is in
     let has = length_of below f in
@@ -240,7 +240,7 @@ pub exit_covered : (program : List (Option Instr)) (context : List ℕ) (device 
     → first_failing (rules known instr.Exit) ≡ None → IsCovered program sectors table arrivals (machine m) (step_of program context device (machine m) instr.Exit)
 unfolding rules step_of checks effect
 exit_covered program context device sectors table known m arrivals shaped site whole waiting keeps =
-    subst (λ (o : Option Caller). IsCovered program sectors table arrivals (machine m) (tested (machine m) (step.reads (machine m) (0 ∷ []) ∷ returns_to program o) (exited (machine m) o)))
+    subst (λ (o : Option Caller). IsCovered program sectors table arrivals (machine m) (after_checks (machine m) (step.reads (machine m) (0 ∷ []) ∷ returns_to program o) (exit_frame (machine m) o)))
     (sym (caller_is m)) (by m.caller refl)
   where
     set : are_set known (0 ∷ []) ≡ true
@@ -258,7 +258,7 @@ exit_covered program context device sectors table known m arrivals shaped site w
     small : x < 2 ^ 64
     small = site.stands.words.words 0 x there
 
-    by : (o : Option Caller) → m.caller ≡ o → IsCovered program sectors table arrivals (machine m) (tested (machine m) (step.reads (machine m) (0 ∷ []) ∷ returns_to program o) (exited (machine m) o))
+    by : (o : Option Caller) → m.caller ≡ o → IsCovered program sectors table arrivals (machine m) (after_checks (machine m) (step.reads (machine m) (0 ∷ []) ∷ returns_to program o) (exit_frame (machine m) o))
     by None e =
         let g : Frame = record { stack = m.stack; caller = m.caller } in
         let none = alone program sectors table 0 0 m.below g m.slot waiting e in
@@ -269,13 +269,13 @@ exit_covered program context device sectors table known m arrivals shaped site w
     by (Some c) e =
         let split = split_last m.below (has_below m.below m.caller m.stack c whole.outermost e) in
         let g : Frame = record { stack = m.stack; caller = m.caller } in
-        let to : State = record { slot = c.slot; registers = restored c x; frames = split.below ++ split.last ∷ []; turns = m.turns; codes = m.codes } in
+        let to : State = record { slot = c.slot; registers = registers_behind c x; frames = split.below ++ split.last ∷ []; turns = m.turns; codes = m.codes } in
         let known_there = returned program sectors table m split.below split.last c x shaped whole waiting split.is e small in
         let frames : take (length (all_frames m) - 1) (all_frames m) ≡ split.below ++ split.last ∷ [] = without_last m.below g ∙ split.is in
         let list_passes = pass_two fault.UnsetRegister fault.NoInstruction (list_all (λ r. is_some (get_or m.registers r None)) (0 ∷ [])) (is_some (at program c.slot)) reads known_there.here in
-        let same : exited (machine m) (Some c) ≡ Next to =
+        let same : exit_frame (machine m) (Some c) ≡ Next to =
         ap (λ (r : Option ℕ). Next (record { slot = c.slot; registers = r ∷ None ∷ None ∷ None ∷ None ∷ None ∷ c.registers; frames = take (length (all_frames m) - 1) (all_frames m); turns = m.turns; codes = m.codes })) there
-        ∙ ap (λ (fs : List Frame). Next (record { slot = c.slot; registers = restored c x; frames = fs; turns = m.turns; codes = m.codes })) frames in
+        ∙ ap (λ (fs : List Frame). Next (record { slot = c.slot; registers = registers_behind c x; frames = fs; turns = m.turns; codes = m.codes })) frames in
         let had = length_of m.below g in
         let shorter : length m.below ≡ length (split.below ++ split.last ∷ []) = ap (λ (fs : List Frame). length fs) split.is in
         let returns : Returns program sectors table (machine m) to = record {
@@ -284,4 +284,4 @@ exit_covered program context device sectors table known m arrivals shaped site w
           known = known_there;
         } in
         subst (IsCovered program sectors table arrivals (machine m))
-        (sym (tested_passes (machine m) (step.reads (machine m) (0 ∷ []) ∷ step.goes_on program c.slot ∷ []) (exited (machine m) (Some c)) list_passes ∙ same)) (inr (inr returns))
+        (sym (tested_passes (machine m) (step.reads (machine m) (0 ∷ []) ∷ step.goes_on program c.slot ∷ []) (exit_frame (machine m) (Some c)) list_passes ∙ same)) (inr (inr returns))

@@ -13,7 +13,7 @@ use Rattle.machine.specs.declared.ByteAt.{ByteAt}
 use Rattle.machine.specs.declared.ByteAt.TheVariants.{Holds}
 use Rattle.machine.specs.State.{Caller, Frame, context_start, stack_start}
 use Rattle.machine.specs.Memory as memory
-use Rattle.machine.specs.Memory.{addresses, all_at, all_mapped, all_set, all_in_stacks, is_mapped, is_set, loaded, held, cell, stacks, byte_at}
+use Rattle.machine.specs.Memory.{addresses, all_at, all_mapped, all_set, all_in_stacks, is_mapped, is_set, number_from, byte_at_place, cell, stacks, byte_at}
 use Rattle.soundness.specs.Meaning.{bare}
 use Rattle.soundness.proofs.Standing.{frames_of}
 
@@ -43,30 +43,30 @@ no_number : (p q : ℕ) (xs ys : List ℕ) → number_at 0 p xs ≡ number_at 0 
 unfolding number_at
 no_number p q xs ys = refl
 
-loaded_more : (n : ℕ) (bytes : ℕ → ByteAt) (a : ℕ) → loaded bytes a (suc n) ≡ memory.value (bytes a) + 256 * loaded bytes ((a + 1) % 2 ^ 64) n
-unfolding loaded number_at
+loaded_more : (n : ℕ) (bytes : ℕ → ByteAt) (a : ℕ) → number_from bytes a (suc n) ≡ memory.value (bytes a) + 256 * number_from bytes ((a + 1) % 2 ^ 64) n
+unfolding number_from number_at
 loaded_more n bytes a =
     ap (λ (x : ℕ). memory.value (bytes a) + 256 * x) (little_from-cons 0 n (memory.value (bytes a)) (map (λ at. memory.value (bytes at)) (addresses ((a + 1) % 2 ^ 64) n)))
 
-nothing_loaded : (bytes : ℕ → ByteAt) (a p : ℕ) (xs : List ℕ) → loaded bytes a 0 ≡ number_at 0 p xs
-unfolding loaded number_at
+nothing_loaded : (bytes : ℕ → ByteAt) (a p : ℕ) (xs : List ℕ) → number_from bytes a 0 ≡ number_at 0 p xs
+unfolding number_from number_at
 nothing_loaded bytes a p xs = refl
 
 loaded_is : (n : ℕ) (bytes : ℕ → ByteAt) (a p : ℕ) (xs : List ℕ) → a + n < 2 ^ 64 → p + n ≤ length xs
-    → ((i : ℕ) → i < n → bytes (a + i) ≡ Holds (slice_index xs (p + i))) → loaded bytes a n ≡ number_at n p xs
+    → ((i : ℕ) → i < n → bytes (a + i) ≡ Holds (slice_index xs (p + i))) → number_from bytes a n ≡ number_at n p xs
 loaded_is zero bytes a p xs lt fits h = nothing_loaded bytes a p xs
 loaded_is (suc n) bytes a p xs lt fits h =
     let e : (a + 1) % 2 ^ 64 ≡ a + 1 = omega (arith, lt) in
     let a0 : a + 0 ≡ a = omega arith in
     let p0 : p + 0 ≡ p = omega arith in
     let first : bytes a ≡ Holds (slice_index xs p) = rw (a0, p0) at (h 0 (omega arith)) in
-    let rest : loaded bytes (a + 1) n ≡ number_at n (p + 1) xs =
+    let rest : number_from bytes (a + 1) n ≡ number_at n (p + 1) xs =
     loaded_is n bytes (a + 1) (p + 1) xs (omega (arith, lt)) (omega (arith, fits))
     (λ i small. let f : a + 1 + i ≡ a + suc i = omega arith in let g : p + 1 + i ≡ p + suc i = omega arith in
     ap bytes f ∙ h (suc i) (omega (arith, small)) ∙ ap (λ (q : ℕ). Holds (slice_index xs q)) (sym g)) in
     loaded_more n bytes a
-    ∙ ap (λ (q : ℕ). memory.value (bytes a) + 256 * loaded bytes q n) e
-    ∙ ap (λ (x : ByteAt). memory.value x + 256 * loaded bytes (a + 1) n) first
+    ∙ ap (λ (q : ℕ). memory.value (bytes a) + 256 * number_from bytes q n) e
+    ∙ ap (λ (x : ByteAt). memory.value x + 256 * number_from bytes (a + 1) n) first
     ∙ ap (λ (x : ℕ). slice_index xs p + 256 * x) rest
     ∙ sym (number_more n p xs (omega (arith, fits)))
 
@@ -93,7 +93,7 @@ number_below n p xs h = little_from-lt 0 n (drop p xs) (λ k. let e : slice_inde
 pub record Reads (bytes : ℕ → ByteAt) (a n x : ℕ) : Type 0 where
   pub mapped : all_mapped bytes a n ≡ true
   pub whole : all_set bytes a n ≡ true
-  pub number : loaded bytes a n ≡ x
+  pub number : number_from bytes a n ≡ x
 
 pub reads_bytes : (bytes : ℕ → ByteAt) (a n p : ℕ) (xs : List ℕ) → a + n < 2 ^ 64 → p + n ≤ length xs
     → ((i : ℕ) → i < n → bytes (a + i) ≡ Holds (slice_index xs (p + i))) → Reads bytes a n (number_at n p xs)

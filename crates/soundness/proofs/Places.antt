@@ -11,7 +11,7 @@ use Rattle.ranges.specs.declared.place.Place.{Place}
 use Rattle.ranges.specs.declared.place.Place.TheVariants as place
 use Rattle.ranges.specs.Kinds.{Kind, Unset, Num, Ctx, Stack, Sector, SectorOrNull}
 use Rattle.ranges.specs.Order.{IsBounded}
-use Rattle.ranges.specs.Places.{landed, place_of, is_inside}
+use Rattle.ranges.specs.Places.{landing, place_of, is_inside}
 use Rattle.soundness.specs.Meaning.{Describes}
 use Rattle.soundness.proofs.Shifts.{landed_is, reached}
 use Rattle.soundness.proofs.Standing.{AreFew}
@@ -24,7 +24,7 @@ Lands sectors frame (place.Context at) n a = (a ≡ context_start + at) × (at +
 Lands sectors frame (place.Stack at) n a = (a ≡ stack_start + 1024 * frame + at) × (at + n ≤ 512)
 Lands sectors frame place.Sector n a = (q : ℕ) × (o : ℕ) × (q < sectors) × (o + n ≤ 512) × (a ≡ sector_start + 1024 * q + o)
 
-in_region : (sectors frame start : ℕ) (x : Span) (distance : ℤ) (n q o : ℕ) (a b : Option ℕ) → landed 512 n x.low distance ≡ a → landed 512 n x.high distance ≡ b
+in_region : (sectors frame start : ℕ) (x : Span) (distance : ℤ) (n q o : ℕ) (a b : Option ℕ) → landing 512 n x.low distance ≡ a → landing 512 n x.high distance ≡ b
     → sectors ≤ most_sectors → q < sectors → start ≡ sector_start + 1024 * q → FitsSigned w16 distance → IsSpan 65535 x → Has x o
     → is_inside (if is_some a && is_some b then place.Sector else place.Outside) ≡ true
     → Lands sectors frame (if is_some a && is_some b then place.Sector else place.Outside) n ((start + o + cast_unsigned w64 distance) % 2 ^ 64)
@@ -47,18 +47,18 @@ unfolding place_of
 place_lands sectors frame Unset distance n w few fits b d inside = absurd (let bad : false ≡ true = inside in cc)
 place_lands sectors frame (Num x) distance n w few fits b d inside = absurd (let bad : false ≡ true = inside in cc)
 place_lands sectors frame SectorOrNull distance n w few fits b d inside = absurd (let bad : false ≡ true = inside in cc)
-place_lands sectors frame (Ctx o) distance n w few fits b d inside = by (landed 32 n o distance) refl inside
+place_lands sectors frame (Ctx o) distance n w few fits b d inside = by (landing 32 n o distance) refl inside
   where
-    by : (m : Option ℕ) → landed 32 n o distance ≡ m → is_inside (option_map_or (λ at. place.Context at) m place.Outside) ≡ true
+    by : (m : Option ℕ) → landing 32 n o distance ≡ m → is_inside (option_map_or (λ at. place.Context at) m place.Outside) ≡ true
         → Lands sectors frame (option_map_or (λ at. place.Context at) m place.Outside) n ((w + cast_unsigned w64 distance) % 2 ^ 64)
     by None e t = absurd (let bad : false ≡ true = t in cc)
     by (Some at) e t =
         let h = landed_is 32 n o at distance e in
         let last = h.1 in
         (rw d (reached context_start o at distance fits h.0 (omega (arith, b)) (omega arith)), h.1)
-place_lands sectors frame (Stack o) distance n w few fits b d inside = by (landed 512 n o distance) refl inside
+place_lands sectors frame (Stack o) distance n w few fits b d inside = by (landing 512 n o distance) refl inside
   where
-    by : (m : Option ℕ) → landed 512 n o distance ≡ m → is_inside (option_map_or (λ at. place.Stack at) m place.Outside) ≡ true
+    by : (m : Option ℕ) → landing 512 n o distance ≡ m → is_inside (option_map_or (λ at. place.Stack at) m place.Outside) ≡ true
         → Lands sectors frame (option_map_or (λ at. place.Stack at) m place.Outside) n ((w + cast_unsigned w64 distance) % 2 ^ 64)
     by None e t = absurd (let bad : false ≡ true = t in cc)
     by (Some at) e t =
@@ -66,4 +66,4 @@ place_lands sectors frame (Stack o) distance n w few fits b d inside = by (lande
         let last = h.1 in
         (rw d (reached (stack_start + 1024 * frame) o at distance fits h.0 (omega (arith, b, few.frames)) (omega (arith, few.frames))), h.1)
 place_lands sectors frame (Sector x) distance n w few fits b d inside =
-    rw d.4 (in_region sectors frame (sector_start + 1024 * d.0) x distance n d.0 d.1 (landed 512 n x.low distance) (landed 512 n x.high distance) refl refl few.device d.2 refl fits b d.3 inside)
+    rw d.4 (in_region sectors frame (sector_start + 1024 * d.0) x distance n d.0 d.1 (landing 512 n x.low distance) (landing 512 n x.high distance) refl refl few.device d.2 refl fits b d.3 inside)

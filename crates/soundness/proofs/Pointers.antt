@@ -8,7 +8,7 @@ use Rattle.helpers.specs.Answers.{sector_start}
 use Rattle.intervals.specs.Spans.{Span, is_constant, IsSpan, Has}
 use Rattle.ranges.specs.Kinds.{Kind, Num, Ctx, Stack, Sector}
 use Rattle.ranges.specs.Order.{IsBounded}
-use Rattle.ranges.specs.Pointers.{offset_in, offsets_in, moved_offset, moved_place, moved_offsets, moved}
+use Rattle.ranges.specs.Pointers.{offset_in, offsets_in, moved_offset, moved_place, moved_offsets, moved_pointer}
 use Rattle.soundness.specs.Meaning.{Describes}
 use Rattle.soundness.proofs.Standing.{AreFew}
 use Rattle.soundness.proofs.Shifts.{offset_is, offsets_are, moved_up, moved_down}
@@ -120,8 +120,8 @@ offsets_moved down start o b x y z e fx fy hx hy low = by_kind (is_constant y) (
     by_kind false false t u f = absurd (let bad : None ≡ Some z = f in cc)
 
 pub moved_describes : (sectors frame : ℕ) (down : Bool) (k l p : Kind) (a b : ℕ) → AreFew sectors frame → IsBounded k → IsBounded l → Describes sectors frame k a → Describes sectors frame l b
-    → moved down k l ≡ Some p → Describes sectors frame p (shifted down a b)
-unfolding moved
+    → moved_pointer down k l ≡ Some p → Describes sectors frame p (shifted down a b)
+unfolding moved_pointer
 moved_describes sectors frame down (Ctx o) (Num y) p a b few fk fl dk dl e = by (moved_place 32 down o y.unsigned) refl e
   where
     by : (m : Option ℕ) → moved_place 32 down o y.unsigned ≡ m → option_map (λ q. Ctx q) m ≡ Some p → Describes sectors frame p (shifted down a b)

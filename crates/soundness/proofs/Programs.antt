@@ -22,7 +22,7 @@ use Rattle.bpf_shape.specs.Edges.{edges_of, begins, control}
 use Rattle.bpf_shape.specs.Calls.{callee_of, callee}
 use Rattle.bpf_shape.specs.Again.{helper_number, calls_again, limit_of, limit_before, answer_test, is_slot, aims_at, is_target}
 use Rattle.bpf_shape.specs.Paths.{Leads}
-use Rattle.bpf_shape.specs.Rules.{written, is_equality, has_form, keeps, Breaks, IsShaped}
+use Rattle.bpf_shape.specs.Rules.{written_register, is_equality, has_form, keeps, Breaks, IsShaped}
 use Rattle.soundness.proofs.Checks.{and_parts}
 use Rattle.soundness.proofs.Standing.{not_unset}
 use Rattle.bpf_shape.proofs.Ranges.{any_at}
@@ -83,11 +83,11 @@ holds_true : (b : Bool) → (b ≡ false → ⊥) → b ≡ true
 holds_true true h = refl
 holds_true false h = absurd (h refl)
 
-pub free_at : (program : List (Option Instr)) (s : ℕ) (i : Instr) → IsShaped program → at program s ≡ Some i → option_map_or (λ r. not (r == 10)) (written i) true ≡ true
+pub free_at : (program : List (Option Instr)) (s : ℕ) (i : Instr) → IsShaped program → at program s ≡ Some i → option_map_or (λ r. not (r == 10)) (written_register i) true ≡ true
 unfolding Breaks keeps
 free_at program s i shaped e =
-    let kept = holds_true (option_map_or (λ r. not (r == 10)) (option_and_then written (at program s)) true) (shaped.frame_pointer s) in
-    ap (λ (o : Option Instr). option_map_or (λ r. not (r == 10)) (option_and_then written o) true) (sym e) ∙ kept
+    let kept = holds_true (option_map_or (λ r. not (r == 10)) (option_and_then written_register (at program s)) true) (shaped.frame_pointer s) in
+    ap (λ (o : Option Instr). option_map_or (λ r. not (r == 10)) (option_and_then written_register o) true) (sym e) ∙ kept
 
 known_number : (n : ℕ) → (nat_le 1 n && nat_le n 7) ≡ true → is_some (helper_of n) ≡ true
 known_number zero e = absurd (let bad : false ≡ true = e in cc)

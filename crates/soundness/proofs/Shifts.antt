@@ -7,7 +7,7 @@ use Rattle.std.proofs.lemmas.Int.{ints}
 use Rattle.std.proofs.lemmas.Bool.Decides.{nat_tests}
 use Rattle.intervals.specs.Spans.{Span, span}
 use Rattle.ranges.specs.Pointers.{offset_in, offsets_in}
-use Rattle.ranges.specs.Places.{landed}
+use Rattle.ranges.specs.Places.{landing}
 
 pub offset_is : (limit : ℕ) (z : ℤ) (n : ℕ) → offset_in limit z ≡ Some n → (z ≡ pos n) × (n ≤ limit)
 offset_is limit (negsuc m) n e = absurd (let bad : None ≡ Some n = e in cc)
@@ -29,7 +29,7 @@ offsets_are limit a b z e = by_both (offset_in limit a) (offset_in limit b) refl
         ((offset_is limit a x p).0 ∙ ap (λ (s : Span). pos s.low) same, (offset_is limit b y q).0 ∙ ap (λ (s : Span). pos s.high) same)
 
 -- where an access begins
-pub landed_is : (size n o at : ℕ) (distance : ℤ) → landed size n o distance ≡ Some at → (pos o +ℤ distance ≡ pos at) × (at + n ≤ size)
+pub landed_is : (size n o at : ℕ) (distance : ℤ) → landing size n o distance ≡ Some at → (pos o +ℤ distance ≡ pos at) × (at + n ≤ size)
 landed_is size n o at distance e = by_test (nat_le n size) refl e
   where
     by_test : (b : Bool) → nat_le n size ≡ b → (if b then offset_in (size - n) (pos o +ℤ distance) else None) ≡ Some at → (pos o +ℤ distance ≡ pos at) × (at + n ≤ size)

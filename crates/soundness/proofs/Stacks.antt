@@ -7,12 +7,12 @@ use Rattle.std.proofs.lemmas.List.{length-set, get_or-set_same, get_or-set_other
 use Rattle.base.specs.Numbers.{number_at, number_bytes}
 use Rattle.base.proofs.Lists.{length-number_bytes, number_at-number_bytes}
 use Rattle.machine.specs.State.{Caller, Frame, stack_start}
-use Rattle.machine.specs.Memory.{change_at, with_byte, stored}
+use Rattle.machine.specs.Memory.{change_at, with_byte, frames_with}
 use Rattle.ranges.specs.declared.place.Mark.TheVariants as mark
 use Rattle.ranges.specs.Kinds.{Kind}
 use Rattle.ranges.specs.Groups.{GroupKind, Marked, Spilled, map_places}
 use Rattle.ranges.specs.Places.{mark_in, is_mark}
-use Rattle.ranges.specs.After.{is_among, mark_after, marks_after, is_touched, group_after, written}
+use Rattle.ranges.specs.After.{is_among, mark_after, marks_after, is_touched, group_after, groups_after_write}
 use Rattle.soundness.specs.Meaning.{Means, GroupMeans, IsSetAt, bare}
 use Rattle.soundness.specs.Machines.{IsStack}
 use Rattle.soundness.proofs.Checks.{and_parts}
@@ -40,8 +40,8 @@ with_byte_is below caller stack a p b e lt =
 
 pub stored_is : (bytes : List ℕ) (below : List Frame) (caller : Option Caller) (stack : List (Option ℕ)) (a p : ℕ) → length below ≤ 3
     → a ≡ stack_start + 1024 * length below + p → p + length bytes ≤ 512
-    → stored (frames_of below caller stack) a bytes ≡ frames_of below caller (filled stack p bytes)
-unfolding stored
+    → frames_with (frames_of below caller stack) a bytes ≡ frames_of below caller (filled stack p bytes)
+unfolding frames_with
 stored_is [] below caller stack a p few e fits = refl
 stored_is (b ∷ bytes) below caller stack a p few e fits =
     let next : (a + 1) % 2 ^ 64 ≡ a + 1 = omega (arith, e, fits, few) in
@@ -183,8 +183,8 @@ past_means sectors frame groups stack g long le =
 -- bytes are written
 pub written_means : (sectors frame : ℕ) (groups : List GroupKind) (bytes : List ℕ) (stack : List (Option ℕ)) (at n : ℕ) → length groups ≡ 64 → length bytes ≡ n → at + n ≤ 512 → length stack ≡ 512
     → ((g : ℕ) → GroupMeans sectors frame (get_or groups g (Marked [])) stack g)
-    → (g : ℕ) → GroupMeans sectors frame (get_or (written at n groups) g (Marked [])) (filled stack at bytes) g
-unfolding written
+    → (g : ℕ) → GroupMeans sectors frame (get_or (groups_after_write at n groups) g (Marked [])) (filled stack at bytes) g
+unfolding groups_after_write
 written_means sectors frame groups bytes stack at n count some fits long h g =
     elim (cases_lt g 64) [
       | inl lt ↦

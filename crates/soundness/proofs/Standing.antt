@@ -7,14 +7,14 @@ use Rattle.limits.specs.Sizes.{most_sectors}
 use Rattle.base.specs.Check.{Check, first_failing}
 use Rattle.base.specs.declared.causes.MachineFault.{MachineFault}
 use Rattle.machine.specs.State.{Caller, Frame, State}
-use Rattle.machine.specs.Step.{Stepped, Next, Done, Fault, tested, set_and_go, with_answer}
+use Rattle.machine.specs.Step.{Stepped, Next, Done, Fault, after_checks, set_and_go, with_answer}
 use Rattle.intervals.specs.Reducing.{HasWord}
 use Rattle.ranges.specs.Kinds.{Kind, Unset, Num, Ctx, Stack, Sector, SectorOrNull, is_unset}
 use Rattle.ranges.specs.Groups.{Marked}
 use Rattle.ranges.specs.States.{Abstract}
 use Rattle.ranges.specs.Order.{IsBounded, IsState}
 use Rattle.ranges.specs.Reading.{value, are_set, with_value, words, any_word}
-use Rattle.ranges.specs.After.{answered}
+use Rattle.ranges.specs.After.{after_answer}
 use Rattle.soundness.specs.Meaning.{Describes, Means, GroupMeans, Covers, frame_number, last_stack}
 use Rattle.soundness.specs.Machines.{AreRegisters, IsStack}
 use Rattle.soundness.specs.Laws.{Arrives}
@@ -136,7 +136,7 @@ set_stands sectors frame known registers stack dst k c long w m h = record {
 }
 
 pub answered_stands : (sectors frame : ℕ) (known : Abstract) (registers stack : List (Option ℕ)) (k : Kind) (x : ℕ) → length known.values ≡ 11 → x < 2 ^ 64
-    → Means sectors frame k (Some x) → Stands sectors frame known registers stack → Stands sectors frame (answered known k) (with_answer registers x) stack
+    → Means sectors frame k (Some x) → Stands sectors frame known registers stack → Stands sectors frame (after_answer known k) (with_answer registers x) stack
 answered_stands sectors frame known registers stack k x long lt m h =
     let k0 = with_value known 0 k in let r0 = set registers 0 (Some x) in let e0 : length k0.values ≡ 11 = length-set known.values 0 k ∙ long in
     let h0 = set_stands sectors frame known registers stack 0 k (Some x) long (word_is x lt) m h in
@@ -153,7 +153,7 @@ answered_stands sectors frame known registers stack k x long lt m h =
 -- an instruction that sets a register
 pub set_goes : (sectors : ℕ) (known : Abstract) (m : Parts) (list : List (Check MachineFault)) (n dst x : ℕ) (k : Kind) → first_failing list ≡ None
     → IsState known → Stands sectors (number m) known m.registers m.stack → length m.turns ≡ 4096 → x < 2 ^ 64 → Means sectors (number m) k (Some x)
-    → Goes sectors m ((m.slot + n, with_value known dst k) ∷ []) (tested (machine m) list (set_and_go n (machine m) dst x))
+    → Goes sectors m ((m.slot + n, with_value known dst k) ∷ []) (after_checks (machine m) list (set_and_go n (machine m) dst x))
 set_goes sectors known m list n dst x k passes fits h turns lt means =
     let to : Parts = record { slot = m.slot + n; registers = set m.registers dst (Some x); below = m.below; caller = m.caller; stack = m.stack; turns = m.turns; codes = m.codes } in
     let stands = set_stands sectors (number m) known m.registers m.stack dst k (Some x) fits.registers (word_is x lt) means h in

@@ -18,13 +18,13 @@ use Rattle.helpers.specs.declared.device.Context.{Context}
 use Rattle.helpers.specs.declared.helper.Helper.{Helper}
 use Rattle.helpers.specs.declared.helper.Helper.TheVariants as helper
 use Rattle.helpers.specs.Helper.{helper_of}
-use Rattle.machine.specs.Arithmetic.{arithmetic, computed}
+use Rattle.machine.specs.Arithmetic.{arithmetic, operator_value}
 use Rattle.machine.specs.State.{State, register, word}
 use Rattle.machine.specs.Memory.{context_bytes, byte_at}
 use Rattle.machine.specs.declared.ByteAt.{ByteAt}
 use Rattle.machine.specs.Step as step
 use Rattle.bpf_isa.specs.Slots.{at, target_slot}
-use Rattle.machine.specs.Step.{checks, effect, step_of, tested, Next, Done, Fault, call_checks, call_effect, is_limit}
+use Rattle.machine.specs.Step.{checks, effect, step_of, after_checks, Next, Done, Fault, call_checks, call_effect, is_limit}
 use Rattle.bpf_shape.specs.Edges.{edges_of}
 use Rattle.bpf_shape.specs.Again.{limit_of}
 use Rattle.bpf_shape.specs.Paths.{Leads}
@@ -32,10 +32,10 @@ use Rattle.bpf_shape.specs.Rules.{IsShaped}
 use Rattle.ranges.specs.States.{Abstract, round_state}
 use Rattle.ranges.specs.Order.{Each, Holds, IsState, StateUnder}
 use Rattle.ranges.specs.Rules.{rules, call_rules}
-use Rattle.ranges.specs.After.{after_of, call_after, answered}
+use Rattle.ranges.specs.After.{after_of, call_after, after_answer}
 use Rattle.ranges.specs.Reading.{any_word}
 use Rattle.ranges.specs.Kinds.{Num}
-use Rattle.ranges.specs.Passing.{passes, edge_of, entry_state, sent}
+use Rattle.ranges.specs.Passing.{passes, edge_of, entry_state, passed_state}
 use Rattle.ranges.proofs.Keeping.{after_fits, edge_fits, entry_fits}
 use Rattle.ranges.proofs.Covering.{state_round}
 use Rattle.verifier.specs.Tables.{arrival}
@@ -70,8 +70,8 @@ call_goes program sectors device context known m number set site e limit keeps =
     bytes = byte_at (context_bytes context) device (all_frames m)
 
     by : (h : Option Helper) → helper_of (cast_unsigned w32 number) ≡ h → first_failing (option_map_or (call_rules known) h []) ≡ None
-        → Goes sectors m ((m.slot + 1, option_map_or (call_after known) h (answered known (Num any_word))) ∷ [])
-        (tested (machine m) (option_map_or (call_checks program bytes (machine m)) h (check fault.UnknownHelper false ∷ []))
+        → Goes sectors m ((m.slot + 1, option_map_or (call_after known) h (after_answer known (Num any_word))) ∷ [])
+        (after_checks (machine m) (option_map_or (call_checks program bytes (machine m)) h (check fault.UnknownHelper false ∷ []))
         (option_map_or (call_effect device (machine m)) h (Next (machine m))))
     by None f k = absurd (let there = helper_known program m.slot number set.shaped e in let bad : false ≡ true = rw f at there in cc)
     by (Some h) f k =
@@ -143,7 +143,7 @@ instr_goes program sectors device context known m (instr.LoadImmediate dst x) se
 
 -- what arrives does so along an edge
 
-sent_slot : (sectors slot : ℕ) (passed : Option Abstract) (t : State) → Arrives sectors (sent slot passed) t → t.slot ≡ slot
+sent_slot : (sectors slot : ℕ) (passed : Option Abstract) (t : State) → Arrives sectors (passed_state slot passed) t → t.slot ≡ slot
 sent_slot sectors slot None t a = absurd a
 sent_slot sectors slot (Some s) t (inl h) = sym h.0
 sent_slot sectors slot (Some s) t (inr h) = absurd h
@@ -170,7 +170,7 @@ arrives_edge sectors known slot (instr.CallLocal distance) t inside a = absurd (
 arrives_edge sectors known slot (instr.Jump distance) t inside a = target_leads None (target_slot slot distance) t.slot (one_slot sectors (target_slot slot distance) known t a)
 arrives_edge sectors known slot (instr.LongJump distance) t inside a = target_leads None (target_slot slot distance) t.slot (one_slot sectors (target_slot slot distance) known t a)
 arrives_edge sectors known slot (instr.Branch w c dst from distance) t inside a =
-    elim (arrives_of sectors (sent (slot + 1) (edge_of known (instr.Branch w c dst from distance) false)) (sent (target_slot slot distance) (edge_of known (instr.Branch w c dst from distance) true)) t a) [
+    elim (arrives_of sectors (passed_state (slot + 1) (edge_of known (instr.Branch w c dst from distance) false)) (passed_state (target_slot slot distance) (edge_of known (instr.Branch w c dst from distance) true)) t a) [
       | inl left ↦ next_leads (Some (target_slot slot distance)) (slot + 1) t.slot (sent_slot sectors (slot + 1) (edge_of known (instr.Branch w c dst from distance) false) t left)
       | inr right ↦ target_leads (Some (slot + 1)) (target_slot slot distance) t.slot (sent_slot sectors (target_slot slot distance) (edge_of known (instr.Branch w c dst from distance) true) t right)
     ]
@@ -181,7 +181,7 @@ arrives_edge sectors known slot i t inside a = next_leads None (slot + 1) t.slot
 -- the limit of `again` is set before it
 
 move_is : (a b : ℕ) → arithmetic width.W64 op.Mov a b ≡ b
-unfolding arithmetic computed
+unfolding arithmetic operator_value
 move_is a b = refl
 
 next_same : (s t : State) → Next s ≡ Next t → s ≡ t
@@ -237,7 +237,7 @@ each_append : (xs ys : List (ℕ × Abstract)) → Each (λ (p : ℕ × Abstract
 each_append [] ys a b = b
 each_append (x ∷ xs) ys a b = (a.0, each_append xs ys a.1 b)
 
-each_sent : (slot : ℕ) (o : Option Abstract) → Holds IsState o → Each (λ (p : ℕ × Abstract). IsState p.1) (sent slot o)
+each_sent : (slot : ℕ) (o : Option Abstract) → Holds IsState o → Each (λ (p : ℕ × Abstract). IsState p.1) (passed_state slot o)
 each_sent slot None h = tt
 each_sent slot (Some s) h = (h, tt)
 
@@ -245,12 +245,12 @@ pub passes_fit : (sectors : ℕ) (known : Abstract) (slot : ℕ) (i : Instr) →
 unfolding passes
 passes_fit sectors known slot instr.Exit few range fits = tt
 passes_fit sectors known slot (instr.CallLocal distance) few range fits =
-    each_append (sent (slot + 1) (after_of sectors known (instr.CallLocal distance))) ((target_slot slot distance, entry_state known) ∷ [])
+    each_append (passed_state (slot + 1) (after_of sectors known (instr.CallLocal distance))) ((target_slot slot distance, entry_state known) ∷ [])
     (each_sent (slot + 1) (after_of sectors known (instr.CallLocal distance)) (after_fits sectors known (instr.CallLocal distance) few range fits)) (entry_fits known fits, tt)
 passes_fit sectors known slot (instr.Jump distance) few range fits = (fits, tt)
 passes_fit sectors known slot (instr.LongJump distance) few range fits = (fits, tt)
 passes_fit sectors known slot (instr.Branch w c dst from distance) few range fits =
-    each_append (sent (slot + 1) (edge_of known (instr.Branch w c dst from distance) false)) (sent (target_slot slot distance) (edge_of known (instr.Branch w c dst from distance) true))
+    each_append (passed_state (slot + 1) (edge_of known (instr.Branch w c dst from distance) false)) (passed_state (target_slot slot distance) (edge_of known (instr.Branch w c dst from distance) true))
     (each_sent (slot + 1) (edge_of known (instr.Branch w c dst from distance) false) (edge_fits known (instr.Branch w c dst from distance) false range fits))
     (each_sent (target_slot slot distance) (edge_of known (instr.Branch w c dst from distance) true) (edge_fits known (instr.Branch w c dst from distance) true range fits))
 passes_fit sectors known slot (instr.LoadImmediate dst x) few range fits =

@@ -17,19 +17,19 @@ use Rattle.bpf_isa.specs.declared.instr.Size.{Size}
 use Rattle.bpf_isa.specs.Spelling.{IsSourceInRange}
 use Rattle.helpers.specs.Answers.{sector_start}
 use Rattle.machine.specs.State.{Caller, Frame, word, stack_start}
-use Rattle.machine.specs.Memory.{byte_count, byte_at, all_mapped, all_in_stacks, is_in_stacks, is_mapped, cell, stored}
+use Rattle.machine.specs.Memory.{byte_count, byte_at, all_mapped, all_in_stacks, is_in_stacks, is_mapped, cell, frames_with}
 use Rattle.machine.specs.Step as step
 use Rattle.bpf_isa.specs.Slots.{at}
-use Rattle.machine.specs.Step.{checks, effect, step_of, tested, Next}
+use Rattle.machine.specs.Step.{checks, effect, step_of, after_checks, Next}
 use Rattle.ranges.specs.declared.place.Place.TheVariants as place
 use Rattle.ranges.specs.Kinds.{Kind, Unset, Num, Ctx, Stack, Sector, SectorOrNull, is_unset, is_number}
 use Rattle.ranges.specs.Groups.{Marked, Spilled}
 use Rattle.ranges.specs.States.{Abstract}
 use Rattle.ranges.specs.Order.{IsBounded}
 use Rattle.ranges.specs.Reading.{value, second, are_set, with_groups, is_stack, is_base}
-use Rattle.ranges.specs.Places.{landed, place_of, is_inside, is_group}
+use Rattle.ranges.specs.Places.{landing, place_of, is_inside, is_group}
 use Rattle.ranges.specs.Rules.{rules, store_rules, is_whole}
-use Rattle.ranges.specs.After.{stored_groups, written, after_of}
+use Rattle.ranges.specs.After.{stored_groups, groups_after_write, after_of}
 use Rattle.ranges.specs.Passing.{passes}
 use Rattle.ranges.proofs.Keeping.{value_fits, second_fits}
 use Rattle.soundness.specs.Meaning.{Describes, GroupMeans}
@@ -78,7 +78,7 @@ stored_means : (sectors : ℕ) (known : Abstract) (m : Parts) (k : Kind) (p n x 
 unfolding stored_groups
 stored_means sectors known m k p n x site fits bounded describes = by (not (is_unset k)) (is_group p n) refl refl
   where
-    plain : (g : ℕ) → GroupMeans sectors (number m) (get_or (written p n known.groups) g (Marked [])) (filled m.stack p (number_bytes n x)) g
+    plain : (g : ℕ) → GroupMeans sectors (number m) (get_or (groups_after_write p n known.groups) g (Marked [])) (filled m.stack p (number_bytes n x)) g
     plain = written_means sectors (number m) known.groups (number_bytes n x) m.stack p n site.fits.stack (length-number_bytes n x) fits site.stands.cells.long site.stands.groups
 
     spilled : (q : ℕ) → q ≡ 8 → p + q ≤ 512 → p % 8 ≡ 0 → x < 2 ^ 64
@@ -89,7 +89,7 @@ stored_means sectors known m k p n x site fits bounded describes = by (not (is_u
         (spilled_means sectors (number m) known.groups m.stack k p x site.fits.stack eight aligned site.stands.cells.long small (word_means sectors (number m) k x describes) site.stands.groups)
 
     by : (b c : Bool) → not (is_unset k) ≡ b → is_group p n ≡ c
-        → (g : ℕ) → GroupMeans sectors (number m) (get_or (if b && c then set known.groups (p / 8) (Spilled k) else written p n known.groups) g (Marked [])) (filled m.stack p (number_bytes n x)) g
+        → (g : ℕ) → GroupMeans sectors (number m) (get_or (if b && c then set known.groups (p / 8) (Spilled k) else groups_after_write p n known.groups) g (Marked [])) (filled m.stack p (number_bytes n x)) g
     by true true e f = let h = group_parts p n f in spilled n h.0 fits h.1 (described_word sectors (number m) k x site.few (not_unset (is_unset k) e) bounded describes)
     by true false e f = plain
     by false c e f = plain
@@ -98,7 +98,7 @@ stored_at : (program : List (Option Instr)) (context : List ℕ) (device : List 
     → Site sectors known m → are_set known list ≡ true → is_some (at program (m.slot + 1)) ≡ true → IsBounded k → Describes sectors (number m) k x
     → (a ≡ stack_start + 1024 * number m + p) × (p + n ≤ 512)
     → Goes sectors m ((m.slot + 1, with_groups known (stored_groups k known.groups (place.Stack p) n)) ∷ [])
-    (tested (machine m) (step.reads (machine m) list ∷ step.store_tests program (byte_at context device (all_frames m)) (machine m) a n) (step.store (machine m) a (number_bytes n x)))
+    (after_checks (machine m) (step.reads (machine m) list ∷ step.store_tests program (byte_at context device (all_frames m)) (machine m) a n) (step.store (machine m) a (number_bytes n x)))
 stored_at program context device sectors known m k list p n x a site is next bounded describes lands =
     let bytes : List ℕ = number_bytes n x in
     let long : length bytes ≡ n = length-number_bytes n x in
@@ -111,7 +111,7 @@ stored_at program context device sectors known m k list p n x a site is next bou
       groups = stored_means sectors known m k p n x site lands.1 bounded describes;
     } in
     let list_passes = store_passes program context device sectors known m list a p n site lands.0 lands.1 is next in
-    let frames : stored (all_frames m) a bytes ≡ frames_of m.below m.caller (filled m.stack p bytes) = stored_is bytes m.below m.caller m.stack a p site.few.frames lands.0 (omega (arith, long, lands.1)) in
+    let frames : frames_with (all_frames m) a bytes ≡ frames_of m.below m.caller (filled m.stack p bytes) = stored_is bytes m.below m.caller m.stack a p site.few.frames lands.0 (omega (arith, long, lands.1)) in
     subst (Goes sectors m arrivals)
     (sym (tested_passes (machine m) (step.reads (machine m) list ∷ step.store_tests program (byte_at context device (all_frames m)) (machine m) a n) (step.store (machine m) a bytes) list_passes
     ∙ ap (λ f. Next (record { slot = m.slot + 1; registers = m.registers; frames = f; turns = m.turns; codes = m.codes })) frames))
@@ -125,7 +125,7 @@ stack_place (Num x) distance n e inside = absurd (let bad : false ≡ true = e i
 stack_place (Ctx o) distance n e inside = absurd (let bad : false ≡ true = e in cc)
 stack_place (Sector x) distance n e inside = absurd (let bad : false ≡ true = e in cc)
 stack_place SectorOrNull distance n e inside = absurd (let bad : false ≡ true = e in cc)
-stack_place (Stack o) distance n e inside = by (landed 512 n o distance) inside
+stack_place (Stack o) distance n e inside = by (landing 512 n o distance) inside
   where
     by : (m : Option ℕ) → is_inside (option_map_or (λ p. place.Stack p) m place.Outside) ≡ true → (p : ℕ) × (option_map_or (λ q. place.Stack q) m place.Outside ≡ place.Stack p)
     by None t = absurd (let bad : false ≡ true = t in cc)
@@ -136,14 +136,14 @@ stores : (program : List (Option Instr)) (context : List ℕ) (device : List (Li
     → Site sectors known m → FitsSigned w16 distance → are_set known list ≡ true → is_some (at program (m.slot + 1)) ≡ true → IsBounded k → Describes sectors (number m) k x
     → Describes sectors (number m) (value known base) (word (machine m) base) → is_stack (value known base) ≡ true → is_inside (place_of (value known base) distance n) ≡ true
     → Goes sectors m ((m.slot + 1, with_groups known (stored_groups k known.groups (place_of (value known base) distance n) n)) ∷ [])
-    (tested (machine m) (step.reads (machine m) list ∷ step.store_tests program (byte_at context device (all_frames m)) (machine m) (step.address (machine m) base distance) n)
+    (after_checks (machine m) (step.reads (machine m) list ∷ step.store_tests program (byte_at context device (all_frames m)) (machine m) (step.address (machine m) base distance) n)
     (step.store (machine m) (step.address (machine m) base distance) (number_bytes n x)))
 stores program context device sectors known m k list base n x distance site fits is next bounded describes based stack inside =
     let a : ℕ = step.address (machine m) base distance in
     let lands = place_lands sectors (number m) (value known base) distance n (word (machine m) base) site.few fits (value_fits known base site.fits) based inside in
     let found = stack_place (value known base) distance n stack inside in
     subst (λ q. Lands sectors (number m) q n a → Goes sectors m ((m.slot + 1, with_groups known (stored_groups k known.groups q n)) ∷ [])
-    (tested (machine m) (step.reads (machine m) list ∷ step.store_tests program (byte_at context device (all_frames m)) (machine m) a n) (step.store (machine m) a (number_bytes n x))))
+    (after_checks (machine m) (step.reads (machine m) list ∷ step.store_tests program (byte_at context device (all_frames m)) (machine m) a n) (step.store (machine m) a (number_bytes n x))))
     (sym found.1) (stored_at program context device sectors known m k list found.0 n x a site is next bounded describes) lands
 
 pub store_immediate_goes : (program : List (Option Instr)) (context : List ℕ) (device : List (List ℕ)) (sectors : ℕ) (known : Abstract) (m : Parts) (s : Size) (base : ℕ) (distance : ℤ) (z : ℤ)

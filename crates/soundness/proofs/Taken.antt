@@ -19,18 +19,18 @@ use Rattle.bpf_isa.specs.declared.instr.Condition.TheVariants as cond
 use Rattle.helpers.specs.declared.helper.Helper.{Helper}
 use Rattle.helpers.specs.declared.helper.Helper.TheVariants as helper
 use Rattle.helpers.specs.Helper.{helper_of}
-use Rattle.helpers.specs.Answers.{sector_answer, copied, copy_answer, again_answer, report_answer, zero_answer, mix_answer, same_answer}
+use Rattle.helpers.specs.Answers.{sector_answer, device_bytes, copy_answer, again_answer, report_answer, zero_answer, mix_answer, same_answer}
 use Rattle.bpf_shape.specs.Edges.{edges, edges_of}
 use Rattle.bpf_shape.specs.Again.{helper_number, limit_of, zero_test, others_of}
 use Rattle.bpf_shape.specs.Paths.{Leads}
 use Rattle.machine.proofs.HelperNumbers.{again_number}
 use Rattle.machine.specs.declared.ByteAt.{ByteAt}
-use Rattle.machine.specs.Arithmetic.{arithmetic, computed, extended, in_order, holds, compared}
+use Rattle.machine.specs.Arithmetic.{arithmetic, operator_value, sign_extension, in_order, holds, condition_holds}
 use Rattle.base.specs.Numbers.{number_bytes}
-use Rattle.machine.specs.Memory.{byte_count, plain_size, extension_of, loaded, change_at, with_byte, stored}
+use Rattle.machine.specs.Memory.{byte_count, plain_size, extension_of, number_from, change_at, with_byte, frames_with}
 use Rattle.machine.specs.State.{Caller, Frame, State, register, word, stack_start, stack_end, unset_stack}
 use Rattle.bpf_isa.specs.Slots.{at, target_slot}
-use Rattle.machine.specs.Step.{Stepped, Next, Done, Fault, second, address, memory, checks, call_checks, with_answer, set_and_go, turns_here, counted, effect, call_effect, goes_on, reads, returns_to, caller_of, saved, entered, exited, tested, step_of, step}
+use Rattle.machine.specs.Step.{Stepped, Next, Done, Fault, second, address, memory, checks, call_checks, with_answer, set_and_go, turns_here, count_turn, effect, call_effect, goes_on, reads, returns_to, caller_of, saved_caller, enter_function, exit_frame, after_checks, step_of, step}
 use Rattle.soundness.proofs.Room.{callers}
 
 -- an instruction that is no call and no EXIT
@@ -51,7 +51,7 @@ pub record Moves (s : State) (i : Instr) (t : State) : Type 0 where
 pub record Asks (s : State) (i : Instr) (t : State) : Type 0 where
   pub leads : Leads (edges_of s.slot i) t.slot
   pub width : length t.registers ≡ length s.registers
-  pub counts : t.turns ≡ counted s (word s 1)
+  pub counts : t.turns ≡ count_turn s (word s 1)
   pub frames : callers t.frames ≡ callers s.frames
   pub answer : t.registers ≡ with_answer s.registers (again_answer (turns_here s) (word s 1))
 
@@ -113,8 +113,8 @@ byte_callers fs a b = by_test (nat_lt a stack_start)
     by_test false =
         changed_callers ((a - stack_start) / 1024) (λ f. record f { stack = slice_set f.stack ((a - stack_start) % 1024) (Some b) }) fs (λ f. refl)
 
-pub stored_callers : (fs : List Frame) (a : ℕ) (bytes : List ℕ) → callers (stored fs a bytes) ≡ callers fs
-unfolding stored
+pub stored_callers : (fs : List Frame) (a : ℕ) (bytes : List ℕ) → callers (frames_with fs a bytes) ≡ callers fs
+unfolding frames_with
 stored_callers fs a [] = refl
 stored_callers fs a (b ∷ bytes) = stored_callers (with_byte fs a b) ((a + 1) % 2 ^ 64) bytes ∙ byte_callers fs a b
 
@@ -123,7 +123,7 @@ pub effect_moves : (bytes : ℕ → ByteAt) (device : List (List ℕ)) (s : Stat
 unfolding effect edges_of
 effect_moves bytes device s (instr.Arithmetic w o dst from) h = set_moves s (instr.Arithmetic w o dst from) 1 dst (arithmetic w o (word s dst) (second s from)) refl
 effect_moves bytes device s (instr.Negate w dst) h = set_moves s (instr.Negate w dst) 1 dst (arithmetic w op.Sub 0 (word s dst)) refl
-effect_moves bytes device s (instr.SignExtend e dst src) h = set_moves s (instr.SignExtend e dst src) 1 dst (extended e (word s src)) refl
+effect_moves bytes device s (instr.SignExtend e dst src) h = set_moves s (instr.SignExtend e dst src) 1 dst (sign_extension e (word s src)) refl
 effect_moves bytes device s (instr.ByteOrder o size dst) h = set_moves s (instr.ByteOrder o size dst) 1 dst (in_order o size (word s dst)) refl
 effect_moves bytes device s (instr.Jump distance) h = record { leads = inr refl; width = refl; counts = refl; frames = refl }
 effect_moves bytes device s (instr.LongJump distance) h = record { leads = inr refl; width = refl; counts = refl; frames = refl }
@@ -133,9 +133,9 @@ effect_moves bytes device s (instr.CallHelper number) h = absurd h
 effect_moves bytes device s (instr.CallLocal distance) h = absurd h
 effect_moves bytes device s instr.Exit h = absurd h
 effect_moves bytes device s (instr.Load size dst base distance) h =
-    set_moves s (instr.Load size dst base distance) 1 dst (loaded bytes (address s base distance) (byte_count size)) refl
+    set_moves s (instr.Load size dst base distance) 1 dst (number_from bytes (address s base distance) (byte_count size)) refl
 effect_moves bytes device s (instr.LoadSigned size dst base distance) h =
-    set_moves s (instr.LoadSigned size dst base distance) 1 dst (extended (extension_of size) (loaded bytes (address s base distance) (byte_count (plain_size size)))) refl
+    set_moves s (instr.LoadSigned size dst base distance) 1 dst (sign_extension (extension_of size) (number_from bytes (address s base distance) (byte_count (plain_size size)))) refl
 effect_moves bytes device s (instr.StoreImmediate size base distance n) h =
     record { leads = inl refl; width = refl; counts = refl; frames = stored_callers s.frames (address s base distance) (number_bytes (byte_count size) (cast_unsigned w64 n)) }
 effect_moves bytes device s (instr.Store size base distance src) h =
@@ -164,7 +164,7 @@ pub record Entered (s : State) (distance : ℤ) (t : State) : Type 0 where
   pub slot : t.slot ≡ target_slot s.slot distance
   pub width : length t.registers ≡ 11
   pub counts : t.turns ≡ s.turns
-  pub frames : callers t.frames ≡ callers s.frames ++ Some (saved s) ∷ []
+  pub frames : callers t.frames ≡ callers s.frames ++ Some (saved_caller s) ∷ []
   pub few : nat_lt (length s.frames) 4 ≡ true
 
 pub local_entered : (program : List (Option Instr)) (context : List ℕ) (device : List (List ℕ)) (s t : State) (distance : ℤ)
@@ -176,17 +176,17 @@ local_entered program context device s t distance e = by_test (nat_lt (length s.
     here = record s {
       slot = target_slot s.slot distance;
       registers = None ∷ register s 1 ∷ register s 2 ∷ register s 3 ∷ register s 4 ∷ register s 5 ∷ None ∷ None ∷ None ∷ None ∷ Some (stack_end (length s.frames)) ∷ [];
-      frames = s.frames ++ record { stack = unset_stack; caller = Some (saved s) } ∷ [];
+      frames = s.frames ++ record { stack = unset_stack; caller = Some (saved_caller s) } ∷ [];
     }
 
     came_to : nat_lt (length s.frames) 4 ≡ true → Entered s distance here
-    came_to few = record { slot = refl; width = refl; counts = refl; frames = map-append (λ (f : Frame). f.caller) s.frames (record { stack = unset_stack; caller = Some (saved s) } ∷ []); few = few }
+    came_to few = record { slot = refl; width = refl; counts = refl; frames = map-append (λ (f : Frame). f.caller) s.frames (record { stack = unset_stack; caller = Some (saved_caller s) } ∷ []); few = few }
 
     by_test : (b : Bool) → nat_lt (length s.frames) 4 ≡ b
-        → tested s (check fault.FrameLimit b ∷ goes_on program (target_slot s.slot distance) ∷ []) (entered s (target_slot s.slot distance)) ≡ Next t → Entered s distance t
+        → after_checks s (check fault.FrameLimit b ∷ goes_on program (target_slot s.slot distance) ∷ []) (enter_function s (target_slot s.slot distance)) ≡ Next t → Entered s distance t
     by_test false is e = absurd (let bad : Fault fault.FrameLimit s.slot ≡ Next t = e in cc)
     by_test true is e =
-        let came : entered s (target_slot s.slot distance) ≡ Next t = passed s (first_failing (goes_on program (target_slot s.slot distance) ∷ [])) _ t e in
+        let came : enter_function s (target_slot s.slot distance) ≡ Next t = passed s (first_failing (goes_on program (target_slot s.slot distance) ∷ [])) _ t e in
         subst (OnNext (Entered s distance)) came (came_to is)
 
 -- a return
@@ -209,12 +209,12 @@ has_exited program context device s t e = by_caller (caller_of s.frames) refl e
       frames = take (length s.frames - 1) s.frames;
     }
 
-    by_caller : (o : Option Caller) → caller_of s.frames ≡ o → tested s (reads s (0 ∷ []) ∷ returns_to program o) (exited s o) ≡ Next t → (c : Caller) × Exited s c t
+    by_caller : (o : Option Caller) → caller_of s.frames ≡ o → after_checks s (reads s (0 ∷ []) ∷ returns_to program o) (exit_frame s o) ≡ Next t → (c : Caller) × Exited s c t
     by_caller None is e =
-        let came : exited s None ≡ Next t = passed s (first_failing (reads s (0 ∷ []) ∷ [])) _ t e in
+        let came : exit_frame s None ≡ Next t = passed s (first_failing (reads s (0 ∷ []) ∷ [])) _ t e in
         absurd (let bad : Done (word s 0) s.codes ≡ Next t = came in cc)
     by_caller (Some c) is e =
-        let came : exited s (Some c) ≡ Next t = passed s (first_failing (reads s (0 ∷ []) ∷ returns_to program (Some c))) _ t e in
+        let came : exit_frame s (Some c) ≡ Next t = passed s (first_failing (reads s (0 ∷ []) ∷ returns_to program (Some c))) _ t e in
         let there : Exited s c (back c) = record { caller = is; slot = refl; width = omega arith; counts = refl; frames = refl } in
         (c, subst (OnNext (Exited s c)) came there)
 
@@ -247,7 +247,7 @@ Called s number _ t = Moves s (instr.CallHelper number) t
 call_moves : (device : List (List ℕ)) (s : State) (number : ℤ) (h : Helper) → OnNext (Called s number h) (call_effect device s h)
 unfolding call_effect edges_of
 call_moves device s number helper.Sector = answer_moves s number _ (sector_answer device (word s 1)) refl refl refl refl
-call_moves device s number helper.Copy = answer_moves s number _ (copy_answer device (word s 1) (word s 3)) refl refl refl (stored_callers s.frames (word s 2) (copied device (word s 1) (word s 3)))
+call_moves device s number helper.Copy = answer_moves s number _ (copy_answer device (word s 1) (word s 3)) refl refl refl (stored_callers s.frames (word s 2) (device_bytes device (word s 1) (word s 3)))
 call_moves device s number helper.Again =
     record { leads = inl refl; width = length_answered s.registers (again_answer (turns_here s) (word s 1)); counts = refl; frames = refl; answer = refl }
 call_moves device s number helper.Report = answer_moves s number _ (report_answer s.codes) refl refl refl refl
@@ -267,7 +267,7 @@ unfolding step_of checks effect
 helper_called program context device s t number e = by_name (helper_of (cast_unsigned w32 number)) refl e
   where
     by_name : (o : Option Helper) → helper_of (cast_unsigned w32 number) ≡ o
-        → tested s (option_map_or (call_checks program (memory context device s) s) o (check fault.UnknownHelper false ∷ [])) (option_map_or (call_effect device s) o (Next s)) ≡ Next t
+        → after_checks s (option_map_or (call_checks program (memory context device s) s) o (check fault.UnknownHelper false ∷ [])) (option_map_or (call_effect device s) o (Next s)) ≡ Next t
         → CallsHelper s number t
     by_name None is e = absurd (let bad : Fault fault.UnknownHelper s.slot ≡ Next t = e in cc)
     by_name (Some h) is e =
@@ -315,7 +315,7 @@ HasLimit k t = register t 1 ≡ Some k
 
 pub sets_limit : (bytes : ℕ → ByteAt) (device : List (List ℕ)) (s : State) (i : Instr) (k : ℕ) → limit_of i ≡ Some k → 1 < length s.registers
     → OnNext (HasLimit k) (effect bytes device s i)
-unfolding effect limit_of arithmetic computed
+unfolding effect limit_of arithmetic operator_value
 sets_limit bytes device s (instr.Arithmetic width.W64 op.Mov dst (source.Immediate n)) k is inside =
     let a = if_some _ (cast_unsigned w64 n) k is in
     let b = and_parts (dst == 1) _ a.0 in
@@ -325,7 +325,7 @@ sets_limit bytes device s i k is inside = absurd (let bad : None ≡ Some k = is
 -- a test of r0 that finds 0 takes no again edge
 
 goes_by : (c : Condition) (slot to : ℕ) → Leads (others_of (Some c) (edges (Some (slot + 1)) (Some to))) (if holds width.W64 c 0 0 then to else slot + 1)
-unfolding holds compared
+unfolding holds condition_holds
 goes_by cond.Eq slot to = inr refl
 goes_by cond.Ne slot to = inl refl
 goes_by c slot to = either (holds width.W64 c 0 0) slot to

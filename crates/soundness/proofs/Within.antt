@@ -13,7 +13,7 @@ use Rattle.bpf_shape.specs.Laws.{AgainHasForm}
 use Rattle.bpf_shape.proofs.Walks.{stays}
 use Rattle.machine.specs.State.{State, start, no_turns}
 use Rattle.machine.specs.Step.{Stepped, Next, Done, Fault, step}
-use Rattle.machine.specs.Outcome.{Verdict, Stopped, after, run}
+use Rattle.machine.specs.Outcome.{Verdict, Stopped, after, steps_end}
 use Rattle.soundness.specs.Ending.{RunsEndWithinBudget}
 use Rattle.soundness.proofs.Counts.{left_at_most}
 use Rattle.soundness.proofs.Room.{slot_fits, slot_weighs, from_entry, Function, callers, Arrived, left, Framed, Runs}
@@ -25,13 +25,13 @@ module _ (program : List (Option Instr)) (context : List ℕ) (device : List (Li
   pub record Ends (s : State) (steps : ℕ) : Type 0 where
     pub answer : ℕ
     pub codes : List ℕ
-    pub verdict : run program context device steps s ≡ Verdict answer codes
+    pub verdict : steps_end program context device steps s ≡ Verdict answer codes
 
   abbrev HasNoFault : State → Type 0
-  HasNoFault s = (n : ℕ) (cause : MachineFault) (slot : ℕ) → run program context device n s ≡ Stopped cause slot → ⊥
+  HasNoFault s = (n : ℕ) (cause : MachineFault) (slot : ℕ) → steps_end program context device n s ≡ Stopped cause slot → ⊥
 
   pub ends : (steps : ℕ) (s : State) → Runs program whole s steps → HasNoFault s → Ends s steps
-  unfolding run
+  unfolding steps_end
   ends zero s r fine =
       let f = r.framed in
       let h = f.here in
@@ -43,10 +43,10 @@ module _ (program : List (Option Instr)) (context : List ℕ) (device : List (Li
     where
       by_step : ((t : State) → Runs program whole t n → HasNoFault t → Ends t n) → (x : Stepped) → step program context device s ≡ x → Ends s (suc n)
       by_step later (Next t) e =
-          let rest = later t (progress program context device whole p shaped form s t n r e) (λ m cause slot stop. fine (suc m) cause slot (ap (after (run program context device m)) e ∙ stop)) in
-          record { answer = rest.answer; codes = rest.codes; verdict = ap (after (run program context device n)) e ∙ rest.verdict }
-      by_step later (Done a codes) e = record { answer = a; codes = codes; verdict = ap (after (run program context device n)) e }
-      by_step later (Fault cause slot) e = absurd (fine 1 cause slot (ap (after (run program context device 0)) e))
+          let rest = later t (progress program context device whole p shaped form s t n r e) (λ m cause slot stop. fine (suc m) cause slot (ap (after (steps_end program context device m)) e ∙ stop)) in
+          record { answer = rest.answer; codes = rest.codes; verdict = ap (after (steps_end program context device n)) e ∙ rest.verdict }
+      by_step later (Done a codes) e = record { answer = a; codes = codes; verdict = ap (after (steps_end program context device n)) e }
+      by_step later (Fault cause slot) e = absurd (fine 1 cause slot (ap (after (steps_end program context device 0)) e))
 
 -- the start
 

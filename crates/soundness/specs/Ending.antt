@@ -5,14 +5,14 @@ use Rattle.bpf_isa.specs.Program.{IsProgram}
 use Rattle.bpf_shape.specs.Budget.{IsBudget}
 use Rattle.bpf_shape.specs.Rules.{IsShaped}
 use Rattle.machine.specs.State.{start}
-use Rattle.machine.specs.Outcome.{Verdict, run}
+use Rattle.machine.specs.Outcome.{Verdict, steps_end}
 use Rattle.soundness.specs.Reaching.{NeverFaults}
 
 -- within so many steps from the start the program ends in a verdict
 pub record EndsWithin (program : List (Option Instr)) (context : List ℕ) (device : List (List ℕ)) (limit : ℕ) : Type 0 where
   pub answer : ℕ
   pub codes : List ℕ
-  pub verdict : run program context device limit start ≡ Verdict answer codes
+  pub verdict : steps_end program context device limit start ≡ Verdict answer codes
 
 -- a program of right shape whose run meets no fault ends within its budget
 abbrev pub RunsEndWithinBudget : Type 0

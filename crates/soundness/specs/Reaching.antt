@@ -4,7 +4,7 @@ use Rattle.base.specs.declared.causes.MachineFault.{MachineFault}
 use Rattle.bpf_isa.specs.declared.instr.Instr.{Instr}
 use Rattle.machine.specs.State.{State, start}
 use Rattle.machine.specs.Step.{Next, Fault, step}
-use Rattle.machine.specs.Outcome.{Stopped, run}
+use Rattle.machine.specs.Outcome.{Stopped, steps_end}
 
 -- so many steps lead from the start to a state
 abbrev pub Reached : List (Option Instr) → List ℕ → List (List ℕ) → ℕ → State → Type 0
@@ -19,12 +19,12 @@ StepsWithoutFault program context device =
 
 -- however many steps are made, the run does not stop at a fault
 abbrev pub NeverFaults : List (Option Instr) → List ℕ → List (List ℕ) → Type 0
-NeverFaults program context device = (n : ℕ) (cause : MachineFault) (slot : ℕ) → run program context device n start ≡ Stopped cause slot → ⊥
+NeverFaults program context device = (n : ℕ) (cause : MachineFault) (slot : ℕ) → steps_end program context device n start ≡ Stopped cause slot → ⊥
 
 -- a run goes on from each state that it reaches
 abbrev pub RunsGoOn : Type 0
 RunsGoOn = (program : List (Option Instr)) (context : List ℕ) (device : List (List ℕ)) (n m : ℕ) (s : State)
-    → Reached program context device n s → run program context device (n + m) start ≡ run program context device m s
+    → Reached program context device n s → steps_end program context device (n + m) start ≡ steps_end program context device m s
 
 -- a run never stops at a fault where no step from a reached state is one, and the other way round
 abbrev pub FaultsAreOfSteps : Type 0

@@ -1,7 +1,7 @@
 //! Laws of the end of runs. Nothing here is called.
 
 ghost use Rattle.std.specs.Prelude.{◌≡◌, ℕ, List, []};
-ghost use Rattle.machine.specs.Outcome.{OutOfSteps, Verdict, run};
+ghost use Rattle.machine.specs.Outcome.{OutOfSteps, Verdict, steps_end};
 ghost use Rattle.machine.specs.State.{start};
 ghost use Rattle.soundness.specs.Ending.{RunsEndWithinBudget};
 ghost use Rattle.soundness.specs.Reaching.{FaultsAreOfSteps, RunsGoOn};
@@ -28,8 +28,8 @@ pub fn run_ends_within_budget()
 
 /// A loop inside a loop answers 0 at its 29th step: both calls of `again` count over the whole run. The
 /// budget is 54.
-#[tactic(auto, unfolding(crate::specs::Worked::nested_loops, machine::specs::Outcome::run, machine::specs::Step::step_of, machine::specs::Step::checks, machine::specs::Step::call_checks, machine::specs::Step::effect, machine::specs::Step::call_effect, machine::specs::Arithmetic::arithmetic, machine::specs::Arithmetic::computed, machine::specs::Arithmetic::holds, machine::specs::Arithmetic::compared, machine::specs::State::start, machine::specs::State::no_turns, machine::specs::State::unset_stack, helpers::specs::Answers::again_answer))]
+#[tactic(auto, unfolding(crate::specs::Worked::nested_loops, machine::specs::Outcome::steps_end, machine::specs::Step::step_of, machine::specs::Step::checks, machine::specs::Step::call_checks, machine::specs::Step::effect, machine::specs::Step::call_effect, machine::specs::Arithmetic::arithmetic, machine::specs::Arithmetic::operator_value, machine::specs::Arithmetic::holds, machine::specs::Arithmetic::condition_holds, machine::specs::State::start, machine::specs::State::no_turns, machine::specs::State::unset_stack, helpers::specs::Answers::again_answer))]
 pub fn worked_loops()
-    ensures ends { (context : List ℕ) (device : List (List ℕ)) → run nested_loops context device 29 start ≡ Verdict 0 [] }
-    ensures goes_on { (context : List ℕ) (device : List (List ℕ)) → run nested_loops context device 28 start ≡ OutOfSteps }
+    ensures ends { (context : List ℕ) (device : List (List ℕ)) → steps_end nested_loops context device 29 start ≡ Verdict 0 [] }
+    ensures goes_on { (context : List ℕ) (device : List (List ℕ)) → steps_end nested_loops context device 28 start ≡ OutOfSteps }
 {}

@@ -22,9 +22,9 @@ behind end rest (Done _ _) = end
 behind end rest (Fault _ _) = end
 
 -- what a run came to that a step ended so, where these codes were reported
-abbrev pub halted : List ℕ → Halt → Ending
-halted numbers (halt.Verdict answer) = Verdict answer numbers
-halted numbers (halt.Fault cause slot) = Stopped cause slot
+abbrev pub ending_of_halt : List ℕ → Halt → Ending
+ending_of_halt numbers (halt.Verdict answer) = Verdict answer numbers
+ending_of_halt numbers (halt.Fault cause slot) = Stopped cause slot
 
 -- how many of at most n steps from a state on are made; one that ends the run is made too
 unfoldable pub steps_made : List (Option Instr) → List ℕ → List (List ℕ) → ℕ → State → ℕ

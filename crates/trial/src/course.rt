@@ -2,10 +2,10 @@
 
 ghost use Rattle.std.specs.Prelude.{◌≡◌};
 ghost use Rattle.machine.specs.Memory.{context_bytes};
-ghost use Rattle.machine.specs.Outcome.{outcome, run};
+ghost use Rattle.machine.specs.Outcome.{outcome, steps_end};
 ghost use Rattle.machine.specs.State.{start};
 ghost use Rattle.interp.specs.Ending.{ending_of};
-ghost use Rattle.trial.specs.Trace.{halted, steps_made};
+ghost use Rattle.trial.specs.Trace.{ending_of_halt, steps_made};
 
 use arrayvec::ArrayVec;
 use bpf_isa::program::Program;
@@ -21,7 +21,7 @@ pub(crate) struct Course {
 
 /// The outcome of a run that ended so.
 fn outcome_of<D: Device>(walk: &Walk<'_, D>, halt: Halt) -> Outcome
-    ensures { ending_of result ≡ halted walk.now.state.codes halt }
+    ensures { ending_of result ≡ ending_of_halt walk.now.state.codes halt }
 {
     match halt {
         Halt::Verdict(answer) => {
@@ -35,7 +35,7 @@ fn outcome_of<D: Device>(walk: &Walk<'_, D>, halt: Halt) -> Outcome
 
 /// Makes at most so many steps.
 fn follow<D: Device>(walk: &mut Walk<'_, D>, limit: u64) -> Course
-    ensures outcome { ending_of result.outcome ≡ run walk.old.program walk.old.context walk.old.device limit walk.old.state }
+    ensures outcome { ending_of result.outcome ≡ steps_end walk.old.program walk.old.context walk.old.device limit walk.old.state }
     ensures steps { result.steps ≡ steps_made walk.old.program walk.old.context walk.old.device limit walk.old.state }
 {
     for made in 0..limit {

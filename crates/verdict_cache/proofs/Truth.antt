@@ -12,13 +12,13 @@ use Rattle.lru.proofs.Splits.{Contains-cons}
 use Rattle.verdict_cache.specs.declared.kept.Kept.{Kept}
 use Rattle.verdict_cache.specs.declared.kept.Kept.TheVariants as kept
 use Rattle.verdict_cache.specs.Endings.{IsEndingOf, AreTrue}
-use Rattle.verdict_cache.specs.Shard.{listed, to_front}
+use Rattle.verdict_cache.specs.Shard.{listed_outcome, to_front}
 use Rattle.verdict_cache.specs.Puts.{entries_after}
 use Rattle.verdict_cache.proofs.Listed.{listed_entry}
 
 module _ (plan : PlanValue) (checkers : List CheckerValue) (entries : List (KeyValue × Outcome)) (key : KeyValue) (outcome : Outcome) where
   -- a listed outcome is what its key ends in
-  pub listed_true : AreTrue plan checkers entries → listed entries key ≡ Some outcome → IsEndingOf plan checkers key (ending_of outcome)
+  pub listed_true : AreTrue plan checkers entries → listed_outcome entries key ≡ Some outcome → IsEndingOf plan checkers key (ending_of outcome)
   listed_true each there = each key outcome (Contains-lookup_entry (same_key key) entries (key, outcome) (listed_entry entries key outcome there)).0
 
   with_first : (rest : List (KeyValue × Outcome)) → AreTrue plan checkers entries → IsEndingOf plan checkers key (ending_of outcome)

@@ -5,13 +5,13 @@ use Rattle.choices.specs.Choices.{ChoiceValue}
 use Rattle.machine.specs.Outcome.{Ending}
 use Rattle.interp.specs.declared.outcome.Outcome.{Outcome}
 use Rattle.interp.specs.Ending.{ending_of}
-use Rattle.checker.specs.Checker.{CheckerValue, judged}
+use Rattle.checker.specs.Checker.{CheckerValue, judgement}
 use Rattle.images.specs.Views.{view_of, sectors_of, context_at}
 use Rattle.images.specs.Keys.{KeyValue, key_of}
 
 -- what a checker ends in on the image of a choice
 abbrev pub ending_on : PlanValue → ChoiceValue → CheckerValue → Ending
-ending_on plan choice checker = judged checker (sectors_of (view_of plan choice)) (context_at plan.log choice.cut)
+ending_on plan choice checker = judgement checker (sectors_of (view_of plan choice)) (context_at plan.log choice.cut)
 
 -- on each image of the plan and with each checker that have the key together, the checker ends so
 abbrev pub IsEndingOf : PlanValue → List CheckerValue → KeyValue → Ending → Type 0

@@ -4,16 +4,16 @@ use Rattle.interp.specs.declared.outcome.Outcome.{Outcome}
 use Rattle.images.specs.Keys.{KeyValue}
 use Rattle.verdict_cache.specs.declared.kept.Kept.{Kept}
 use Rattle.verdict_cache.specs.declared.kept.Kept.TheVariants as kept
-use Rattle.verdict_cache.specs.Shard.{ShardValue, listed, to_front}
+use Rattle.verdict_cache.specs.Shard.{ShardValue, listed_outcome, to_front}
 
 -- where a put answers so. The entries, the capacity and the key determine the answer, but that memory for a new
 -- key may be refused
 abbrev pub Answers : Kept → List (KeyValue × Outcome) → ℕ → KeyValue → Type 0
 Answers kept.Off entries capacity key = capacity ≡ 0
-Answers kept.Again entries capacity key = (0 < capacity) × IsSome (listed entries key)
-Answers kept.New entries capacity key = (length entries < capacity) × IsNone (listed entries key)
-Answers kept.Evicted entries capacity key = (0 < capacity) × (length entries ≡ capacity) × IsNone (listed entries key)
-Answers kept.NoMemory entries capacity key = (0 < capacity) × IsNone (listed entries key)
+Answers kept.Again entries capacity key = (0 < capacity) × IsSome (listed_outcome entries key)
+Answers kept.New entries capacity key = (length entries < capacity) × IsNone (listed_outcome entries key)
+Answers kept.Evicted entries capacity key = (0 < capacity) × (length entries ≡ capacity) × IsNone (listed_outcome entries key)
+Answers kept.NoMemory entries capacity key = (0 < capacity) × IsNone (listed_outcome entries key)
 
 -- the entries after a put with that answer: the entry is first, and where none had its key and there was no room, the
 -- last one has left

@@ -15,16 +15,16 @@ pub record ShardValue : Type 0 where
   pub hits : ℕ
 
 -- the outcome that is listed for a key
-abbrev pub listed : List (KeyValue × Outcome) → KeyValue → Option Outcome
-listed entries key = lookup (same_key key) entries
+abbrev pub listed_outcome : List (KeyValue × Outcome) → KeyValue → Option Outcome
+listed_outcome entries key = lookup (same_key key) entries
 
 -- the entry first, in the place of the one that had its key
 abbrev pub to_front : List (KeyValue × Outcome) → KeyValue → Outcome → List (KeyValue × Outcome)
 to_front entries key outcome = (key, outcome) ∷ remove_entry (same_key key) entries
 
 -- one look more that found an entry; the count stays at its greatest value
-abbrev pub counted : ℕ → ℕ
-counted hits = min (hits + 1) (2 ^ 64 - 1)
+abbrev pub count_hit : ℕ → ℕ
+count_hit hits = min (hits + 1) (2 ^ 64 - 1)
 
 -- a shard after a look that found the outcome
 abbrev pub after_look : ShardValue → KeyValue → Outcome → ShardValue
@@ -32,7 +32,7 @@ after_look shard key outcome = record {
   number = shard.number;
   entries = to_front shard.entries key outcome;
   capacity = shard.capacity;
-  hits = counted shard.hits;
+  hits = count_hit shard.hits;
 }
 
 -- a shard as it is kept: as a map of bounded size, or without one where the capacity is 0

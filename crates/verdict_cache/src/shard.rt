@@ -5,7 +5,7 @@ ghost use Rattle.interp.specs.Ending.{ending_of};
 ghost use Rattle.lru.specs.LruCache.{lru_cache};
 ghost use Rattle.images.specs.Equal.{same_key};
 ghost use Rattle.verdict_cache.specs.Endings.{IsEndingOf};
-ghost use Rattle.verdict_cache.specs.Shard.{listed, to_front, after_look};
+ghost use Rattle.verdict_cache.specs.Shard.{listed_outcome, to_front, after_look};
 ghost use Rattle.verdict_cache.specs.Puts.{Answers, entries_after, after_put};
 ghost use Rattle.verdict_cache.specs.Sizes.{share_of, empty_shard};
 
@@ -70,7 +70,7 @@ impl<'a, J: Run> Shard<'a, J> {
 
     /// The outcome that is listed for a key. Its entry becomes the most recently used.
     pub fn look(&mut self, key: &Key<'a>) -> Option<Outcome>
-        ensures answer { result ≡ listed self.old.entries key.now }
+        ensures answer { result ≡ listed_outcome self.old.entries key.now }
         ensures found { IfSome result (λ outcome. self.new ≡ after_look self.old key.now outcome) }
         ensures missing { IfNone result (self.new ≡ self.old) }
         ensures share { self.old.capacity ≡ share_of J.size self.old.number }
@@ -133,7 +133,7 @@ fn share_of(size: u32, number: u32) -> u32
 /// The outcome of a key, whose entry becomes the most recently used.
 #[tactic(auto, using(crate::proofs::Listed::promoted_is))]
 fn used<'a>(cache: &mut LruCache<Key<'a>, Outcome>, key: &Key<'a>) -> Option<Outcome>
-    ensures answer { result ≡ listed cache.old.entries key.now }
+    ensures answer { result ≡ listed_outcome cache.old.entries key.now }
     ensures found { IfSome result (λ outcome. cache.new ≡ lru_cache (to_front cache.old.entries key.now outcome) cache.old.cap) }
     ensures missing { IfNone result (cache.new ≡ cache.old) }
 {

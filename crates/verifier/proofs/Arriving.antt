@@ -9,31 +9,31 @@ use Rattle.ranges.specs.States.{Abstract}
 use Rattle.ranges.specs.Order.{IsState, Each, Holds}
 use Rattle.ranges.proofs.Fitting.{join_state_fits}
 use Rattle.verifier.specs.Tables.{state_at, Covers, CoversAll, AreStates}
-use Rattle.verifier.specs.Rounds.{joined, receive}
+use Rattle.verifier.specs.Rounds.{join_arrival, receive}
 use Rattle.verifier.specs.Passing.{Arrive, Arrived}
 use Rattle.verifier.proofs.Chains.{contains_other, contains_more, contains_self}
 
-joined_fits : (m : Option Abstract) (s : Abstract) → Holds IsState m → IsState s → IsState (joined m s)
+joined_fits : (m : Option Abstract) (s : Abstract) → Holds IsState m → IsState s → IsState (join_arrival m s)
 joined_fits None s h a = a
 joined_fits (Some t) s h a = join_state_fits t s h a
 
-joined_covers : (m : Option Abstract) (s : Abstract) → Holds IsState m → IsState s → Covers (Some (joined m s)) s
+joined_covers : (m : Option Abstract) (s : Abstract) → Holds IsState m → IsState s → Covers (Some (join_arrival m s)) s
 joined_covers None s h a = contains_self s a
 joined_covers (Some t) s h a = contains_other t s h a
 
-joined_keeps : (m : Option Abstract) (s x : Abstract) → Holds IsState m → IsState s → IsState x → Covers m x → Covers (Some (joined m s)) x
+joined_keeps : (m : Option Abstract) (s x : Abstract) → Holds IsState m → IsState s → IsState x → Covers m x → Covers (Some (join_arrival m s)) x
 joined_keeps None s x h a b c = absurd c
 joined_keeps (Some t) s x h a b c = contains_more t s x h a b c
 
 -- what is known after an arrival: at its slot, and at the others
-pub here : (table : List (Option Abstract)) (p : ℕ × Abstract) → p.0 < length table → state_at (receive table p) p.0 ≡ Some (joined (state_at table p.0) p.1)
-here table p inside = get_or-set_same table p.0 (Some (joined (state_at table p.0) p.1)) None inside
+pub here : (table : List (Option Abstract)) (p : ℕ × Abstract) → p.0 < length table → state_at (receive table p) p.0 ≡ Some (join_arrival (state_at table p.0) p.1)
+here table p inside = get_or-set_same table p.0 (Some (join_arrival (state_at table p.0) p.1)) None inside
 
 pub elsewhere : (table : List (Option Abstract)) (p : ℕ × Abstract) (slot : ℕ) → (slot ≡ p.0 → ⊥) → state_at (receive table p) slot ≡ state_at table slot
-elsewhere table p slot other = get_or-set_other table p.0 slot (Some (joined (state_at table p.0) p.1)) None other
+elsewhere table p slot other = get_or-set_other table p.0 slot (Some (join_arrival (state_at table p.0) p.1)) None other
 
 pub receive_long : (table : List (Option Abstract)) (p : ℕ × Abstract) → length (receive table p) ≡ length table
-receive_long table p = length-set table p.0 (Some (joined (state_at table p.0) p.1))
+receive_long table p = length-set table p.0 (Some (join_arrival (state_at table p.0) p.1))
 
 pub receive_fits : (table : List (Option Abstract)) (p : ℕ × Abstract) → p.0 < length table → AreStates table → IsState p.1 → AreStates (receive table p)
 receive_fits table p inside h a slot =
@@ -89,7 +89,7 @@ same_covers table ps h a e = subst (λ t. CoversAll t ps) e (all_covered table p
 pub covered_same : (table : List (Option Abstract)) (p : ℕ × Abstract) → Covers (state_at table p.0) p.1 → receive table p ≡ table
 covered_same table p c = by_known (state_at table p.0) refl c
   where
-    by_known : (m : Option Abstract) → state_at table p.0 ≡ m → Covers m p.1 → set table p.0 (Some (joined m p.1)) ≡ table
+    by_known : (m : Option Abstract) → state_at table p.0 ≡ m → Covers m p.1 → set table p.0 (Some (join_arrival m p.1)) ≡ table
     by_known None e c = absurd c
     by_known (Some s) e c = rw (c, ← e) (set-get_or table p.0 None)
 

@@ -21,7 +21,7 @@ use Rattle.verifier.specs.Tables.{state_at, Covers, CoversAll, AreStates, arrivi
 use Rattle.verifier.specs.Good.{IsGood}
 use Rattle.verifier.specs.Breaches.{FirstRule, FirstBreach, KeepsRules, at_slot}
 use Rattle.verifier.specs.Least.{IsLeast, HasNoGood}
-use Rattle.verifier.specs.Rounds.{joined, receive, passed_by, passed, round_of, first_table, rounds, IsSettled}
+use Rattle.verifier.specs.Rounds.{join_arrival, receive, passed_by, passed_states, round_of, first_table, rounds, IsSettled}
 use Rattle.verifier.specs.Passing.{Arrive, IsRound}
 use Rattle.verifier.specs.Sought.{Below, AllBelow}
 use Rattle.verifier.proofs.Arriving.{here, elsewhere, receive_fits, still}
@@ -40,7 +40,7 @@ under_is_covered (Some s) (Some t) h g u = state_same t s g h u
 
 -- states that arrive
 
-joined_below : (m n : Option Abstract) (s : Abstract) → Holds IsState m → IsState s → Holds IsState n → EdgeUnder m n → EdgeUnder (Some s) n → EdgeUnder (Some (joined m s)) n
+joined_below : (m n : Option Abstract) (s : Abstract) → Holds IsState m → IsState s → Holds IsState n → EdgeUnder m n → EdgeUnder (Some s) n → EdgeUnder (Some (join_arrival m s)) n
 joined_below None n s h a g u v = v
 joined_below (Some t) None s h a g u v = absurd v
 joined_below (Some t) (Some x) s h a g u v = state_least t s x h a g u v
@@ -137,10 +137,10 @@ slot_below program sectors table g slot few p h good below = by_rule (is_some (r
 
 round_below : (program : List (Option Instr)) (sectors : ℕ) (table g : List (Option Abstract)) → sectors < 2 ^ 64 → IsProgram program → IsShaped program
     → IsRound (length program) table → IsGood program sectors g → Below table g → Below (round_of program sectors table) g
-unfolding round_of passed
+unfolding round_of passed_states
 round_below program sectors table g few p h r good below =
-    let arrive : Arrive (length table) (passed program sectors table) = rw r.long (passed_fits program sectors table few p h r.states) in
-    all_below table g (passed program sectors table) r.states arrive good.states below
+    let arrive : Arrive (length table) (passed_states program sectors table) = rw r.long (passed_fits program sectors table few p h r.states) in
+    all_below table g (passed_states program sectors table) r.states arrive good.states below
     (each_in_range (λ q. EdgeUnder (Some q.1) (state_at g q.0)) (passed_by program sectors table) 0 (length program)
     (λ slot. slot_below program sectors table g slot few p r.states good below))
 
@@ -194,7 +194,7 @@ pub rule_is_breach : (program : List (Option Instr)) (sectors : ℕ) (table : Li
     → IsShaped program → IsSettled program sectors table → FirstRule program table c slot → FirstBreach program sectors table c slot
 rule_is_breach program sectors table c slot few p h s first =
     let round : IsRound (length program) table = settled_round program sectors table few p h s in
-    let covered : CoversAll table (passed program sectors table) = settled_covers program sectors table few p h round s.same in
+    let covered : CoversAll table (passed_states program sectors table) = settled_covers program sectors table few p h round s.same in
     at_slot c slot round.long round.starts (record {
       breaks = inl first.breaks;
       lowest = λ t less.

@@ -7,22 +7,22 @@ use Rattle.bpf_shape.specs.Edges.{edges_of}
 use Rattle.bpf_shape.specs.Calls.{callee_of}
 use Rattle.ranges.specs.States.{Abstract}
 use Rattle.ranges.specs.After.{after_of}
-use Rattle.ranges.specs.Passing.{passes, edge_of, sent}
+use Rattle.ranges.specs.Passing.{passes, edge_of, passed_state}
 use Rattle.verifier.specs.Tables.{arrival}
 use Rattle.verifier.specs.Passing.{next_state, target_of, target_state, along}
 
-two : (heads : List Bool) (a b : ℕ) (m n : Option Abstract) → option_to_list (along heads (Some a) m) ++ option_to_list (along heads (Some b) n) ≡ map (arrival heads) (sent a m ++ sent b n)
+two : (heads : List Bool) (a b : ℕ) (m n : Option Abstract) → option_to_list (along heads (Some a) m) ++ option_to_list (along heads (Some b) n) ≡ map (arrival heads) (passed_state a m ++ passed_state b n)
 two heads a b None None = refl
 two heads a b None (Some t) = refl
 two heads a b (Some s) None = refl
 two heads a b (Some s) (Some t) = refl
 
-one : (heads : List Bool) (a : ℕ) (m : Option Abstract) → option_to_list (along heads (Some a) m) ++ [] ≡ map (arrival heads) (sent a m)
+one : (heads : List Bool) (a : ℕ) (m : Option Abstract) → option_to_list (along heads (Some a) m) ++ [] ≡ map (arrival heads) (passed_state a m)
 one heads a None = refl
 one heads a (Some s) = refl
 
 with_entry : (heads : List Bool) (a b : ℕ) (m : Option Abstract) (t : Abstract)
-    → option_to_list (along heads (Some a) m) ++ option_to_list (along heads (Some b) (Some t)) ≡ map (arrival heads) (sent a m ++ (b, t) ∷ [])
+    → option_to_list (along heads (Some a) m) ++ option_to_list (along heads (Some b) (Some t)) ≡ map (arrival heads) (passed_state a m ++ (b, t) ∷ [])
 with_entry heads a b None t = refl
 with_entry heads a b (Some s) t = refl
 

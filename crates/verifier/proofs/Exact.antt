@@ -22,7 +22,7 @@ use Rattle.verifier.specs.Tables.{state_at, Covers, CoversAll, broken_rule, rule
 use Rattle.verifier.specs.Good.{IsGood}
 use Rattle.verifier.specs.Breaches.{FirstBreach, BreaksAt, wrong_length, no_start, at_slot}
 use Rattle.verifier.specs.Least.{IsLeast}
-use Rattle.verifier.specs.Rounds.{passed_by, passed, rounds, IsSame, IsSettled}
+use Rattle.verifier.specs.Rounds.{passed_by, passed_states, rounds, IsSame, IsSettled}
 use Rattle.verifier.specs.Measure.{weight}
 use Rattle.verifier.specs.Passing.{IsRound}
 use Rattle.verifier.specs.Verdicts.{Refused, shape, no_table, sought}
@@ -174,7 +174,7 @@ no_rule program table slot c u e = by_state (at program slot) (state_at table sl
     by_state (Some i) (Some s) f = no_check (rules s i) c u (other_rules s i) f
 
 no_breach : (program : List (Option Instr)) (sectors : ℕ) (table : List (Option Abstract)) (c : VerifierCause) (slot : ℕ) → c ≡ cause.Unsettled → IsRound (length program) table
-    → CoversAll table (passed program sectors table) → FirstBreach program sectors table c slot → ⊥
+    → CoversAll table (passed_states program sectors table) → FirstBreach program sectors table c slot → ⊥
 no_breach program sectors table _ _ u r covered (wrong_length e) = e r.long
 no_breach program sectors table _ _ u r covered (no_start e n) = n r.starts
 no_breach program sectors table _ _ u r covered (at_slot c slot e s b) = by_break b.breaks

@@ -12,7 +12,7 @@ use Rattle.bpf_shape.specs.Rules.{IsShaped}
 use Rattle.ranges.specs.States.{Abstract, StateContains}
 use Rattle.ranges.specs.Order.{IsState, Holds}
 use Rattle.verifier.specs.Tables.{state_at, Covers, CoversAll, AreStates, rule_at, sent_from}
-use Rattle.verifier.specs.Rounds.{receive, passed_by, passed, round_of}
+use Rattle.verifier.specs.Rounds.{receive, passed_by, passed_states, round_of}
 use Rattle.verifier.specs.Visits.{Learns}
 use Rattle.verifier.specs.Passing.{Arrive, Arrived, IsRound, IsMarked, MadeRound, Kept, passed_if, passed_again}
 use Rattle.verifier.proofs.Arriving.{elsewhere, all_long, all_fit, all_keep, all_covered, covered_same, receive_covers, receive_keeps, receive_fits}
@@ -67,7 +67,7 @@ again_fits program sectors table marks few p h states =
     pick true ps a = a
     pick false ps a = tt
 
-again_covers : (program : List (Option Instr)) (sectors : ℕ) (table : List (Option Abstract)) (marks : List Bool) → CoversAll table (passed program sectors table)
+again_covers : (program : List (Option Instr)) (sectors : ℕ) (table : List (Option Abstract)) (marks : List Bool) → CoversAll table (passed_states program sectors table)
     → CoversAll table (passed_again program sectors table marks)
 unfolding passed_again
 again_covers program sectors table marks h =
@@ -80,7 +80,7 @@ again_covers program sectors table marks h =
 
 again_round : (program : List (Option Instr)) (sectors : ℕ) (table : List (Option Abstract)) (marks : List Bool) → sectors < 2 ^ 64 → IsProgram program → IsShaped program
     → IsRound (length program) table → IsMarked program sectors table marks → fold receive table (passed_again program sectors table marks) ≡ round_of program sectors table
-unfolding passed_again round_of passed
+unfolding passed_again round_of passed_states
 again_round program sectors table marks few p h r m =
     all_left_out (λ k. get_or marks k false) (passed_by program sectors table) 0 (length program) table r.states
     (λ k. rw r.long (slot_fits program sectors table k few p h r.states)) m.rest
@@ -93,10 +93,10 @@ unfolding rule_at sent_from
 same_passed program sectors old new slot e = rw e refl
 
 round_covers : (program : List (Option Instr)) (sectors : ℕ) (table : List (Option Abstract)) → sectors < 2 ^ 64 → IsProgram program → IsShaped program → IsRound (length program) table
-    → CoversAll (round_of program sectors table) (passed program sectors table)
+    → CoversAll (round_of program sectors table) (passed_states program sectors table)
 unfolding round_of
 round_covers program sectors table few p h r =
-    all_covered table (passed program sectors table) r.states (rw r.long (passed_fits program sectors table few p h r.states))
+    all_covered table (passed_states program sectors table) r.states (rw r.long (passed_fits program sectors table few p h r.states))
 
 -- a round by what arrived
 pub made_round : (program : List (Option Instr)) (sectors : ℕ) (table new : List (Option Abstract)) (marks before after : List Bool) (arrivals : List (ℕ × Abstract)) (more : Bool)
@@ -106,7 +106,7 @@ pub made_round : (program : List (Option Instr)) (sectors : ℕ) (table new : Li
     → MadeRound program sectors table new after more
 made_round program sectors table new marks before after arrivals more few p h r m e long cleared a k =
     let made : new ≡ round_of program sectors table = a.table ∙ ap (λ ps. fold receive table ps) e ∙ again_round program sectors table marks few p h r m in
-    let covered : CoversAll new (passed program sectors table) = rw made (round_covers program sectors table few p h r) in
+    let covered : CoversAll new (passed_states program sectors table) = rw made (round_covers program sectors table few p h r) in
     record {
       table = made;
       marks = record {

@@ -7,7 +7,7 @@ use Rattle.bpf_shape.specs.Rules.{IsShaped}
 use Rattle.ranges.specs.States.{Abstract}
 use Rattle.ranges.specs.Order.{IsState, Holds, EdgeUnder}
 use Rattle.verifier.specs.Tables.{state_at, Covers}
-use Rattle.verifier.specs.Rounds.{receive, passed, round_of, rounds, IsSame}
+use Rattle.verifier.specs.Rounds.{receive, passed_states, round_of, rounds, IsSame}
 use Rattle.verifier.specs.Passing.{Arrive, IsRound, IsMarked, MadeRound}
 use Rattle.verifier.specs.Measure.{weight}
 use Rattle.verifier.proofs.Chains.{contains_self}
@@ -21,17 +21,17 @@ stays_below : (program : List (Option Instr)) (sectors : ℕ) (table : List (Opt
     → IsRound (length program) table → EdgeUnder (state_at table slot) (state_at (round_of program sectors table) slot)
 unfolding round_of
 stays_below program sectors table slot few p h r =
-    let arrive : Arrive (length table) (passed program sectors table) = rw r.long (passed_fits program sectors table few p h r.states) in
-    let next : Holds IsState (state_at (fold receive table (passed program sectors table)) slot) = (next_round program sectors table few p h r).states slot in
+    let arrive : Arrive (length table) (passed_states program sectors table) = rw r.long (passed_fits program sectors table few p h r.states) in
+    let next : Holds IsState (state_at (fold receive table (passed_states program sectors table)) slot) = (next_round program sectors table few p h r).states slot in
     by_known (state_at table slot) refl (r.states slot) arrive next
   where
-    by_known : (m : Option Abstract) → state_at table slot ≡ m → Holds IsState m → Arrive (length table) (passed program sectors table)
-        → Holds IsState (state_at (fold receive table (passed program sectors table)) slot) → EdgeUnder m (state_at (fold receive table (passed program sectors table)) slot)
+    by_known : (m : Option Abstract) → state_at table slot ≡ m → Holds IsState m → Arrive (length table) (passed_states program sectors table)
+        → Holds IsState (state_at (fold receive table (passed_states program sectors table)) slot) → EdgeUnder m (state_at (fold receive table (passed_states program sectors table)) slot)
     by_known None e a arrive next = tt
     by_known (Some s) e a arrive next =
         let known : Covers (state_at table slot) s = rw e (contains_self s a) in
-        covered_is_under (state_at (fold receive table (passed program sectors table)) slot) s next a
-        (all_keep table (passed program sectors table) slot s r.states arrive a known)
+        covered_is_under (state_at (fold receive table (passed_states program sectors table)) slot) s next a
+        (all_keep table (passed_states program sectors table) slot s r.states arrive a known)
 
 pub round_weighs : (program : List (Option Instr)) (sectors : ℕ) (table : List (Option Abstract)) → sectors < 2 ^ 64 → IsProgram program → IsShaped program
     → IsRound (length program) table

@@ -14,7 +14,7 @@ use Rattle.ranges.specs.Order.{IsState, Each}
 use Rattle.ranges.proofs.Fitting.{start_fits}
 use Rattle.verifier.specs.Tables.{state_at, Covers, CoversAll, rule_at, sent_from, AreStates}
 use Rattle.verifier.specs.Good.{IsGoodAt}
-use Rattle.verifier.specs.Rounds.{passed_by, passed, round_of, first_table, rounds, IsSame}
+use Rattle.verifier.specs.Rounds.{passed_by, passed_states, round_of, first_table, rounds, IsSame}
 use Rattle.verifier.specs.Passing.{Arrive, IsRound}
 use Rattle.verifier.specs.Laws.{SettledIsGood}
 use Rattle.verifier.proofs.Chains.{contains_self}
@@ -57,8 +57,8 @@ slot_fits program sectors table slot few p h states = pick (is_some (rule_at pro
     pick false = sent_fits program sectors table slot few p h states
 
 pub passed_fits : (program : List (Option Instr)) (sectors : ℕ) (table : List (Option Abstract)) → sectors < 2 ^ 64 → IsProgram program → IsShaped program → AreStates table
-    → Arrive (length program) (passed program sectors table)
-unfolding passed
+    → Arrive (length program) (passed_states program sectors table)
+unfolding passed_states
 passed_fits program sectors table few p h states =
     each_in_range (λ q. (q.0 < length program) × IsState q.1) (passed_by program sectors table) 0 (length program)
     (λ slot. slot_fits program sectors table slot few p h states)
@@ -89,11 +89,11 @@ pub next_round : (program : List (Option Instr)) (sectors : ℕ) (table : List (
     → IsRound (length program) table → IsRound (length program) (round_of program sectors table)
 unfolding round_of
 next_round program sectors table few p h r =
-    let arrive : Arrive (length table) (passed program sectors table) = rw r.long (passed_fits program sectors table few p h r.states) in
+    let arrive : Arrive (length table) (passed_states program sectors table) = rw r.long (passed_fits program sectors table few p h r.states) in
     record {
-      long = all_long table (passed program sectors table) ∙ r.long;
-      states = all_fit table (passed program sectors table) r.states arrive;
-      starts = all_keep table (passed program sectors table) 0 start r.states arrive start_fits r.starts;
+      long = all_long table (passed_states program sectors table) ∙ r.long;
+      states = all_fit table (passed_states program sectors table) r.states arrive;
+      starts = all_keep table (passed_states program sectors table) 0 start r.states arrive start_fits r.starts;
     }
 
 pub each_round : (program : List (Option Instr)) (sectors : ℕ) (turns : ℕ) → sectors < 2 ^ 64 → IsProgram program → IsShaped program
@@ -105,20 +105,20 @@ each_round program sectors (suc n) few p h = next_round program sectors (rounds 
 -- where a round changes nothing, all that is passed on is covered
 
 pub settled_covers : (program : List (Option Instr)) (sectors : ℕ) (table : List (Option Abstract)) → sectors < 2 ^ 64 → IsProgram program → IsShaped program
-    → IsRound (length program) table → IsSame program sectors table → CoversAll table (passed program sectors table)
+    → IsRound (length program) table → IsSame program sectors table → CoversAll table (passed_states program sectors table)
 unfolding round_of
 settled_covers program sectors table few p h r same =
-    let arrive : Arrive (length table) (passed program sectors table) = rw r.long (passed_fits program sectors table few p h r.states) in
-    same_covers table (passed program sectors table) r.states arrive same
+    let arrive : Arrive (length table) (passed_states program sectors table) = rw r.long (passed_fits program sectors table few p h r.states) in
+    same_covers table (passed_states program sectors table) r.states arrive same
 
 -- past the end nothing is passed on
 pub passed_past : (program : List (Option Instr)) (sectors : ℕ) (table : List (Option Abstract)) (slot : ℕ) → length program ≤ slot → passed_by program sectors table slot ≡ []
 passed_past program sectors table slot past = let none = nothing_past program sectors table slot past in rw (none.0, none.1) refl
 
 -- what each slot passes on is covered, where all that is passed on is
-pub slot_covers : (program : List (Option Instr)) (sectors : ℕ) (table new : List (Option Abstract)) (slot : ℕ) → CoversAll new (passed program sectors table)
+pub slot_covers : (program : List (Option Instr)) (sectors : ℕ) (table new : List (Option Abstract)) (slot : ℕ) → CoversAll new (passed_states program sectors table)
     → CoversAll new (passed_by program sectors table slot)
-unfolding passed
+unfolding passed_states
 slot_covers program sectors table new slot h =
     elim (cases_lt slot (length program)) [
       | inl inside ↦ each_of_range (λ q. Covers (state_at new q.0) q.1) (passed_by program sectors table) 0 (length program) slot (omega arith) (omega (arith, inside)) h

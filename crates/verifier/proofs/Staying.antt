@@ -23,14 +23,14 @@ use Rattle.bpf_isa.specs.Slots.{at, target_slot}
 use Rattle.bpf_shape.specs.Again.{heads}
 use Rattle.machine.specs.Memory.{byte_count}
 use Rattle.intervals.specs.Spans.{Span, only, Within}
-use Rattle.intervals.specs.Rounding.{rounded}
+use Rattle.intervals.specs.Rounding.{round_span}
 use Rattle.intervals.specs.SignedSpans.{SignedSpan, IsSignedSpan}
-use Rattle.intervals.specs.Reducing.{Limits, limits, reduced, any_sign, LimitsWithin, IsWordLimits, IsLimits}
+use Rattle.intervals.specs.Reducing.{Limits, limits, reduction, any_sign, LimitsWithin, IsWordLimits, IsLimits}
 use Rattle.intervals.specs.Results.{result_of}
-use Rattle.intervals.specs.Edges.{refined, narrowed, is_same}
+use Rattle.intervals.specs.Edges.{jump_edge, condition_edge, is_same}
 use Rattle.intervals.specs.SignedResults.{signed_result_of, limits_result_of}
 use Rattle.intervals.specs.SignedEdges.{both_of, signed_narrowed, limits_narrowed, limits_refined}
-use Rattle.intervals.specs.SignedRounding.{widened, limits_rounded}
+use Rattle.intervals.specs.SignedRounding.{round_limits, limits_rounded}
 use Rattle.intervals.specs.Laws.{FitsWords, Shrinks, IsWordSpan}
 use Rattle.intervals.specs.LimitLaws.{Related, BothWithin}
 use Rattle.intervals.proofs.Digits.{rounded_fits, rounded_mono}
@@ -48,10 +48,10 @@ use Rattle.ranges.specs.Groups.{GroupKind, Spilled, map_places, round_group}
 use Rattle.ranges.specs.States.{Abstract, round_state}
 use Rattle.ranges.specs.Reading.{value, second, with_value, with_groups, words, any_word}
 use Rattle.ranges.specs.Places.{place_of, is_group}
-use Rattle.ranges.specs.Pointers.{moved}
+use Rattle.ranges.specs.Pointers.{moved_pointer}
 use Rattle.ranges.specs.Rules.{is_null_test}
-use Rattle.ranges.specs.After.{computed, result_kind, is_touched, group_after, written, stored_groups, load_after, answered, call_after, after_of}
-use Rattle.ranges.specs.Passing.{edge_of, entry_state, is_equal_edge, tested_kind, with_both, sent, passes}
+use Rattle.ranges.specs.After.{number_result, result_kind, is_touched, group_after, groups_after_write, stored_groups, load_after, after_answer, call_after, after_of}
+use Rattle.ranges.specs.Passing.{edge_of, entry_state, is_equal_edge, tested_kind, with_both, passed_state, passes}
 use Rattle.ranges.specs.Order.{Under, GroupUnder, EachUnder, StateUnder, IsBounded, IsGroup, Each, IsState, Holds, EdgeUnder}
 use Rattle.ranges.proofs.Covering.{state_same, state_under, each_mono, group_round_mono}
 use Rattle.ranges.proofs.Fitting.{round_state_fits, round_fits, each_set, each_mapped, round_group_fits}
@@ -69,25 +69,25 @@ spans_self u = record { from = omega arith; upto = omega arith }
 
 -- numbers: what is reduced has no more words than the range had before
 
-reduced_below : (u : Span) (s : SignedSpan) → IsWordSpan u → IsSignedSpan s → Related LimitsWithin (reduced (limits u s)) (Some (any_sign u))
-reduced_below u s hu hs = by (reduced (limits u s)) refl
+reduced_below : (u : Span) (s : SignedSpan) → IsWordSpan u → IsSignedSpan s → Related LimitsWithin (reduction (limits u s)) (Some (any_sign u))
+reduced_below u s hu hs = by (reduction (limits u s)) refl
   where
-    by : (r : Option Limits) → reduced (limits u s) ≡ r → Related LimitsWithin r (Some (any_sign u))
+    by : (r : Option Limits) → reduction (limits u s) ≡ r → Related LimitsWithin r (Some (any_sign u))
     by None e = tt
     by (Some z) e =
         let settled = reduced_twice (limits u s) z (record { words = hu; readings = hs }) e in
         any_holds z u (record { words = settled.0.fits.words; readings = settled.0.fits.readings; reduced = settled.1 }) hu settled.0.within.unsigned
 
 numbers_below : (r : Option Span) (s : SignedSpan) → FitsWords r → IsSignedSpan s
-    → Related Under (option_map (λ x. Num x) (option_and_then (λ u. reduced (limits u s)) r)) (option_map number r)
+    → Related Under (option_map (λ x. Num x) (option_and_then (λ u. reduction (limits u s)) r)) (option_map number r)
 numbers_below None s f hs = tt
-numbers_below (Some u) s f hs = by (reduced (limits u s)) (reduced_below u s f hs)
+numbers_below (Some u) s f hs = by (reduction (limits u s)) (reduced_below u s f hs)
   where
     by : (r : Option Limits) → Related LimitsWithin r (Some (any_sign u)) → Related Under (option_map (λ x. Num x) r) (Some (number u))
     by None h = tt
     by (Some z) h = h
 
-computed_below : (i : Instr) (k l : Kind) → IsBounded k → IsBounded l → Related Under (computed i k l) (unsigned_computed i k l)
+computed_below : (i : Instr) (k l : Kind) → IsBounded k → IsBounded l → Related Under (number_result i k l) (unsigned_computed i k l)
 unfolding limits_result_of
 computed_below i k l h g =
     let x = words_fit k h in let y = words_fit l g in
@@ -102,10 +102,10 @@ result_below : (i : Instr) (k l : Kind) → IsBounded k → IsBounded l → Rela
 unfolding result_kind unsigned_result
 result_below (instr.Arithmetic width.W64 op.Mov dst from) k l h g = under_self l
 result_below (instr.Arithmetic width.W64 op.Add dst from) k l h g =
-    moved_below (moved false k l) (computed (instr.Arithmetic width.W64 op.Add dst from) k l) (unsigned_computed (instr.Arithmetic width.W64 op.Add dst from) k l)
+    moved_below (moved_pointer false k l) (number_result (instr.Arithmetic width.W64 op.Add dst from) k l) (unsigned_computed (instr.Arithmetic width.W64 op.Add dst from) k l)
     (computed_below (instr.Arithmetic width.W64 op.Add dst from) k l h g)
 result_below (instr.Arithmetic width.W64 op.Sub dst from) k l h g =
-    moved_below (moved true k l) (computed (instr.Arithmetic width.W64 op.Sub dst from) k l) (unsigned_computed (instr.Arithmetic width.W64 op.Sub dst from) k l)
+    moved_below (moved_pointer true k l) (number_result (instr.Arithmetic width.W64 op.Sub dst from) k l) (unsigned_computed (instr.Arithmetic width.W64 op.Sub dst from) k l)
     (computed_below (instr.Arithmetic width.W64 op.Sub dst from) k l h g)
 result_below (instr.Arithmetic width.W64 o dst from) k l h g = computed_below (instr.Arithmetic width.W64 o dst from) k l h g
 result_below (instr.Arithmetic width.W32 o dst from) k l h g = computed_below (instr.Arithmetic width.W32 o dst from) k l h g
@@ -124,9 +124,9 @@ unsigned_result_fits : (i : Instr) (k l : Kind) → IsBounded k → IsBounded l 
 unfolding unsigned_result
 unsigned_result_fits (instr.Arithmetic width.W64 op.Mov dst from) k l h g = g
 unsigned_result_fits (instr.Arithmetic width.W64 op.Add dst from) k l h g =
-    holds_or IsBounded (moved false k l) (unsigned_computed (instr.Arithmetic width.W64 op.Add dst from) k l) (moved_kind_fits false k l h g) (unsigned_fits (instr.Arithmetic width.W64 op.Add dst from) k l h g)
+    holds_or IsBounded (moved_pointer false k l) (unsigned_computed (instr.Arithmetic width.W64 op.Add dst from) k l) (moved_kind_fits false k l h g) (unsigned_fits (instr.Arithmetic width.W64 op.Add dst from) k l h g)
 unsigned_result_fits (instr.Arithmetic width.W64 op.Sub dst from) k l h g =
-    holds_or IsBounded (moved true k l) (unsigned_computed (instr.Arithmetic width.W64 op.Sub dst from) k l) (moved_kind_fits true k l h g) (unsigned_fits (instr.Arithmetic width.W64 op.Sub dst from) k l h g)
+    holds_or IsBounded (moved_pointer true k l) (unsigned_computed (instr.Arithmetic width.W64 op.Sub dst from) k l) (moved_kind_fits true k l h g) (unsigned_fits (instr.Arithmetic width.W64 op.Sub dst from) k l h g)
 unsigned_result_fits (instr.Arithmetic width.W64 o dst from) k l h g = unsigned_fits (instr.Arithmetic width.W64 o dst from) k l h g
 unsigned_result_fits (instr.Arithmetic width.W32 o dst from) k l h g = unsigned_fits (instr.Arithmetic width.W32 o dst from) k l h g
 unsigned_result_fits i k l h g = unsigned_fits i k l h g
@@ -186,7 +186,7 @@ all_self : (groups : List GroupKind) → EachUnder GroupUnder groups groups
 all_self groups = each_self GroupUnder group_self groups
 
 stored_below : (k : Kind) (groups : List GroupKind) (p : Place) (n : ℕ) → EachUnder GroupUnder (stored_groups k groups p n) (unsigned_stored k groups p n)
-unfolding stored_groups unsigned_stored written
+unfolding stored_groups unsigned_stored groups_after_write
 stored_below (Num x) groups (place.Stack at) n = by (is_group at n) refl
   where
     by : (b : Bool) → is_group at n ≡ b
@@ -206,7 +206,7 @@ store_below : (s : Abstract) (k : Kind) (p : Place) (n : ℕ) → StateUnder (wi
 store_below s k p n = record { values = each_self Under under_self s.values; groups = stored_below k s.groups p n }
 
 unsigned_store_fits : (s : Abstract) (k : Kind) (p : Place) (n : ℕ) → IsBounded k → IsState s → IsState (with_groups s (unsigned_stored k s.groups p n))
-unfolding unsigned_stored written
+unfolding unsigned_stored groups_after_write
 unsigned_store_fits s k (place.Stack at) n h a = by (is_pointer k) (is_group at n) refl
   where
     marked : IsState (with_groups s (map_places (group_after at n) 0 s.groups))
@@ -228,8 +228,8 @@ unsigned_store_fits s k place.Sector n h a = a
 -- edges
 
 both_below : (u v : Span) (s t : SignedSpan) → IsWordSpan u → IsWordSpan v → IsSignedSpan s → IsSignedSpan t
-    → Related BothWithin (both_of (reduced (limits u s)) (reduced (limits v t))) (Some (numbers (u, v)))
-both_below u v s t hu hv hs ht = by (reduced (limits u s)) (reduced (limits v t)) (reduced_below u s hu hs) (reduced_below v t hv ht)
+    → Related BothWithin (both_of (reduction (limits u s)) (reduction (limits v t))) (Some (numbers (u, v)))
+both_below u v s t hu hv hs ht = by (reduction (limits u s)) (reduction (limits v t)) (reduced_below u s hu hs) (reduced_below v t hv ht)
   where
     by : (p q : Option Limits) → Related LimitsWithin p (Some (any_sign u)) → Related LimitsWithin q (Some (any_sign v)) → Related BothWithin (both_of p q) (Some (numbers (u, v)))
     by None q h k = tt
@@ -237,25 +237,25 @@ both_below u v s t hu hv hs ht = by (reduced (limits u s)) (reduced (limits v t)
     by (Some p) (Some q) h k = (h, k)
 
 narrowed_below : (c : Condition) (taken : Bool) (x y : Limits) → IsWordLimits x → IsWordLimits y
-    → Related BothWithin (limits_narrowed c taken x y) (option_map numbers (narrowed c taken x.unsigned y.unsigned))
+    → Related BothWithin (limits_narrowed c taken x y) (option_map numbers (condition_edge c taken x.unsigned y.unsigned))
 unfolding limits_narrowed
 narrowed_below c taken x y hx hy =
-    by (narrowed c taken x.unsigned y.unsigned) (signed_narrowed c taken x.signed y.signed) (narrowed_shrinks c taken x.unsigned y.unsigned hx.words hy.words)
+    by (condition_edge c taken x.unsigned y.unsigned) (signed_narrowed c taken x.signed y.signed) (narrowed_shrinks c taken x.unsigned y.unsigned hx.words hy.words)
     (signed_narrowed_two c taken x.signed y.signed hx.readings hy.readings)
   where
     by : (o : Option (Span × Span)) (q : Option (SignedSpan × SignedSpan)) → Shrinks o x.unsigned y.unsigned → Whenever (TwoOf x.signed y.signed) q
-        → Related BothWithin (option_and_then (λ u. option_and_then (λ s. both_of (reduced (limits u.0 s.0)) (reduced (limits u.1 s.1))) q) o) (option_map numbers o)
+        → Related BothWithin (option_and_then (λ u. option_and_then (λ s. both_of (reduction (limits u.0 s.0)) (reduction (limits u.1 s.1))) q) o) (option_map numbers o)
     by None q f h = tt
     by (Some u) None f h = tt
     by (Some u) (Some s) f h = both_below u.0 u.1 s.0 s.1 f.0 f.1 h.0 h.1
 
 edge_numbers : (i : Instr) (taken : Bool) (x y : Limits) → IsLimits x → IsLimits y
-    → Related BothWithin (limits_refined i taken x y) (option_map numbers (refined i taken x.unsigned y.unsigned))
-unfolding limits_refined refined
+    → Related BothWithin (limits_refined i taken x y) (option_map numbers (jump_edge i taken x.unsigned y.unsigned))
+unfolding limits_refined jump_edge
 edge_numbers (instr.Branch width.W64 c dst from distance) taken x y hx hy = by (is_same dst from)
   where
     by : (b : Bool) → Related BothWithin (if b then Some (x, y) else limits_narrowed c taken x y)
-        (option_map numbers (if b then Some (x.unsigned, y.unsigned) else narrowed c taken x.unsigned y.unsigned))
+        (option_map numbers (if b then Some (x.unsigned, y.unsigned) else condition_edge c taken x.unsigned y.unsigned))
     by true = (any_holds x x.unsigned hx hx.words (spans_self x.unsigned), any_holds y y.unsigned hy hy.words (spans_self y.unsigned))
     by false = narrowed_below c taken x y (words_are_limits x hx) (words_are_limits y hy)
 edge_numbers (instr.Branch width.W32 c dst from distance) taken x y hx hy = (any_holds x x.unsigned hx hx.words (spans_self x.unsigned), any_holds y y.unsigned hy hy.words (spans_self y.unsigned))
@@ -292,11 +292,11 @@ edge_below s (instr.Branch w c dst from distance) taken r a = by (is_null_test w
 
     by : (b : Bool) → EdgeUnder
         (if b then Some (with_value s dst (tested_kind (is_equal_edge c taken))) else option_map (with_both s dst from) (limits_refined i taken x y))
-        (if b then Some (with_value s dst (tested_kind (is_equal_edge c taken))) else option_map (λ p. with_both s dst from (numbers p)) (refined i taken x.unsigned y.unsigned))
+        (if b then Some (with_value s dst (tested_kind (is_equal_edge c taken))) else option_map (λ p. with_both s dst from (numbers p)) (jump_edge i taken x.unsigned y.unsigned))
     by true = state_self (with_value s dst (tested_kind (is_equal_edge c taken)))
     by false =
-        rw (← mapped_twice s dst from (refined i taken x.unsigned y.unsigned))
-        (both_edges s dst from (limits_refined i taken x y) (option_map numbers (refined i taken x.unsigned y.unsigned))
+        rw (← mapped_twice s dst from (jump_edge i taken x.unsigned y.unsigned))
+        (both_edges s dst from (limits_refined i taken x y) (option_map numbers (jump_edge i taken x.unsigned y.unsigned))
         (edge_numbers i taken x y (words_fit (value s dst) (value_fits s dst a)) (words_fit (second s from) (second_fits s from r.1 a))))
 edge_below s (instr.Arithmetic w o dst from) taken r a = state_self s
 edge_below s (instr.Negate w dst) taken r a = state_self s
@@ -327,11 +327,11 @@ unsigned_edge_fits s w c dst from distance taken r a = by (is_null_test w c from
   where
     by : (b : Bool) → Holds IsState
         (if b then Some (with_value s dst (tested_kind (is_equal_edge c taken)))
-        else option_map (λ p. with_both s dst from (numbers p)) (refined (instr.Branch w c dst from distance) taken (words (value s dst)).unsigned (words (second s from)).unsigned))
+        else option_map (λ p. with_both s dst from (numbers p)) (jump_edge (instr.Branch w c dst from distance) taken (words (value s dst)).unsigned (words (second s from)).unsigned))
     by true = with_value_fits s dst (tested_kind (is_equal_edge c taken)) (tested_fits (is_equal_edge c taken)) a
     by false =
         unsigned_both_fits s dst from (words (value s dst)).unsigned (words (second s from)).unsigned
-        (refined (instr.Branch w c dst from distance) taken (words (value s dst)).unsigned (words (second s from)).unsigned)
+        (jump_edge (instr.Branch w c dst from distance) taken (words (value s dst)).unsigned (words (second s from)).unsigned)
         (refined_shrinks (instr.Branch w c dst from distance) taken (words (value s dst)).unsigned (words (second s from)).unsigned
         (words_fit (value s dst) (value_fits s dst a)).words (words_fit (second s from) (second_fits s from r a)).words) a
 
@@ -341,17 +341,17 @@ spans_chain : (x y z : Span) → Within x y → Within y z → Within x z
 spans_chain x y z p q = record { from = omega (arith, p.from, q.from); upto = omega (arith, p.upto, q.upto) }
 
 -- what is rounded has no more words than its range has when that is rounded
-rounded_words : (x : Limits) → IsLimits x → Within (limits_rounded x).unsigned (rounded x.unsigned)
+rounded_words : (x : Limits) → IsLimits x → Within (limits_rounded x).unsigned (round_span x.unsigned)
 rounded_words x h =
-    let settled = reduced_twice (widened x) (limits_rounded x) (widened_fits x (words_are_limits x h)) (rounded_is x h).is in
+    let settled = reduced_twice (round_limits x) (limits_rounded x) (widened_fits x (words_are_limits x h)) (rounded_is x h).is in
     settled.0.within.unsigned
 
 round_below : (k l : Kind) → IsBounded k → IsBounded l → Under k l → Under (round k) (unsigned_round l)
 unfolding round unsigned_round
 round_below k Unset h g p = tt
 round_below (Num x) (Num y) h g p =
-    any_holds (limits_rounded x) (rounded y.unsigned) (limits_rounded_fits x h) (rounded_fits 64 y.unsigned (omega arith) g.words)
-    (spans_chain (limits_rounded x).unsigned (rounded x.unsigned) (rounded y.unsigned) (rounded_words x h) (rounded_mono x.unsigned y.unsigned h.words g.words p.unsigned))
+    any_holds (limits_rounded x) (round_span y.unsigned) (limits_rounded_fits x h) (rounded_fits 64 y.unsigned (omega arith) g.words)
+    (spans_chain (limits_rounded x).unsigned (round_span x.unsigned) (round_span y.unsigned) (rounded_words x h) (rounded_mono x.unsigned y.unsigned h.words g.words p.unsigned))
 round_below k (Num y) h g p = absurd p
 round_below (Ctx a) (Ctx b) h g p = p
 round_below k (Ctx b) h g p = absurd p
@@ -364,7 +364,7 @@ round_below k SectorOrNull h g p = absurd p
 
 unsigned_round_fits : (k : Kind) → IsBounded k → IsBounded (unsigned_round k)
 unfolding unsigned_round
-unsigned_round_fits (Num x) h = any_fits (rounded x.unsigned) (rounded_fits 64 x.unsigned (omega arith) h.words)
+unsigned_round_fits (Num x) h = any_fits (round_span x.unsigned) (rounded_fits 64 x.unsigned (omega arith) h.words)
 unsigned_round_fits Unset h = round_fits Unset h
 unsigned_round_fits (Ctx a) h = round_fits (Ctx a) h
 unsigned_round_fits (Stack a) h = round_fits (Stack a) h
@@ -415,7 +415,7 @@ abbrev WereCovered : List Bool → List (Option Abstract) → List (ℕ × Abstr
 WereCovered marks table arrivals = CoversAll table (map (unsigned_arrival marks) arrivals)
 
 sent_covered : (marks : List Bool) (table : List (Option Abstract)) (slot : ℕ) (m n : Option Abstract) → AreStates table → Holds IsState m → Holds IsState n → EdgeUnder m n
-    → WereCovered marks table (sent slot n) → AreCovered marks table (sent slot m)
+    → WereCovered marks table (passed_state slot n) → AreCovered marks table (passed_state slot m)
 sent_covered marks table slot None n states f g u c = tt
 sent_covered marks table slot (Some s) None states f g u c = absurd u
 sent_covered marks table slot (Some s) (Some t) states f g u c = (
@@ -431,13 +431,13 @@ map_joined f (x ∷ xs) ys = ap (λ zs. f x ∷ zs) (map_joined f xs ys)
 
 two_covered : (marks : List Bool) (table : List (Option Abstract)) (a b : ℕ) (m n p q : Option Abstract) → AreStates table → Holds IsState m → Holds IsState n → EdgeUnder m n
     → Holds IsState p → Holds IsState q → EdgeUnder p q
-    → WereCovered marks table (sent a n ++ sent b q) → AreCovered marks table (sent a m ++ sent b p)
+    → WereCovered marks table (passed_state a n ++ passed_state b q) → AreCovered marks table (passed_state a m ++ passed_state b p)
 two_covered marks table a b m n p q states fm fn u fp fq v c =
-    let parts : CoversAll table (map (unsigned_arrival marks) (sent a n) ++ map (unsigned_arrival marks) (sent b q)) = rw (map_joined (unsigned_arrival marks) (sent a n) (sent b q)) at c in
-    rw (map_joined (arrival marks) (sent a m) (sent b p))
-    (each_append (IsCoveredAt table) (map (arrival marks) (sent a m)) (map (arrival marks) (sent b p))
-    (sent_covered marks table a m n states fm fn u (each_left (IsCoveredAt table) (map (unsigned_arrival marks) (sent a n)) (map (unsigned_arrival marks) (sent b q)) parts))
-    (sent_covered marks table b p q states fp fq v (each_right (IsCoveredAt table) (map (unsigned_arrival marks) (sent a n)) (map (unsigned_arrival marks) (sent b q)) parts)))
+    let parts : CoversAll table (map (unsigned_arrival marks) (passed_state a n) ++ map (unsigned_arrival marks) (passed_state b q)) = rw (map_joined (unsigned_arrival marks) (passed_state a n) (passed_state b q)) at c in
+    rw (map_joined (arrival marks) (passed_state a m) (passed_state b p))
+    (each_append (IsCoveredAt table) (map (arrival marks) (passed_state a m)) (map (arrival marks) (passed_state b p))
+    (sent_covered marks table a m n states fm fn u (each_left (IsCoveredAt table) (map (unsigned_arrival marks) (passed_state a n)) (map (unsigned_arrival marks) (passed_state b q)) parts))
+    (sent_covered marks table b p q states fp fq v (each_right (IsCoveredAt table) (map (unsigned_arrival marks) (passed_state a n)) (map (unsigned_arrival marks) (passed_state b q)) parts)))
 
 -- what an instruction passes on
 
@@ -460,13 +460,13 @@ after_below sectors s (instr.Arithmetic w o dst from) r a =
     register_below s dst (result_kind i (value s dst) (second s from)) (unsigned_result i (value s dst) (second s from))
     (result_below i (value s dst) (second s from) (value_fits s dst a) (second_fits s from r.1 a))
 after_below sectors s (instr.Negate w dst) r a =
-    register_below s dst (computed (instr.Negate w dst) (value s dst) Unset) (unsigned_computed (instr.Negate w dst) (value s dst) Unset)
+    register_below s dst (number_result (instr.Negate w dst) (value s dst) Unset) (unsigned_computed (instr.Negate w dst) (value s dst) Unset)
     (computed_below (instr.Negate w dst) (value s dst) Unset (value_fits s dst a) tt)
 after_below sectors s (instr.SignExtend e dst src) r a =
-    register_below s dst (computed (instr.SignExtend e dst src) Unset (value s src)) (unsigned_computed (instr.SignExtend e dst src) Unset (value s src))
+    register_below s dst (number_result (instr.SignExtend e dst src) Unset (value s src)) (unsigned_computed (instr.SignExtend e dst src) Unset (value s src))
     (computed_below (instr.SignExtend e dst src) Unset (value s src) tt (value_fits s src a))
 after_below sectors s (instr.ByteOrder o size dst) r a =
-    register_below s dst (computed (instr.ByteOrder o size dst) (value s dst) Unset) (unsigned_computed (instr.ByteOrder o size dst) (value s dst) Unset)
+    register_below s dst (number_result (instr.ByteOrder o size dst) (value s dst) Unset) (unsigned_computed (instr.ByteOrder o size dst) (value s dst) Unset)
     (computed_below (instr.ByteOrder o size dst) (value s dst) Unset (value_fits s dst a) tt)
 after_below sectors s (instr.StoreImmediate size base distance n) r a =
     store_below s (second s (source.Immediate n)) (place_of (value s base) distance (byte_count size)) (byte_count size)
@@ -474,8 +474,8 @@ after_below sectors s (instr.Store size base distance src) r a = store_below s (
 after_below sectors s (instr.Load size dst base distance) r a = state_self (load_after sectors s dst size base distance)
 after_below sectors s (instr.LoadSigned size dst base distance) r a = state_self (with_value s dst (Num any_word))
 after_below sectors s (instr.LoadImmediate dst n) r a = state_self (with_value s dst (Num (any_sign (only n))))
-after_below sectors s (instr.CallHelper n) r a = state_self (option_map_or (call_after s) (helper_of (cast_unsigned w32 n)) (answered s (Num any_word)))
-after_below sectors s (instr.CallLocal distance) r a = state_self (answered s (Num any_word))
+after_below sectors s (instr.CallHelper n) r a = state_self (option_map_or (call_after s) (helper_of (cast_unsigned w32 n)) (after_answer s (Num any_word)))
+after_below sectors s (instr.CallLocal distance) r a = state_self (after_answer s (Num any_word))
 after_below sectors s (instr.Jump distance) r a = state_self s
 after_below sectors s (instr.LongJump distance) r a = state_self s
 after_below sectors s (instr.Branch w c dst from distance) r a = state_self s
@@ -499,12 +499,12 @@ unsigned_after_fits sectors s (instr.Store size base distance src) few r a =
 unsigned_after_fits sectors s i few r a = after_fits sectors s i few r a
 
 after_covered : (marks : List Bool) (table : List (Option Abstract)) (sectors slot : ℕ) (s : Abstract) (i : Instr) → sectors < 2 ^ 64 → AreStates table → IsInRange i → IsState s
-    → WereCovered marks table (sent (slot + 1) (unsigned_after sectors s i)) → AreCovered marks table (sent (slot + 1) (after_of sectors s i))
+    → WereCovered marks table (passed_state (slot + 1) (unsigned_after sectors s i)) → AreCovered marks table (passed_state (slot + 1) (after_of sectors s i))
 after_covered marks table sectors slot s i few states r a covered =
     sent_covered marks table (slot + 1) (after_of sectors s i) (unsigned_after sectors s i) states (after_fits sectors s i few r a) (unsigned_after_fits sectors s i few r a) (after_below sectors s i r a) covered
 
 same_covered : (marks : List Bool) (table : List (Option Abstract)) (sectors slot : ℕ) (s : Abstract) (i : Instr) → sectors < 2 ^ 64 → AreStates table → IsInRange i → IsState s
-    → WereCovered marks table (sent slot (after_of sectors s i)) → AreCovered marks table (sent slot (after_of sectors s i))
+    → WereCovered marks table (passed_state slot (after_of sectors s i)) → AreCovered marks table (passed_state slot (after_of sectors s i))
 same_covered marks table sectors slot s i few states r a covered =
     let m = after_of sectors s i in let f = after_fits sectors s i few r a in
     sent_covered marks table slot m m states f f (edge_self m) covered

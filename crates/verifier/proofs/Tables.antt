@@ -9,7 +9,7 @@ use Rattle.ranges.proofs.Arrays.{mapped_set}
 use Rattle.ranges.proofs.Typed.{each_state_fits}
 use Rattle.verifier.specs.Tables.{state_at, AreStates}
 use Rattle.verifier.specs.Seen.{table_of}
-use Rattle.verifier.specs.Rounds.{joined, receive, first_table}
+use Rattle.verifier.specs.Rounds.{join_arrival, receive, first_table}
 
 -- the states of the code are within the bounds of states
 pub all_states : (states : List (Option State)) → AreStates (table_of states)
@@ -34,7 +34,7 @@ known_at (x ∷ xs) (suc n) d small = known_at xs n d (omega (arith, small))
 
 -- what is known at a slot is changed in its place
 pub received_at : (states : List (Option State)) (table : List (Option Abstract)) (slot : ℕ) (old new d : Option State) (s : State) → slot < length states
-    → table_of states ≡ table → old ≡ get_or states slot d → option_map state_of new ≡ Some (joined (option_map state_of old) (state_of s))
+    → table_of states ≡ table → old ≡ get_or states slot d → option_map state_of new ≡ Some (join_arrival (option_map state_of old) (state_of s))
     → table_of (set states slot new) ≡ receive table (slot, state_of s)
 received_at states table slot old new d s small e o k =
     let known : option_map state_of old ≡ state_at table slot =

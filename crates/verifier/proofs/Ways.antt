@@ -12,8 +12,8 @@ use Rattle.ranges.specs.Groups.{GroupKind, Marked, Spilled, join_group, round_gr
 use Rattle.ranges.specs.States.{Abstract, round_state}
 use Rattle.ranges.specs.Order.{IsState}
 use Rattle.ranges.specs.Reading.{value, with_value, with_groups}
-use Rattle.ranges.specs.After.{group_after, is_touched, written}
-use Rattle.ranges.specs.Changing.{changed, Leaves}
+use Rattle.ranges.specs.After.{group_after, is_touched, groups_after_write}
+use Rattle.ranges.specs.Changing.{after_change, Leaves}
 use Rattle.ranges.specs.SeenStates.{state_of}
 use Rattle.ranges.proofs.Arrays.{mapped_set}
 use Rattle.ranges.proofs.Writing.{group_written}
@@ -58,7 +58,7 @@ unfolding group_after
 apart at k n g e = rw e refl
 
 pub bytes_left : (s : Abstract) (at k n : ℕ) → is_touched at k n ≡ false → n < length s.groups
-    → slice_index_or s.groups n (Marked []) ≡ slice_index_or (written at k s.groups) n (Marked [])
+    → slice_index_or s.groups n (Marked []) ≡ slice_index_or (groups_after_write at k s.groups) n (Marked [])
 bytes_left s at k n e inside = apart at k n (slice_index_or s.groups n (Marked [])) e ∙ group_written at k s.groups n inside
 
 -- one part is told
@@ -148,7 +148,7 @@ group_of_state way s t m n k a b e = rw (same_state m s t a b) at e
 pub by_way : (heads : List Bool) (way : Way) (from to n : ℕ) (effect : Effect) (s : Abstract) (m : Option Abstract) → IsWay from to (get_or heads to false) effect n way
     → Leaves s effect m → option_to_list (along heads (Some to) m) ≡ (way.to, passed_along way s) ∷ []
 by_way heads way from to n effect s m w leaves =
-    let left : m ≡ Some (changed s way.change) = rw w.changes at leaves in
+    let left : m ≡ Some (after_change s way.change) = rw w.changes at leaves in
     rw (left, w.ends, w.rounds) refl
 
 by_learning : (table new : List (Option Abstract)) (heads : List Bool) (way : Way) (slot to : ℕ) (effect : Effect) (s : Abstract) (m : Option Abstract)

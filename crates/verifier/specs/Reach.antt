@@ -14,9 +14,9 @@ abbrev pub unreached_slots : VerifiedValue → List ℕ
 unreached_slots v = filter (is_unreached v) (range_with_len 0 (length v.program))
 
 -- of some slots how many there are, and the first
-abbrev pub counted : List ℕ → Option (ℕ × ℕ)
-counted [] = None
-counted (first ∷ rest) = Some (length (first ∷ rest), first)
+abbrev pub count_and_first : List ℕ → Option (ℕ × ℕ)
+count_and_first [] = None
+count_and_first (first ∷ rest) = Some (length (first ∷ rest), first)
 
 -- the same with one more slot behind them
 abbrev pub and_slot : Option (ℕ × ℕ) → ℕ → Option (ℕ × ℕ)

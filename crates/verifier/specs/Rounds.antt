@@ -6,25 +6,25 @@ use Rattle.ranges.specs.States.{Abstract, join_state, start}
 use Rattle.verifier.specs.Tables.{state_at, rule_at, sent_from}
 
 -- what is known at a slot once a state has arrived
-abbrev pub joined : Option Abstract → Abstract → Abstract
-joined None s = s
-joined (Some t) s = join_state t s
+abbrev pub join_arrival : Option Abstract → Abstract → Abstract
+join_arrival None s = s
+join_arrival (Some t) s = join_state t s
 
 -- a table once a state has arrived
 abbrev pub receive : List (Option Abstract) → ℕ × Abstract → List (Option Abstract)
-receive table p = set table p.0 (Some (joined (state_at table p.0) p.1))
+receive table p = set table p.0 (Some (join_arrival (state_at table p.0) p.1))
 
 -- what a slot passes on in a round: nothing, where a rule is broken
 abbrev pub passed_by : List (Option Instr) → ℕ → List (Option Abstract) → ℕ → List (ℕ × Abstract)
 passed_by program sectors table slot = if is_some (rule_at program table slot) then [] else sent_from program sectors table slot
 
 -- what all slots pass on
-unfoldable pub passed : List (Option Instr) → ℕ → List (Option Abstract) → List (ℕ × Abstract)
-passed program sectors table = flat_map (passed_by program sectors table) (range_with_len 0 (length program))
+unfoldable pub passed_states : List (Option Instr) → ℕ → List (Option Abstract) → List (ℕ × Abstract)
+passed_states program sectors table = flat_map (passed_by program sectors table) (range_with_len 0 (length program))
 
 -- a round: all that is passed by the table before arrives
 unfoldable pub round_of : List (Option Instr) → ℕ → List (Option Abstract) → List (Option Abstract)
-round_of program sectors table = fold receive table (passed program sectors table)
+round_of program sectors table = fold receive table (passed_states program sectors table)
 
 -- the start in slot 0, and no other state
 unfoldable pub first_table : ℕ → List (Option Abstract)

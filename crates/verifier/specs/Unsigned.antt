@@ -14,9 +14,9 @@ use Rattle.bpf_isa.specs.Slots.{at, target_slot}
 use Rattle.bpf_shape.specs.Again.{heads}
 use Rattle.machine.specs.Memory.{byte_count}
 use Rattle.intervals.specs.Spans.{Span}
-use Rattle.intervals.specs.Rounding.{rounded}
+use Rattle.intervals.specs.Rounding.{round_span}
 use Rattle.intervals.specs.Results.{result_of}
-use Rattle.intervals.specs.Edges.{refined}
+use Rattle.intervals.specs.Edges.{jump_edge}
 use Rattle.intervals.specs.Reducing.{Limits, any_sign}
 use Rattle.ranges.specs.declared.place.Place.{Place}
 use Rattle.ranges.specs.declared.place.Place.TheVariants as place
@@ -25,10 +25,10 @@ use Rattle.ranges.specs.Groups.{GroupKind, Marked, Spilled, round_group}
 use Rattle.ranges.specs.States.{Abstract, start}
 use Rattle.ranges.specs.Reading.{value, second, with_value, with_groups, words}
 use Rattle.ranges.specs.Places.{place_of, is_group}
-use Rattle.ranges.specs.Pointers.{moved}
+use Rattle.ranges.specs.Pointers.{moved_pointer}
 use Rattle.ranges.specs.Rules.{is_null_test}
-use Rattle.ranges.specs.After.{written, after_of}
-use Rattle.ranges.specs.Passing.{edge_of, is_equal_edge, tested_kind, with_both, sent, passes}
+use Rattle.ranges.specs.After.{groups_after_write, after_of}
+use Rattle.ranges.specs.Passing.{edge_of, is_equal_edge, tested_kind, with_both, passed_state, passes}
 use Rattle.ranges.specs.Order.{Each, Holds}
 use Rattle.verifier.specs.Tables.{state_at, Covers, CoversAll, AreStates, rule_at}
 
@@ -55,14 +55,14 @@ unsigned_computed i k l = option_map number (result_of i (words k).unsigned (wor
 
 unfoldable pub unsigned_result : Instr → Kind → Kind → Option Kind
 unsigned_result (instr.Arithmetic width.W64 op.Mov dst from) k l = Some l
-unsigned_result (instr.Arithmetic width.W64 op.Add dst from) k l = option_or (moved false k l) (unsigned_computed (instr.Arithmetic width.W64 op.Add dst from) k l)
-unsigned_result (instr.Arithmetic width.W64 op.Sub dst from) k l = option_or (moved true k l) (unsigned_computed (instr.Arithmetic width.W64 op.Sub dst from) k l)
+unsigned_result (instr.Arithmetic width.W64 op.Add dst from) k l = option_or (moved_pointer false k l) (unsigned_computed (instr.Arithmetic width.W64 op.Add dst from) k l)
+unsigned_result (instr.Arithmetic width.W64 op.Sub dst from) k l = option_or (moved_pointer true k l) (unsigned_computed (instr.Arithmetic width.W64 op.Sub dst from) k l)
 unsigned_result i k l = unsigned_computed i k l
 
 -- a pointer stored to a group is kept there; other stores make bytes written
 unfoldable pub unsigned_stored : Kind → List GroupKind → Place → ℕ → List GroupKind
 unsigned_stored k groups (place.Stack at) n =
-    if is_pointer k && is_group at n then slice_set groups (at / 8) (Spilled k) else written at n groups
+    if is_pointer k && is_group at n then slice_set groups (at / 8) (Spilled k) else groups_after_write at n groups
 unsigned_stored k groups p n = groups
 
 abbrev pub unsigned_store : Abstract → Kind → Size → Place → Abstract
@@ -85,25 +85,25 @@ numbers p = (any_sign p.0, any_sign p.1)
 unfoldable pub unsigned_edge : Abstract → Instr → Bool → Option Abstract
 unsigned_edge s (instr.Branch w c dst from distance) taken =
     if is_null_test w c from (value s dst) then Some (with_value s dst (tested_kind (is_equal_edge c taken)))
-    else option_map (λ p. with_both s dst from (numbers p)) (refined (instr.Branch w c dst from distance) taken (words (value s dst)).unsigned (words (second s from)).unsigned)
+    else option_map (λ p. with_both s dst from (numbers p)) (jump_edge (instr.Branch w c dst from distance) taken (words (value s dst)).unsigned (words (second s from)).unsigned)
 unsigned_edge s i taken = edge_of s i taken
 
 -- to which slots what state is passed
 unfoldable pub unsigned_passes : ℕ → Abstract → ℕ → Instr → List (ℕ × Abstract)
 unsigned_passes sectors s slot (instr.Branch w c dst from distance) =
-    sent (slot + 1) (unsigned_edge s (instr.Branch w c dst from distance) false)
-    ++ sent (target_slot slot distance) (unsigned_edge s (instr.Branch w c dst from distance) true)
-unsigned_passes sectors s slot (instr.Arithmetic w o dst from) = sent (slot + 1) (unsigned_after sectors s (instr.Arithmetic w o dst from))
-unsigned_passes sectors s slot (instr.Negate w dst) = sent (slot + 1) (unsigned_after sectors s (instr.Negate w dst))
-unsigned_passes sectors s slot (instr.SignExtend e dst src) = sent (slot + 1) (unsigned_after sectors s (instr.SignExtend e dst src))
-unsigned_passes sectors s slot (instr.ByteOrder o size dst) = sent (slot + 1) (unsigned_after sectors s (instr.ByteOrder o size dst))
-unsigned_passes sectors s slot (instr.StoreImmediate size base distance n) = sent (slot + 1) (unsigned_after sectors s (instr.StoreImmediate size base distance n))
-unsigned_passes sectors s slot (instr.Store size base distance src) = sent (slot + 1) (unsigned_after sectors s (instr.Store size base distance src))
+    passed_state (slot + 1) (unsigned_edge s (instr.Branch w c dst from distance) false)
+    ++ passed_state (target_slot slot distance) (unsigned_edge s (instr.Branch w c dst from distance) true)
+unsigned_passes sectors s slot (instr.Arithmetic w o dst from) = passed_state (slot + 1) (unsigned_after sectors s (instr.Arithmetic w o dst from))
+unsigned_passes sectors s slot (instr.Negate w dst) = passed_state (slot + 1) (unsigned_after sectors s (instr.Negate w dst))
+unsigned_passes sectors s slot (instr.SignExtend e dst src) = passed_state (slot + 1) (unsigned_after sectors s (instr.SignExtend e dst src))
+unsigned_passes sectors s slot (instr.ByteOrder o size dst) = passed_state (slot + 1) (unsigned_after sectors s (instr.ByteOrder o size dst))
+unsigned_passes sectors s slot (instr.StoreImmediate size base distance n) = passed_state (slot + 1) (unsigned_after sectors s (instr.StoreImmediate size base distance n))
+unsigned_passes sectors s slot (instr.Store size base distance src) = passed_state (slot + 1) (unsigned_after sectors s (instr.Store size base distance src))
 unsigned_passes sectors s slot i = passes sectors s slot i
 
 -- rounding at heads
 unfoldable pub unsigned_round : Kind → Kind
-unsigned_round (Num x) = number (rounded x.unsigned)
+unsigned_round (Num x) = number (round_span x.unsigned)
 unsigned_round k = round k
 
 unfoldable pub unsigned_round_state : Abstract → Abstract

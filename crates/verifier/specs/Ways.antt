@@ -5,7 +5,7 @@ use Rattle.ranges.specs.Groups.{GroupKind, Marked}
 use Rattle.ranges.specs.States.{Abstract, round_state}
 use Rattle.ranges.specs.Order.{IsState}
 use Rattle.ranges.specs.Reading.{value}
-use Rattle.ranges.specs.Changing.{changed, Leaves}
+use Rattle.ranges.specs.Changing.{after_change, Leaves}
 use Rattle.ranges.specs.declared.change.Change.{Change}
 use Rattle.ranges.specs.declared.change.Effect.{Effect}
 use Rattle.ranges.specs.declared.change.Effect.TheVariants.{Changed, Nothing}
@@ -16,11 +16,11 @@ use Rattle.verifier.specs.Passing.{LearnsFrom, LearnsAt}
 
 -- a state as it arrives by a way: changed, and rounded where it arrives at a head
 abbrev pub passed_along : Way → Abstract → Abstract
-passed_along way s = if way.is_head then round_state (changed s way.change) else changed s way.change
+passed_along way s = if way.is_head then round_state (after_change s way.change) else after_change s way.change
 
 -- a change leaves a group of the stack as it was
 abbrev pub LeavesGroup : Change → ℕ → Type 0
-LeavesGroup change n = (s : Abstract) → n < length s.groups → slice_index_or s.groups n (Marked []) ≡ slice_index_or (changed s change).groups n (Marked [])
+LeavesGroup change n = (s : Abstract) → n < length s.groups → slice_index_or s.groups n (Marked []) ≡ slice_index_or (after_change s change).groups n (Marked [])
 
 -- a way leads to another slot of the table
 pub record Goes (way : Way) (n : ℕ) : Type 0 where

@@ -17,7 +17,7 @@ ghost use Rattle.std.specs.Prelude.{◌≡◌, ◌<◌, OnOk, IfOk, IfErr, IfSom
 ghost use Rattle.std.specs.Option.{option_to_list};
 ghost use Rattle.bpf_isa.specs.Program.{IsProgram};
 ghost use Rattle.bpf_isa.specs.Slots.{at};
-ghost use Rattle.ranges.specs.Moving.{reached};
+ghost use Rattle.ranges.specs.Moving.{reach};
 ghost use Rattle.ranges.specs.SeenStates.{state_of};
 ghost use Rattle.verifier.specs.Sought.{TakesIn, IsSought};
 ghost use Rattle.verifier.specs.Tables.{state_at, rule_at};
@@ -104,7 +104,7 @@ fn lead_target(
 
 /// Copies what is known at a slot, if there is a state. Whether there is.
 fn copy_state(table: &Table, slot: usize, room: &mut State) -> bool
-    ensures { state_at table.now slot ≡ reached result (state_of room.new) }
+    ensures { state_at table.now slot ≡ reach result (state_of room.new) }
 {
     match table.state(slot) {
         Some(state) => {

@@ -6,7 +6,7 @@ ghost use Rattle.base.specs.Check.{first_failing};
 ghost use Rattle.ranges.specs.SeenStates.{state_of};
 ghost use Rattle.ranges.specs.Rules.{rules};
 ghost use Rattle.ranges.specs.Changing.{Leaves};
-ghost use Rattle.ranges.specs.Moving.{reached};
+ghost use Rattle.ranges.specs.Moving.{reach};
 ghost use Rattle.verifier.specs.Tables.{arriving, arrival, rule_at, sent_from, passed_on};
 ghost use Rattle.verifier.specs.Passing.{next_state, target_of, target_state, along};
 ghost use Rattle.verifier.specs.Seen.{arrival_of};
@@ -52,7 +52,7 @@ pub(crate) fn rule_at(program: &Program, table: &Table, slot: usize) -> Option<V
 /// passed there.
 #[tactic(auto, unfolding(crate::specs::Passing::next_state))]
 fn go_next(instr: &Instr, state: &mut State, sectors: u32) -> bool
-    ensures { next_state sectors (state_of state.old) instr.now ≡ reached result (state_of state.new) }
+    ensures { next_state sectors (state_of state.old) instr.now ≡ reach result (state_of state.new) }
 {
     match instr {
         Instr::Branch { .. } => follow(instr, false, state),
@@ -137,7 +137,7 @@ pub(crate) fn target_of(slot: usize, instr: &Instr) -> Option<usize>
 /// Leads a state there. Whether something is passed.
 #[tactic(auto, unfolding(crate::specs::Passing::target_state))]
 fn go_to_target(instr: &Instr, state: &mut State) -> bool
-    ensures { target_state (state_of state.old) instr.now ≡ reached result (state_of state.new) }
+    ensures { target_state (state_of state.old) instr.now ≡ reach result (state_of state.new) }
 {
     match instr {
         Instr::CallLocal { .. } => {
@@ -178,7 +178,7 @@ pub(crate) fn arrive_next(
     instr: &Instr,
     state: &mut State,
 ) -> bool
-    ensures { along shape.now.heads (Some slot) (next_state sectors (state_of state.old) instr.now) ≡ option_map (λ s. (slot, s)) (reached result (state_of state.new)) }
+    ensures { along shape.now.heads (Some slot) (next_state sectors (state_of state.old) instr.now) ≡ option_map (λ s. (slot, s)) (reach result (state_of state.new)) }
 {
     if !go_next(instr, state, sectors) {
         return false;
@@ -189,7 +189,7 @@ pub(crate) fn arrive_next(
 
 /// Leads a state to the target, as it arrives there. Whether something is passed.
 pub(crate) fn arrive_target(shape: &Shape, slot: usize, instr: &Instr, state: &mut State) -> bool
-    ensures { along shape.now.heads (Some slot) (target_state (state_of state.old) instr.now) ≡ option_map (λ s. (slot, s)) (reached result (state_of state.new)) }
+    ensures { along shape.now.heads (Some slot) (target_state (state_of state.old) instr.now) ≡ option_map (λ s. (slot, s)) (reach result (state_of state.new)) }
 {
     if !go_to_target(instr, state) {
         return false;

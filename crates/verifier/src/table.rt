@@ -11,7 +11,7 @@ ghost use Rattle.ranges.specs.SeenStates.{group_of, state_of};
 ghost use Rattle.verifier.specs.Tables.{state_at, Covers, AreStates};
 ghost use Rattle.verifier.specs.Seen.{table_of};
 ghost use Rattle.verifier.specs.Passing.{LearnsAt};
-ghost use Rattle.verifier.specs.Rounds.{joined, receive, first_table};
+ghost use Rattle.verifier.specs.Rounds.{join_arrival, receive, first_table};
 ghost use Rattle.verifier.specs.Sought.{TakesIn};
 ghost use Rattle.verifier.specs.Ways.{Goes, LearnsAlong, TellsGroupAt, TellsValueAt};
 
@@ -229,7 +229,7 @@ fn tell_number_at(known: &mut Option<State>, n: usize, number: Bounds) -> bool
 
 /// What is known at a slot once a state has arrived.
 fn join_to(known: &mut Option<State>, state: &State)
-    ensures { option_map state_of known.new ≡ Some (joined (option_map state_of known.old) (state_of state.now)) }
+    ensures { option_map state_of known.new ≡ Some (join_arrival (option_map state_of known.old) (state_of state.now)) }
 {
     match known {
         Some(known) => known.take_in(state),

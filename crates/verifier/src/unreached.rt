@@ -2,7 +2,7 @@
 
 ghost use Rattle.std.specs.Prelude.{◌≡◌, ◌<◌, ◌≤◌, ◌+◌, IfSome};
 ghost use Rattle.std.specs.Option.{option_map};
-ghost use Rattle.verifier.specs.Reach.{is_unreached, unreached_slots, counted, and_slot};
+ghost use Rattle.verifier.specs.Reach.{is_unreached, unreached_slots, count_and_first, and_slot};
 
 use crate::verified::Verified;
 
@@ -41,7 +41,7 @@ fn and_slot(found: Option<Unreached>, slot: usize) -> Unreached
 
 /// Which instructions of an accepted program no run reaches, if there are any.
 pub fn unreached_of(verified: &Verified<'_>) -> Option<Unreached>
-    ensures { option_map (λ u. (u.count, u.first)) result ≡ counted (unreached_slots verified.now) }
+    ensures { option_map (λ u. (u.count, u.first)) result ≡ count_and_first (unreached_slots verified.now) }
 {
     let mut found = None;
     for slot in 0..verified.program().slots() {

@@ -1,10 +1,8 @@
 -- Numbers between two others, of numbers in their order.
 use Rattle.std.proofs.Common.{ℕ, None, if◌then◌else◌, zero, suc, ◌≡◌, ◌+◌, ◌-◌, ◌<◌, ◌≤◌, Bool, true, false, List, [], ◌∷◌, length, filter, take, drop, slice_get, Some, refl, sym, ◌∙◌, ap, inl, inr, arith}
 use Rattle.std.specs.List.{slice_index_or}
-use Rattle.std.specs.List.Sorted.{IsNonDecreasing}
 use Rattle.std.proofs.lemmas.Bool.{cases_lt}
 use Rattle.std.proofs.lemmas.Bool.Decides.{nat_tests}
-use Rattle.std.proofs.lemmas.Option.{slice_get-get_or}
 use Rattle.choices.specs.Choices.{ranked_at}
 use Rattle.choices.specs.Sums.{StartsValue}
 use Rattle.why.specs.Failures.{is_below, is_between, AreInOrder, AreImages, AreOfCut}
@@ -106,16 +104,6 @@ parts_few first end (x ∷ xs) =
                 let b = ap (λ (ys : List ℕ). length ys) (leaves (is_between first end) x xs (outside_high first end x past)) in
                 omega (arith, rest, a, b)
           ]
-    ]
-
--- numbers that rise don't fall
-pub not_falling : (xs : List ℕ) → AreInOrder xs → IsNonDecreasing xs
-not_falling xs are h k d le lt =
-    let at = slice_get-get_or xs h d (omega (arith, le, lt)) in
-    let bt = slice_get-get_or xs k d lt in
-    elim (cases_lt h k) [
-      | inl less ↦ let rise = are h k _ _ less at bt in omega (arith, rise)
-      | inr ge ↦ let same : h ≡ k = omega (arith, le, ge) in let e = ap (λ n. slice_index_or xs n d) same in omega (arith, e)
     ]
 
 -- what a filter leaves stands in the list

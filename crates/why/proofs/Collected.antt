@@ -1,5 +1,5 @@
 -- What fails at the first cuts.
-use Rattle.std.proofs.Common.{ℕ, ◌≡◌, ◌+◌, List, [], ◌∷◌, ◌++◌, length, length-append, slice_get, None, Some, refl, sym, ◌∙◌, subst, inl, inr, arith}
+use Rattle.std.proofs.Common.{ℕ, ◌≡◌, ◌+◌, List, [], ◌∷◌, ◌++◌, length, length-append, slice_get, Some, sym, ◌∙◌, subst, inl, inr, arith}
 use Rattle.base.proofs.Lists.{slice_get_of_push}
 use Rattle.choices.specs.Sums.{StartsValue}
 use Rattle.why.specs.declared.cut.CutFailures.{CutFailures}
@@ -8,9 +8,6 @@ use Rattle.why.specs.Failures.{IsCut}
 pub record AreFirstCuts (s : StartsValue) (failing : List ℕ) (outcomes : List (List ℕ)) (count : ℕ) (cs : List CutFailures) : Type 0 where
   pub long : length cs ≡ count
   pub each : (place : ℕ) (c : CutFailures) → slice_get cs place ≡ Some c → IsCut s failing outcomes place c
-
-pub none_yet : (s : StartsValue) (failing : List ℕ) (outcomes : List (List ℕ)) → AreFirstCuts s failing outcomes 0 []
-none_yet s failing outcomes = record { long = refl; each = λ place c at. absurd (let bad : None ≡ Some c = at in cc) }
 
 pub one_more : (s : StartsValue) (failing : List ℕ) (outcomes : List (List ℕ)) (count : ℕ) (cs more : List CutFailures) (c : CutFailures) → AreFirstCuts s failing outcomes count cs
     → IsCut s failing outcomes count c → more ≡ cs ++ c ∷ [] → AreFirstCuts s failing outcomes (count + 1) more

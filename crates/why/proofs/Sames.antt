@@ -1,9 +1,9 @@
 -- Whether all images of a group end alike.
-use Rattle.std.proofs.Common.{◌≢◌, replicate, ℕ, zero, suc, ◌≡◌, ◌+◌, ◌<◌, ◌==◌, ◌&&◌, ◌||◌, ◌↔◌, Bool, true, false, not, List, [], ◌∷◌, ◌++◌, length, slice_set, slice_get, Some, refl, sym, ◌∙◌, ap, subst, inl, inr, arith}
+use Rattle.std.proofs.Common.{◌≢◌, ℕ, zero, suc, ◌≡◌, ◌+◌, ◌<◌, ◌==◌, ◌&&◌, ◌||◌, ◌↔◌, Bool, true, false, not, List, [], ◌∷◌, ◌++◌, length, slice_set, slice_get, Some, refl, sym, ◌∙◌, ap, subst, inl, inr, arith}
 use Rattle.std.specs.List.{slice_index_or, range_with_len, list_all}
 use Rattle.std.proofs.lemmas.Bool.{cases_lt}
 use Rattle.std.proofs.lemmas.Bool.Decides.{eqb_tells}
-use Rattle.std.proofs.lemmas.List.{length-replicate, length-set, get_or-set_same, get_or-set_other}
+use Rattle.std.proofs.lemmas.List.{length-set, get_or-set_same, get_or-set_other}
 use Rattle.std.proofs.lemmas.List.Folds.{list_all-append}
 use Rattle.std.proofs.lemmas.Option.{slice_get-get_or, slice_get_within}
 use Rattle.std.proofs.lemmas.Slice.Eq.{bytes_eq-Decides}
@@ -17,15 +17,6 @@ same_so_far outcomes begin places i k = list_all (ends_as outcomes begin places 
 pub record AreSame (outcomes : List (List ℕ)) (begin : ℕ) (places : List ℕ) (same : List Bool) (i : ℕ) : Type 0 where
   pub long : length same ≡ length places
   pub each : (k : ℕ) → k < length places → slice_index_or same k true ≡ same_so_far outcomes begin places i k
-
-all_true : (n k : ℕ) → ◌≡◌ {A = Bool} (slice_index_or (replicate n true) k true) true
-all_true zero k = refl
-all_true (suc n) zero = refl
-all_true (suc n) (suc k) = all_true n k
-
-pub none_compared : (outcomes : List (List ℕ)) (begin : ℕ) (places : List ℕ) (same : List Bool) → same ≡ replicate (length places) true → AreSame outcomes begin places same 0
-none_compared outcomes begin places same is =
-    rw is (record { long = length-replicate (length places) true; each = λ k lt. all_true (length places) k })
 
 -- a test of all of one more
 all_more : (p : ℕ → Bool) (i : ℕ) → list_all p (range_with_len 0 (i + 1)) ≡ (list_all p (range_with_len 0 i) && p i)

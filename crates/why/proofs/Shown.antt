@@ -4,7 +4,7 @@ use Rattle.std.specs.List.{range_with_len}
 use Rattle.std.specs.Option.{option_map_or}
 use Rattle.std.proofs.lemmas.Option.{slice_get-get_or}
 use Rattle.epochs.specs.declared.part.By.{By}
-use Rattle.choices.specs.Choices.{ChoiceValue, ranked}
+use Rattle.choices.specs.Choices.{ChoiceValue, ranked_choices}
 use Rattle.choices.specs.Sums.{StartsValue}
 use Rattle.why.specs.declared.group.Group.{Group}
 use Rattle.why.specs.declared.cut.CutFailures.{CutFailures}
@@ -16,7 +16,7 @@ use Rattle.why.proofs.Collected.{AreFirstCuts}
 use Rattle.why.proofs.Standing.{left_of_groups, of_range}
 
 -- the line of a group whose image there is
-pub group_shown : (way : By) (s : StartsValue) (outcomes : List (List ℕ)) (g : Group) (c : ChoiceValue) → slice_get (ranked s.plan s.bound s.tears) g.image ≡ Some c
+pub group_shown : (way : By) (s : StartsValue) (outcomes : List (List ℕ)) (g : Group) (c : ChoiceValue) → slice_get (ranked_choices s.plan s.bound s.tears) g.image ≡ Some c
     → group_line way s outcomes g ≡ chosen_line way outcomes g c.departures
 group_shown way s outcomes g c at = ap (λ o. option_map_or (λ (d : ChoiceValue). chosen_line way outcomes g d.departures) o []) at
 

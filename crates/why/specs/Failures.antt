@@ -2,7 +2,7 @@
 use Rattle.std.specs.Prelude.{ℕ, ◌≡◌, ◌+◌, ◌-◌, ◌<◌, ◌≤◌, nat_le, nat_lt, Bool, ◌&&◌, List, [], length, map, filter, slice_get, Some}
 use Rattle.std.specs.Option.{option_map_or}
 use Rattle.epochs.specs.Cuts.{cuts_of}
-use Rattle.choices.specs.Choices.{ranked, ranked_at, ranked_before}
+use Rattle.choices.specs.Choices.{ranked_choices, ranked_at, ranked_before}
 use Rattle.choices.specs.Numbers.{numbers_at}
 use Rattle.choices.specs.Sums.{StartsValue}
 use Rattle.why.specs.Groups.{AreGrouped}
@@ -15,7 +15,7 @@ AreInOrder ns = (i j n m : ℕ) → i < j → slice_get ns i ≡ Some n → slic
 -- images of a run, rising
 pub record AreImages (s : StartsValue) (failing : List ℕ) : Type 0 where
   pub ordered : AreInOrder failing
-  pub within : (i n : ℕ) → slice_get failing i ≡ Some n → n < length (ranked s.plan s.bound s.tears)
+  pub within : (i n : ℕ) → slice_get failing i ≡ Some n → n < length (ranked_choices s.plan s.bound s.tears)
 
 -- the number of the first image at the wanted cut of that place
 abbrev pub first_at : StartsValue → ℕ → ℕ

@@ -6,7 +6,7 @@ use Rattle.std.specs.Option.{option_map_or}
 use Rattle.choices.specs.declared.choice.Departure.{Departure}
 use Rattle.choices.specs.declared.fate.Fate.{Fate}
 use Rattle.choices.specs.declared.fate.Fate.TheVariants as fate
-use Rattle.choices.specs.Choices.{ChoiceValue, ranked}
+use Rattle.choices.specs.Choices.{ChoiceValue, ranked_choices}
 use Rattle.choices.specs.Sums.{StartsValue}
 use Rattle.epochs.specs.declared.part.By.{By}
 use Rattle.choice_text.specs.Text.{part_text, departures_text}
@@ -52,7 +52,7 @@ unfoldable pub chosen_line : By → List (List ℕ) → Group → List Departure
 chosen_line way outcomes g ds = group_head way ds g ++ ends_at outcomes g.line ++ example_text way ds g
 
 abbrev pub group_line : By → StartsValue → List (List ℕ) → Group → List ℕ
-group_line way s outcomes g = option_map_or (λ (c : ChoiceValue). chosen_line way outcomes g c.departures) (slice_get (ranked s.plan s.bound s.tears) g.image) []
+group_line way s outcomes g = option_map_or (λ (c : ChoiceValue). chosen_line way outcomes g c.departures) (slice_get (ranked_choices s.plan s.bound s.tears) g.image) []
 
 unfoldable pub cut_head : ℕ → CutFailures → List ℕ
 cut_head program c =
@@ -68,7 +68,7 @@ cuts_text way s outcomes program cs = flat_map (cut_text way s outcomes program)
 
 -- the images of the groups are images of the run, and have outcomes
 pub record IsNumbered (s : StartsValue) (lines : ℕ) (g : Group) : Type 0 where
-  pub image : g.image < length (ranked s.plan s.bound s.tears)
+  pub image : g.image < length (ranked_choices s.plan s.bound s.tears)
   pub line : g.line < lines
 
 abbrev pub AreNumbered : StartsValue → ℕ → List Group → Type 0

@@ -4,9 +4,8 @@ use Rattle.std.proofs.lemmas.Grind.{flat_map-append}
 use mathlib.Core.List.{reverse, reverse-append}
 use lib.ListN.{length-reverse}
 use Rattle.std.proofs.lemmas.List.{length-map, map-append}
-use Rattle.shares.specs.declared.view.SeatStep.{SeatStep}
 use Rattle.shares.specs.Steps.{total, late_draws, drew_late}
-use Rattle.shares.specs.Seats.{BoardName, BoardValue, SeatValue, HasEnded, all_steps, all_taken, taken, times}
+use Rattle.shares.specs.Seats.{BoardName, BoardValue, SeatValue, HasEnded, all_steps, all_taken, taken_blocks, times}
 use Rattle.shares.specs.declared.deque.Phase.TheVariants.{Refused}
 use Rattle.shares.specs.Hands.{HandPlace, HandValue, IsEmptyHand, IsShut, AreLeft, is_refused, some_refused}
 use Rattle.shares.proofs.Lists.{total_append}
@@ -73,7 +72,7 @@ all_hand {X} s board (d ∷ done) are ok =
       ended = omega (arith, own.1, late, rest.ended, total_append (drew_late board.blocks) d.seat.steps (all_steps (map (λ (e : Done X). e.seat) done)));
       own = all_cons (λ (seat : SeatValue). seat.board ≡ board) d.seat _ own.0.board_is rest.own;
       settled = all_cons IsSettled d.hand _ own.2 rest.settled;
-      together = λ x. omega (arith, own.0.together x, rest.together x, pieces_both (pieces_of d) (flat_map pieces_of done) x, times_append x (taken d.seat) (all_taken (map (λ (e : Done X). e.seat) done)));
+      together = λ x. omega (arith, own.0.together x, rest.together x, pieces_both (pieces_of d) (flat_map pieces_of done) x, times_append x (taken_blocks d.seat) (all_taken (map (λ (e : Done X). e.seat) done)));
     }
 
 turned_one : (h : HandValue) (hs : List HandValue) → reverse (h ∷ hs) ≡ reverse hs ++ h ∷ []

@@ -8,7 +8,7 @@ use Rattle.std.proofs.lemmas.List.Sums.{fails_before_first}
 use Rattle.std.proofs.lemmas.Grind.{common_steps}
 use Rattle.lines.specs.Line.{FailingLine}
 use Rattle.workers.specs.Least.{least_image}
-use Rattle.workers.specs.Pieces.{PieceValue, AreWhole, of_block, counted_at, lines_at, lines_of, full_lines, counts, collected, IsFirstTwice, IsFirstMissing}
+use Rattle.workers.specs.Pieces.{PieceValue, AreWhole, of_block, counted_at, lines_at, lines_of, full_lines, counts, lines_by_block, IsFirstTwice, IsFirstMissing}
 use Rattle.workers.specs.Table.{AreRows, is_missing, row_lines}
 use Rattle.workers.proofs.Least.{counts_by_least}
 
@@ -23,10 +23,6 @@ of_row [] (Some p) e few = absurd (let bad : Some p ≡ None = e in cc)
 of_row (x ∷ []) None e few = absurd (let bad : None ≡ Some x = e in cc)
 of_row (x ∷ []) (Some p) e few = let s : Some p ≡ Some x = e in let same : x ≡ p = cc in rw same refl
 of_row (x ∷ y ∷ ys) row e few = absurd (omega (arith, few))
-
--- how many count
-counted : List FailingLine → List PieceValue → ℕ
-counted lines ps = length (filter (λ (p : PieceValue). counts lines p.block p.found) ps)
 
 counted_row : (lines : List FailingLine) (row : Row) (missing : Bool) → is_missing (least_image lines) row ≡ missing
     → length (filter (λ (p : PieceValue). counts lines p.block p.found) (option_to_list row)) ≡ (if missing then 0 else 1)
@@ -104,8 +100,8 @@ lines_by_row ps a (row ∷ rows) h =
     rw (first, rest) refl
 
 pub lines_of_rows : (ps : List PieceValue) (blocks : ℕ) (rows : List Row) (least : Option ℕ) → AreRows ps blocks rows None least
-    → flat_map row_lines rows ≡ collected ps blocks
-unfolding collected
+    → flat_map row_lines rows ≡ lines_by_block ps blocks
+unfolding lines_by_block
 lines_of_rows ps blocks rows least h =
     rw (← h.count)
     (lines_by_row ps 0 rows

@@ -1,10 +1,10 @@
 -- What workers hand over, as they take blocks, and when all are back.
-use Rattle.std.proofs.Common.{ℕ, zero, suc, ◌≡◌, ◌+◌, ◌-◌, ◌*◌, ◌==◌, min, if◌then◌else◌, IfSome, ◌<◌, ◌≤◌, ⊎_elim, Bool, true, false, ◌&&◌, nat_lt, nat_le, eqb, List, [], ◌∷◌, ◌++◌, length, Option, None, Some, slice_get, refl, sym, ◌∙◌, ap, subst, arith}
+use Rattle.std.proofs.Common.{ℕ, zero, suc, ◌≡◌, ◌+◌, ◌-◌, ◌*◌, min, if◌then◌else◌, IfSome, ◌<◌, ◌≤◌, ⊎_elim, Bool, true, false, ◌&&◌, nat_lt, nat_le, eqb, List, [], ◌∷◌, ◌++◌, Option, None, Some, refl, sym, ◌∙◌, ap, subst, arith}
 use Rattle.std.proofs.lemmas.Bool.Decides.{eqb_tells, leb_tells, nat_tests}
 use Rattle.std.proofs.lemmas.Grind.{flat_map-append}
 use Rattle.lines.specs.Line.{FailingLine}
 use Rattle.shares.specs.declared.view.SeatStep.{SeatStep}
-use Rattle.shares.specs.declared.view.SeatStep.TheVariants.{Drew, Posted, SawLeast, SawNext}
+use Rattle.shares.specs.declared.view.SeatStep.TheVariants.{Drew, Posted, SawLeast}
 use Rattle.shares.specs.Steps.{bit, none_posted, posted_it, found_it, posts, finds, image_or_none, shown_next, next_seen, late_draws}
 use Rattle.shares.specs.Seats.{SeatValue, DrawsNone}
 use Rattle.shares.specs.Hands.{PostsNothing}
@@ -13,9 +13,9 @@ use Rattle.workers.specs.declared.found.Found.{Found}
 use Rattle.workers.specs.declared.found.Found.TheVariants.{Lines, Passed}
 use Rattle.workers.specs.Counting.{reaches}
 use Rattle.workers.specs.Exploring.{passes_over}
-use Rattle.workers.specs.Failing.{Subject, image_count, lines_from, part}
+use Rattle.workers.specs.Failing.{Subject, image_count, part}
 use Rattle.workers.specs.Least.{lower, least_image}
-use Rattle.workers.specs.Pieces.{PieceValue, EachPiece, ArePieces, AreFull, HasPart, passes, block_count, lines_of, full_lines, piece_of}
+use Rattle.workers.specs.Pieces.{PieceValue, EachPiece, HasPart, passes, block_count, lines_of, full_lines, piece_of}
 use Rattle.workers.specs.Taking.{IsSeen, HandsOver, KeepsPosts, AddsPiece}
 use Rattle.workers.proofs.Least.{least_append, least_of_push}
 use Rattle.workers.proofs.Runs.{each_push}

@@ -8,6 +8,7 @@ use Rattle.base.proofs.Lists.{range_with_len-more, range_with_len-append}
 use Rattle.epochs.specs.declared.part.By.{By}
 use Rattle.epochs.specs.Plan.{PlanValue}
 use Rattle.choices.specs.Choices.{ChoiceValue}
+use Rattle.choices.specs.Picked.{PickedValue, IsRanked}
 use Rattle.checker.specs.Checker.{CheckerValue}
 use Rattle.lines.specs.Line.{FailingLine}
 use Rattle.workers.specs.Failing.{Subject, choices_of, image_count, ending_at, line_if, line_of, image_lines, lines_from, failing_lines, part}
@@ -27,7 +28,7 @@ single : (o : Option FailingLine) → filter_map (λ (x : Option FailingLine). x
 single None = refl
 single (Some l) = refl
 
-line_here : (s : Subject) (image n : ℕ) (choice : ChoiceValue) (checker : CheckerValue)
+pub line_here : (s : Subject) (image n : ℕ) (choice : ChoiceValue) (checker : CheckerValue)
     → slice_get (choices_of s) image ≡ Some choice → slice_get s.checkers n ≡ Some checker
     → filter_map (line_of s image) (n ∷ []) ≡ line_list (line_if s.plan.by image choice n (ending_at s choice checker))
 line_here s image n choice checker there named =
@@ -53,6 +54,10 @@ pub checker_found : (s : Subject) (way : By) (image n : ℕ) (choice : ChoiceVal
     → after ≡ first ++ filter_map (line_of s image) (range_with_len 0 (n + 1))
 checker_found s way image n choice checker ending first before after same there named found so e =
     e ∙ ap (λ (end : Ending). before ++ line_list (line_if way image choice n end)) found ∙ checker_next s way image n choice checker first before same there named so
+
+-- no image yet
+pub none_yet : (s : Subject) (a : ℕ) (lines : List FailingLine) → lines ≡ lines ++ lines_from s a (a - a)
+none_yet s a lines = let z : a - a ≡ 0 = omega arith in rw z (sym (append-nil lines))
 
 -- the lines of one more image
 pub image_next : (s : Subject) (a i : ℕ) (first before : List FailingLine) → a ≤ i
@@ -104,6 +109,14 @@ pub choice_next : (s : Subject) (moved : Bool) (old new : ChoiceValue) (i : ℕ)
     → slice_get (choices_of s) i ≡ Some old → i + 1 < image_count s → slice_get (choices_of s) (i + 1) ≡ Some new
 choice_next s true old new i f g here lt = f refl i here
 choice_next s false old new i f g here lt = let last = g refl i here in absurd (omega (arith, last, lt))
+
+-- and by its picks
+pub picked_next : (s : Subject) (moved : Bool) (old new : PickedValue) (i : ℕ)
+    → (IsTrue moved → (n : ℕ) → IsRanked s.plan s.bound s.tears n old → IsRanked s.plan s.bound s.tears (n + 1) new)
+    → (IsFalse moved → (n : ℕ) → IsRanked s.plan s.bound s.tears n old → n + 1 ≡ image_count s)
+    → IsRanked s.plan s.bound s.tears i old → i + 1 < image_count s → IsRanked s.plan s.bound s.tears (i + 1) new
+picked_next s true old new i f g here lt = f refl i here
+picked_next s false old new i f g here lt = let last = g refl i here in absurd (omega (arith, last, lt))
 
 -- the lines of an image after its last checker
 pub lines_of_image : (s : Subject) (image n : ℕ) → n ≡ length s.checkers → filter_map (line_of s image) (range_with_len 0 n) ≡ image_lines s image

@@ -10,4 +10,15 @@ pub mod Takes
 pub mod Settled
 pub mod Back
 pub mod Safe
+pub mod Skipping
+pub mod Keeping
+pub mod Reused
+pub mod Findings
 pub mod Crossing
+pub mod Rising
+pub mod Marking
+pub mod Telling
+pub mod Learning
+pub mod Adding
+pub mod Growing
+pub mod Stretching

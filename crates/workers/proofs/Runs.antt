@@ -1,24 +1,19 @@
 -- The pieces of a run.
-use Rattle.std.proofs.Common.{ℕ, zero, suc, ◌≡◌, ◌≢◌, ◌+◌, ◌-◌, ◌*◌, ◌==◌, ◌<◌, ◌≤◌, ◌⊎◌, inl, inr, min, Bool, true, false, ◌&&◌, ◌||◌, cond, if◌then◌else◌, nat_lt, nat_le, List, [], ◌∷◌, ◌++◌, length, map, filter, All, get_or, Option, None, Some, slice_get, refl, sym, ◌∙◌, ap, subst, arith, append-nil}
+use Rattle.std.proofs.Common.{ℕ, zero, suc, ◌≡◌, ◌≢◌, ◌+◌, ◌-◌, ◌*◌, ◌==◌, ◌<◌, ◌≤◌, ◌⊎◌, inl, inr, min, Bool, true, false, ◌&&◌, ◌||◌, cond, nat_lt, nat_le, List, [], ◌∷◌, ◌++◌, length, map, filter, None, Some, slice_get, refl, sym, ◌∙◌, ap, subst, arith, append-nil}
 use Rattle.std.specs.List.{flat_map, range_with_len, list_any}
 use Rattle.std.proofs.lemmas.Bool.Decides.{eqb_tells, nat_tests}
-use Rattle.std.proofs.lemmas.List.{map-append}
-use Rattle.std.proofs.lemmas.Option.{slice_get-get_or}
-use Rattle.base.proofs.Lists.{range_with_len-more, slice_get_of_push}
+use Rattle.base.proofs.Lists.{slice_get_of_push}
 use Rattle.base.specs.declared.causes.WorkCause.TheVariants as work
 use Rattle.base.specs.declared.refusal.Refusal.{Refusal}
 use Rattle.base.specs.Refusals.{work_refusal}
 use Rattle.lines.specs.Line.{FailingLine, first_lines}
 use Rattle.workers.specs.declared.found.Found.{Found}
 use Rattle.workers.specs.declared.found.Found.TheVariants.{Lines, Passed}
-use Rattle.workers.specs.Counting.{counts_with}
 use Rattle.workers.specs.Exploring.{ArePiecesOf}
 use Rattle.workers.specs.Failing.{Subject, image_count, lines_from, failing_lines, part}
 use Rattle.workers.specs.Laws.{AreSomeOf, BeginsWithFirst}
-use Rattle.workers.specs.Least.{lower, least_image}
-use Rattle.workers.specs.Pieces.{PieceValue, EachPiece, ArePieces, AreFull, AreWhole, HasPart, passes, block_count, of_block, pieces_at, counted_at, lines_at, lines_of, full_lines, counts, collected, RefusesPieces, two_pieces, no_piece, no_memory}
+use Rattle.workers.specs.Pieces.{PieceValue, EachPiece, ArePieces, AreFull, AreWhole, HasPart, passes, block_count, of_block, pieces_at, counted_at, lines_at, lines_of, full_lines, counts, lines_by_block, RefusesPieces, two_pieces, no_piece, no_memory}
 use Rattle.workers.proofs.JudgedLines.{all_parts}
-use Rattle.workers.proofs.Least.{lines_push, least_of_push, counts_by_least}
 use Rattle.workers.proofs.Sets.{Each, Ordered, each_then, all_ordered, of_range}
 use Rattle.workers.proofs.SomeLines.{AreIn, IsKept, begins, some_ordered, some_of_blocks, first_of_blocks}
 
@@ -68,8 +63,8 @@ alike : (f g : ℕ → List FailingLine) (a n : ℕ) → ((b : ℕ) → b < a + 
 alike f g a zero h = refl
 alike f g a (suc n) h = rw (h a (omega arith), alike f g (a + 1) n (λ b lt. h b (omega (arith, lt)))) refl
 
-pub without_passed : (s : Subject) (ps : List PieceValue) → ArePieces s ps → AreFull ps → AreWhole ps (block_count s) → collected ps (block_count s) ≡ failing_lines s
-unfolding collected
+pub without_passed : (s : Subject) (ps : List PieceValue) → ArePieces s ps → AreFull ps → AreWhole ps (block_count s) → lines_by_block ps (block_count s) ≡ failing_lines s
+unfolding lines_by_block
 without_passed s ps h full whole =
     alike (lines_at ps) (part s) 0 (block_count s) (λ b lt. own_part s ps b h full (whole b (omega (arith, lt))).0) ∙ all_parts s
 
@@ -186,27 +181,27 @@ kept s ps b h one count =
     one_counts (full_lines ps) p.0 (ap (λ (qs : List PieceValue). length (filter (λ (q : PieceValue). counts (full_lines ps) q.block q.found) qs)) (sym p.3) ∙ count) in
     kept_part s ps b p.0.found h (rw p.2 at p.1.1) (rw p.2 at counted) lines
 
-pub some_lines : (s : Subject) (ps : List PieceValue) → ArePieces s ps → AreWhole ps (block_count s) → AreSomeOf (collected ps (block_count s)) (failing_lines s)
-unfolding collected
+pub some_lines : (s : Subject) (ps : List PieceValue) → ArePieces s ps → AreWhole ps (block_count s) → AreSomeOf (lines_by_block ps (block_count s)) (failing_lines s)
+unfolding lines_by_block
 some_lines s ps h whole =
     rw (← all_parts s)
     (some_of_blocks (lines_at ps) (part s) 0 (block_count s)
     (λ b lt. let at = whole b (omega (arith, lt)) in kept s ps b h at.0 at.1))
 
-pub same_first_lines : (s : Subject) (ps : List PieceValue) → ArePieces s ps → AreWhole ps (block_count s) → first_lines (collected ps (block_count s)) ≡ first_lines (failing_lines s)
-unfolding collected
+pub same_first_lines : (s : Subject) (ps : List PieceValue) → ArePieces s ps → AreWhole ps (block_count s) → first_lines (lines_by_block ps (block_count s)) ≡ first_lines (failing_lines s)
+unfolding lines_by_block
 same_first_lines s ps h whole =
     first_of_blocks (lines_at ps) (part s) 0 (block_count s) (part_in s)
     (λ b lt. let at = whole b (omega (arith, lt)) in kept s ps b h at.0 at.1)
     (λ b lt. absurd (omega (arith, lt)))
     ∙ ap first_lines (all_parts s)
 
-pub with_passed : (s : Subject) (ps : List PieceValue) → ArePieces s ps → AreWhole ps (block_count s) → BeginsWithFirst (failing_lines s) (collected ps (block_count s))
+pub with_passed : (s : Subject) (ps : List PieceValue) → ArePieces s ps → AreWhole ps (block_count s) → BeginsWithFirst (failing_lines s) (lines_by_block ps (block_count s))
 with_passed s ps h whole =
-    begins (failing_lines s) (collected ps (block_count s)) (all_ordered s) (some_lines s ps h whole) (same_first_lines s ps h whole)
+    begins (failing_lines s) (lines_by_block ps (block_count s)) (all_ordered s) (some_lines s ps h whole) (same_first_lines s ps h whole)
 
-pub lines_ordered : (s : Subject) (ps : List PieceValue) → ArePieces s ps → AreWhole ps (block_count s) → Ordered (collected ps (block_count s))
-lines_ordered s ps h whole = some_ordered (collected ps (block_count s)) (failing_lines s) (all_ordered s) (some_lines s ps h whole)
+pub lines_ordered : (s : Subject) (ps : List PieceValue) → ArePieces s ps → AreWhole ps (block_count s) → Ordered (lines_by_block ps (block_count s))
+lines_ordered s ps h whole = some_ordered (lines_by_block ps (block_count s)) (failing_lines s) (all_ordered s) (some_lines s ps h whole)
 
 -- one more piece
 

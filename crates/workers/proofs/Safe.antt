@@ -6,7 +6,7 @@ use Rattle.choices.specs.Choices.{ChoiceValue}
 use Rattle.images.specs.Views.{ViewValue, view_of, sectors_of, context_at}
 use Rattle.images.proofs.Devices.{images_are_devices}
 use Rattle.helpers.specs.declared.device.Context.{Context}
-use Rattle.checker.specs.Checker.{CheckerValue, Suits, IsFor, AreFor, judged}
+use Rattle.checker.specs.Checker.{CheckerValue, Suits, IsFor, AreFor, judgement}
 use Rattle.checker.proofs.Suiting.{suits_image, for_each}
 use Rattle.lines.specs.Line.{FailingLine}
 use Rattle.soundness.specs.Accepted.{IsImage, IsSafeRun, AcceptedRunsSafely}
@@ -47,7 +47,7 @@ safe_at sound s checker choice is accepted =
 
 verdict_at : (s : Subject) (checker : CheckerValue) (choice : ChoiceValue)
     → IsSafeRun checker.program (sectors_of (view_of s.plan choice)) (context_at s.plan.log choice.cut) checker.limit → IsVerdict (ending_at s choice checker)
-unfolding ending_at judged
+unfolding ending_at judgement
 verdict_at s checker choice safe = (safe.answer, safe.codes, safe.ends)
 
 of_line : AcceptedRunsSafely → (s : Subject) (l : FailingLine) (checker : CheckerValue) → IsLog s.plan.log → IsFailing s l

@@ -1,6 +1,5 @@
 -- The table of pieces, as one more piece is put into it.
-use Rattle.std.proofs.Common.{ℕ, zero, suc, ◌≡◌, ◌≢◌, ◌+◌, ◌==◌, ◌<◌, ◌≤◌, ◌⊎◌, inl, inr, min, true, false, List, [], ◌∷◌, ◌++◌, length, replicate, Option, None, Some, slice_get, slice_set, is_some, All, refl, sym, ◌∙◌, ap, subst, arith, append-nil, length-append}
-use Rattle.std.proofs.Math.ListN.{length-replicate}
+use Rattle.std.proofs.Common.{ℕ, zero, suc, ◌≡◌, ◌≢◌, ◌+◌, ◌==◌, ◌<◌, ◌≤◌, ◌⊎◌, inl, inr, min, true, false, List, [], ◌∷◌, ◌++◌, length, Option, None, Some, slice_get, slice_set, is_some, All, refl, sym, ◌∙◌, ap, subst, arith, append-nil, length-append}
 use Rattle.std.proofs.lemmas.Bool.Decides.{eqb_tells, leb_tells}
 use Rattle.std.proofs.lemmas.List.Elements.{filter-append}
 use Rattle.std.proofs.lemmas.Option.{get_or_from_slice_get, slice_get_within}
@@ -186,11 +185,6 @@ put_new ps p blocks rows twice least None h at found = put_first ps p blocks row
 put_new ps p blocks rows twice least (Some q) h at found = absurd (let bad : true ≡ false = found in cc)
 
 -- before the first piece
-
-pub element_of_blank : (n b : ℕ) (row : Row) → slice_get (replicate n None) b ≡ Some row → row ≡ None
-element_of_blank zero b row h = absurd (let bad : None ≡ Some row = h in cc)
-element_of_blank (suc n) zero row h = let e : Some None ≡ Some row = h in cc
-element_of_blank (suc n) (suc b) row h = element_of_blank n b row h
 
 -- an element between others
 pub all_middle : {X : Type 0} (P : X → Type 0) (xs ys all : List X) (x : X) → xs ++ x ∷ ys ≡ all → All P all → P x

@@ -1,16 +1,15 @@
 -- What a worker has of the blocks that it took.
 use Rattle.std.proofs.Common.{ℕ, ◌≡◌, ◌+◌, ◌<◌, List, [], ◌∷◌, ◌++◌, map, refl, sym, ◌∙◌, ap, subst, arith}
 use Rattle.std.proofs.lemmas.List.{map-append}
-use Rattle.shares.specs.declared.view.SeatStep.{SeatStep}
 use Rattle.shares.specs.declared.view.SeatStep.TheVariants.{Drew}
-use Rattle.shares.specs.Seats.{BoardName, SeatValue, DrawsNone, taken, times}
+use Rattle.shares.specs.Seats.{BoardName, SeatValue, DrawsNone, taken_blocks, times}
 use Rattle.shares.specs.declared.deque.Phase.{Phase}
 use Rattle.shares.specs.Hands.{HandValue, IsEmptyHand, IsTake, GivesOwn, in_phase}
 use Rattle.shares.proofs.Takes.{take_own}
 use Rattle.shares.proofs.Seats.{times_append}
 use Rattle.workers.specs.Failing.{Subject}
 use Rattle.workers.specs.Pieces.{PieceValue, block_count, piece_of, pieces_at}
-use Rattle.workers.specs.Taking.{AddsPiece, HandsOver, HasTaken}
+use Rattle.workers.specs.Taking.{AddsPiece, HasTaken}
 use Rattle.workers.proofs.HandingOver.{nothing_yet, full_more, keeps_posts, nothing_keeps, drew_keeps, draws_none_keeps}
 use Rattle.workers.proofs.Runs.{count_blocks}
 
@@ -23,7 +22,7 @@ one_more ps p x =
 
 pub none_taken : (s : Subject) (seat : SeatValue) (hand : HandValue) → seat.steps ≡ [] → IsEmptyHand hand → HasTaken s seat.board seat hand [] []
 none_taken s seat hand e empty =
-    let none : taken seat ≡ [] = rw e refl in
+    let none : taken_blocks seat ≡ [] = rw e refl in
     record {
       board_is = refl;
       handed = rw e (nothing_yet s);
@@ -42,7 +41,7 @@ takes s board seat after hand rest answer ps h same take = record {
     take.together x,
     take.gets x,
     ap (times x) take.draws,
-    times_append x (taken seat) take.drawn,
+    times_append x (taken_blocks seat) take.drawn,
     ap (times x) take.pushes,
     times_append x hand.pushed take.pushed,
   );
@@ -50,15 +49,15 @@ takes s board seat after hand rest answer ps h same take = record {
 
 -- and so is a block that it drew alone
 pub draws_one : (s : Subject) (board : BoardName) (seat after : SeatValue) (hand : HandValue) (block : ℕ) (ps : List PieceValue)
-    → HasTaken s board seat hand [] ps → after.board ≡ seat.board → after.steps ≡ seat.steps ++ Drew block ∷ [] → taken after ≡ taken seat ++ block ∷ [] → HasTaken s board after hand (block ∷ []) ps
+    → HasTaken s board seat hand [] ps → after.board ≡ seat.board → after.steps ≡ seat.steps ++ Drew block ∷ [] → taken_blocks after ≡ taken_blocks seat ++ block ∷ [] → HasTaken s board after hand (block ∷ []) ps
 draws_one s board seat after hand block ps h same steps e = record {
   board_is = same ∙ h.board_is;
   handed = keeps_posts s seat.steps after.steps ps (drew_keeps block seat.steps after.steps steps) h.handed;
-  together = λ x. omega (arith, h.together x, ap (times x) e, times_append x (taken seat) (block ∷ []));
+  together = λ x. omega (arith, h.together x, ap (times x) e, times_append x (taken_blocks seat) (block ∷ []));
 }
 
 pub draws_no_more : (s : Subject) (board : BoardName) (seat after : SeatValue) (hand : HandValue) (ps : List PieceValue)
-    → HasTaken s board seat hand [] ps → after.board ≡ seat.board → DrawsNone seat after → taken after ≡ taken seat → HasTaken s board after hand [] ps
+    → HasTaken s board seat hand [] ps → after.board ≡ seat.board → DrawsNone seat after → taken_blocks after ≡ taken_blocks seat → HasTaken s board after hand [] ps
 draws_no_more s board seat after hand ps h same none e = record {
   board_is = same ∙ h.board_is;
   handed = keeps_posts s seat.steps after.steps ps (draws_none_keeps seat after none) h.handed;
@@ -67,7 +66,7 @@ draws_no_more s board seat after hand ps h same none e = record {
 
 -- when it is judged, there is one more piece
 pub judges : (s : Subject) (board : BoardName) (seat after : SeatValue) (hand : HandValue) (block : ℕ) (ps : List PieceValue) (p : PieceValue)
-    → HasTaken s board seat hand (block ∷ []) ps → after.board ≡ seat.board → taken after ≡ taken seat → AddsPiece s block seat.steps after.steps p → HasTaken s board after hand [] (ps ++ p ∷ [])
+    → HasTaken s board seat hand (block ∷ []) ps → after.board ≡ seat.board → taken_blocks after ≡ taken_blocks seat → AddsPiece s block seat.steps after.steps p → HasTaken s board after hand [] (ps ++ p ∷ [])
 judges s board seat after hand block ps p h same e adds = record {
   board_is = same ∙ h.board_is;
   handed = adds.adds ps h.handed;

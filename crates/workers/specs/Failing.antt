@@ -5,9 +5,9 @@ use Rattle.std.specs.Option.{option_and_then}
 use Rattle.std.specs.List.{filter_map, flat_map, range_with_len}
 use Rattle.epochs.specs.declared.part.By.{By}
 use Rattle.epochs.specs.Plan.{PlanValue}
-use Rattle.choices.specs.Choices.{ChoiceValue, ranked}
+use Rattle.choices.specs.Choices.{ChoiceValue, ranked_choices}
 use Rattle.machine.specs.Outcome.{Ending}
-use Rattle.checker.specs.Checker.{CheckerValue, judged}
+use Rattle.checker.specs.Checker.{CheckerValue, judgement}
 use Rattle.images.specs.Views.{view_of, sectors_of, context_at}
 use Rattle.lines.specs.Line.{FailingLine, fails}
 
@@ -22,7 +22,7 @@ pub record Subject : Type 0 where
 
 -- the choices of which the images are: image n is that of choice n
 abbrev pub choices_of : Subject → List ChoiceValue
-choices_of s = ranked s.plan s.bound s.tears
+choices_of s = ranked_choices s.plan s.bound s.tears
 
 abbrev pub image_count : Subject → ℕ
 image_count s = length (choices_of s)
@@ -30,7 +30,7 @@ image_count s = length (choices_of s)
 -- what a checker ends in on the image of a choice
 unfoldable pub ending_at : Subject → ChoiceValue → CheckerValue → Ending
 ending_at s choice checker =
-    judged checker (sectors_of (view_of s.plan choice)) (context_at s.plan.log choice.cut)
+    judgement checker (sectors_of (view_of s.plan choice)) (context_at s.plan.log choice.cut)
 
 -- the line of an image and a checker, if it fails there, with what departs as one
 abbrev pub line_if : By → ℕ → ChoiceValue → ℕ → Ending → Option FailingLine

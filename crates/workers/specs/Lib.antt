@@ -8,5 +8,9 @@ pub mod Table
 pub mod Exploring
 pub mod Taking
 pub mod Crew
+pub mod Reuse
+pub mod Entries
+pub mod Local
+pub mod Images
 pub mod Laws
 pub mod Safe

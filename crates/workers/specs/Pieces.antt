@@ -53,8 +53,8 @@ abbrev pub lines_at : List PieceValue → ℕ → List FailingLine
 lines_at pieces block = full_lines (of_block pieces block)
 
 -- the lines of the pieces by block
-unfoldable pub collected : List PieceValue → ℕ → List FailingLine
-collected pieces blocks = flat_map (lines_at pieces) (range_with_len 0 blocks)
+unfoldable pub lines_by_block : List PieceValue → ℕ → List FailingLine
+lines_by_block pieces blocks = flat_map (lines_at pieces) (range_with_len 0 blocks)
 
 -- the first block that has two pieces or more
 pub record IsFirstTwice (pieces : List PieceValue) (blocks block : ℕ) : Type 0 where

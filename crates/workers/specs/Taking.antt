@@ -2,7 +2,7 @@
 use Rattle.std.specs.Prelude.{ℕ, ◌≡◌, ◌+◌, ◌*◌, ◌<◌, ◌≤◌, ◌⊎◌, ◌++◌, false, true, List, [], ◌∷◌}
 use Rattle.shares.specs.declared.view.SeatStep.{SeatStep}
 use Rattle.shares.specs.Steps.{posts, finds}
-use Rattle.shares.specs.Seats.{BoardName, SeatValue, taken, times}
+use Rattle.shares.specs.Seats.{BoardName, SeatValue, taken_blocks, times}
 use Rattle.shares.specs.declared.deque.Phase.TheVariants.{Refused}
 use Rattle.shares.specs.Hands.{HandValue, IsShut}
 use Rattle.workers.specs.declared.found.Found.{Found}
@@ -39,7 +39,7 @@ pub record AddsPiece (s : Subject) (block : ℕ) (before after : List SeatStep) 
 pub record HasTaken (s : Subject) (board : BoardName) (seat : SeatValue) (hand : HandValue) (judging : List ℕ) (pieces : List PieceValue) : Type 0 where
   pub board_is : seat.board ≡ board
   pub handed : HandsOver s seat.steps pieces
-  pub together : (x : ℕ) → pieces_at pieces x + times x judging + times x hand.pushed + times x hand.list ≡ times x (taken seat) + times x hand.got
+  pub together : (x : ℕ) → pieces_at pieces x + times x judging + times x hand.pushed + times x hand.list ≡ times x (taken_blocks seat) + times x hand.got
 
 -- the hand of a worker that is back is shut, or the push of a closing mark was refused to it
 abbrev pub IsSettled : HandValue → Type 0

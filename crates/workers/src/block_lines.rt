@@ -10,12 +10,12 @@ use std::marker::Model;
 
 /// Lines, and the least image of one of them. Contracts see the lines.
 #[derive(Drop)]
-pub(crate) struct BlockLines {
+struct KeptLines {
     lines: Part,
     least: Option<u64>,
 }
 
-impl Model for BlockLines {
+impl Model for KeptLines {
     ghost use Rattle.std.specs.Prelude.{◌≡◌, List};
     ghost use Rattle.lines.specs.Line.{FailingLine};
     ghost use Rattle.workers.specs.Least.{least_image};
@@ -38,19 +38,19 @@ pub(crate) fn lower(image: Option<u64>, other: Option<u64>) -> Option<u64>
     }
 }
 
-impl BlockLines {
+impl KeptLines {
     /// No line.
-    pub(crate) fn new(alloc: Global) -> BlockLines
+    fn new(alloc: Global) -> KeptLines
         ensures { result ≡ [] }
     {
-        BlockLines {
+        KeptLines {
             lines: Part::new(alloc),
             least: None,
         }
     }
 
     /// Adds a line at the end.
-    pub(crate) fn push(&mut self, line: Line) -> Result<(), AllocError>
+    fn push(&mut self, line: Line) -> Result<(), AllocError>
         ensures { OnOk result (self.new ≡ self.old ++ line_value line ∷ []) }
     {
         let image = line.image;
@@ -60,26 +60,104 @@ impl BlockLines {
     }
 
     /// The least image of a line.
-    pub(crate) fn least_image(&self) -> Option<u64>
+    fn least_image(&self) -> Option<u64>
         ensures { result ≡ least_image self.now }
     {
         self.least
+    }
+
+    /// Gives back the room that no line takes.
+    fn trim(&mut self)
+        ensures { self.new ≡ self.old }
+    {
+        self.lines.trim();
+    }
+
+    /// The lines alone.
+    fn into_lines(self) -> Part
+        ensures { result ≡ self }
+    {
+        let KeptLines { lines, least: _ } = self;
+        lines
+    }
+}
+
+/// The failing lines of a block. Most blocks have none, and take no room for any. Contracts see the lines.
+#[derive(Drop)]
+pub(crate) struct BlockLines {
+    alloc: Global,
+    some: Option<Box<KeptLines>>,
+}
+
+impl Model for BlockLines {
+    ghost use Rattle.std.specs.Prelude.{List, []};
+    ghost use Rattle.std.specs.Option.{option_map_or};
+    ghost use Rattle.lines.specs.Line.{FailingLine};
+
+    ghost Value = { List FailingLine };
+
+    ghost view = { λ b. option_map_or (λ lines. lines.value) b.some [] };
+}
+
+impl BlockLines {
+    /// No line.
+    pub(crate) fn new(alloc: Global) -> BlockLines
+        ensures { result ≡ [] }
+    {
+        BlockLines { alloc, some: None }
+    }
+
+    /// Adds a line at the end.
+    pub(crate) fn push(&mut self, line: Line) -> Result<(), AllocError>
+        ensures { OnOk result (self.new ≡ self.old ++ line_value line ∷ []) }
+    {
+        match &mut self.some {
+            Some(lines) => lines.push(line),
+            None => {
+                let mut first = KeptLines::new(self.alloc);
+                first.push(line)?;
+                self.some = Some(Box::new(self.alloc, first)?);
+                Ok(())
+            }
+        }
+    }
+
+    /// The least image of a line.
+    pub(crate) fn least_image(&self) -> Option<u64>
+        ensures { result ≡ least_image self.now }
+    {
+        match &self.some {
+            Some(lines) => lines.least_image(),
+            None => None,
+        }
     }
 
     /// The same, without the room that no line takes.
     pub(crate) fn trimmed(self) -> BlockLines
         ensures { result ≡ self }
     {
-        let BlockLines { mut lines, least } = self;
-        lines.trim();
-        BlockLines { lines, least }
+        let BlockLines { alloc, some } = self;
+        match some {
+            Some(lines) => {
+                let mut own = lines;
+                own.trim();
+                BlockLines {
+                    alloc,
+                    some: Some(own),
+                }
+            }
+            None => BlockLines { alloc, some: None },
+        }
     }
 
     /// The lines alone.
     pub(crate) fn into_lines(self) -> Part
         ensures { result ≡ self }
     {
-        let BlockLines { lines, least: _ } = self;
-        lines
+        let BlockLines { alloc, some } = self;
+        match some {
+            Some(lines) => Box::into_inner(lines).into_lines(),
+            None => Part::new(alloc),
+        }
     }
 }

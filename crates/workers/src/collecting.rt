@@ -2,7 +2,7 @@
 
 ghost use Rattle.std.specs.Prelude.{◌≡◌, ◌<◌, ◌++◌, ◌∷◌, [], ℕ, All, List, length, position, IfOk, IfErr, OnOk};
 ghost use Rattle.std.specs.List.{flat_map};
-ghost use Rattle.workers.specs.Pieces.{PieceValue, AreWhole, collected, RefusesPieces};
+ghost use Rattle.workers.specs.Pieces.{PieceValue, AreWhole, lines_by_block, RefusesPieces};
 ghost use Rattle.workers.specs.Table.{AreRows, first_of, is_missing, row_lines};
 
 use crate::block_lines::lower;
@@ -115,7 +115,7 @@ fn joined(alloc: Global, rows: Vec<Option<Piece>>) -> Result<Lines, AllocError>
 pub fn collect(alloc: Global, pieces: Vec<Piece>, blocks: u32) -> Result<Lines, Refusal>
     requires { All (λ piece. piece.block < blocks) pieces.items }
     ensures whole { OnOk result (AreWhole pieces.items blocks) }
-    ensures lines { IfOk result (λ lines. lines ≡ collected pieces.items blocks) }
+    ensures lines { IfOk result (λ lines. lines ≡ lines_by_block pieces.items blocks) }
     ensures refused { IfErr result (RefusesPieces pieces.items blocks) }
 {
     let table = match table_of(alloc, pieces, blocks) {

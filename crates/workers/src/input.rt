@@ -1,15 +1,18 @@
 //! What the work is given.
 
-ghost use Rattle.std.specs.Prelude.{◌≡◌, ◌≤◌, ◌<◌, length, slice_get, Some, ◌+◌, ℕ};
-ghost use Rattle.choices.specs.Choices.{limit, ranked};
+ghost use Rattle.std.specs.Prelude.{◌≡◌, ◌≤◌, ◌<◌, length, slice_get, Some, ◌+◌, ◌*◌, ℕ};
+ghost use Rattle.epochs.specs.Cuts.{cuts_of};
+ghost use Rattle.choices.specs.Choices.{limit, ranked_choices};
+ghost use Rattle.choices.specs.Picked.{IsRanked};
 ghost use Rattle.checker.specs.Checker.{AreFor};
 ghost use Rattle.workers.specs.Failing.{choices_of, image_count};
 ghost use Rattle.workers.specs.Pieces.{block_count};
 ghost use Rattle.workers.specs.Exploring.{passes_over};
+ghost use Rattle.workers.specs.Local.{Reaches};
 
 use crate::piece::BLOCK;
 use checker::Checker;
-use choices::{Choice, Starts, next};
+use choices::{Choice, Pick, Picked, Starts, fates, next};
 use epochs::{By, Plan};
 use images::History;
 use std::marker::Model;
@@ -70,7 +73,7 @@ impl<'a> Input<'a> {
         requires bound { asked.bound ≤ 3 }
         requires workers { (1 ≤ asked.workers) × (asked.workers ≤ 64) }
         requires cache { asked.cache ≤ 65536 }
-        requires images { asked.images ≡ length (ranked plan.now asked.bound asked.tears) }
+        requires images { asked.images ≡ length (ranked_choices plan.now asked.bound asked.tears) }
         requires few { asked.images ≤ limit }
         ensures { result ≡ record { plan = plan.now; checkers = checkers.now; bound = asked.bound; tears = asked.tears; first = asked.first } }
     {
@@ -125,6 +128,68 @@ impl<'a> Input<'a> {
         let _moved = next(self.plan, self.asked.bound, self.asked.tears, choice);
     }
 
+    /// The picks of the choice of an image.
+    pub(crate) fn picked(&self, image: u64) -> Picked
+        requires { image < image_count self.now }
+        ensures { IsRanked self.now.plan self.now.bound self.now.tears image result }
+    {
+        Picked::of(&self.choice(image))
+    }
+
+    /// Goes on from the picks of an image to those of the next one, if there is one.
+    #[inline(always)]
+    pub(crate) fn pick_next(&self, picked: &mut Picked)
+        requires { (image : ℕ) × IsRanked self.now.plan self.now.bound self.now.tears image picked.old }
+        ensures { (image : ℕ) → IsRanked self.now.plan self.now.bound self.now.tears image picked.old → image + 1 < image_count self.now
+            → IsRanked self.now.plan self.now.bound self.now.tears (image + 1) picked.new }
+    {
+        let _moved = picked.next(self.plan, self.asked.bound, self.asked.tears);
+    }
+
+    /// How many images there are in a row, from that of a choice on and at most so many, in which its last departure alone changes.
+    #[inline(always)]
+    pub(crate) fn reach(&self, picked: &Picked, most: u64) -> u64
+        requires member { (image : ℕ) × IsRanked self.now.plan self.now.bound self.now.tears image picked.now }
+        requires some { 1 ≤ most }
+        ensures some { 1 ≤ result }
+        ensures most { result ≤ most }
+        ensures reach { Reaches self.now picked.now result }
+    {
+        let picks = picked.picks();
+        if picks.is_empty() {
+            return 1;
+        }
+        let at = picks.len() - 1;
+        let parts = self.plan.volatile(picked.cut());
+        stretch(fates(self.asked.tears), picks[at], parts).min(most)
+    }
+
+    /// Goes on from the picks of an image to those of the one that is so many behind it, if there is one. Up to that one the last
+    /// departure alone changes.
+    #[inline(always)]
+    pub(crate) fn go_over(&self, picked: &mut Picked, count: u64)
+        requires member { (image : ℕ) × IsRanked self.now.plan self.now.bound self.now.tears image picked.old }
+        requires some { 1 ≤ count }
+        requires reach { Reaches self.now picked.old count }
+        ensures { (image : ℕ) → IsRanked self.now.plan self.now.bound self.now.tears image picked.old → image + count < image_count self.now
+            → IsRanked self.now.plan self.now.bound self.now.tears (image + count) picked.new }
+    {
+        if count == 1 {
+            self.pick_next(picked);
+            return;
+        }
+        picked.pass(self.asked.tears, count - 1);
+        self.pick_next(picked);
+    }
+
+    /// How many images the wanted cut of that place has.
+    pub(crate) fn images_at(&self, place: usize) -> u64
+        requires { place < length (cuts_of self.now.plan.kind self.now.plan.log.entries) }
+    {
+        let (first, end) = self.starts.range_of(place);
+        end.saturating_sub(first)
+    }
+
     /// The history of its plan.
     pub(crate) fn history(&self) -> &'a History<'a>
         ensures { result.now ≡ self.now.plan }
@@ -160,4 +225,15 @@ impl<'a> Input<'a> {
     {
         self.asked.first && image < BLOCK * u64::from(block)
     }
+}
+
+/// How many choices, from one with that last departure on, have the last departure alone changed, and no part from `next` on.
+pub(crate) fn stretch(fates: u8, last: Pick, next: u32) -> u64
+    requires part { last.part < next }
+    requires fate { last.fate < fates }
+    ensures some { 1 ≤ result }
+    ensures value { last.part * fates + last.fate + result ≡ next * fates }
+{
+    let fates = u64::from(fates);
+    u64::from(next) * fates - (u64::from(last.part) * fates + u64::from(last.fate))
 }

@@ -1,34 +1,38 @@
-//! The judging of one block.
+//! The judging of one image.
 
-ghost use Rattle.std.specs.Prelude.{◌≡◌, ◌<◌, ◌≤◌, ◌-◌, ◌++◌, length, IfOk, OnOk, Some, slice_get};
-ghost use Rattle.checker.specs.Checker.{IsFor, judged};
+ghost use Rattle.std.specs.Prelude.{◌≡◌, ◌<◌, ◌++◌, ◌∷◌, [], ℕ, length, OnOk, Some, slice_get};
+ghost use Rattle.std.specs.List.{filter_map};
+ghost use Rattle.choices.specs.Picked.{IsRanked, choice_of_picked};
+ghost use Rattle.checker.specs.Checker.{IsFor, judgement};
 ghost use Rattle.interp.specs.Ending.{ending_of};
 ghost use Rattle.images.specs.Views.{context_at, sectors_of, view_of};
 ghost use Rattle.images.specs.Keys.{key_of};
 ghost use Rattle.lines.specs.Line.{fails};
 ghost use Rattle.verdict_cache.specs.Endings.{ending_on};
-ghost use Rattle.workers.specs.Failing.{Subject, choices_of, image_count, ending_at, line_if, image_lines, lines_from, part};
-ghost use Rattle.workers.specs.Pieces.{block_count, piece_of};
+ghost use Rattle.workers.specs.Failing.{Subject, choices_of, ending_at, line_if, line_of, image_lines};
 ghost use Rattle.workers.specs.Input.{line_list, IsRunOf};
+ghost use Rattle.workers.specs.Local.{IsTrueOf};
+ghost use Rattle.workers.specs.Images.{IsFinding, IsStop, finding_of};
 
 use crate::block_lines::BlockLines;
 use crate::cache::Shards;
-use crate::gate::{Gate, OpenGate};
+use crate::gate::Gate;
 use crate::input::Input;
-use crate::piece::{BLOCK, Piece};
+use crate::look::Stop;
+use crate::reuse::Reuse;
 use crate::worker::Worker;
 use checker::Checker;
-use choices::Choice;
+use choices::{Choice, Picked};
 use epochs::By;
 use images::{Changes, Key, View};
 use interp::Outcome;
 use lines::Line;
-use std::alloc::{AllocError, Global};
-use std::sync::{Mutex, Wait};
-use verdict_cache::{Run, Shard, copy_of, one_image_tells};
+use std::alloc::AllocError;
+use std::sync::Wait;
+use verdict_cache::{Run, copy_of, one_image_tells};
 
 /// Whether an outcome makes a line of the report.
-fn fails_with(outcome: &Outcome) -> bool
+pub(crate) fn fails_with(outcome: &Outcome) -> bool
     ensures { result ≡ fails (ending_of outcome.now) }
 {
     match outcome {
@@ -40,10 +44,33 @@ fn fails_with(outcome: &Outcome) -> bool
 
 /// An image of a run: its number, its choice, and its view.
 #[derive(Drop)]
-struct Seen<'v, 'a> {
-    image: u64,
-    choice: &'v Choice,
-    view: &'v View<'a>,
+pub(crate) struct Seen<'v, 'a> {
+    pub(crate) image: u64,
+    pub(crate) choice: &'v Choice,
+    pub(crate) view: &'v View<'a>,
+}
+
+/// What is known of a checker and an image.
+#[derive(Drop)]
+pub(crate) enum Finding {
+    /// It finds the image good.
+    Good,
+    /// It ends so there.
+    Ends(Outcome),
+    /// Nothing.
+    Open,
+}
+
+impl Finding {
+    /// By what it ends in, if that is known.
+    fn of(outcome: Option<Outcome>) -> Finding
+        ensures { result ≡ finding_of outcome }
+    {
+        match outcome {
+            Some(outcome) => Finding::Ends(outcome),
+            None => Finding::Open,
+        }
+    }
 }
 
 /// Appends the line of an image and a checker that ended so, if it fails there.
@@ -73,7 +100,7 @@ fn push_failing(
 #[inline(always)]
 fn outcome_on(view: &View<'_>, checker: &Checker<'_>) -> Outcome
     requires device { IsFor view.now.log.sectors checker.now.verified }
-    ensures { ending_of result ≡ judged checker.now (sectors_of view.now) (context_at view.now.log view.now.cut) }
+    ensures { ending_of result ≡ judgement checker.now (sectors_of view.now) (context_at view.now.log view.now.cut) }
 {
     checker.judge(&view.context(), view)
 }
@@ -122,6 +149,14 @@ fn outcome_of<'a, J: Run, R: Wait>(
 }
 
 impl<'a> Input<'a> {
+    /// The choice of those picks.
+    pub(crate) fn choice_by(&self, picked: &Picked) -> Choice
+        requires { (n : ℕ) × IsRanked self.now.plan self.now.bound self.now.tears n picked.now }
+        ensures { result ≡ choice_of_picked self.now.plan picked.now }
+    {
+        picked.choice(self.plan)
+    }
+
     /// Appends the lines of an image, on which each checker is run.
     fn judge_by_runs(&self, lines: &mut BlockLines, seen: &Seen<'_, '_>) -> Result<(), AllocError>
         requires choice { slice_get (choices_of self.now) seen.now.image ≡ Some seen.now.choice.now }
@@ -130,6 +165,87 @@ impl<'a> Input<'a> {
     {
         for (number, checker) in self.checkers.iter().enumerate() {
             judge_checker(lines, self.by, seen, number as u8, checker)?;
+        }
+        Ok(())
+    }
+
+    /// Appends the line of an image and a checker, if it fails there. The checker is run where nothing is known.
+    fn judge_known(
+        &self,
+        lines: &mut BlockLines,
+        seen: &Seen<'_, '_>,
+        number: usize,
+        checker: &Checker<'_>,
+        finding: Finding,
+    ) -> Result<(), AllocError>
+        requires choice { slice_get (choices_of self.now) seen.now.image ≡ Some seen.now.choice.now }
+        requires view { seen.now.view.now ≡ view_of self.now.plan seen.now.choice.now }
+        requires checker { slice_get self.now.checkers number ≡ Some checker.now }
+        requires device { IsFor self.now.plan.log.sectors checker.now.verified }
+        requires finding { IsFinding self.now seen.now.image seen.now.choice.now number checker.now finding }
+        ensures { OnOk result (lines.new ≡ lines.old ++ filter_map (line_of self.now seen.now.image) (number ∷ [])) }
+    {
+        match finding {
+            Finding::Good => Ok(()),
+            Finding::Ends(outcome) => push_failing(lines, self.by, seen, number as u8, outcome),
+            Finding::Open => judge_checker(lines, self.by, seen, number as u8, checker),
+        }
+    }
+
+    /// What is known of a checker and the image of those picks. The checkers before one find it good; what that one ends in may
+    /// be known.
+    fn finding(
+        &self,
+        reuse: &mut Reuse,
+        stop: &mut Stop,
+        picked: &Picked,
+        number: usize,
+        checker: &Checker<'_>,
+    ) -> Finding
+        requires known { IsTrueOf self.now reuse.old }
+        requires place { reuse.old.place ≡ Some picked.now.place }
+        requires member { (n : ℕ) × IsRanked self.now.plan self.now.bound self.now.tears n picked.now }
+        requires within { number < length self.now.checkers }
+        requires checker { slice_get self.now.checkers number ≡ Some checker.now }
+        requires device { IsFor self.now.plan.log.sectors checker.now.verified }
+        requires stop { IsStop self.now picked.now stop.old }
+        ensures known { IsTrueOf self.now reuse.new }
+        ensures place { reuse.new.place ≡ reuse.old.place }
+        ensures stop { IsStop self.now picked.now stop.new }
+        ensures finding { (image : ℕ) → IsRanked self.now.plan self.now.bound self.now.tears image picked.now
+            → IsFinding self.now image (choice_of_picked self.now.plan picked.now) number checker.now result }
+    {
+        if number < stop.checker {
+            return Finding::Good;
+        }
+        if number == stop.checker {
+            return Finding::of(stop.outcome.take());
+        }
+        Finding::of(reuse.outcome(self, number, checker, picked))
+    }
+
+    /// Appends the lines of an image of which outcomes may be known by footprints. The checkers before one find it good; what
+    /// that one ends in may be known.
+    pub(crate) fn judge_by_reuse(
+        &self,
+        reuse: &mut Reuse,
+        lines: &mut BlockLines,
+        seen: &Seen<'_, '_>,
+        picked: &Picked,
+        stop: &mut Stop,
+    ) -> Result<(), AllocError>
+        requires known { IsTrueOf self.now reuse.old }
+        requires place { reuse.old.place ≡ Some picked.now.place }
+        requires choice { slice_get (choices_of self.now) seen.now.image ≡ Some seen.now.choice.now }
+        requires picked { seen.now.choice.now ≡ choice_of_picked self.now.plan picked.now }
+        requires view { seen.now.view.now ≡ view_of self.now.plan seen.now.choice.now }
+        requires stop { IsStop self.now picked.now stop.old }
+        ensures known { IsTrueOf self.now reuse.new }
+        ensures lines { OnOk result (lines.new ≡ lines.old ++ image_lines self.now seen.now.image) }
+    {
+        for (number, checker) in self.checkers.iter().enumerate() {
+            let told = self.finding(reuse, stop, picked, number, checker);
+            self.judge_known(lines, seen, number, checker, told)?;
         }
         Ok(())
     }
@@ -161,7 +277,7 @@ impl<'a> Input<'a> {
 impl<'b, 'a, J: Run, G: Gate> Worker<'b, 'a, J, G> {
     /// Appends the lines of an image. Its key is made once, for all checkers; an image without a key is judged
     /// without the cache, and without a cache no key is made.
-    fn judge_image<R: Wait>(
+    pub(crate) fn judge_image<R: Wait>(
         &self,
         rt: &R,
         changes: &mut Changes<'a>,
@@ -190,72 +306,4 @@ impl<'b, 'a, J: Run, G: Gate> Worker<'b, 'a, J, G> {
             None => input.judge_by_runs(lines, &seen),
         }
     }
-
-    /// The lines of some images in a row, of which there is one at least.
-    fn judge_row<R: Wait>(
-        &self,
-        rt: &R,
-        changes: &mut Changes<'a>,
-        first: u64,
-        end: u64,
-    ) -> Result<BlockLines, AllocError>
-        requires changes { changes.old ≡ self.now.input.now.plan.log }
-        requires some { first < end }
-        requires end { end ≤ image_count self.now.input.now }
-        ensures lines { IfOk result (λ lines. lines ≡ lines_from self.now.input.now first (end - first)) }
-        ensures changes { changes.new ≡ changes.old }
-    {
-        let mut lines = BlockLines::new(self.shards.alloc());
-        let mut choice = self.input.choice(first);
-        for image in first..end {
-            self.judge_image(rt, changes, &mut lines, image, &choice)?;
-            self.input.go_on(&mut choice);
-        }
-        Ok(lines)
-    }
-
-    /// The piece of a block, whose images it judges.
-    #[tactic(auto, unfolding(crate::specs::Failing::part))]
-    pub(crate) fn piece<R: Wait>(
-        &self,
-        rt: &R,
-        changes: &mut Changes<'a>,
-        block: u32,
-    ) -> Result<Piece, AllocError>
-        requires changes { changes.old ≡ self.now.input.now.plan.log }
-        requires block { block < block_count self.now.input.now }
-        ensures piece { IfOk result (λ piece. piece ≡ piece_of self.now.input.now block) }
-        ensures changes { changes.new ≡ changes.old }
-    {
-        let first = BLOCK * u64::from(block);
-        let end = self.input.image_count().min(first + BLOCK);
-        let lines = self.judge_row(rt, changes, first, end)?;
-        Ok(Piece::of(block, lines))
-    }
-}
-
-/// Judges the images of a block: 64 in a row from `64 * block` on, or those that are left. The sixteen
-/// shards are those of the cache of the run. Without a cache it asks none of them.
-///
-/// Without a cache it takes memory for the lines alone, since an image borrows its sectors from the
-/// log; with one, for keys as well.
-pub fn judge_block<'a, J: Run, R: Wait>(
-    rt: &R,
-    alloc: Global,
-    input: &Input<'a>,
-    shards: &[Mutex<Shard<'a, J>>],
-    block: u32,
-) -> Result<Piece, AllocError>
-    requires run { IsRunOf J.plan J.checkers input.now }
-    requires shards { length shards.now ≡ 16 }
-    requires block { block < block_count input.now }
-    ensures { IfOk result (λ piece. piece ≡ piece_of input.now block) }
-{
-    let worker = Worker {
-        input: &*input,
-        shards: &Shards::new(alloc, shards),
-        gate: &OpenGate,
-        number: 0,
-    };
-    worker.piece(rt, &mut Changes::new(alloc, input.history()), block)
 }

@@ -20,6 +20,11 @@
 //! has nothing, the checker is run and the outcome put there. An image without a key is judged without
 //! the cache, and without a cache no key is made.
 //!
+//! What a checker can't tell apart is judged once. Where a cut has 64 images and more, and there is no cache, a
+//! worker keeps for each checker what it ends in on some images of the cut, and which parts its run could tell
+//! there (`entries`, by footprints). Images whose outcome follows from that are not judged: where all checkers
+//! find them good they are passed over by their number (`reuse`).
+//!
 //! A worker posts the first failing image of each block. With `first` a run looks for the first failing
 //! image alone: a block whose images all lie after a failing image that was posted is then passed over.
 //! None of its images is formed, and its piece names that image.
@@ -40,7 +45,8 @@
 //! its budget, so each of its lines is that of a verdict. It rests on `soundness`, and on `images_are_devices`.
 //!
 //! - `judge_block` gives exactly the block's part of it, whatever other workers do to the shards: what a
-//!   shard has is true by its type.
+//!   shard has is true by its type. What a worker knows by footprints is true of the run and of the cut at hand
+//!   (`IsTrueOf` in `specs/Local.antt`), and the lines of images that are passed over are none.
 //! - `collect` gives the lines of the pieces by block. It is refused at the lowest block with two pieces,
 //!   or else at the lowest without one. A passed piece counts as none where the image that it names is
 //!   not before all of its block, or precedes every failing image of the full pieces. Full pieces of a
@@ -67,9 +73,20 @@
 //!
 //! # How it is written
 //!
-//! `judging` finds the first choice of a block by its number, and then goes on from choice to choice.
+//! `row` finds the first choice of a block by its number, and then goes on from choice to choice: at cuts where
+//! footprints may tell something by its picks alone (`judge_next`), and else as choices (`judge_cut`). `judging`
+//! judges one image, by runs, with the cache, or with what is known by footprints.
+//!
+//! `local` is what a worker keeps from one image to the next: the changes of the cut at hand, for keys, and a `Reuse`.
+//! `reuse` has for each checker its `Entries` of that cut, and the picks with which the next block begins. It answers how
+//! many images in a row all checkers find good, or else which checker isn't known to, and what that one ends in
+//! where that is known (`look`). `entries` has what one checker ends in on some choices of the cut, and which of its
+//! volatile parts a run there could tell. It finds the entry that holds for an image, and where a choice has none
+//! yet, it runs the checker there. `told` has the searches of `entries` in lists of parts and of departures.
+//!
 //! `worker` has what a worker judges with, the input, the shards and the gate.
-//! `block_lines` keeps the least image beside the lines of a block. `taking` is one worker, and `crew` sends
+//! `block_lines` keeps the least image beside the lines of a block, and takes room only where there is a line.
+//! `taking` is one worker, and `crew` sends
 //! them out and waits for them; `settling` judges the blocks that are left in their hands. `collecting` puts
 //! the pieces into a table with a row for each block, and notes the lowest block that comes twice and the
 //! least failing image. `exploring` puts all together; there a
@@ -80,24 +97,30 @@ mod block_lines;
 mod cache;
 mod collecting;
 mod crew;
+mod entries;
 mod exploring;
 mod found;
 mod gate;
 mod input;
 mod judging;
 mod laws;
+mod local;
+mod look;
 mod piece;
+mod reuse;
+mod row;
 mod settling;
 mod taking;
+mod told;
 mod worker;
 
 pub use collecting::collect;
 pub use exploring::{Work, explore_all};
 pub use gate::{Gate, OpenGate};
 pub use input::{Asked, Input};
-pub use judging::judge_block;
 pub use laws::{
     accepted_checkers_run_safely, collection_begins_with_first, collection_is_failing,
     lines_are_set,
 };
 pub use piece::{BLOCK, Piece};
+pub use row::judge_block;

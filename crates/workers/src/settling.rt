@@ -2,14 +2,15 @@
 
 ghost use Rattle.std.specs.Prelude.{◌≡◌, ◌<◌, ◌++◌, All, IfOk, map};
 ghost use Rattle.workers.specs.Input.{IsRunOf};
+ghost use Rattle.workers.specs.Local.{IsLocal};
 ghost use Rattle.workers.specs.Pieces.{block_count, piece_of};
 
 use crate::cache::Shards;
 use crate::gate::Gate;
 use crate::input::Input;
+use crate::local::Local;
 use crate::piece::Piece;
 use crate::worker::Worker;
-use images::Changes;
 use std::alloc::AllocError;
 use std::sync::Wait;
 use verdict_cache::Run;
@@ -18,16 +19,16 @@ use verdict_cache::Run;
 pub(crate) fn piece_left<'a, J: Run, G: Gate, R: Wait>(
     rt: &R,
     worker: &Worker<'_, 'a, J, G>,
-    changes: &mut Changes<'a>,
+    local: &mut Local<'a>,
     block: u32,
 ) -> Result<Piece, AllocError>
-    requires changes { changes.old ≡ worker.now.input.now.plan.log }
+    requires local { IsLocal worker.now.input.now local.old }
     requires block { block < block_count worker.now.input.now }
     ensures piece { IfOk result (λ piece. piece ≡ piece_of worker.now.input.now block) }
-    ensures changes { changes.new ≡ changes.old }
+    ensures local { IsLocal worker.now.input.now local.new }
 {
     worker.gate.before(worker.number, block);
-    let piece = worker.piece(rt, changes, block)?;
+    let piece = worker.piece(rt, local, block)?;
     worker.gate.after(worker.number, block);
     Ok(piece)
 }
@@ -52,10 +53,10 @@ pub(crate) fn with_left<'a, J: Run, G: Gate, R: Wait>(
         gate: &*gate,
         number: 0,
     };
-    let mut changes = Changes::new(shards.alloc(), input.history());
+    let mut local = Local::new(shards.alloc(), input.history());
     let mut pieces = pieces;
     for block in left {
-        pieces.push(piece_left(rt, &worker, &mut changes, *block)?)?;
+        pieces.push(piece_left(rt, &worker, &mut local, *block)?)?;
     }
     Ok(pieces)
 }

@@ -4,18 +4,19 @@ ghost use Rattle.std.specs.Prelude.{◌≡◌, ◌≤◌, ◌<◌, [], length, t
 ghost use Rattle.shares.specs.Steps.{next_seen, finds};
 ghost use Rattle.shares.specs.declared.deque.Phase.TheVariants.{Open, Closing};
 ghost use Rattle.shares.specs.Hands.{HandValue, IsEmptyHand, IsShut};
-ghost use Rattle.shares.specs.Seats.{BoardName, SeatValue, HasEnded, taken};
+ghost use Rattle.shares.specs.Seats.{BoardName, SeatValue, HasEnded, taken_blocks};
 ghost use Rattle.workers.specs.Exploring.{passes_over};
 ghost use Rattle.workers.specs.Least.{least_image};
+ghost use Rattle.workers.specs.Local.{IsLocal};
 ghost use Rattle.workers.specs.Pieces.{block_count, lines_of, piece_of};
 ghost use Rattle.workers.specs.Taking.{KeepsPosts, AddsPiece, HasTaken, IsSettled};
 
 use crate::gate::Gate;
 use crate::input::Input;
+use crate::local::Local;
 use crate::piece::Piece;
 use crate::settling::piece_left;
 use crate::worker::Worker;
-use images::Changes;
 use shares::{Board, Deal, Hand, Seat};
 use std::alloc::AllocError;
 use std::sync::Wait;
@@ -26,7 +27,7 @@ use verdict_cache::Run;
 fn image_before(input: &Input<'_>, board: &Board, seat: &mut Seat, block: u32) -> Option<u64>
     requires { seat.old.board ≡ board.now.name }
     ensures board { seat.new.board ≡ seat.old.board }
-    ensures taken { taken seat.new ≡ taken seat.old }
+    ensures taken { taken_blocks seat.new ≡ taken_blocks seat.old }
     ensures seen { next_seen seat.old.steps ≤ next_seen seat.new.steps }
     ensures posts { KeepsPosts seat.old.steps seat.new.steps }
     ensures found { IfSome result (λ image. (passes_over input.now block image ≡ true) × (0 < finds image seat.new.steps)) }
@@ -59,24 +60,24 @@ fn first_failing(input: &Input<'_>, piece: &Piece) -> Option<u64>
 fn piece_taken<'a, J: Run, G: Gate, R: Wait>(
     rt: &R,
     worker: &Worker<'_, 'a, J, G>,
-    changes: &mut Changes<'a>,
+    local: &mut Local<'a>,
     board: &Board,
     seat: &mut Seat,
     block: u32,
 ) -> Result<Piece, AllocError>
     requires board { seat.old.board ≡ board.now.name }
-    requires changes { changes.old ≡ worker.now.input.now.plan.log }
+    requires local { IsLocal worker.now.input.now local.old }
     requires block { block < block_count worker.now.input.now }
-    ensures changes { changes.new ≡ changes.old }
+    ensures local { IsLocal worker.now.input.now local.new }
     ensures board { seat.new.board ≡ seat.old.board }
-    ensures taken { taken seat.new ≡ taken seat.old }
+    ensures taken { taken_blocks seat.new ≡ taken_blocks seat.old }
     ensures seen { next_seen seat.old.steps ≤ next_seen seat.new.steps }
     ensures added { IfOk result (AddsPiece worker.now.input.now block seat.old.steps seat.new.steps) }
 {
     if let Some(image) = image_before(worker.input, board, seat, block) {
         return Ok(Piece::passed(block, image));
     }
-    let piece = worker.piece(rt, changes, block)?;
+    let piece = worker.piece(rt, local, block)?;
     if let Some(image) = first_failing(worker.input, &piece) {
         board.post(seat, image);
     }
@@ -87,22 +88,22 @@ fn piece_taken<'a, J: Run, G: Gate, R: Wait>(
 fn piece_through<'a, J: Run, G: Gate, R: Wait>(
     rt: &R,
     worker: &Worker<'_, 'a, J, G>,
-    changes: &mut Changes<'a>,
+    local: &mut Local<'a>,
     board: &Board,
     seat: &mut Seat,
     block: u32,
 ) -> Result<Piece, AllocError>
     requires board { seat.old.board ≡ board.now.name }
-    requires changes { changes.old ≡ worker.now.input.now.plan.log }
+    requires local { IsLocal worker.now.input.now local.old }
     requires block { block < block_count worker.now.input.now }
-    ensures changes { changes.new ≡ changes.old }
+    ensures local { IsLocal worker.now.input.now local.new }
     ensures board { seat.new.board ≡ seat.old.board }
-    ensures taken { taken seat.new ≡ taken seat.old }
+    ensures taken { taken_blocks seat.new ≡ taken_blocks seat.old }
     ensures seen { next_seen seat.old.steps ≤ next_seen seat.new.steps }
     ensures added { IfOk result (AddsPiece worker.now.input.now block seat.old.steps seat.new.steps) }
 {
     worker.gate.before(worker.number, block);
-    let piece = piece_taken(rt, worker, changes, board, seat, block)?;
+    let piece = piece_taken(rt, worker, local, board, seat, block)?;
     worker.gate.after(worker.number, block);
     Ok(piece)
 }
@@ -111,18 +112,18 @@ fn piece_through<'a, J: Run, G: Gate, R: Wait>(
 fn take_blocks<'a, J: Run, H: Deal, G: Gate, R: Wait>(
     rt: &R,
     worker: &Worker<'_, 'a, J, G>,
-    changes: &mut Changes<'a>,
+    local: &mut Local<'a>,
     board: &Board,
     seat: &mut Seat,
     hand: &mut Hand<H>,
 ) -> Result<Vec<Piece>, AllocError>
     requires blocks { (board.now.name.blocks ≡ block_count worker.now.input.now) × (H.blocks ≡ block_count worker.now.input.now) }
-    requires changes { changes.old ≡ worker.now.input.now.plan.log }
+    requires local { IsLocal worker.now.input.now local.old }
     requires board { seat.old.board ≡ board.now.name }
     requires fresh { (seat.old.steps ≡ []) × IsEmptyHand hand.old }
     ensures place { hand.new.place ≡ hand.old.place }
     ensures phase { hand.new.phase ≡ Open }
-    ensures changes { changes.new ≡ changes.old }
+    ensures local { IsLocal worker.now.input.now local.new }
     ensures taken { IfOk result (λ pieces. HasTaken worker.now.input.now board.now.name seat.new hand.new [] pieces.items) }
 {
     let mut pieces = Vec::new(worker.shards.alloc());
@@ -130,7 +131,7 @@ fn take_blocks<'a, J: Run, H: Deal, G: Gate, R: Wait>(
         let Some(block) = hand.take(board, seat) else {
             return Ok(pieces);
         };
-        let piece = piece_through(rt, worker, changes, board, seat, block)?;
+        let piece = piece_through(rt, worker, local, board, seat, block)?;
         pieces.push(piece)?;
     }
     Ok(pieces)
@@ -140,21 +141,21 @@ fn take_blocks<'a, J: Run, H: Deal, G: Gate, R: Wait>(
 fn draw_blocks<'a, J: Run, G: Gate, R: Wait>(
     rt: &R,
     worker: &Worker<'_, 'a, J, G>,
-    changes: &mut Changes<'a>,
+    local: &mut Local<'a>,
     board: &Board,
     seat: &mut Seat,
     pieces: &mut Vec<Piece>,
 ) -> Result<(), AllocError>
     requires blocks { board.now.name.blocks ≡ block_count worker.now.input.now }
     requires board { seat.old.board ≡ board.now.name }
-    requires changes { changes.old ≡ worker.now.input.now.plan.log }
-    ensures changes { changes.new ≡ changes.old }
+    requires local { IsLocal worker.now.input.now local.old }
+    ensures local { IsLocal worker.now.input.now local.new }
     ensures taken { OnOk result ((hand : HandValue) → HasTaken worker.now.input.now board.now.name seat.old hand [] pieces.old.items
         → HasTaken worker.now.input.now board.now.name seat.new hand [] pieces.new.items) }
     ensures ended { OnOk result (HasEnded seat.new) }
 {
     while let Some(block) = board.draw(seat) {
-        let piece = piece_through(rt, worker, changes, board, seat, block)?;
+        let piece = piece_through(rt, worker, local, board, seat, block)?;
         pieces.push(piece)?;
     }
     Ok(())
@@ -164,12 +165,12 @@ fn draw_blocks<'a, J: Run, G: Gate, R: Wait>(
 fn judge_kept<'a, J: Run, H: Deal, G: Gate, R: Wait>(
     rt: &R,
     worker: &Worker<'_, 'a, J, G>,
-    changes: &mut Changes<'a>,
+    local: &mut Local<'a>,
     hand: &mut Hand<H>,
     pieces: &mut Vec<Piece>,
 ) -> Result<(), AllocError>
     requires blocks { H.blocks ≡ block_count worker.now.input.now }
-    requires changes { changes.old ≡ worker.now.input.now.plan.log }
+    requires local { IsLocal worker.now.input.now local.old }
     requires phase { hand.old.phase ≡ Closing }
     ensures place { hand.new.place ≡ hand.old.place }
     ensures taken { OnOk result ((board : BoardName) (seat : SeatValue) → HasTaken worker.now.input.now board seat hand.old [] pieces.old.items
@@ -177,7 +178,7 @@ fn judge_kept<'a, J: Run, H: Deal, G: Gate, R: Wait>(
     ensures shut { OnOk result (IsShut hand.new) }
 {
     while let Some(block) = hand.rest() {
-        let piece = piece_left(rt, worker, changes, block)?;
+        let piece = piece_left(rt, worker, local, block)?;
         pieces.push(piece)?;
     }
     Ok(())
@@ -188,12 +189,12 @@ fn judge_kept<'a, J: Run, H: Deal, G: Gate, R: Wait>(
 fn close_hand<'a, J: Run, H: Deal, G: Gate, R: Wait>(
     rt: &R,
     worker: &Worker<'_, 'a, J, G>,
-    changes: &mut Changes<'a>,
+    local: &mut Local<'a>,
     hand: &mut Hand<H>,
     pieces: &mut Vec<Piece>,
 ) -> Result<(), AllocError>
     requires blocks { H.blocks ≡ block_count worker.now.input.now }
-    requires changes { changes.old ≡ worker.now.input.now.plan.log }
+    requires local { IsLocal worker.now.input.now local.old }
     requires phase { hand.old.phase ≡ Open }
     ensures place { hand.new.place ≡ hand.old.place }
     ensures taken { OnOk result ((board : BoardName) (seat : SeatValue) → HasTaken worker.now.input.now board seat hand.old [] pieces.old.items
@@ -201,7 +202,7 @@ fn close_hand<'a, J: Run, H: Deal, G: Gate, R: Wait>(
     ensures settled { OnOk result (IsSettled hand.new) }
 {
     if hand.close() {
-        judge_kept(rt, worker, changes, hand, pieces)?;
+        judge_kept(rt, worker, local, hand, pieces)?;
         return Ok(());
     }
     Ok(())
@@ -225,9 +226,9 @@ pub(crate) fn pieces_taken<'a, J: Run, H: Deal, G: Gate, R: Wait>(
     ensures ended { IfOk result (λ _. HasEnded seat.new) }
     ensures settled { IfOk result (λ _. IsSettled hand.new) }
 {
-    let mut changes = Changes::new(worker.shards.alloc(), worker.input.history());
-    let mut pieces = take_blocks(rt, worker, &mut changes, board, seat, hand)?;
-    draw_blocks(rt, worker, &mut changes, board, seat, &mut pieces)?;
-    close_hand(rt, worker, &mut changes, hand, &mut pieces)?;
+    let mut local = Local::new(worker.shards.alloc(), worker.input.history());
+    let mut pieces = take_blocks(rt, worker, &mut local, board, seat, hand)?;
+    draw_blocks(rt, worker, &mut local, board, seat, &mut pieces)?;
+    close_hand(rt, worker, &mut local, hand, &mut pieces)?;
     Ok(pieces)
 }

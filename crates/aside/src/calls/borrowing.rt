@@ -1,7 +1,7 @@
 //! Calls whose answers borrow what they are given, made again where memory was refused.
 
 ghost use Rattle.std.specs.Prelude.{◌≡◌, ◌≤◌, IfOk, false, length};
-ghost use Rattle.choices.specs.Choices.{ranked, limit};
+ghost use Rattle.choices.specs.Choices.{ranked_choices, limit};
 ghost use Rattle.epochs.specs.declared.part.By.TheVariants.{Sector};
 
 use choices::Starts;
@@ -40,7 +40,7 @@ pub fn history_of<'a>(
 /// The table of the choices of a plan.
 pub fn starts_of<'a>(alloc: Global, plan: &'a Plan<'a>, bound: u8) -> Result<Starts<'a>, AllocError>
     requires bound { bound ≤ 3 }
-    requires counted { length (ranked plan.now bound false) ≤ limit }
+    requires counted { length (ranked_choices plan.now bound false) ≤ limit }
     ensures { IfOk result (λ starts. starts ≡ record { plan = plan.now; bound = bound; tears = false }) }
 {
     if let Ok(starts) = Starts::new(alloc, plan, bound, false) {

@@ -1,7 +1,7 @@
 //! The calls on images: their plan, their choices, their keys.
 
 ghost use Rattle.std.specs.Prelude.{◌≡◌, ◌<◌, false, length};
-ghost use Rattle.choices.specs.Choices.{ranked};
+ghost use Rattle.choices.specs.Choices.{ranked_choices};
 
 use crate::calls::borrowing::{history_of, plan_of, starts_of};
 use crate::calls::refused::OfMemory;
@@ -51,7 +51,7 @@ fn keys_are_right(
 ) -> bool
     requires starts { starts.now ≡ record { plan = plan.now; bound = 2; tears = false } }
     requires history { history.now ≡ plan.now }
-    requires total { total ≡ length (ranked plan.now 2 false) }
+    requires total { total ≡ length (ranked_choices plan.now 2 false) }
 {
     let mut changes = Changes::new(alloc, history);
     let mut number = 0;

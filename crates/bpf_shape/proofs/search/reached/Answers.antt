@@ -1,6 +1,6 @@
 use Rattle.std.proofs.Common.{rules, ◌≡◌, [], length, false, replicate}
 use Rattle.bpf_shape.specs.Paths.{Leads}
-use Rattle.bpf_shape.specs.Search.{followed, Met}
+use Rattle.bpf_shape.specs.Search.{search_edges, Met}
 use Rattle.bpf_shape.proofs.Searching.{met_wait, marks_of}
 use Rattle.bpf_shape.proofs.search.reached.Goals as goal
 
@@ -16,4 +16,4 @@ returns c =
     let none : c.new-waiting.result.items ≡ [] = c.new-waiting.ensures.items in
     let met : Met (Leads c.args.from) (replicate (length c.args.program.now) false) [] c.meet.new.marks.items c.meet.new.waiting.items =
     rw (empty, none) at c.in_ok-meet.ensures in
-    marks_of (Leads c.args.from) (followed c.args.kind c.args.program.now) (length c.args.program.now) _ _ _ c.requires.within met c.in_ok-spread.ensures
+    marks_of (Leads c.args.from) (search_edges c.args.kind c.args.program.now) (length c.args.program.now) _ _ _ c.requires.within met c.in_ok-spread.ensures

@@ -1,8 +1,7 @@
-use Rattle.std.proofs.Common.{ℕ, ◌≡◌, List, Option, Some, slice_get, length, ap, sym, ◌∙◌, subst, arith}
+use Rattle.std.proofs.Common.{ℕ, List, Some, ap, sym, ◌∙◌, subst, arith}
 use Rattle.std.specs.Option.{option_map}
-use Rattle.epochs.specs.Parts.{volatile_parts}
 use Rattle.choices.specs.declared.pick.Pick.{Pick}
-use Rattle.choices.specs.Picks.{ArePicks, most_fates, fates_of, picks_within}
+use Rattle.choices.specs.Picks.{ArePicks, most_fates, fates_of}
 use Rattle.choices.specs.Numbers.{numbers_of}
 use Rattle.choices.proofs.Plans.{nth_picks, ranked_at-ways, same_picks}
 use Rattle.choices.proofs.numbers.numbers_at.Goals as goal

@@ -1,4 +1,4 @@
-use Rattle.std.proofs.Common.{◌≡◌, string_bytes, arith}
+use Rattle.std.proofs.Common.{arith}
 use Rattle.epochs.specs.Parts.{volatile_parts}
 use Rattle.crash_text.specs.Cut.{volatile_line, parts_text}
 use Rattle.crash_text.proofs.Steps.{part_more, first_of}

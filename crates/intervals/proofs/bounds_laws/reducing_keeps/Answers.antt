@@ -1,4 +1,4 @@
-use Rattle.intervals.specs.Reducing.{reduced}
+use Rattle.intervals.specs.Reducing.{reduction}
 use Rattle.intervals.proofs.Reduced.{reduced_twice}
 use Rattle.intervals.proofs.Smaller.{reduced_related}
 use Rattle.intervals.proofs.Outcomes.{reduced_has, reduces_words, limits_from_settled}

@@ -2,7 +2,7 @@ use Rattle.std.proofs.Common.{◌≡◌, ◌+◌, ◌<◌, length, sym, ◌∙�
 use Rattle.std.specs.Prelude.{get_or}
 use Rattle.std.proofs.lemmas.List.{length-set}
 use Rattle.ranges.proofs.Arrays.{one_more, read_one, places_filled}
-use Rattle.ranges.specs.After.{group_after, written}
+use Rattle.ranges.specs.After.{group_after, groups_after_write}
 use Rattle.ranges.specs.SeenStates.{group_of}
 use Rattle.ranges.proofs.Nothing.{no_marks}
 use Rattle.ranges.proofs.writes.written.Goals as goal
@@ -17,7 +17,7 @@ loop-g-preserved c =
     )
 
 pub returns : goal.returns
-unfolding written
+unfolding groups_after_write
 returns c =
     places_filled group_of (group_after c.args.at c.args.n) c.args.x.now c.loop-g.groups 0 no_marks (c.loop-g.invariant.0 ∙ sym c.told-x)
     (λ k small. let z : 0 + k ≡ k = omega arith in rw z (c.loop-g.invariant.1 k (omega (arith, c.told-x))))

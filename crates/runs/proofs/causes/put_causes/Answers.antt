@@ -1,11 +1,9 @@
 use Rattle.std.proofs.Common.{◌≡◌, ◌∙◌, List, ℕ, length, map, sym, ap, subst, arith}
-use Rattle.std.proofs.lemmas.List.{length-map}
 use Rattle.std.proofs.lemmas.Result.{on_ok_weaker}
 use Rattle.choices.specs.Sums.{StartsValue}
 use Rattle.why.specs.declared.cut.CutFailures.{CutFailures}
 use Rattle.why.specs.Failures.{AreImages}
 use Rattle.why.specs.Text.{AreAllNumbered}
-use Rattle.runs.specs.Marked.{images_marked}
 use Rattle.runs.proofs.Explained.{as_many, tells_program}
 use Rattle.runs.proofs.causes.put_causes.Goals as goal
 

@@ -2,13 +2,15 @@ use Rattle.std.proofs.Common.{◌∙◌, sym}
 use Rattle.std.proofs.lemmas.Bool.{false≢true}
 use Rattle.std.proofs.lemmas.Result.{err_from_is_err_and}
 use Rattle.request.specs.Source.{for_plan}
+use Rattle.runs.specs.declared.explore_command.Wanted.TheVariants as wanted
+use Rattle.runs.specs.Cured.{TellsWanted}
 use Rattle.runs.specs.Explore.{for_count, for_source, for_program, no_list_memory}
 use Rattle.runs.proofs.RefusalLemmas.{counted, uncounted, few_decoded, unaccepted_of, undecoded_of, checkers_decoded}
-use Rattle.runs.proofs.Finding.{breach_of}
+use Rattle.runs.proofs.Finding.{breach_of, fewer_of_log}
 use Rattle.runs.proofs.Fitting.{made_fit}
-use Rattle.request.proofs.Logs.{device_of, has_images}
+use Rattle.request.proofs.Logs.{bounds_of, device_of, has_images}
 use Rattle.request.proofs.Results.{both_ok, one_err}
-use Rattle.runs.proofs.Runs.{of_log, told_of}
+use Rattle.runs.proofs.Runs.{of_log, run_of}
 use Rattle.runs.proofs.explore_command.run_with.Goals as goal
 
 pub returns-then-not-is_program_count-clause-refused : goal.returns-then-not-is_program_count-clause-refused
@@ -73,21 +75,62 @@ invariant_of-task g c =
 
 pub judged-requires-clause-verified : goal.judged-requires-clause-verified
 judged-requires-clause-verified g c =
-    λ κs lives. rw c.as_slice-2.ensures.value (made_fit c.args.question.now.options.now c.as_slice.result.now c.in_ok-checkers.checkers.items c.in_ok-checkers.ensures.made)
+    λ κs lives. rw c.as_slice-made.ensures.value (made_fit c.args.question.now.options.now c.as_slice.result.now c.in_ok-checkers.checkers.items c.in_ok-checkers.ensures.made)
 
-pub returns-clause-told : goal.returns-clause-told
-returns-clause-told g c =
-    both_ok c.judged.result _ _ _ c.judged.ensures.bytes c.judged.ensures.failing
+pub returns-in-Told-clause-told : goal.returns-in-Told-clause-told
+returns-in-Told-clause-told g c =
+    rw c.in-Told.is
+    (both_ok c.judged.result _ _ _ c.judged.ensures.bytes c.judged.ensures.failing
     (λ e bytes failing.
-    told_of c.args.question.now.telling c.accepted_checkers_run_safely.ensures _ _ _ c.in_ok-log.log c.in_ok-checkers.checkers.items c.as_slice-2.result.now _ _ (counted _ c.args.question.now.programs.now (c.is_program_count.ensures.0 c.if-not-is_program_count.false))
+    run_of c.accepted_checkers_run_safely.ensures (TellsWanted (wanted.Told c.in-Told.telling)) _ _ _ c.in_ok-log.log c.in_ok-checkers.checkers.items c.as_slice-made.result.now _ _
+    (counted _ c.args.question.now.programs.now (c.is_program_count.ensures.0 c.if-not-is_program_count.false))
     (has_images _ _ _ _ c.in_ok-log.ensures.log c.in_ok-plan.ensures.count c.in_ok-plan.ensures.few)
     (checkers_decoded _ _ _ c.as_slice.result.now _ _ c.as_slice.ensures.value c.in_ok-decoded.ensures.decoded c.in_default.not-Some
     c.in_ok-checkers.ensures.made c.in_ok-checkers.ensures.all)
-    c.as_slice-2.ensures.value bytes failing)
+    c.as_slice-made.ensures.value bytes failing))
 
-pub returns-clause-refused : goal.returns-clause-refused
-returns-clause-refused g c =
+pub returns-in-Told-clause-refused : goal.returns-in-Told-clause-refused
+returns-in-Told-clause-refused g c =
     one_err c.judged.result _ _ c.judged.ensures.refused
     (λ r refused.
     for_source r (counted _ c.args.question.now.programs.now (c.is_program_count.ensures.0 c.if-not-is_program_count.false))
     (for_plan r c.in_ok-log.log c.in_ok-log.ensures.log refused))
+
+pub returns-in-Told-clause-fewer : goal.returns-in-Told-clause-fewer
+returns-in-Told-clause-fewer g c =
+    fewer_of_log _ _ c.in_ok-log.log _ _ c.in_ok-log.ensures.log c.in_ok-checkers.ensures.others.fewer c.in_ok-plan.ensures.fewer
+
+pub cured_log-requires-clause-verified : goal.cured_log-requires-clause-verified
+cured_log-requires-clause-verified g c =
+    λ κs lives. rw c.as_slice-made.ensures.value (made_fit c.args.question.now.options.now c.as_slice.result.now c.in_ok-checkers.checkers.items c.in_ok-checkers.ensures.made)
+
+pub cured_log-requires-clause-log : goal.cured_log-requires-clause-log
+cured_log-requires-clause-log g c =
+    λ κs lives. bounds_of _ c.args.question.now.options.now c.in_ok-log.log c.in_ok-log.ensures.log
+
+pub cured_log-requires-clause-device : goal.cured_log-requires-clause-device
+cured_log-requires-clause-device g c =
+    λ κs lives. device_of _ c.args.question.now.options.now c.in_ok-log.log c.in_ok-log.ensures.log
+
+pub returns-in-Cured-clause-told : goal.returns-in-Cured-clause-told
+returns-in-Cured-clause-told g c =
+    rw c.in-Cured.is
+    (both_ok c.cured_log.result _ _ _ c.cured_log.ensures.bytes c.cured_log.ensures.failing
+    (λ e bytes failing.
+    run_of c.accepted_checkers_run_safely.ensures (TellsWanted wanted.Cured) _ _ _ c.in_ok-log.log c.in_ok-checkers.checkers.items c.as_slice-made.result.now _ _
+    (counted _ c.args.question.now.programs.now (c.is_program_count.ensures.0 c.if-not-is_program_count.false))
+    (has_images _ _ _ _ c.in_ok-log.ensures.log c.in_ok-plan.ensures.count c.in_ok-plan.ensures.few)
+    (checkers_decoded _ _ _ c.as_slice.result.now _ _ c.as_slice.ensures.value c.in_ok-decoded.ensures.decoded c.in_default.not-Some
+    c.in_ok-checkers.ensures.made c.in_ok-checkers.ensures.all)
+    c.as_slice-made.ensures.value bytes failing))
+
+pub returns-in-Cured-clause-refused : goal.returns-in-Cured-clause-refused
+returns-in-Cured-clause-refused g c =
+    one_err c.cured_log.result _ _ c.cured_log.ensures.refused
+    (λ r refused.
+    for_source r (counted _ c.args.question.now.programs.now (c.is_program_count.ensures.0 c.if-not-is_program_count.false))
+    (for_plan r c.in_ok-log.log c.in_ok-log.ensures.log refused))
+
+pub returns-in-Cured-clause-fewer : goal.returns-in-Cured-clause-fewer
+returns-in-Cured-clause-fewer g c =
+    fewer_of_log _ _ c.in_ok-log.log _ _ c.in_ok-log.ensures.log c.in_ok-checkers.ensures.others.fewer c.in_ok-plan.ensures.fewer

@@ -1,4 +1,4 @@
-use Rattle.std.proofs.Common.{◌≡◌, ◌∙◌, ◌+◌, List, ℕ, [], All, Some, slice_get, get_or, sym, ap, subst, rules}
+use Rattle.std.proofs.Common.{◌≡◌, ◌∙◌, ◌+◌, List, [], All, Some, slice_get, sym, ap, subst, rules}
 use Rattle.std.proofs.lemmas.Option.{slice_get-get_or}
 use Rattle.report.specs.declared.head.ProgramHead.{ProgramHead}
 use Rattle.crash_page.specs.declared.program.ProgramFailures.{ProgramFailures}

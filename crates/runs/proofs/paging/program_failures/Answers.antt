@@ -1,5 +1,4 @@
 use Rattle.std.proofs.Common.{◌≡◌, ◌∙◌, List, ℕ, length, map, sym, ap, subst, arith, rules}
-use Rattle.std.proofs.lemmas.List.{length-map}
 use Rattle.logfmt.specs.declared.entry.Entry.{Entry}
 use Rattle.flushes.specs.Places.{AreWindows}
 use Rattle.cure.specs.Failures.{windows_in}

@@ -3,7 +3,7 @@ use Rattle.std.proofs.lemmas.List.{length-map, map-append}
 use Rattle.std.specs.Vec.Iter.{into_iter_items, into_iter_len}
 use Rattle.shares.specs.Owned.{DequeValue}
 use Rattle.shares.specs.Hands.{AreTogether}
-use Rattle.shares.specs.Meeting.{empty_deque, stacked}
+use Rattle.shares.specs.Meeting.{empty_deque, stealer_lists}
 use Rattle.shares.proofs.Reunion.{none_met, met_next, all_met, stacked_last, stacked_length, deque_names, are_empty, next_name, length_names}
 use Rattle.shares.proofs.Seats.{all_middle}
 use Rattle.shares.proofs.meeting.hands.Goals as goal
@@ -16,7 +16,7 @@ loop-deque-init g c =
     let made : it ≡ map (empty_deque 1) names = c.into_iter-deque-iterator.ensures.into_iter_gives.0 ∙ c.in_ok-others.ensures.deques in
     let same : map (λ (d : DequeValue). d.name) it ≡ names = ap (map (λ (d : DequeValue). d.name)) made ∙ deque_names 1 names in
     let count : length it - 0 ≡ length first = omega (arith, ap length made, length-map names (empty_deque 1), length_names first) in
-    let others = c.in_ok-others.ensures.others ∙ (λ i. stacked (sym same i) (sym count i)) in
+    let others = c.in_ok-others.ensures.others ∙ (λ i. stealer_lists (sym same i) (sym count i)) in
     let long : length c.in_ok-others.others.items ≡ length it - 0 = sym (length-map c.in_ok-others.others.items _) ∙ ap length others ∙ stacked_length (map (λ (d : DequeValue). d.name) it) (length it - 0) in
     let left : into_iter_len c.into_iter-deque-iterator.result ≡ length it = search rules in (
       refl,
@@ -56,7 +56,7 @@ loop-deque-preserved g c =
     let popped : at.others.items ≡ c.pop.new.self.items ++ own ∷ [] = c.pop.ensures.items ∙ ap (λ o. c.pop.new.self.items ++ option_to_list o) c.unwrap-own.ensures in
     let more : length at.yielded < length names = omega (arith, ap length whole, length-append at.yielded (x ∷ rest), length_names all) in
     let made : all ≡ map (empty_deque 1) (map (λ (d : DequeValue). d.name) first) = c.into_iter-deque-iterator.ensures.into_iter_gives.0 ∙ c.in_ok-others.ensures.deques in
-    let stack = sym (ap (map (λ v. v.items)) popped ∙ map-append _ c.pop.new.self.items (own ∷ [])) ∙ at.invariant.3 ∙ ap (λ n. stacked names (n - length at.yielded)) (sym (length_names all)) in
+    let stack = sym (ap (map (λ v. v.items)) popped ∙ map-append _ c.pop.new.self.items (own ∷ [])) ∙ at.invariant.3 ∙ ap (λ n. stealer_lists names (n - length at.yielded)) (sym (length_names all)) in
     let last = stacked_last names (length at.yielded) _ own.items more stack in
     let empty : x ≡ empty_deque 1 x.name = all_middle (λ (d : DequeValue). d ≡ empty_deque 1 d.name) at.yielded rest all x whole (subst (All (λ (d : DequeValue). d ≡ empty_deque 1 d.name)) (sym made) (are_empty 1 (map (λ (d : DequeValue). d.name) first))) in
     let next = subst (λ ds. take (length at.yielded) (map (λ (d : DequeValue). d.name) ds) ++ x.name ∷ [] ≡ take (length at.yielded + 1) (map (λ (d : DequeValue). d.name) ds)) whole (next_name at.yielded x rest) in
@@ -65,7 +65,7 @@ loop-deque-preserved g c =
       rw c.in_ok-push.ensures.items
           (met_next names at.hands.items x own.items c.of.result at.invariant.1 (omega (arith, more, met)) empty (rw met next) (rw met last.1) c.of.ensures),
       omega (arith, ap length c.in_ok-push.ensures.items, length-append at.hands.items (c.of.result ∷ []), met, length-append at.yielded (x ∷ [])),
-      last.0 ∙ ap (stacked names) (omega (arith, length_names all, length-append at.yielded (x ∷ []))),
+      last.0 ∙ ap (stealer_lists names) (omega (arith, length_names all, length-append at.yielded (x ∷ []))),
       (let was = at.invariant.4 in omega arith),
       (let was = at.invariant.5 in
           let fewer = length-append c.pop.new.self.items (own ∷ []) in

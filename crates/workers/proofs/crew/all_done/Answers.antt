@@ -1,6 +1,6 @@
 use Rattle.std.proofs.Common.{◌≡◌, ◌∙◌, sym, subst, arith}
 use Rattle.std.proofs.lemmas.Option.{get_or_from_slice_get, slice_get_within}
-use Rattle.workers.specs.Crew.{IsDone, AreDone}
+use Rattle.workers.specs.Crew.{IsDone}
 use Rattle.workers.specs.declared.crew.Job.{Job}
 use Rattle.workers.specs.declared.crew.Done.{Done}
 use Rattle.workers.proofs.Back.{ok_both, all_given}

@@ -1,8 +1,6 @@
-use Rattle.std.proofs.Common.{rules, false, ◌≡◌, ◌∙◌, ◌+◌, ◌<◌, [], ◌∷◌, ℕ, List, All, length, map, ap, sym, subst, arith}
+use Rattle.std.proofs.Common.{rules, false, ◌≡◌, ◌∙◌, ◌<◌, [], ℕ, List, All, map, ap, sym, subst, arith}
 use Rattle.std.proofs.lemmas.List.{length-map}
-use Rattle.shares.specs.Hands.{HandPlace, HandValue, AreTogether, AreLeft, IsEmptyHand, some_refused}
-use Rattle.workers.specs.declared.crew.Job.{Job}
-use Rattle.workers.specs.Pieces.{block_count}
+use Rattle.shares.specs.Hands.{HandValue, AreTogether, AreLeft, IsEmptyHand, some_refused}
 use Rattle.workers.proofs.Back.{jobs_fresh, all_back, hands_shut, places_back, done_count}
 use Rattle.workers.proofs.crew.crew_back.Goals as goal
 

@@ -1,4 +1,4 @@
-use Rattle.std.proofs.Common.{◌≡◌, ◌∙◌, ◌+◌, [], ◌∷◌, ◌++◌, List, map, reverse, length, length-append, option_to_list, append_assoc, All, refl, sym, ap, arith}
+use Rattle.std.proofs.Common.{◌≡◌, ◌∙◌, [], ◌∷◌, ◌++◌, List, map, reverse, length, length-append, option_to_list, append_assoc, All, refl, sym, ap, arith}
 use Rattle.std.proofs.lemmas.List.{map-append}
 use Rattle.std.specs.Vec.Iter.{into_iter_items}
 use Rattle.shares.specs.Hands.{HandValue, HandPlace, IsEmptyHand}

@@ -1,4 +1,4 @@
-use Rattle.std.proofs.Common.{◌≡◌, ◌+◌, ◌++◌, length, map, reverse, All}
+use Rattle.std.proofs.Common.{◌≡◌, ◌++◌, length, map, reverse, All}
 use Rattle.std.specs.Vec.Iter.{into_iter_items, into_iter_len}
 use Rattle.shares.specs.Hands.{HandValue, IsEmptyHand}
 use Rattle.workers.proofs.crew.jobs_of.Given as goal

@@ -1,4 +1,4 @@
-use Rattle.std.proofs.Common.{rules, ◌≡◌, [], false, append-nil, sym, ◌∙◌, ◌++◌, map, ap, arith}
+use Rattle.std.proofs.Common.{rules, ◌≡◌, [], append-nil, sym, ◌∙◌, ◌++◌, map, ap, arith}
 use Rattle.shares.specs.Seats.{all_steps}
 use Rattle.workers.specs.Pieces.{piece_of}
 use Rattle.workers.proofs.Settled.{whole_run}

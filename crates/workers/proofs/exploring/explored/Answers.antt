@@ -1,6 +1,6 @@
 use Rattle.std.proofs.Common.{◌∙◌, ap}
 use Rattle.lines.specs.Line.{first_lines}
-use Rattle.workers.specs.Pieces.{AreWhole, block_count, collected}
+use Rattle.workers.specs.Pieces.{AreWhole, block_count, lines_by_block}
 use Rattle.workers.proofs.Runs.{without_passed, with_passed, same_first_lines, lines_ordered, only_memory}
 use Rattle.workers.proofs.Sets.{images_rise}
 use Rattle.workers.proofs.exploring.explored.Goals as goal
@@ -30,7 +30,7 @@ returns-in-Ok-collect-clause-order g c =
     let s = c.args.input.now in
     let whole : AreWhole c.in-Ok-all_pieces.pieces.items (block_count s) = rw (← c.block_count.ensures.value) c.in-Ok-collect.ensures.whole in
     rw (c.in-Ok-collect.ensures.lines, c.block_count.ensures.value)
-    (images_rise (collected c.in-Ok-all_pieces.pieces.items (block_count s)) (lines_ordered s c.in-Ok-all_pieces.pieces.items c.in-Ok-all_pieces.ensures.pieces.own whole))
+    (images_rise (lines_by_block c.in-Ok-all_pieces.pieces.items (block_count s)) (lines_ordered s c.in-Ok-all_pieces.pieces.items c.in-Ok-all_pieces.ensures.pieces.own whole))
 
 pub returns-clause-refused : goal.returns-clause-refused
 returns-clause-refused g c =

@@ -1,4 +1,4 @@
-use Rattle.std.proofs.Common.{◌≡◌, ◌∙◌, ap, arith}
+use Rattle.std.proofs.Common.{◌∙◌, arith}
 use Rattle.workers.proofs.HandingOver.{drew_seen}
 use Rattle.workers.proofs.Takes.{draws_one, draws_no_more, judges}
 use Rattle.workers.proofs.taking.draw_blocks.Goals as goal
@@ -9,7 +9,7 @@ loop-block-preserved g c =
     let (board, log, taken) = at.invariant in
     let name = c.args.board.now.name in (
       c.piece_through.ensures.board ∙ c.draw.ensures.board ∙ board,
-      c.piece_through.ensures.changes ∙ log,
+      c.piece_through.ensures.local,
       λ hand h. rw c.in_ok-push.ensures.items
           (judges c.args.worker.now.input.now name c.draw.new.seat c.piece_through.new.seat hand c.in-Some.block at.pieces.items c.in_ok-piece.piece
           (draws_one c.args.worker.now.input.now name at.seat c.draw.new.seat hand c.in-Some.block at.pieces.items (taken hand h) c.draw.ensures.board c.in-Some.ensures.block.1 c.in-Some.ensures.taken)

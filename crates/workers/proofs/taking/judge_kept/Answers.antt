@@ -5,7 +5,7 @@ use Rattle.workers.proofs.Takes.{rephased, judges_kept}
 use Rattle.workers.proofs.taking.judge_kept.Goals as goal
 
 pub loop-block-init : goal.loop-block-init
-loop-block-init g c = (c.requires.phase, refl, c.requires.changes, λ board seat h. h)
+loop-block-init g c = (c.requires.phase, refl, c.requires.local, λ board seat h. h)
 
 pub loop-block-preserved : goal.loop-block-preserved
 loop-block-preserved g c =
@@ -13,7 +13,7 @@ loop-block-preserved g c =
     let (phase, place, log, taken) = at.invariant in (
       c.in-Some.ensures.some.1,
       c.rest.ensures.place ∙ place,
-      c.piece_left.ensures.changes ∙ log,
+      c.piece_left.ensures.local,
       λ board seat h. rw c.in_ok-push.ensures.items
           (judges_kept c.args.worker.now.input.now board seat at.hand c.rest.new.self c.in-Some.block at.pieces.items c.in_ok-piece.piece c.in-Some.ensures.some.0 c.in_ok-piece.ensures.piece
           (rw (← c.requires.blocks) c.in-Some.ensures.block) (taken board seat h)),

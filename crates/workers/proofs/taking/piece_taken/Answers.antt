@@ -1,7 +1,5 @@
-use Rattle.std.proofs.Common.{◌≡◌, ◌∙◌, ◌≤◌, sym, ap, subst, arith}
-use Rattle.shares.specs.Steps.{next_seen}
+use Rattle.std.proofs.Common.{◌∙◌, sym, arith}
 use Rattle.shares.specs.declared.view.SeatStep.TheVariants.{Posted}
-use Rattle.workers.specs.Taking.{AddsPiece}
 use Rattle.workers.proofs.HandingOver.{seen_later, adds_passed, adds_full, adds_last}
 use Rattle.workers.proofs.taking.piece_taken.Goals as goal
 use Rattle.workers.proofs.taking.piece_taken.Goals.{in-Some-first_failing, in_default-first_failing}

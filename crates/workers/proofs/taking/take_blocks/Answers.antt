@@ -18,7 +18,7 @@ loop-turn-preserved g c =
           (judges s name c.take.new.seat c.piece_through.new.seat c.take.new.self block at.pieces.items c.in_ok-piece.piece
           (takes s name at.seat c.take.new.seat at.hand c.take.new.self (block ∷ []) at.pieces.items at.invariant.0 c.take.ensures.board c.in-Some.ensures.taken) c.piece_through.ensures.board c.piece_through.ensures.taken
           c.in_ok-piece.ensures.added),
-      c.piece_through.ensures.changes ∙ at.invariant.1,
+      c.piece_through.ensures.local,
       c.take.ensures.place ∙ at.invariant.2,
       c.take.ensures.phase ∙ at.invariant.3,
     )
@@ -26,4 +26,4 @@ loop-turn-preserved g c =
 pub loop-turn-init : goal.loop-turn-init
 loop-turn-init g c =
     let none : c.new-pieces.result.items ≡ [] = c.new-pieces.ensures.items in
-    (rw (← c.requires.board, none) (none_taken c.args.worker.now.input.now c.args.seat.now c.args.hand.now c.requires.fresh.0 c.requires.fresh.1), c.requires.changes, refl, ap (λ (h : HandValue). h.phase) c.requires.fresh.1)
+    (rw (← c.requires.board, none) (none_taken c.args.worker.now.input.now c.args.seat.now c.args.hand.now c.requires.fresh.0 c.requires.fresh.1), c.requires.local, refl, ap (λ (h : HandValue). h.phase) c.requires.fresh.1)

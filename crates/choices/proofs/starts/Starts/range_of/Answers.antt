@@ -1,4 +1,4 @@
-use Rattle.std.proofs.Common.{ℕ, List, ◌≡◌, ◌+◌, subst, sym, arith}
+use Rattle.std.proofs.Common.{ℕ, List, ◌+◌, subst, sym, arith}
 use Rattle.choices.specs.Sums.{StartsValue, AreSums}
 use Rattle.choices.proofs.Plans.{before_more}
 use Rattle.choices.proofs.starts.Starts.range_of.Goals as goal

@@ -1,7 +1,7 @@
 use Rattle.std.proofs.Common.{◌≡◌, ◌≤◌, ◌<◌, length, Some, refl, subst, ◌∙◌, ap}
 use Rattle.std.specs.Option.{MatchOption}
 use Rattle.images.specs.Views.{sectors_of}
-use Rattle.images.specs.Keys.{KeyValue, base_of, changed, most_changed}
+use Rattle.images.specs.Keys.{KeyValue, base_of, changed_sectors, most_changed}
 use Rattle.images.proofs.Identity.{has_key, no_key}
 use Rattle.images.proofs.changes.Changes.key.Goals as goal
 use Rattle.images.proofs.changes.Changes.key.Goals.{in-Some, in-None}
@@ -14,13 +14,13 @@ returns-clause-value c =
     elim c.match-branch-3.branch [
       | in-Some w ↦
           let found =
-          subst (λ o. MatchOption o (most_changed < length (changed base image)) (λ sectors. (sectors.items ≡ changed base image) × (length sectors.items ≤ most_changed)))
+          subst (λ o. MatchOption o (most_changed < length (changed_sectors base image)) (λ sectors. (sectors.items ≡ changed_sectors base image) × (length sectors.items ≤ most_changed)))
           w.in-Some.is c.in_ok-changed.ensures in
           rw w.result-is
           (ap (λ (k : KeyValue). Some k) w.of.ensures ∙ has_key view 0 c.context-context.result base image _ c.context-context.ensures.value refl refl found.0 found.1)
       | in-None w ↦
           let many =
-          subst (λ o. MatchOption o (most_changed < length (changed base image)) (λ sectors. (sectors.items ≡ changed base image) × (length sectors.items ≤ most_changed)))
+          subst (λ o. MatchOption o (most_changed < length (changed_sectors base image)) (λ sectors. (sectors.items ≡ changed_sectors base image) × (length sectors.items ≤ most_changed)))
           w.in-None.is c.in_ok-changed.ensures in
           rw w.result-is (no_key view 0 base image refl refl many)
     ]

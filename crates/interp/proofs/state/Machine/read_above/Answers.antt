@@ -2,7 +2,7 @@ use Rattle.std.proofs.Common.{ℕ, ◌≡◌, List, [], ◌∷◌, Option, None,
 use Rattle.machine.specs.State.{Frame}
 use Rattle.machine.specs.Memory.{byte_count, byte_at}
 use Rattle.interp.specs.Frames.{frames_above}
-use Rattle.interp.specs.Reading.{reading, stacked}
+use Rattle.interp.specs.Reading.{reading, stack_byte}
 use Rattle.interp.proofs.Regions.{some_bytes, few_bytes, around, nothing_read, stack_reading}
 use Rattle.interp.proofs.Opened.{none_above, all_long, nowhere, find_frame}
 use Rattle.interp.proofs.state.Machine.read_above.Goals as goal
@@ -35,6 +35,6 @@ returns-in-Some g c = λ context device long.
     let frame = find_frame first above c.in-Some.spot.frame c.stack.result.now at.some c.stack.ensures in
     rw (← c.self.view_is, some)
     (c.read.ensures
-    ∙ ap (λ (s : List (Option ℕ)). reading (stacked s) c.in-Some.spot.place (byte_count c.args.size)) (sym frame.same)
+    ∙ ap (λ (s : List (Option ℕ)). reading (stack_byte s) c.in-Some.spot.place (byte_count c.args.size)) (sym frame.same)
     ∙ sym (stack_reading context device (first ∷ above) frame.found c.args.address c.in-Some.spot.frame c.in-Some.spot.place (byte_count c.args.size)
     frame.there at.few at.start at.short (few_bytes c.args.size)))

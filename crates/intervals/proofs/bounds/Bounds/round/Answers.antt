@@ -2,16 +2,16 @@ use Rattle.std.proofs.Common.{◌≡◌, ◌∙◌, sym, ap, subst, Option, None
 use Rattle.std.specs.Option.{IsSomeAnd}
 use Rattle.intervals.specs.Spans.{Span}
 use Rattle.intervals.specs.SignedSpans.{SignedSpan}
-use Rattle.intervals.specs.Reducing.{Limits, limits, reduced, IsLimits}
-use Rattle.intervals.specs.SignedRounding.{widened}
+use Rattle.intervals.specs.Reducing.{Limits, limits, reduction, IsLimits}
+use Rattle.intervals.specs.SignedRounding.{round_limits}
 use Rattle.intervals.specs.SeenBounds.{limits_of}
 use Rattle.intervals.proofs.SignedDigits.{IsRounded, rounded_there}
 use Rattle.intervals.proofs.Typed.{limits_are}
 use Rattle.intervals.proofs.bounds.Bounds.round.Goals as goal
 
-there : (x : Limits) (u : Span) (s : SignedSpan) (r : Option Limits) → IsLimits x → u ≡ (widened x).unsigned → s ≡ (widened x).signed
-    → r ≡ reduced (limits u s) → IsSomeAnd r (λ y. IsRounded x y)
-there x u s r h p q e = rounded_there x h r (e ∙ ap (λ v. reduced (limits v s)) p ∙ ap (λ t. reduced (limits (widened x).unsigned t)) q)
+there : (x : Limits) (u : Span) (s : SignedSpan) (r : Option Limits) → IsLimits x → u ≡ (round_limits x).unsigned → s ≡ (round_limits x).signed
+    → r ≡ reduction (limits u s) → IsSomeAnd r (λ y. IsRounded x y)
+there x u s r h p q e = rounded_there x h r (e ∙ ap (λ v. reduction (limits v s)) p ∙ ap (λ t. reduction (limits (round_limits x).unsigned t)) q)
 
 pub unreachable-requires : goal.unreachable-requires
 unreachable-requires c =

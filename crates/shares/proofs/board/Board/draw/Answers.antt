@@ -3,7 +3,7 @@ use mathlib.Core.Option.{none}
 use Rattle.atomic_table.specs.Table.{step}
 use Rattle.shares.specs.declared.view.SeatStep.TheVariants.{Drew}
 use Rattle.shares.specs.Steps.{bit, late_draws}
-use Rattle.shares.specs.Seats.{taken}
+use Rattle.shares.specs.Seats.{taken_blocks}
 use Rattle.shares.proofs.Moves.{draws_as}
 use Rattle.shares.proofs.Seats.{after_step, in_time, too_late, takes_block, draw_takes_none, has_ended}
 use Rattle.shares.proofs.board.Board.draw.Goals as goal
@@ -47,14 +47,14 @@ returns-then-next-from-clause-taken c =
     let blocks = ap (λ k. k.board.blocks) c.seat.view_is ∙ ap (λ n. n.blocks) c.requires ∙ sym (ap (λ d. d.name.blocks) c.self.view_is) in
     takes_block c.seat.inside.blocks c.fetch_add-next.result c.seat.inside.token.me.0.steps c.fetch_add-next.new.seat.me.0.steps (ap (λ m. m.0.steps) c.fetch_add-next.ensures.2.0)
     (omega (arith, blocks, c.from.ensures, c.if-next-from.true))
-    ∙ ap (λ (ns : List ℕ). ns ++ c.fetch_add-next.result ∷ []) (ap taken c.seat.view_is)
+    ∙ ap (λ (ns : List ℕ). ns ++ c.fetch_add-next.result ∷ []) (ap taken_blocks c.seat.view_is)
 
 pub returns-else-next-from-clause-none_taken : goal.returns-else-next-from-clause-none_taken
 returns-else-next-from-clause-none_taken c =
     let blocks = ap (λ k. k.board.blocks) c.seat.view_is ∙ ap (λ n. n.blocks) c.requires ∙ sym (ap (λ d. d.name.blocks) c.self.view_is) in
     draw_takes_none c.seat.inside.blocks c.fetch_add-next.result c.seat.inside.token.me.0.steps c.fetch_add-next.new.seat.me.0.steps (ap (λ m. m.0.steps) c.fetch_add-next.ensures.2.0)
     (omega (arith, blocks, c.from.ensures, c.if-next-from.false))
-    ∙ ap taken c.seat.view_is
+    ∙ ap taken_blocks c.seat.view_is
 
 pub returns-else-next-from-clause-at_end : goal.returns-else-next-from-clause-at_end
 returns-else-next-from-clause-at_end c =

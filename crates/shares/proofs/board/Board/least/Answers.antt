@@ -2,7 +2,7 @@ use Rattle.std.proofs.Common.{◌∙◌, refl, sym, ap, arith}
 use mathlib.Core.Option.{none}
 use Rattle.atomic_table.specs.Table.{step}
 use Rattle.shares.specs.declared.view.SeatStep.TheVariants.{SawLeast}
-use Rattle.shares.specs.Seats.{taken}
+use Rattle.shares.specs.Seats.{taken_blocks}
 use Rattle.shares.proofs.Moves.{sees_least_as}
 use Rattle.shares.proofs.Seats.{after_step, takes_none}
 use Rattle.shares.proofs.board.Board.least.Goals as goal
@@ -18,4 +18,4 @@ invariant_of-seat c = after_step c.seat.inside.blocks (SawLeast c.load-word.resu
 pub returns-clause-taken : goal.returns-clause-taken
 returns-clause-taken c =
     takes_none c.seat.inside.blocks (SawLeast c.load-word.result) c.seat.inside.token.me.0.steps c.load-word.new.seat.me.0.steps (ap (λ m. m.0.steps) c.load-word.ensures.2.0) refl
-    ∙ ap taken c.seat.view_is
+    ∙ ap taken_blocks c.seat.view_is

@@ -1,4 +1,4 @@
-use Rattle.std.proofs.Common.{◌≡◌, ◌∙◌, ◌++◌, refl, sym, ap, arith, length, Some, slice_get, List}
+use Rattle.std.proofs.Common.{◌≡◌, ◌∙◌, ◌++◌, refl, ap, arith, length, Some, slice_get, List}
 use Rattle.std.proofs.lemmas.Option.{slice_get_read}
 use Rattle.lines.specs.Line.{FailingLine}
 use Rattle.workers.proofs.JudgedLines.{same_ending, checker_found, lines_of_image}

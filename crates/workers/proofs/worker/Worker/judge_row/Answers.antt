@@ -1,14 +1,14 @@
-use Rattle.std.proofs.Common.{◌∙◌, ◌<◌, [], arith}
-use Rattle.workers.specs.Failing.{image_count}
-use Rattle.workers.proofs.JudgedLines.{image_next}
+use Rattle.std.proofs.Common.{◌∙◌, arith}
+use Rattle.workers.proofs.Reused.{lines_join}
 use Rattle.workers.proofs.worker.Worker.judge_row.Goals as goal
 
-pub loop-image-preserved : goal.loop-image-preserved
-loop-image-preserved g c =
-    let s = c.args.self.now.input.now in
-    let within : c.loop-image.image < image_count s = omega (arith, c.loop-image-test.true, c.requires.end) in
-    let (lines, choice, log) = c.loop-image.invariant in (
-      c.in_ok-judge_image.ensures.lines ∙ image_next s c.args.first c.loop-image.image [] _ c.loop-image.auto.image lines,
-      λ lt. c.go_on.ensures c.loop-image.image (choice within) lt,
-      c.in_ok-judge_image.ensures.changes ∙ log,
+pub loop-row-preserved : goal.loop-row-preserved
+loop-row-preserved g c =
+    let (lines, low, end, row, local) = c.loop-row.invariant in
+    let some = c.in_ok-judge_some.ensures in (
+      lines_join c.args.self.now.input.now c.args.first c.loop-row.row.image c.judge_some.new.row.image c.loop-row.lines _ low (omega (arith, some.fewer)) lines some.lines,
+      omega (arith, low, some.fewer),
+      some.end ∙ end,
+      some.row,
+      c.judge_some.ensures.local,
     )

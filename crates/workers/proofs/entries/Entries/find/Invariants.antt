@@ -1,0 +1,5 @@
+use Rattle.workers.specs.Reuse.{AreKnown}
+use Rattle.workers.proofs.entries.Entries.find.Given as goal
+
+abbrev pub invariant-loop-turn : goal.invariant-loop-turn
+invariant-loop-turn l = AreKnown l.input l.picked.place l.checker l.self

@@ -1,0 +1,11 @@
+use Rattle.std.proofs.Common.{◌≡◌, ◌++◌}
+use Rattle.std.specs.List.{filter_map, range_with_len}
+use Rattle.workers.specs.Failing.{line_of}
+use Rattle.workers.specs.Images.{IsStop}
+use Rattle.workers.specs.Local.{IsTrueOf}
+use Rattle.workers.proofs.input.Input.judge_by_reuse.Given as goal
+
+abbrev pub invariant-loop-number : goal.invariant-loop-number
+invariant-loop-number l =
+    (l.lines ≡ l.initial.lines ++ filter_map (line_of l.self l.seen.image) (range_with_len 0 l.number))
+    × IsTrueOf l.self l.reuse × (l.reuse.place ≡ l.initial.reuse.place) × IsStop l.self l.picked l.stop
