@@ -1,8 +1,8 @@
 //! The work of a run: it judges every crash image of a plan by checkers, and collects the failing lines.
 //!
 //! The images of a run are numbered from 0. They fall into blocks of 64 in a row, of which the last may
-//! be shorter. A block is judged as one piece of work: each of its images is formed once, and each
-//! checker runs on it. A checker that does not answer 0 makes a line.
+//! be shorter. A block is judged as one piece of work: each of its images by each checker. A checker
+//! that does not answer 0 on an image makes a line.
 //!
 //! | Type or call | What it is |
 //! |---|---|
@@ -31,9 +31,9 @@
 //!
 //! # Place
 //!
-//! It stands on `choices` and `images`, which number and form the images, on `interp`,
-//! whose `Checker` judges them, on `soundness` for its law alone, on `shares` and `verdict_cache`, which the workers share, on `lines`, which
-//! keeps failing lines, and on `base`, which has the type of a refusal. `commands` calls it.
+//! It stands on `choices` and `images`, which number and form the images, on `checker`, which judges them, on
+//! `interp`, which has what a run ends in, on `soundness` for its law alone, on `shares` and `verdict_cache`, which the workers share, on `lines`, which
+//! keeps failing lines, and on `base`, which has the type of a refusal. `runs` calls it.
 //!
 //! # What is proved
 //!

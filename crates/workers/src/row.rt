@@ -227,8 +227,8 @@ impl<'b, 'a, J: Run, G: Gate> Worker<'b, 'a, J, G> {
 /// Judges the images of a block: 64 in a row from `64 * block` on, or those that are left. The sixteen
 /// shards are those of the cache of the run. Without a cache it asks none of them.
 ///
-/// Without a cache it takes memory for the lines alone, since an image borrows its sectors from the
-/// log; with one, for keys as well.
+/// Without a cache it takes memory for the lines, and for what is known by footprints: where that is refused, images are
+/// judged by themselves. With one it takes memory for the lines and for keys. An image borrows its sectors from the log.
 pub fn judge_block<'a, J: Run, R: Wait>(
     rt: &R,
     alloc: Global,
