@@ -1,12 +1,13 @@
 #!/usr/bin/env python3
-"""Tests examples/each, and what docs/CI.md does with a stored report.
+"""Tests examples/each, examples/many_machines, and what docs/CI.md does with a stored report.
 
     python3 tests/each.py [PROGRAM]
 
 PROGRAM is as in run.py. The bytes that `each` gives to a program are compared with those of the model. Then mke2fs and debugfs
 write a small ext2 file system, a log is made of what they wrote, and `each` gives its images to e2fsck, whose statuses are
-compared with those on the model's images; where these programs aren't there that row is left out, and a line says so. Last the
-commands in docs/CI.md, 'Known failures', are run: on the report that is stored, and on others.
+compared with those on the model's images; where these programs aren't there that row is left out, and a line says so. Runs are laid
+out in parts, which are judged by processes side by side, some of them killed and run again, and joined: that is the report of the
+run. Last the commands in docs/CI.md, 'Known failures', are run: on the report that is stored, and on others.
 
 Prints a line for each row that failed, and last `N passed, M failed`.
 """
@@ -21,10 +22,12 @@ from pathlib import Path
 
 sys.dont_write_bytecode = True
 
+from designs import DESIGNS
 from model import Run
 from notation import MARK, TOP, F, M, S, W, log
 
 EACH = TOP / "examples/each"
+MACHINES = TOP / "examples/many_machines"
 LOGS = TOP / "crates/aside/data"
 # Of ext2: the sectors of the device and of a block.
 SECTORS, BLOCK = 256, 2
@@ -153,6 +156,58 @@ def gives_ext2(folder):
     return found + ([] if failing else ["no image fails"])
 
 
+def laid_out(folder, run, parts, options=""):
+    """Lays out a run of the checker of two_slots in the folder `run`, and returns the report of one process."""
+    Path(folder, "disk.log").write_bytes(log(run.recorded))
+    shutil.copy(TOP / "examples/two_slots/checker.bpf", folder)
+    whole = sh(folder, f"crashbpf explore disk.log checker.bpf {run.options()} {options}")
+    done = sh(folder, f'"$1"/lay_out run {parts} disk.log {run.options()} -- checker.bpf {options}', MACHINES)
+    return whole, differs("how many parts there are", done.stdout.strip(), str(parts))
+
+
+# Judges all parts of a run that are missing, four at a time.
+JUDGE = 'seq $(wc -l < "$1/parts") | xargs -P 4 -n 1 "$1/run_part" "$1"'
+
+
+def judges_in_parts(folder, run, parts, options=""):
+    """What is wrong with a run in parts, some of which are lost and judged again."""
+    whole, found = laid_out(folder, run, parts, options)
+    none = sh(folder, '"$1"/join_all run', MACHINES)
+    found += differs("the status where no part is judged", none.returncode, 2)
+    found += differs("what is judged by processes", sh(folder, JUDGE, "run").returncode, 0)
+    # One text is lost with its machine, and of another one a piece lies there under no name of a text.
+    Path(folder, "run/text.2").unlink()
+    Path(folder, "run/begun.3.there.77").write_bytes(Path(folder, "run/text.3").read_bytes()[:50])
+    Path(folder, "run/text.3").unlink()
+    lost = sh(folder, '"$1"/join_all run', MACHINES)
+    found += differs("what is missing", (lost.returncode, lost.stderr), (2, "join_all: not judged yet: 2 3\n"))
+    kept = Path(folder, "run/text.1").stat().st_mtime_ns
+    found += differs("what is judged again", sh(folder, JUDGE, "run").returncode, 0)
+    found += differs("when a text that was there was written", Path(folder, "run/text.1").stat().st_mtime_ns, kept)
+    joined = sh(folder, '"$1"/join_all run', MACHINES)
+    return found + differs("the report", (joined.returncode, joined.stdout), (whole.returncode, whole.stdout))
+
+
+def kills_a_part(folder, run):
+    """What is wrong where the process of a part is killed, and where a part is refused."""
+    whole, found = laid_out(folder, run, 4)
+    # A program that is killed by the signal 9 before its text is whole.
+    Path(folder, "killed").write_text('#!/bin/sh\necho crash part 1\nkill -9 $$\n')
+    Path(folder, "killed").chmod(0o755)
+    done = sh(folder, 'CRASHBPF=$PWD/killed run/run_part run 2')
+    found += [] if done.returncode > 1 else [f"a part that was killed ended with {done.returncode}"]
+    found += [] if not Path(folder, "run/text.2").exists() else ["a part that was killed left a text"]
+    found += differs("the status of a part that isn't there", sh(folder, "run/run_part run 5").returncode, 2)
+    os.rename(Path(folder, "disk.log"), Path(folder, "hidden.log"))
+    found += differs("the status of a part that is refused", sh(folder, "run/run_part run 2").returncode, 2)
+    os.rename(Path(folder, "hidden.log"), Path(folder, "disk.log"))
+    # From another folder, by the path of the run.
+    done = sh("/", JUDGE, Path(folder, "run"))
+    found += differs("what is judged from another folder", done.returncode, 0)
+    joined = sh(folder, '"$1"/join_all run', MACHINES)
+    return found + differs("the report", (joined.returncode, joined.stdout), (whole.returncode, whole.stdout))
+
+
 def compared(folder, commands, stored, keep):
     """What is wrong with commands of docs/CI.md that compare a run with what is stored of one; `keep` stores it."""
     Path(folder, "check.bpf").write_bytes((TOP / "examples/two_slots/checker.bpf").read_bytes())
@@ -193,6 +248,10 @@ def rows():
         yield "images of ext2", gives_ext2
     else:
         print(f"not run: images of ext2, since there is no {' or no '.join(it for it in TOOLS if not shutil.which(it))}")
+    writes = DESIGNS["two_slots/wrong"].recorded
+    yield "a run in parts", lambda folder: judges_in_parts(folder, Run(writes, 4, bound=2, tears=True), 16, "--workers 2")
+    yield "the first failing image of a run in parts", lambda folder: judges_in_parts(folder, Run(writes, 4, bound=2), 5, "--first")
+    yield "a part that is killed", lambda folder: kills_a_part(folder, Run(writes, 4, bound=2, tears=True))
     yield "known failures", known_failures
 
 

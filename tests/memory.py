@@ -50,7 +50,7 @@ from model import Checker, Run, explored, one
 from notation import SECONDS, TESTS, TOP, F, Long, W, explore, log, named, program
 from run import Assembler, all_rows, made, put, shortened, split_notes, split_progress
 
-WANT_OF_MEMORY = re.compile(rb"refused (11|26|35|60|72) at 0(?: of program ([0-7]))?\n")
+WANT_OF_MEMORY = re.compile(rb"refused (11|26|35|60|66|72) at 0(?: of program ([0-7]))?\n")
 
 # Of runs with more allocations than MOST each STEPth is refused.
 MOST = 1200
@@ -68,59 +68,62 @@ MANY = ". 11 26.0 60.0 72"
 
 ROWS = {
     "no word at all: the stored run": (48, "72 . 72 26.0 72 ."),
-    "empty_log_bad": (279, "72 . 72 11 72 26.0 72 26.0 72 60.0 72 ."),
-    "empty_log_bad, first": (283, "72 . 72 11 72 26.0 72 26.0 72 60.0 72 ."),
-    "torn_sector": (298, "72 . 72 11 72 26.0 72 11 72 26.0 72 60.0 72 . 72 ."),
-    "torn_sector, first": (302, "72 . 72 11 72 26.0 72 11 72 26.0 72 60.0 72 . 72 ."),
-    "torn_sector, within 9 steps": (304, "72 . 72 11 72 26.0 72 11 72 26.0 72 . 72 ."),
-    "pairs_of_drops": (225, "72 . 72 11 72 11 72 ."),
-    "pairs_of_drops, each choice": (385, "72 . 72 11 72 26.0 72 11 72 26.0 72 60.0 72 . 72 . 72 . 72 . 72 . 72 ."),
-    "sixteen_codes": (389, "72 . 72 11 72 26.0 72 11 72 26.0 72 60.0 72 . 72 . 72 . 72 . 72 . 72 ."),
-    "sixteen_codes, first": (335, "72 . 72 11 72 26.0 72 11 72 26.0 72 60.0 72 . 72 . 72 ."),
-    "eight programs": (460, "72 . 72 11 72 26.0 26.1 26.2 26.3 72 26.4 26.5 26.6 26.7 72 26.0 72 26.1 26.2 26.3 26.4 72 26.5 26.6 26.7 60.0 72 60.1 60.2 60.3 60.4 72 60.5 60.6 60.7 72 . 72 ."),
+    "empty_log_bad": (287, "72 . 72 11 72 26.0 72 26.0 72 60.0 72 ."),
+    "empty_log_bad, first": (291, "72 . 72 11 72 26.0 72 26.0 72 60.0 72 ."),
+    "torn_sector": (306, "72 . 72 11 72 26.0 72 11 72 26.0 72 60.0 72 . 72 ."),
+    "torn_sector, first": (310, "72 . 72 11 72 26.0 72 11 72 26.0 72 60.0 72 . 72 ."),
+    "torn_sector, within 9 steps": (312, "72 . 72 11 72 26.0 72 11 72 26.0 72 . 72 ."),
+    "pairs_of_drops": (237, "72 . 72 11 72 11 72 ."),
+    "pairs_of_drops, each choice": (393, "72 . 72 11 72 26.0 72 11 72 26.0 72 60.0 72 . 72 . 72 . 72 . 72 . 72 ."),
+    "sixteen_codes": (397, "72 . 72 11 72 26.0 72 11 72 26.0 72 60.0 72 . 72 . 72 . 72 . 72 . 72 ."),
+    "sixteen_codes, first": (343, "72 . 72 11 72 26.0 72 11 72 26.0 72 60.0 72 . 72 . 72 ."),
+    "eight programs": (468, "72 . 72 11 72 26.0 26.1 26.2 26.3 72 26.4 26.5 26.6 26.7 72 26.0 72 26.1 26.2 26.3 26.4 72 26.5 26.6 26.7 60.0 72 60.1 60.2 60.3 60.4 72 60.5 60.6 60.7 72 . 72 ."),
     "torn_sector, 2 workers, cache 16": (None, MANY),
     "marks, 2 workers, cache 16": (None, MANY),
     "sixteen_codes, 2 workers, cache 16": (None, MANY),
     "sixteen_codes, 4 workers, with progress": (None, MANY),
-    "two_epochs": (216, "72 . 72 11 72 11 72 ."),
-    "a mark after a write": (209, "72 . 72 11 72 11 72 ."),
-    "two_epochs, image 20": (214, "72 . 72 11 72 11 72 ."),
-    "overwritten_sector, bound 1, image 34": (225, "72 . 72 11 72 11 72 ."),
-    "two_slots, wrong, survey": (229, "72 . 72 11 72 11 72 ."),
-    "journal, image 17": (234, "72 . 72 11 72 11 72 ."),
-    "journal/wrong, image 17 in words": (251, "72 . 72 11 72 11 72 ."),
-    "pages/wrong, --cut 10 --choice 8:drop in words": (297, "72 . 72 11 72 11 72 ."),
-    "image: a tear without --tears": (229, "72 . 72 11 72 11 72 ."),
-    "why: two_slots/wrong": (428, "72 . 72 11 72 26.0 72 11 72 26.0 72 60.0 72 . 72 . 72 . 72 . 72 . 72 ."),
-    "why: journal/wrong": (380, "72 . 72 11 72 26.0 72 11 72 26.0 72 60.0 72 . 72 ."),
+    "two_epochs": (228, "72 . 72 11 72 11 72 ."),
+    "a mark after a write": (221, "72 . 72 11 72 11 72 ."),
+    "two_epochs, image 20": (226, "72 . 72 11 72 11 72 ."),
+    "overwritten_sector, bound 1, image 34": (237, "72 . 72 11 72 11 72 ."),
+    "two_slots, wrong, survey": (241, "72 . 72 11 72 11 72 ."),
+    "journal, image 17": (246, "72 . 72 11 72 11 72 ."),
+    "journal/wrong, image 17 in words": (263, "72 . 72 11 72 11 72 ."),
+    "pages/wrong, --cut 10 --choice 8:drop in words": (309, "72 . 72 11 72 11 72 ."),
+    "image: a tear without --tears": (241, "72 . 72 11 72 11 72 ."),
+    "why: two_slots/wrong": (436, "72 . 72 11 72 26.0 72 11 72 26.0 72 60.0 72 . 72 . 72 . 72 . 72 . 72 ."),
+    "why: journal/wrong": (388, "72 . 72 11 72 26.0 72 11 72 26.0 72 60.0 72 . 72 ."),
     "why: journal, wrong, two lost or torn, by 4 workers": (None, MANY),
-    "cure: two_slots, wrong": (378, "72 . 72 11 72 26.0 72 11 72 26.0 72 60.0 72 . 72 ."),
-    "cure: journal, wrong": (396, "72 . 72 11 72 26.0 72 11 72 26.0 72 60.0 72 . 72 . 72 ."),
+    "cure: two_slots, wrong": (386, "72 . 72 11 72 26.0 72 11 72 26.0 72 60.0 72 . 72 ."),
+    "cure: journal, wrong": (404, "72 . 72 11 72 26.0 72 11 72 26.0 72 60.0 72 . 72 . 72 ."),
     "cure: two_slots, wrong, 4 workers, with progress": (None, MANY),
-    "page: journal/wrong": (470, "72 . 72 11 72 26.0 72 11 72 26.0 72 60.0 72 . 72 ."),
-    "page: markup in a mark": (638, "72 . 72 11 72 26.0 26.1 72 11 72 26.0 72 26.1 60.0 72 60.1 72 . 72 . 72 . 72 ."),
-    "asm report_codes, with labels": (194, "72 . 72 35 72 35 72 ."),
-    "asm masked_index": (196, "72 . 72 35 72 35 72 ."),
-    "two_slots/checker, assembled": (206, "72 . 72 35 72 35 72 ."),
-    "text: 'ja x\\nlddw r0, 0\\nx:\\nexit'": (183, "72 . 72 35 72 35 72 ."),
-    "list": (180, "72 . 72 26 72 26 72 ."),
-    "list masked_index": (189, "72 . 72 26 72 26 72 ."),
-    "asm and list: every instruction in one program": (199, "72 . 72 26 72 26 72 ."),
-    "verify first_byte": (209, "72 . 72 26 72 26 60 72 ."),
-    "verify byte_64": (209, "72 . 72 26 72 26 60 72 ."),
-    "verify ends_agree": (211, "72 . 72 26 72 26 60 72 ."),
-    "verify marks_passed": (207, "72 . 72 26 72 26 60 72 ."),
-    "verify report_codes": (211, "72 . 72 26 72 26 60 72 ."),
-    "verify sum_words": (213, "72 . 72 26 72 26 60 72 ."),
-    "verify nested_loops": (211, "72 . 72 26 72 26 60 72 ."),
-    "verify masked_index": (213, "72 . 72 26 72 26 60 72 ."),
-    "verify two_slots/checker_c": (215, "72 . 72 26 72 26 60 72 ."),
-    "verify journal/checker": (215, "72 . 72 26 72 26 60 72 ."),
-    "verify checkers/type_counts": (215, "72 . 72 26 72 26 60 72 ."),
-    "verify checkers/journal_scan": (215, "72 . 72 26 72 26 60 72 ."),
-    "check: first_byte, step by step": (225, "72 . 72 26 72 26 60 72 ."),
-    "check: turns": (205, "72 . 72 26 72 26 72 ."),
+    "page: journal/wrong": (478, "72 . 72 11 72 26.0 72 11 72 26.0 72 60.0 72 . 72 ."),
+    "page: markup in a mark": (646, "72 . 72 11 72 26.0 26.1 72 11 72 26.0 72 26.1 60.0 72 60.1 72 . 72 . 72 . 72 ."),
+    "asm report_codes, with labels": (202, "72 . 72 35 72 35 72 ."),
+    "asm masked_index": (204, "72 . 72 35 72 35 72 ."),
+    "two_slots/checker, assembled": (214, "72 . 72 35 72 35 72 ."),
+    "text: 'ja x\\nlddw r0, 0\\nx:\\nexit'": (191, "72 . 72 35 72 35 72 ."),
+    "list": (188, "72 . 72 26 72 26 72 ."),
+    "list masked_index": (197, "72 . 72 26 72 26 72 ."),
+    "asm and list: every instruction in one program": (207, "72 . 72 26 72 26 72 ."),
+    "verify first_byte": (217, "72 . 72 26 72 26 60 72 ."),
+    "verify byte_64": (217, "72 . 72 26 72 26 60 72 ."),
+    "verify ends_agree": (219, "72 . 72 26 72 26 60 72 ."),
+    "verify marks_passed": (215, "72 . 72 26 72 26 60 72 ."),
+    "verify report_codes": (219, "72 . 72 26 72 26 60 72 ."),
+    "verify sum_words": (221, "72 . 72 26 72 26 60 72 ."),
+    "verify nested_loops": (219, "72 . 72 26 72 26 60 72 ."),
+    "verify masked_index": (221, "72 . 72 26 72 26 60 72 ."),
+    "verify two_slots/checker_c": (223, "72 . 72 26 72 26 60 72 ."),
+    "verify journal/checker": (223, "72 . 72 26 72 26 60 72 ."),
+    "verify checkers/type_counts": (223, "72 . 72 26 72 26 60 72 ."),
+    "verify checkers/journal_scan": (223, "72 . 72 26 72 26 60 72 ."),
+    "check: first_byte, step by step": (233, "72 . 72 26 72 26 60 72 ."),
+    "check: turns": (213, "72 . 72 26 72 26 72 ."),
     "every image of sixteen writes fails, 16 workers": (None, MANY),
+    "a part: two_slots: --sectors 4 --cuts all --bound 2 --tears --images 236..354": (374, "72 . 72 11 72 26.0 72 11 72 26.0 72 60.0 72 . 72 . 72 . 72 ."),
+    "joined in the midst: torn_over_torn --sectors 4 --cuts all --bound 1 --tears": (749, "72 . 72 66 72 66 ."),
+    "joined in steps: torn_over_torn --sectors 4 --cuts all --bound 1 --tears": (1159, "72 . 72 66 72 66 ."),
 }
 
 # A run by sixteen workers, which all have blocks of images to judge: 3,213 images in 51 blocks.
@@ -284,7 +287,7 @@ def broken(runs, row):
 
 def row_runs(program, library, row, folder):
     """The run of a row in which nothing is refused, those in which one allocation is, and those in which all from one on."""
-    words = ["crashbpf", *row.words.split()]
+    words = ["crashbpf", *row.word_list()]
     whole = sweep(program, library, words, folder, 0, 0)[0]
     step = STEP if whole.asked > MOST else 1
     last = 2 * whole.asked + 100
@@ -409,7 +412,7 @@ def starved_run(program, row, assembler, begin, answers):
         os.chmod(copy, 0o755)
         put_files(row, folder, assembler)
         done = subprocess.run(
-            [copy, *row.words.split()],
+            [copy, *row.word_list()],
             cwd=folder,
             stdin=subprocess.DEVNULL,
             capture_output=True,

@@ -57,8 +57,8 @@ class Image:
         """The 512 bytes of a sector."""
         fates = {part.name: fate for part, fate in self.departures}
         found = self.run.initial_sector(number)
-        for part in self.run.parts:
-            if part.entry < self.cut and part.covers(number):
+        for part in self.run.parts_over(number):
+            if part.entry < self.cut:
                 found = written(part, number, found, fates.get(part.name, "whole"))
         return found
 
@@ -85,11 +85,12 @@ def written(part, number, old, fate):
 
 def parts_of(number, entry, by):
     """The parts of an entry: its sectors, or all of it where it has some."""
-    content = bytes(SECTOR * entry.count) if entry.flags & DISCARD else entry.data
+    discards = entry.flags & DISCARD
     if by == "write":
+        content = bytes(SECTOR * entry.count) if discards else entry.data
         return [Part(f"{number}", number, entry.sector, content)] if entry.count else []
     return [
-        Part(f"{number}.{place}", number, entry.sector + place, content[SECTOR * place : SECTOR * (place + 1)])
+        Part(f"{number}.{place}", number, entry.sector + place, ZEROS if discards else entry.data[SECTOR * place : SECTOR * (place + 1)])
         for place in range(entry.count)
     ]
 
@@ -124,6 +125,10 @@ class Run:
         words += f" --from {self.first}" if self.first is not None else ""
         words += f" --to {self.last}" if self.last is not None else ""
         return words + (" --base base" if self.base else "")
+
+    def parts_over(self, number):
+        """The parts that cover a sector, in order."""
+        return [part for part in self.parts if part.covers(number)]
 
     def initial_sector(self, number):
         """What a sector held before entry 0."""

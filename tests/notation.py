@@ -147,7 +147,7 @@ class Row:
     """One run of the program.
 
     name    what the row is about; no two rows have the same
-    words   the words behind the program's name, separated by spaces
+    words   the words behind the program's name, separated by spaces; `␣` stands for a space within a word
     files   the files that lie in the folder of the run, by name: bytes, a text, an Assembly, a Folder, a Hole, a Long
     out     standard output, as bytes, text or Long, or Something
     status  the status
@@ -174,6 +174,9 @@ class Row:
     seconds: int = SECONDS
     notes: object = None
     images: object = None
+
+    def word_list(self):
+        return [it.replace("␣", " ") for it in self.words.split()]
 
 
 def files(entries, *programs):

@@ -50,6 +50,7 @@ Where the rows stand
     rows/ranges.py      flushes that are added and ranges of cuts, in `log`, in `page`, and of the designs, against the model
     rows/flushes.py     where flushes are missing: the designs, marks, forced writes, discards, refusals, against cure_model.py
     rows/workers.py     runs by many workers, with and without a cache
+    rows/joining.py     runs in parts, how they are laid out and joined, runs of any number of images, against parts_model.py
     rows/footprints.py  checkers that read a few sectors of those that a cut may lose, against the model
     rows/recording.py   logs that were made of traces, and an ext4 that was recorded
     rows/limits.py      sizes near each limit
@@ -62,6 +63,7 @@ Where the rows stand
     page_model.py       the page, written from docs/REPORT.md alone but for its style and script
     contrast.py         the contrast of the text on a page, by the colours of its style
     model.py            the crash model and the report, written from docs/CRASH-MODEL.md and docs/REPORT.md alone
+    parts_model.py      runs in parts and their join, and runs of any number of images, written from the same documents
     programs/           programs as assembly texts
 
 Where expected values come from: the documents in docs/ and examples/, public standards, and the model. Never from what
@@ -97,6 +99,7 @@ from rows import (
     examples,
     flushes,
     footprints,
+    joining,
     large,
     limits,
     logs,
@@ -148,6 +151,7 @@ TABLES = [
     flushes,
     workers,
     footprints,
+    joining,
     recording,
     limits,
     large,
@@ -210,7 +214,7 @@ def put(folder, name, content, assembler):
 
 def run_command(program, row, folder):
     """Runs the program as a row says. Signals are as a shell has them, but that a limited file sends none."""
-    command = [program, *row.words.split()]
+    command = [program, *row.word_list()]
     if row.to != "pipe":
         command = ["sh", "-c", SHELL[row.to], *command]
     return subprocess.run(

@@ -25,12 +25,20 @@ CAUSES = TOP / "crates/base/src/causes.rt"
 PLACES = TOP / "crates/request/src/settings.rt"
 RULES = TOP / "crates/command_notes/src/behind.rt"
 # The types of causes, with what each refuses, in the order of their numbers.
-KINDS = {"Log": "log", "Request": "request", "Code": "program", "Asm": "text", "Verifier": "verifier", "Work": "work"}
+KINDS = {"Log": "log", "Request": "request", "Code": "program", "Asm": "text", "Verifier": "verifier", "Join": "join", "Work": "work"}
+# What goes without an option, where that isn't `none` and the help names no default.
+ABSENT = {"--images": "all images"}
+
+
+def with_options_marked(text):
+    """Returns a text with options in backticks, but for those of a command between quotes."""
+    parts = re.split(r"((?<!\w)'[^']*')", text)
+    return "".join(it if it.startswith("'") else re.sub(r"(?<!\S)(--[a-z]+)", r"`\1`", it) for it in parts)
 
 
 def table(head, rows):
     """Returns a table, with options in backticks."""
-    shown = [[re.sub(r"(?<!\S)(--[a-z]+)", r"`\1`", cell) for cell in row] for row in rows]
+    shown = [[with_options_marked(cell) for cell in row] for row in rows]
     lines = [f"| {' | '.join(row)} |\n".replace("|  |", "| |") for row in [head, *shown]]
     return "".join([lines[0], "|---" * len(head) + "|\n", *lines[1:]])
 
@@ -47,7 +55,7 @@ def uses_of_options(helps):
         for option in command.options:
             name = option.names[-1]
             says, default = re.fullmatch(r"(.*?)(?: \[default: (.*)\])?", option.says).groups()
-            absent = "required" if f"{name} <" in usage[0] else default or ("none" if option.value else "off")
+            absent = "required" if f"{name} <" in usage[0] else default or (ABSENT.get(name, "none") if option.value else "off")
             shown = f"{', '.join(option.names)} {option.value or ''}".strip()
             if name != "--help":
                 uses.setdefault((shown, says), []).append((command.name, absent))
@@ -112,7 +120,7 @@ def places_table():
     body = re.search(r"pub enum OptionPlace \{\n(.*?)\n\}", source, re.S)[1]
     numbers = [int(it) for it in re.findall(r"(?m)^\s*\w+ = (\d+),", body)]
     rule = re.search(r"fn option_rule\(.*?\n\}", RULES.read_text(), re.S)[0]
-    says = dict(re.findall(r'(?m)^\s*(\d+|_) => (?:\{\s*)?"([^"]*)"', rule))
+    says = dict(re.findall(r'(?m)^\s*(\d+|_) =>\s*(?:\{\s*)?"([^"]*)"', rule))
     return table(["Place", "Says"], [[str(number), lowered(says.get(str(number), says["_"]))] for number in sorted(numbers)])
 
 

@@ -5,13 +5,13 @@ _crashbpf() {
     [ "$word" != = ] || word=
     [ "$before" != = ] || before=${COMP_WORDS[COMP_CWORD - 2]}
     case "$COMP_CWORD ${COMP_WORDS[1]} $before" in
-    1\ *) words='explore why cure page images image show log import verify check asm list help -h --help -V --version' ;;
-    *\ help\ *) words='explore why cure page images image show log import verify check asm list help' ;;
+    1\ *) words='explore why cure page images image show log import verify check asm list join help -h --help -V --version' ;;
+    *\ help\ *) words='explore why cure page images image show log import verify check asm list join help' ;;
     *\ explore\ --cuts) words='all flush mark' ;;
     *\ explore\ --by) words='sector write' ;;
     *\ explore\ --base) : ;;
-    *\ explore\ --sectors|*\ explore\ --flush|*\ explore\ --from|*\ explore\ --to|*\ explore\ --bound|*\ explore\ --workers|*\ explore\ --cache|*\ explore\ --checked) return ;;
-    *\ explore\ *) [[ $word != -* ]] || words='--sectors --large --flush --base --cuts --from --to --bound --tears --by --workers --cache --checked --progress --first -h --help' ;;
+    *\ explore\ --sectors|*\ explore\ --flush|*\ explore\ --from|*\ explore\ --to|*\ explore\ --bound|*\ explore\ --workers|*\ explore\ --cache|*\ explore\ --checked|*\ explore\ --images) return ;;
+    *\ explore\ *) [[ $word != -* ]] || words='--sectors --large --flush --base --cuts --from --to --bound --tears --by --workers --cache --checked --progress --first --images -h --help' ;;
     *\ why\ --cuts) words='all flush mark' ;;
     *\ why\ --by) words='sector write' ;;
     *\ why\ --base) : ;;
@@ -30,18 +30,18 @@ _crashbpf() {
     *\ images\ --cuts) words='all flush mark' ;;
     *\ images\ --by) words='sector write' ;;
     *\ images\ --base) : ;;
-    *\ images\ --sectors|*\ images\ --flush|*\ images\ --from|*\ images\ --to|*\ images\ --bound) return ;;
-    *\ images\ *) [[ $word != -* ]] || words='--sectors --large --flush --base --cuts --from --to --bound --tears --by -h --help' ;;
+    *\ images\ --sectors|*\ images\ --flush|*\ images\ --from|*\ images\ --to|*\ images\ --bound|*\ images\ --parts) return ;;
+    *\ images\ *) [[ $word != -* ]] || words='--sectors --large --flush --base --cuts --from --to --bound --tears --by --images --parts -h --help' ;;
     *\ image\ --cuts) words='all flush mark' ;;
     *\ image\ --by) words='sector write' ;;
     *\ image\ --base) : ;;
     *\ image\ --sectors|*\ image\ --flush|*\ image\ --from|*\ image\ --to|*\ image\ --bound|*\ image\ --cut|*\ image\ --choice) return ;;
-    *\ image\ *) [[ $word != -* ]] || words='--sectors --large --flush --base --cuts --from --to --bound --tears --by --cut --choice -h --help' ;;
+    *\ image\ *) [[ $word != -* ]] || words='--sectors --large --flush --base --cuts --from --to --bound --tears --by --cut --choice --images -h --help' ;;
     *\ show\ --cuts) words='all flush mark' ;;
     *\ show\ --by) words='sector write' ;;
     *\ show\ --base) : ;;
     *\ show\ --sectors|*\ show\ --flush|*\ show\ --from|*\ show\ --to|*\ show\ --bound|*\ show\ --cut|*\ show\ --choice) return ;;
-    *\ show\ *) [[ $word != -* ]] || words='--sectors --large --flush --base --cuts --from --to --bound --tears --by --cut --choice -h --help' ;;
+    *\ show\ *) [[ $word != -* ]] || words='--sectors --large --flush --base --cuts --from --to --bound --tears --by --cut --choice --images -h --help' ;;
     *\ log\ --base) : ;;
     *\ log\ --sectors|*\ log\ --flush) return ;;
     *\ log\ *) [[ $word != -* ]] || words='--sectors --large --flush --base -h --help' ;;
@@ -52,6 +52,7 @@ _crashbpf() {
     *\ check\ *) [[ $word != -* ]] || words='--large --epoch --marks --checked --trace -h --help' ;;
     *\ asm\ *) [[ $word != -* ]] || words='-h --help' ;;
     *\ list\ *) [[ $word != -* ]] || words='--slots -h --help' ;;
+    *\ join\ *) [[ $word != -* ]] || words='-h --help' ;;
     esac
     if [ -n "$words" ]; then
         mapfile -t COMPREPLY < <(compgen -W "$words" -- "$word")

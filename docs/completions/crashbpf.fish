@@ -13,10 +13,11 @@ complete -c crashbpf -n __fish_use_subcommand -a verify -d 'Says with which budg
 complete -c crashbpf -n __fish_use_subcommand -a check -d 'Runs a program on one image, and says what it answers and in how many steps'
 complete -c crashbpf -n __fish_use_subcommand -a asm -d 'Writes the program that an assembly text says'
 complete -c crashbpf -n __fish_use_subcommand -a list -d 'Prints the listing of a program, which assembles to it again'
+complete -c crashbpf -n __fish_use_subcommand -a join -d 'Joins what \'explore --images\' printed of parts of a run to the report of the run'
 complete -c crashbpf -n __fish_use_subcommand -a help -d 'Print this message or the help of the given subcommand(s)'
 complete -c crashbpf -n '__fish_use_subcommand' -s h -l help -d 'Print help'
 complete -c crashbpf -n '__fish_use_subcommand' -s V -l version -d 'Print version'
-complete -c crashbpf -n '__fish_seen_subcommand_from help' -a 'explore why cure page images image show log import verify check asm list help'
+complete -c crashbpf -n '__fish_seen_subcommand_from help' -a 'explore why cure page images image show log import verify check asm list join help'
 complete -c crashbpf -n '__fish_seen_subcommand_from explore' -l sectors -x -d 'Sectors of the device, 1 to 16384, with --large to 1048576'
 complete -c crashbpf -n '__fish_seen_subcommand_from explore' -l large -d 'Allow a device of 1048576 sectors, 512 MiB, and a log of 192 MiB'
 complete -c crashbpf -n '__fish_seen_subcommand_from explore' -l flush -x -d 'Go as if a flush stood right before each of these entries, up to 64'
@@ -32,6 +33,7 @@ complete -c crashbpf -n '__fish_seen_subcommand_from explore' -l cache -x -d 'Ve
 complete -c crashbpf -n '__fish_seen_subcommand_from explore' -l checked -x -d 'Ask no verifier, and run each program for at most N steps, 0 to 1000000000'
 complete -c crashbpf -n '__fish_seen_subcommand_from explore' -l progress -d 'Say on standard error how many images are judged'
 complete -c crashbpf -n '__fish_seen_subcommand_from explore' -l first -d 'Report the first failing image alone'
+complete -c crashbpf -n '__fish_seen_subcommand_from explore' -l images -x -d 'Judge the images from A to below B alone, and print the text of a part, for \'join\''
 complete -c crashbpf -n '__fish_seen_subcommand_from explore' -s h -l help -d 'Print help'
 complete -c crashbpf -n '__fish_seen_subcommand_from explore' -F
 complete -c crashbpf -n '__fish_seen_subcommand_from why' -l sectors -x -d 'Sectors of the device, 1 to 16384, with --large to 1048576'
@@ -92,6 +94,8 @@ complete -c crashbpf -n '__fish_seen_subcommand_from images' -l to -x -d 'The la
 complete -c crashbpf -n '__fish_seen_subcommand_from images' -l bound -x -d 'How many sectors, or by write how many writes, may be lost or torn, 0 to 3 [default: 1]'
 complete -c crashbpf -n '__fish_seen_subcommand_from images' -l tears -d 'Sectors may also be torn: of the new content only the first or last eighths arrive'
 complete -c crashbpf -n '__fish_seen_subcommand_from images' -l by -x -a 'sector write' -d 'What is lost or torn as one: sector; write, all sectors of a write or discard [default: sector]'
+complete -c crashbpf -n '__fish_seen_subcommand_from images' -l images -d 'Allow fewer than 2^63 images, as a run has that is laid out in parts'
+complete -c crashbpf -n '__fish_seen_subcommand_from images' -l parts -x -d 'Print also how the run is laid out in N parts, for \'explore --images\''
 complete -c crashbpf -n '__fish_seen_subcommand_from images' -s h -l help -d 'Print help'
 complete -c crashbpf -n '__fish_seen_subcommand_from images' -F
 complete -c crashbpf -n '__fish_seen_subcommand_from image' -l sectors -x -d 'Sectors of the device, 1 to 16384, with --large to 1048576'
@@ -106,6 +110,7 @@ complete -c crashbpf -n '__fish_seen_subcommand_from image' -l tears -d 'Sectors
 complete -c crashbpf -n '__fish_seen_subcommand_from image' -l by -x -a 'sector write' -d 'What is lost or torn as one: sector; write, all sectors of a write or discard [default: sector]'
 complete -c crashbpf -n '__fish_seen_subcommand_from image' -l cut -x -d 'The cut of the image, in place of its number'
 complete -c crashbpf -n '__fish_seen_subcommand_from image' -l choice -x -d 'What was lost or torn, as a line of the report says it: 17.0:drop,18.1:head3, or -'
+complete -c crashbpf -n '__fish_seen_subcommand_from image' -l images -d 'Allow fewer than 2^63 images, as a run has that is laid out in parts'
 complete -c crashbpf -n '__fish_seen_subcommand_from image' -s h -l help -d 'Print help'
 complete -c crashbpf -n '__fish_seen_subcommand_from image' -F
 complete -c crashbpf -n '__fish_seen_subcommand_from show' -l sectors -x -d 'Sectors of the device, 1 to 16384, with --large to 1048576'
@@ -120,6 +125,7 @@ complete -c crashbpf -n '__fish_seen_subcommand_from show' -l tears -d 'Sectors 
 complete -c crashbpf -n '__fish_seen_subcommand_from show' -l by -x -a 'sector write' -d 'What is lost or torn as one: sector; write, all sectors of a write or discard [default: sector]'
 complete -c crashbpf -n '__fish_seen_subcommand_from show' -l cut -x -d 'The cut of the image, in place of its number'
 complete -c crashbpf -n '__fish_seen_subcommand_from show' -l choice -x -d 'What was lost or torn, as a line of the report says it: 17.0:drop,18.1:head3, or -'
+complete -c crashbpf -n '__fish_seen_subcommand_from show' -l images -d 'Allow fewer than 2^63 images, as a run has that is laid out in parts'
 complete -c crashbpf -n '__fish_seen_subcommand_from show' -s h -l help -d 'Print help'
 complete -c crashbpf -n '__fish_seen_subcommand_from show' -F
 complete -c crashbpf -n '__fish_seen_subcommand_from log' -l sectors -x -d 'Sectors of the device, 1 to 16384, with --large to 1048576 [default: the most]'
@@ -147,3 +153,4 @@ complete -c crashbpf -n '__fish_seen_subcommand_from asm' -F
 complete -c crashbpf -n '__fish_seen_subcommand_from list' -l slots -d 'Begin each line with the slot of its instruction'
 complete -c crashbpf -n '__fish_seen_subcommand_from list' -s h -l help -d 'Print help'
 complete -c crashbpf -n '__fish_seen_subcommand_from list' -F
+complete -c crashbpf -n '__fish_seen_subcommand_from join' -s h -l help -d 'Print help'

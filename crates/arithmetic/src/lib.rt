@@ -10,7 +10,7 @@
 //! | `arithmetic(width, operator, first, second)` | the value of an operator for two words, in a width | 4.1 |
 //! | `arithmetic_64(operator, first, second)` | the same in 64 bits | 4.1 |
 //! | `arithmetic_32(operator, first, second)` | the same in 32 bits, of two numbers of 32 bits | 4.1 |
-//! | `extended(extension, word)` | the low 8, 16 or 32 bits as a signed number, in 64 or 32 bits | 4.1, MOVSX |
+//! | `sign_extend(extension, word)` | the low 8, 16 or 32 bits as a signed number, in 64 or 32 bits | 4.1, MOVSX |
 //! | `in_order(order, size, word)` | the low 2, 4 or 8 bytes in an order; the machine is little-endian | 4.2 |
 //! | `byte_count(size)`, `plain_size(size)`, `extension_of(size)` | how many bytes a load or a store moves; of a load that extends the sign, its size and how it extends | 5 |
 //!
@@ -38,11 +38,14 @@
 //!
 //! # Example
 //!
-//! ```text
-//! arithmetic(Width::W32, Operator::Sub, 0, 1)         // 0xffff_ffff
-//! arithmetic(Width::W64, Operator::Mod, 7, 0)         // 7: nothing is divided by 0
-//! extended(SignExtension::From8To64, 0x80)            // 0xffff_ffff_ffff_ff80
-//! in_order(Order::Big, OrderSize::Bits16, 0x1234)     // 0x3412
+//! ```
+//! use arithmetic::{arithmetic, in_order, sign_extend};
+//! use bpf_isa::instr::{Operator, Order, OrderSize, SignExtension, Width};
+//!
+//! let less = arithmetic(Width::W32, Operator::Sub, 0, 1);            // 0xffff_ffff
+//! let rest = arithmetic(Width::W64, Operator::Mod, 7, 0);            // 7: nothing is divided by 0
+//! let word = sign_extend(SignExtension::From8To64, 0x80);            // 0xffff_ffff_ffff_ff80
+//! let swapped = in_order(Order::Big, OrderSize::Bits16, 0x1234);     // 0x3412
 //! ```
 #![tactic(auto)]
 
@@ -52,4 +55,4 @@ mod words;
 
 pub use halves::arithmetic_32;
 pub use sizes::{byte_count, extension_of, plain_size};
-pub use words::{arithmetic, arithmetic_64, extended, in_order};
+pub use words::{arithmetic, arithmetic_64, in_order, sign_extend};

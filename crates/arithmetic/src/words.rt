@@ -95,7 +95,7 @@ fn signed_shift_64(first: u64, second: u64) -> u64
 /// The low bits of a word as a signed number (RFC 9669, section 4.1, MOVSX).
 #[tactic(auto, unfolding(machine::specs::Arithmetic::sign_extension))]
 #[inline]
-pub fn extended(extension: SignExtension, word: u64) -> u64
+pub fn sign_extend(extension: SignExtension, word: u64) -> u64
     ensures { result ≡ sign_extension extension word }
 {
     match extension {

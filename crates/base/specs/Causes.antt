@@ -10,6 +10,8 @@ use Rattle.base.specs.declared.causes.AsmCause.{AsmCause}
 use Rattle.base.specs.declared.causes.AsmCause.TheVariants as asm
 use Rattle.base.specs.declared.causes.VerifierCause.{VerifierCause}
 use Rattle.base.specs.declared.causes.VerifierCause.TheVariants as verifier
+use Rattle.base.specs.declared.causes.JoinCause.{JoinCause}
+use Rattle.base.specs.declared.causes.JoinCause.TheVariants as joining
 use Rattle.base.specs.declared.causes.WorkCause.{WorkCause}
 use Rattle.base.specs.declared.causes.WorkCause.TheVariants as work
 use Rattle.base.specs.declared.causes.MachineFault.{MachineFault}
@@ -69,6 +71,14 @@ verifier_number verifier.FramePointer = 57
 verifier_number verifier.UnknownHelper = 58
 verifier_number verifier.Unsettled = 59
 verifier_number verifier.Memory = 60
+
+abbrev pub join_number : JoinCause → ℕ
+join_number joining.NotPart = 61
+join_number joining.OtherRun = 62
+join_number joining.Gap = 63
+join_number joining.Overlap = 64
+join_number joining.TooLong = 65
+join_number joining.Memory = 66
 
 abbrev pub work_number : WorkCause → ℕ
 work_number work.PieceTwice = 70

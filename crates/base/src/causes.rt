@@ -3,7 +3,7 @@
 //! docs/REPORT.md has one table of all of them.
 
 ghost use Rattle.std.specs.Prelude.{◌≡◌};
-ghost use Rattle.base.specs.Causes.{log_number, request_number, code_number, asm_number, verifier_number, work_number, fault_number};
+ghost use Rattle.base.specs.Causes.{log_number, request_number, code_number, asm_number, verifier_number, join_number, work_number, fault_number};
 
 use thiserror::Error;
 
@@ -166,6 +166,32 @@ impl VerifierCause {
     /// The number under which a refusal prints this cause.
     pub fn number(self) -> u8
         ensures { result ≡ verifier_number self }
+    {
+        self as u8
+    }
+}
+
+/// Why texts are no parts of one run in a row (docs/REPORT.md, Joining parts).
+#[derive(Clone, Copy, Debug, PartialEq, Eq, Error)]
+pub enum JoinCause {
+    #[error("the file isn't the text of a part, as 'explore --images' and 'join' print it (docs/REPORT.md, The text of a part)")]
+    NotPart = 61,
+    #[error("the file is a part of another run than the first one: of other options, or of another log or other programs (docs/REPORT.md, Joining parts)")]
+    OtherRun = 62,
+    #[error("images are missing between the file and the part before it (docs/REPORT.md, Joining parts)")]
+    Gap = 63,
+    #[error("the file has images that are in the part before it too (docs/REPORT.md, Joining parts)")]
+    Overlap = 64,
+    #[error("with this file the parts have more than 1073741824 bytes (docs/REPORT.md, Joining parts)")]
+    TooLong = 65,
+    #[error("there is no memory for the join")]
+    Memory = 66,
+}
+
+impl JoinCause {
+    /// The number under which a refusal prints this cause.
+    pub fn number(self) -> u8
+        ensures { result ≡ join_number self }
     {
         self as u8
     }

@@ -26,6 +26,18 @@
 //! put_u64(&mut out, version)?;             // appends its eight bytes
 //! LogCause::Version.number()               // 3
 //! ```
+//!
+//! # Example
+//!
+//! ```
+//! use base::causes::LogCause;
+//! use base::numbers::{put_u64, u64_at};
+//!
+//! let version = u64_at(bytes, 8);             // the number in bytes 8 to 15
+//! let mut out = Vec::new(alloc);
+//! put_u64(&mut out, version)?;                // appends its eight bytes
+//! let number = LogCause::Version.number();    // 3
+//! ```
 #![tactic(auto)]
 
 pub mod bytes;

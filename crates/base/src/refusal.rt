@@ -3,7 +3,9 @@
 ghost use Rattle.std.specs.Prelude.{◌≡◌};
 ghost use Rattle.base.specs.Refusals.{cause_number, work_refusal, memory_refusal};
 
-use crate::causes::{AsmCause, CodeCause, LogCause, RequestCause, VerifierCause, WorkCause};
+use crate::causes::{
+    AsmCause, CodeCause, JoinCause, LogCause, RequestCause, VerifierCause, WorkCause,
+};
 
 /// The cause of a refusal, by what was refused.
 #[derive(Clone, Copy, Debug, PartialEq, Eq)]
@@ -13,6 +15,7 @@ pub enum Cause {
     Code(CodeCause),
     Asm(AsmCause),
     Verifier(VerifierCause),
+    Join(JoinCause),
     Work(WorkCause),
 }
 
@@ -27,12 +30,13 @@ impl Cause {
             Cause::Code(cause) => cause.number(),
             Cause::Asm(cause) => cause.number(),
             Cause::Verifier(cause) => cause.number(),
+            Cause::Join(cause) => cause.number(),
             Cause::Work(cause) => cause.number(),
         }
     }
 }
 
-/// A refusal: its cause, the place that the cause names (an entry, an option, a slot, a block), and
+/// A refusal: its cause, the place that the cause names (an entry, an option, a slot, a file, a block), and
 /// the program that is at fault, where one is (docs/REPORT.md, All refusals).
 #[derive(Clone, Copy, Debug, PartialEq, Eq)]
 pub struct Refusal {

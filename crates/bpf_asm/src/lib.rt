@@ -41,6 +41,17 @@
 //! list(alloc, &program)?               // "mov64 r0, 7\nja -2\n"
 //! assemble(alloc, "exit\nja x\n")      // refused: unknown label, line 2
 //! ```
+//!
+//! # Example
+//!
+//! ```
+//! use bpf_asm::{assemble, list};
+//!
+//! let program = assemble(alloc, "again:\n    mov64 r0, 7 ; comment\n    ja again\n")?;
+//! // two slots
+//! let text = list(alloc, &program)?;                      // "mov64 r0, 7\nja -2\n"
+//! let fault = assemble(alloc, "exit\nja x\n").err();      // unknown label, line 2
+//! ```
 #![tactic(auto)]
 
 mod assembler;

@@ -336,7 +336,7 @@ fn first_named(word: &[u8], table: &[Mnemonic]) -> Option<Mnemonic>
 
 /// The instruction that a word names.
 #[tactic(auto, unfolding(crate::specs::Mnemonics::mnemonics, crate::specs::Mnemonics::mnemonic_of))]
-pub(crate) fn named(word: &[u8]) -> Option<Mnemonic>
+pub(crate) fn mnemonic_of(word: &[u8]) -> Option<Mnemonic>
     ensures { result ≡ mnemonic_of word.now }
 {
     first_named(word, &MNEMONICS)

@@ -99,7 +99,7 @@ fn register(line: &[u8]) -> Option<(Register, &[u8])>
 }
 
 /// A number without a sign, as the magnitude of one with this sign.
-fn unsigned(line: &[u8], negative: bool) -> Option<(Number, &[u8])>
+fn magnitude_of(line: &[u8], negative: bool) -> Option<(Number, &[u8])>
     ensures { Reads (λ x. x) result (magnitude_of negative (parts line.now)) }
 {
     let (word, rest) = part::word(line)?;
@@ -118,9 +118,9 @@ fn number(line: &[u8]) -> Option<(Number, &[u8])>
     ensures { Reads (λ x. x) result (number (parts line.now)) }
 {
     match part::mark(line) {
-        Some((b'-', rest)) => unsigned(rest, true),
+        Some((b'-', rest)) => magnitude_of(rest, true),
         Some(_) => None,
-        None => unsigned(line, false),
+        None => magnitude_of(line, false),
     }
 }
 
@@ -140,7 +140,7 @@ fn distance(line: &[u8]) -> Option<(Number, &[u8])>
     ensures { Reads (λ x. x) result (distance (parts line.now)) }
 {
     let (negative, rest) = sign(line)?;
-    unsigned(rest, negative)
+    magnitude_of(rest, negative)
 }
 
 /// A register, or else a number.

@@ -8,7 +8,7 @@ ghost use Rattle.bpf_asm.specs.Statements.{statement_of, label_line, instruction
 
 use crate::fault::LineCause;
 use crate::instruction::{Draft, read_instruction};
-use crate::mnemonic::named;
+use crate::mnemonic::mnemonic_of;
 use crate::operand::{is_name, mark};
 use crate::part::{is_end, word};
 
@@ -37,7 +37,7 @@ fn read_label<'t>(name: &'t [u8], line: &[u8]) -> Result<Statement<'t>, LineCaus
 fn read_named<'t>(name: &[u8], line: &'t [u8]) -> Result<Statement<'t>, LineCause>
     ensures { Gives statement_value result (instruction_line name.now (parts line.now)) }
 {
-    let Some(mnemonic) = named(name) else {
+    let Some(mnemonic) = mnemonic_of(name) else {
         return Err(LineCause::Word);
     };
     match read_instruction(mnemonic, line) {

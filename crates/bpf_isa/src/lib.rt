@@ -39,6 +39,20 @@
 //! encode(alloc, &program)?             // the same sixteen bytes
 //! decode(alloc, &[0xb7, 11, 0, 0, 0, 0, 0, 0])     // refused: register, slot 0
 //! ```
+//!
+//! # Example
+//!
+//! ```
+//! use bpf_isa::codec::{decode, encode};
+//!
+//! let program = decode(alloc, &[0xb7, 0, 0, 0, 7, 0, 0, 0, 0x95, 0, 0, 0, 0, 0, 0, 0])?;
+//! // mov64 r0, 7; exit
+//! let slots = program.slots();            // 2
+//! let instr = program.at(1);              // Some(Instr::Exit)
+//! let bytes = encode(alloc, &program)?;   // the same sixteen bytes
+//! let fault = decode(alloc, &[0xb7, 11, 0, 0, 0, 0, 0, 0]).err();
+//! // there is no register 11: CodeCause::Register, slot 0
+//! ```
 #![tactic(auto)]
 
 pub mod codec;

@@ -12,7 +12,7 @@ ghost use Rattle.base.specs.declared.causes.VerifierCause.TheVariants as cause;
 
 use crate::calls::callee;
 use crate::fault::Fault;
-use crate::search::{Kind, entered, reached_from};
+use crate::search::{Kind, reach_of_entries, reached_from};
 use base::causes::VerifierCause;
 use bpf_isa::program::Program;
 use std::alloc::{AllocError, Global};
@@ -26,9 +26,9 @@ fn deep_slots(alloc: Global, program: &Program) -> Result<Vec<bool>, AllocError>
     ensures { IfOk result (λ deep. AreDeep program.now deep.items) }
 {
     let outer = reached_from(alloc, program, Kind::All, 0)?;
-    let first = entered(alloc, program, &outer)?;
-    let second = entered(alloc, program, &first)?;
-    let deep = entered(alloc, program, &second)?;
+    let first = reach_of_entries(alloc, program, &outer)?;
+    let second = reach_of_entries(alloc, program, &first)?;
+    let deep = reach_of_entries(alloc, program, &second)?;
     Ok(deep)
 }
 

@@ -61,14 +61,16 @@
 //!
 //! # Example
 //!
-//! ```text
-//! // mov64 r1, 2; call 3; jeq r0, 0, +1; ja -4; exit
-//! let shape = shape(alloc, &program)?;
-//! shape.budget()          // 15: one more than K = 2, times the 5 slots of the path 3, 0, 1, 2, 4
-//! shape.is_head(3)        // true: the again edge leads from slot 2 to slot 3
-//! control(&program, 2)    // Edges { next: Some(3), target: Some(4) }
-//! // mov64 r0, 0; ja -2
-//! shape(alloc, &other)    // refused: a loop without again, slot 0
+//! ```
+//! use bpf_shape::{control, shape};
+//!
+//! // `program` is mov64 r1, 2; call 3; jeq r0, 0, +1; ja -4; exit
+//! let found = shape(alloc, &program)?;
+//! let budget = found.budget();        // 15: one more than K = 2, times the 5 slots of the path 3, 0, 1, 2, 4
+//! let head = found.is_head(3);        // true: the again edge leads from slot 2 to slot 3
+//! let edges = control(&program, 2);   // Edges { next: Some(3), target: Some(4) }
+//! // `other` is mov64 r0, 0; ja -2
+//! let fault = shape(alloc, &other).err();     // a loop without again, slot 0
 //! ```
 #![tactic(auto)]
 

@@ -19,7 +19,7 @@ use bpf_isa::program::Program;
 use bpf_isa::register::Register;
 
 /// The register that arithmetic, a load or a 64-bit immediate writes.
-fn written(instr: &Instr) -> Option<Register>
+fn written_register(instr: &Instr) -> Option<Register>
     ensures { result ≡ written_register instr.now }
 {
     match instr {
@@ -56,7 +56,7 @@ fn keeps_frame_pointer(program: &Program, slot: usize) -> bool
     ensures { result ≡ option_map_or (λ r. not (r == 10)) (option_and_then written_register (at program.now slot)) true }
 {
     match program.at(slot) {
-        Some(instr) => match written(&instr) {
+        Some(instr) => match written_register(&instr) {
             Some(register) => register.number() != 10,
             None => true,
         },

@@ -97,7 +97,7 @@ fn spread(
 }
 
 /// For each slot, whether one of these edges begins a walk to it along edges of that kind.
-pub(crate) fn reached(
+pub(crate) fn reach_of_edges(
     alloc: Global,
     program: &Program,
     kind: Kind,
@@ -130,7 +130,7 @@ pub(crate) fn reached_from(
         next: Some(slot),
         target: None,
     };
-    reached(alloc, program, kind, start)
+    reach_of_edges(alloc, program, kind, start)
 }
 
 /// Marks the entry of a local call, if the call is marked; it waits, if it wasn't marked.
@@ -151,7 +151,7 @@ fn enter(
 }
 
 /// For each slot, whether it is reached from the entry of a marked local call.
-pub(crate) fn entered(
+pub(crate) fn reach_of_entries(
     alloc: Global,
     program: &Program,
     outer: &Vec<bool>,

@@ -6,13 +6,13 @@ use Rattle.std.specs.List.{AllByRecursion, IsDistinct}
 use Rattle.std.proofs.lemmas.Bool.Decides.{nat_tests}
 use Rattle.std.proofs.lemmas.List.{length-append}
 use Rattle.std.proofs.lemmas.List.Elements.{All-from_recursion, recursion_from_All, All-contains_itself}
-use Rattle.helpers.specs.Footprint.{FootprintValue, unread, lists, listed, noted, noted_all}
+use Rattle.helpers.specs.Footprint.{FootprintValue, unread, lists, sectors_with, footprint_with, footprint_after}
 use Rattle.helpers.proofs.KeptSectors.{kept_covers}
 use Rattle.machine.specs.Footprint.{footprint}
-use Rattle.checker.specs.Footprints.{looked, KeptIsFootprint}
+use Rattle.checker.specs.Footprints.{footprint_of, KeptIsFootprint}
 
 -- one sector more is listed already, or there is room for it
-listed_is : (room : ℕ) (own : List ℕ) (x : ℕ) (more : List ℕ) → listed room own x ≡ Some more
+listed_is : (room : ℕ) (own : List ℕ) (x : ℕ) (more : List ℕ) → sectors_with room own x ≡ Some more
     → (more ≡ own) ⊎ ((lists own x ≡ false) × (length own < room) × (more ≡ own ++ x ∷ []))
 listed_is room own x more is = by (lists own x) (nat_lt (length own) room) refl refl is
   where
@@ -29,13 +29,13 @@ listed_is room own x more is = by (lists own x) (nat_lt (length own) room) refl 
 kept_keeps : (P : List ℕ → Type 0) (Q : ℕ → Type 0) (room : ℕ)
     → ((own : List ℕ) (x : ℕ) → Q x → P own → lists own x ≡ false → length own < room → P (own ++ x ∷ []))
     → (xs : List ℕ) (f : FootprintValue) (sectors : List ℕ) → f.room ≡ room → AllByRecursion Q xs
-    → ((own : List ℕ) → f.sectors ≡ Some own → P own) → (noted_all f xs).sectors ≡ Some sectors → P sectors
-unfolding noted
+    → ((own : List ℕ) → f.sectors ≡ Some own → P own) → (footprint_after f xs).sectors ≡ Some sectors → P sectors
+unfolding footprint_with
 kept_keeps P Q room step [] f sectors e each first is = first sectors is
 kept_keeps P Q room step (x ∷ xs) f sectors e each first is =
-    kept_keeps P Q room step xs (noted f x) sectors e each.1 (λ more got. next f.sectors refl more got) is
+    kept_keeps P Q room step xs (footprint_with f x) sectors e each.1 (λ more got. next f.sectors refl more got) is
   where
-    next : (kept : Option (List ℕ)) → f.sectors ≡ kept → (more : List ℕ) → option_and_then (λ (own : List ℕ). listed f.room own x) kept ≡ Some more → P more
+    next : (kept : Option (List ℕ)) → f.sectors ≡ kept → (more : List ℕ) → option_and_then (λ (own : List ℕ). sectors_with f.room own x) kept ≡ Some more → P more
     next None none more got = absurd (let bad : None ≡ Some more = got in cc)
     next (Some own) was more got =
         elim (listed_is f.room own x more got) [
@@ -81,7 +81,7 @@ few_push : (room : ℕ) (own : List ℕ) (x : ℕ) → length own < room → len
 few_push room own x less = omega (arith, length-append own (x ∷ []), less)
 
 pub kept_is_footprint : KeptIsFootprint
-unfolding looked
+unfolding footprint_of
 kept_is_footprint checker device context room sectors is =
     let run : List ℕ = footprint checker.program device context checker.limit in
     let Any : ℕ → Type 0 = λ x. Unit {0} in

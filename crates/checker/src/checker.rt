@@ -2,12 +2,12 @@
 
 ghost use Rattle.std.specs.Prelude.{◌≡◌, length, None, Some, is_some};
 ghost use Rattle.interp.specs.Ending.{ending_of};
-ghost use Rattle.helpers.specs.Footprint.{noted_all, unread};
+ghost use Rattle.helpers.specs.Footprint.{footprint_after, unread};
 ghost use Rattle.machine.specs.Footprint.{footprint};
 ghost use Rattle.machine.specs.Outcome.{outcome};
 ghost use Rattle.plain.specs.Runs.{IsVerdict};
 ghost use Rattle.checker.specs.Checker.{Suits, judgement};
-ghost use Rattle.checker.specs.Footprints.{kept};
+ghost use Rattle.checker.specs.Footprints.{kept_footprint};
 
 use bpf_isa::program::Program;
 use helpers::{Context, Device};
@@ -27,7 +27,7 @@ fn run_plain<D: Device, const ROOM: usize>(
 ) -> Noted<ROOM>
     requires ends { IsVerdict (outcome program.now (D.content device.now) context.now budget) }
     ensures ends { ending_of result.outcome ≡ outcome program.now (D.content device.now) context.now budget }
-    ensures reads { result.footprint ≡ noted_all (unread ROOM) (footprint program.now (D.content device.now) context.now budget) }
+    ensures reads { result.footprint ≡ footprint_after (unread ROOM) (footprint program.now (D.content device.now) context.now budget) }
 {
     let Ended {
         answer,
@@ -118,7 +118,7 @@ impl<'p> Checker<'p> {
 
     /// The same, with the footprint of the run (docs/MACHINE.md, Footprint) in so much room.
     #[inline(always)]
-    #[tactic(auto, unfolding(crate::specs::Checker::judgement, crate::specs::Footprints::looked))]
+    #[tactic(auto, unfolding(crate::specs::Checker::judgement, crate::specs::Footprints::footprint_of))]
     pub fn judge_noted<D: Device, const ROOM: usize>(
         &self,
         context: &Context,
@@ -126,7 +126,7 @@ impl<'p> Checker<'p> {
     ) -> Noted<ROOM>
         requires image { Suits self.now.verified (D.content device.now) context.now }
         ensures ends { ending_of result.outcome ≡ judgement self.now (D.content device.now) context.now }
-        ensures reads { result.footprint ≡ kept ROOM self.now (D.content device.now) context.now }
+        ensures reads { result.footprint ≡ kept_footprint ROOM self.now (D.content device.now) context.now }
     {
         match self.verified {
             Some(_sectors) => {

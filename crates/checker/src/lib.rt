@@ -34,7 +34,7 @@
 //! use helpers::{Context, Filled};
 //! use verifier::verify;
 //!
-//! let program = decode(alloc, &bytes)?;   // mov64 r0, 0; exit
+//! let program = decode(alloc, bytes)?;   // mov64 r0, 0; exit
 //! let verified = verify(alloc, &program, 4)?;
 //! let context = Context { sectors: 4, epoch: 0, marks: 0 };
 //! let outcome = Checker::verified(&verified).judge(&context, &Filled::new(4, 0));

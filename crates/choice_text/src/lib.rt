@@ -30,6 +30,17 @@
 //!
 //! # Example
 //!
+//! ```
+//! use choice_text::{put_departures, read_names};
+//! use epochs::By;
+//!
+//! let names = read_names(alloc, By::Sector, "17.0:drop,18.1:head3")?;
+//! // two names, where the text is one
+//! let mut out = String::new(alloc);
+//! put_departures(&mut out, By::Sector, choice.departures())?;
+//! // the text of a choice, as one of these
+//! ```
+//!
 //! ```text
 //! 17.0:drop,18.1:head3   sector 0 of entry 17 never arrived, of sector 1 of entry 18 the first three eighths
 //! 17:drop                by write: nothing of entry 17 arrived

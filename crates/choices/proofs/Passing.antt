@@ -14,7 +14,7 @@ use Rattle.choices.specs.Picks.{fates_of, most_fates, picks_within, ArePicks}
 use Rattle.choices.specs.Steps.{first_picks, following, following_below}
 use Rattle.choices.specs.Choices.{ChoiceValue, choice_of, ranked_choices, ranked_before, InCut}
 use Rattle.choices.specs.Laws.{IsChoice, AreRising}
-use Rattle.choices.specs.Picked.{PickedValue, picked_of, choice_of_picked, IsRanked, marked, single, passed, with_last, CanPass}
+use Rattle.choices.specs.Picked.{PickedValue, picked_of, choice_of_picked, IsRanked, marked_picks, single, pick_after, with_last, CanPass}
 use Rattle.choices.proofs.Ranks.{length-fewer}
 use Rattle.choices.proofs.Rows.{following_front, below_moved}
 use Rattle.choices.proofs.Following.{stepped_fate, stepped_part}
@@ -86,35 +86,35 @@ rising_from : (m a c e : ℕ) (ds : List Pick) → a ≤ c → AreRising m c e d
 rising_from m a c e [] le h = tt
 rising_from m a c e (d ∷ ds) le h = (omega (arith, le, h.0), h.1, h.2, h.3)
 
-rising_marked : (m a e : ℕ) (marks : List Bool) (ds : List Pick) → AreRising m a e ds → AreRising m a e (marked marks ds)
+rising_marked : (m a e : ℕ) (marks : List Bool) (ds : List Pick) → AreRising m a e ds → AreRising m a e (marked_picks marks ds)
 rising_marked m a e [] ds h = tt
 rising_marked m a e (b ∷ marks) [] h = tt
 rising_marked m a e (true ∷ marks) (d ∷ ds) h = (h.0, h.1, h.2, rising_marked m (d.part + 1) e marks ds h.3)
 rising_marked m a e (false ∷ marks) (d ∷ ds) h =
     let low = h.0 in
-    rising_from m a (d.part + 1) e (marked marks ds) (omega (arith, low)) (rising_marked m (d.part + 1) e marks ds h.3)
+    rising_from m a (d.part + 1) e (marked_picks marks ds) (omega (arith, low)) (rising_marked m (d.part + 1) e marks ds h.3)
 
-pub length-marked : (marks : List Bool) (ds : List Pick) → length (marked marks ds) ≤ length ds
+pub length-marked : (marks : List Bool) (ds : List Pick) → length (marked_picks marks ds) ≤ length ds
 length-marked [] ds = omega arith
 length-marked (b ∷ marks) [] = omega arith
 length-marked (true ∷ marks) (d ∷ ds) = let rest = length-marked marks ds in omega (arith, rest)
 length-marked (false ∷ marks) (d ∷ ds) = let rest = length-marked marks ds in omega (arith, rest)
 
-pub marked_is_choice : (m b v : ℕ) (marks : List Bool) (picks : List Pick) → IsChoice m b v picks → IsChoice m b v (marked marks picks)
+pub marked_is_choice : (m b v : ℕ) (marks : List Bool) (picks : List Pick) → IsChoice m b v picks → IsChoice m b v (marked_picks marks picks)
 marked_is_choice m b v marks picks is =
     let few = is.few in
     let fewer = length-marked marks picks in
     record { few = omega (arith, few, fewer); rising = rising_marked m 0 v marks picks is.rising }
 
 pub marked_ranked : (plan : PlanValue) (b : ℕ) (tears : Bool) (n : ℕ) (p : PickedValue) (marks : List Bool) → IsRanked plan b tears n p
-    → (k : ℕ) × IsRanked plan b tears k (record p { picks = marked marks p.picks })
+    → (k : ℕ) × IsRanked plan b tears k (record p { picks = marked_picks marks p.picks })
 marked_ranked plan b tears n p marks h =
-    choice_is_ranked plan b tears (record p { picks = marked marks p.picks }) (ranked_wanted plan b tears n p h)
+    choice_is_ranked plan b tears (record p { picks = marked_picks marks p.picks }) (ranked_wanted plan b tears n p h)
     (marked_is_choice (fates_of tears) b (length (volatile_parts plan.by plan.log.entries p.cut)) marks p.picks (ranked_is_choice plan b tears n p h))
 
 -- one pick more
 pub marked_more : (marks : List Bool) (picks : List Pick) (i : ℕ) (b : Bool) (pick : Pick) → slice_get marks i ≡ Some b → slice_get picks i ≡ Some pick
-    → marked marks (take (suc i) picks) ≡ marked marks (take i picks) ++ (if b then pick ∷ [] else [])
+    → marked_picks marks (take (suc i) picks) ≡ marked_picks marks (take i picks) ++ (if b then pick ∷ [] else [])
 marked_more [] picks i b pick at here = absurd (let bad : None ≡ Some b = at in cc)
 marked_more (c ∷ marks) [] i b pick at here = absurd (let bad : None ≡ Some pick = here in cc)
 marked_more (true ∷ marks) (d ∷ picks) zero b pick at here =
@@ -122,28 +122,28 @@ marked_more (true ∷ marks) (d ∷ picks) zero b pick at here =
     let same : pick ≡ d = same_Some pick d (sym here) in
     rw (one, same) (ap (λ (ps : List Pick). d ∷ ps) (no_marked marks))
   where
-    no_marked : (ms : List Bool) → marked ms (take 0 picks) ≡ []
+    no_marked : (ms : List Bool) → marked_picks ms (take 0 picks) ≡ []
     no_marked [] = refl
     no_marked (m ∷ ms) = refl
 marked_more (false ∷ marks) (d ∷ picks) zero b pick at here =
     let one : b ≡ false = same_Some b false (sym at) in
     rw one (no_marked marks)
   where
-    no_marked : (ms : List Bool) → marked ms (take 0 picks) ≡ []
+    no_marked : (ms : List Bool) → marked_picks ms (take 0 picks) ≡ []
     no_marked [] = refl
     no_marked (m ∷ ms) = refl
 marked_more (true ∷ marks) (d ∷ picks) (suc i) b pick at here = ap (λ (ps : List Pick). d ∷ ps) (marked_more marks picks i b pick at here)
 marked_more (false ∷ marks) (d ∷ picks) (suc i) b pick at here = marked_more marks picks i b pick at here
 
-pub marked_nothing : (marks : List Bool) → marked marks [] ≡ []
+pub marked_nothing : (marks : List Bool) → marked_picks marks [] ≡ []
 marked_nothing [] = refl
 marked_nothing (b ∷ marks) = refl
 
 pub marked_on : (marks : List Bool) (picks : List Pick) (i : ℕ) (b : Bool) (pick : Pick) (done more : List Pick) → slice_get marks i ≡ Some b → slice_get picks i ≡ Some pick
-    → done ≡ marked marks (take i picks) → more ≡ done ++ (if b then pick ∷ [] else []) → more ≡ marked marks (take (i + 1) picks)
+    → done ≡ marked_picks marks (take i picks) → more ≡ done ++ (if b then pick ∷ [] else []) → more ≡ marked_picks marks (take (i + 1) picks)
 marked_on marks picks i b pick done more at here so is =
     is ∙ ap (λ (ps : List Pick). ps ++ (if b then pick ∷ [] else [])) so ∙ sym (marked_more marks picks i b pick at here)
-    ∙ ap (λ n. marked marks (take n picks)) (sym (add-one i))
+    ∙ ap (λ n. marked_picks marks (take n picks)) (sym (add-one i))
 
 -- the following choice
 pub picked_on : (plan : PlanValue) (b : ℕ) (tears : Bool) (n : ℕ) (p : PickedValue) (picks : List Pick) → IsRanked plan b tears n p
@@ -246,7 +246,7 @@ last_fate m v front last picks are is =
 -- so many choices in a row, in which the last departure alone changes
 pub pass_leads : (plan : PlanValue) (b : ℕ) (tears : Bool) (n : ℕ) (p : PickedValue) (front : List Pick) (last : Pick) (count : ℕ)
     → IsRanked plan b tears n p → CanPass (fates_of tears) (length (volatile_parts plan.by plan.log.entries p.cut)) count front last p.picks
-    → IsRanked plan b tears (n + count) (with_last p front (passed (fates_of tears) count last))
+    → IsRanked plan b tears (n + count) (with_last p front (pick_after (fates_of tears) count last))
 pass_leads plan b tears n p front last count h can =
     let m : ℕ = fates_of tears in
     let v : ℕ = length (volatile_parts plan.by plan.log.entries p.cut) in
@@ -258,7 +258,7 @@ pass_leads plan b tears n p front last count h can =
 
 -- in which part the last departure is then
 pub passed_part : (m count next : ℕ) (pick : Pick) → pick.fate < m → pick.part * m + pick.fate + count < next * m
-    → (pick.part ≤ (passed m count pick).part) × ((passed m count pick).part < next)
+    → (pick.part ≤ (pick_after m count pick).part) × ((pick_after m count pick).part < next)
 passed_part m count next pick lt room =
     let number : ℕ = pick.part * m + pick.fate + count in
     let a : ℕ = number / m in
@@ -288,16 +288,16 @@ last_parts picks front last d is =
 -- and with another in its place
 pub passed_on : (inside p : PickedValue) (front : List Pick) (last d next : Pick) (slice before new : List Pick) (m fates count : ℕ)
     → inside ≡ p → p.picks ≡ front ++ last ∷ [] → slice ≡ inside.picks → fates ≡ m
-    → next ≡ passed fates count (slice_index_or slice (length slice - 1) d) → before ≡ take (length slice - 1) inside.picks
-    → new ≡ before ++ next ∷ [] → record inside { picks = new } ≡ with_last p front (passed m count last)
+    → next ≡ pick_after fates count (slice_index_or slice (length slice - 1) d) → before ≡ take (length slice - 1) inside.picks
+    → new ≡ before ++ next ∷ [] → record inside { picks = new } ≡ with_last p front (pick_after m count last)
 passed_on inside p front last d next slice before new m fates count same is lent told made cut put =
     let own : slice ≡ front ++ last ∷ [] = lent ∙ ap (λ (q : PickedValue). q.picks) same ∙ is in
     let parts = last_parts slice front last d own in
-    let after : next ≡ passed m count last = made ∙ ap (λ k. passed k count (slice_index_or slice (length slice - 1) d)) told ∙ ap (passed m count) parts.1 in
+    let after : next ≡ pick_after m count last = made ∙ ap (λ k. pick_after k count (slice_index_or slice (length slice - 1) d)) told ∙ ap (pick_after m count) parts.1 in
     let first : before ≡ front = cut ∙ ap (take (length slice - 1)) (sym lent) ∙ parts.0 in
-    let all : new ≡ front ++ passed m count last ∷ [] =
+    let all : new ≡ front ++ pick_after m count last ∷ [] =
     put ∙ ap (λ (ps : List Pick). ps ++ next ∷ []) first ∙ ap (λ (pick : Pick). front ++ pick ∷ []) after in
-    ap (λ (ps : List Pick). record inside { picks = ps }) all ∙ ap (λ (q : PickedValue). with_last q front (passed m count last)) same
+    ap (λ (ps : List Pick). record inside { picks = ps }) all ∙ ap (λ (q : PickedValue). with_last q front (pick_after m count last)) same
 
 -- what is kept inside stands for the same choice
 abbrev pub picked_at : ℕ → ℕ → List Pick → PickedValue

@@ -15,7 +15,7 @@ use Rattle.choices.specs.declared.pick.Pick.{Pick}
 use Rattle.choices.specs.Picks.{ranked_picks, fewer, most_fates, fates_of, picks_within, ArePicks}
 use Rattle.choices.specs.Ways.{ways_within}
 use Rattle.choices.specs.Steps.{following_below}
-use Rattle.choices.specs.Choices.{ChoiceValue, departure_of, choice_of, choices_at, choices_over, ranked_choices, ranked_before, ranked_at, limit, IsFirstPast, InCut}
+use Rattle.choices.specs.Choices.{ChoiceValue, departure_of, choice_of, choices_at, choices_over, ranked_choices, ranked_before, ranked_at, IsFirstPastOf, InCut}
 use Rattle.choices.proofs.Ranks.{length-fewer}
 use Rattle.choices.proofs.Following.{follows_below, fewer_picks, at_end, behind_end, in_front}
 
@@ -299,15 +299,15 @@ counted plan b tears cuts i sum own is lt so ways =
     ap (λ ks. slice_get ks i) (sym is) ∙ slice_get-get_or cuts i 0 lt in
     omega (arith, before_more plan b tears i (slice_index_or cuts i 0) wanted, so, ways)
 
--- the sum passes the limit at this cut
-pub first_past : (plan : PlanValue) (b : ℕ) (tears : Bool) (cuts : List ℕ) (i sum own : ℕ) → cuts ≡ cuts_of plan.kind plan.log.entries → i < length cuts
+-- the sum passes the most at this cut, which has more choices than are left
+pub first_past : (most : ℕ) (plan : PlanValue) (b : ℕ) (tears : Bool) (cuts : List ℕ) (i sum own : ℕ) → cuts ≡ cuts_of plan.kind plan.log.entries → i < length cuts
     → sum ≡ length (ranked_before plan b tears i) → own ≡ length (ranked_at plan b tears (slice_index_or cuts i 0))
-    → sum ≤ limit → limit < sum + own → IsFirstPast plan b tears (slice_index_or cuts i 0)
-first_past plan b tears cuts i sum own is lt so ways low high = record {
+    → sum ≤ most → most - sum < own → IsFirstPastOf most plan b tears (slice_index_or cuts i 0)
+first_past most plan b tears cuts i sum own is lt so ways low high = record {
   place = i;
   wanted = ap (λ ks. slice_get ks i) (sym is) ∙ slice_get-get_or cuts i 0 lt;
   before = omega (arith, so, low);
-  past = omega (arith, counted plan b tears cuts i sum own is lt so ways, high);
+  past = omega (arith, counted plan b tears cuts i sum own is lt so ways, low, high);
 }
 
 -- behind the last cut the sum is that of all choices

@@ -63,12 +63,20 @@ ranked_at plan bound tears cut = choices_at plan.by plan.log.entries (fates_of t
 abbrev pub limit : ℕ
 limit = 16777216
 
--- the number of choices first passes the limit with that wanted cut
-pub record IsFirstPast (plan : PlanValue) (bound : ℕ) (tears : Bool) (cut : ℕ) : Type 0 where
+-- how many choices a run may have of which a part is judged, or one alone is looked at
+abbrev pub wide_limit : ℕ
+wide_limit = 9223372036854775807
+
+-- the number of choices first passes `most` with that wanted cut
+pub record IsFirstPastOf (most : ℕ) (plan : PlanValue) (bound : ℕ) (tears : Bool) (cut : ℕ) : Type 0 where
   pub place : ℕ
   pub wanted : slice_get (cuts_of plan.kind plan.log.entries) place ≡ Some cut
-  pub before : length (ranked_before plan bound tears place) ≤ limit
-  pub past : limit < length (ranked_before plan bound tears (place + 1))
+  pub before : length (ranked_before plan bound tears place) ≤ most
+  pub past : most < length (ranked_before plan bound tears (place + 1))
+
+-- it first passes the limit with that wanted cut
+abbrev pub IsFirstPast : PlanValue → ℕ → Bool → ℕ → Type 0
+IsFirstPast plan bound tears cut = IsFirstPastOf limit plan bound tears cut
 
 -- choice `number` of a plan is choice `rest` at the wanted cut of that place
 pub record InCut (plan : PlanValue) (bound : ℕ) (tears : Bool) (number place rest : ℕ) : Type 0 where

@@ -23,19 +23,19 @@ abbrev pub IsRanked : PlanValue → ℕ → Bool → ℕ → PickedValue → Typ
 IsRanked plan bound tears n p = slice_get (ranked_choices plan bound tears) n ≡ Some (choice_of_picked plan p)
 
 -- those of some picks that are marked
-abbrev pub marked : List Bool → List Pick → List Pick
-marked [] picks = []
-marked (b ∷ marks) [] = []
-marked (true ∷ marks) (pick ∷ picks) = pick ∷ marked marks picks
-marked (false ∷ marks) (pick ∷ picks) = marked marks picks
+abbrev pub marked_picks : List Bool → List Pick → List Pick
+marked_picks [] picks = []
+marked_picks (b ∷ marks) [] = []
+marked_picks (true ∷ marks) (pick ∷ picks) = pick ∷ marked_picks marks picks
+marked_picks (false ∷ marks) (pick ∷ picks) = marked_picks marks picks
 
 -- single departures stand first by part and then by fate, of which there are m: the one of that number
 abbrev pub single : ℕ → ℕ → Pick
 single m number = record { part = number / m; fate = number % m }
 
 -- and the one that is so many behind another
-abbrev pub passed : ℕ → ℕ → Pick → Pick
-passed m count pick = single m (pick.part * m + pick.fate + count)
+abbrev pub pick_after : ℕ → ℕ → Pick → Pick
+pick_after m count pick = single m (pick.part * m + pick.fate + count)
 
 -- the same choice with another last departure
 abbrev pub with_last : PickedValue → List Pick → Pick → PickedValue

@@ -13,6 +13,7 @@
 //! |---|---|
 //! | `count(plan, bound, tears)` | how many choices there are, or the cut with which they are too many |
 //! | `count_at(plan, bound, tears, cut)` | the same of one cut alone |
+//! | `count_up_to(plan, bound, tears, most)`, `count_at_up_to(.., cut, most)` | both again, where there may be so many |
 //! | `nth(plan, bound, tears, number)` | the choice of a number |
 //! | `Starts::new(alloc, plan, bound, tears)` | a table by which the choice of a number is found at once |
 //! | `starts.nth(number)` | the choice of a number, by the table |
@@ -40,7 +41,7 @@
 //! function of this list:
 //!
 //! - `count` is its length. It is refused exactly where that passes 16,777,216, at the first cut with
-//!   which it does.
+//!   which it does. `count_up_to` is the same for any greatest number, as for a run of which only a part is judged.
 //! - `count_at` is the length of one cut's part.
 //! - `nth` is its element of that number, and so is `Starts::nth`.
 //! - `next` leads from each element to the one behind it, and leaves the last as it is.
@@ -59,13 +60,13 @@
 //!
 //! # How it is written
 //!
-//! `ways` has closed forms of the numbers of choices of one cut; their sums stay below 2^64, so
-//! nothing wraps, at 262,144 parts and three departures too. `rank` finds a choice by its number: the
+//! `ways` has closed forms of the numbers of choices of one cut; they stay below 2^64, at 262,144 parts and three departures
+//! too. A sum over cuts might not, so each number is compared with what is left before it is added. `rank` finds a choice by its number: the
 //! number of departures by taking off the smaller ones, then each departure by a search by halves for
 //! its part and a division for its fate. `step` changes the last departure that has a next fate or a
 //! next part. A choice keeps its departures as numbers too, so `next` needs no search but those of
 //! `Plan::part`. A `Picked` keeps the numbers alone, and needs none (`picked`). `nth` walks the wanted
-//! cuts up to its own, a few products at each. A `Starts` keeps the sums of these products, 4 bytes for
+//! cuts up to its own, a few products at each. A `Starts` keeps the sums of these products, 8 bytes for
 //! each wanted cut, and finds the cut by a search by halves (`starts`). A caller that wants many choices
 //! in a row takes `nth` once, and then `next`; one that begins at many places makes a `Starts`.
 //!
@@ -109,5 +110,5 @@ pub use named::choice_named;
 pub use numbers::numbers_at;
 pub use pick::Pick;
 pub use picked::{Picked, fates};
-pub use ranked::{TooMany, count, count_at, next, nth};
+pub use ranked::{TooMany, count, count_at, count_at_up_to, count_up_to, next, nth};
 pub use starts::Starts;

@@ -5,7 +5,7 @@ ghost use Rattle.arrayvec.specs.ArrayVec.{array_vec_len};
 ghost use Rattle.epochs.specs.Parts.{volatile_parts};
 ghost use Rattle.epochs.specs.Plan.{PlanValue};
 ghost use Rattle.choices.specs.Choices.{ranked_choices};
-ghost use Rattle.choices.specs.Picked.{CanPass, IsRanked, choice_of_picked, marked, passed, picked_of, with_last};
+ghost use Rattle.choices.specs.Picked.{CanPass, IsRanked, choice_of_picked, marked_picks, pick_after, picked_of, with_last};
 ghost use Rattle.choices.specs.Picks.{fates_of};
 
 use crate::choice::Choice;
@@ -60,7 +60,7 @@ fn put_marked(those: &mut ArrayVec<Pick, 3>, pick: Pick, mark: bool)
 #[inline(always)]
 fn marked(picks: &[Pick], marks: &[bool; 3]) -> ArrayVec<Pick, 3>
     requires { length picks.now ≤ 3 }
-    ensures { result.items ≡ marked marks.now picks.now }
+    ensures { result.items ≡ marked_picks marks.now picks.now }
 {
     let mut those = ArrayVec::new();
     for (place, pick) in picks.iter().enumerate() {
@@ -115,7 +115,7 @@ impl Picked {
     /// The choice of those of its departures that are marked. It is one of the plan too.
     pub fn only(&self, plan: &Plan, marks: &[bool; 3]) -> Choice
         requires { (bound : ℕ) × (tears : Bool) × (n : ℕ) × IsRanked plan.now bound tears n self.now }
-        ensures value { result ≡ choice_of_picked plan.now (record self.now { picks = marked marks.now self.now.picks }) }
+        ensures value { result ≡ choice_of_picked plan.now (record self.now { picks = marked_picks marks.now self.now.picks }) }
         ensures ranked { (bound : ℕ) (tears : Bool) (n : ℕ) → IsRanked plan.now bound tears n self.now
             → (m : ℕ) × (slice_get (ranked_choices plan.now bound tears) m ≡ Some result) }
     {
@@ -156,7 +156,7 @@ impl Picked {
     pub fn pass(&mut self, tears: bool, count: u64)
         requires { (front : List Pick) × (last : Pick) × CanPass (fates_of tears) 262144 count front last self.old.picks }
         ensures value { (front : List Pick) (last : Pick) → self.old.picks ≡ front ++ last ∷ []
-            → self.new ≡ with_last self.old front (passed (fates_of tears) count last) }
+            → self.new ≡ with_last self.old front (pick_after (fates_of tears) count last) }
         ensures ranked { (plan : PlanValue) (bound n : ℕ) (front : List Pick) (last : Pick) → IsRanked plan bound tears n self.old
             → CanPass (fates_of tears) (length (volatile_parts plan.by plan.log.entries self.old.cut)) count front last self.old.picks
             → IsRanked plan bound tears (n + count) self.new }
@@ -174,7 +174,7 @@ impl Picked {
 fn behind(pick: Pick, fates: u8, count: u64) -> Pick
     requires some { 1 ≤ fates }
     requires parts { pick.part * fates + pick.fate + count < 262144 * fates }
-    ensures { result ≡ passed fates count pick }
+    ensures { result ≡ pick_after fates count pick }
 {
     let fates = u64::from(fates);
     let number = u64::from(pick.part) * fates + u64::from(pick.fate) + count;

@@ -1,7 +1,7 @@
 //! The ranked choices of a plan.
 
 ghost use Rattle.std.specs.Prelude.{◌≡◌, ◌+◌, ◌<◌, ◌≤◌, ℕ, length, slice_get, Some, IfOk, IfErr, IsTrue, IsFalse};
-ghost use Rattle.choices.specs.Choices.{ranked_choices, ranked_at, limit, IsFirstPast, InCut};
+ghost use Rattle.choices.specs.Choices.{ranked_choices, ranked_at, limit, IsFirstPast, IsFirstPastOf, InCut};
 
 use crate::choice::{Choice, departures_of};
 use crate::fate::fates_of;
@@ -32,21 +32,57 @@ pub(crate) fn ways_at(plan: &Plan, bound: u8, tears: bool, cut: u32) -> u64
 }
 
 /// How many choices a plan has, with at most `bound` departures each, torn writes or none. It is
-/// refused at the wanted cut with which the number first passes 16,777,216.
+/// refused at the wanted cut with which the number first passes `most`. Each cut's number is compared with what is left, so
+/// nothing wraps.
+pub fn count_up_to(plan: &Plan, bound: u8, tears: bool, most: u64) -> Result<u64, TooMany>
+    requires { bound ≤ 3 }
+    ensures value { IfOk result (λ number. number ≡ length (ranked_choices plan.now bound tears)) }
+    ensures most { IfOk result (λ number. number ≤ most) }
+    ensures past { IfErr result (λ fault. IsFirstPastOf most plan.now bound tears fault.at) }
+{
+    let mut sum = 0;
+    for cut in plan.cuts() {
+        let own = ways_at(plan, bound, tears, *cut);
+        let left = most - sum;
+        if own > left {
+            return Err(TooMany { at: *cut });
+        }
+        sum += own;
+    }
+    Ok(sum)
+}
+
+/// How many choices a plan has, as `count_up_to` tells it, where a run may have no more than 16,777,216 of them.
 pub fn count(plan: &Plan, bound: u8, tears: bool) -> Result<u64, TooMany>
     requires { bound ≤ 3 }
     ensures value { IfOk result (λ number. number ≡ length (ranked_choices plan.now bound tears)) }
     ensures limit { IfOk result (λ number. number ≤ limit) }
     ensures past { IfErr result (λ fault. IsFirstPast plan.now bound tears fault.at) }
 {
-    let mut sum = 0;
-    for cut in plan.cuts() {
-        sum += ways_at(plan, bound, tears, *cut);
-        if sum > MOST_CHOICES {
-            return Err(TooMany { at: *cut });
-        }
+    count_up_to(plan, bound, tears, MOST_CHOICES)
+}
+
+/// How many choices one cut of a plan has. It is refused at that cut if the number passes `most`.
+pub fn count_at_up_to(
+    plan: &Plan,
+    bound: u8,
+    tears: bool,
+    cut: u32,
+    most: u64,
+) -> Result<u64, TooMany>
+    requires bound { bound ≤ 3 }
+    requires cut { cut ≤ length plan.now.log.entries }
+    ensures value { IfOk result (λ number. number ≡ length (ranked_at plan.now bound tears cut)) }
+    ensures most { IfOk result (λ number. number ≤ most) }
+    ensures past { IfErr result (λ fault. most < length (ranked_at plan.now bound tears cut)) }
+    ensures at { IfErr result (λ fault. fault.at ≡ cut) }
+{
+    let number = ways_at(plan, bound, tears, cut);
+    if number > most {
+        Err(TooMany { at: cut })
+    } else {
+        Ok(number)
     }
-    Ok(sum)
 }
 
 /// How many choices one cut of a plan has. It is refused at that cut if the number passes 16,777,216.
@@ -58,12 +94,7 @@ pub fn count_at(plan: &Plan, bound: u8, tears: bool, cut: u32) -> Result<u64, To
     ensures past { IfErr result (λ fault. limit < length (ranked_at plan.now bound tears cut)) }
     ensures at { IfErr result (λ fault. fault.at ≡ cut) }
 {
-    let number = ways_at(plan, bound, tears, cut);
-    if number > MOST_CHOICES {
-        Err(TooMany { at: cut })
-    } else {
-        Ok(number)
-    }
+    count_at_up_to(plan, bound, tears, cut, MOST_CHOICES)
 }
 
 /// The place of a choice's cut among the wanted cuts, and its number among the choices at that cut.

@@ -1,9 +1,9 @@
 //! The choices of a plan, found by a table.
 
-ghost use Rattle.std.specs.Prelude.{◌≡◌, ◌+◌, ◌-◌, ℕ, ◌<◌, ◌≤◌, length, IfOk};
+ghost use Rattle.std.specs.Prelude.{◌≡◌, ◌+◌, ◌-◌, ℕ, ◌<◌, ◌≤◌, ◌^◌, length, IfOk};
 ghost use Rattle.std.specs.List.{slice_index_or};
 ghost use Rattle.epochs.specs.Cuts.{cuts_of};
-ghost use Rattle.choices.specs.Choices.{ranked_choices, ranked_at, ranked_before, limit};
+ghost use Rattle.choices.specs.Choices.{ranked_choices, ranked_at, ranked_before};
 ghost use Rattle.choices.specs.Sums.{AreSums, FallsAt};
 
 use crate::choice::Choice;
@@ -22,7 +22,7 @@ pub struct Starts<'a> {
     bound: u8,
     tears: bool,
     /// Element i is how many choices the first i wanted cuts have.
-    sums: Vec<u32>,
+    sums: Vec<u64>,
 }
 
 impl<'a> Model for Starts<'a> {
@@ -40,7 +40,7 @@ impl<'a> Starts<'a> {
     ghost use Rattle.std.specs.Prelude.{slice_get, Some};
     ghost use Rattle.choices.specs.Choices.{InCut};
 
-    /// The table of a plan whose choices are no more than a run may have, as `count` tells. It takes
+    /// The table of a plan with fewer than 2^63 choices, as `count` and `count_up_to` tell. It takes
     /// time and memory for each wanted cut.
     ///
     /// # Errors
@@ -53,7 +53,7 @@ impl<'a> Starts<'a> {
         tears: bool,
     ) -> Result<Starts<'a>, AllocError>
         requires bound { bound ≤ 3 }
-        requires counted { length (ranked_choices plan.now bound tears) ≤ limit }
+        requires counted { length (ranked_choices plan.now bound tears) < 2 ^ 63 }
         ensures { IfOk result (λ starts. starts ≡ record { plan = plan.now; bound = bound; tears = tears }) }
     {
         let sums = sums_of(alloc, plan, bound, tears)?;
@@ -108,7 +108,7 @@ impl<'a> Starts<'a> {
             → result.1 ≡ result.0 + length (ranked_at self.now.plan self.now.bound self.now.tears cut) }
     {
         let sums = self.sums.as_slice();
-        (u64::from(sums[place]), u64::from(sums[place + 1]))
+        (sums[place], sums[place + 1])
     }
 
     /// The place of a choice's cut among the wanted cuts, and its number among the choices at that cut.
@@ -118,14 +118,14 @@ impl<'a> Starts<'a> {
     {
         let sums = self.sums.as_slice();
         let place = last_up_to(sums, number);
-        (place, number - u64::from(sums[place]))
+        (place, number - sums[place])
     }
 }
 
 /// How many choices the first wanted cuts have: none, one, and so on up to all of them.
-fn sums_of(alloc: Global, plan: &Plan, bound: u8, tears: bool) -> Result<Vec<u32>, AllocError>
+fn sums_of(alloc: Global, plan: &Plan, bound: u8, tears: bool) -> Result<Vec<u64>, AllocError>
     requires bound { bound ≤ 3 }
-    requires counted { length (ranked_choices plan.now bound tears) ≤ limit }
+    requires counted { length (ranked_choices plan.now bound tears) < 2 ^ 63 }
     ensures { IfOk result (λ sums. AreSums plan.now bound tears sums.items) }
 {
     let cuts = plan.cuts();
@@ -134,13 +134,13 @@ fn sums_of(alloc: Global, plan: &Plan, bound: u8, tears: bool) -> Result<Vec<u32
     sums.push(0)?;
     for cut in cuts {
         sum += ways_at(plan, bound, tears, *cut);
-        sums.push(sum as u32)?;
+        sums.push(sum)?;
     }
     Ok(sums)
 }
 
 /// The place of a number that is not above `number`, while the one behind it is, by a search by halves.
-fn last_up_to(sums: &[u32], number: u64) -> usize
+fn last_up_to(sums: &[u64], number: u64) -> usize
     requires some { 1 < length sums.now }
     requires low { slice_index_or sums.now 0 0 ≤ number }
     requires high { number < slice_index_or sums.now (length sums.now - 1) 0 }
@@ -150,7 +150,7 @@ fn last_up_to(sums: &[u32], number: u64) -> usize
     let mut high = sums.len() - 1;
     while low + 1 < high {
         let middle = low + (high - low) / 2;
-        if u64::from(sums[middle]) <= number {
+        if sums[middle] <= number {
             low = middle;
         } else {
             high = middle;

@@ -26,7 +26,7 @@ fn put_row(picks: &mut ArrayVec<Pick, 3>, count: usize, first: u32)
 /// The next departure in place of one that `behind` others follow: its next fate, or else the next
 /// part, if the others find room behind it.
 #[tactic(auto, unfolding(crate::specs::Steps::next_picks))]
-fn stepped(fates: u8, parts: u32, pick: Pick, behind: usize) -> Option<Pick>
+fn next_pick(fates: u8, parts: u32, pick: Pick, behind: usize) -> Option<Pick>
     requires some { 1 ≤ fates }
     requires parts { parts ≤ 262144 }
     requires below { pick.part < parts }
@@ -63,7 +63,7 @@ fn last_step(fates: u8, parts: u32, picks: &[Pick]) -> Option<(usize, Pick)>
 {
     for behind in 0..picks.len() {
         let place = picks.len() - 1 - behind;
-        if let Some(next) = stepped(fates, parts, picks[place], behind) {
+        if let Some(next) = next_pick(fates, parts, picks[place], behind) {
             return Some((place, next));
         }
     }

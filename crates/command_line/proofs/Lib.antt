@@ -1,1 +1,2 @@
 mod FlushLists
+mod ImageRanges

@@ -22,7 +22,10 @@ use Rattle.clap.specs.declared.parser.matches.Found.{Found}
 use Rattle.command_line.specs.declared.parsed.Parsed.{Parsed}
 use Rattle.command_line.specs.declared.parsed.Verb.{Verb}
 use Rattle.command_line.specs.declared.parsed.Verb.TheVariants as verb
+use Rattle.request.specs.declared.extent.Extent.{Extent}
+use Rattle.request.specs.declared.extent.Extent.TheVariants as extent
 use Rattle.command_line.specs.FlushList.{IsFlushList, NoFlushList}
+use Rattle.command_line.specs.Extents.{IsRange, NoRange}
 
 -- the bytes of a word, if it was written
 abbrev pub word_bytes : Option (Bor (List ℕ)) → Option (List ℕ)
@@ -44,6 +47,7 @@ command_named name =
     else if bytes_eq name (codes "check") then Some verb.Check
     else if bytes_eq name (codes "asm") then Some verb.Asm
     else if bytes_eq name (codes "list") then Some verb.List
+    else if bytes_eq name (codes "join") then Some verb.Join
     else None
 
 -- the kind of cut behind --cuts, all cuts where nothing is; none where the word is no kind of cut
@@ -69,13 +73,21 @@ abbrev pub AreFlushes : Option (List ℕ) → Option Flushes → Type 0
 AreFlushes None added = IsSomeAnd added (λ flushes. places_of flushes ≡ [])
 AreFlushes (Some word) added = MatchOption added (NoFlushList 64 word) (λ flushes. IsFlushList word (places_of flushes))
 
+-- the images that are asked for: those that the word behind --images says, none where it says none; without a word all images, of
+-- a run that may have as many as can be counted where the flag stands there
+abbrev pub IsExtent : Option (List ℕ) → Bool → Option Extent → Type 0
+IsExtent None true images = images ≡ Some extent.Wide
+IsExtent None false images = images ≡ Some extent.Whole
+IsExtent (Some word) wide images = MatchOption images (NoRange word) (λ e. (from : ℕ) × (to : ℕ) × IsRange word from to × (e ≡ extent.Part from to))
+
 -- how large a log and its device may be
 abbrev pub limits_named : Bool → Limits
 limits_named large = if large then limits.Large else limits.Usual
 
--- the options, each that isn't written by its default, with these flushes. All commands on a device but `log` want --sectors.
-abbrev pub options_with : Parsed → Option Flushes → OptionWords
-options_with p added = record {
+-- the options, each that isn't written by its default, with these flushes and images. All commands on a device but `log` want
+-- --sectors.
+abbrev pub options_with : Parsed → Option Flushes → Option Extent → OptionWords
+options_with p added meant = record {
   sectors = unwrap_or p.sectors (sector_limit (limits_named p.large));
   limits = limits_named p.large;
   flushes = added;
@@ -89,12 +101,14 @@ options_with p added = record {
   cache = unwrap_or p.cache 0;
   checked = p.checked;
   first = p.first;
+  images = meant;
 }
 
 -- the options that are asked for
 pub record AreOptions (p : Parsed) (w : OptionWords) : Type 0 where
   pub added : AreFlushes (word_bytes p.flush) w.flushes
-  pub others : w ≡ options_with p w.flushes
+  pub meant : IsExtent (word_bytes p.images) p.wide w.images
+  pub others : w ≡ options_with p w.flushes w.images
 
 -- the text of a choice, kept if it has at most 96 bytes
 abbrev pub choice_named : Parsed → List ℕ
@@ -115,7 +129,7 @@ Asks p (Some verb.Explore) r = (options : OptionWords) × AreOptions p options �
 Asks p (Some verb.Why) r = (options : OptionWords) × AreOptions p options × (r ≡ asks.Why options)
 Asks p (Some verb.Cure) r = (options : OptionWords) × AreOptions p options × (r ≡ asks.Cure options)
 Asks p (Some verb.Page) r = (options : OptionWords) × AreOptions p options × (r ≡ asks.Page options)
-Asks p (Some verb.Images) r = (options : OptionWords) × AreOptions p options × (r ≡ asks.Images options)
+Asks p (Some verb.Images) r = (options : OptionWords) × AreOptions p options × (r ≡ asks.Images options p.parts)
 Asks p (Some verb.Image) r = (options : OptionWords) × (meant : Which) × AreOptions p options × IsWhich p meant × (r ≡ asks.Image options meant)
 Asks p (Some verb.Show) r = (options : OptionWords) × (meant : Which) × AreOptions p options × IsWhich p meant × (r ≡ asks.Show options meant)
 Asks p (Some verb.Log) r = (options : OptionWords) × AreOptions p options × (r ≡ asks.Log options)
@@ -124,9 +138,11 @@ Asks p (Some verb.Import) r = r ≡ asks.Import (limits_named p.large)
 Asks p (Some verb.Check) r = r ≡ asks.Check (trial_asked p)
 Asks p (Some verb.Asm) r = r ≡ asks.Asm
 Asks p (Some verb.List) r = r ≡ asks.List p.slots
+Asks p (Some verb.Join) r = r ≡ asks.Join
 Asks p None r = r ≡ asks.StoredRun
 
--- the files that are named: a log, a source text or a program, then the image of a program, then the programs of a run
+-- the files that are named: a log, a source text or a program, then the image of a program, then the programs of a run, or the
+-- texts of parts
 abbrev pub first_file : Option (List ℕ) → List (List ℕ)
 first_file None = []
 first_file (Some file) = file ∷ []
@@ -136,7 +152,7 @@ program_files None = []
 program_files (Some programs) = map (λ w. w.now) programs.now
 
 abbrev pub files_named : Parsed → List (List ℕ)
-files_named p = first_file (word_bytes p.file) ++ first_file (word_bytes p.image) ++ program_files p.programs
+files_named p = first_file (word_bytes p.file) ++ first_file (word_bytes p.image) ++ program_files p.programs ++ program_files p.texts
 
 -- the number behind an option: none where nothing stands there, and else that of its decimal digits, if 64 bits hold it
 pub record IsNumberOf (found : Found) (option : List ℕ) (number : Option ℕ) : Type 0 where
@@ -176,3 +192,7 @@ pub record IsRead (found : Found) (p : Parsed) : Type 0 where
   pub epoch : IsNumberOf found (codes "epoch") p.epoch
   pub marks : IsNumberOf found (codes "marks") p.marks
   pub trace : IsNumberOf found (codes "trace") p.trace
+  pub images : word_bytes p.images ≡ first_value found (codes "images")
+  pub wide : IsFlagOf found (codes "wide") p.wide
+  pub parts_number : IsNumberOf found (codes "parts") p.parts
+  pub texts : option_map (λ ws. map (λ w. w.now) ws.now) p.texts ≡ option_map raw_values (matched_of found (codes "texts"))

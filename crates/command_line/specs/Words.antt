@@ -25,7 +25,7 @@ sectors_asked (asks.Explore w) = w.sectors
 sectors_asked (asks.Why w) = w.sectors
 sectors_asked (asks.Cure w) = w.sectors
 sectors_asked (asks.Page w) = w.sectors
-sectors_asked (asks.Images w) = w.sectors
+sectors_asked (asks.Images w parts) = w.sectors
 sectors_asked (asks.Log w) = w.sectors
 sectors_asked (asks.Image w which) = w.sectors
 sectors_asked (asks.Show w which) = w.sectors
@@ -34,6 +34,7 @@ sectors_asked (asks.Import limits) = 0
 sectors_asked (asks.Check w) = 0
 sectors_asked asks.Asm = 0
 sectors_asked (asks.List numbered) = 0
+sectors_asked asks.Join = 0
 
 -- how large the log and its device may be that a command asks for
 abbrev pub limits_asked : Request → Limits
@@ -42,7 +43,7 @@ limits_asked (asks.Explore w) = w.limits
 limits_asked (asks.Why w) = w.limits
 limits_asked (asks.Cure w) = w.limits
 limits_asked (asks.Page w) = w.limits
-limits_asked (asks.Images w) = w.limits
+limits_asked (asks.Images w parts) = w.limits
 limits_asked (asks.Log w) = w.limits
 limits_asked (asks.Image w which) = w.limits
 limits_asked (asks.Show w which) = w.limits
@@ -51,6 +52,7 @@ limits_asked (asks.Import large) = large
 limits_asked (asks.Check w) = w.limits
 limits_asked asks.Asm = limits.Usual
 limits_asked (asks.List numbered) = limits.Usual
+limits_asked asks.Join = limits.Usual
 
 -- without a command the stored run is asked for
 abbrev pub stored_run : WordsValue

@@ -15,8 +15,8 @@
 //! | `words.progress()` | whether it is to be said how far an exploration is |
 //!
 //! Without a word, the run that the program holds itself is asked for. A word that names no kind of cut or part, or that is no
-//! list of entries, is kept as none, and the text of a choice that is longer than any choice's likewise: these are refusals of the command, with a number
-//! and notes, and no faults of the command line.
+//! list of entries or no range of images, is kept as none, and the text of a choice that is longer than any choice's likewise:
+//! these are refusals of the command, with a number and notes, and no faults of the command line.
 //!
 //! The texts of the help stand in `words.rt`. `tools/man_page.py` makes `docs/crashbpf.1` of what the built program prints of
 //! them.
@@ -31,12 +31,17 @@
 //!
 //! # Example
 //!
-//! ```text
-//! let words = Words::of(alloc, &["show", "disk.log", "7", "--sectors", "64"])?;
-//! // request: Request::Show(.., Which::Number(7)); files: "disk.log"
+//! ```
+//! use command_line::Words;
+//!
+//! // `args` are show, disk.log, 7, --sectors, 64
+//! let words = Words::of(alloc, args)?;
+//! let request = words.request();      // Request::Show(.., Which::Number(7))
+//! let files = words.files();          // disk.log
 //! ```
 #![tactic(auto)]
 
+mod extents;
 mod flush_list;
 mod parsed;
 mod words;

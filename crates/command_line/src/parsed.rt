@@ -3,14 +3,15 @@
 ghost use Rattle.std.specs.Prelude.{◌≡◌, ◌<◌, ◌++◌, length, map, option_map, unwrap_or, string_bytes, IfOk, MatchOption, OnOk};
 ghost use Rattle.limits.specs.Sizes.{sector_limit};
 ghost use Rattle.clap.specs.Words.{found_of};
-ghost use Rattle.command_line.specs.Parsed.{Asks, AreFlushes, AreOptions, command_named, cuts_named, files_named, limits_named, options_with, parts_named, trial_asked, word_bytes, IsFlagOf, IsNumberOf, IsRead, IsWhich};
+ghost use Rattle.command_line.specs.Parsed.{Asks, AreFlushes, AreOptions, IsExtent, command_named, cuts_named, files_named, limits_named, options_with, parts_named, trial_asked, word_bytes, IsFlagOf, IsNumberOf, IsRead, IsWhich};
 
+use crate::extents::extent_in;
 use crate::flush_list::flushes_in;
 use arrayvec::ArrayString;
 use clap::ArgMatches;
 use epochs::{By, CutKind, Flushes};
 use limits::Limits;
-use request::{OptionWords, Request, TrialWords, Which};
+use request::{Extent, OptionWords, Request, TrialWords, Which};
 use std::alloc::{AllocError, Global};
 
 /// What `clap` read behind the program's name: the name of the command, and what stands behind each of its words and options,
@@ -69,6 +70,14 @@ pub struct Parsed<'a> {
     pub marks: Option<u64>,
     /// The number behind `--trace`.
     pub trace: Option<u64>,
+    /// The word behind `--images`, of `explore`.
+    pub images: Option<&'a str>,
+    /// Whether `--images` stands there, of the commands that take no word behind it.
+    pub wide: bool,
+    /// The number behind `--parts`.
+    pub parts: Option<u64>,
+    /// The texts of parts.
+    pub texts: Option<&'a [&'a str]>,
 }
 
 /// The commands of the program (docs/REPORT.md, Commands).
@@ -87,6 +96,7 @@ pub(crate) enum Verb {
     Check,
     Asm,
     List,
+    Join,
 }
 
 /// The command of that name.
@@ -107,6 +117,7 @@ fn verb_of(name: &str) -> Option<Verb>
         "check" => Some(Verb::Check),
         "asm" => Some(Verb::Asm),
         "list" => Some(Verb::List),
+        "join" => Some(Verb::Join),
         _ => None,
     }
 }
@@ -155,6 +166,17 @@ fn flushes_of(word: Option<&str>) -> Option<Flushes>
     match word {
         Some(word) => flushes_in(word),
         None => Some(Flushes::NONE),
+    }
+}
+
+/// The images that are meant: those that a word says, or else all, of a run with as many images as there can be or not.
+fn extent_of(word: Option<&str>, wide: bool) -> Option<Extent>
+    ensures { IsExtent (option_map (λ w. w.now) word.entry) wide result }
+{
+    match word {
+        Some(word) => extent_in(word),
+        None if wide => Some(Extent::Wide),
+        None => Some(Extent::Whole),
     }
 }
 
@@ -225,12 +247,16 @@ impl<'a> Parsed<'a> {
             epoch: number_of(matches, "epoch"),
             marks: number_of(matches, "marks"),
             trace: number_of(matches, "trace"),
+            images: matches.get_str("images"),
+            wide: flag_of(matches, "wide"),
+            parts: number_of(matches, "parts"),
+            texts: matches.get_strs("texts"),
         }
     }
 
-    /// The options that were written, each that wasn't by its default, with these flushes.
-    fn options_with(&self, flushes: Option<Flushes>) -> OptionWords
-        ensures { result ≡ options_with self.now flushes }
+    /// The options that were written, each that wasn't by its default, with these flushes and images.
+    fn options_with(&self, flushes: Option<Flushes>, images: Option<Extent>) -> OptionWords
+        ensures { result ≡ options_with self.now flushes images }
     {
         let limits = limits_of(self.large);
         OptionWords {
@@ -247,6 +273,7 @@ impl<'a> Parsed<'a> {
             cache: self.cache.unwrap_or(0),
             checked: self.checked,
             first: self.first,
+            images,
         }
     }
 
@@ -254,7 +281,8 @@ impl<'a> Parsed<'a> {
     fn options(&self) -> OptionWords
         ensures { AreOptions self.now result }
     {
-        self.options_with(flushes_of(self.flush))
+        let images = extent_of(self.images, self.wide);
+        self.options_with(flushes_of(self.flush), images)
     }
 
     /// Which image is meant: by its cut and its choice, or else by its number.
@@ -292,7 +320,7 @@ impl<'a> Parsed<'a> {
             Some(Verb::Why) => Request::Why(self.options()),
             Some(Verb::Cure) => Request::Cure(self.options()),
             Some(Verb::Page) => Request::Page(self.options()),
-            Some(Verb::Images) => Request::Images(self.options()),
+            Some(Verb::Images) => Request::Images(self.options(), self.parts),
             Some(Verb::Image) => Request::Image(self.options(), self.which()),
             Some(Verb::Show) => Request::Show(self.options(), self.which()),
             Some(Verb::Log) => Request::Log(self.options()),
@@ -303,11 +331,13 @@ impl<'a> Parsed<'a> {
             Some(Verb::List) => Request::List {
                 numbered: self.slots,
             },
+            Some(Verb::Join) => Request::Join,
             None => Request::StoredRun,
         }
     }
 
-    /// The files that are named: a log, a source text or a program, then the image of a program, then the programs of a run.
+    /// The files that are named: a log, a source text or a program, then the image of a program, then the programs of a run, or the
+    /// texts of parts.
     ///
     /// # Errors
     ///
@@ -324,6 +354,9 @@ impl<'a> Parsed<'a> {
         }
         if let Some(programs) = self.programs {
             put_names(alloc, &mut files, programs)?;
+        }
+        if let Some(texts) = self.texts {
+            put_names(alloc, &mut files, texts)?;
         }
         Ok(files)
     }

@@ -164,6 +164,17 @@ const AFTER_LIST: &str = "Example: crashbpf list check.bpf
 
 Exit status: 0, or 2 for a refusal: 20 to 26 at the slot.";
 
+/// What stands behind the help of `join`.
+const AFTER_JOIN: &str =
+    "The parts have each image of the run once, or are in a row. Where images are missing at the ends, the answer is
+the text of a part again, which can be joined with others.
+
+Example: crashbpf explore disk.log check.bpf --sectors 64 --tears --images 0..600 > a.part
+         crashbpf explore disk.log check.bpf --sectors 64 --tears --images 600..1216 > b.part
+         crashbpf join a.part b.part
+
+Exit status: 0 where no image fails, 1 where one does, 2 for a refusal: 61 to 66 at the file.";
+
 /// An option that takes a number.
 fn number_option<'a>(alloc: Global, name: &'a str, help: &'a str) -> Arg<'a> {
     Arg::new(alloc, name)
@@ -353,16 +364,34 @@ fn explore_command<'a>(alloc: Global) -> Result<Command<'a>, AllocError> {
         .after_help(AFTER_EXPLORE);
     with_run_options(alloc, command)?
         .arg(flag_option(alloc, "first", "Report the first failing image alone"))?
+        .arg(word_option(
+            alloc,
+            "images",
+            "A..B",
+            "Judge the images from A to below B alone, and print the text of a part, for 'join'",
+        ))?
         .arg(program_files(alloc))
+}
+
+/// The option that allows a run with as many images as can be counted.
+fn wide_option<'a>(alloc: Global) -> Arg<'a> {
+    Arg::new(alloc, "wide")
+        .long("images")
+        .action(ArgAction::SetTrue)
+        .help("Allow fewer than 2^63 images, as a run has that is laid out in parts")
 }
 
 /// The command `images`.
 fn images_command<'a>(alloc: Global) -> Result<Command<'a>, AllocError> {
-    Ok(
-        log_command(alloc, "images")?
-            .about("Tells how many crash images each cut of a log has")
-            .after_help(AFTER_IMAGES),
-    )
+    log_command(alloc, "images")?
+        .about("Tells how many crash images each cut of a log has")
+        .after_help(AFTER_IMAGES)
+        .arg(wide_option(alloc))?
+        .arg(number_option(
+            alloc,
+            "parts",
+            "Print also how the run is laid out in N parts, for 'explore --images'",
+        ))
 }
 
 /// The number of an image, where it isn't named by its cut.
@@ -407,6 +436,7 @@ fn choice_option<'a>(alloc: Global) -> Result<Arg<'a>, AllocError> {
 fn named_command<'a>(alloc: Global, name: &'a str) -> Result<Command<'a>, AllocError> {
     let command = with_arg(log_command(alloc, name)?, cut_option(alloc))?;
     let command = with_arg(command, choice_option(alloc))?;
+    let command = command.arg(wide_option(alloc))?;
     with_arg(command, image_number(alloc))
 }
 
@@ -534,6 +564,19 @@ fn list_command<'a>(alloc: Global) -> Result<Command<'a>, AllocError> {
         ))
 }
 
+/// The command `join`.
+fn join_command<'a>(alloc: Global) -> Result<Command<'a>, AllocError> {
+    let texts = Arg::new(alloc, "texts")
+        .num_args(1..)
+        .required(true)
+        .value_name("PART")
+        .help("Texts of parts of one run, 1 to 4096, in any order");
+    Command::new(alloc, "join")
+        .about("Joins what 'explore --images' printed of parts of a run to the report of the run")
+        .after_help(AFTER_JOIN)
+        .arg(texts)
+}
+
 /// All commands.
 fn commands<'a>(alloc: Global) -> Result<Command<'a>, AllocError> {
     let command = Command::new(alloc, "crashbpf")
@@ -555,12 +598,13 @@ fn commands<'a>(alloc: Global) -> Result<Command<'a>, AllocError> {
     let command = with_command(command, verify_command(alloc))?;
     let command = with_command(command, check_command(alloc))?;
     let command = with_command(command, asm_command(alloc))?;
-    with_command(command, list_command(alloc))
+    let command = with_command(command, list_command(alloc))?;
+    with_command(command, join_command(alloc))
 }
 
 impl Words {
     /// The stored run.
-    fn stored(alloc: Global) -> Words
+    fn of_stored_run(alloc: Global) -> Words
         ensures { result ≡ stored_run }
     {
         Words {
@@ -572,7 +616,7 @@ impl Words {
     }
 
     /// What `clap` read, as what is asked for.
-    fn asked(alloc: Global, parsed: &Parsed<'_>) -> Result<Words, AllocError>
+    fn of_parsed(alloc: Global, parsed: &Parsed<'_>) -> Result<Words, AllocError>
         ensures { IfOk result (AreAsked parsed.now) }
     {
         Ok(Words {
@@ -584,12 +628,12 @@ impl Words {
     }
 
     /// What `clap` found, as what is asked for.
-    fn found(alloc: Global, matches: &ArgMatches<'_>) -> Result<Words, AllocError>
+    fn of_matches(alloc: Global, matches: &ArgMatches<'_>) -> Result<Words, AllocError>
         ensures { IfOk result (AreFound matches.now) }
     {
         match matches.subcommand() {
-            Some((name, behind)) => Words::asked(alloc, &Parsed::of(name, behind)),
-            None => Ok(Words::stored(alloc)),
+            Some((name, behind)) => Words::of_parsed(alloc, &Parsed::of(name, behind)),
+            None => Ok(Words::of_stored_run(alloc)),
         }
     }
 
@@ -603,10 +647,10 @@ impl Words {
         ensures asked { words.now ≢ [] → IfOk result (AreTaken (map string_bytes words.now)) }
     {
         if words.is_empty() {
-            return Ok(Words::stored(alloc));
+            return Ok(Words::of_stored_run(alloc));
         }
         let matches = commands(alloc)?.try_get_matches_from(words)?;
-        Ok(Words::found(alloc, &matches)?)
+        Ok(Words::of_matches(alloc, &matches)?)
     }
 
     /// The files of the command, in order: the log, then the programs.
@@ -633,11 +677,12 @@ impl Words {
         match self.request {
             Request::Explore(words) | Request::Why(words) => words.sectors,
             Request::Cure(words) | Request::Page(words) => words.sectors,
-            Request::Images(words) | Request::Log(words) => words.sectors,
+            Request::Images(words, _) | Request::Log(words) => words.sectors,
             Request::Image(words, _) | Request::Show(words, _) => words.sectors,
             Request::Verify(words) => words.sectors,
             Request::Check(_) => 0,
-            Request::StoredRun | Request::Import(_) | Request::Asm | Request::List { .. } => 0,
+            Request::StoredRun | Request::Import(_) => 0,
+            Request::Asm | Request::List { .. } | Request::Join => 0,
         }
     }
 
@@ -648,12 +693,13 @@ impl Words {
         match self.request {
             Request::Explore(words) | Request::Why(words) => words.limits,
             Request::Cure(words) | Request::Page(words) => words.limits,
-            Request::Images(words) | Request::Log(words) => words.limits,
+            Request::Images(words, _) | Request::Log(words) => words.limits,
             Request::Image(words, _) | Request::Show(words, _) => words.limits,
             Request::Verify(words) => words.limits,
             Request::Check(words) => words.limits,
             Request::Import(limits) => limits,
-            Request::StoredRun | Request::Asm | Request::List { .. } => Limits::Usual,
+            Request::StoredRun | Request::Join => Limits::Usual,
+            Request::Asm | Request::List { .. } => Limits::Usual,
         }
     }
 

@@ -2,7 +2,7 @@
 
 use crate::breach::put_breach;
 use crate::headers::{put_end, put_header};
-use base::causes::{CodeCause, LogCause, RequestCause, VerifierCause};
+use base::causes::{CodeCause, JoinCause, LogCause, RequestCause, VerifierCause};
 use base::refusal::{Cause, Refusal};
 use command_line::Words;
 use epochs::{By, CutKind};
@@ -13,7 +13,7 @@ use notes::{
     asm_cure, code_cure, log_cure, put_entry, put_escaped, put_least, put_note, put_refused,
     verifier_cure,
 };
-use request::{OptionWords, Request};
+use request::{Extent, OptionWords, Request};
 use std::alloc::{AllocError, Global};
 use std::fmt::Display;
 
@@ -237,7 +237,8 @@ fn names_instruction(cause: VerifierCause) -> bool {
 /// The options that a command takes, where it takes some of a log.
 fn log_options(request: Request) -> Option<OptionWords> {
     match request {
-        Request::Images(words) | Request::Image(words, _) | Request::Show(words, _) => Some(words),
+        Request::Images(words, _) | Request::Image(words, _) => Some(words),
+        Request::Show(words, _) => Some(words),
         _ => run_options(request),
     }
 }
@@ -295,6 +296,16 @@ fn fewer_images(by: Option<By>) -> &'static str {
     }
 }
 
+/// That there are too many images.
+fn too_many_images(images: Option<Extent>) -> &'static str {
+    match images {
+        Some(Extent::Wide | Extent::Part { .. }) => {
+            "with this cut there are 2^63 images or more (docs/CRASH-MODEL.md, Limits)"
+        }
+        _ => "with this cut there are more than 16777216 images (docs/CRASH-MODEL.md, Limits)",
+    }
+}
+
 /// Appends that there are too many images, and with what there are fewer.
 fn put_images_notes(out: &mut String, words: &Words, facts: &Facts) -> Result<(), AllocError> {
     let Some(options) = log_options(words.request()) else {
@@ -302,7 +313,7 @@ fn put_images_notes(out: &mut String, words: &Words, facts: &Facts) -> Result<()
     };
     put_refused(
         out,
-        "with this cut there are more than 16777216 images (docs/CRASH-MODEL.md, Limits)",
+        too_many_images(options.images),
         fewer_images(options.by),
     )?;
     match &facts.fewer {
@@ -332,6 +343,10 @@ fn option_rule(place: u64) -> &'static str {
         14 => "the file behind --base has no more bytes than the device, 512 for each sector",
         15 => "--epoch is 0 to 65536",
         16 => "--marks is 0 to 65536",
+        17 =>
+            "--images is A..B, two numbers with A below B, at most 16777216 images, and B at most the number of all images",
+        18 =>
+            "--parts is 1 to 1048576, and at least as many as leave none with more than 16777216 images",
         _ => {
             "the log has no image of that number with these --cuts, --by, --bound and --tears; 'crashbpf images' tells how many it has"
         },
@@ -389,6 +404,21 @@ fn put_file_notes(
     }
 }
 
+/// Appends why texts of parts aren't joined, and the name of the file that is at fault.
+fn put_join_notes(
+    alloc: Global,
+    out: &mut String,
+    words: &Words,
+    cause: JoinCause,
+    place: usize,
+) -> Result<(), AllocError> {
+    put_cause(alloc, out, &cause, "")?;
+    match cause {
+        JoinCause::Memory => Ok(()),
+        _ => put_name(out, words, place, "is the file that is meant"),
+    }
+}
+
 /// Appends that there is no memory for the work, and of a run by several workers what takes less.
 fn put_work_notes(out: &mut String, words: &Words) -> Result<(), AllocError> {
     put_note(out, "there is no memory for the work")?;
@@ -433,6 +463,7 @@ pub fn notes_behind(
         },
         Cause::Request(RequestCause::NotInLog) => put_note(&mut out, NOT_IN_LOG)?,
         Cause::Request(RequestCause::File) => put_file_notes(&mut out, words, files, at)?,
+        Cause::Join(cause) => put_join_notes(alloc, &mut out, words, cause, at)?,
         Cause::Work(_cause) => put_work_notes(&mut out, words)?,
     }
     Ok(out)

@@ -46,7 +46,7 @@ pub fn notes_beside(alloc: Global, words: &Words, facts: &Facts) -> Result<Strin
         | Request::Why(options)
         | Request::Cure(options)
         | Request::Page(options)
-        | Request::Images(options) => {
+        | Request::Images(options, _) => {
             put_explored_notes(&mut out, facts)?;
             put_survey_notes(&mut out, options, facts)?
         }

@@ -24,9 +24,14 @@
 //!
 //! # Example
 //!
-//! ```text
-//! notes_behind(alloc, &words, files, &refusal, &facts)?
+//! ```
+//! use command_notes::{notes_behind, notes_beside};
+//!
+//! // the words asked for a bound of 4, which was refused
+//! let behind = notes_behind(alloc, &words, files, &refusal, &facts)?;
 //! // note: --bound is 0 to 3
+//! let beside = notes_beside(alloc, &words, &facts)?;
+//! // of another run, beside its answer
 //! ```
 #![tactic(auto)]
 

@@ -5,8 +5,8 @@ ghost use Rattle.std.specs.Prelude.{◌≤◌};
 
 use base::refusal::Refusal;
 use commands::{
-    By, CutKind, Cuts, Explored, Flushes, Gate, OpenGate, Options, Recording, Settings, explore,
-    explore_with, fault_line,
+    By, CutKind, Cuts, Explored, Extent, Flushes, Gate, OpenGate, Options, Recording, Settings,
+    explore, explore_with, fault_line,
 };
 use limits::Limits;
 use std::alloc::Global;
@@ -32,6 +32,7 @@ const SETTINGS: Settings = Settings {
     cache: 0,
     checked: Some(2),
     first: false,
+    extent: Extent::Whole,
 };
 
 /// Appends a sector that begins with these bytes.
@@ -281,6 +282,7 @@ fn by_workers(workers: u64, cache: u64, first: bool) -> Settings {
         cache,
         checked: Some(2),
         first,
+        extent: Extent::Whole,
     }
 }
 
@@ -362,6 +364,7 @@ const SIXTEEN_CODES: Settings = Settings {
     cache: 0,
     checked: None,
     first: false,
+    extent: Extent::Whole,
 };
 
 #[test]
@@ -464,6 +467,7 @@ fn hits_of<R: Threads + Wait + Sync>(
         cache,
         checked: Some(7),
         first: false,
+        extent: Extent::Whole,
     })
     .ok()
     .ok_or("options")?;

@@ -1,5 +1,5 @@
 -- What commands answer and refuse, by what their files hold.
-use Rattle.std.proofs.Common.{ℕ, zero, suc, ◌≡◌, ◌+◌, ◌<◌, ◌≤◌, Bool, true, false, cond, nat_lt, List, [], ◌∷◌, ◌++◌, length, map, take, get_or, append-nil, add-one, Option, None, Some, position, is_none, refl, ap, arith}
+use Rattle.std.proofs.Common.{ℕ, zero, suc, ◌≡◌, ◌+◌, ◌<◌, ◌≤◌, Bool, true, false, cond, nat_lt, List, [], ◌∷◌, ◌++◌, length, map, take, get_or, append-nil, add-one, Option, None, Some, position, is_none, refl, sym, ◌∙◌, ap, arith}
 use Rattle.std.proofs.lemmas.Bool.Decides.{nat_tests}
 use Rattle.std.proofs.lemmas.List.{map-append}
 use Rattle.std.specs.Option.{option_map, option_to_list}
@@ -10,6 +10,9 @@ use Rattle.request.specs.declared.settings.Settings.{Settings}
 use Rattle.request.specs.Refusals.{file_refusal}
 use Rattle.request.specs.Source.{Recording}
 use Rattle.request.specs.declared.trials.TrialWords.{TrialWords}
+use Rattle.runs.specs.declared.explore_command.Wanted.{Wanted}
+use Rattle.base.specs.declared.causes.JoinCause.TheVariants as joining
+use Rattle.commands.specs.Acting.{join_refusal, most_texts, RefusesTexts, RefusesParts, for_no_part, for_many_parts, for_unread_part, for_parts, for_part_memory}
 use Rattle.commands.specs.Acting.{second_held, RefusesCheck, for_program_file, for_image_file}
 use Rattle.commands.specs.Acting.{Files, first_held, initial_of, unread, RefusesFile, for_file, RefusesRecording, for_log_file, for_base_file, for_recording, RefusesFiles, for_unread, for_base, for_memory}
 
@@ -115,20 +118,20 @@ none_next items files n file programs lt here is before =
     rw (add-one n, more, is, before, append-nil) refl
 
 -- why `explore` is refused by its files
-pub no_file : {V : Type 0} (items : V → List ℕ) (files : List (Option V)) (base : Option (Option (List ℕ))) (s : Settings) (r : Refusal) → length files ≡ 0 → r ≡ file_refusal 0
-    → RefusesFiles (record { named = map (option_map items) files; base = base }) s r
+pub no_file : {V : Type 0} {t : Wanted} (items : V → List ℕ) (files : List (Option V)) (base : Option (Option (List ℕ))) (s : Settings) (r : Refusal) → length files ≡ 0 → r ≡ file_refusal 0
+    → RefusesFiles t (record { named = map (option_map items) files; base = base }) s r
 no_file items [] base s r none same = rw same (for_unread 0 refl)
 no_file items (file ∷ files) base s r none same = absurd (let bad : suc (length files) ≡ 0 = none in omega (arith, bad))
 
-pub no_log : {V : Type 0} (items : V → List ℕ) (files : List (Option V)) (first : Option V) (others : List (Option V)) (base : Option (Option (List ℕ))) (s : Settings) (r : Refusal)
-    → files ≡ first ∷ others → first ≡ None → r ≡ file_refusal 0 → RefusesFiles (record { named = map (option_map items) files; base = base }) s r
+pub no_log : {V : Type 0} {t : Wanted} (items : V → List ℕ) (files : List (Option V)) (first : Option V) (others : List (Option V)) (base : Option (Option (List ℕ))) (s : Settings) (r : Refusal)
+    → files ≡ first ∷ others → first ≡ None → r ≡ file_refusal 0 → RefusesFiles t (record { named = map (option_map items) files; base = base }) s r
 no_log items files first others base s r split is same =
     let some : nat_lt 0 (suc (length (map (option_map items) others))) ≡ true = grind (arith, nat_tests) in
     rw (split, is, same) (for_unread 0 (rw some refl))
 
-pub no_program : {V : Type 0} (items : V → List ℕ) (files : List (Option V)) (first : Option V) (others : List (Option V)) (v : V) (place : ℕ) (base : Option (Option (List ℕ))) (s : Settings)
+pub no_program : {V : Type 0} {t : Wanted} (items : V → List ℕ) (files : List (Option V)) (first : Option V) (others : List (Option V)) (v : V) (place : ℕ) (base : Option (Option (List ℕ))) (s : Settings)
     (r : Refusal) → files ≡ first ∷ others → first ≡ Some v → position is_none others ≡ Some place → r ≡ file_refusal (place + 1)
-    → RefusesFiles (record { named = map (option_map items) files; base = base }) s r
+    → RefusesFiles t (record { named = map (option_map items) files; base = base }) s r
 no_program items files first others v place base s r split is there same =
     rw (split, is, same) (for_unread (place + 1) (unread_next items v others place there))
 
@@ -139,15 +142,64 @@ pub files_read : {V : Type 0} (items : V → List ℕ) (files : List (Option V))
 files_read items files first others v log programs split is readable same all =
     rw (split, is, same, all) (ap (λ rest. Some (items v) ∷ rest) (all_read items others readable))
 
-pub memory_wanting : {V : Type 0} (items : V → List ℕ) (files : List (Option V)) (first : Option V) (others : List (Option V)) (v : V) (base : Option (Option (List ℕ))) (s : Settings) (r : Refusal)
-    → files ≡ first ∷ others → first ≡ Some v → position is_none others ≡ None → r ≡ memory_refusal → RefusesFiles (record { named = map (option_map items) files; base = base }) s r
+pub memory_wanting : {V : Type 0} {t : Wanted} (items : V → List ℕ) (files : List (Option V)) (first : Option V) (others : List (Option V)) (v : V) (base : Option (Option (List ℕ))) (s : Settings) (r : Refusal)
+    → files ≡ first ∷ others → first ≡ Some v → position is_none others ≡ None → r ≡ memory_refusal → RefusesFiles t (record { named = map (option_map items) files; base = base }) s r
 memory_wanting items files first others v base s r split is readable same =
     rw (split, is, same) (for_memory (none_unread items v others readable))
 
 -- all files that are named can be read, and that of the initial content can't be
-pub no_base : {V : Type 0} (items : V → List ℕ) (files : List (Option V)) (first : Option V) (others : List (Option V)) (v : V) (base : Option (Option (List ℕ))) (s : Settings) (r : Refusal)
+pub no_base : {V : Type 0} {t : Wanted} (items : V → List ℕ) (files : List (Option V)) (first : Option V) (others : List (Option V)) (v : V) (base : Option (Option (List ℕ))) (s : Settings) (r : Refusal)
     → files ≡ first ∷ others → first ≡ Some v → position is_none others ≡ None → (initial_of base ≡ None) × (r ≡ file_refusal (length (map (option_map items) files)))
-    → RefusesFiles (record { named = map (option_map items) files; base = base }) s r
+    → RefusesFiles t (record { named = map (option_map items) files; base = base }) s r
 no_base items files first others v base s r split is readable h =
     let all : unread (map (option_map items) files) ≡ None = rw (split, is) (none_unread items v others readable) in
     rw h.1 (for_base all h.0)
+
+-- why `join` is refused by its files
+pub no_part_file : {V : Type 0} (items : V → List ℕ) (files : List (Option V)) (base : Option (Option (List ℕ))) (r : Refusal) → length files ≡ 0 → r ≡ file_refusal 0
+    → RefusesParts (record { named = map (option_map items) files; base = base }) r
+no_part_file items [] base r none same = rw same (for_no_part refl)
+no_part_file items (file ∷ files) base r none same = absurd (let bad : suc (length files) ≡ 0 = none in omega (arith, bad))
+
+pub many_part_files : {V : Type 0} (items : V → List ℕ) (files : List (Option V)) (base : Option (Option (List ℕ))) (r : Refusal) → most_texts < length files
+    → r ≡ join_refusal (record { cause = joining.TooLong; file = most_texts }) → RefusesParts (record { named = map (option_map items) files; base = base }) r
+many_part_files items files base r many same = let long = same_length items files in rw same (for_many_parts (omega (arith, long, many)))
+
+same_position : {V : Type 0} (items : V → List ℕ) (files : List (Option V)) → position is_none (map (option_map items) files) ≡ position is_none files
+same_position items files = rw (same_place items files, same_length items files) refl
+
+unread_parts : {V : Type 0} (items : V → List ℕ) (files : List (Option V)) (found : Option ℕ) → 0 < length files → position is_none files ≡ found → unread (map (option_map items) files) ≡ found
+unread_parts items [] found some there = absurd (omega (arith, some))
+unread_parts items (file ∷ files) found some there = same_position items (file ∷ files) ∙ there
+
+pub unread_part : {V : Type 0} (items : V → List ℕ) (files : List (Option V)) (place : ℕ) (base : Option (Option (List ℕ))) (r : Refusal) → 0 < length files → length files ≤ most_texts
+    → position is_none files ≡ Some place → r ≡ file_refusal place → RefusesParts (record { named = map (option_map items) files; base = base }) r
+unread_part items files place base r some few there same =
+    let long = same_length items files in rw same (for_unread_part place (omega (arith, long, few)) (unread_parts items files (Some place) some there))
+
+pub part_memory : {V : Type 0} (items : V → List ℕ) (files : List (Option V)) (base : Option (Option (List ℕ))) (r : Refusal) → 0 < length files → position is_none files ≡ None
+    → r ≡ join_refusal (record { cause = joining.Memory; file = 0 }) → RefusesParts (record { named = map (option_map items) files; base = base }) r
+part_memory items files base r some readable same = rw same (for_part_memory (unread_parts items files None some readable))
+
+-- the texts that were read are those of all files
+pub texts_read : {V : Type 0} (items : V → List ℕ) (files : List (Option V)) (texts : List (List ℕ)) → position is_none files ≡ None → texts ≡ filter_map (option_map items) files
+    → map (option_map items) files ≡ map Some texts
+texts_read items files texts readable all = all_read items files readable ∙ ap (λ (ts : List (List ℕ)). map Some ts) (sym all)
+
+map_long : {V W : Type 0} (f : V → W) (xs : List V) → length (map f xs) ≡ length xs
+map_long f [] = refl
+map_long f (x ∷ xs) = ap suc (map_long f xs)
+
+pub texts_long : {V : Type 0} (items : V → List ℕ) (files : List (Option V)) (texts : List (List ℕ)) → position is_none files ≡ None → texts ≡ filter_map (option_map items) files
+    → length texts ≡ length files
+texts_long items files texts readable all =
+    sym (map_long Some texts) ∙ ap (λ (fs : List (Option (List ℕ))). length fs) (sym (texts_read items files texts readable all)) ∙ same_length items files
+
+pub copies_long : {V : Type 0} (items : V → List ℕ) (files : List (Option V)) (copies : List V) → position is_none files ≡ None → map items copies ≡ filter_map (option_map items) files
+    → length copies ≡ length files
+copies_long items files copies readable all = sym (map_long items copies) ∙ texts_long items files (map items copies) readable all
+
+pub parts_refused : {V : Type 0} (items : V → List ℕ) (files : List (Option V)) (texts : List (List ℕ)) (base : Option (Option (List ℕ))) (r : Refusal) → length files ≤ most_texts
+    → position is_none files ≡ None → texts ≡ filter_map (option_map items) files → RefusesTexts texts r → RefusesParts (record { named = map (option_map items) files; base = base }) r
+parts_refused items files texts base r few readable all why =
+    let long = texts_long items files texts readable all in for_parts texts r (texts_read items files texts readable all) (omega (arith, long, few)) why

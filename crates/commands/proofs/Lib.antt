@@ -10,6 +10,7 @@ pub mod OneMissing
 pub mod OneText
 pub mod OnePage
 pub mod OneCure
+pub mod OneJoin
 pub mod OneAnswer
 pub mod OneWork
 pub mod OneRefusal

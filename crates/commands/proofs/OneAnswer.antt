@@ -1,5 +1,5 @@
 -- Each command has one answer.
-use Rattle.std.proofs.Common.{ℕ, ◌≡◌, Bool, List, [], ◌∷◌, map, flat_map, Option, None, Some, refl, sym, ◌∙◌, ap, subst}
+use Rattle.std.proofs.Common.{ℕ, ◌≡◌, Bool, List, [], ◌∷◌, ◌++◌, length, map, flat_map, Option, None, Some, refl, sym, ◌∙◌, ap, subst}
 use Rattle.std.specs.Prelude.{MatchOption}
 use Rattle.logfmt.specs.Bounds.{LogValue}
 use Rattle.logfmt.specs.Laws.{TextOfOneLog}
@@ -20,29 +20,32 @@ use Rattle.request.specs.declared.command.Which.{Which}
 use Rattle.request.specs.declared.command.Request.{Request}
 use Rattle.request.specs.declared.trials.Trial.{Trial}
 use Rattle.request.specs.declared.trials.TrialWords.{TrialWords}
+use Rattle.join.specs.Joining.{IsJoined}
 use Rattle.trial.specs.Image.{sectors_of as image_sectors}
 use Rattle.trial.specs.Trial.{trial_text, ending_of_trial, IsTried}
 use Rattle.request.specs.declared.command.Request.TheVariants as request
 use Rattle.request.specs.OptionWords.{AskFor}
-use Rattle.request.specs.Source.{Recording, plan_of}
+use Rattle.request.specs.Source.{Recording, plan_of, images_of}
 use Rattle.runs.specs.Cured.{TellsWanted, IsAnswered}
+use Rattle.runs.specs.Inputs.{inputs_number}
 use Rattle.limits.specs.Sizes.{sector_limit}
 use Rattle.limits.specs.declared.Limits.{Limits}
 use Rattle.raw_log.specs.Imported.{IsImported}
 use Rattle.raw_log.proofs.Profile.{one_import}
 use Rattle.looks.specs.Which.{IsMeant, IsOnly}
 use Rattle.looks.specs.Image.{text_in, IsImageIn, IsImage, IsShown}
-use Rattle.looks.specs.Survey.{survey_text, IsSurvey}
+use Rattle.looks.specs.Survey.{survey_text, parts_text, IsSurvey}
 use Rattle.looks.specs.Table.{IsTable}
 use Rattle.looks.specs.Verifying.{accepted_text, IsAcceptedText}
 use Rattle.looks.specs.Assembly.{listing_text, IsAssembled, IsListed}
 use Rattle.runs.specs.declared.explore_command.Wanted.{Wanted}
 use Rattle.runs.specs.declared.explore_command.Wanted.TheVariants as wanted
-use Rattle.commands.specs.Acting.{Files, initial_of, recording, status_of, AnswersRun, AnswersFiles, AnswersExplore, AnswersFile, AnswersLog, AnswersOf, AnswersWith, AnswersTrial, Answers}
+use Rattle.commands.specs.Acting.{Files, initial_of, recording, status_of, AnswersRun, AnswersFiles, AnswersExplore, AnswersFile, AnswersLog, AnswersOf, AnswersWith, AnswersTrial, AnswersJoin, Answers}
 use Rattle.commands.proofs.OneReport.{same_log, same_asked, one_run}
 use Rattle.commands.proofs.OneText.{one_explanation}
 use Rattle.commands.proofs.OnePage.{one_page}
 use Rattle.commands.proofs.OneCure.{one_cure}
+use Rattle.commands.proofs.OneJoin.{one_join}
 
 -- what the laws of the lower layers say
 pub record Laws : Type 0 where
@@ -56,16 +59,17 @@ abbrev pub Same : List ℕ → List ℕ → ℕ → ℕ → Type 0
 Same bytes others status ended = (bytes ≡ others) × (status ≡ ended)
 
 -- what is told of a log and of checkers is one
-one_told : (w : Wanted) (s : Settings) (value : LogValue) (checkers : List CheckerValue) (bytes others : List ℕ)
-    → TellsWanted w s value checkers bytes → TellsWanted w s value checkers others → bytes ≡ others
-one_told (wanted.Told telling.Report) s value checkers bytes others a b = a ∙ sym b
-one_told (wanted.Told telling.Causes) s value checkers bytes others a b = one_explanation _ _ _ bytes others a b
-one_told (wanted.Told telling.Page) s value checkers bytes others a b = one_page _ _ _ _ bytes others a b
-one_told wanted.Cured s value checkers bytes others a b = one_cure s value checkers bytes others a b
+one_told : (w : Wanted) (inputs : ℕ) (s : Settings) (value : LogValue) (checkers : List CheckerValue) (bytes others : List ℕ)
+    → TellsWanted w inputs s value checkers bytes → TellsWanted w inputs s value checkers others → bytes ≡ others
+one_told (wanted.Told telling.Report) inputs s value checkers bytes others a b = a ∙ sym b
+one_told (wanted.Told telling.Causes) inputs s value checkers bytes others a b = one_explanation _ _ _ bytes others a b
+one_told (wanted.Told telling.Page) inputs s value checkers bytes others a b = one_page _ _ _ _ bytes others a b
+one_told wanted.Cured inputs s value checkers bytes others a b = one_cure s value checkers bytes others a b
 
 answered_once : Laws → (w : Wanted) (text : Recording) (files : List (List ℕ)) (s : Settings) (bytes others : List ℕ) (failing fails : Bool)
     → IsAnswered w text files s bytes failing → IsAnswered w text files s others fails → (bytes ≡ others) × (failing ≡ fails)
-answered_once laws w = one_run laws.texts laws.programs laws.verdicts (λ s value checkers bytes. TellsWanted w s value checkers bytes) (one_told w)
+answered_once laws w text files =
+    one_run laws.texts laws.programs laws.verdicts (λ s value checkers bytes. TellsWanted w (inputs_number text.text files) s value checkers bytes) (one_told w (inputs_number text.text files)) text files
 
 run_once : Laws → (t : Wanted) (s : Settings) (log : Recording) (programs : List (List ℕ)) (bytes others : List ℕ) (status ended : ℕ)
     → AnswersRun t s log programs bytes status → AnswersRun t s log programs others ended → Same bytes others status ended
@@ -145,9 +149,9 @@ of_once w Is one files bytes others status ended a b =
     let same = same_settings w b.settings a.settings b.asked a.asked in
     log_once (Is a.settings) (one a.settings) files bytes others status ended a.answers (subst (λ (s : Settings). AnswersLog (Is s) files others ended) same b.answers)
 
-one_survey : Laws → (s : Settings) → IsOneOf (λ text bytes. IsSurvey text s bytes)
-one_survey laws s text bytes others a b =
-    a.told ∙ ap (λ v. survey_text (plan_of s v) s.bound s.tears) (same_log laws.texts text s a.value b.value a.source b.source) ∙ sym b.told
+one_survey : Laws → (parts : Option ℕ) (s : Settings) → IsOneOf (λ text bytes. IsSurvey parts text s bytes)
+one_survey laws parts s text bytes others a b =
+    a.told ∙ ap (λ v. survey_text (plan_of s v) s.bound s.tears ++ parts_text parts (length (images_of s v))) (same_log laws.texts text s a.value b.value a.source b.source) ∙ sym b.told
 
 one_table : Laws → (s : Settings) → IsOneOf (λ text bytes. IsTable text s bytes)
 one_table laws s text bytes others a b =
@@ -215,6 +219,13 @@ trial_once laws w files bytes others status ended a b =
     let same = one_trial laws a.program a.image a.trial bytes others a.failing b.failing a.tried tried in
     (same.0, a.ends ∙ ap status_of same.1 ∙ sym b.ends)
 
+join_once : (files : Files) (bytes others : List ℕ) (status ended : ℕ) → AnswersJoin files bytes status → AnswersJoin files others ended → Same bytes others status ended
+join_once files bytes others status ended a b =
+    let texts : b.texts ≡ a.texts = same_files files.named b.texts a.texts b.read a.read in
+    let joined = subst (λ (ts : List (List ℕ)). IsJoined ts others b.joins.failing) texts b.joins.joined in
+    let same = one_join a.texts bytes others a.joins.failing b.joins.failing a.joins.joined joined in
+    (same.0, a.joins.ends ∙ ap status_of same.1 ∙ sym b.joins.ends)
+
 pub one_answer : Laws → (r : Request) (files : Files) (bytes others : List ℕ) (status ended : ℕ)
     → Answers r files bytes status → Answers r files others ended → (bytes ≡ others) × (status ≡ ended)
 one_answer laws request.StoredRun files bytes others status ended a b = run_once laws (wanted.Told telling.Report) _ _ _ bytes others status ended a b
@@ -222,7 +233,7 @@ one_answer laws (request.Explore w) files bytes others status ended a b = explor
 one_answer laws (request.Why w) files bytes others status ended a b = explore_once laws (wanted.Told telling.Causes) w files bytes others status ended a b
 one_answer laws (request.Cure w) files bytes others status ended a b = explore_once laws wanted.Cured w files bytes others status ended a b
 one_answer laws (request.Page w) files bytes others status ended a b = explore_once laws (wanted.Told telling.Page) w files bytes others status ended a b
-one_answer laws (request.Images w) files bytes others status ended a b = of_once w (λ s text. IsSurvey text s) (one_survey laws) files bytes others status ended a b
+one_answer laws (request.Images w parts) files bytes others status ended a b = of_once w (λ s text. IsSurvey parts text s) (one_survey laws parts) files bytes others status ended a b
 one_answer laws (request.Log w) files bytes others status ended a b = of_once w (λ s text. IsTable text s) (one_table laws) files bytes others status ended a b
 one_answer laws (request.Image w which) files bytes others status ended a b = of_once w (λ s text. IsImage text s which) (one_image laws _ which) files bytes others status ended a b
 one_answer laws (request.Show w which) files bytes others status ended a b = of_once w (λ s text. IsShown text s which) (one_image laws _ which) files bytes others status ended a b
@@ -232,3 +243,4 @@ one_answer laws (request.Import limits) files bytes others status ended a b =
 one_answer laws (request.Check w) files bytes others status ended a b = trial_once laws w files bytes others status ended a b
 one_answer laws request.Asm files bytes others status ended a b = file_once IsAssembled (one_assembled laws) files bytes others status ended a b
 one_answer laws (request.List numbered) files bytes others status ended a b = file_once (IsListed numbered) (one_listed laws numbered) files bytes others status ended a b
+one_answer laws request.Join files bytes others status ended a b = join_once files bytes others status ended a b

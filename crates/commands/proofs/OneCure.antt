@@ -6,7 +6,7 @@ use Rattle.logfmt.specs.declared.entry.Entry.{Entry}
 use Rattle.epochs.specs.declared.part.By.{By}
 use Rattle.epochs.specs.Cuts.{cuts_of}
 use Rattle.choices.specs.Picks.{fates_of}
-use Rattle.choices.specs.Choices.{choices_at, choices_over, ranked_before, IsFirstPast}
+use Rattle.choices.specs.Choices.{choices_at, choices_over, ranked_before, limit, IsFirstPast}
 use Rattle.checker.specs.Checker.{CheckerValue}
 use Rattle.flushes.specs.declared.window.Window.{Window}
 use Rattle.flushes.specs.declared.counted.MissingFlush.{MissingFlush}
@@ -62,8 +62,8 @@ same_fails s cs value fs gs a b = same_failures s.by value.entries (run_lines s 
 -- the last run says one thing
 same_end : (s : Settings) (cs : List CheckerValue) (value : LogValue) (end other : List ℕ) → Ends s cs value end → Ends s cs value other → end ≡ other
 same_end s cs value _ _ (with_totals fs few fail none) (with_totals gs small fails nothing) = refl
-same_end s cs value _ _ (with_totals fs few fail none) (with_refusal cut past) = absurd (not_past s value cut few past)
-same_end s cs value _ _ (with_refusal cut past) (with_totals fs few fail none) = absurd (not_past s value cut few past)
+same_end s cs value _ _ (with_totals fs few fail none) (with_refusal cut past) = absurd (not_past limit s value cut few past)
+same_end s cs value _ _ (with_refusal cut past) (with_totals fs few fail none) = absurd (not_past limit s value cut few past)
 same_end s cs value _ _ (with_refusal cut past) (with_refusal other behind) =
     ap refused_line (same_past s value cut other past behind)
 
@@ -71,7 +71,7 @@ same_end s cs value _ _ (with_refusal cut past) (with_refusal other behind) =
 no_round : (s : Settings) (cs : List CheckerValue) (value : LogValue) (ms : List MissingFlush) (end : List ℕ) → IsRound s cs value ms → Ends s cs value end → ⊥
 no_round s cs value ms _ round (with_totals fs few fail none) =
     round.some (ap windows_in (same_fails s cs value round.failures fs round.fail fail) ∙ none)
-no_round s cs value ms _ round (with_refusal cut past) = not_past s value cut round.few past
+no_round s cs value ms _ round (with_refusal cut past) = not_past limit s value cut round.few past
 
 same_round : (s : Settings) (cs : List CheckerValue) (value : LogValue) (ms ns : List MissingFlush) → IsRound s cs value ms → IsRound s cs value ns → ms ≡ ns
 same_round s cs value ms ns a b =

@@ -1,8 +1,9 @@
 -- Where there is an answer, a command is refused for want of memory alone.
-use Rattle.std.proofs.Common.{ℕ, suc, ◌≡◌, ◌⊎◌, ◌+◌, ◌≤◌, nat_lt, Bool, true, false, cond, List, [], ◌∷◌, length, map, Option, None, Some, option_map, position, is_none, inl, inr, refl, sym, ◌∙◌, ap, subst, arith}
+use Rattle.std.proofs.Common.{ℕ, suc, ◌≡◌, ◌⊎◌, ◌+◌, ◌<◌, ◌≤◌, nat_lt, Bool, true, false, cond, List, [], ◌∷◌, length, map, Option, None, Some, option_map, position, is_none, inl, inr, refl, sym, ◌∙◌, ap, subst, arith}
 use Rattle.std.specs.Prelude.{MatchOption}
 use Rattle.std.specs.Option.{option_map_or, option_and_then}
 use Rattle.std.specs.List.{position_or_len}
+use Rattle.std.proofs.lemmas.Bool.{false≢true}
 use Rattle.std.proofs.lemmas.Bool.Decides.{nat_tests}
 use Rattle.base.specs.declared.refusal.Refusal.{Refusal}
 use Rattle.base.specs.Refusals.{memory_refusal}
@@ -13,6 +14,7 @@ use Rattle.epochs.specs.declared.part.By.{By}
 use Rattle.bpf_isa.specs.declared.instr.Instr.{Instr}
 use Rattle.choices.specs.Choices.{ChoiceValue}
 use Rattle.verifier.specs.Verdicts.{IsAccepted, Refused}
+use Rattle.request.specs.declared.extent.Extent.{Extent}
 use Rattle.request.specs.declared.settings.OptionPlace.TheVariants as place
 use Rattle.request.specs.declared.settings.Settings.{Settings}
 use Rattle.request.specs.declared.settings.Telling.TheVariants as telling
@@ -22,8 +24,9 @@ use Rattle.request.specs.declared.command.Request.{Request}
 use Rattle.request.specs.declared.command.Request.TheVariants as request
 use Rattle.request.specs.Settings.{option_refusal, settings_refusal}
 use Rattle.request.specs.OptionWords.{AskFor, settings_with, words_refusal}
-use Rattle.request.specs.Source.{Recording, plan_of, HasImages}
-use Rattle.runs.specs.Explore.{Refuses}
+use Rattle.request.specs.Source.{Recording, plan_of, images_of, HasImages}
+use Rattle.runs.specs.Explore.{RefusesWanted}
+use Rattle.runs.specs.Inputs.{inputs_number}
 use Rattle.runs.specs.Cured.{TellsWanted}
 use Rattle.runs.specs.declared.explore_command.Wanted.{Wanted}
 use Rattle.runs.specs.declared.explore_command.Wanted.TheVariants as wanted
@@ -36,7 +39,8 @@ use Rattle.looks.specs.Which.{IsMeant}
 use Rattle.looks.specs.Image as image
 use Rattle.looks.specs.Image.{IsImage, RefusesImage, IsShown}
 use Rattle.looks.specs.Survey as survey
-use Rattle.looks.specs.Survey.{IsSurvey, RefusesSurvey}
+use Rattle.looks.specs.Survey.{Fits, IsSurvey, RefusesSurvey}
+use Rattle.looks.specs.Layout.{is_layout}
 use Rattle.looks.specs.Table as table
 use Rattle.looks.specs.Table.{IsTable, RefusesTable}
 use Rattle.looks.specs.Verifying.{IsAcceptedText, RefusesVerified, with_code_fault, no_code_memory, with_verifier_fault, no_verifier_memory, no_text_memory}
@@ -49,26 +53,31 @@ use Rattle.trial.specs.Image.{sectors_of}
 use Rattle.trial.specs.Trial as trials
 use Rattle.trial.specs.Trial.{IsTried, RefusesLimit, RefusesTrial}
 use Rattle.commands.specs.Acting.{AnswersTrial, RefusesCheck, for_trial_words, for_program_file, for_image_file, for_trial}
+use Rattle.base.specs.declared.causes.JoinCause.TheVariants as joining
+use Rattle.commands.specs.Acting.{AnswersJoin, JoinsTexts, RefusesTexts, for_texts, RefusesParts, for_no_part, for_many_parts, for_unread_part, for_parts, for_part_memory}
 use Rattle.commands.specs.Laws.{IsOfMemory}
-use Rattle.commands.proofs.OneReport.{Below, same_log, of_log, of_source, run_or_refusal}
+use Rattle.commands.proofs.OneJoin.{joined_or_refused}
+use Rattle.commands.proofs.OneReport.{Below, same_log, of_log, of_source, wanted_or_refusal}
 use Rattle.commands.proofs.OneAnswer.{same_files, same_initial, same_settings, same_held, tried_alike}
 
 -- words that ask for settings are not refused
-asked_by : (w : OptionWords) (cuts : Option CutKind) (way : Option By) (added : Option Flushes) (s : Settings) (r : Refusal)
-    → option_and_then (λ c. option_and_then (λ b. option_map (settings_with w c b) added) way) cuts ≡ Some s → settings_refusal s ≡ None
-    → option_map_or (λ c. option_map_or (λ b. option_map_or (λ f. settings_refusal (settings_with w c b f)) added (Some (option_refusal place.Flush))) way (Some (option_refusal place.By))) cuts (Some (option_refusal place.Cuts)) ≡ Some r
+asked_by : (w : OptionWords) (cuts : Option CutKind) (way : Option By) (added : Option Flushes) (images : Option Extent) (s : Settings) (r : Refusal)
+    → option_and_then (λ c. option_and_then (λ b. option_and_then (λ f. option_map (settings_with w c b f) images) added) way) cuts ≡ Some s → settings_refusal s ≡ None
+    → option_map_or (λ c. option_map_or (λ b. option_map_or (λ f. option_map_or (λ e. settings_refusal (settings_with w c b f e)) images (Some (option_refusal place.Images)))
+    added (Some (option_refusal place.Flush))) way (Some (option_refusal place.By))) cuts (Some (option_refusal place.Cuts)) ≡ Some r
     → ⊥
-asked_by w None way added s r asked good bad = let none : None ≡ Some s = asked in cc
-asked_by w (Some c) None added s r asked good bad = let none : None ≡ Some s = asked in cc
-asked_by w (Some c) (Some way) None s r asked good bad = let none : None ≡ Some s = asked in cc
-asked_by w (Some c) (Some way) (Some added) s r asked good bad =
-    let both : Some (settings_with w c way added) ≡ Some s = asked in
-    let same : settings_with w c way added ≡ s = cc in
+asked_by w None way added images s r asked good bad = let none : None ≡ Some s = asked in cc
+asked_by w (Some c) None added images s r asked good bad = let none : None ≡ Some s = asked in cc
+asked_by w (Some c) (Some way) None images s r asked good bad = let none : None ≡ Some s = asked in cc
+asked_by w (Some c) (Some way) (Some added) None s r asked good bad = let none : None ≡ Some s = asked in cc
+asked_by w (Some c) (Some way) (Some added) (Some extent) s r asked good bad =
+    let both : Some (settings_with w c way added extent) ≡ Some s = asked in
+    let same : settings_with w c way added extent ≡ s = cc in
     let none : None ≡ Some r = sym good ∙ sym (ap settings_refusal same) ∙ bad in
     cc
 
 not_for_words : (w : OptionWords) (s : Settings) (r : Refusal) → AskFor w s → words_refusal w ≡ Some r → ⊥
-not_for_words w s r h bad = asked_by w w.cuts w.by w.flushes s r h.asked h.good bad
+not_for_words w s r h bad = asked_by w w.cuts w.by w.flushes w.images s r h.asked h.good bad
 
 of_words : (w : OptionWords) (s : Settings) (Rest : Settings → Refusal → Type 0) (r : Refusal) → AskFor w s → ((q : Refusal) → Rest s q → IsOfMemory q.code)
     → RefusesWith w Rest r → IsOfMemory r.code
@@ -134,7 +143,7 @@ none_unread x xs place h =
     (nat_lt (position_or_len is_none (map Some (x ∷ xs))) (length (map Some (x ∷ xs)))) refl
     (subst (λ (n : ℕ). n ≤ position_or_len is_none (map Some (x ∷ xs))) (sym long) all) h
 
-of_files : Below → (t : Wanted) (files : Files) (s : Settings) (bytes : List ℕ) (status : ℕ) (r : Refusal) → AnswersFiles t s files bytes status → RefusesFiles files s r
+of_files : Below → (t : Wanted) (files : Files) (s : Settings) (bytes : List ℕ) (status : ℕ) (r : Refusal) → AnswersFiles t s files bytes status → RefusesFiles t files s r
     → IsOfMemory r.code
 of_files below t files s bytes status _ h (for_unread place unreadable) =
     absurd (none_unread h.log h.programs place (subst (λ (fs : List (Option (List ℕ))). unread fs ≡ Some place) h.read unreadable))
@@ -144,24 +153,36 @@ of_files below t files s bytes status _ h (for_run log programs initial r read b
     let text : log ≡ h.log = cc in
     let others : programs ≡ h.programs = cc in
     let same : recording log initial ≡ recording h.log h.initial = λ i. recording (text i) (same_initial files initial h.initial based h.based i) in
-    let by_log = subst (λ (held : Recording). Refuses held programs s r) same why in
-    run_or_refusal below (λ s value checkers bytes. TellsWanted t s value checkers bytes) (recording h.log h.initial) h.programs s bytes h.answers.failing r h.answers.told
-    (subst (λ (ps : List (List ℕ)). Refuses (recording h.log h.initial) ps s r) others by_log)
+    let by_log = subst (λ (held : Recording). RefusesWanted t held programs s r) same why in
+    wanted_or_refusal below t (λ s value checkers bytes. TellsWanted t (inputs_number h.log h.programs) s value checkers bytes) (recording h.log h.initial) h.programs s bytes h.answers.failing r
+    h.answers.taken h.answers.told
+    (subst (λ (ps : List (List ℕ)). RefusesWanted t (recording h.log h.initial) ps s r) others by_log)
 of_files below t files s bytes status _ h (for_memory readable) = refl
 
 of_explore : Below → (t : Wanted) (w : OptionWords) (files : Files) (bytes : List ℕ) (status : ℕ) (r : Refusal) → AnswersExplore t w files bytes status
-    → RefusesWith w (RefusesFiles files) r → IsOfMemory r.code
+    → RefusesWith w (RefusesFiles t files) r → IsOfMemory r.code
 of_explore below t w files bytes status r h why =
-    of_words w h.settings (RefusesFiles files) r h.asked (λ q. of_files below t files h.settings bytes status q h.answers) why
+    of_words w h.settings (RefusesFiles t files) r h.asked (λ q. of_files below t files h.settings bytes status q h.answers) why
 
 of_stored : Below → (t : Wanted) (text : Recording) (files : List (List ℕ)) (s : Settings) (bytes : List ℕ) (status : ℕ) (r : Refusal) → AnswersRun t s text files bytes status
-    → (r ≡ memory_refusal) ⊎ Refuses text files s r → IsOfMemory r.code
+    → (r ≡ memory_refusal) ⊎ RefusesWanted t text files s r → IsOfMemory r.code
 of_stored below t text files s bytes status r h (inl same) = subst (λ (q : Refusal). IsOfMemory q.code) (sym same) refl
-of_stored below t text files s bytes status r h (inr why) = run_or_refusal below (λ s value checkers bytes. TellsWanted t s value checkers bytes) text files s bytes h.failing r h.told why
+of_stored below t text files s bytes status r h (inr why) =
+    wanted_or_refusal below t (λ s value checkers bytes. TellsWanted t (inputs_number text.text files) s value checkers bytes) text files s bytes h.failing r h.taken h.told why
 
-of_survey : Below → (s : Settings) (text : Recording) (bytes : List ℕ) (r : Refusal) → IsSurvey text s bytes → RefusesSurvey text s r → IsOfMemory r.code
-of_survey below s text bytes _ h (survey.for_source r why) = of_source below text s h.value r h.source why
-of_survey below s text bytes _ h (survey.for_memory value source) = refl
+not_laid : (parts : Option ℕ) (count images : ℕ) → parts ≡ Some count → Fits parts images → is_layout images count ≡ false → ⊥
+not_laid None count images same fits lack = let bad : None ≡ Some count = same in cc
+not_laid (Some parts) count images same fits lack =
+    let both : Some parts ≡ Some count = same in
+    let is : parts ≡ count = cc in
+    false≢true (sym lack ∙ ap (λ (n : ℕ). is_layout images n) (sym is) ∙ fits)
+
+of_survey : Below → (parts : Option ℕ) (s : Settings) (text : Recording) (bytes : List ℕ) (r : Refusal) → IsSurvey parts text s bytes → RefusesSurvey parts text s r → IsOfMemory r.code
+of_survey below parts s text bytes _ h (survey.for_source r why) = of_source below text s h.value r h.source why
+of_survey below parts s text bytes _ h (survey.for_parts value count source same lack) =
+    let one : h.value ≡ value = same_log below.texts text s h.value value h.source source in
+    absurd (not_laid parts count (length (images_of s h.value)) same h.fits (ap (λ (v : LogValue). is_layout (length (images_of s v)) count) one ∙ lack))
+of_survey below parts s text bytes _ h (survey.for_memory value source) = refl
 
 of_table : Below → (s : Settings) (text : Recording) (bytes : List ℕ) (r : Refusal) → IsTable text s bytes → RefusesTable text s r → IsOfMemory r.code
 of_table below s text bytes _ h (table.for_log r why) = of_log below text s h.value r h.reads why
@@ -230,6 +251,25 @@ of_trial below w files bytes status _ h (for_trial t program image r asked read 
     let tried = tried_alike h.program program h.image image h.trial t (same_held _ _ _ h.read read) (same_held _ _ _ h.shown shown) (h.asked.asked ∙ sym asked.asked) h.tried in
     of_tried below program image t bytes h.failing r tried why
 
+of_texts : (texts : List (List ℕ)) (bytes : List ℕ) (status : ℕ) (r : Refusal) → JoinsTexts texts bytes status → RefusesTexts texts r → IsOfMemory r.code
+of_texts texts bytes status _ h (for_texts fault why first) = joined_or_refused texts bytes h.failing fault h.short h.joined why
+
+-- of some texts each can be read
+texts_unread : (texts : List (List ℕ)) (place : ℕ) → 0 < length texts → unread (map Some texts) ≡ Some place → ⊥
+texts_unread [] place some h = omega (arith, some)
+texts_unread (x ∷ xs) place some h = none_unread x xs place h
+
+of_join : (files : Files) (bytes : List ℕ) (status : ℕ) (r : Refusal) → AnswersJoin files bytes status → RefusesParts files r → IsOfMemory r.code
+of_join files bytes status _ h (for_no_part none) =
+    absurd (let long = ap length h.read in let all = length_some h.texts in let lack = ap length none in let some = h.some in omega (arith, long, all, lack, some))
+of_join files bytes status _ h (for_many_parts many) =
+    absurd (let long = ap length h.read in let all = length_some h.texts in let few = h.few in omega (arith, long, all, many, few))
+of_join files bytes status _ h (for_unread_part place few unreadable) =
+    absurd (texts_unread h.texts place h.some (subst (λ (fs : List (Option (List ℕ))). unread fs ≡ Some place) h.read unreadable))
+of_join files bytes status _ h (for_parts texts r read few why) =
+    of_texts h.texts bytes status r h.joins (subst (λ (ts : List (List ℕ)). RefusesTexts ts r) (same_files files.named texts h.texts read h.read) why)
+of_join files bytes status _ h (for_part_memory readable) = refl
+
 pub answer_or_refusal : Below → (r : Request) (files : Files) (bytes : List ℕ) (status : ℕ) (refusal : Refusal) → Answers r files bytes status → RefusesToAct r files refusal
     → IsOfMemory refusal.code
 answer_or_refusal below request.StoredRun files bytes status refusal h why = of_stored below (wanted.Told telling.Report) _ _ _ bytes status refusal h why
@@ -237,8 +277,8 @@ answer_or_refusal below (request.Explore w) files bytes status refusal h why = o
 answer_or_refusal below (request.Why w) files bytes status refusal h why = of_explore below (wanted.Told telling.Causes) w files bytes status refusal h why
 answer_or_refusal below (request.Cure w) files bytes status refusal h why = of_explore below wanted.Cured w files bytes status refusal h why
 answer_or_refusal below (request.Page w) files bytes status refusal h why = of_explore below (wanted.Told telling.Page) w files bytes status refusal h why
-answer_or_refusal below (request.Images w) files bytes status refusal h why =
-    of_log_with w (λ s text. IsSurvey text s) (λ s text. RefusesSurvey text s) (of_survey below) files bytes status refusal h why
+answer_or_refusal below (request.Images w parts) files bytes status refusal h why =
+    of_log_with w (λ s text. IsSurvey parts text s) (λ s text. RefusesSurvey parts text s) (of_survey below parts) files bytes status refusal h why
 answer_or_refusal below (request.Log w) files bytes status refusal h why =
     of_log_with w (λ s text. IsTable text s) (λ s text. RefusesTable text s) (of_table below) files bytes status refusal h why
 answer_or_refusal below (request.Image w which) files bytes status refusal h why =
@@ -255,3 +295,4 @@ answer_or_refusal below (request.Check w) files bytes status refusal h why = of_
 answer_or_refusal below request.Asm files bytes status refusal h why = of_alone IsAssembled RefusesText of_assembled files bytes status refusal h why
 answer_or_refusal below (request.List numbered) files bytes status refusal h why =
     of_alone (IsListed numbered) RefusesBytes (of_listed below numbered) files bytes status refusal h why
+answer_or_refusal below request.Join files bytes status refusal h why = of_join files bytes status refusal h why

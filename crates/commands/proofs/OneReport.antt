@@ -10,7 +10,7 @@ use Rattle.logfmt.specs.Laws.{TextOfOneLog, TextHasNoFault}
 use Rattle.epochs.specs.Cuts.{cuts_of}
 use Rattle.choices.specs.Picks.{fates_of}
 use Rattle.epochs.specs.declared.part.By.{By}
-use Rattle.choices.specs.Choices.{choices_at, choices_over, ranked_choices, ranked_before, limit, IsFirstPast}
+use Rattle.choices.specs.Choices.{choices_at, choices_over, ranked_choices, ranked_before, IsFirstPastOf}
 use Rattle.bpf_isa.specs.declared.instr.Instr.{Instr}
 use Rattle.bpf_isa.specs.Laws.{OneProgram, NoFaultInSpelled}
 use Rattle.verifier.specs.Verdicts.{Refused}
@@ -21,10 +21,14 @@ use Rattle.workers.specs.Failing.{failing_lines}
 use Rattle.request.specs.declared.settings.Settings.{Settings}
 use Rattle.logfmt.specs.Flushed.{with_flushes}
 use Rattle.epochs.specs.Flushes.{places_of}
-use Rattle.request.specs.Source.{Recording, plan_of, images_of, HasImages, IsLogOf, IsRecorded, lacking, RefusesLog, past_device, with_fault, no_memory, lacks, RefusesPlan, too_many, no_plan_memory, RefusesSource, for_log, for_plan}
+use Rattle.request.specs.Source.{Recording, plan_of, images_of, HasImages, IsLogOf, IsRecorded, lacking, RefusesLog, past_device, with_fault, no_memory, lacks, RefusesPlan, too_many, lacks_images, no_plan_memory, RefusesSource, for_log, for_plan}
+use Rattle.request.specs.Extents.{most_images, has_extent}
+use Rattle.runs.specs.Inputs.{inputs_number}
+use Rattle.runs.specs.Judged.{takes}
+use Rattle.runs.specs.declared.explore_command.Wanted.{Wanted}
 use Rattle.runs.specs.Programs.{IsRunWithin}
 use Rattle.runs.specs.Explore as explore
-use Rattle.runs.specs.Explore.{IsCheckerOf, AreCheckersOf, subject_of, report_of, IsRun, RefusesProgram, with_code_fault, with_verifier_fault, no_code_memory, no_verifier_memory, no_list_memory, Refuses, for_count, for_program}
+use Rattle.runs.specs.Explore.{IsCheckerOf, AreCheckersOf, subject_of, report_of, IsRun, RefusesProgram, with_code_fault, with_verifier_fault, no_code_memory, no_verifier_memory, no_list_memory, Refuses, for_count, for_program, RefusesWanted, for_extent, for_rest}
 use Rattle.commands.specs.Laws.{IsOfMemory, OneReport}
 
 same_recorded : TextOfOneLog → (text : Recording) (s : Settings) (v w : LogValue) → IsRecorded text s v → IsRecorded text s w → v ≡ w
@@ -79,7 +83,8 @@ one_run texts programs verdicts Tells one text files s bytes others failing fail
     (one s h.value h.checkers bytes others h.tells tells, same_test failing fails _ _ h.fails k.fails lines)
 
 pub one_report : TextOfOneLog → OneProgram → OneVerdict → OneReport
-one_report texts programs verdicts = one_run texts programs verdicts (λ s value checkers bytes. bytes ≡ report_of s value checkers) (λ s value checkers bytes others a b. a ∙ sym b)
+one_report texts programs verdicts text files =
+    one_run texts programs verdicts (λ s value checkers bytes. bytes ≡ report_of (inputs_number text.text files) s value checkers) (λ s value checkers bytes others a b. a ∙ sym b) text files
 
 -- the first cuts have no more choices than all
 few_over : (way : By) (es : List Entry) (m bound place : ℕ) (n : ℕ) (cuts : List ℕ) → length (choices_over way es m bound place (take n cuts)) ≤ length (choices_over way es m bound place cuts)
@@ -95,9 +100,9 @@ few_over way es m bound place (suc n) (cut ∷ cuts) =
     )
 
 -- a log with few enough images has no cut with which there are too many
-pub not_past : (s : Settings) (value : LogValue) (cut : ℕ) → length (images_of s value) ≤ limit → IsFirstPast (plan_of s value) s.bound s.tears cut → ⊥
+pub not_past : (most : ℕ) (s : Settings) (value : LogValue) (cut : ℕ) → length (images_of s value) ≤ most → IsFirstPastOf most (plan_of s value) s.bound s.tears cut → ⊥
 unfolding ranked_choices ranked_before
-not_past s value cut few past =
+not_past most s value cut few past =
     omega (arith, few, past.past, few_over s.by value.entries (fates_of s.tears) s.bound 0 (past.place + 1) (cuts_of s.cuts value.entries))
 
 -- the checker of a file
@@ -134,15 +139,17 @@ of_log below text s value r h (lacks read place recorded at) =
     let bad : Some place ≡ None = sym at ∙ ap (λ xs. slice_get xs 0) none in
     absurd (let no : Some place ≡ None = bad in cc)
 
-of_plan : Below → (s : Settings) (value : LogValue) (r : Refusal) → length (images_of s value) ≤ limit → RefusesPlan s value r → IsOfMemory r.code
-of_plan below s value r few (too_many cut past) = absurd (not_past s value cut few past)
-of_plan below s value r few no_plan_memory = refl
+of_plan : Below → (s : Settings) (value : LogValue) (r : Refusal) → length (images_of s value) ≤ most_images s.extent → has_extent s.extent (length (images_of s value)) ≡ true
+    → RefusesPlan s value r → IsOfMemory r.code
+of_plan below s value r few has (too_many cut past) = absurd (not_past (most_images s.extent) s value cut few past)
+of_plan below s value r few has (lacks_images small lack) = absurd (false≢true (sym lack ∙ has))
+of_plan below s value r few has no_plan_memory = refl
 
 pub of_source : Below → (text : Recording) (s : Settings) (value : LogValue) (r : Refusal) → HasImages text s value → RefusesSource text s r → IsOfMemory r.code
 of_source below text s value _ h (for_log r why) = of_log below text s value r h.reads why
 of_source below text s value _ h (for_plan r other reads why) =
     let same : other ≡ value = same_asked below.texts text s other value reads h.reads in
-    of_plan below s value r h.few (subst (λ v. RefusesPlan s v r) same why)
+    of_plan below s value r h.few h.within (subst (λ v. RefusesPlan s v r) same why)
 
 not_unaccepted : Below → (checked : Option ℕ) (sectors : ℕ) (c : CheckerValue) (slots : List (Option Instr)) (cause : VerifierCause) (slot : ℕ) → checked ≡ None
     → IsRunWithin checked sectors c → slots ≡ c.program → Refused slots sectors cause slot → ⊥
@@ -167,3 +174,9 @@ pub run_or_refusal : Below → (Tells : Settings → LogValue → List CheckerVa
 run_or_refusal below Tells text files s bytes failing r h (for_count none) = absurd (none h.count)
 run_or_refusal below Tells text files s bytes failing _ h (explore.for_source r count why) = of_source below text s h.value r h.source why
 run_or_refusal below Tells text files s bytes failing _ h (for_program r value count images why) = of_program below s files h.checkers r h.made why
+
+-- a run that judges the images that are meant
+pub wanted_or_refusal : Below → (w : Wanted) (Tells : Settings → LogValue → List CheckerValue → List ℕ → Type 0) (text : Recording) (files : List (List ℕ)) (s : Settings) (bytes : List ℕ)
+    (failing : Bool) (r : Refusal) → takes w s.extent ≡ true → IsRun Tells text files s bytes failing → RefusesWanted w text files s r → IsOfMemory r.code
+wanted_or_refusal below w Tells text files s bytes failing _ taken h (for_extent other) = absurd (false≢true (sym other ∙ taken))
+wanted_or_refusal below w Tells text files s bytes failing _ taken h (for_rest r chosen why) = run_or_refusal below Tells text files s bytes failing r h why

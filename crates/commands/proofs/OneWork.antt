@@ -13,6 +13,9 @@ use Rattle.request.specs.declared.settings.Telling.TheVariants as telling
 use Rattle.request.specs.declared.command.OptionWords.{OptionWords}
 use Rattle.request.specs.declared.command.Request.{Request}
 use Rattle.request.specs.declared.command.Request.TheVariants as request
+use Rattle.request.specs.declared.extent.Extent.{Extent}
+use Rattle.request.specs.Extents.{is_extent}
+use Rattle.runs.specs.Inputs.{inputs_number}
 use Rattle.request.specs.Settings.{is_ordered, option_refusal, option_checks, settings_refusal}
 use Rattle.request.specs.OptionWords.{settings_with, AskFor}
 use Rattle.request.specs.Source.{Recording, IsLogOf, HasImages}
@@ -44,44 +47,48 @@ set_alone s = record {
   cache = 0;
   checked = s.checked;
   first = s.first;
+  extent = s.extent;
 }
 
 -- words that ask for settings ask for these, for one worker without a cache
-alone_of : (w : OptionWords) (cuts : Option CutKind) (way : Option By) (added : Option Flushes) (s : Settings)
-    → option_and_then (λ c. option_and_then (λ b. option_map (settings_with w c b) added) way) cuts ≡ Some s
-    → option_and_then (λ c. option_and_then (λ b. option_map (settings_with (alone w) c b) added) way) cuts ≡ Some (set_alone s)
-alone_of w None way added s h = absurd (let bad : None ≡ Some s = h in cc)
-alone_of w (Some c) None added s h = absurd (let bad : None ≡ Some s = h in cc)
-alone_of w (Some c) (Some way) None s h = absurd (let bad : None ≡ Some s = h in cc)
-alone_of w (Some c) (Some way) (Some added) s h =
-    let both : Some (settings_with w c way added) ≡ Some s = h in
-    let same : settings_with w c way added ≡ s = cc in
+alone_of : (w : OptionWords) (cuts : Option CutKind) (way : Option By) (added : Option Flushes) (images : Option Extent) (s : Settings)
+    → option_and_then (λ c. option_and_then (λ b. option_and_then (λ f. option_map (settings_with w c b f) images) added) way) cuts ≡ Some s
+    → option_and_then (λ c. option_and_then (λ b. option_and_then (λ f. option_map (settings_with (alone w) c b f) images) added) way) cuts ≡ Some (set_alone s)
+alone_of w None way added images s h = absurd (let bad : None ≡ Some s = h in cc)
+alone_of w (Some c) None added images s h = absurd (let bad : None ≡ Some s = h in cc)
+alone_of w (Some c) (Some way) None images s h = absurd (let bad : None ≡ Some s = h in cc)
+alone_of w (Some c) (Some way) (Some added) None s h = absurd (let bad : None ≡ Some s = h in cc)
+alone_of w (Some c) (Some way) (Some added) (Some extent) s h =
+    let both : Some (settings_with w c way added extent) ≡ Some s = h in
+    let same : settings_with w c way added extent ≡ s = cc in
     ap (λ (t : Settings). Some (set_alone t)) same
 
 -- where no check fails, none fails with one worker without a cache
-passed_alone : (sectors bound workers cache checked range : Bool)
-    → option_map option_refusal (first_failing (check place.Sectors sectors ∷ check place.Bound bound ∷ check place.Workers workers ∷ check place.Cache cache ∷ check place.Checked checked ∷ check place.Range range ∷ [])) ≡ None
-    → option_map option_refusal (first_failing (check place.Sectors sectors ∷ check place.Bound bound ∷ check place.Workers true ∷ check place.Cache true ∷ check place.Checked checked ∷ check place.Range range ∷ [])) ≡ None
-passed_alone false bound workers cache checked range h = h
-passed_alone true false workers cache checked range h = h
-passed_alone true true false cache checked range h = absurd (let bad : Some (option_refusal place.Workers) ≡ None = h in cc)
-passed_alone true true true false checked range h = absurd (let bad : Some (option_refusal place.Cache) ≡ None = h in cc)
-passed_alone true true true true checked range h = h
+passed_alone : (sectors bound workers cache checked range images : Bool)
+    → option_map option_refusal (first_failing (check place.Sectors sectors ∷ check place.Bound bound ∷ check place.Workers workers ∷ check place.Cache cache ∷ check place.Checked checked
+    ∷ check place.Range range ∷ check place.Images images ∷ [])) ≡ None
+    → option_map option_refusal (first_failing (check place.Sectors sectors ∷ check place.Bound bound ∷ check place.Workers true ∷ check place.Cache true ∷ check place.Checked checked
+    ∷ check place.Range range ∷ check place.Images images ∷ [])) ≡ None
+passed_alone false bound workers cache checked range images h = h
+passed_alone true false workers cache checked range images h = h
+passed_alone true true false cache checked range images h = absurd (let bad : Some (option_refusal place.Workers) ≡ None = h in cc)
+passed_alone true true true false checked range images h = absurd (let bad : Some (option_refusal place.Cache) ≡ None = h in cc)
+passed_alone true true true true checked range images h = h
 
 good_alone : (s : Settings) → settings_refusal s ≡ None → settings_refusal (set_alone s) ≡ None
 unfolding option_checks
 good_alone s h =
     passed_alone (nat_le 1 s.sectors && nat_le s.sectors (sector_limit s.limits)) (nat_le s.bound 3) (nat_le 1 s.workers && nat_le s.workers 64) (nat_le s.cache 65536)
-    (option_map_or (λ limit. nat_le limit 1000000000) s.checked true) (is_ordered s.cuts) h
+    (option_map_or (λ limit. nat_le limit 1000000000) s.checked true) (is_ordered s.cuts) (is_extent s.extent) h
 
 ask_alone : (w : OptionWords) (s : Settings) → AskFor w s → AskFor (alone w) (set_alone s)
-ask_alone w s h = record { asked = alone_of w w.cuts w.by w.flushes s h.asked; good = good_alone s h.good }
+ask_alone w s h = record { asked = alone_of w w.cuts w.by w.flushes w.images s h.asked; good = good_alone s h.good }
 
 log_alone : {text : Recording} {s : Settings} {v : LogValue} → IsLogOf text s v → IsLogOf text (set_alone s) v
 log_alone h = record { read = h.read; recorded = record { device = h.recorded.device; size = h.recorded.size; of_log = h.recorded.of_log; initial = h.recorded.initial }; has = h.has; added = h.added }
 
 images_alone : {text : Recording} {s : Settings} {v : LogValue} → HasImages text s v → HasImages text (set_alone s) v
-images_alone h = record { reads = log_alone h.reads; few = h.few }
+images_alone h = record { reads = log_alone h.reads; few = h.few; within = h.within }
 
 checkers_alone : (s : Settings) (files : List (List ℕ)) (cs : List CheckerValue) → AreCheckersOf s files cs → AreCheckersOf (set_alone s) files cs
 checkers_alone s [] [] h = h
@@ -100,10 +107,11 @@ ends_alone (with_totals failures few fail none) = with_totals failures few fail 
 ends_alone (with_refusal cut past) = with_refusal cut (record { place = past.place; wanted = past.wanted; before = past.before; past = past.past })
 
 -- what is told is the same
-tells_alone : (w : Wanted) (s : Settings) (value : LogValue) (cs : List CheckerValue) (bytes : List ℕ) → TellsWanted w s value cs bytes → TellsWanted w (set_alone s) value cs bytes
+tells_alone : (w : Wanted) (inputs : ℕ) (s : Settings) (value : LogValue) (cs : List CheckerValue) (bytes : List ℕ) → TellsWanted w inputs s value cs bytes
+    → TellsWanted w inputs (set_alone s) value cs bytes
 unfolding head_of
-tells_alone (wanted.Told telling.Report) s value cs bytes h = h
-tells_alone (wanted.Told telling.Causes) s value cs bytes h =
+tells_alone (wanted.Told telling.Report) inputs s value cs bytes h = h
+tells_alone (wanted.Told telling.Causes) inputs s value cs bytes h =
     record {
       failures = h.failures;
       missing = h.missing;
@@ -113,7 +121,7 @@ tells_alone (wanted.Told telling.Causes) s value cs bytes h =
       each = h.each;
       text = h.text;
     }
-tells_alone (wanted.Told telling.Page) s value cs bytes h =
+tells_alone (wanted.Told telling.Page) inputs s value cs bytes h =
     record {
       failures = h.failures;
       are_failures = h.are_failures;
@@ -121,7 +129,7 @@ tells_alone (wanted.Told telling.Page) s value cs bytes h =
       are = record { all = h.are.all; named = h.are.named; each = h.are.each };
       page = h.page;
     }
-tells_alone wanted.Cured s value cs bytes h =
+tells_alone wanted.Cured inputs s value cs bytes h =
     let tells = h.tells in
     record {
       failures = h.failures;
@@ -146,7 +154,7 @@ answered_alone w text files s bytes failing h =
       source = images_alone h.source;
       checkers = h.checkers;
       made = checkers_alone s files h.checkers h.made;
-      tells = tells_alone w s h.value h.checkers bytes h.tells;
+      tells = tells_alone w (inputs_number text.text files) s h.value h.checkers bytes h.tells;
       fails = h.fails;
       faultless = h.faultless;
     }
@@ -164,7 +172,7 @@ explore_alone t w files bytes status h =
         initial = h.answers.initial;
         read = h.answers.read;
         based = h.answers.based;
-        answers = record { failing = run.failing; told = answered_alone t (recording h.answers.log h.answers.initial) h.answers.programs h.settings bytes run.failing run.told; ends = run.ends };
+        answers = record { taken = run.taken; failing = run.failing; told = answered_alone t (recording h.answers.log h.answers.initial) h.answers.programs h.settings bytes run.failing run.told; ends = run.ends };
       };
     }
 
@@ -203,9 +211,9 @@ answers_alone (request.Explore w) files bytes status h = explore_alone (wanted.T
 answers_alone (request.Why w) files bytes status h = explore_alone (wanted.Told telling.Causes) w files bytes status h
 answers_alone (request.Cure w) files bytes status h = explore_alone wanted.Cured w files bytes status h
 answers_alone (request.Page w) files bytes status h = explore_alone (wanted.Told telling.Page) w files bytes status h
-answers_alone (request.Images w) files bytes status h =
-    of_alone w (λ s text. IsSurvey text s)
-    (λ s held shown k. record { value = k.value; source = images_alone k.source; told = k.told }) files bytes status h
+answers_alone (request.Images w parts) files bytes status h =
+    of_alone w (λ s text. IsSurvey parts text s)
+    (λ s held shown k. record { value = k.value; source = images_alone k.source; fits = k.fits; told = k.told }) files bytes status h
 answers_alone (request.Log w) files bytes status h =
     of_alone w (λ s text. IsTable text s)
     (λ s held shown k. record { value = k.value; reads = log_alone k.reads; shown = k.shown }) files bytes status h
@@ -221,6 +229,7 @@ answers_alone (request.Import limits) files bytes status h = h
 answers_alone (request.Check w) files bytes status h = h
 answers_alone request.Asm files bytes status h = h
 answers_alone (request.List numbered) files bytes status h = h
+answers_alone request.Join files bytes status h = h
 
 pub work_changes_nothing : OneAnswer → WorkChangesNothing
 work_changes_nothing one v w files bytes others status ended same a b =

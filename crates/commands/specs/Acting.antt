@@ -1,7 +1,9 @@
 -- What a command answers on what its files hold, and when it is refused (docs/REPORT.md, Commands and Refusals
 -- in their order).
-use Rattle.std.specs.Prelude.{ℕ, ◌≡◌, ◌⊎◌, Bool, if◌then◌else◌, List, [], ◌∷◌, length, map, position, is_none, Option, None, Some}
+use Rattle.std.specs.Prelude.{ℕ, ◌≡◌, ◌⊎◌, ◌<◌, ◌≤◌, ◌^◌, Bool, true, if◌then◌else◌, List, [], ◌∷◌, length, map, position, is_none, Option, None, Some}
 use Rattle.std.specs.Option.{option_map}
+use Rattle.base.specs.declared.causes.JoinCause.TheVariants as joining
+use Rattle.base.specs.declared.refusal.Cause.TheVariants.{Join}
 use Rattle.base.specs.declared.refusal.Refusal.{Refusal}
 use Rattle.base.specs.Refusals.{memory_refusal}
 use Rattle.commands.specs.declared.action.Held.{Held}
@@ -21,8 +23,11 @@ use Rattle.request.specs.Source.{Recording}
 use Rattle.request.specs.declared.settings.Telling.TheVariants as telling
 use Rattle.runs.specs.declared.explore_command.Wanted.{Wanted}
 use Rattle.runs.specs.declared.explore_command.Wanted.TheVariants as wanted
-use Rattle.runs.specs.Explore.{Refuses}
+use Rattle.runs.specs.Explore.{RefusesWanted}
+use Rattle.runs.specs.Judged.{takes}
 use Rattle.runs.specs.Cured.{IsAnswered}
+use Rattle.join.specs.declared.fault.JoinFault.{JoinFault}
+use Rattle.join.specs.Joining.{IsJoined, RefusesJoin, size_of}
 use Rattle.limits.specs.Sizes.{sector_limit}
 use Rattle.raw_log.specs.Imported.{IsImported}
 use Rattle.looks.specs.Import.{RefusesImport}
@@ -86,6 +91,7 @@ status_of failing = if failing then 1 else 0
 
 -- what a run answers, and its status
 pub record AnswersRun (t : Wanted) (s : Settings) (log : Recording) (programs : List (List ℕ)) (bytes : List ℕ) (status : ℕ) : Type 0 where
+  pub taken : takes t s.extent ≡ true
   pub failing : Bool
   pub told : IsAnswered t log programs s bytes failing
   pub ends : status ≡ status_of failing
@@ -145,9 +151,28 @@ pub record AnswersTrial (w : TrialWords) (files : Files) (bytes : List ℕ) (sta
   pub tried : IsTried program image trial bytes failing
   pub ends : status ≡ status_of failing
 
+-- how many texts of parts are joined at most
+abbrev pub most_texts : ℕ
+most_texts = 4096
+
+-- what texts of parts come to, which aren't too long, and the status: 1 exactly where they have a failing line
+pub record JoinsTexts (texts : List (List ℕ)) (bytes : List ℕ) (status : ℕ) : Type 0 where
+  pub short : size_of texts ≤ 2 ^ 30
+  pub failing : Bool
+  pub joined : IsJoined texts bytes failing
+  pub ends : status ≡ status_of failing
+
+-- the same of what the command's files hold
+pub record AnswersJoin (files : Files) (bytes : List ℕ) (status : ℕ) : Type 0 where
+  pub texts : List (List ℕ)
+  pub read : files.named ≡ map Some texts
+  pub some : 0 < length texts
+  pub few : length texts ≤ most_texts
+  pub joins : JoinsTexts texts bytes status
+
 -- what is shown of a log
 abbrev pub Shows : Look → Settings → Recording → List ℕ → Type 0
-Shows look.Images s text = IsSurvey text s
+Shows (look.Images parts) s text = IsSurvey parts text s
 Shows look.Log s text = IsTable text s
 Shows (look.Image which) s text = IsImage text s which
 Shows (look.Show which) s text = IsShown text s which
@@ -159,7 +184,7 @@ Answers (request.Explore w) files bytes status = AnswersExplore (wanted.Told tel
 Answers (request.Why w) files bytes status = AnswersExplore (wanted.Told telling.Causes) w files bytes status
 Answers (request.Cure w) files bytes status = AnswersExplore wanted.Cured w files bytes status
 Answers (request.Page w) files bytes status = AnswersExplore (wanted.Told telling.Page) w files bytes status
-Answers (request.Images w) files bytes status = AnswersOf w (λ s text. IsSurvey text s) files bytes status
+Answers (request.Images w parts) files bytes status = AnswersOf w (λ s text. IsSurvey parts text s) files bytes status
 Answers (request.Log w) files bytes status = AnswersOf w (λ s text. IsTable text s) files bytes status
 Answers (request.Image w which) files bytes status = AnswersOf w (λ s text. IsImage text s which) files bytes status
 Answers (request.Show w which) files bytes status = AnswersOf w (λ s text. IsShown text s which) files bytes status
@@ -168,6 +193,7 @@ Answers (request.Import limits) files bytes status = AnswersFile (λ raw. IsImpo
 Answers (request.Check w) files bytes status = AnswersTrial w files bytes status
 Answers request.Asm files bytes status = AnswersFile IsAssembled files bytes status
 Answers (request.List numbered) files bytes status = AnswersFile (IsListed numbered) files bytes status
+Answers request.Join files bytes status = AnswersJoin files bytes status
 
 -- the refusals of a command with options: of its words first
 pub data RefusesWith (w : OptionWords) (Rest : Settings → Refusal → Type 0) : Refusal → Type 0 where
@@ -189,12 +215,12 @@ pub data RefusesRecording (files : Files) (Rest : Recording → Refusal → Type
 
 -- the refusals of a run's command behind its options: the first file that can't be read, that of the initial content last, then
 -- those of the run; or want of memory
-pub data RefusesFiles (files : Files) (s : Settings) : Refusal → Type 0 where
-  for_unread : (place : ℕ) → unread files.named ≡ Some place → RefusesFiles files s (file_refusal place)
-  for_base : unread files.named ≡ None → initial_of files.base ≡ None → RefusesFiles files s (file_refusal (length files.named))
+pub data RefusesFiles (t : Wanted) (files : Files) (s : Settings) : Refusal → Type 0 where
+  for_unread : (place : ℕ) → unread files.named ≡ Some place → RefusesFiles t files s (file_refusal place)
+  for_base : unread files.named ≡ None → initial_of files.base ≡ None → RefusesFiles t files s (file_refusal (length files.named))
   for_run : (log : List ℕ) (programs : List (List ℕ)) (initial : List ℕ) (r : Refusal) → files.named ≡ map Some (log ∷ programs)
-      → initial_of files.base ≡ Some initial → Refuses (recording log initial) programs s r → RefusesFiles files s r
-  for_memory : unread files.named ≡ None → RefusesFiles files s memory_refusal
+      → initial_of files.base ≡ Some initial → RefusesWanted t (recording log initial) programs s r → RefusesFiles t files s r
+  for_memory : unread files.named ≡ None → RefusesFiles t files s memory_refusal
 
 -- the refusals of a program on an image: of the words, of the program's file and of the image's that can't be read, then those of
 -- what they hold
@@ -205,21 +231,37 @@ pub data RefusesCheck (w : TrialWords) (files : Files) : Refusal → Type 0 wher
   for_trial : (t : Trial) (program image : List ℕ) (r : Refusal) → AskForTrial w t → first_held files ≡ Some program → second_held files ≡ Some image
       → RefusesTrial program image t r → RefusesCheck w files r
 
+-- the refusal of texts that aren't joined
+abbrev pub join_refusal : JoinFault → Refusal
+join_refusal fault = record { code = Join fault.cause; at = fault.file; program = None }
+
+pub data RefusesTexts (texts : List (List ℕ)) : Refusal → Type 0 where
+  for_texts : (fault : JoinFault) → RefusesJoin texts fault → (fault.cause ≡ joining.TooLong) ⊎ (size_of texts ≤ 2 ^ 30) → RefusesTexts texts (join_refusal fault)
+
+-- the refusals of the files of parts: that there is none, or too many; the first that can't be read; then those of what they hold; or
+-- want of memory
+pub data RefusesParts (files : Files) : Refusal → Type 0 where
+  for_no_part : files.named ≡ [] → RefusesParts files (file_refusal 0)
+  for_many_parts : most_texts < length files.named → RefusesParts files (join_refusal (record { cause = joining.TooLong; file = most_texts }))
+  for_unread_part : (place : ℕ) → length files.named ≤ most_texts → unread files.named ≡ Some place → RefusesParts files (file_refusal place)
+  for_parts : (texts : List (List ℕ)) (r : Refusal) → files.named ≡ map Some texts → length texts ≤ most_texts → RefusesTexts texts r → RefusesParts files r
+  for_part_memory : unread files.named ≡ None → RefusesParts files (join_refusal (record { cause = joining.Memory; file = 0 }))
+
 -- when it is refused to show that of a log
 abbrev pub RefusesLook : Look → Settings → Recording → Refusal → Type 0
-RefusesLook look.Images s text = RefusesSurvey text s
+RefusesLook (look.Images parts) s text = RefusesSurvey parts text s
 RefusesLook look.Log s text = RefusesTable text s
 RefusesLook (look.Image which) s text = RefusesImage text s which
 RefusesLook (look.Show which) s text = RefusesImage text s which
 
 -- when what the command line asks for is refused
 abbrev pub RefusesToAct : Request → Files → Refusal → Type 0
-RefusesToAct request.StoredRun files r = (r ≡ memory_refusal) ⊎ Refuses (recording stored_log []) stored_programs stored_settings r
-RefusesToAct (request.Explore w) files r = RefusesWith w (RefusesFiles files) r
-RefusesToAct (request.Why w) files r = RefusesWith w (RefusesFiles files) r
-RefusesToAct (request.Cure w) files r = RefusesWith w (RefusesFiles files) r
-RefusesToAct (request.Page w) files r = RefusesWith w (RefusesFiles files) r
-RefusesToAct (request.Images w) files r = RefusesWith w (λ s. RefusesRecording files (λ text. RefusesSurvey text s)) r
+RefusesToAct request.StoredRun files r = (r ≡ memory_refusal) ⊎ RefusesWanted (wanted.Told telling.Report) (recording stored_log []) stored_programs stored_settings r
+RefusesToAct (request.Explore w) files r = RefusesWith w (RefusesFiles (wanted.Told telling.Report) files) r
+RefusesToAct (request.Why w) files r = RefusesWith w (RefusesFiles (wanted.Told telling.Causes) files) r
+RefusesToAct (request.Cure w) files r = RefusesWith w (RefusesFiles wanted.Cured files) r
+RefusesToAct (request.Page w) files r = RefusesWith w (RefusesFiles (wanted.Told telling.Page) files) r
+RefusesToAct (request.Images w parts) files r = RefusesWith w (λ s. RefusesRecording files (λ text. RefusesSurvey parts text s)) r
 RefusesToAct (request.Log w) files r = RefusesWith w (λ s. RefusesRecording files (λ text. RefusesTable text s)) r
 RefusesToAct (request.Image w which) files r = RefusesWith w (λ s. RefusesRecording files (λ text. RefusesImage text s which)) r
 RefusesToAct (request.Show w which) files r = RefusesWith w (λ s. RefusesRecording files (λ text. RefusesImage text s which)) r
@@ -228,3 +270,4 @@ RefusesToAct (request.Import limits) files r = RefusesFile files (RefusesImport 
 RefusesToAct (request.Check w) files r = RefusesCheck w files r
 RefusesToAct request.Asm files r = RefusesFile files RefusesText r
 RefusesToAct (request.List numbered) files r = RefusesFile files RefusesBytes r
+RefusesToAct request.Join files r = RefusesParts files r

@@ -34,6 +34,7 @@ alone w = record {
   cache = 0;
   checked = w.checked;
   first = w.first;
+  images = w.images;
 }
 
 -- the same request for one worker without a cache
@@ -43,7 +44,7 @@ asked_alone (request.Explore w) = request.Explore (alone w)
 asked_alone (request.Why w) = request.Why (alone w)
 asked_alone (request.Cure w) = request.Cure (alone w)
 asked_alone (request.Page w) = request.Page (alone w)
-asked_alone (request.Images w) = request.Images (alone w)
+asked_alone (request.Images w parts) = request.Images (alone w) parts
 asked_alone (request.Log w) = request.Log (alone w)
 asked_alone (request.Image w which) = request.Image (alone w) which
 asked_alone (request.Show w which) = request.Show (alone w) which
@@ -52,6 +53,7 @@ asked_alone (request.Import limits) = request.Import limits
 asked_alone (request.Check w) = request.Check w
 asked_alone request.Asm = request.Asm
 asked_alone (request.List numbered) = request.List numbered
+asked_alone request.Join = request.Join
 
 -- two command lines that ask for the same but for the number of workers, the size of the cache and the line of progress
 -- have the same answer

@@ -6,6 +6,7 @@ use Rattle.bpf_isa.specs.declared.instr.Instr.TheVariants as instr
 use Rattle.bpf_isa.specs.declared.instr.Operator.TheVariants as op
 use Rattle.bpf_isa.specs.declared.instr.Source.TheVariants as source
 use Rattle.bpf_isa.specs.declared.instr.Width.TheVariants as width
+use Rattle.request.specs.declared.extent.Extent.TheVariants as extent
 use Rattle.epochs.specs.Cuts.{all_cuts}
 use Rattle.epochs.specs.declared.part.By.TheVariants as by
 use Rattle.logfmt.specs.LogText.{canonical_text}
@@ -32,4 +33,5 @@ stored_settings = record {
   cache = 0;
   checked = Some 2;
   first = false;
+  extent = extent.Whole;
 }

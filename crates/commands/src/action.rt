@@ -1,22 +1,24 @@
 //! Performing a command.
 
-ghost use Rattle.std.specs.Prelude.{◌≡◌, ◌⊎◌, ◌∷◌, [], length, map, option_map, position, is_none, Some, None, MatchResult, IfOk, IfErr, OnOk};
+ghost use Rattle.std.specs.Prelude.{◌≡◌, ◌<◌, ◌≤◌, ◌⊎◌, ◌∷◌, [], length, map, option_map, position, is_none, Some, None, MatchResult, IfOk, IfErr, OnOk};
 ghost use Rattle.std.specs.List.{filter_map};
 ghost use Rattle.base.specs.Refusals.{memory_refusal};
 ghost use Rattle.request.specs.declared.command.Request.TheVariants as asks;
-ghost use Rattle.runs.specs.Explore.{Refuses};
+ghost use Rattle.runs.specs.Explore.{RefusesWanted};
 ghost use Rattle.request.specs.Refusals.{file_refusal};
 ghost use Rattle.runs.specs.declared.explore_command.Wanted.TheVariants as wants;
-ghost use Rattle.commands.specs.Acting.{first_held, second_held, files_of, held_by, initial_of, recording, status_of, HoldsRecording, RefusesRecording, AnswersRun, AnswersFiles, AnswersExplore, Shows, AnswersOf, Answers, RefusesWith, RefusesLook, RefusesToAct, RefusesFiles};
+ghost use Rattle.commands.specs.Acting.{first_held, second_held, files_of, held_by, initial_of, recording, status_of, HoldsRecording, RefusesRecording, AnswersRun, AnswersFiles, AnswersExplore, Shows, AnswersOf, Answers, JoinsTexts, RefusesTexts, join_refusal, most_texts, RefusesWith, RefusesLook, RefusesToAct, RefusesFiles};
 ghost use Rattle.commands.specs.Stored.{stored_log, stored_programs, stored_settings};
 ghost use Rattle.request.specs.declared.settings.Telling.TheVariants as tells;
 
 use crate::stored::{stored_files, stored_options};
-use base::refusal::Refusal;
+use base::causes::JoinCause;
+use base::refusal::{Cause, Refusal};
 use command_line::Words;
 use facts::{Facts, Recording};
+use join::{JoinFault, join};
 use limits::Limits;
-use looks::{assembled, image, imported, listed, show, shown_log, survey, verified};
+use looks::{assemble, image, import, list, show, shown_log, survey, verify_program};
 use request::{
     OptionWords, Options, Request, Telling, TrialWords, Which, options_of, trial_of, unreadable,
 };
@@ -27,11 +29,14 @@ use std::thread::Threads;
 use trial::try_image;
 use workers::Gate;
 
+/// How many texts of parts are joined at most.
+const MOST_TEXTS: usize = 4096;
+
 /// What is shown of a log, for which no program runs.
 #[derive(Clone, Copy)]
 pub(crate) enum Look {
-    /// How many crash images each cut has.
-    Images,
+    /// How many crash images each cut has, and how the run is laid out in so many parts, where that is asked for.
+    Images(Option<u64>),
     /// Its entries as a table.
     Log,
     /// One crash image as bytes.
@@ -93,7 +98,7 @@ impl<'x> Held<'x> {
     }
 
     /// A run's command of such words on these files.
-    fn asked(&'x self, wanted: Wanted, words: OptionWords) -> Asked<'x>
+    fn run_asked_for(&'x self, wanted: Wanted, words: OptionWords) -> Asked<'x>
         ensures { result ≡ record { wanted = wanted; words = words; files = self.entry } }
     {
         Asked {
@@ -119,7 +124,7 @@ fn first_unreadable(files: &[Option<Vec<u8>>]) -> Option<usize>
     files.iter().position(|file| file.is_none())
 }
 
-/// Copies of the programs that can be read.
+/// Copies of the programs, or of the texts of parts, that can be read.
 fn programs_of(alloc: Global, files: &[Option<Vec<u8>>]) -> Result<Vec<Vec<u8>>, AllocError>
     ensures { IfOk result (λ programs. map (λ f. f.items) programs.items ≡ filter_map (option_map (λ f. f.items)) files.now) }
 {
@@ -141,7 +146,7 @@ fn explore_files<G: Gate + Sync, R: Threads + Wait + Sync>(
     facts: &mut Facts,
 ) -> Result<(Vec<u8>, u8), Refusal>
     ensures answers { IfOk result (λ answer. AnswersRun question.now.wanted question.now.options.now question.now.recording.now (map (λ f. f.items) question.now.programs.now) answer.0.items answer.1) }
-    ensures refused { IfErr result (Refuses question.now.recording.now (map (λ f. f.items) question.now.programs.now) question.now.options.now) }
+    ensures refused { IfErr result (RefusesWanted question.now.wanted question.now.recording.now (map (λ f. f.items) question.now.programs.now) question.now.options.now) }
 {
     let explored = run_with(rt, alloc, gate, question, facts)?;
     let status = if explored.failing { 1 } else { 0 };
@@ -157,7 +162,7 @@ fn act_explore<G: Gate + Sync, R: Threads + Wait + Sync>(
     facts: &mut Facts,
 ) -> Result<(Vec<u8>, u8), Refusal>
     ensures answers { IfOk result (λ answer. AnswersExplore asked.now.wanted asked.now.words (held_by asked.now.files.now) answer.0.items answer.1) }
-    ensures refused { IfErr result (RefusesWith asked.now.words (RefusesFiles (held_by asked.now.files.now))) }
+    ensures refused { IfErr result (RefusesWith asked.now.words (RefusesFiles asked.now.wanted (held_by asked.now.files.now))) }
 {
     let options = options_of(asked.words)?;
     explore_readable(rt, alloc, gate, asked, &options, facts)
@@ -173,7 +178,7 @@ fn explore_readable<G: Gate + Sync, R: Threads + Wait + Sync>(
     facts: &mut Facts,
 ) -> Result<(Vec<u8>, u8), Refusal>
     ensures answers { IfOk result (λ answer. AnswersFiles asked.now.wanted options.now (held_by asked.now.files.now) answer.0.items answer.1) }
-    ensures refused { IfErr result (RefusesFiles (held_by asked.now.files.now) options.now) }
+    ensures refused { IfErr result (RefusesFiles asked.now.wanted (held_by asked.now.files.now) options.now) }
 {
     let Some((first, others)) = asked.files.named.split_first() else {
         return Err(unreadable(0));
@@ -208,7 +213,7 @@ fn act_stored<G: Gate + Sync, R: Threads + Wait + Sync>(
     facts: &mut Facts,
 ) -> Result<(Vec<u8>, u8), Refusal>
     ensures answers { IfOk result (λ answer. AnswersRun (wants.Told tells.Report) stored_settings (recording stored_log []) stored_programs answer.0.items answer.1) }
-    ensures refused { IfErr result (λ r. (r ≡ memory_refusal) ⊎ Refuses (recording stored_log []) stored_programs stored_settings r) }
+    ensures refused { IfErr result (λ r. (r ≡ memory_refusal) ⊎ RefusesWanted (wants.Told tells.Report) (recording stored_log []) stored_programs stored_settings r) }
 {
     let options = stored_options();
     match stored_files(alloc) {
@@ -238,7 +243,7 @@ fn shown(
     ensures refused { IfErr result (RefusesLook look options.now recording.now) }
 {
     match look {
-        Look::Images => survey(alloc, recording, options, facts),
+        Look::Images(parts) => survey(alloc, recording, parts, options, facts),
         Look::Log => shown_log(alloc, recording, options, facts),
         Look::Image(which) => image(alloc, recording, which, options, facts),
         Look::Show(which) => show(alloc, recording, which, options, facts),
@@ -268,7 +273,7 @@ fn act_import(alloc: Global, limits: Limits, files: &Held<'_>) -> Result<(Vec<u8
     ensures refused { IfErr result (RefusesToAct (asks.Import limits) (held_by files.now)) }
 {
     let raw = files.first()?;
-    let text = imported(alloc, raw, limits)?;
+    let text = import(alloc, raw, limits)?;
     Ok((text, 0))
 }
 
@@ -284,7 +289,7 @@ fn act_verify(
 {
     let options = options_of(words)?;
     let code = files.first()?;
-    let text = verified(alloc, code, &options, facts)?;
+    let text = verify_program(alloc, code, &options, facts)?;
     Ok((text, 0))
 }
 
@@ -319,7 +324,7 @@ fn act_asm(alloc: Global, files: &Held<'_>) -> Result<(Vec<u8>, u8), Refusal>
     ensures refused { IfErr result (RefusesToAct asks.Asm (held_by files.now)) }
 {
     let source = files.first()?;
-    let bytes = assembled(alloc, source)?;
+    let bytes = assemble(alloc, source)?;
     Ok((bytes, 0))
 }
 
@@ -329,8 +334,59 @@ fn act_list(alloc: Global, numbered: bool, files: &Held<'_>) -> Result<(Vec<u8>,
     ensures refused { IfErr result (RefusesToAct (asks.List numbered) (held_by files.now)) }
 {
     let code = files.first()?;
-    let text = listed(alloc, code, numbered)?;
+    let text = list(alloc, code, numbered)?;
     Ok((text, 0))
+}
+
+/// The refusal of texts that aren't joined.
+fn join_refusal_of(fault: JoinFault) -> Refusal
+    ensures { result ≡ join_refusal fault }
+{
+    Refusal {
+        code: Cause::Join(fault.cause),
+        at: u64::from(fault.file),
+        program: None,
+    }
+}
+
+/// The refusal of texts that aren't joined for that cause, at that file.
+fn not_joined(cause: JoinCause, file: u32) -> Refusal
+    ensures { result ≡ join_refusal (record { cause = cause; file = file }) }
+{
+    join_refusal_of(JoinFault { cause, file })
+}
+
+/// What the texts of parts come to, with the status 1 where there is a failing line.
+fn join_texts(alloc: Global, texts: &[Vec<u8>]) -> Result<(Vec<u8>, u8), Refusal>
+    requires some { 0 < length texts.now }
+    requires few { length texts.now ≤ most_texts }
+    ensures answers { IfOk result (λ answer. JoinsTexts (map (λ f. f.items) texts.now) answer.0.items answer.1) }
+    ensures refused { IfErr result (RefusesTexts (map (λ f. f.items) texts.now)) }
+{
+    match join(alloc, texts) {
+        Ok(joined) => Ok((joined.bytes, status_of(joined.failing))),
+        Err(fault) => Err(join_refusal_of(fault)),
+    }
+}
+
+/// What the parts that the files hold come to.
+fn act_join(alloc: Global, files: &Held<'_>) -> Result<(Vec<u8>, u8), Refusal>
+    ensures answers { IfOk result (λ answer. Answers asks.Join (held_by files.now) answer.0.items answer.1) }
+    ensures refused { IfErr result (RefusesToAct asks.Join (held_by files.now)) }
+{
+    if files.named.is_empty() {
+        return Err(unreadable(0));
+    }
+    if files.named.len() > MOST_TEXTS {
+        return Err(not_joined(JoinCause::TooLong, MOST_TEXTS as u32));
+    }
+    if let Some(place) = first_unreadable(files.named) {
+        return Err(unreadable(place));
+    }
+    match programs_of(alloc, files.named) {
+        Ok(texts) => join_texts(alloc, texts.as_slice()),
+        Err(_error) => Err(not_joined(JoinCause::Memory, 0)),
+    }
 }
 
 /// What `act` answers; what is found on the way is put into `facts`.
@@ -348,22 +404,22 @@ pub(crate) fn act_known<G: Gate + Sync, R: Threads + Wait + Sync>(
     match words.request() {
         Request::StoredRun => act_stored(rt, alloc, gate, facts),
         Request::Explore(words) => {
-            let asked = files.asked(Wanted::Told(Telling::Report), words);
+            let asked = files.run_asked_for(Wanted::Told(Telling::Report), words);
             act_explore(rt, alloc, gate, &asked, facts)
         }
         Request::Why(words) => {
-            let asked = files.asked(Wanted::Told(Telling::Causes), words);
+            let asked = files.run_asked_for(Wanted::Told(Telling::Causes), words);
             act_explore(rt, alloc, gate, &asked, facts)
         }
         Request::Cure(words) => {
-            let asked = files.asked(Wanted::Cured, words);
+            let asked = files.run_asked_for(Wanted::Cured, words);
             act_explore(rt, alloc, gate, &asked, facts)
         }
         Request::Page(words) => {
-            let asked = files.asked(Wanted::Told(Telling::Page), words);
+            let asked = files.run_asked_for(Wanted::Told(Telling::Page), words);
             act_explore(rt, alloc, gate, &asked, facts)
         }
-        Request::Images(words) => act_look(alloc, Look::Images, words, files, facts),
+        Request::Images(words, parts) => act_look(alloc, Look::Images(parts), words, files, facts),
         Request::Log(words) => act_look(alloc, Look::Log, words, files, facts),
         Request::Import(limits) => act_import(alloc, limits, files),
         Request::Image(words, which) => act_look(alloc, Look::Image(which), words, files, facts),
@@ -372,6 +428,7 @@ pub(crate) fn act_known<G: Gate + Sync, R: Threads + Wait + Sync>(
         Request::Check(words) => act_check(alloc, words, files, facts),
         Request::Asm => act_asm(alloc, files),
         Request::List { numbered } => act_list(alloc, numbered, files),
+        Request::Join => act_join(alloc, files),
     }
 }
 

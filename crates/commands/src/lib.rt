@@ -14,7 +14,7 @@
 //! - `request`: what a run is asked, and `Options`, tested in their order; what each command reads of a log; the line of a
 //!   refusal.
 //! - `command_line`: the words of the command line, and their help.
-//! - `runs`: `explore`, `why`, `page` and `cured`, from bytes to bytes.
+//! - `runs`: `explore`, `why`, `page` and `cure_run`, from bytes to bytes.
 //! - `looks`: `images`, `image`, `show`, `log`, `verify`, `asm` and `list`.
 //! - `command_notes`: the notes behind a refusal and beside an answer.
 //!
@@ -49,9 +49,13 @@
 //!
 //! # Example
 //!
-//! ```text
-//! let words = Words::of(alloc, &["explore", "disk.log", "check.bpf", "--sectors", "64"])?;
-//! let (bytes, status) = act(rt, alloc, &OpenGate, &words, &[Some(log), Some(program)], &None)?;
+//! ```
+//! use command_line::Words;
+//! use commands::{OpenGate, act};
+//!
+//! // `args` are explore, disk.log, check.bpf, --sectors, 64, and `files` what the two files hold
+//! let words = Words::of(alloc, args)?;
+//! let (bytes, status) = act(rt, alloc, &OpenGate, &words, files, &None)?;
 //! // bytes: the report; status: 1 where an image fails
 //! ```
 #![tactic(auto)]
@@ -75,7 +79,7 @@ pub use laws::{
 };
 pub use looks::{choices_are_short, image, report_prints_choices, show, survey};
 pub use progress::Progress;
-pub use request::{OptionPlace, Options, Settings, Telling, Which, fault_line};
-pub use runs::{Explored, Question, cured, explore, explore_with, page, why};
+pub use request::{Extent, OptionPlace, Options, Settings, Telling, Which, fault_line};
+pub use runs::{Explored, Question, cure_run, explore, explore_with, page, why};
 pub use workers::{Gate, OpenGate};
 pub use writing::{Output, emit};

@@ -5,7 +5,7 @@ ghost use Rattle.commands.specs.Stored.{stored_log, stored_programs, stored_sett
 
 use epochs::{By, Cuts};
 use limits::Limits;
-use request::{Options, Settings};
+use request::{Extent, Options, Settings};
 use std::alloc::{AllocError, Global};
 
 /// The log and the program of a run, as bytes.
@@ -32,6 +32,7 @@ const STORED_SETTINGS: Settings = Settings {
     cache: 0,
     checked: Some(2),
     first: false,
+    extent: Extent::Whole,
 };
 
 /// The log and the program that the product holds itself.

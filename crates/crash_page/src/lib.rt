@@ -25,6 +25,32 @@
 //! Each call appends to the page, piece after piece, as its definition is composed. `entry` has the cells and lines of entries,
 //! `lacking` the flushes that are missing, in the row and in words, `strip` the cells of cuts between entries, `share` their colours,
 //! `cut` and `group` what stands behind a click on a cut.
+//!
+//! # Example
+//!
+//! ```
+//! use crash_page::{ProgramFailures, Run, put_page};
+//! use crash_text::Numbering;
+//! use epochs::{By, Cuts};
+//! use report::ProgramHead;
+//! use why::failures;
+//!
+//! // `starts` and `history` are those of `plan`, which has all cuts of `log`; the program fails on image 104 alone
+//! let numbering = Numbering { plan: &plan, log: &log, cuts: Cuts::ALL, by: By::Sector, bound: 2, tears: true };
+//! let run = Run { starts: &starts, history: &history, numbering };
+//! let outcomes = ["answer 1 codes 1"];
+//! let program = ProgramFailures {
+//!     head: ProgramHead { slots: 39, limit: 87, verified: true },
+//!     failing: 1,
+//!     outcomes: Vec::from_slice(alloc, &outcomes)?,
+//!     cuts: failures(alloc, &starts, &[104], &outcomes)?,
+//!     missing: Vec::new(alloc),
+//!     uncured: 1,
+//! };
+//! let mut page = String::new(alloc);
+//! put_page(alloc, &mut page, "disk.log", &run, &[program])?;
+//! // a page with the row of the log, and behind the cut of image 104 its group
+//! ```
 #![tactic(auto)]
 
 mod cut;

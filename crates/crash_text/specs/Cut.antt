@@ -6,12 +6,13 @@ use Rattle.std.specs.Fmt.{decimal}
 use Rattle.logfmt.specs.declared.entry.Entry.{Entry}
 use Rattle.epochs.specs.declared.part.Part.{Part}
 use Rattle.epochs.specs.Parts.{volatile_parts}
-use Rattle.epochs.specs.Cuts.{is_flush_at}
 use Rattle.epochs.specs.Plan.{PlanValue}
 use Rattle.choices.specs.declared.fate.Fate.{Fate}
 use Rattle.choices.specs.declared.fate.Fate.TheVariants as fate
 use Rattle.choices.specs.declared.choice.Departure.{Departure}
 use Rattle.notes.specs.LogTable.{line_at}
+use Rattle.crash_text.specs.declared.cut.Told.{Told}
+use Rattle.crash_text.specs.declared.cut.Told.TheVariants as told
 
 -- a part: its entry, and the sectors of the device that it covers
 unfoldable pub place_text : Part → List ℕ
@@ -38,23 +39,23 @@ parts_text plan cut = flat_map volatile_line (take 32 (volatile_parts plan.by pl
 unfoldable pub volatile_text : PlanValue → ℕ → List ℕ
 volatile_text plan cut = codes "volatile parts: " ++ decimal (length (volatile_parts plan.by plan.log.entries cut)) ++ codes "\n" ++ parts_text plan cut
 
--- entry e is a mark
-abbrev pub is_mark_at : List Entry → ℕ → Bool
-is_mark_at es e = option_map_or (λ (entry : Entry). entry.flags.mark) (slice_get es e) false
+-- what an entry of a kind is called
+abbrev pub told_word : Told → List ℕ
+told_word told.Flush = codes "flush"
+told_word told.Mark = codes "mark"
+
+-- entry e is of a kind
+abbrev pub is_told_at : Told → List Entry → ℕ → Bool
+is_told_at told.Flush es e = option_map_or (λ (entry : Entry). entry.flags.flush) (slice_get es e) false
+is_told_at told.Mark es e = option_map_or (λ (entry : Entry). entry.flags.mark) (slice_get es e) false
 
 -- the last entry before a cut that is so
 abbrev pub last_before : (ℕ → Bool) → ℕ → Option ℕ
 last_before is_so cut = last_or None (filter is_so (range_with_len 0 cut))
 
--- the line of the last entry of a kind, if there is one
-abbrev pub last_line : List ℕ → List Entry → Option ℕ → List ℕ
-last_line what es last = codes "last " ++ what ++ codes ": " ++ option_map_or (line_at es) last (codes "none\n")
-
-unfoldable pub flush_text : List Entry → ℕ → List ℕ
-flush_text es cut = last_line (codes "flush") es (last_before (is_flush_at es) cut)
-
-unfoldable pub mark_text : List Entry → ℕ → List ℕ
-mark_text es cut = last_line (codes "mark") es (last_before (is_mark_at es) cut)
+-- the line of the last entry of a kind before a cut, if there is one
+unfoldable pub last_text : Told → List Entry → ℕ → List ℕ
+last_text kind es cut = codes "last " ++ told_word kind ++ codes ": " ++ option_map_or (line_at es) (last_before (is_told_at kind es) cut) (codes "none\n")
 
 -- the last entries before a cut, at most four
 abbrev pub before_line : List Entry → ℕ → List ℕ

@@ -11,7 +11,8 @@ use Rattle.epochs.specs.Plan.{PlanValue}
 use Rattle.choices.specs.Choices.{ChoiceValue}
 use Rattle.choice_text.specs.Text.{departures_text}
 use Rattle.choice_text.specs.Words.{cuts_words}
-use Rattle.crash_text.specs.Cut.{departed_line, volatile_text, flush_text, mark_text, before_text}
+use Rattle.crash_text.specs.declared.cut.Told.TheVariants as told
+use Rattle.crash_text.specs.Cut.{departed_line, volatile_text, last_text, before_text}
 use Rattle.crash_text.specs.Sectors.{difference_text}
 
 abbrev pub cuts_word : CutKind → List ℕ
@@ -46,7 +47,7 @@ choice_shown plan choice = choice_line plan choice ++ departed_text choice
 
 -- what stands at its cut
 unfoldable pub cut_shown : PlanValue → ℕ → List ℕ
-cut_shown plan cut = volatile_text plan cut ++ before_text plan.log.entries cut ++ flush_text plan.log.entries cut ++ mark_text plan.log.entries cut
+cut_shown plan cut = volatile_text plan cut ++ before_text plan.log.entries cut ++ last_text told.Flush plan.log.entries cut ++ last_text told.Mark plan.log.entries cut
 
 -- an image in words: what it is numbered by, its choice, its cut, and what in it differs from the image of the cut where
 -- nothing departs

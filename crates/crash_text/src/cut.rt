@@ -1,9 +1,8 @@
 //! What stands at a cut.
 
 ghost use Rattle.std.specs.Prelude.{ℕ, ◌⊎◌, ◌≡◌, ◌+◌, ◌*◌, ◌<◌, ◌≤◌, ◌++◌, [], ◌∷◌, Bool, if◌then◌else◌, length, slice_get, Some, IfSome, OnOk, string_bytes};
-ghost use Rattle.epochs.specs.Cuts.{is_flush_at};
 ghost use Rattle.notes.specs.LogTable.{line_at};
-ghost use Rattle.crash_text.specs.Cut.{place_text, arrived_text, departed_line, volatile_line, parts_text, volatile_text, is_mark_at, last_before, last_line, flush_text, mark_text, before_line, before_text};
+ghost use Rattle.crash_text.specs.Cut.{place_text, arrived_text, departed_line, volatile_line, parts_text, volatile_text, told_word, is_told_at, last_before, last_text, before_line, before_text};
 ghost use Rattle.crash_text.specs.Shown.{cut_shown};
 
 use crate::numbering::Numbering;
@@ -108,99 +107,77 @@ fn put_entry(out: &mut String, numbering: &Numbering<'_>, entry: u32) -> Result<
     )
 }
 
-/// The last flush entry, of those before an entry and of that.
-fn later_flush(entries: &[Entry], last: Option<u32>, number: u32) -> Option<u32>
-    requires { number < length entries.now }
-    ensures { result ≡ if is_flush_at entries.now number then Some number else last }
+/// The kinds of entries of which the last one before a cut is told.
+#[derive(Clone, Copy)]
+pub(crate) enum Told {
+    Flush,
+    Mark,
+}
+
+/// What an entry of a kind is called.
+fn told_word(kind: Told) -> &'static str
+    ensures { result.now ≡ told_word kind }
 {
-    if entries[number as usize].flags.flush {
+    match kind {
+        Told::Flush => "flush",
+        Told::Mark => "mark",
+    }
+}
+
+/// Whether an entry is of a kind.
+fn is_told(kind: Told, entries: &[Entry], number: u32) -> bool
+    requires { number < length entries.now }
+    ensures { result ≡ is_told_at kind entries.now number }
+{
+    let flags = entries[number as usize].flags;
+    match kind {
+        Told::Flush => flags.flush,
+        Told::Mark => flags.mark,
+    }
+}
+
+/// The last entry of a kind, of those before an entry and of that.
+fn later(kind: Told, entries: &[Entry], last: Option<u32>, number: u32) -> Option<u32>
+    requires { number < length entries.now }
+    ensures { result ≡ if is_told_at kind entries.now number then Some number else last }
+{
+    if is_told(kind, entries, number) {
         Some(number)
     } else {
         last
     }
 }
 
-/// The last mark, of those before an entry and of that.
-fn later_mark(entries: &[Entry], last: Option<u32>, number: u32) -> Option<u32>
-    requires { number < length entries.now }
-    ensures { result ≡ if is_mark_at entries.now number then Some number else last }
-{
-    if entries[number as usize].flags.mark {
-        Some(number)
-    } else {
-        last
-    }
-}
-
-/// The last flush entry before a cut.
-fn last_flush(entries: &[Entry], cut: u32) -> Option<u32>
+/// The last entry of a kind before a cut.
+fn last_told(kind: Told, entries: &[Entry], cut: u32) -> Option<u32>
     requires { cut ≤ length entries.now }
-    ensures value { result ≡ last_before (is_flush_at entries.now) cut }
+    ensures value { result ≡ last_before (is_told_at kind entries.now) cut }
     ensures before { IfSome result (λ entry. entry < cut) }
 {
     let mut last = None;
     for entry in 0..cut {
-        last = later_flush(entries, last, entry);
+        last = later(kind, entries, last, entry);
     }
     last
 }
 
-/// The last mark before a cut.
-fn last_mark(entries: &[Entry], cut: u32) -> Option<u32>
-    requires { cut ≤ length entries.now }
-    ensures value { result ≡ last_before (is_mark_at entries.now) cut }
-    ensures before { IfSome result (λ entry. entry < cut) }
-{
-    let mut last = None;
-    for entry in 0..cut {
-        last = later_mark(entries, last, entry);
-    }
-    last
-}
-
-/// Appends the line of the last entry of a kind, if there is one.
+/// Appends the line of the last entry of a kind before a cut, if there is one.
+#[tactic(auto, unfolding(crate::specs::Cut::last_text))]
 fn put_last(
     out: &mut String,
     numbering: &Numbering<'_>,
-    what: &str,
-    last: Option<u32>,
+    kind: Told,
+    cut: u32,
 ) -> Result<(), AllocError>
-    requires there { IfSome last (λ entry. entry < length numbering.now.log.now.entries) }
-    ensures { OnOk result (string_bytes out.new ≡ string_bytes out.old ++ last_line what.now numbering.now.log.now.entries last) }
+    requires cut { cut ≤ length numbering.now.log.now.entries }
+    ensures { OnOk result (string_bytes out.new ≡ string_bytes out.old ++ last_text kind numbering.now.log.now.entries cut) }
 {
-    write!(out, "last {what}: ")?;
-    match last {
+    let word = told_word(kind);
+    write!(out, "last {word}: ")?;
+    match last_told(kind, numbering.log.entries(), cut) {
         Some(entry) => put_entry(out, numbering, entry),
         None => out.push_str("none\n"),
     }
-}
-
-/// Appends the last flush entry before a cut.
-#[tactic(auto, unfolding(crate::specs::Cut::flush_text))]
-fn put_flush(out: &mut String, numbering: &Numbering<'_>, cut: u32) -> Result<(), AllocError>
-    requires cut { cut ≤ length numbering.now.log.now.entries }
-    ensures { OnOk result (string_bytes out.new ≡ string_bytes out.old ++ flush_text numbering.now.log.now.entries cut) }
-{
-    put_last(
-        out,
-        numbering,
-        "flush",
-        last_flush(numbering.log.entries(), cut),
-    )
-}
-
-/// Appends the last mark before a cut.
-#[tactic(auto, unfolding(crate::specs::Cut::mark_text))]
-fn put_mark(out: &mut String, numbering: &Numbering<'_>, cut: u32) -> Result<(), AllocError>
-    requires cut { cut ≤ length numbering.now.log.now.entries }
-    ensures { OnOk result (string_bytes out.new ≡ string_bytes out.old ++ mark_text numbering.now.log.now.entries cut) }
-{
-    put_last(
-        out,
-        numbering,
-        "mark",
-        last_mark(numbering.log.entries(), cut),
-    )
 }
 
 /// Appends a line for an entry before a cut.
@@ -237,6 +214,6 @@ pub fn put_cut(out: &mut String, numbering: &Numbering<'_>, cut: u32) -> Result<
 {
     put_volatile(out, numbering.plan, cut)?;
     put_before(out, numbering, cut)?;
-    put_flush(out, numbering, cut)?;
-    put_mark(out, numbering, cut)
+    put_last(out, numbering, Told::Flush, cut)?;
+    put_last(out, numbering, Told::Mark, cut)
 }

@@ -22,6 +22,18 @@
 //!
 //! # Example
 //!
+//! ```
+//! use crash_text::{Numbering, put_shown};
+//! use epochs::{By, Cuts};
+//!
+//! // `plan` has all cuts of `log`; `choice` is 1.0:tail1 at cut 2, `view` its image, and `whole` the image of that cut without losses
+//! let numbering = Numbering { plan: &plan, log: &log, cuts: Cuts::ALL, by: By::Sector, bound: 1, tears: true };
+//! let mut out = String::new(alloc);
+//! put_shown(&mut out, &numbering, &choice, &whole, &view)?;
+//! ```
+//!
+//! This appends:
+//!
 //! ```text
 //! sectors 4 entries 2 cuts all bound 1 tears yes by sector
 //! cut 2 epoch 0 marks 0 choice 1.0:tail1

@@ -45,13 +45,13 @@ const UNWRITTEN: &str = "crashbpf: standard output can't be written\n";
 const NO_TEXT: &str = "error: the command line is not UTF-8\n";
 
 /// Prints a line on standard error, if it takes it, and answers the status.
-fn stopped<R: Eprint>(rt: &R, line: &str) -> u8 {
+fn print_line<R: Eprint>(rt: &R, line: &str) -> u8 {
     rt.eprint(line).ok();
     REFUSED
 }
 
 /// Prints the line of a refusal on standard error, if it takes it, also where there is no memory for its text.
-fn refused<R: AllocGlobal + Eprint>(rt: &R, refusal: &Refusal) -> u8 {
+fn print_refusal<R: AllocGlobal + Eprint>(rt: &R, refusal: &Refusal) -> u8 {
     let (number, at) = (refusal.code.number(), refusal.at);
     let printed = match (fault_line(rt.alloc(), refusal), refusal.program) {
         (Ok(line), _) => rt.eprint(str::from_utf8(line.as_slice()).unwrap_or("")),
@@ -78,7 +78,7 @@ fn run<R: AllocGlobal + Print + Eprint + Clock + Threads + Wait + Sync>(
     words: &Words,
     inputs: &Inputs,
 ) -> u8 {
-    let files = inputs.held();
+    let files = inputs.contents();
     let progress = Progress::new(rt, words.progress());
     let exit = perform(rt, rt.alloc(), &progress, words, files, inputs.base());
     progress.end();
@@ -86,13 +86,13 @@ fn run<R: AllocGlobal + Print + Eprint + Clock + Threads + Wait + Sync>(
         None => {
             let mut output = Output::new(io::writer(rt));
             if emit(&mut output, exit.output.as_slice()).is_err() {
-                return stopped(rt, UNWRITTEN);
+                return print_line(rt, UNWRITTEN);
             }
             print_notes(rt, notes_beside(rt.alloc(), words, &exit.facts));
         }
         Some(refusal) => {
             let refusal = inputs.refusal(refusal);
-            refused(rt, &refusal);
+            print_refusal(rt, &refusal);
             print_notes(
                 rt,
                 notes_behind(rt.alloc(), words, files, &refusal, &exit.facts),
@@ -116,7 +116,7 @@ fn read_and_run<R: Files + AllocGlobal + Print + Eprint + Clock + Threads + Wait
     match Inputs::read(rt, command, words.files(), words.base(), &size) {
         Ok(inputs) => run(rt, words, &inputs),
         Err(refusal) => {
-            let status = refused(rt, &refusal);
+            let status = print_refusal(rt, &refusal);
             print_notes(
                 rt,
                 notes_behind(rt.alloc(), words, &[], &refusal, &Facts::new()),
@@ -138,11 +138,11 @@ fn words_of<R: Env + AllocGlobal>(rt: &R) -> io::Result<Vec<String>> {
 /// Prints what is wrong with the words, or the help that they ask for.
 fn print_fault<R: AllocGlobal + Print + Eprint>(rt: &R, fault: &clap::Error) -> u8 {
     if fault.kind() == WordsFault::OutOfMemory {
-        return refused(rt, &Refusal::of_memory());
+        return print_refusal(rt, &Refusal::of_memory());
     }
     match fault.print(rt) {
         Ok(()) => fault.exit_code() as u8,
-        Err(_error) => stopped(rt, UNWRITTEN),
+        Err(_error) => print_line(rt, UNWRITTEN),
     }
 }
 
@@ -152,8 +152,8 @@ fn start<R: Env + Files + AllocGlobal + Print + Eprint + Clock + Threads + Wait 
 ) -> u8 {
     let words = match words_of(rt) {
         Ok(words) => words,
-        Err(error) if error.kind() == ErrorKind::InvalidData => return stopped(rt, NO_TEXT),
-        Err(_error) => return refused(rt, &Refusal::of_memory()),
+        Err(error) if error.kind() == ErrorKind::InvalidData => return print_line(rt, NO_TEXT),
+        Err(_error) => return print_refusal(rt, &Refusal::of_memory()),
     };
     let command = words.first().map(|word| word.as_str()).unwrap_or("");
     match Words::of(rt.alloc(), words.as_slice()) {

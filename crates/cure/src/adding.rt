@@ -47,7 +47,7 @@ pub fn add_missing(alloc: Global, log: Log, windows: &[Window]) -> Result<Added,
     let flushes = missing_flushes(alloc, windows, log.entries().len())?;
     let places = places_of(alloc, flushes.as_slice())?;
     Ok(Added {
-        log: log.flushed(places.as_slice()),
+        log: log.with_flushes(places.as_slice()),
         flushes,
     })
 }

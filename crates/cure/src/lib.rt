@@ -44,6 +44,23 @@
 //! # How it is written
 //!
 //! The lines of a run are kept as they are printed. So the line that is named is found among them by its newlines (`printed`).
+//!
+//! # Example
+//!
+//! ```
+//! use cure::{add_missing, failures_of, put_round, windows_of};
+//! use epochs::By;
+//!
+//! // `lines` are the failing lines of a run of `log`, and `starts` numbers its images
+//! let marks = lines.marks(alloc)?;
+//! let failures = failures_of(alloc, By::Sector, &starts, &log, marks.as_slice())?;
+//! let windows = windows_of(alloc, failures.as_slice())?;
+//! let added = add_missing(alloc, log, windows.as_slice())?;
+//! let mut out = String::new(alloc);
+//! put_round(&mut out, 1, added.flushes.as_slice())?;
+//! // round 1 flush before entry 3 from 1 failing 15
+//! // the next round is a run of added.log
+//! ```
 #![tactic(auto)]
 
 mod adding;

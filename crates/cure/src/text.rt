@@ -35,7 +35,7 @@ fn is_uncured(failure: Failure, program: usize) -> bool
 }
 
 /// How many failures of the program of that number have no window.
-fn uncured(failures: &[Failure], program: usize) -> u64
+fn count_uncured(failures: &[Failure], program: usize) -> u64
     ensures value { result ≡ length (filter (is_uncured program) failures.now) }
 {
     let mut count = 0;
@@ -52,7 +52,7 @@ fn put_program(out: &mut String, program: usize, failures: &[Failure]) -> Result
 {
     let failing = failing(failures, program);
     write!(out, "program {program} failing {failing}")?;
-    let uncured = uncured(failures, program);
+    let uncured = count_uncured(failures, program);
     write!(out, " uncured {uncured}\n")
 }
 

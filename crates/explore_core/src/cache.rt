@@ -12,7 +12,7 @@ pub struct Entry {
 }
 
 /// The outcome that the cache has for a key.
-pub(crate) fn cached(cache: &[Entry], key: u64) -> Option<u64>
+pub(crate) fn cache_outcome(cache: &[Entry], key: u64) -> Option<u64>
     ensures { result ≡ cache_outcome cache.now key }
 {
     entry_of(cache, key).map(|entry| entry.outcome)

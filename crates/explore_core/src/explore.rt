@@ -7,7 +7,7 @@ ghost use Rattle.explore_core.specs.Lists.{listed_under};
 ghost use Rattle.explore_core.specs.declared.piece.Found.TheVariants.{Passed};
 ghost use Rattle.explore_core.specs.State.{start, after, after_all, job_by_cache, lower_image, may_draw, after_list, after_draw, after_steal, next_job, after_look, last_judged, after_put, after_post, piece_passed, piece_done, handed_over, quit};
 
-use crate::cache::{Entry, cached, take_out};
+use crate::cache::{Entry, cache_outcome, take_out};
 use crate::event::Event;
 use crate::hand::Hand;
 use crate::job::{Job, JobList, Jobs, first_failing_image, lies_after};
@@ -184,7 +184,7 @@ impl<'a> Explore<'a> {
         let Some(job) = self.next_job(worker) else {
             return Ok(());
         };
-        let judged = taken(self.cache.as_slice(), job);
+        let judged = job_by_cache(self.cache.as_slice(), job);
         self.hands[worker].judge(judged)?;
         Ok(())
     }
@@ -221,7 +221,7 @@ impl<'a> Explore<'a> {
             Some(Hand::Holding { block: _, judged }) => first_failing_image(judged.as_slice()),
             _ => return,
         };
-        self.least = lowered(self.least, image);
+        self.least = lower_image(self.least, image);
     }
 
     /// The piece by which a worker may pass over its block, if it may.
@@ -267,7 +267,7 @@ impl<'a> Explore<'a> {
         }
     }
 
-    fn done(&mut self, worker: usize) -> Result<(), AllocError>
+    fn retire(&mut self, worker: usize) -> Result<(), AllocError>
         ensures done { OnOk result (self.new ≡ handed_over self.old worker (piece_done self.old.blocks (slice_get self.old.hands worker))) }
         ensures kept { OnErr result (self.new ≡ self.old) }
     {
@@ -313,7 +313,7 @@ pub fn step(alloc: Global, explore: &mut Explore, event: &Event) -> Result<(), A
         Event::Put(worker, gone) => return explore.put(usize::from(*worker), gone.as_slice()),
         Event::Post(worker) => explore.post(usize::from(*worker)),
         Event::Pass(worker) => return explore.pass(usize::from(*worker)),
-        Event::Done(worker) => return explore.done(usize::from(*worker)),
+        Event::Done(worker) => return explore.retire(usize::from(*worker)),
         Event::Quit(worker) => explore.quit(usize::from(*worker)),
     }
     Ok(())
@@ -357,17 +357,17 @@ fn passed_by(image: u64, block: usize, jobs: &[Job]) -> Option<Piece>
 }
 
 /// The job with the outcome that the cache has for its key, or else with its own.
-fn taken(cache: &[Entry], job: Job) -> Job
+fn job_by_cache(cache: &[Entry], job: Job) -> Job
     ensures { result ≡ job_by_cache cache.now job }
 {
     Job {
-        outcome: cached(cache, job.key).unwrap_or(job.outcome),
+        outcome: cache_outcome(cache, job.key).unwrap_or(job.outcome),
         ..job
     }
 }
 
 /// The lower of the least image so far and another.
-fn lowered(least: Option<u64>, image: Option<u64>) -> Option<u64>
+fn lower_image(least: Option<u64>, image: Option<u64>) -> Option<u64>
     ensures { result ≡ lower_image least image }
 {
     match (least, image) {

@@ -47,12 +47,16 @@
 //!
 //! # Example
 //!
-//! ```text
-//! let jobs = Jobs::new(blocks)?;                 // two blocks
-//! let mut explore = Explore::new(alloc, &jobs, 2, false)?;
-//! step(alloc, &mut explore, &Event::Draw(0))?;       // block 0 is in the list of worker 0
-//! step(alloc, &mut explore, &Event::Take(1, 0, 0))?; // worker 1 has it in hand
-//! step(alloc, &mut explore, &Event::Done(1))?;       // nothing changes: its jobs aren't judged yet
+//! ```
+//! use explore_core::{Event, Explore, Jobs, step};
+//!
+//! // `blocks` has two blocks of jobs, whose images never fall
+//! if let Some(jobs) = Jobs::new(blocks) {
+//!     let mut explore = Explore::new(alloc, &jobs, 2, false)?;
+//!     step(alloc, &mut explore, &Event::Draw(0))?;            // block 0 is in the list of worker 0
+//!     step(alloc, &mut explore, &Event::Take(1, 0, 0))?;      // worker 1 has it in hand
+//!     step(alloc, &mut explore, &Event::Done(1))?;            // nothing changes: its jobs aren't judged yet
+//! }
 //! ```
 #![tactic(auto)]
 

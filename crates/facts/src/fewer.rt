@@ -1,9 +1,10 @@
 //! With what a log that has too many crash images has fewer.
 
 ghost use Rattle.std.specs.Prelude.{◌≡◌, ◌≤◌, IfOk, MatchOption};
+ghost use Rattle.request.specs.Extents.{most_images};
 ghost use Rattle.facts.specs.Fewer.{CountsImages, IsGreatest, NoneIsSmaller, plan_with, AreFewer};
 
-use choices::count;
+use choices::count_up_to;
 use epochs::{CutKind, Cuts, Plan};
 use logfmt::Log;
 use request::Options;
@@ -27,12 +28,12 @@ pub struct Fewer {
     pub smaller: Option<Smaller>,
 }
 
-/// How many images a plan has; none where they are too many.
-fn images_of(plan: &Plan<'_>, bound: u8, tears: bool) -> Option<u64>
+/// How many images a plan has; none where they are more than `most`.
+fn images_of(plan: &Plan<'_>, bound: u8, tears: bool, most: u64) -> Option<u64>
     requires { bound ≤ 3 }
-    ensures { CountsImages plan.now bound tears result }
+    ensures { CountsImages most plan.now bound tears result }
 {
-    match count(plan, bound, tears) {
+    match count_up_to(plan, bound, tears, most) {
         Ok(images) => Some(images),
         Err(_too_many) => None,
     }
@@ -45,7 +46,7 @@ fn images_with(
     options: &Options,
     kind: CutKind,
 ) -> Result<Option<u64>, AllocError>
-    ensures { IfOk result (CountsImages (plan_with kind options.now log.now) options.now.bound options.now.tears) }
+    ensures { IfOk result (CountsImages (most_images options.now.extent) (plan_with kind options.now log.now) options.now.bound options.now.tears) }
 {
     let asked = options.cuts();
     let cuts = Cuts {
@@ -55,16 +56,17 @@ fn images_with(
         flushes: asked.flushes,
     };
     let plan = Plan::new(alloc, log, cuts, options.by())?;
-    Ok(images_of(&plan, options.bound(), options.tears()))
+    let most = options.extent().most();
+    Ok(images_of(&plan, options.bound(), options.tears(), most))
 }
 
 /// The greatest bound below one with which a plan hasn't too many images.
-fn smaller_bound(plan: &Plan<'_>, below: u8, tears: bool) -> Option<Smaller>
+fn smaller_bound(plan: &Plan<'_>, below: u8, tears: bool, most: u64) -> Option<Smaller>
     requires { below ≤ 3 }
-    ensures { MatchOption result (NoneIsSmaller plan.now tears below) (λ found. IsGreatest plan.now tears below found.bound found.images) }
+    ensures { MatchOption result (NoneIsSmaller most plan.now tears below) (λ found. IsGreatest most plan.now tears below found.bound found.images) }
 {
     for bound in (0..below).rev() {
-        if let Some(images) = images_of(plan, bound, tears) {
+        if let Some(images) = images_of(plan, bound, tears, most) {
             return Some(Smaller { bound, images });
         }
     }
@@ -76,9 +78,10 @@ pub(crate) fn fewer_of(alloc: Global, log: &Log, options: &Options) -> Result<Fe
     ensures { IfOk result (AreFewer options.now log.now) }
 {
     let plan = Plan::new(alloc, log, options.cuts(), options.by())?;
+    let (bound, tears) = (options.bound(), options.tears());
     Ok(Fewer {
         flush: images_with(alloc, log, options, CutKind::BeforeFlush)?,
         mark: images_with(alloc, log, options, CutKind::AfterMark)?,
-        smaller: smaller_bound(&plan, options.bound(), options.tears()),
+        smaller: smaller_bound(&plan, bound, tears, options.extent().most()),
     })
 }

@@ -1,7 +1,7 @@
 //! What a command finds.
 
-ghost use Rattle.std.specs.Prelude.{◌≡◌, ◌<◌, ◌≤◌, [], length, IfOk, IfErr, IfSome, None};
-ghost use Rattle.choices.specs.Choices.{limit};
+ghost use Rattle.std.specs.Prelude.{◌≡◌, ◌<◌, ◌≤◌, [], length, true, IfOk, IfErr, IfSome, None};
+ghost use Rattle.request.specs.Extents.{most_images, has_extent};
 ghost use Rattle.request.specs.Source.{plan_of, images_of, RefusesPlan};
 ghost use Rattle.verifier.specs.Verdicts.{IsVerified};
 ghost use Rattle.facts.specs.Fewer.{AreFewer};
@@ -16,7 +16,7 @@ use bpf_isa::program::Program;
 use epochs::Plan;
 use logfmt::Log;
 use ranges::State;
-use request::{Options, planned};
+use request::{Options, plan_of};
 use std::alloc::Global;
 use verifier::{Unaccepted, Unreached, Verified, unreached_of};
 
@@ -55,12 +55,12 @@ impl Facts {
         }
     }
 
-    /// The plan of a log by the options, and how many crash images it has, as `planned` answers them. Where there are too many,
+    /// The plan of a log by the options, and how many crash images it has, as `plan_of` answers them. Where there are too many,
     /// it is found with what there are fewer.
     ///
     /// # Errors
     ///
-    /// Those of `planned`.
+    /// Those of `plan_of`.
     pub fn plan<'x>(
         &mut self,
         alloc: Global,
@@ -69,14 +69,15 @@ impl Facts {
     ) -> Result<(Plan<'x>, u64), Refusal>
         ensures plan { IfOk result (λ p. p.0 ≡ plan_of options.now log.now) }
         ensures count { IfOk result (λ p. p.1 ≡ length (images_of options.now log.now)) }
-        ensures few { IfOk result (λ p. p.1 ≤ limit) }
+        ensures few { IfOk result (λ p. p.1 ≤ most_images options.now.extent) }
+        ensures within { IfOk result (λ p. has_extent options.now.extent p.1 ≡ true) }
         ensures refused { IfErr result (RefusesPlan options.now log.now) }
         ensures fewer { IfSome self.new.fewer (AreFewer options.now log.now) }
         ensures large { self.new.large ≡ self.old.large }
         ensures others { KeepsPrograms self.old self.new }
     {
         self.fewer = None;
-        match planned(alloc, log, options) {
+        match plan_of(alloc, log, options) {
             Ok(planned) => Ok(planned),
             Err(refusal) => {
                 if matches!(refusal.code, Cause::Request(RequestCause::TooManyImages)) {

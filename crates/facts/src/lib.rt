@@ -9,24 +9,27 @@
 //! | Call | Does |
 //! |---|---|
 //! | `Recording::of(log, initial)` | the bytes of a log, with those that the device held before entry 0 |
+//! | `recording.log()` | the bytes of the log |
 //! | `recording.read(alloc, options, facts)` | the log, as `read_log` reads it; finds how many entries are too large to be lost as a whole |
-//! | `facts.plan(alloc, log, options)` | its plan, as `planned` makes it; where there are too many images, finds with what there are fewer |
+//! | `facts.plan(alloc, log, options)` | its plan, as `plan_of` makes it; where there are too many images, finds with what there are fewer |
 //! | `facts.accept(verified)` | finds what no run reaches of an accepted program |
 //! | `facts.refuse(program, unaccepted)` | finds the instruction at which the verifier refuses a program, and what is known there |
 //!
 //! # What is proved
 //!
 //! What `Facts` holds is exactly what the definitions of `specs/Found.antt` and `specs/Fewer.antt` say of this log, with these
-//! options, and of these programs. What else it held stays. `read` and `plan` answer what `read_log` and `planned` do. Where
+//! options, and of these programs. What else it held stays. `read` and `plan` answer what `read_log` and `plan_of` do. Where
 //! there is no memory to count, `fewer` stays empty.
 //!
 //! # Example
 //!
-//! ```text
+//! ```
+//! use facts::{Facts, Recording};
+//!
 //! let mut facts = Facts::new();
-//! let log = recording.read(alloc, &options, &mut facts)?;
+//! let log = Recording::of(bytes, &[]).read(alloc, &options, &mut facts)?;
 //! let (plan, images) = facts.plan(alloc, &log, &options)?;
-//! // facts.large: how many entries no image loses as a whole
+//! let large = facts.large;    // how many entries no image loses as a whole
 //! ```
 #![tactic(auto)]
 

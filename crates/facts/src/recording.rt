@@ -37,6 +37,13 @@ impl<'x> Recording<'x> {
         Recording { log, initial }
     }
 
+    /// The bytes of the log.
+    pub fn log(&self) -> &'x [u8]
+        ensures { result.now ≡ self.now.text }
+    {
+        self.log
+    }
+
     /// The log that is asked for of it, as `read_log` answers it. It is found how many of its entries are too large to be lost as
     /// a whole.
     ///

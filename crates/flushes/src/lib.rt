@@ -25,6 +25,20 @@
 //! Behind the first departure entries are looked at from the cut back. At most three parts depart, so few writes are passed
 //! over. Of the windows with one end only the one that begins last decides, so a table of the entries takes their place, and
 //! one walk along it finds the places.
+//!
+//! # Example
+//!
+//! ```
+//! use epochs::By;
+//! use flushes::{Window, missing_flushes, window_of};
+//!
+//! // `choice` is of cut 6; it loses the write of entry 0, and that of entry 5 arrived
+//! let window = window_of(By::Sector, &log, choice.cut(), choice.departures());
+//! // Some(Window { start: 1, end: 5 }): a flush before any of the entries 1 to 5 takes the image away
+//! let windows = [Window { start: 1, end: 5 }, Window { start: 3, end: 8 }];
+//! let flushes = missing_flushes(alloc, &windows, 9)?;
+//! // one for both: MissingFlush { from: 3, at: 5, failing: 2 }
+//! ```
 #![tactic(auto)]
 
 mod counted;

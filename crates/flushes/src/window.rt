@@ -30,7 +30,7 @@ fn drops(departure: Departure, entry: u32) -> bool
 }
 
 /// How many parts of an entry are lost.
-fn dropped(departures: &[Departure], entry: u32) -> u64
+fn count_drops(departures: &[Departure], entry: u32) -> u64
     requires { length departures.now ≤ 3 }
     ensures { result ≡ length (filter (drops entry) departures.now) }
 {
@@ -48,7 +48,7 @@ fn is_end(by: By, entries: &[Entry], departures: &[Departure], number: u32) -> b
     ensures { result ≡ is_end by entries.now departures.now number }
 {
     let entry = &entries[number as usize];
-    entry.flags.mark || dropped(departures, number) < by.parts(entry)
+    entry.flags.mark || count_drops(departures, number) < by.parts(entry)
 }
 
 /// The window of the image of a cut and these departures, rising, where it has one.

@@ -89,7 +89,7 @@ fn example_of(
 /// # Errors
 ///
 /// Memory was refused.
-pub fn folded(alloc: Global, failing: &[ArrayVec<u32, 3>]) -> Result<Vec<usize>, AllocError>
+pub fn fold(alloc: Global, failing: &[ArrayVec<u32, 3>]) -> Result<Vec<usize>, AllocError>
     requires { AreChoices (map (λ c. c.items) failing.now) }
     ensures { IfOk result (λ places. AreFolded (map (λ c. c.items) failing.now) places.items) }
 {

@@ -7,7 +7,7 @@
 //!
 //! | Call | Answer |
 //! |---|---|
-//! | `folded(alloc, failing)` | for each failing choice of a cut the place of the example under which it stands |
+//! | `fold(alloc, failing)` | for each failing choice of a cut the place of the example under which it stands |
 //! | `groups(alloc, failing)` | for each the place of the first that is a part of it |
 //!
 //! # Place
@@ -22,7 +22,7 @@
 //! `specs/Groups.antt`). A law says that this one is smallest, so that no other failing choice is a part
 //! of it, and the first of the smallest that are a part (`group_is_smallest` in `specs/Laws.antt`).
 //!
-//! `folded` answers, for each failing choice, the example of that part: of the smallest choices in which the
+//! `fold` answers, for each failing choice, the example of that part: of the smallest choices in which the
 //! same is lost and the same is torn the first (`AreFolded` in `specs/Folded.antt`). By a law a choice stands
 //! under one example alone (`stands_under_one`).
 //!
@@ -35,12 +35,14 @@
 //!
 //! # Example
 //!
-//! ```text
-//! // unit 4 lost, unit 4 and unit 9 lost, unit 7 and unit 9 lost
-//! let places = groups(alloc, &[choice(&[60]), choice(&[60, 135]), choice(&[105, 135])])?;
+//! ```
+//! use groups::{fold, groups};
+//!
+//! // of `choices` the first loses unit 4, the second unit 4 and unit 9, the third unit 7 and unit 9
+//! let places = groups(alloc, choices)?;
 //! // 0, 0, 2: the second fails since the first does
-//! // one eighth of unit 4 arrived, two eighths of it, two eighths of it and unit 9 lost
-//! let examples = folded(alloc, &[choice(&[61]), choice(&[62]), choice(&[62, 135])])?;
+//! // of `torn` the first has one eighth of unit 4, the second two eighths of it, the third these and lost unit 9
+//! let examples = fold(alloc, torn)?;
 //! // 0, 0, 0: unit 4 is torn in each
 //! ```
 #![tactic(auto)]
@@ -50,6 +52,6 @@ mod grouping;
 mod keys;
 mod laws;
 
-pub use folding::folded;
+pub use folding::fold;
 pub use grouping::groups;
 pub use laws::{group_is_smallest, stands_under_one};

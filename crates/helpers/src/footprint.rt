@@ -1,7 +1,7 @@
 //! The footprint of a run.
 
 ghost use Rattle.std.specs.Prelude.{◌≡◌, ◌<◌, ◌∷◌, [], IsFalse, MatchOption, None};
-ghost use Rattle.helpers.specs.Footprint.{lists, noted, noted_all, on_device, sector_at, sectors_at, sectors_of, unread};
+ghost use Rattle.helpers.specs.Footprint.{lists, footprint_with, footprint_after, on_device, sector_at, sectors_at, sectors_of, unread};
 
 use crate::answers::SECTOR_START;
 use crate::device::Device;
@@ -49,9 +49,9 @@ impl<const ROOM: usize> Footprint<ROOM> {
 
     /// The run looks at that sector.
     #[inline(always)]
-    #[tactic(auto, unfolding(crate::specs::Footprint::noted))]
+    #[tactic(auto, unfolding(crate::specs::Footprint::footprint_with))]
     pub fn note(&mut self, number: u32)
-        ensures { self.new ≡ noted self.old number }
+        ensures { self.new ≡ footprint_with self.old number }
     {
         if ROOM == 0 || self.all || lists(self.sectors.as_slice(), number) {
             return;
@@ -66,7 +66,7 @@ impl<const ROOM: usize> Footprint<ROOM> {
     /// It looks at a sector, if the device has it.
     #[inline(always)]
     pub fn look<D: Device>(&mut self, device: &D, number: u64)
-        ensures { self.new ≡ noted_all self.old (on_device (D.content device.now) (number ∷ [])) }
+        ensures { self.new ≡ footprint_after self.old (on_device (D.content device.now) (number ∷ [])) }
     {
         if number < u64::from(device.sectors()) {
             self.note(number as u32);
@@ -76,7 +76,7 @@ impl<const ROOM: usize> Footprint<ROOM> {
     /// It looks at the sector that has its byte at an address, if one has.
     #[inline(always)]
     fn look_at<D: Device>(&mut self, device: &D, address: u64)
-        ensures { self.new ≡ noted_all self.old (on_device (D.content device.now) (sector_at address)) }
+        ensures { self.new ≡ footprint_after self.old (on_device (D.content device.now) (sector_at address)) }
     {
         if address >= SECTOR_START {
             self.look(device, (address - SECTOR_START) / 1024);
@@ -88,7 +88,7 @@ impl<const ROOM: usize> Footprint<ROOM> {
     #[tactic(auto, using(crate::proofs::CallerLemmas::looked_both))]
     pub fn look_from<D: Device>(&mut self, device: &D, address: u64, count: u8)
         requires { 0 < count }
-        ensures { self.new ≡ noted_all self.old (on_device (D.content device.now) (sectors_at address count)) }
+        ensures { self.new ≡ footprint_after self.old (on_device (D.content device.now) (sectors_at address count)) }
     {
         self.look_at(device, address);
         self.look_at(device, address.wrapping_add(u64::from(count) - 1));
@@ -98,7 +98,7 @@ impl<const ROOM: usize> Footprint<ROOM> {
     #[inline(always)]
     #[tactic(auto, using(crate::proofs::CallerLemmas::looked_both, crate::proofs::CallerLemmas::nothing_over))]
     pub fn look_over<D: Device>(&mut self, device: &D, position: u64, count: u64)
-        ensures { self.new ≡ noted_all self.old (on_device (D.content device.now) (sectors_of position count)) }
+        ensures { self.new ≡ footprint_after self.old (on_device (D.content device.now) (sectors_of position count)) }
     {
         let _sectors = device.sectors();
         self.look(device, position / 512);

@@ -39,7 +39,7 @@ impl<'a> Model for ChangedSector<'a> {
 impl<'a> ChangedSector<'a> {
     /// A sector whose bytes lie in the log.
     #[tactic(auto, unfolding(crate::specs::Contents::bytes_of))]
-    pub(crate) fn lent(number: u32, sector: &'a Sector) -> ChangedSector<'a>
+    pub(crate) fn borrow_sector(number: u32, sector: &'a Sector) -> ChangedSector<'a>
         ensures { result ≡ record { number = number; content = sector.now } }
     {
         ChangedSector {
@@ -51,7 +51,7 @@ impl<'a> ChangedSector<'a> {
 
     /// A sector in which a torn unit shows.
     #[tactic(auto, unfolding(crate::specs::Contents::bytes_of))]
-    pub(crate) fn torn(
+    pub(crate) fn torn_sector(
         alloc: Global,
         number: u32,
         sector: &Sector,
@@ -91,7 +91,7 @@ impl<'a> ChangedSector<'a> {
     }
 
     /// The mix of its bytes, which is worked out once.
-    pub(crate) fn mixed(&self) -> u64
+    pub(crate) fn mix(&self) -> u64
         ensures { result ≡ mix self.now.content }
     {
         self.mixed
@@ -121,6 +121,6 @@ impl<'a> Hash for ChangedSector<'a> {
     #[tactic(auto, unfolding(crate::specs::Equal::sector_input))]
     fn hash<H: Hasher>(&self, state: &mut H) {
         state.write_u32(self.number());
-        state.write_u64(self.mixed());
+        state.write_u64(self.mix());
     }
 }

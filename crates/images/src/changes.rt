@@ -15,7 +15,7 @@ use crate::changed::ChangedSector;
 use crate::history::History;
 use crate::image::content_of;
 use crate::key::Key;
-use crate::listing::{change_of, copied, put};
+use crate::listing::{change_of, copy_sectors, put};
 use crate::versions::Versions;
 use crate::view::View;
 use choices::Departure;
@@ -97,7 +97,7 @@ impl<'a> Changes<'a> {
         let none = nothing(alloc, &self.versions);
         let known = mem::replace(&mut self.known, none);
         self.known = known_at(alloc, &self.versions, known, view.cut(), context.epoch)?;
-        match departed(alloc, view, self.known.flush, self.known.sectors.as_slice())? {
+        match changes_of_image(alloc, view, self.known.flush, self.known.sectors.as_slice())? {
             Some(changed) => Ok(Some(Key::of(0, context, changed))),
             None => Ok(None),
         }
@@ -137,7 +137,7 @@ fn known_at<'a>(
         sectors,
     } = known;
     if old == epoch && first <= cut {
-        let sectors = followed(versions, sectors, flush, first, cut)?;
+        let sectors = changes_of_cut(versions, sectors, flush, first, cut)?;
         return Ok(Known {
             epoch,
             flush,
@@ -146,7 +146,7 @@ fn known_at<'a>(
         });
     }
     let flush = last_flush(versions.log().entries(), cut);
-    let sectors = followed(versions, Vec::new(alloc), flush, flush, cut)?;
+    let sectors = changes_of_cut(versions, Vec::new(alloc), flush, flush, cut)?;
     Ok(Known {
         epoch,
         flush,
@@ -173,7 +173,7 @@ fn last_flush(entries: &[Entry], cut: u32) -> u32
 
 /// The sectors in which the image of a cut differs from that of entry `flush`, from those of an earlier
 /// cut.
-fn followed<'a>(
+fn changes_of_cut<'a>(
     versions: &Versions<'a>,
     mut sectors: Vec<ChangedSector<'a>>,
     flush: u32,
@@ -272,7 +272,7 @@ fn put_part<'a>(
 
 /// The sectors in which an image differs from the base, rising, or `None` where there are more than a
 /// key has: those of the image where nothing departs, but for the sectors of the departures.
-fn departed<'a>(
+fn changes_of_image<'a>(
     alloc: Global,
     view: &View<'a>,
     flush: u32,
@@ -287,7 +287,7 @@ fn departed<'a>(
     if whole.len() > MOST_CHANGED + sectors_of(departures) {
         return Ok(None);
     }
-    let mut sectors = copied(alloc, whole, departures.len())?;
+    let mut sectors = copy_sectors(alloc, whole, departures.len())?;
     for departure in departures {
         put_part(alloc, &mut sectors, view, flush, departure.part)?;
     }

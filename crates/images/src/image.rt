@@ -176,7 +176,7 @@ pub(crate) fn showing(row: &[Unit], departures: &[Departure]) -> Option<Unit>
 
 /// A unit with that fate over what the units before it left: each byte is that of the unit where the
 /// fate keeps it.
-fn laid(content: &Sector, earlier: &Sector, fate: Fate) -> Sector
+fn lay_over(content: &Sector, earlier: &Sector, fate: Fate) -> Sector
     ensures size { length result ≡ 512 }
     ensures bytes { (i : ℕ) → i < 512 → slice_index result i ≡ (if keeps fate 1 i then slice_index content.now i else slice_index earlier.now i) }
 {
@@ -189,7 +189,7 @@ fn laid(content: &Sector, earlier: &Sector, fate: Fate) -> Sector
 
 /// What units that cover one sector, of that number, leave on it, formed anew. It goes back to the last
 /// whole unit, or to the initial content.
-pub(crate) fn formed(log: &Log, number: u32, row: &[Unit], departures: &[Departure]) -> Sector
+pub(crate) fn form_sector(log: &Log, number: u32, row: &[Unit], departures: &[Departure]) -> Sector
     requires units { (i : ℕ) (u : LogUnit) → slice_get row.now i ≡ Some u → IsUnit log.now u }
     requires once { DepartOnce departures.now }
     ensures { ((i : ℕ) (u : LogUnit) → slice_get row.now i ≡ Some u → u.sector ≡ number)
@@ -204,6 +204,6 @@ pub(crate) fn formed(log: &Log, number: u32, row: &[Unit], departures: &[Departu
     let Some(fate) = fate_at(departures, unit) else {
         return *content;
     };
-    let earlier = formed(log, number, &row[..last], departures);
-    laid(content, &earlier, fate)
+    let earlier = form_sector(log, number, &row[..last], departures);
+    lay_over(content, &earlier, fate)
 }

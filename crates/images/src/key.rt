@@ -8,7 +8,7 @@ ghost use Rattle.images.specs.Views.{ViewValue};
 ghost use Rattle.std.specs.Cmp.{partial_equiv_from_equiv};
 
 use crate::changed::ChangedSector;
-use crate::listing::copied;
+use crate::listing::copy_sectors;
 use helpers::Context;
 use std::alloc::{AllocError, Global};
 use std::hash::{Hash, Hasher};
@@ -84,7 +84,7 @@ impl<'a> Key<'a> {
     }
 
     /// The sectors that differ from the base, rising.
-    pub fn changed(&self) -> &[ChangedSector<'a>]
+    pub fn changed_sectors(&self) -> &[ChangedSector<'a>]
         ensures value { result.now ≡ self.now.changed }
         ensures few { length result.now ≤ 64 }
     {
@@ -103,7 +103,7 @@ impl<'a> Key<'a> {
             program: self.program,
             epoch: self.epoch,
             marks: self.marks,
-            changed: copied(alloc, self.changed.as_slice(), 0)?,
+            changed: copy_sectors(alloc, self.changed.as_slice(), 0)?,
         })
     }
 
@@ -114,7 +114,7 @@ impl<'a> Key<'a> {
     {
         let mut sum = u64::from(self.program);
         for sector in self.changed.as_slice() {
-            sum = sum.wrapping_add(sector.mixed());
+            sum = sum.wrapping_add(sector.mix());
             sum = sum.wrapping_add(u64::from(sector.number()));
         }
         (sum % SHARDS) as u8

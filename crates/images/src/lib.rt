@@ -32,7 +32,7 @@
 //! | `view.key(alloc, program)` | the key of the image and a program, or `None` |
 //! | `Changes::new(alloc, history)`, `changes.key(alloc, view)` | the keys of many images, each of program 0 |
 //! | `key.set_program(program)`, `key.copy(alloc)` | the key of the image and another program; the same key |
-//! | `key.program()`, `key.epoch()`, `key.marks()`, `key.changed()` | the parts of a key |
+//! | `key.program()`, `key.epoch()`, `key.marks()`, `key.changed_sectors()` | the parts of a key |
 //! | `key.shard()` | which of 16 shards has the key |
 //! | `initial_number(log)` | the number by which a report tells the initial content of a log, or `None` |
 //!
@@ -91,12 +91,12 @@
 //!
 //! A view borrows the table. A sector of it is the content of the last of those units that is not
 //! dropped, where it lies in the log, or that of the initial content, which the log keeps, or a sector of
-//! zeros (`lent`). No image and no worker has a copy of it. A part that departs has a
+//! zeros (`borrow_sector`). No image and no worker has a copy of it. A part that departs has a
 //! fate over all of its bytes; `share_of` in `image` says what that makes of one of its sectors: the
 //! sector is whole, dropped, or torn as a part of one sector is. Where the unit that shows is torn the
-//! view owns the sector: `torn` forms these when the view is made, one for each departure that tears its
+//! view owns the sector: `torn_sector` forms these when the view is made, one for each departure that tears its
 //! part, so at most three, by `lanes::splice` of the unit's content and of what the units before it
-//! leave, back to the last whole one (`formed` in `image`). An image in which no part is torn owns none.
+//! leave, back to the last whole one (`form_sector` in `image`). An image in which no part is torn owns none.
 //!
 //! `changes` makes keys. It keeps the sectors in which the image where nothing departs differs from the
 //! base, and carries this list to a later cut by adding what the entries between the two write; behind

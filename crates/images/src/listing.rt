@@ -21,7 +21,7 @@ pub(crate) fn change_of<'a>(
     if lanes::same(base, sector) {
         None
     } else {
-        Some(ChangedSector::lent(number, sector))
+        Some(ChangedSector::borrow_sector(number, sector))
     }
 }
 
@@ -37,7 +37,7 @@ pub(crate) fn torn_change<'a>(
     if lanes::same(base, sector) {
         return Ok(None);
     }
-    Ok(Some(ChangedSector::torn(alloc, number, sector)?))
+    Ok(Some(ChangedSector::torn_sector(alloc, number, sector)?))
 }
 
 /// How many sectors of a list stand before a number.
@@ -85,7 +85,7 @@ pub(crate) fn put<'a>(
 }
 
 /// The same sectors, with room for so many more.
-pub(crate) fn copied<'a>(
+pub(crate) fn copy_sectors<'a>(
     alloc: Global,
     sectors: &[ChangedSector<'a>],
     more: usize,

@@ -100,7 +100,7 @@ pub(crate) fn put_torn(
             let number = tear(*departure);
             torn.push(TornSector {
                 number,
-                content: versions.formed(number, cut, departures),
+                content: versions.form_sector(number, cut, departures),
             });
         }
     }

@@ -7,7 +7,7 @@ ghost use Rattle.epochs.specs.Plan.{IsUnit};
 ghost use Rattle.epochs.specs.Units.{units_before};
 ghost use Rattle.images.specs.Table.{HasRows, IsTable};
 
-use crate::image::{Sector, content_of, fate_at, formed, initial_of, showing};
+use crate::image::{Sector, content_of, fate_at, form_sector, initial_of, showing};
 use crate::pages::{Page, put_unit, row_of};
 use choices::Departure;
 use epochs::Unit;
@@ -80,7 +80,12 @@ impl<'a> Versions<'a> {
 
     /// A sector of a crash image, where the log, its initial content or a sector of zeros has it; `None`
     /// where a torn unit shows in it.
-    pub(crate) fn lent(&self, number: u32, cut: u32, departures: &[Departure]) -> Option<&'a Sector>
+    pub(crate) fn borrow_sector(
+        &self,
+        number: u32,
+        cut: u32,
+        departures: &[Departure],
+    ) -> Option<&'a Sector>
         requires number { number < self.now.sectors }
         requires cut { cut ≤ length self.now.entries }
         ensures lent { IfSome result (λ sector. sector.now ≡ sector_after self.now (units_before self.now.entries cut) departures.now number) }
@@ -101,20 +106,20 @@ impl<'a> Versions<'a> {
         requires cut { cut ≤ length self.now.entries }
         ensures { result.now ≡ sector_after self.now (units_before self.now.entries cut) [] number }
     {
-        match self.lent(number, cut, &[]) {
+        match self.borrow_sector(number, cut, &[]) {
             Some(sector) => sector,
             None => unreachable!(),
         }
     }
 
     /// A sector of a crash image, formed anew.
-    pub(crate) fn formed(&self, number: u32, cut: u32, departures: &[Departure]) -> Sector
+    pub(crate) fn form_sector(&self, number: u32, cut: u32, departures: &[Departure]) -> Sector
         requires number { number < self.now.sectors }
         requires cut { cut ≤ length self.now.entries }
         requires once { DepartOnce departures.now }
         ensures { result ≡ sector_after self.now (units_before self.now.entries cut) departures.now number }
     {
-        formed(self.log, number, self.before(number, cut), departures)
+        form_sector(self.log, number, self.before(number, cut), departures)
     }
 }
 

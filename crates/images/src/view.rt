@@ -76,13 +76,13 @@ impl<'a> View<'a> {
     }
 
     /// A sector of the image.
-    pub(crate) fn shown(&self, number: u32) -> &Sector
+    pub(crate) fn form(&self, number: u32) -> &Sector
         requires { number < self.now.log.sectors }
         ensures { slice_get (sectors_of self.now) number ≡ Some result.now }
     {
         match self
             .versions
-            .lent(number, self.cut, self.departures.as_slice())
+            .borrow_sector(number, self.cut, self.departures.as_slice())
         {
             Some(sector) => sector,
             None => torn_content(self.torn.as_slice(), number),
@@ -113,7 +113,7 @@ impl<'a> View<'a> {
     {
         let versions = &self.versions;
         let base = versions.durable(number, flush);
-        match versions.lent(number, self.cut, self.departures.as_slice()) {
+        match versions.borrow_sector(number, self.cut, self.departures.as_slice()) {
             Some(sector) => Ok(change_of(number, base, sector)),
             None => torn_change(
                 alloc,
@@ -153,7 +153,7 @@ impl<'a> Device for View<'a> {
 
     fn sector(&self, n: u32) -> Option<&[u8; 512]> {
         if n < self.context.sectors {
-            Some(self.shown(n))
+            Some(self.form(n))
         } else {
             None
         }

@@ -1,12 +1,13 @@
 -- What a command takes a file for, and how much of it is read (docs/REPORT.md, Files).
-use Rattle.std.specs.Prelude.{ℕ, ◌==◌, ◌+◌, ◌-◌, ◌*◌, min, nat_le, ◌&&◌, ◌||◌, if◌then◌else◌, List, bytes_eq, codes, Option, None, Some}
+use Rattle.std.specs.Prelude.{ℕ, ◌==◌, ◌+◌, ◌-◌, ◌*◌, Bool, min, nat_le, nat_lt, ◌&&◌, ◌||◌, if◌then◌else◌, List, bytes_eq, codes, Option, None, Some}
 use Rattle.limits.specs.Sizes.{byte_limit, sector_limit}
 use Rattle.limits.specs.declared.Limits.{Limits}
 use Rattle.base.specs.declared.causes.AsmCause.TheVariants as asm
 use Rattle.base.specs.declared.causes.CodeCause.TheVariants as code
 use Rattle.base.specs.declared.causes.LogCause.TheVariants as log
 use Rattle.base.specs.declared.refusal.Refusal.{Refusal}
-use Rattle.base.specs.declared.refusal.Cause.TheVariants.{Asm, Code, Log}
+use Rattle.base.specs.declared.causes.JoinCause.TheVariants as joining
+use Rattle.base.specs.declared.refusal.Cause.TheVariants.{Asm, Code, Join, Log}
 use Rattle.base.specs.Refusals.{memory_refusal}
 use Rattle.input_files.specs.declared.kind.FileKind.{FileKind}
 use Rattle.input_files.specs.declared.kind.FileKind.TheVariants as kind
@@ -15,13 +16,21 @@ use Rattle.input_files.specs.declared.kind.FileKind.TheVariants as kind
 abbrev pub checked_kind : ℕ → Limits → FileKind
 checked_kind place limits = if place == 1 then kind.Image limits else kind.Program
 
--- what the command of that name takes the file at that place for, within these limits
-abbrev pub kind_of : List ℕ → ℕ → Limits → FileKind
-kind_of command place limits =
+-- how many parts are joined at most, and how many bytes they have together at most
+abbrev pub most_parts : ℕ
+most_parts = 4096
+
+abbrev pub most_of_parts : ℕ
+most_of_parts = 1024 * 1024 * 1024
+
+-- what the command of that name takes the file at that place for, within these limits; for parts so many bytes are left
+abbrev pub kind_of : List ℕ → ℕ → Limits → ℕ → FileKind
+kind_of command place limits left =
     if bytes_eq command (codes "asm") then kind.Text
     else if bytes_eq command (codes "import") then kind.Raw
     else if bytes_eq command (codes "verify") || bytes_eq command (codes "list") then kind.Program
     else if bytes_eq command (codes "check") then checked_kind place limits
+    else if bytes_eq command (codes "join") then kind.Part left
     else if place == 0 then kind.Log limits
     else kind.Program
 
@@ -32,6 +41,7 @@ most_of kind.Raw = 192 * 1024 * 1024
 most_of kind.Program = 8 * 4096
 most_of kind.Text = 16 * 1024 * 1024
 most_of (kind.Image limits) = 512 * sector_limit limits
+most_of (kind.Part left) = left
 
 -- how many bytes are read at most: one more, or of a program a slot more; of a raw log no more
 abbrev pub read_of : FileKind → ℕ
@@ -55,3 +65,17 @@ memory_of kind.Raw place = record { code = Log log.Memory; at = 0; program = Non
 memory_of kind.Program place = record { code = Code code.Memory; at = 0; program = number_of place }
 memory_of kind.Text place = record { code = Asm asm.Memory; at = 0; program = None }
 memory_of (kind.Image limits) place = memory_refusal
+memory_of (kind.Part left) place = record { code = Join joining.Memory; at = 0; program = None }
+
+-- how many bytes are left for parts behind a file of so many; none where it is a part that has more than were left
+abbrev pub left_behind : FileKind → ℕ → Option ℕ
+left_behind (kind.Part left) length = if nat_le length left then Some (left - length) else None
+left_behind k length = Some most_of_parts
+
+-- whether so many files are more than the command of that name takes
+abbrev pub are_too_many : List ℕ → ℕ → Bool
+are_too_many command count = bytes_eq command (codes "join") && nat_lt most_parts count
+
+-- parts that are too many, or too long together, from the file at that place on
+abbrev pub too_long_at : ℕ → Refusal
+too_long_at place = record { code = Join joining.TooLong; at = place; program = None }

@@ -1,7 +1,7 @@
 //! The files of a command, as far as they were read.
 
 use crate::cut::refusal_of_whole;
-use crate::kind::FileKind;
+use crate::kind::{FileKind, MOST_OF_PARTS, MOST_PARTS, are_too_many, too_long_at};
 use crate::reading::{Piece, read_base, read_file};
 use base::causes::RequestCause;
 use base::refusal::{Cause, Refusal};
@@ -70,11 +70,13 @@ fn base_of<R: Files + AllocGlobal>(
 
 impl Inputs {
     /// Reads the files that the command of that name names, no more of each than it can use; and, where one is named, the one
-    /// that holds what a device of that size held before. Of a log and of that it reads no more than the limits allow.
+    /// that holds what a device of that size held before. Of a log and of that it reads no more than the limits allow. Of parts it
+    /// reads no more than 1 GiB and a byte together.
     ///
     /// # Errors
     ///
-    /// There is no memory for one of them: 11, 26 or 35 at 0; or for the list of them: 72 at 0.
+    /// There is no memory for one of them: 11, 26, 35, 66 or 72 at 0; or for the list of them: 72 at 0. They are more parts than can
+    /// be joined, or have more than 1 GiB together: 65 at the file with which they pass that.
     pub fn read<R: Files + AllocGlobal>(
         rt: &R,
         command: &str,
@@ -87,11 +89,19 @@ impl Inputs {
             lengths: Vec::new(rt.alloc()),
             base: None,
         };
+        if are_too_many(command, names.len()) {
+            return Err(too_long_at(MOST_PARTS));
+        }
+        let mut left = MOST_OF_PARTS;
         for (place, name) in names.iter().enumerate() {
-            let kind = FileKind::of(command, place, size.limits);
+            let kind = FileKind::of(command, place, size.limits, left);
             let Ok(piece) = read_one(rt, name.as_str(), kind) else {
                 return Err(kind.of_memory(place));
             };
+            let Some(rest) = kind.left_behind(piece.length) else {
+                return Err(too_long_at(place));
+            };
+            left = rest;
             if inputs.push(piece).is_err() {
                 return Err(Refusal::of_memory());
             }
@@ -113,7 +123,7 @@ impl Inputs {
     }
 
     /// What each file holds, or what stands for it; none where it can't be read.
-    pub fn held(&self) -> &[Option<Vec<u8>>] {
+    pub fn contents(&self) -> &[Option<Vec<u8>>] {
         self.held.as_slice()
     }
 

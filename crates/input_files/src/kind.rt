@@ -1,11 +1,17 @@
 //! What a command takes a file for, and how much of it is read.
 
 ghost use Rattle.std.specs.Prelude.{◌≡◌};
-ghost use Rattle.input_files.specs.Kinds.{checked_kind, kind_of, most_of, read_of, number_of, memory_of};
+ghost use Rattle.input_files.specs.Kinds.{are_too_many, checked_kind, kind_of, left_behind, most_of, read_of, number_of, memory_of, too_long_at};
 
-use base::causes::{AsmCause, CodeCause, LogCause};
+use base::causes::{AsmCause, CodeCause, JoinCause, LogCause};
 use base::refusal::{Cause, Refusal};
 use limits::Limits;
+
+/// How many parts are joined at most.
+pub(crate) const MOST_PARTS: usize = 4096;
+
+/// How many bytes they have together at most: 1 GiB.
+pub(crate) const MOST_OF_PARTS: u32 = 1_073_741_824;
 
 /// What a command takes a file for (docs/REPORT.md, Commands).
 #[derive(Clone, Copy)]
@@ -19,25 +25,28 @@ pub enum FileKind {
     Text,
     /// The bytes of a device within these limits.
     Image(Limits),
+    /// The text of a part of a run, for which so many bytes are left.
+    Part(u32),
 }
 
 impl FileKind {
-    /// What the command of that name takes the file at that place for, within these limits.
-    pub fn of(command: &str, place: usize, limits: Limits) -> FileKind
-        ensures { result ≡ kind_of command.now place limits }
+    /// What the command of that name takes the file at that place for, within these limits. For parts so many bytes are left.
+    pub fn of(command: &str, place: usize, limits: Limits, left: u32) -> FileKind
+        ensures { result ≡ kind_of command.now place limits left }
     {
         match command {
             "asm" => FileKind::Text,
             "import" => FileKind::Raw,
             "verify" | "list" => FileKind::Program,
             "check" => checked_kind(place, limits),
+            "join" => FileKind::Part(left),
             _ if place == 0 => FileKind::Log(limits),
             _ => FileKind::Program,
         }
     }
 
     /// How many bytes a file of this kind has at most: what the limits allow of a log and of an image, 192 MiB, 4,096 slots,
-    /// 16 MiB. Of a raw log that is how many its entries may need.
+    /// 16 MiB, what is left for parts. Of a raw log that is how many its entries may need.
     pub fn most(self) -> usize
         ensures { result ≡ most_of self }
     {
@@ -47,6 +56,7 @@ impl FileKind {
             FileKind::Program => 32_768,
             FileKind::Text => 16_777_216,
             FileKind::Image(limits) => 512 * limits.sectors() as usize,
+            FileKind::Part(left) => left as usize,
         }
     }
 
@@ -61,10 +71,11 @@ impl FileKind {
             FileKind::Program => 32_776,
             FileKind::Text => 16_777_217,
             FileKind::Image(limits) => 512 * limits.sectors() as usize + 1,
+            FileKind::Part(left) => left as usize + 1,
         }
     }
 
-    /// The refusal of the file at that place for want of memory: 11, 26, 35 or 72 at 0, with the number of the program where
+    /// The refusal of the file at that place for want of memory: 11, 26, 35, 66 or 72 at 0, with the number of the program where
     /// a log stands before it.
     pub fn of_memory(self, place: usize) -> Refusal
         ensures { result ≡ memory_of self place }
@@ -74,7 +85,40 @@ impl FileKind {
             FileKind::Program => refusal_of(Cause::Code(CodeCause::Memory), program_at(place)),
             FileKind::Text => refusal_of(Cause::Asm(AsmCause::Memory), None),
             FileKind::Image(_) => Refusal::of_memory(),
+            FileKind::Part(_) => refusal_of(Cause::Join(JoinCause::Memory), None),
         }
+    }
+
+    /// How many bytes are left for parts behind this file, which has so many; none where it is a part that has more than were left.
+    pub fn left_behind(self, length: u64) -> Option<u32>
+        ensures { result ≡ left_behind self length }
+    {
+        match self {
+            FileKind::Part(left) if length <= u64::from(left) => Some(left - length as u32),
+            FileKind::Part(_) => None,
+            _ => Some(MOST_OF_PARTS),
+        }
+    }
+}
+
+/// Whether so many files are more than the command of that name takes.
+pub(crate) fn are_too_many(command: &str, count: usize) -> bool
+    ensures { result ≡ are_too_many command.now count }
+{
+    match command {
+        "join" => count > MOST_PARTS,
+        _ => false,
+    }
+}
+
+/// The refusal of parts that are too many, or too long together, from the file at that place on.
+pub(crate) fn too_long_at(place: usize) -> Refusal
+    ensures { result ≡ too_long_at place }
+{
+    Refusal {
+        code: Cause::Join(JoinCause::TooLong),
+        at: place as u64,
+        program: None,
     }
 }
 

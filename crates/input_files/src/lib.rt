@@ -18,13 +18,16 @@
 //! | an assembly text | 16 MiB and a byte | can't be read |
 //! | what a device held before | the device's size and a byte | is refused, 13 at 14 |
 //! | an image | 8 MiB and a byte; with `--large` 512 MiB and a byte | is refused, 14 at 1 |
+//! | parts | 1 GiB and a byte of all together | are refused, 65 at the part with which they pass it |
 //!
 //! How long a program is tells a regular file's length; of any other file what is behind the first 32,776 bytes is read and
-//! counted, but not kept, and one that doesn't end within 64 MiB counts as one of too many whole slots.
+//! counted, but not kept, and one that doesn't end within 64 MiB counts as one of too many whole slots. Of more than 4,096 parts
+//! none is read.
 //!
 //! # What is proved
 //!
-//! `FileKind::of` says what a file is taken for, `standing_length` how many bytes stand for a program, and
+//! `FileKind::of` says what a file is taken for, `left_behind` how many bytes are left for parts behind one of them,
+//! `standing_length` how many bytes stand for a program, and
 //! `refusal_of_whole` what the refusal of these bytes says of the whole file. Laws (`laws`) tie them to what `logfmt` and
 //! `bpf_isa` say of a first fault. A log that isn't too long is read whole, and a longer one is refused for its length, as is
 //! what is read of it. A program that isn't too long stands for itself; what stands for a longer one has a fault; and that is
@@ -39,12 +42,14 @@
 //!
 //! # Example
 //!
-//! ```text
+//! ```
+//! use input_files::{DeviceSize, Inputs};
+//!
+//! // `words` are those of `crashbpf explore disk.log check.bpf --sectors 64`
+//! let size = DeviceSize { sectors: words.sectors(), limits: words.limits() };
 //! let inputs = Inputs::read(rt, "explore", words.files(), words.base(), &size)?;
-//! match act(rt, alloc, gate, words, inputs.held(), inputs.base()) {
-//!     Ok((bytes, status)) => ..
-//!     Err(refusal) => inputs.refusal(refusal)
-//! }
+//! let contents = inputs.contents();           // of each file its bytes, or that it can't be read
+//! let whole = inputs.refusal(refusal);        // the refusal of the whole files, where `contents` were refused
 //! ```
 #![tactic(auto)]
 

@@ -197,6 +197,14 @@ fn expected_length(most: usize, said: Option<u64>) -> usize {
     }
 }
 
+/// The same of a file of that kind. A part that isn't a regular file is one of many, and expected to have as many as a pipe holds.
+fn expected_of(kind: FileKind, said: Option<u64>) -> usize {
+    match (kind, said) {
+        (FileKind::Part(_), None) => COUNTED_AT_ONCE,
+        _ => expected_length(kind.most_read(), said),
+    }
+}
+
 /// Reads a file of that kind, which is said to have so many bytes, where it is a regular one. What is kept of it is its
 /// first bytes, all of them where it isn't too long; of a raw log those that its entries need.
 ///
@@ -218,10 +226,10 @@ fn read_piece<F: Read>(
         return read_raw_piece(alloc, file);
     }
     let most = kind.most_read();
-    let mut bytes = read_first(alloc, file, most, expected_length(most, said))?;
+    let mut bytes = read_first(alloc, file, most, expected_of(kind, said))?;
     let read = bytes.len();
     match kind {
-        FileKind::Log(_) | FileKind::Raw | FileKind::Image(_) => Ok(Piece {
+        FileKind::Log(_) | FileKind::Raw | FileKind::Image(_) | FileKind::Part(_) => Ok(Piece {
             bytes: Some(bytes),
             length: read as u64,
         }),

@@ -1,7 +1,7 @@
 //! At which sectors a step looks (docs/MACHINE.md, Footprint), whether its checks pass or not.
 
 ghost use Rattle.std.specs.Prelude.{◌≡◌, ◌<◌};
-ghost use Rattle.helpers.specs.Footprint.{noted_all, on_device, sectors_at};
+ghost use Rattle.helpers.specs.Footprint.{footprint_after, on_device, sectors_at};
 ghost use Rattle.machine.specs.Footprint.{call_reads};
 ghost use Rattle.machine.specs.Memory.{byte_count};
 ghost use Rattle.machine.specs.Step.{address};
@@ -36,7 +36,7 @@ impl<const COUNTS: usize, const FRAMES: usize> Machine<COUNTS, FRAMES> {
         device: &D,
         helper: Helper,
     )
-        ensures { looked.new ≡ noted_all looked.old (call_reads (D.content device.now) self.now helper) }
+        ensures { looked.new ≡ footprint_after looked.old (call_reads (D.content device.now) self.now helper) }
     {
         match helper {
             Helper::Copy => looked.look_over(device, self.word(1), self.word(3)),
@@ -60,7 +60,7 @@ impl<const COUNTS: usize, const FRAMES: usize> Machine<COUNTS, FRAMES> {
         ready: &Ready,
         size: Size,
     )
-        ensures { looked.new ≡ noted_all looked.old (on_device (D.content device.now) (sectors_at (address self.now ready.now.src ready.now.offset) (byte_count size))) }
+        ensures { looked.new ≡ footprint_after looked.old (on_device (D.content device.now) (sectors_at (address self.now ready.now.src ready.now.offset) (byte_count size))) }
     {
         let address = self.address(ready.src, ready.offset);
         looked.look_from(device, address, bytes_of(size));
@@ -75,7 +75,7 @@ impl<const COUNTS: usize, const FRAMES: usize> Machine<COUNTS, FRAMES> {
         device: &D,
         ready: &Ready,
     )
-        ensures { looked.new ≡ noted_all looked.old (reads_by (D.content device.now) self.now ready.now) }
+        ensures { looked.new ≡ footprint_after looked.old (reads_by (D.content device.now) self.now ready.now) }
     {
         if looked.keeps() {
             self.note_record(looked, device, ready);
@@ -91,7 +91,7 @@ impl<const COUNTS: usize, const FRAMES: usize> Machine<COUNTS, FRAMES> {
         device: &D,
         ready: &Ready,
     )
-        ensures { looked.new ≡ noted_all looked.old (reads_by (D.content device.now) self.now ready.now) }
+        ensures { looked.new ≡ footprint_after looked.old (reads_by (D.content device.now) self.now ready.now) }
     {
         match ready.code {
             CallHelper => {

@@ -8,7 +8,7 @@ ghost use Rattle.intervals.specs.SeenSigned.{signed_span_of, signed_spans_of};
 ghost use Rattle.intervals.specs.SeenBounds.{limits_of, both_limits};
 
 use crate::bounds::Bounds;
-use crate::branches::{is_same, narrowed};
+use crate::branches::{condition_edge, is_same};
 use crate::reducing::reduce;
 use crate::signed_range::SignedRange;
 use bpf_isa::instr::{Condition, Instr, Width};
@@ -54,7 +54,7 @@ fn bounds_narrowed(
 ) -> Option<(Bounds, Bounds)>
     ensures { option_map both_limits result ≡ limits_narrowed condition taken (limits_of x) (limits_of y) }
 {
-    let unsigned = narrowed(condition, taken, x.unsigned, y.unsigned)?;
+    let unsigned = condition_edge(condition, taken, x.unsigned, y.unsigned)?;
     let signed = signed_narrowed(condition, taken, x.signed, y.signed)?;
     Some((reduce(unsigned.0, signed.0)?, reduce(unsigned.1, signed.1)?))
 }
@@ -101,7 +101,7 @@ fn signed_above(x: SignedRange, y: SignedRange) -> Option<(SignedRange, SignedRa
 fn signed_at_most(x: SignedRange, y: SignedRange) -> Option<(SignedRange, SignedRange)>
     ensures { option_map signed_spans_of result ≡ signed_at_most (signed_span_of x) (signed_span_of y) }
 {
-    Some((x.lowered(y.high)?, y.raised(x.low)?))
+    Some((x.not_above(y.high)?, y.not_below(x.low)?))
 }
 
 /// dst ≥ second.
@@ -109,7 +109,7 @@ fn signed_at_most(x: SignedRange, y: SignedRange) -> Option<(SignedRange, Signed
 fn signed_at_least(x: SignedRange, y: SignedRange) -> Option<(SignedRange, SignedRange)>
     ensures { option_map signed_spans_of result ≡ signed_at_least (signed_span_of x) (signed_span_of y) }
 {
-    Some((x.raised(y.low)?, y.lowered(x.high)?))
+    Some((x.not_below(y.low)?, y.not_above(x.high)?))
 }
 
 /// dst < second.

@@ -28,7 +28,7 @@ pub fn refine(instr: &Instr, taken: bool, first: Range, second: Range) -> Option
         } => if is_same(dst, source) {
             Some((first, second))
         } else {
-            narrowed(*condition, taken, first, second)
+            condition_edge(*condition, taken, first, second)
         },
         Instr::Branch { .. } => Some((first, second)),
         _ => unreachable!(),
@@ -47,7 +47,7 @@ pub(crate) fn is_same(dst: &Register, source: &Source) -> bool
 
 /// What an edge of a condition in 64 bits tells.
 #[tactic(auto, unfolding(crate::specs::Edges::condition_edge))]
-pub(crate) fn narrowed(
+pub(crate) fn condition_edge(
     condition: Condition,
     taken: bool,
     x: Range,

@@ -37,7 +37,7 @@ pub(crate) fn exact(width: Width, operator: Operator, first: u64, second: u64) -
 }
 
 /// The opposite of a number of a width.
-pub(crate) fn negated(width: Width, word: u64) -> u64
+pub(crate) fn negate(width: Width, word: u64) -> u64
     requires { word ≤ most width }
     ensures { result ≡ operator_value width Operator.Sub 0 word }
 {

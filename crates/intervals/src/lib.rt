@@ -85,11 +85,13 @@
 //! # Example
 //!
 //! ```
-//! // r1 is 3 to 10, and the instruction `add`, `add64 r1, 5`, makes it 8 to 15
-//! let x = Range { low: 3, high: 10 };
-//! let sum = result(&add, x, Range::immediate(5));
-//! // where the instruction `jump`, `jge r1, 12, ..`, does not jump it is 8 to 11
-//! let edge = refine(&jump, false, Range { low: 8, high: 15 }, Range::constant(12));
+//! use bpf_isa::instr::Instr;
+//! use intervals::{Range, refine, result};
+//!
+//! // r1 is 3 to 10, and `add` is add64 r1, 5
+//! let sum = result(add, Range { low: 3, high: 10 }, Range::immediate(5));
+//! // it is 8 to 15; where `jump`, jge r1, 12, .., does not jump it is 8 to 11
+//! let edge = refine(jump, false, Range { low: 8, high: 15 }, Range::constant(12));
 //! // before the next turn of a loop: 8 to 15
 //! let rounded = Range { low: 8, high: 11 }.round();
 //! ```

@@ -42,7 +42,7 @@ fn bits(width: Width) -> u64
 
 /// Both ends are moved where no sum wraps, or each.
 #[tactic(auto, unfolding(crate::specs::Operators::sum_of))]
-fn added(most: u64, x: Range, y: Range) -> Range
+fn sum_of(most: u64, x: Range, y: Range) -> Range
     requires first { x.high ≤ most }
     requires other { y.high ≤ most }
     ensures { span_of result ≡ sum_of most (span_of x) (span_of y) }
@@ -64,7 +64,7 @@ fn added(most: u64, x: Range, y: Range) -> Range
 
 /// The differences, where none or all of them wrap, else any number.
 #[tactic(auto, unfolding(crate::specs::Operators::difference_of))]
-fn subtracted(most: u64, x: Range, y: Range) -> Range
+fn difference_of(most: u64, x: Range, y: Range) -> Range
     requires first { x.high ≤ most }
     requires other { y.high ≤ most }
     ensures { span_of result ≡ difference_of most (span_of x) (span_of y) }
@@ -86,7 +86,7 @@ fn subtracted(most: u64, x: Range, y: Range) -> Range
 
 /// The products, where the greatest doesn't wrap.
 #[tactic(auto, unfolding(crate::specs::Operators::product_of))]
-fn multiplied(most: u64, x: Range, y: Range) -> Range
+fn product_of(most: u64, x: Range, y: Range) -> Range
     ensures { span_of result ≡ product_of most (span_of x) (span_of y) }
 {
     match x.high.checked_mul(y.high) {
@@ -100,7 +100,7 @@ fn multiplied(most: u64, x: Range, y: Range) -> Range
 
 /// The quotients.
 #[tactic(auto, unfolding(crate::specs::Operators::quotient_of))]
-fn divided(x: Range, y: Range) -> Range
+fn quotient_of(x: Range, y: Range) -> Range
     ensures { span_of result ≡ quotient_of (span_of x) (span_of y) }
 {
     if !y.is_constant() {
@@ -193,7 +193,7 @@ fn signed_divided(most: u64, half: u64, x: Range, y: Range) -> Range
     ensures { span_of result ≡ signed_divided most half (span_of x) (span_of y) }
 {
     if x.high < half && y.high < half {
-        divided(x, y)
+        quotient_of(x, y)
     } else {
         Range::up_to(most)
     }
@@ -233,10 +233,10 @@ pub(crate) fn in_table(width: Width, operator: Operator, x: Range, y: Range) -> 
     ensures { span_of result ≡ in_table width operator (span_of x) (span_of y) }
 {
     match operator {
-        Operator::Add => added(most(width), x, y),
-        Operator::Sub => subtracted(most(width), x, y),
-        Operator::Mul => multiplied(most(width), x, y),
-        Operator::Div => divided(x, y),
+        Operator::Add => sum_of(most(width), x, y),
+        Operator::Sub => difference_of(most(width), x, y),
+        Operator::Mul => product_of(most(width), x, y),
+        Operator::Div => quotient_of(x, y),
         Operator::SignedDiv => signed_divided(most(width), half(width), x, y),
         Operator::Or => bits_of_either(x, y),
         Operator::And => bits_of_both(x, y),

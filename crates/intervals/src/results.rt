@@ -6,10 +6,10 @@ ghost use Rattle.intervals.specs.Operators.{most};
 ghost use Rattle.intervals.specs.Results.{part_of_width, operator_result, arithmetic_result, opposite, negated_result, sign_of, sign_extended, extended_result, most_of, ordered_result, is_arithmetic, result_of};
 ghost use Rattle.intervals.specs.Seen.{span_of};
 
-use crate::constants::{exact, is_exact, negated};
+use crate::constants::{exact, is_exact, negate};
 use crate::operators::{in_table, most};
 use crate::range::Range;
-use arithmetic::{extended, in_order};
+use arithmetic::{in_order, sign_extend};
 use bpf_isa::instr::{Instr, Operator, Order, OrderSize, SignExtension, Width};
 
 /// The range of what an arithmetic instruction makes of the words of two ranges (docs/VERIFIER.md,
@@ -59,12 +59,12 @@ fn cut(width: Width, x: Range) -> Range
 fn arithmetic_result(width: Width, operator: Operator, x: Range, y: Range) -> Range
     ensures { span_of result ≡ arithmetic_result width operator (span_of x) (span_of y) }
 {
-    operated(width, operator, cut(width, x), cut(width, y))
+    operator_result(width, operator, cut(width, x), cut(width, y))
 }
 
 /// The result for numbers of the width.
 #[tactic(auto, unfolding(crate::specs::Results::operator_result))]
-fn operated(width: Width, operator: Operator, x: Range, y: Range) -> Range
+fn operator_result(width: Width, operator: Operator, x: Range, y: Range) -> Range
     requires first { x.high ≤ most width }
     requires other { y.high ≤ most width }
     ensures { span_of result ≡ operator_result width operator (span_of x) (span_of y) }
@@ -90,7 +90,7 @@ fn opposite(width: Width, x: Range) -> Range
     ensures { span_of result ≡ opposite width (span_of x) }
 {
     if x.is_constant() {
-        Range::constant(negated(width, x.low))
+        Range::constant(negate(width, x.low))
     } else {
         Range::up_to(most(width))
     }
@@ -120,7 +120,7 @@ fn sign_extended(extension: SignExtension, x: Range) -> Range
     ensures { span_of result ≡ sign_extended extension (span_of x) }
 {
     if x.is_constant() {
-        Range::constant(extended(extension, x.low))
+        Range::constant(sign_extend(extension, x.low))
     } else if x.high < sign_of(extension) {
         x
     } else {

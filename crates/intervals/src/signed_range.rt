@@ -48,14 +48,14 @@ impl SignedRange {
     }
 
     /// The numbers that aren't below a number, if there are any.
-    pub(crate) fn raised(self, least: i64) -> Option<SignedRange>
+    pub(crate) fn not_below(self, least: i64) -> Option<SignedRange>
         ensures { option_map signed_span_of result ≡ inhabited_signed (not_below (signed_span_of self) least) }
     {
         SignedRange::new(self.low.max(least), self.high)
     }
 
     /// The numbers that aren't above a number, if there are any.
-    pub(crate) fn lowered(self, greatest: i64) -> Option<SignedRange>
+    pub(crate) fn not_above(self, greatest: i64) -> Option<SignedRange>
         ensures { option_map signed_span_of result ≡ inhabited_signed (not_above (signed_span_of self) greatest) }
     {
         SignedRange::new(self.low, self.high.min(greatest))
@@ -66,7 +66,7 @@ impl SignedRange {
         ensures { option_map signed_span_of result ≡ inhabited_signed (not_below (signed_span_of self) (number +ℤ pos 1)) }
     {
         match number.checked_add(1) {
-            Some(least) => self.raised(least),
+            Some(least) => self.not_below(least),
             None => None,
         }
     }
@@ -76,7 +76,7 @@ impl SignedRange {
         ensures { option_map signed_span_of result ≡ inhabited_signed (not_above (signed_span_of self) (number -ℤ pos 1)) }
     {
         match number.checked_sub(1) {
-            Some(greatest) => self.lowered(greatest),
+            Some(greatest) => self.not_above(greatest),
             None => None,
         }
     }

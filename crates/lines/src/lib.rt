@@ -42,12 +42,27 @@
 //!
 //! # Example
 //!
-//! ```text
+//! ```
+//! use arrayvec::ArrayVec;
+//! use epochs::By;
+//! use interp::{Outcome, Verdict};
+//! use lines::{Line, Lines, Part};
+//!
+//! // `choice` is 0.0:head1 at cut 1
+//! let line = Line {
+//!     image: 3,
+//!     cut: 1,
+//!     program: 0,
+//!     outcome: Outcome::Verdict(Verdict { answer: 1, codes: ArrayVec::new() }),
+//!     by: By::Sector,
+//!     departures: choice.departures_owned(),
+//! };
 //! let mut part = Part::new(alloc);
 //! part.push(line)?;
 //! let lines = Lines::new(alloc).followed_by(part)?;
-//! lines.len()                             // 1
-//! lines.put(&mut out)?;                   // image 3 cut 1 program 0 answer 1 codes - choice 0.0:head1
+//! let count = lines.len();        // 1
+//! let mut out = Vec::new(alloc);
+//! lines.put(&mut out)?;           // image 3 cut 1 program 0 answer 1 codes - choice 0.0:head1
 //! ```
 #![tactic(auto)]
 

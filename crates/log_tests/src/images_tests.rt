@@ -59,7 +59,7 @@ type Pair = (Told, Told, bool);
 fn check_told(rt: &impl Abort, key: &Key<'_>, told: Told) -> Result<(), Fail> {
     let (number, program, changed) = told;
     assert_eq!(rt; key.program(), program);
-    assert_eq!(rt; key.changed().len(), changed, "image {number}");
+    assert_eq!(rt; key.changed_sectors().len(), changed, "image {number}");
     Ok(())
 }
 
@@ -183,7 +183,7 @@ fn check_many(
     assert_eq!(rt; key.marks(), 0);
     let mut number = first as u32;
     let mut wanted: u8 = 0xaa;
-    for sector in key.changed() {
+    for sector in key.changed_sectors() {
         assert_eq!(rt; sector.number(), number);
         assert!(rt;
             sector.content().iter().all(|byte| *byte == wanted),
@@ -192,7 +192,7 @@ fn check_many(
         number = number.wrapping_add(1);
         wanted = wanted.wrapping_add(1);
     }
-    Ok(Some(key.changed().len()))
+    Ok(Some(key.changed_sectors().len()))
 }
 
 #[test]

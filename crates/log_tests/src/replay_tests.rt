@@ -106,6 +106,7 @@ fn judged<R: Threads + Wait + Sync>(
         workers: 2,
         cache: 0,
         first: false,
+        from: 0,
     };
     Ok(work_of(rt, alloc, gate, &log, &BY_70, &way)?.lines)
 }

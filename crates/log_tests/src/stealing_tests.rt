@@ -85,6 +85,7 @@ fn failing<R: Threads + Wait + Sync>(
         workers,
         cache: 0,
         first: false,
+        from: 0,
     };
     Ok(work_of(rt, alloc, gate, &log, &ANSWER_1, &way)?.lines.len())
 }

@@ -15,12 +15,13 @@ use std::thread::Threads;
 use workers::{Asked, Gate, Input, Work, explore_all};
 
 /// By how many workers a run is judged, how many outcomes they keep, and whether the first failing image is all that
-/// is asked for.
+/// is asked for. Image `from` is the first that is judged, if there is one of that number.
 #[derive(Drop)]
 pub(crate) struct Way {
     pub(crate) workers: u8,
     pub(crate) cache: u32,
     pub(crate) first: bool,
+    pub(crate) from: u64,
 }
 
 /// The work of a run of a program of at most three steps, on images in which nothing departs.
@@ -44,10 +45,11 @@ pub(crate) fn work_of<G: Gate + Sync, R: Threads + Wait + Sync>(
     let asked = Asked {
         bound: 0,
         tears: false,
+        from: way.from.min(images),
+        to: images,
         first: way.first,
         workers: way.workers,
         cache: way.cache,
-        images,
     };
     let input = Input::new(&plan, &starts, &history, &checkers, By::Sector, asked);
     Ok(explore_all(rt, alloc, gate, &input).ok().ok_or("work")?)

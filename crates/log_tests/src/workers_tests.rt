@@ -100,7 +100,7 @@ fn collected_by<'a, J: Run, R: Wait>(
 {
     let shards: Vec<Mutex<Shard<'a, J>>> = shards(alloc, history, checkers, 16)?;
     let pieces = pieces_of(rt, alloc, input, shards.as_slice(), blocks)?;
-    match collect(alloc, pieces, input.block_count()) {
+    match collect(alloc, pieces, 0, input.block_count()) {
         Ok(lines) => Ok((0, if lines.is_empty() { 0 } else { 1 })),
         Err(refusal) => Ok((numbered(&refusal), refusal.at)),
     }
@@ -129,10 +129,11 @@ fn collected<R: Wait>(
         Asked {
             bound: 0,
             tears: false,
+            from: 0,
+            to: images,
             first: true,
             workers: 2,
             cache: 16,
-            images,
         },
     );
     collected_by::<Brand, R>(rt, alloc, &input, &history, &checkers, blocks)
@@ -212,6 +213,7 @@ fn way(workers: u8, cache: u32, first: bool) -> Way
         workers,
         cache,
         first,
+        from: 0,
     }
 }
 
@@ -226,6 +228,31 @@ fn explores_for_all_and_for_the_first(rt: HostRuntime) -> Result<(), Fail> {
         let (fails, hits) = explored(&rt, alloc, &log, &FROM_70, way(4, 65_536, first))?;
         assert!(rt; fails);
         assert_eq!(rt; hits, 0);
+    }
+    Ok(())
+}
+
+/// The images from 3 on fall into the blocks 3 to 66 and 67 to 70. Of one worker the second lies after image 3, and is passed over.
+#[test]
+fn explores_a_part_of_the_images(rt: HostRuntime) -> Result<(), Fail> {
+    let alloc = rt.alloc();
+    let log = flushes(alloc)?;
+    let rows = [
+        (ANSWER_1.as_slice(), false, 68, 3),
+        (ANSWER_1.as_slice(), true, 64, 3),
+        (FROM_70.as_slice(), false, 1, 70),
+        (FROM_70.as_slice(), true, 1, 70),
+    ];
+    for (program, first, lines, image) in rows {
+        let part = Way {
+            workers: 1,
+            cache: 0,
+            first,
+            from: 3,
+        };
+        let work = work_of(&rt, alloc, &OpenGate, &log, program, &part)?;
+        assert_eq!(rt; work.lines.len(), lines);
+        assert_eq!(rt; work.lines.first_image(), Some(image));
     }
     Ok(())
 }

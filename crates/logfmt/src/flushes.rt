@@ -9,7 +9,7 @@ impl Log {
     /// The log with a flush right before each of these entries, as if it had been recorded so
     /// (docs/CRASH-MODEL.md, Added flushes). The entries keep their numbers. A place may be that of a
     /// mark. It takes no memory.
-    pub fn flushed(self, places: &[u32]) -> Log
+    pub fn with_flushes(self, places: &[u32]) -> Log
         requires { All (λ place. place < length self.entries) places.now }
         ensures { result ≡ with_flushes places.now self }
     {

@@ -60,10 +60,10 @@
 //! use logfmt::{read, write};
 //!
 //! // `bytes` holds the super block and one entry that writes device sector 0
-//! let log = read(alloc, &bytes, 4, Limits::Usual)?;
+//! let log = read(alloc, bytes, 4, Limits::Usual)?;
 //! // log.sectors() is 4; log.entries()[0].count is 1 and its content has 512 bytes
 //! let text = write(alloc, &log)?;
-//! // read(alloc, &text, 4, Limits::Usual) gives the same log again
+//! // read(alloc, text.as_slice(), 4, Limits::Usual) gives the same log again
 //! let fault = read(alloc, &bytes[..1535], 4, Limits::Usual).err();
 //! // the data of entry 0 is cut short: Some(LogFault { code: LogCause::CutShort, at: 0 })
 //! ```

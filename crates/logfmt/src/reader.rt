@@ -53,7 +53,7 @@ fn super_fault(bytes: &[u8], limits: Limits) -> Option<LogCause>
 }
 
 /// The bytes from `start` up to `end`, copied.
-fn copied(alloc: Global, bytes: &[u8], start: usize, end: usize) -> Result<Bytes, AllocError>
+fn copy_bytes(alloc: Global, bytes: &[u8], start: usize, end: usize) -> Result<Bytes, AllocError>
     requires order { start ≤ end }
     requires inside { end ≤ length bytes.now }
     ensures value { IfOk result (λ copy. copy ≡ slice_range bytes.now start end) }
@@ -82,7 +82,7 @@ fn entry_of(
     let text = SECTOR * at + 32;
     let data = SECTOR * (at + 1);
     let text = bytes[text..text + header.text_length as usize].to_vec(alloc)?;
-    let content = copied(
+    let content = copy_bytes(
         alloc,
         bytes,
         data,

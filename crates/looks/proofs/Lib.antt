@@ -1,5 +1,7 @@
 -- Lemmas of the crate.
 pub mod Counts
+pub mod EvenParts
+pub mod Refused
 pub mod Texts
 pub mod Printed
 pub mod Short

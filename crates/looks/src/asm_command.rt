@@ -4,7 +4,6 @@ ghost use Rattle.std.specs.Prelude.{◌≡◌, IfOk, IfErr};
 ghost use Rattle.looks.specs.Assembly.{text_refusal, IsAssembled, RefusesText};
 
 use base::refusal::{Cause, Refusal};
-use bpf_asm::assemble;
 use bpf_asm::fault::AsmFault;
 use bpf_isa::codec::encode;
 use request::unreadable;
@@ -26,7 +25,7 @@ fn text_refusal_of(fault: AsmFault) -> Refusal
 /// # Errors
 ///
 /// The text is no UTF-8, 14 at 0; or it says no program, at its line; or want of memory.
-pub fn assembled(alloc: Global, text: &[u8]) -> Result<Vec<u8>, Refusal>
+pub fn assemble(alloc: Global, text: &[u8]) -> Result<Vec<u8>, Refusal>
     ensures says { IfOk result (λ bytes. IsAssembled text.now bytes.items) }
     ensures refused { IfErr result (RefusesText text.now) }
 {
@@ -34,7 +33,7 @@ pub fn assembled(alloc: Global, text: &[u8]) -> Result<Vec<u8>, Refusal>
         Ok(characters) => characters,
         Err(_error) => return Err(unreadable(0)),
     };
-    let program = match assemble(alloc, characters) {
+    let program = match bpf_asm::assemble(alloc, characters) {
         Ok(program) => program,
         Err(fault) => return Err(text_refusal_of(fault)),
     };

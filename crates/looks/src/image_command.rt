@@ -42,7 +42,7 @@ fn bytes_of<D: Device>(alloc: Global, device: &D) -> Result<Vec<u8>, AllocError>
 }
 
 /// The bytes of the crash image of a choice of a plan.
-fn shown<'x>(
+fn image_bytes<'x>(
     alloc: Global,
     log: &'x Log,
     plan: &'x Plan<'x>,
@@ -81,7 +81,7 @@ fn told<'x>(
     ensures { IfOk result (λ bytes. bytes.items ≡ text_in form options.now plan.now choice.now) }
 {
     match form {
-        Form::Bytes => shown(alloc, log, plan, choice),
+        Form::Bytes => image_bytes(alloc, log, plan, choice),
         Form::Words => text_of(alloc, log, plan, options, choice),
     }
 }

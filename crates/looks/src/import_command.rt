@@ -7,7 +7,6 @@ ghost use Rattle.looks.specs.Import.{RefusesImport};
 
 use base::refusal::Refusal;
 use limits::Limits;
-use raw_log::import;
 use request::log_refusal_of;
 use std::alloc::Global;
 
@@ -16,11 +15,11 @@ use std::alloc::Global;
 /// # Errors
 ///
 /// The first fault of the raw log, at its entry; or want of memory.
-pub fn imported(alloc: Global, raw: &[u8], limits: Limits) -> Result<Vec<u8>, Refusal>
+pub fn import(alloc: Global, raw: &[u8], limits: Limits) -> Result<Vec<u8>, Refusal>
     ensures imported { IfOk result (λ text. IsImported raw.now (sector_limit limits) limits text.items) }
     ensures refused { IfErr result (RefusesImport limits raw.now) }
 {
-    match import(alloc, raw, limits.sectors(), limits) {
+    match raw_log::import(alloc, raw, limits.sectors(), limits) {
         Ok(text) => Ok(text),
         Err(fault) => Err(log_refusal_of(fault)),
     }

@@ -1,5 +1,6 @@
-//! Laws of the texts of choices. The functions do nothing; each contract is a theorem.
+//! Laws of the texts of choices, and of how a run is laid out in parts. The functions do nothing; each contract is a theorem.
 
+ghost use Rattle.looks.specs.Layout.{PartsAreEven};
 ghost use Rattle.looks.specs.Which.{ChoicesAreShort, PrintsChoices};
 
 /// The report prints of a choice what `show` prints of it: the same bytes.
@@ -12,4 +13,10 @@ pub fn report_prints_choices()
 #[tactic(auto, using(crate::proofs::Short::choices_are_short))]
 pub fn choices_are_short()
     ensures { ChoicesAreShort }
+{}
+
+/// The parts in which a run is laid out have each of its images once, in their order, and each can be asked for.
+#[tactic(auto, using(crate::proofs::EvenParts::parts_are_even))]
+pub fn parts_are_even()
+    ensures { PartsAreEven }
 {}

@@ -4,7 +4,6 @@ ghost use Rattle.std.specs.Prelude.{◌≡◌, IfOk, IfErr, string_bytes};
 ghost use Rattle.looks.specs.Assembly.{listing_text, IsListed, RefusesBytes};
 
 use base::refusal::Refusal;
-use bpf_asm::list;
 use bpf_isa::codec::decode;
 use bpf_isa::program::Program;
 use notes::numbered_listing;
@@ -18,7 +17,7 @@ fn listing_of(alloc: Global, program: &Program, numbered: bool) -> Result<String
     if numbered {
         numbered_listing(alloc, program)
     } else {
-        list(alloc, program)
+        bpf_asm::list(alloc, program)
     }
 }
 
@@ -27,7 +26,7 @@ fn listing_of(alloc: Global, program: &Program, numbered: bool) -> Result<String
 /// # Errors
 ///
 /// The first fault of the bytes, at its slot; or want of memory.
-pub fn listed(alloc: Global, bytes: &[u8], numbered: bool) -> Result<Vec<u8>, Refusal>
+pub fn list(alloc: Global, bytes: &[u8], numbered: bool) -> Result<Vec<u8>, Refusal>
     ensures listed { IfOk result (λ text. IsListed numbered bytes.now text.items) }
     ensures refused { IfErr result (RefusesBytes bytes.now) }
 {

@@ -39,7 +39,7 @@ fn accepted_line(alloc: Global, budget: u64) -> Result<String, AllocError>
 ///
 /// The first fault of the bytes, then why the verifier refuses the program, each at its slot; or want of
 /// memory. What is found on the way takes the place of what `facts` held.
-pub fn verified(
+pub fn verify_program(
     alloc: Global,
     bytes: &[u8],
     options: &Options,

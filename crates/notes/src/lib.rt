@@ -27,9 +27,13 @@
 //!
 //! # Example
 //!
-//! ```text
-//! numbered_listing(alloc, &program)?     // "0: lddw r1, 7\n2: exit\n"
-//! log_table(alloc, &log)?                // "entry 0 epoch 0 write sector 3 count 1\nentry 1 epoch 0 mark text \"one\"\n"
+//! ```
+//! use notes::{log_table, numbered_listing};
+//!
+//! let listing = numbered_listing(alloc, &program)?;
+//! // "0: lddw r1, 7\n2: exit\n"
+//! let table = log_table(alloc, &log)?;
+//! // "entry 0 epoch 0 write sector 3 count 1\nentry 1 epoch 0 mark text \"one\"\n"
 //! ```
 #![tactic(auto)]
 

@@ -20,7 +20,7 @@ use Rattle.lines.specs.Reading.{lacks}
 use Rattle.lines.specs.Text.{codes_text, ending_text, fate_text, part_text, departure_text, next_departure_text, choice_text, line_text}
 
 -- two texts that pass pass together
-both : (p : ℕ → Bool) (xs ys : List ℕ) → list_all p xs ≡ true → list_all p ys ≡ true → list_all p (xs ++ ys) ≡ true
+pub both : (p : ℕ → Bool) (xs ys : List ℕ) → list_all p xs ≡ true → list_all p ys ≡ true → list_all p (xs ++ ys) ≡ true
 both p xs ys a b = list_all-append p xs ys ∙ ap (λ (t : Bool). t && list_all p ys) a ∙ b
 
 all_of : {A : Type 0} (p : ℕ → Bool) (f : A → List ℕ) → ((x : A) → list_all p (f x) ≡ true) → (xs : List A) → list_all p (flat_map f xs) ≡ true
@@ -28,7 +28,7 @@ all_of p f own [] = refl
 all_of p f own (x ∷ xs) = both p (f x) (flat_map f xs) (own x) (all_of p f own xs)
 
 -- so does each digit
-abbrev DigitsPass : (ℕ → Bool) → Type 0
+abbrev pub DigitsPass : (ℕ → Bool) → Type 0
 DigitsPass p = (k : ℕ) → k < 10 → p (48 + k) ≡ true
 
 glyph : (k : ℕ) → k < 10 → digit_glyph false k ≡ 48 + k
@@ -47,7 +47,7 @@ digits_pass p (suc k) n acc pass all =
     by_end true a b = a
     by_end false a b = b
 
-number : (p : ℕ → Bool) (n : ℕ) → DigitsPass p → list_all p (decimal n) ≡ true
+pub number : (p : ℕ → Bool) (n : ℕ) → DigitsPass p → list_all p (decimal n) ≡ true
 unfolding digits
 number p n pass = digits_pass p 64 n [] pass refl
 
@@ -107,10 +107,10 @@ pub ending_lacks : (e : Ending) → lacks 104 (ending_text e) ≡ true
 ending_lacks e = lacks_all (ending_text e) (ending_pass is_other others e)
 
 -- a line is ASCII
-abbrev is_plain : ℕ → Bool
+abbrev pub is_plain : ℕ → Bool
 is_plain b = nat_lt b 128
 
-digit_plain : DigitsPass is_plain
+pub digit_plain : DigitsPass is_plain
 digit_plain k lt = grind (arith, nat_tests, lt)
 
 plain : WordsPass is_plain
@@ -165,7 +165,7 @@ plain_line l =
     both is_plain (d ++ codes " choice ") (choice_text l.by l.departures) (both is_plain d (codes " choice ") pd refl) (plain_choice l.by l.departures) in
     both is_plain e (codes "\n") pe refl
 
-ascii : (bs : List ℕ) → list_all is_plain bs ≡ true → IsAscii bs
+pub ascii : (bs : List ℕ) → list_all is_plain bs ≡ true → IsAscii bs
 ascii [] all = IsAscii-nil
 ascii (b ∷ bs) all = by_test (nat_lt b 128) refl (ascii bs) all
   where

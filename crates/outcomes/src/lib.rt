@@ -23,10 +23,19 @@
 //!
 //! # Example
 //!
+//! ```
+//! use outcomes::{outcomes_of, printed_text};
+//!
+//! // `lines` are the lines below
+//! let marks = lines.marks(alloc)?;
+//! let text = printed_text(alloc, &lines)?;
+//! let outcomes = outcomes_of(alloc, text.as_str(), marks.as_slice(), 0)?;
+//! // of program 0: answer 1 codes -
+//! ```
+//!
 //! ```text
 //! image 3 cut 1 program 0 answer 1 codes - choice 0.0:head1
 //! image 3 cut 1 program 1 fault 83 slot 7 choice 0.0:head1
-//! // of program 0: answer 1 codes -
 //! ```
 #![tactic(auto)]
 

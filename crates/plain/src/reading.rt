@@ -1,7 +1,7 @@
 //! At which sectors a step looks (docs/MACHINE.md, Footprint).
 
 ghost use Rattle.std.specs.Prelude.{◌≡◌, ◌<◌};
-ghost use Rattle.helpers.specs.Footprint.{noted_all, on_device, sectors_at};
+ghost use Rattle.helpers.specs.Footprint.{footprint_after, on_device, sectors_at};
 ghost use Rattle.machine.specs.Memory.{byte_count};
 ghost use Rattle.plain.specs.Reads.{plain_call_reads, record_reads};
 ghost use Rattle.plain.specs.Steps.{plain_address};
@@ -35,7 +35,7 @@ impl<const COUNTS: usize, const CALLED: usize> Machine<COUNTS, CALLED> {
         device: &D,
         helper: Helper,
     )
-        ensures { footprint.new ≡ noted_all footprint.old (plain_call_reads (D.content device.now) self.now helper) }
+        ensures { footprint.new ≡ footprint_after footprint.old (plain_call_reads (D.content device.now) self.now helper) }
     {
         let [_, first, second, third, ..] = self.registers;
         match helper {
@@ -60,7 +60,7 @@ impl<const COUNTS: usize, const CALLED: usize> Machine<COUNTS, CALLED> {
         ready: &Ready,
         size: Size,
     )
-        ensures { footprint.new ≡ noted_all footprint.old (on_device (D.content device.now) (sectors_at (plain_address self.now ready.now.src ready.now.offset) (byte_count size))) }
+        ensures { footprint.new ≡ footprint_after footprint.old (on_device (D.content device.now) (sectors_at (plain_address self.now ready.now.src ready.now.offset) (byte_count size))) }
     {
         let address = self.address(ready.src, ready.offset);
         footprint.look_from(device, address, bytes_of(size));
@@ -75,7 +75,7 @@ impl<const COUNTS: usize, const CALLED: usize> Machine<COUNTS, CALLED> {
         device: &D,
         ready: &Ready,
     )
-        ensures { footprint.new ≡ noted_all footprint.old (record_reads (D.content device.now) self.now ready.now) }
+        ensures { footprint.new ≡ footprint_after footprint.old (record_reads (D.content device.now) self.now ready.now) }
     {
         if footprint.keeps() {
             self.note_record(footprint, device, ready);
@@ -91,7 +91,7 @@ impl<const COUNTS: usize, const CALLED: usize> Machine<COUNTS, CALLED> {
         device: &D,
         ready: &Ready,
     )
-        ensures { footprint.new ≡ noted_all footprint.old (record_reads (D.content device.now) self.now ready.now) }
+        ensures { footprint.new ≡ footprint_after footprint.old (record_reads (D.content device.now) self.now ready.now) }
     {
         match ready.code {
             CallHelper => {

@@ -14,7 +14,7 @@ ghost use Rattle.ranges.specs.SeenStates.{group_of, state_of};
 
 use crate::bytes::is_group;
 use crate::edges::{is_equal_edge, tested_value};
-use crate::effects::{answer_value, computed, loaded, result_value};
+use crate::effects::{answer_value, load_result, number_result, result_value};
 use crate::group::Group;
 use crate::place::{Place, place_of};
 use crate::rules::is_null_test;
@@ -153,7 +153,7 @@ fn put(state: &State, register: Register, value: Option<Value>) -> Effect
 
 /// A store to the stack. Elsewhere nothing is said.
 #[tactic(auto, unfolding(crate::specs::After::stored_groups))]
-fn stored(state: &State, value: Value, size: Size, base: Register, offset: i16) -> Effect
+fn store_effect(state: &State, value: Value, size: Size, base: Register, offset: i16) -> Effect
     ensures { Leaves (state_of state.now) result (Some (store_after (state_of state.now) (kind_of value) size base offset)) }
 {
     let n = byte_count(size);
@@ -179,12 +179,12 @@ fn load(
     ensures { with_value (state_of state.now) dst (kind_of result) ≡ load_after sectors (state_of state.now) dst size base offset }
 {
     let place = place_of(state.value(base), offset, byte_count(size));
-    loaded(state, sectors, place, size)
+    load_result(state, sectors, place, size)
 }
 
 /// A call of helper 2, which writes bytes of the stack.
 #[tactic(auto, unfolding(crate::specs::After::call_after))]
-fn copied(state: &State) -> Effect
+fn copy_effect(state: &State) -> Effect
     ensures { Leaves (state_of state.now) result (Some (call_after (state_of state.now) helper.Copy)) }
 {
     let n = state.at(3).words().unsigned.low;
@@ -199,11 +199,11 @@ fn copied(state: &State) -> Effect
 
 /// A call of a helper.
 #[tactic(auto, unfolding(crate::specs::After::call_after))]
-fn called(state: &State, helper: Option<Helper>) -> Effect
+fn call_effect(state: &State, helper: Option<Helper>) -> Effect
     ensures { Leaves (state_of state.now) result (Some (option_map_or (call_after (state_of state.now)) helper (after_answer (state_of state.now) (Num any_word)))) }
 {
     match helper {
-        Some(Helper::Copy) => copied(state),
+        Some(Helper::Copy) => copy_effect(state),
         Some(helper) => Effect::Changed(Change::Answer(answer_value(helper))),
         None => Effect::Changed(Change::Answer(Value::Num(Bounds::full()))),
     }
@@ -220,11 +220,11 @@ pub fn effect_behind(instr: &Instr, state: &State, sectors: u32) -> Effect
             put(state, *dst, value)
         }
         Instr::Negate { dst, .. } | Instr::ByteOrder { dst, .. } => {
-            let value = computed(instr, state.value(*dst), Value::Unset);
+            let value = number_result(instr, state.value(*dst), Value::Unset);
             put(state, *dst, value)
         }
         Instr::SignExtend { dst, src, .. } => {
-            let value = computed(instr, Value::Unset, state.value(*src));
+            let value = number_result(instr, Value::Unset, state.value(*src));
             put(state, *dst, value)
         }
         Instr::Load {
@@ -244,20 +244,20 @@ pub fn effect_behind(instr: &Instr, state: &State, sectors: u32) -> Effect
             immediate,
         } => {
             let value = Value::Num(Bounds::immediate(*immediate));
-            stored(state, value, *size, *base, *offset)
+            store_effect(state, value, *size, *base, *offset)
         }
         Instr::Store {
             size,
             base,
             offset,
             src,
-        } => stored(state, state.value(*src), *size, *base, *offset),
+        } => store_effect(state, state.value(*src), *size, *base, *offset),
         Instr::LoadImmediate { dst, value } => put(
             state,
             *dst,
             Some(Value::Num(Bounds::constant(*value))),
         ),
-        Instr::CallHelper { number } => called(state, Helper::of(number.cast_unsigned())),
+        Instr::CallHelper { number } => call_effect(state, Helper::of(number.cast_unsigned())),
         Instr::CallLocal { .. } => Effect::Changed(Change::Answer(Value::Num(Bounds::full()))),
         Instr::Jump { .. } | Instr::LongJump { .. } | Instr::Branch { .. } | Instr::Exit => {
             Effect::Changed(Change::Stays)

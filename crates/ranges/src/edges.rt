@@ -49,7 +49,7 @@ pub fn branch(instr: &Instr, taken: bool, state: &State) -> Option<State>
 }
 
 /// What a local function is given of a register: a number, and no pointer.
-fn given(value: Value) -> Value
+fn argument_value(value: Value) -> Value
     ensures { kind_of result ≡ argument_kind (kind_of value) }
 {
     match value {
@@ -69,11 +69,11 @@ pub fn entry(state: &State) -> State
     State {
         values: [
             unset,
-            given(state.at(1)),
-            given(state.at(2)),
-            given(state.at(3)),
-            given(state.at(4)),
-            given(state.at(5)),
+            argument_value(state.at(1)),
+            argument_value(state.at(2)),
+            argument_value(state.at(3)),
+            argument_value(state.at(4)),
+            argument_value(state.at(5)),
             unset,
             unset,
             unset,

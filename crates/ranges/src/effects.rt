@@ -17,7 +17,7 @@ use crate::bytes::is_group;
 use crate::group::Group;
 use crate::moving::advance;
 use crate::place::Place;
-use crate::pointers::moved;
+use crate::pointers::move_pointer;
 use crate::state::State;
 use crate::value::Value;
 use arithmetic::byte_count;
@@ -26,7 +26,7 @@ use helpers::Helper;
 use intervals::{Bounds, Range, result_bounds};
 
 /// What arithmetic makes of the words of two numbers; None where it leaves no word.
-pub(crate) fn computed(instr: &Instr, first: Value, other: Value) -> Option<Value>
+pub(crate) fn number_result(instr: &Instr, first: Value, other: Value) -> Option<Value>
     requires { IsTrue (is_arithmetic instr.now) }
     ensures { option_map kind_of result ≡ number_result instr.now (kind_of first) (kind_of other) }
 {
@@ -48,7 +48,7 @@ fn moved_or_computed(
 {
     match moved {
         Some(value) => Some(value),
-        None => computed(instr, first, other),
+        None => number_result(instr, first, other),
     }
 }
 
@@ -65,11 +65,21 @@ pub(crate) fn result_value(instr: &Instr, first: Value, other: Value) -> Option<
             ..
         } => match operator {
             Operator::Mov => Some(other),
-            Operator::Add => moved_or_computed(instr, moved(false, first, other), first, other),
-            Operator::Sub => moved_or_computed(instr, moved(true, first, other), first, other),
-            _ => computed(instr, first, other),
+            Operator::Add => moved_or_computed(
+                instr,
+                move_pointer(false, first, other),
+                first,
+                other,
+            ),
+            Operator::Sub => moved_or_computed(
+                instr,
+                move_pointer(true, first, other),
+                first,
+                other,
+            ),
+            _ => number_result(instr, first, other),
         },
-        _ => computed(instr, first, other),
+        _ => number_result(instr, first, other),
     }
 }
 
@@ -117,7 +127,7 @@ fn group_value(group: Group) -> Value
 
 /// What a load gives.
 #[tactic(auto, unfolding(crate::specs::After::loaded_kind))]
-pub(crate) fn loaded(state: &State, sectors: u32, place: Place, size: Size) -> Value
+pub(crate) fn load_result(state: &State, sectors: u32, place: Place, size: Size) -> Value
     requires { Fits place (byte_count size) }
     ensures { kind_of result ≡ loaded_kind sectors (state_of state.now).groups place (byte_count size) }
 {

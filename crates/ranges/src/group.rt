@@ -25,7 +25,7 @@ pub const UNSET: Group = Group::Marked(ByteMarks {
 });
 
 /// A value that is kept in the eight bytes. What may be anything leaves them unset.
-fn kept(value: Value) -> Group
+fn group_of(value: Value) -> Group
     ensures { group_of result ≡ group_kept (kind_of value) }
 {
     match value {
@@ -55,7 +55,7 @@ fn both(x: ByteMarks, y: ByteMarks) -> ByteMarks
 
 /// What bytes that are known by marks are where a value is kept instead: all bytes of a number are
 /// written, and those of a pointer become unset.
-fn met(marks: ByteMarks, value: Value) -> Group
+fn group_at_join(marks: ByteMarks, value: Value) -> Group
     ensures { group_of result ≡ Marked (marks_at_join marks.written (kind_of value)) }
 {
     if value.is_number() {
@@ -82,9 +82,9 @@ impl Group {
     {
         match (self, other) {
             (Group::Marked(x), Group::Marked(y)) => Group::Marked(both(x, y)),
-            (Group::Marked(x), Group::Spilled(y)) => met(x, y.value),
-            (Group::Spilled(x), Group::Marked(y)) => met(y, x.value),
-            (Group::Spilled(x), Group::Spilled(y)) => kept(x.value.join(y.value)),
+            (Group::Marked(x), Group::Spilled(y)) => group_at_join(x, y.value),
+            (Group::Spilled(x), Group::Marked(y)) => group_at_join(y, x.value),
+            (Group::Spilled(x), Group::Spilled(y)) => group_of(x.value.join(y.value)),
         }
     }
 

@@ -74,10 +74,21 @@
 //! # Example
 //!
 //! ```
-//! // ldxb r0, [r0+0] behind mov64 r1, 0; call 1, without a test against 0
-//! let first = after(&put_zero, &State::start(), 4);
-//! let second = after(&call_sector, &first, 4);
-//! check(&load, &second)        // refused: OutsideRegion, number 52
+//! use bpf_asm::assemble;
+//! use ranges::{State, after, check};
+//!
+//! let program = assemble(alloc, "mov64 r1, 0\ncall 1\nldxb r0, [r0+0]\nexit\n")?;
+//! let mut state = State::start();
+//! for slot in 0..2 {
+//!     if let Some(instr) = program.at(slot)
+//!         && let Some(next) = after(&instr, &state, 4)
+//!     {
+//!         state = next;
+//!     }
+//! }
+//! if let Some(load) = program.at(2) {
+//!     let fault = check(&load, &state).err();     // OutsideRegion, number 52: r0 isn't tested against 0
+//! }
 //! ```
 #![tactic(auto)]
 

@@ -12,7 +12,7 @@ ghost use Rattle.ranges.specs.Seen.{kind_of};
 ghost use Rattle.ranges.specs.SeenStates.{state_of};
 
 use crate::edges::{entry, is_equal_edge, tested_value};
-use crate::effects::{answer_value, computed, loaded, result_value};
+use crate::effects::{answer_value, load_result, number_result, result_value};
 use crate::place::place_of;
 use crate::rules::is_null_test;
 use crate::state::State;
@@ -77,7 +77,7 @@ fn load(state: &mut State, sectors: u32, dst: Register, size: Size, base: Regist
     ensures { state_of state.new ≡ load_after sectors (state_of state.old) dst size base offset }
 {
     let place = place_of(state.value(base), offset, byte_count(size));
-    let value = loaded(state, sectors, place, size);
+    let value = load_result(state, sectors, place, size);
     state.set_value(dst, value);
 }
 
@@ -102,11 +102,11 @@ pub fn advance(instr: &Instr, state: &mut State, sectors: u32) -> bool
             put(state, *dst, value)
         }
         Instr::Negate { dst, .. } | Instr::ByteOrder { dst, .. } => {
-            let value = computed(instr, state.value(*dst), Value::Unset);
+            let value = number_result(instr, state.value(*dst), Value::Unset);
             put(state, *dst, value)
         }
         Instr::SignExtend { dst, src, .. } => {
-            let value = computed(instr, Value::Unset, state.value(*src));
+            let value = number_result(instr, Value::Unset, state.value(*src));
             put(state, *dst, value)
         }
         Instr::Load {

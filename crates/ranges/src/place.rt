@@ -32,7 +32,7 @@ pub enum Mark {
 }
 
 /// Where n bytes at a distance from an offset begin, if they lie below the size of a region.
-fn landed(size: u64, n: u64, offset: u64, distance: i16) -> Option<u64>
+fn landing(size: u64, n: u64, offset: u64, distance: i16) -> Option<u64>
     ensures value { result ≡ landing size n offset distance }
     ensures bound { IfSome result (λ at. at + n ≤ size) }
 {
@@ -50,17 +50,17 @@ pub(crate) fn place_of(base: Value, distance: i16, n: u64) -> Place
     ensures fits { Fits result n }
 {
     match base {
-        Value::Ctx(o) => match landed(32, n, u64::from(o.offset), distance) {
+        Value::Ctx(o) => match landing(32, n, u64::from(o.offset), distance) {
             Some(at) => Place::Context(at),
             None => Place::Outside,
         },
-        Value::Stack(o) => match landed(512, n, u64::from(o.offset), distance) {
+        Value::Stack(o) => match landing(512, n, u64::from(o.offset), distance) {
             Some(at) => Place::Stack(at),
             None => Place::Outside,
         },
         Value::Sector(x) => {
-            let low = landed(512, n, u64::from(x.low), distance);
-            let high = landed(512, n, u64::from(x.high), distance);
+            let low = landing(512, n, u64::from(x.low), distance);
+            let high = landing(512, n, u64::from(x.high), distance);
             if low.is_some() && high.is_some() {
                 Place::Sector
             } else {

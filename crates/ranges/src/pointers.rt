@@ -88,7 +88,7 @@ fn moved_offsets(down: bool, x: SectorOffsets, y: Range) -> Option<SectorOffsets
 
 /// A pointer moved by a number, up or down; None where that isn't allowed.
 #[tactic(auto, unfolding(crate::specs::Pointers::moved_pointer))]
-pub(crate) fn moved(down: bool, pointer: Value, number: Value) -> Option<Value>
+pub(crate) fn move_pointer(down: bool, pointer: Value, number: Value) -> Option<Value>
     ensures { option_map kind_of result ≡ moved_pointer down (kind_of pointer) (kind_of number) }
 {
     match (pointer, number) {

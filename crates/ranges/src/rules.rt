@@ -17,7 +17,7 @@ ghost use Rattle.bpf_isa.specs.declared.instr.Source.TheVariants as operand;
 
 use crate::bytes::{has_no, is_whole};
 use crate::place::{Mark, Place, place_of};
-use crate::pointers::moved;
+use crate::pointers::move_pointer;
 use crate::reads::{are_both_set, are_operands_set, are_two_set, is_set};
 use crate::state::State;
 use crate::value::Value;
@@ -37,8 +37,8 @@ fn may_compute(width: Width, operator: Operator, first: Value, other: Value) -> 
     match (width, operator) {
         (Width::W64, Operator::Mov) => true,
         (Width::W32, Operator::Mov) => other.is_number(),
-        (Width::W64, Operator::Add) => numbers || moved(false, first, other).is_some(),
-        (Width::W64, Operator::Sub) => numbers || moved(true, first, other).is_some(),
+        (Width::W64, Operator::Add) => numbers || move_pointer(false, first, other).is_some(),
+        (Width::W64, Operator::Sub) => numbers || move_pointer(true, first, other).is_some(),
         _ => numbers,
     }
 }

@@ -53,7 +53,7 @@ pub(crate) fn group_after(at: u64, n: u64, g: usize, group: Group) -> Group
 }
 
 /// The groups where n bytes from a place on are written.
-fn written(x: &[Group; 64], at: u64, n: u64) -> [Group; 64]
+fn write_groups(x: &[Group; 64], at: u64, n: u64) -> [Group; 64]
     requires { at + n ≤ 512 }
     ensures { map group_of result ≡ groups_after_write at n (map group_of x.now) }
 {
@@ -72,7 +72,7 @@ pub(crate) fn write(state: &mut State, place: Place, n: u64)
     ensures { state_of state.new ≡ with_groups (state_of state.old) (written_at (state_of state.old).groups place n) }
 {
     if let Place::Stack(at) = place {
-        let groups = written(&state.groups, at, n);
+        let groups = write_groups(&state.groups, at, n);
         state.set_groups(groups);
     }
 }

@@ -101,7 +101,7 @@ impl Header {
 
     /// The header in sectors of 512 bytes, of which `times` are one of the raw log; none where these don't lie on a device of
     /// that many.
-    fn divided(&self, times: u64, sectors: u32) -> Option<Header>
+    fn in_sectors_of_512(&self, times: u64, sectors: u32) -> Option<Header>
         requires times { IsTimes times }
         ensures known { IsSome result ↔ IsTrue (is_on_device times sectors self.now.sector self.now.count) }
         ensures value { IfSome result (λ h. h ≡ divided_header times self.now) }
@@ -167,7 +167,7 @@ pub(crate) fn checked_header(
     if flags.mark && !header.is_mark() {
         return Err(LogCause::MarkForm);
     }
-    let Some(header) = header.divided(times, sectors) else {
+    let Some(header) = header.in_sectors_of_512(times, sectors) else {
         return Err(LogCause::Device);
     };
     if units + header.count > MAX_UNITS {

@@ -20,7 +20,7 @@ use logfmt::{Entry, LogFault, SECTOR};
 use std::alloc::{AllocError, Global};
 
 /// The bytes from `start` up to `end`, copied.
-fn copied(alloc: Global, bytes: &[u8], start: usize, end: usize) -> Result<Bytes, AllocError>
+fn copy_bytes(alloc: Global, bytes: &[u8], start: usize, end: usize) -> Result<Bytes, AllocError>
     requires order { start ≤ end }
     requires inside { end ≤ length bytes.now }
     ensures value { IfOk result (λ copy. copy ≡ slice_range bytes.now start end) }
@@ -53,7 +53,7 @@ fn entry_of(
     let text = start + 32;
     let data = start + SECTOR * times as usize;
     let text = raw[text..text + header.text_length as usize].to_vec(alloc)?;
-    let content = copied(alloc, raw, data, data + header.data_bytes())?;
+    let content = copy_bytes(alloc, raw, data, data + header.data_bytes())?;
     Ok(Entry {
         sector: header.sector,
         count: header.count,

@@ -44,10 +44,10 @@
 //! use raw_log::import;
 //!
 //! // `raw` has sectors of 4,096 bytes: the super block, and one entry that writes sector 1 of the device
-//! let text = import(alloc, &raw, 16, Limits::Usual)?;
-//! let log = read(alloc, &text, 16, Limits::Usual)?;
+//! let text = import(alloc, raw, 16, Limits::Usual)?;
+//! let log = read(alloc, text.as_slice(), 16, Limits::Usual)?;
 //! // log.entries()[0].sector is 8, its count is 8, and its content has 4,096 bytes
-//! let fault = import(alloc, &raw, 8, Limits::Usual).err();
+//! let fault = import(alloc, raw, 8, Limits::Usual).err();
 //! // the entry lies behind a device of 8 sectors: Some(LogFault { code: LogCause::Device, at: 0 })
 //! ```
 #![tactic(auto)]

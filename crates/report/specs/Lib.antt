@@ -1,3 +1,4 @@
 -- The bytes of the report.
 pub mod Text
 pub mod Report
+pub mod Part

@@ -15,6 +15,8 @@
 //! |---|---|
 //! | `Head`, `ProgramHead` | what stands before the lines, and the number of images |
 //! | `write_report(alloc, head, lines)` | the bytes of the report |
+//! | `write_part(alloc, head, span, lines)` | the bytes of a part of a run |
+//! | `Span`, `put_span(out, span)` | which images of which run a text is of, and the two lines that say so |
 //! | `put_options(out, head)`, `put_totals(out, images, lines)` | append its options and programs, and its last line |
 //!
 //! # Place
@@ -30,15 +32,29 @@
 //! last line with its number, or with `none`. `put_options` and `put_totals` append exactly their parts of it,
 //! for texts that begin and end as the report does.
 //!
+//! `write_part` gives exactly `span_report` (`specs/Part.antt`): the lines that say of which images of which run it is, the same
+//! options and programs, and the lines of these images with their totals.
+//!
 //! # How it is written
 //!
 //! Each part of the head is appended to one string by a function of its own, which says what it appended.
 //! Lines are kept as they are printed, and of how many images they are is known with them; so `write_report`
 //! makes room for all bytes once, and appends the texts of the lines one after the other.
+//!
+//! # Example
+//!
+//! ```
+//! use report::write_report;
+//!
+//! let bytes = write_report(alloc, &head, &lines)?;
+//! // the text above, of one failing line
+//! ```
 #![tactic(auto)]
 
 mod head;
+mod span;
 mod writer;
 
 pub use head::{Head, ProgramHead};
-pub use writer::{put_options, put_totals, write_report};
+pub use span::{Span, put_span};
+pub use writer::{put_options, put_totals, write_part, write_report};

@@ -1,14 +1,16 @@
 //! The report of a run, line by line (docs/REPORT.md).
 
-ghost use Rattle.std.specs.Prelude.{◌≡◌, ◌++◌, map, OnOk, IfOk, string_bytes};
+ghost use Rattle.std.specs.Prelude.{◌≡◌, ◌≤◌, ◌-◌, ◌++◌, Bool, map, OnOk, IfOk, string_bytes};
 ghost use Rattle.std.specs.List.{flat_map};
 ghost use Rattle.std.specs.List.Sorted.{IsNonDecreasing};
 ghost use Rattle.lines.specs.Line.{first_lines};
 ghost use Rattle.lines.specs.Text.{line_text};
 ghost use Rattle.report.specs.Text.{yes_or_no, cuts_word, by_words};
-ghost use Rattle.report.specs.Report.{device_text, choices_text, given_text, base_words, steps_word, program_line, program_lines, totals_line, image_text, first_line, last_line, shown_lines, options_text, head_text, report_bytes};
+ghost use Rattle.report.specs.Report.{device_text, choices_text, given_text, base_words, steps_word, program_line, program_lines, totals_line, image_text, first_line, last_line, shown_lines, options_text, head_text, findings_text, report_bytes};
+ghost use Rattle.report.specs.Part.{span_text, span_report};
 
 use crate::head::{Head, ProgramHead};
+use crate::span::{Span, put_span};
 use choice_text::put_cuts_words;
 use epochs::{By, CutKind};
 use lines::Lines;
@@ -150,34 +152,39 @@ fn put_first_line(out: &mut String, images: u64, lines: &Lines) -> Result<(), Al
     write!(out, "\n")
 }
 
-/// Appends the last line.
-fn put_last_line(out: &mut String, head: &Head, lines: &Lines) -> Result<(), AllocError>
+/// Appends the last line of a text of so many images.
+fn put_last_line(
+    out: &mut String,
+    first: bool,
+    images: u64,
+    lines: &Lines,
+) -> Result<(), AllocError>
     requires { IsNonDecreasing (map (λ l. l.image) lines.now) }
-    ensures { OnOk result (string_bytes out.new ≡ string_bytes out.old ++ last_line head.now.first head.now.images lines.now) }
+    ensures { OnOk result (string_bytes out.new ≡ string_bytes out.old ++ last_line first images lines.now) }
 {
-    if head.first {
-        put_first_line(out, head.images, lines)
+    if first {
+        put_first_line(out, images, lines)
     } else {
-        put_totals(out, head.images, lines)
+        put_totals(out, images, lines)
     }
 }
 
-/// The last line of the report.
-fn last_line(alloc: Global, head: &Head, lines: &Lines) -> Result<String, AllocError>
+/// The last line of a text of so many images.
+fn last_line(alloc: Global, first: bool, images: u64, lines: &Lines) -> Result<String, AllocError>
     requires { IsNonDecreasing (map (λ l. l.image) lines.now) }
-    ensures { IfOk result (λ out. string_bytes out ≡ last_line head.now.first head.now.images lines.now) }
+    ensures { IfOk result (λ out. string_bytes out ≡ last_line first images lines.now) }
 {
     let mut out = String::new(alloc);
-    put_last_line(&mut out, head, lines)?;
+    put_last_line(&mut out, first, images, lines)?;
     Ok(out)
 }
 
 /// Appends the failing lines: all of them, or those of the first failing image where it alone was asked for.
-fn put_lines(out: &mut Vec<u8>, head: &Head, lines: &Lines) -> Result<(), AllocError>
+fn put_lines(out: &mut Vec<u8>, first: bool, lines: &Lines) -> Result<(), AllocError>
     requires { IsNonDecreasing (map (λ l. l.image) lines.now) }
-    ensures { OnOk result (out.new.items ≡ out.old.items ++ flat_map line_text (shown_lines head.now.first lines.now)) }
+    ensures { OnOk result (out.new.items ≡ out.old.items ++ flat_map line_text (shown_lines first lines.now)) }
 {
-    if head.first {
+    if first {
         lines.put_first(out)
     } else {
         lines.put(out)
@@ -204,6 +211,25 @@ fn head_text(alloc: Global, head: &Head) -> Result<String, AllocError>
     Ok(out)
 }
 
+/// Appends the failing lines of so many images, and the last line.
+fn with_findings(
+    alloc: Global,
+    begun: String,
+    first: bool,
+    images: u64,
+    lines: &Lines,
+) -> Result<Vec<u8>, AllocError>
+    requires { IsNonDecreasing (map (λ l. l.image) lines.now) }
+    ensures { IfOk result (λ bytes. bytes.items ≡ string_bytes begun ++ findings_text first images lines.now) }
+{
+    let last = last_line(alloc, first, images, lines)?;
+    let mut out = begun.into_bytes();
+    out.reserve_exact(lines.text_len().saturating_add(last.len()))?;
+    put_lines(&mut out, first, lines)?;
+    out.extend_from_slice(last.as_bytes())?;
+    Ok(out)
+}
+
 /// The bytes of the report (docs/REPORT.md). The lines are in the order of their images. Where the first
 /// failing image alone was asked for, lines of other images are left out.
 ///
@@ -213,10 +239,32 @@ pub fn write_report(alloc: Global, head: &Head, lines: &Lines) -> Result<Vec<u8>
     requires { IsNonDecreasing (map (λ l. l.image) lines.now) }
     ensures { IfOk result (λ bytes. bytes.items ≡ report_bytes head.now lines.now) }
 {
-    let last = last_line(alloc, head, lines)?;
-    let mut out = head_text(alloc, head)?.into_bytes();
-    out.reserve_exact(lines.text_len().saturating_add(last.len()))?;
-    put_lines(&mut out, head, lines)?;
-    out.extend_from_slice(last.as_bytes())?;
+    let begun = head_text(alloc, head)?;
+    with_findings(alloc, begun, head.first, head.images, lines)
+}
+
+/// What stands before the lines of a part.
+fn part_head_text(alloc: Global, head: &Head, span: Span) -> Result<String, AllocError>
+    ensures { IfOk result (λ out. string_bytes out ≡ span_text span ++ options_text head.now) }
+{
+    let mut out = String::new(alloc);
+    put_span(&mut out, span)?;
+    put_options(&mut out, head)?;
     Ok(out)
+}
+
+/// The bytes of a part of a run (docs/REPORT.md, The text of a part): of the images of the span. The lines are theirs, in their
+/// order. The totals are those of the part; of the head's number of images nothing is printed.
+pub fn write_part(
+    alloc: Global,
+    head: &Head,
+    span: Span,
+    lines: &Lines,
+) -> Result<Vec<u8>, AllocError>
+    requires span { span.from ≤ span.to }
+    requires order { IsNonDecreasing (map (λ l. l.image) lines.now) }
+    ensures { IfOk result (λ bytes. bytes.items ≡ span_report head.now span lines.now) }
+{
+    let begun = part_head_text(alloc, head, span)?;
+    with_findings(alloc, begun, head.first, span.to - span.from, lines)
 }

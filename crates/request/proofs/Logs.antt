@@ -1,5 +1,5 @@
 -- What was read of a log, by the settings.
-use Rattle.std.proofs.Common.{ℕ, ◌≡◌, ◌≤◌, ◌*◌, ◌⊎◌, inl, inr, ◌<◌, List, [], length, slice_get, Option, None, Some, refl, sym, ap, ◌∙◌, subst, arith}
+use Rattle.std.proofs.Common.{ℕ, ◌≡◌, ◌≤◌, ◌*◌, ◌⊎◌, inl, inr, ◌<◌, List, [], length, slice_get, Option, None, Some, true, refl, sym, ap, ◌∙◌, subst, arith}
 use Rattle.limits.specs.Sizes.{byte_limit}
 use Rattle.base.specs.declared.causes.LogCause.TheVariants as log
 use Rattle.logfmt.specs.declared.fault.LogFault.{LogFault}
@@ -13,9 +13,9 @@ use Rattle.logfmt.specs.declared.entry.Entry.{Entry}
 use Rattle.std.specs.List.{slice_index_or}
 use Rattle.epochs.specs.declared.cuts.Cuts.{Cuts}
 use Rattle.epochs.specs.Flushes.{places_of}
-use Rattle.choices.specs.Choices.{limit}
 use Rattle.request.proofs.Lacking.{none_lacks, entries_there}
 use Rattle.request.specs.declared.settings.Settings.{Settings}
+use Rattle.request.specs.Extents.{most_images, has_extent}
 use Rattle.request.specs.Source.{Recording, FitsDevice, IsRecorded, IsLogOf, HasImages, images_of, lacking, log_refusal, lacking_refusal, lacks, RefusesLog, with_fault, no_memory}
 
 -- a log over other initial content, which fits its device, has the same text
@@ -47,14 +47,19 @@ recorded_over r s log is device short fits are = record {
   initial = refl;
 }
 
--- what `recorded` answers
+-- what `log_over_base` answers
 pub log_refused : (r : Recording) (s : Settings) (f : LogFault) → FitsDevice r s
     → (f ≡ record { code = log.Memory; at = 0 }) ⊎ log_fault.FirstFault r.text s.sectors s.limits f.code f.at → RefusesLog r s (log_refusal f.code f.at)
 log_refused r s f fits (inl e) = rw e no_memory
 log_refused r s f fits (inr h) = with_fault f.code f.at fits h
 
-pub has_images : (text : Recording) (s : Settings) (log : LogValue) (images : ℕ) → IsLogOf text s log → images ≡ length (images_of s log) → images ≤ limit → HasImages text s log
-has_images text s log images reads count few = record { reads = reads; few = omega (arith, count, few) }
+pub has_images : (text : Recording) (s : Settings) (log : LogValue) (images : ℕ) → IsLogOf text s log → images ≡ length (images_of s log) → images ≤ most_images s.extent
+    → has_extent s.extent images ≡ true → HasImages text s log
+has_images text s log images reads count few within = record {
+  reads = reads;
+  few = omega (arith, count, few);
+  within = subst (λ (n : ℕ). has_extent s.extent n ≡ true) count within;
+}
 
 -- nothing that is named is lacking
 nothing : (cuts : Cuts) (log : LogValue) (es : List Entry) (first : Option ℕ) → es ≡ log.entries → first ≡ slice_get (lacking cuts (length es)) 0 → first ≡ None

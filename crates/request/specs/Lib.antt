@@ -1,5 +1,6 @@
 -- What is asked of a run or of a log, and what is read of it.
 pub mod Places
+pub mod Extents
 pub mod Settings
 pub mod OptionWords
 pub mod Trials

@@ -6,13 +6,14 @@ use Rattle.epochs.specs.declared.flushes.Flushes.{Flushes}
 use Rattle.epochs.specs.declared.part.By.{By}
 use Rattle.base.specs.declared.refusal.Refusal.{Refusal}
 use Rattle.request.specs.declared.command.OptionWords.{OptionWords}
+use Rattle.request.specs.declared.extent.Extent.{Extent}
 use Rattle.request.specs.declared.settings.OptionPlace.TheVariants as place
 use Rattle.request.specs.declared.settings.Settings.{Settings}
 use Rattle.request.specs.Settings.{option_refusal, settings_refusal}
 
--- what the words ask for, with cuts of that kind, parts of that, and these flushes added
-abbrev pub settings_with : OptionWords → CutKind → By → Flushes → Settings
-settings_with w kind way added = record {
+-- what the words ask for, with cuts of that kind, parts of that, these flushes added, and these images
+abbrev pub settings_with : OptionWords → CutKind → By → Flushes → Extent → Settings
+settings_with w kind way added extent = record {
   sectors = w.sectors;
   limits = w.limits;
   cuts = record { kind = kind; from = w.from; to = w.to; flushes = added };
@@ -23,16 +24,21 @@ settings_with w kind way added = record {
   cache = w.cache;
   checked = w.checked;
   first = w.first;
+  extent = extent;
 }
 
--- what the words ask for, none where the word for the cuts names no kind of cut, that behind --by no kind of part, or that
--- behind --flush no entries
+-- what the words ask for, none where the word for the cuts names no kind of cut, that behind --by no kind of part, that
+-- behind --flush no entries, or that behind --images no images
 abbrev pub settings_of : OptionWords → Option Settings
-settings_of w = option_and_then (λ kind. option_and_then (λ way. option_map (settings_with w kind way) w.flushes) w.by) w.cuts
+settings_of w = option_and_then (λ kind. option_and_then (λ way. option_and_then (λ added. option_map (settings_with w kind way added) w.images) w.flushes) w.by) w.cuts
+
+-- the refusal of the words, of which all but those for the images are good: the images are tested first
+abbrev pub extent_refusal : OptionWords → CutKind → By → Flushes → Option Refusal
+extent_refusal w kind way added = option_map_or (λ extent. settings_refusal (settings_with w kind way added extent)) w.images (Some (option_refusal place.Images))
 
 -- the refusal of the words, of which those for the cuts and for the parts name kinds: the entries of --flush are tested first
 abbrev pub flushes_refusal : OptionWords → CutKind → By → Option Refusal
-flushes_refusal w kind way = option_map_or (λ added. settings_refusal (settings_with w kind way added)) w.flushes (Some (option_refusal place.Flush))
+flushes_refusal w kind way = option_map_or (extent_refusal w kind way) w.flushes (Some (option_refusal place.Flush))
 
 -- the refusal of the words, of which that for the cuts names a kind of cut: the kind of the parts is tested first
 abbrev pub parts_refusal : OptionWords → CutKind → Option Refusal

@@ -19,3 +19,5 @@ place_number place.Range = 13
 place_number place.Base = 14
 place_number place.Epoch = 15
 place_number place.Marks = 16
+place_number place.Images = 17
+place_number place.Parts = 18

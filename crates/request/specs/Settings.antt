@@ -12,6 +12,7 @@ use Rattle.request.specs.declared.settings.Settings.{Settings}
 use Rattle.request.specs.declared.settings.OptionPlace.{OptionPlace}
 use Rattle.request.specs.declared.settings.OptionPlace.TheVariants as place
 use Rattle.request.specs.Places.{place_number}
+use Rattle.request.specs.Extents.{is_extent}
 
 -- the refusal of the option at that place
 abbrev pub option_refusal : OptionPlace → Refusal
@@ -30,6 +31,7 @@ option_checks s =
     ∷ check place.Cache (nat_le s.cache 65536)
     ∷ check place.Checked (option_map_or (λ limit. nat_le limit 1000000000) s.checked true)
     ∷ check place.Range (is_ordered s.cuts)
+    ∷ check place.Images (is_extent s.extent)
     ∷ []
 
 -- the refusal of the first option that a check refuses, if one does
@@ -44,4 +46,5 @@ pub record IsAsked (s : Settings) : Type 0 where
   pub some_worker : 1 ≤ s.workers
   pub few_workers : s.workers ≤ 64
   pub cache : s.cache ≤ 65536
+  pub extent : is_extent s.extent ≡ true
   pub passed : first_failing (option_checks s) ≡ None

@@ -1,5 +1,5 @@
 -- What a command reads of a log: the log itself, and the crash images that are asked for of it.
-use Rattle.std.specs.Prelude.{ℕ, ◌≡◌, ◌<◌, ◌≤◌, ◌*◌, ◌++◌, nat_le, nat_lt, if◌then◌else◌, List, [], ◌∷◌, length, filter, slice_get, Option, None, Some}
+use Rattle.std.specs.Prelude.{ℕ, ◌≡◌, ◌<◌, ◌≤◌, ◌*◌, ◌++◌, nat_le, nat_lt, true, false, if◌then◌else◌, List, [], ◌∷◌, length, filter, slice_get, Option, None, Some}
 use Rattle.limits.specs.Sizes.{byte_limit}
 use Rattle.base.specs.declared.causes.LogCause.{LogCause}
 use Rattle.base.specs.declared.causes.LogCause.TheVariants as log
@@ -14,10 +14,11 @@ use Rattle.logfmt.specs.Flushed.{with_flushes}
 use Rattle.epochs.specs.declared.cuts.Cuts.{Cuts}
 use Rattle.epochs.specs.Flushes.{places_of}
 use Rattle.epochs.specs.Plan.{PlanValue}
-use Rattle.choices.specs.Choices.{ChoiceValue, ranked_choices, limit, IsFirstPast}
+use Rattle.choices.specs.Choices.{ChoiceValue, ranked_choices, IsFirstPastOf}
 use Rattle.request.specs.declared.settings.Settings.{Settings}
 use Rattle.request.specs.declared.settings.OptionPlace.TheVariants as place
 use Rattle.request.specs.Settings.{option_refusal}
+use Rattle.request.specs.Extents.{most_images, has_extent}
 
 -- a recording: the bytes of a log, and of what the device held before entry 0 (docs/CRASH-MODEL.md, Terms), none where nothing
 -- is said of it
@@ -64,10 +65,11 @@ plan_of s value = record { log = value; kind = s.cuts; by = s.by }
 abbrev pub images_of : Settings → LogValue → List ChoiceValue
 images_of s value = ranked_choices (plan_of s value) s.bound s.tears
 
--- it is the log that is asked for of the recording, and it has no more images than a run may have
+-- it is the log that is asked for of the recording, it has no more images than the run may have, and it has those that are meant
 pub record HasImages (r : Recording) (s : Settings) (value : LogValue) : Type 0 where
   pub reads : IsLogOf r s value
-  pub few : length (images_of s value) ≤ limit
+  pub few : length (images_of s value) ≤ most_images s.extent
+  pub within : has_extent s.extent (length (images_of s value)) ≡ true
 
 abbrev pub log_refusal : LogCause → ℕ → Refusal
 log_refusal cause at = record { code = Log cause; at = at; program = None }
@@ -91,10 +93,12 @@ pub data RefusesLog (r : Recording) (s : Settings) : Refusal → Type 0 where
   lacks : (read : LogValue) (at : ℕ) → IsRecorded r s read → slice_get (lacking s.cuts (length read.entries)) 0 ≡ Some at
       → RefusesLog r s (lacking_refusal at)
 
--- the refusals of a plan: it has too many images, by the cut with which their number passes the limit; or
--- want of memory
+-- the refusals of a plan: it has too many images, by the cut with which their number passes the most; or it lacks some that are
+-- meant; or want of memory
 pub data RefusesPlan (s : Settings) (value : LogValue) : Refusal → Type 0 where
-  too_many : (cut : ℕ) → IsFirstPast (plan_of s value) s.bound s.tears cut → RefusesPlan s value (images_refusal cut)
+  too_many : (cut : ℕ) → IsFirstPastOf (most_images s.extent) (plan_of s value) s.bound s.tears cut → RefusesPlan s value (images_refusal cut)
+  lacks_images : length (images_of s value) ≤ most_images s.extent → has_extent s.extent (length (images_of s value)) ≡ false
+      → RefusesPlan s value (option_refusal place.Images)
   no_plan_memory : RefusesPlan s value memory_refusal
 
 -- both in their order: the recording, then the number of its images

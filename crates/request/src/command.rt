@@ -4,6 +4,7 @@ ghost use Rattle.std.specs.Prelude.{◌≡◌, None, Some, IfOk, MatchResult};
 ghost use Rattle.request.specs.Settings.{settings_refusal};
 ghost use Rattle.request.specs.OptionWords.{AskFor, settings_with, words_refusal};
 
+use crate::extent::Extent;
 use crate::options::Options;
 use crate::refusals::option_refusal_of;
 use crate::settings::{OptionPlace, Settings};
@@ -42,6 +43,8 @@ pub struct OptionWords {
     pub checked: Option<u64>,
     /// Whether `--first` stands there.
     pub first: bool,
+    /// How many images the run may have, and which of them are meant, by `--images`; none where the word behind it names no images.
+    pub images: Option<Extent>,
 }
 
 /// Which image is meant.
@@ -70,8 +73,8 @@ pub enum Request {
     Cure(OptionWords),
     /// `page LOG PROGRAM..`
     Page(OptionWords),
-    /// `images LOG`
-    Images(OptionWords),
+    /// `images LOG`, with the number behind `--parts`, where that stands there.
+    Images(OptionWords, Option<u64>),
     /// `log LOG`, of which the number of sectors counts.
     Log(OptionWords),
     /// `image LOG N`, or with `--cut` and `--choice` in place of the number.
@@ -86,20 +89,23 @@ pub enum Request {
     Check(TrialWords),
     /// `asm SOURCE`
     Asm,
+    /// `join PART..`
+    Join,
     /// `list PROGRAM`, with the slots or without.
     List { numbered: bool },
 }
 
-/// The options that these words ask for, of which those for the cuts, for the parts and for the flushes are good.
+/// The options that these words ask for, of which those for the cuts, the parts, the flushes and the images are good.
 fn options_with(
     words: &OptionWords,
     kind: CutKind,
     by: By,
     flushes: Flushes,
+    extent: Extent,
 ) -> Result<Options, Refusal>
-    ensures made { IfOk result (λ o. o ≡ settings_with words.now kind by flushes) }
-    ensures refused { MatchResult result (λ o. settings_refusal (settings_with words.now kind by flushes) ≡ None)
-        (λ r. settings_refusal (settings_with words.now kind by flushes) ≡ Some r) }
+    ensures made { IfOk result (λ o. o ≡ settings_with words.now kind by flushes extent) }
+    ensures refused { MatchResult result (λ o. settings_refusal (settings_with words.now kind by flushes extent) ≡ None)
+        (λ r. settings_refusal (settings_with words.now kind by flushes extent) ≡ Some r) }
 {
     Options::new(&Settings {
         sectors: words.sectors,
@@ -117,6 +123,7 @@ fn options_with(
         cache: words.cache,
         checked: words.checked,
         first: words.first,
+        extent,
     })
 }
 
@@ -125,7 +132,8 @@ fn options_with(
 /// # Errors
 ///
 /// 13 at 7 where the word behind `--cuts` is no kind of cut, 13 at 10 where that behind `--by` is no kind of part, 13 at 12
-/// where that behind `--flush` is no list of entries, then those of `Options::new`.
+/// where that behind `--flush` is no list of entries, 13 at 17 where that behind `--images` names no images, then those of
+/// `Options::new`.
 pub fn options_of(words: OptionWords) -> Result<Options, Refusal>
     ensures { MatchResult result (λ o. AskFor words o) (λ r. words_refusal words ≡ Some r) }
 {
@@ -138,5 +146,8 @@ pub fn options_of(words: OptionWords) -> Result<Options, Refusal>
     let Some(flushes) = words.flushes else {
         return Err(option_refusal_of(OptionPlace::Flush));
     };
-    options_with(&words, kind, by, flushes)
+    let Some(extent) = words.images else {
+        return Err(option_refusal_of(OptionPlace::Images));
+    };
+    options_with(&words, kind, by, flushes, extent)
 }

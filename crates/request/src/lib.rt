@@ -12,11 +12,11 @@
 //! | `options_of(words)` | the same, of options as the words of a command line have them |
 //! | `trial_of(words)` | tests what a run of a program on one image is asked |
 //! | `read_log(alloc, bytes, initial, options)` | the log that bytes are, for a device of that size, over what it held before, with the flushes that are added |
-//! | `planned(alloc, log, options)` | the plan of a log by the options, with how many crash images it has |
+//! | `plan_of(alloc, log, options)` | the plan of a log by the options, with how many crash images it has |
 //! | `option_refusal_of(place)`, `unreadable(place)`, `bytes_refusal_of(fault)` | the refusal of an option, of a file, and of a program's bytes |
 //! | `fault_line(alloc, refusal)` | the line that a refusal prints |
 //!
-//! `Request` has a variant for each command, with the options that the command takes, and `Which` says which crash image is
+//! `Extent` says how many images a run may have and which of them are meant. `Request` has a variant for each command, with the options that the command takes, and `Which` says which crash image is
 //! meant. `MOST_PROGRAMS` is a limit that more crates than this one need.
 //!
 //! # What is proved
@@ -30,24 +30,45 @@
 //! Where `read_log` answers a log, the bytes are a text of a log for that device that has all entries and cuts that are named, and
 //! the answer is that log over the initial content that is given, with the flushes that are added (`IsLogOf`). Where it refuses
 //! them, the initial content is longer than the device, or it names the first fault of the bytes, or the first entry or cut that
-//! the log doesn't have. `planned` answers the plan of the log with the kinds of cuts and parts that are asked for, and the number of
-//! its crash images, at most 16,777,216; it refuses a log that has more, by the first cut with which there are more
-//! (`specs/Source.antt`). Memory may run out in both. `fault_line` is `refused`, the number of the cause, its place and, if one
+//! the log doesn't have. `plan_of` answers the plan of the log with the kinds of cuts and parts that are asked for, and the number of
+//! its crash images, at most as many as an `Extent` allows: 16,777,216, or where a part of the run is asked for, fewer than 2^63. It
+//! refuses a log that has more, by the first cut with which there are more, and then one that lacks images of the part
+//! (`specs/Source.antt`, `specs/Extents.antt`). Memory may run out in both. `fault_line` is `refused`, the number of the cause, its place and, if one
 //! is at fault, the program (`specs/FaultLine.antt`).
 //!
 //! # Example
 //!
-//! ```text
-//! let options = Options::new(&Settings { sectors: 1, cuts: Cuts::ALL, bound: 0, .. })?;
+//! ```
+//! use epochs::{By, Cuts};
+//! use limits::Limits;
+//! use request::{Extent, Options, Settings, fault_line, plan_of, read_log};
+//!
+//! let mut settings = Settings {
+//!     sectors: 1,
+//!     limits: Limits::Usual,
+//!     cuts: Cuts::ALL,
+//!     bound: 0,
+//!     tears: false,
+//!     by: By::Sector,
+//!     workers: 1,
+//!     cache: 16,
+//!     checked: None,
+//!     first: false,
+//!     extent: Extent::Whole,
+//! };
+//! let options = Options::new(&settings)?;
 //! let log = read_log(alloc, bytes, &[], &options)?;
-//! let (plan, images) = planned(alloc, &log, &options)?;
+//! let (plan, images) = plan_of(alloc, &log, &options)?;
 //! // a log without entries has one cut, and of it one image
-//! let refusal = Options::new(&Settings { sectors: 0, .. });
-//! // Err: fault_line says "refused 13 at 1"
+//! settings.sectors = 0;
+//! if let Err(refusal) = Options::new(&settings) {
+//!     let line = fault_line(alloc, &refusal)?;    // "refused 13 at 1"
+//! }
 //! ```
 #![tactic(auto)]
 
 mod command;
+mod extent;
 mod options;
 mod refusals;
 mod settings;
@@ -55,8 +76,9 @@ mod source;
 mod trials;
 
 pub use command::{OptionWords, Request, Which, options_of};
+pub use extent::Extent;
 pub use options::{MOST_PROGRAMS, Options};
 pub use refusals::{bytes_refusal_of, fault_line, option_refusal_of, unreadable};
 pub use settings::{OptionPlace, Settings, Telling};
-pub use source::{log_refusal_of, planned, read_log};
+pub use source::{log_refusal_of, plan_of, read_log};
 pub use trials::{Trial, TrialWords, trial_of};

@@ -2,8 +2,10 @@
 
 ghost use Rattle.std.specs.Prelude.{◌≡◌, ◌≤◌, MatchResult, IfOk, None, Some, not, nat_le, true};
 ghost use Rattle.std.specs.Option.{option_map_or};
+ghost use Rattle.request.specs.Extents.{is_extent};
 ghost use Rattle.request.specs.Settings.{settings_refusal, is_ordered, IsAsked};
 
+use crate::extent::Extent;
 use crate::refusals::option_refusal_of;
 use crate::settings::{OptionPlace, Settings};
 use base::refusal::Refusal;
@@ -39,6 +41,7 @@ pub struct Options {
     cache: u32,
     checked: Option<u64>,
     first: bool,
+    extent: Extent,
 }
 
 impl Model for Options {
@@ -47,9 +50,9 @@ impl Model for Options {
 
     ghost Value = { Settings };
 
-    ghost view = { λ o. record { sectors = o.sectors; limits = o.limits; cuts = o.cuts; bound = o.bound; tears = o.tears; by = o.by; workers = o.workers; cache = o.cache; checked = o.checked; first = o.first } };
+    ghost view = { λ o. record { sectors = o.sectors; limits = o.limits; cuts = o.cuts; bound = o.bound; tears = o.tears; by = o.by; workers = o.workers; cache = o.cache; checked = o.checked; first = o.first; extent = o.extent } };
 
-    ghost invariant = { λ o. IsAsked (record { sectors = o.sectors; limits = o.limits; cuts = o.cuts; bound = o.bound; tears = o.tears; by = o.by; workers = o.workers; cache = o.cache; checked = o.checked; first = o.first }) };
+    ghost invariant = { λ o. IsAsked (record { sectors = o.sectors; limits = o.limits; cuts = o.cuts; bound = o.bound; tears = o.tears; by = o.by; workers = o.workers; cache = o.cache; checked = o.checked; first = o.first; extent = o.extent }) };
 }
 
 /// Whether there is a limit of steps that is too great.
@@ -102,6 +105,9 @@ impl Options {
         if is_reversed(&settings.cuts) {
             return Err(option_refusal_of(OptionPlace::Range));
         }
+        if !settings.extent.is_extent() {
+            return Err(option_refusal_of(OptionPlace::Images));
+        }
         Ok(Options {
             sectors: settings.sectors as u32,
             limits: settings.limits,
@@ -113,6 +119,7 @@ impl Options {
             cache: settings.cache as u32,
             checked: settings.checked,
             first: settings.first,
+            extent: settings.extent,
         })
     }
 
@@ -181,8 +188,16 @@ impl Options {
         self.first
     }
 
+    /// How many images the run may have, and which of them are meant.
+    pub fn extent(&self) -> Extent
+        ensures value { result ≡ self.now.extent }
+        ensures good { is_extent result ≡ true }
+    {
+        self.extent
+    }
+
     /// The limit of steps of a program, where there is one.
-    pub fn checked(&self) -> Option<u64>
+    pub fn step_limit(&self) -> Option<u64>
         ensures { result ≡ self.now.checked }
     {
         self.checked

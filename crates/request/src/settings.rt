@@ -3,6 +3,7 @@
 ghost use Rattle.std.specs.Prelude.{◌≡◌};
 ghost use Rattle.request.specs.Places.{place_number};
 
+use crate::extent::Extent;
 use epochs::{By, Cuts};
 use limits::Limits;
 
@@ -29,6 +30,8 @@ pub struct Settings {
     pub checked: Option<u64>,
     /// Whether the first failing image is all that is asked for.
     pub first: bool,
+    /// How many images the run may have, and which of them are meant.
+    pub extent: Extent,
 }
 
 /// What a run is to tell of the failing images.
@@ -69,6 +72,10 @@ pub enum OptionPlace {
     Epoch = 15,
     /// The number of marks that it is told.
     Marks = 16,
+    /// Which images of a run are meant.
+    Images = 17,
+    /// In how many parts a run is to be laid out.
+    Parts = 18,
 }
 
 impl OptionPlace {

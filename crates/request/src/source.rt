@@ -1,10 +1,11 @@
 //! What every command reads of a log: the log itself, and the number of the crash images that are
 //! asked for of it.
 
-ghost use Rattle.std.specs.Prelude.{◌≡◌, ◌≤◌, ◌*◌, ◌⊎◌, length, filter, nat_le, slice_get, IfOk, IfErr};
+ghost use Rattle.std.specs.Prelude.{◌≡◌, ◌≤◌, true, ◌*◌, ◌⊎◌, length, filter, nat_le, slice_get, IfOk, IfErr};
 ghost use Rattle.base.specs.declared.causes.LogCause.TheVariants as cause;
 ghost use Rattle.logfmt.specs.Faults.{FirstFault};
-ghost use Rattle.choices.specs.Choices.{ranked_choices, limit};
+ghost use Rattle.choices.specs.Choices.{ranked_choices};
+ghost use Rattle.request.specs.Extents.{most_images, has_extent};
 ghost use Rattle.request.specs.Source.{log_refusal, images_refusal, lacking_refusal, cut_past, either, lacking, plan_of, images_of, IsRecorded, IsLogOf, RefusesLog, RefusesPlan};
 
 use crate::options::Options;
@@ -12,7 +13,7 @@ use crate::refusals::option_refusal_of;
 use crate::settings::OptionPlace;
 use base::causes::{LogCause, RequestCause};
 use base::refusal::{Cause, Refusal};
-use choices::{TooMany, count};
+use choices::{TooMany, count_up_to};
 use epochs::{Cuts, Plan};
 use logfmt::{InitialContent, Log, LogFault, SECTOR, read};
 use std::alloc::Global;
@@ -97,7 +98,12 @@ fn first_lacking(cuts: &Cuts, count: usize) -> Option<u64>
 }
 
 /// The log of these bytes, for a device of the options' size, over what it held before entry 0.
-fn recorded(alloc: Global, bytes: &[u8], initial: &[u8], options: &Options) -> Result<Log, LogFault>
+fn log_over_base(
+    alloc: Global,
+    bytes: &[u8],
+    initial: &[u8],
+    options: &Options,
+) -> Result<Log, LogFault>
     requires { length initial.now ≤ 512 * options.now.sectors }
     ensures log { IfOk result (IsRecorded (record { text = bytes.now; initial = initial.now }) options.now) }
     ensures fault { IfErr result (λ f. (f ≡ record { code = cause.Memory; at = 0 }) ⊎ FirstFault bytes.now options.now.sectors options.now.limits f.code f.at) }
@@ -134,14 +140,14 @@ pub fn read_log(
     if initial.len() > SECTOR * options.sectors() as usize {
         return Err(option_refusal_of(OptionPlace::Base));
     }
-    let log = match recorded(alloc, bytes, initial, options) {
+    let log = match log_over_base(alloc, bytes, initial, options) {
         Ok(log) => log,
         Err(fault) => return Err(log_refusal_of(fault)),
     };
     let cuts = options.cuts();
     match first_lacking(&cuts, log.entries().len()) {
         Some(place) => Err(lacking_refusal_of(place)),
-        None => Ok(log.flushed(cuts.flushes.places())),
+        None => Ok(log.with_flushes(cuts.flushes.places())),
     }
 }
 
@@ -149,23 +155,29 @@ pub fn read_log(
 ///
 /// # Errors
 ///
-/// 12 at the first cut with which there are too many images; or want of memory.
-pub fn planned<'a>(
+/// 12 at the first cut with which there are too many images; 13 at 17 where there are fewer than are meant; or want of memory.
+pub fn plan_of<'a>(
     alloc: Global,
     log: &'a Log,
     options: &Options,
 ) -> Result<(Plan<'a>, u64), Refusal>
     ensures plan { IfOk result (λ p. p.0 ≡ plan_of options.now log.now) }
     ensures count { IfOk result (λ p. p.1 ≡ length (images_of options.now log.now)) }
-    ensures few { IfOk result (λ p. p.1 ≤ limit) }
+    ensures few { IfOk result (λ p. p.1 ≤ most_images options.now.extent) }
+    ensures within { IfOk result (λ p. has_extent options.now.extent p.1 ≡ true) }
     ensures refused { IfErr result (RefusesPlan options.now log.now) }
 {
     let plan = match Plan::new(alloc, log, options.cuts(), options.by()) {
         Ok(plan) => plan,
         Err(_error) => return Err(Refusal::of_memory()),
     };
-    match count(&plan, options.bound(), options.tears()) {
-        Ok(images) => Ok((plan, images)),
-        Err(fault) => Err(images_refusal_of(fault)),
+    let extent = options.extent();
+    let images = match count_up_to(&plan, options.bound(), options.tears(), extent.most()) {
+        Ok(images) => images,
+        Err(fault) => return Err(images_refusal_of(fault)),
+    };
+    if !extent.is_within(images) {
+        return Err(option_refusal_of(OptionPlace::Images));
     }
+    Ok((plan, images))
 }

@@ -12,7 +12,7 @@ use Rattle.choices.specs.Choices.{ChoiceValue}
 use Rattle.checker.specs.Checker.{CheckerValue}
 use Rattle.machine.specs.Outcome.{Ending}
 use Rattle.lines.specs.Line.{FailingLine, fails}
-use Rattle.workers.specs.Failing.{Subject, choices_of, image_count, ending_at, line_if, line_at, line_of, image_lines, lines_from, failing_lines, part}
+use Rattle.workers.specs.Failing.{Subject, choices_of, judged_count, ending_at, line_if, line_at, line_of, image_lines, lines_from, failing_lines, part}
 use Rattle.workers.specs.Pieces.{block_count}
 use Rattle.explore_core.specs.declared.job.Job.{Job}
 use Rattle.explore_core.specs.Jobs.{all_jobs, block_at, failing}
@@ -95,17 +95,16 @@ abbrev rows : Subject → Numbers → ℕ → List Job
 rows s n k = flat_map (block_jobs s n) (range_with_len 0 k)
 
 block_after : (s : Subject) (n : Numbers) (k : ℕ)
-    → jobs_from s n 0 (min (64 * k) (image_count s)) ++ block_jobs s n k ≡ jobs_from s n 0 (min (64 * (k + 1)) (image_count s))
-block_after s n k = elim (cases_lt (image_count s) (64 * k)) [
+    → jobs_from s n s.from (min (64 * k) (judged_count s)) ++ block_jobs s n k ≡ jobs_from s n s.from (min (64 * (k + 1)) (judged_count s))
+block_after s n k = elim (cases_lt (judged_count s) (64 * k)) [
   | inl less ↦
-      let none : min 64 (image_count s - 64 * k) ≡ 0 = omega (arith, less) in
-      let same : min (64 * k) (image_count s) ≡ min (64 * (k + 1)) (image_count s) = omega (arith, less) in
-      rw (none, same) (append-nil (jobs_from s n 0 (min (64 * (k + 1)) (image_count s))))
+      let none : min 64 (judged_count s - 64 * k) ≡ 0 = omega (arith, less) in
+      let same : min (64 * k) (judged_count s) ≡ min (64 * (k + 1)) (judged_count s) = omega (arith, less) in
+      rw (none, same) (append-nil (jobs_from s n s.from (min (64 * (k + 1)) (judged_count s))))
   | inr more ↦
-      let e : min (64 * k) (image_count s) ≡ 64 * k = omega (arith, more) in
-      let f : min (64 * (k + 1)) (image_count s) ≡ 64 * k + min 64 (image_count s - 64 * k) = omega (arith, more) in
-      let z : 0 + 64 * k ≡ 64 * k = omega arith in
-      rw (e, f, range_with_len-append 0 (64 * k) (min 64 (image_count s - 64 * k)), z, flat_map-append (image_jobs s n) (range_with_len 0 (64 * k)) (range_with_len (64 * k) (min 64 (image_count s - 64 * k)))) refl
+      let e : min (64 * k) (judged_count s) ≡ 64 * k = omega (arith, more) in
+      let f : min (64 * (k + 1)) (judged_count s) ≡ 64 * k + min 64 (judged_count s - 64 * k) = omega (arith, more) in
+      rw (e, f, range_with_len-append s.from (64 * k) (min 64 (judged_count s - 64 * k)), flat_map-append (image_jobs s n) (range_with_len s.from (64 * k)) (range_with_len (s.from + 64 * k) (min 64 (judged_count s - 64 * k)))) refl
 ]
 
 row_more : (s : Subject) (n : Numbers) (k : ℕ) → rows s n (k + 1) ≡ rows s n k ++ block_jobs s n k
@@ -113,22 +112,22 @@ row_more s n k =
     let z : 0 + k ≡ k = omega arith in
     rw (range_with_len-more 0 k, z, flat_map-append (block_jobs s n) (range_with_len 0 k) (k ∷ []), append-nil (block_jobs s n k)) refl
 
-joined : (s : Subject) (n : Numbers) (k : ℕ) → rows s n k ≡ jobs_from s n 0 (min (64 * k) (image_count s))
-joined s n zero = let e : min (64 * 0) (image_count s) ≡ 0 = omega arith in rw e refl
+joined : (s : Subject) (n : Numbers) (k : ℕ) → rows s n k ≡ jobs_from s n s.from (min (64 * k) (judged_count s))
+joined s n zero = let e : min (64 * 0) (judged_count s) ≡ 0 = omega arith in rw e refl
 joined s n (suc k) =
     let e : k + 1 ≡ suc k = omega arith in
-    subst (λ m. rows s n m ≡ jobs_from s n 0 (min (64 * m) (image_count s))) e
+    subst (λ m. rows s n m ≡ jobs_from s n s.from (min (64 * m) (judged_count s))) e
     (row_more s n k ∙ ap (λ (js : List Job). js ++ block_jobs s n k) (joined s n k) ∙ block_after s n k)
 
-pub all_is : (s : Subject) (n : Numbers) → all_jobs (jobs_of s n) ≡ jobs_from s n 0 (image_count s)
+pub all_is : (s : Subject) (n : Numbers) → all_jobs (jobs_of s n) ≡ jobs_from s n s.from (judged_count s)
 all_is s n =
-    let e : min (64 * block_count s) (image_count s) ≡ image_count s = omega arith in
-    flattened (block_jobs s n) (range_with_len 0 (block_count s)) ∙ joined s n (block_count s) ∙ ap (λ k. jobs_from s n 0 k) e
+    let e : min (64 * block_count s) (judged_count s) ≡ judged_count s = omega arith in
+    flattened (block_jobs s n) (range_with_len 0 (block_count s)) ∙ joined s n (block_count s) ∙ ap (λ k. jobs_from s n s.from k) e
 
 pub each_fails : (s : Subject) (n : Numbers) (b : ℕ) → b < block_count s → failing (block_at (jobs_of s n) b) ≡ map (job_of_line n) (part s b)
 unfolding part
-each_fails s n b lt = ap failing (block_is s n b lt) ∙ failing_images s n (64 * b) (min 64 (image_count s - 64 * b))
+each_fails s n b lt = ap failing (block_is s n b lt) ∙ failing_images s n (s.from + 64 * b) (min 64 (judged_count s - 64 * b))
 
 pub all_fail : (s : Subject) (n : Numbers) → failing (all_jobs (jobs_of s n)) ≡ map (job_of_line n) (failing_lines s)
 unfolding failing_lines
-all_fail s n = ap failing (all_is s n) ∙ failing_images s n 0 (image_count s)
+all_fail s n = ap failing (all_is s n) ∙ failing_images s n s.from (judged_count s)

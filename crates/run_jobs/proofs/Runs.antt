@@ -2,7 +2,7 @@
 use Rattle.std.proofs.Common.{ℕ, zero, suc, ◌≡◌, ◌+◌, List, length, map, refl, sym, ◌∙◌, ap, subst, arith}
 use Rattle.std.specs.List.{range_with_len}
 use Rattle.verdict_cache.specs.Laws.{OneImageTells}
-use Rattle.workers.specs.Failing.{Subject, image_count}
+use Rattle.workers.specs.Failing.{Subject, judged_count}
 use Rattle.workers.specs.Pieces.{block_count}
 use Rattle.explore_core.specs.declared.job.Job.{Job}
 use Rattle.explore_core.specs.Jobs.{Rise, Agree, all_jobs, failing}
@@ -24,13 +24,13 @@ runs_are_jobs tell s n numbers =
     let all = sym (all_is s n) in
     record {
       jobs = record {
-        rise = subst (Rise 0) all (rise_images s n 0 0 (image_count s) (omega arith));
-        agree = subst Agree all (agree_images s n 0 (image_count s) tell numbers);
+        rise = subst (Rise 0) all (rise_images s n 0 s.from (judged_count s) (omega arith));
+        agree = subst Agree all (agree_images s n s.from (judged_count s) tell numbers);
       };
       blocks = as_many s n;
       each = each_fails s n;
       all = all_fail s n;
-      fail = subst FailByOutcome all (fail_images s n 0 (image_count s) numbers);
+      fail = subst FailByOutcome all (fail_images s n s.from (judged_count s) numbers);
     }
 
 pub events_find : RunsAreJobs → WholeIsFailing → EventsFindFailingLines

@@ -1,5 +1,5 @@
 -- The jobs of a run: each image with each checker (docs/PROVED.md, The exploration as a list of events).
-use Rattle.std.specs.Prelude.{ℕ, ◌≡◌, ◌⊎◌, ◌-◌, ◌*◌, min, List, length, map, Option, option_map, Some, slice_get}
+use Rattle.std.specs.Prelude.{ℕ, ◌≡◌, ◌⊎◌, ◌+◌, ◌-◌, ◌*◌, min, List, length, map, Option, option_map, Some, slice_get}
 use Rattle.std.specs.Option.{option_and_then}
 use Rattle.std.specs.List.{filter_map, flat_map, range_with_len}
 use Rattle.choices.specs.Choices.{ChoiceValue}
@@ -7,7 +7,7 @@ use Rattle.machine.specs.Outcome.{Ending}
 use Rattle.images.specs.Views.{view_of}
 use Rattle.images.specs.Keys.{KeyValue, key_of}
 use Rattle.lines.specs.Line.{FailingLine, fails}
-use Rattle.workers.specs.Failing.{Subject, choices_of, image_count, ending_at}
+use Rattle.workers.specs.Failing.{Subject, choices_of, judged_count, ending_at}
 use Rattle.workers.specs.Pieces.{block_count}
 use Rattle.explore_core.specs.declared.job.Job.{Job}
 
@@ -48,7 +48,7 @@ jobs_from s n a k = flat_map (image_jobs s n) (range_with_len a k)
 
 -- the jobs of a block: of 64 images in a row, or of those that are left
 abbrev pub block_jobs : Subject → Numbers → ℕ → List Job
-block_jobs s n block = jobs_from s n (64 * block) (min 64 (image_count s - 64 * block))
+block_jobs s n block = jobs_from s n (s.from + 64 * block) (min 64 (judged_count s - 64 * block))
 
 -- the jobs of a run, in its blocks
 abbrev pub jobs_of : Subject → Numbers → List (List Job)

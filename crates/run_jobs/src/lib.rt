@@ -2,7 +2,7 @@
 //! of events.
 //!
 //! `explore_core` speaks of any list of jobs, and `workers` of the images and checkers of a run. Here it is
-//! proved that the jobs of a run, each image with each checker, by image and then by checker, in the run's
+//! proved that the jobs of a run, each image that is judged with each checker, by image and then by checker, in the run's
 //! blocks, are one of those lists. So all that `explore_core` says of every list of events is said of the
 //! run.
 //!
@@ -24,6 +24,14 @@
 //!   passed over none, its pieces by block are the failing lines of the run.
 //!
 //! That the steps of a real run are such a list of events is no theorem: `log_tests` replays one.
+//!
+//! # Example
+//!
+//! ```text
+//! image 0, checker 0    Job { image: 0, key: 0, outcome: 0, fails: false }
+//! image 0, checker 1    Job { image: 0, key: 1, outcome: 1, fails: true }: a failing line of the run
+//! image 1, checker 0    Job { image: 1, key: 0, outcome: 0, fails: false }: of the same key as image 0
+//! ```
 #![tactic(auto)]
 
 mod laws;

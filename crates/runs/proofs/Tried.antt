@@ -1,10 +1,11 @@
 -- What a run of a log finds, by the marks of its failing lines.
-use Rattle.std.proofs.Common.{ℕ, ◌≡◌, ◌⊎◌, inl, inr, Bool, List, refl, sym, ◌∙◌, ap, subst}
+use Rattle.std.proofs.Common.{ℕ, ◌≡◌, ◌⊎◌, inl, inr, Bool, false, List, length, refl, sym, ◌∙◌, ap, subst}
+use Rattle.std.proofs.lemmas.Bool.{false≢true}
 use Rattle.base.specs.declared.refusal.Refusal.{Refusal}
 use Rattle.base.specs.Refusals.{memory_refusal}
 use Rattle.logfmt.specs.Bounds.{LogValue}
 use Rattle.epochs.specs.Plan.{PlanValue}
-use Rattle.choices.specs.Choices.{IsFirstPast}
+use Rattle.choices.specs.Choices.{IsFirstPast, IsFirstPastOf}
 use Rattle.choices.specs.Sums.{StartsValue}
 use Rattle.checker.specs.Checker.{CheckerValue}
 use Rattle.lines.specs.Line.{FailingLine}
@@ -14,7 +15,10 @@ use Rattle.workers.specs.Laws.{LinesAreSet}
 use Rattle.cure.specs.declared.failure.Failure.{Failure}
 use Rattle.cure.specs.Failures.{AreFailuresAt}
 use Rattle.request.specs.declared.settings.Settings.{Settings}
-use Rattle.request.specs.Source.{plan_of, images_refusal, RefusesPlan, too_many, no_plan_memory}
+use Rattle.request.specs.declared.extent.Extent.{Extent}
+use Rattle.request.specs.declared.extent.Extent.TheVariants as extent
+use Rattle.request.specs.Extents.{most_images, has_extent}
+use Rattle.request.specs.Source.{plan_of, images_of, images_refusal, RefusesPlan, too_many, lacks_images, no_plan_memory}
 use Rattle.runs.specs.Why.{starts_of}
 use Rattle.runs.specs.Cured.{run_lines}
 use Rattle.runs.specs.Trials.{HasFailures}
@@ -40,11 +44,19 @@ failures_found law s value checkers starts ls ms fs is found marks at =
       calm = own.calm;
     }
 
--- a run is refused for its images, or for want of memory
-pub run_refused : (s : Settings) (value : LogValue) (r : Refusal) → RefusesPlan s value r → (r ≡ images_refusal r.at) ⊎ (r ≡ memory_refusal)
-run_refused s value r (too_many cut past) = inl refl
-run_refused s value r no_plan_memory = inr refl
+-- all images are there
+none_lacks : (s : Settings) (value : LogValue) → s.extent ≡ extent.Whole → has_extent s.extent (length (images_of s value)) ≡ false → ⊥
+none_lacks s value whole lack =
+    false≢true (sym lack ∙ ap (λ (e : Extent). has_extent e (length (images_of s value))) whole)
 
-pub past_of : (s : Settings) (value : LogValue) (r : Refusal) → RefusesPlan s value r → r ≡ images_refusal r.at → IsFirstPast (plan_of s value) s.bound s.tears r.at
-past_of s value r (too_many cut past) same = past
-past_of s value r no_plan_memory same = absurd (let bad : memory_refusal.code ≡ (images_refusal 0).code = ap (λ (x : Refusal). x.code) same in cc)
+-- a run of all images is refused for their number, or for want of memory
+pub run_refused : (s : Settings) (value : LogValue) (r : Refusal) → s.extent ≡ extent.Whole → RefusesPlan s value r → (r ≡ images_refusal r.at) ⊎ (r ≡ memory_refusal)
+run_refused s value r whole (too_many cut past) = inl refl
+run_refused s value r whole (lacks_images few lack) = absurd (none_lacks s value whole lack)
+run_refused s value r whole no_plan_memory = inr refl
+
+pub past_of : (s : Settings) (value : LogValue) (r : Refusal) → s.extent ≡ extent.Whole → RefusesPlan s value r → r ≡ images_refusal r.at
+    → IsFirstPast (plan_of s value) s.bound s.tears r.at
+past_of s value r whole (too_many cut past) same = subst (λ (e : Extent). IsFirstPastOf (most_images e) (plan_of s value) s.bound s.tears cut) whole past
+past_of s value r whole (lacks_images few lack) same = absurd (none_lacks s value whole lack)
+past_of s value r whole no_plan_memory same = absurd (let bad : memory_refusal.code ≡ (images_refusal 0).code = ap (λ (x : Refusal). x.code) same in cc)

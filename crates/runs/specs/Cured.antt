@@ -17,6 +17,7 @@ use Rattle.request.specs.Source.{Recording, plan_of, images_of}
 use Rattle.runs.specs.declared.explore_command.Wanted.{Wanted}
 use Rattle.runs.specs.declared.explore_command.Wanted.TheVariants as wanted
 use Rattle.runs.specs.Explore.{IsRun, subject_of, head_of}
+use Rattle.runs.specs.Inputs.{inputs_number}
 use Rattle.runs.specs.Why.{Tells, with_first}
 
 -- the failing lines of a run of a log
@@ -72,10 +73,10 @@ abbrev pub IsCured : Recording → List (List ℕ) → Settings → List ℕ →
 IsCured text files s bytes failing = IsRun TellsCure text files s bytes failing
 
 -- what the bytes of a run tell that is asked for this: what is told of it, or where flushes are missing, run by run
-abbrev pub TellsWanted : Wanted → Settings → LogValue → List CheckerValue → List ℕ → Type 0
-TellsWanted (wanted.Told t) s value checkers bytes = Tells t s value checkers bytes
-TellsWanted wanted.Cured s value checkers bytes = TellsCure s value checkers bytes
+abbrev pub TellsWanted : Wanted → ℕ → Settings → LogValue → List CheckerValue → List ℕ → Type 0
+TellsWanted (wanted.Told t) inputs s value checkers bytes = Tells t inputs s value checkers bytes
+TellsWanted wanted.Cured inputs s value checkers bytes = TellsCure s value checkers bytes
 
 -- what a run answers that is asked for this
 abbrev pub IsAnswered : Wanted → Recording → List (List ℕ) → Settings → List ℕ → Bool → Type 0
-IsAnswered w text files s bytes failing = IsRun (λ s value checkers bytes. TellsWanted w s value checkers bytes) text files s bytes failing
+IsAnswered w text files s bytes failing = IsRun (λ s value checkers bytes. TellsWanted w (inputs_number text.text files) s value checkers bytes) text files s bytes failing

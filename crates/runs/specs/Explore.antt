@@ -1,5 +1,5 @@
 -- What a run answers, and when it refuses (docs/REPORT.md).
-use Rattle.std.specs.Prelude.{ℕ, ◌≡◌, ◌≢◌, ◌≤◌, Bool, IsTrue, ◌↔◌, List, [], ◌∷◌, length, map, take, Option, None, Some, is_some, slice_get}
+use Rattle.std.specs.Prelude.{ℕ, ◌≡◌, ◌≢◌, ◌≤◌, Bool, true, false, IsTrue, ◌↔◌, List, [], ◌∷◌, length, map, take, Option, None, Some, is_some, slice_get}
 use Rattle.base.specs.declared.causes.CodeCause.TheVariants as code
 use Rattle.base.specs.declared.causes.VerifierCause.TheVariants as verifier
 use Rattle.base.specs.declared.refusal.Refusal.{Refusal}
@@ -11,14 +11,20 @@ use Rattle.bpf_isa.specs.Program as code_fault
 use Rattle.checker.specs.Checker.{CheckerValue}
 use Rattle.report.specs.declared.head.ProgramHead.{ProgramHead}
 use Rattle.report.specs.Report.{HeadValue, report_bytes}
+use Rattle.report.specs.Part.{span_report}
 use Rattle.lines.specs.Line.{FailingLine}
 use Rattle.workers.specs.Failing.{Subject, failing_lines}
 use Rattle.workers.specs.Safe.{IsVerdict, RunsSafely}
+use Rattle.request.specs.declared.extent.Extent.{Extent}
+use Rattle.request.specs.declared.extent.Extent.TheVariants as extent
 use Rattle.request.specs.declared.settings.OptionPlace.TheVariants as place
 use Rattle.request.specs.declared.settings.Settings.{Settings}
 use Rattle.request.specs.Settings.{option_refusal}
 use Rattle.runs.specs.Programs.{IsRunWithin, code_refusal, IsCodeFault, verifier_refusal, IsVerifierFault}
 use Rattle.request.specs.Source.{Recording, plan_of, images_of, HasImages, RefusesSource}
+use Rattle.runs.specs.declared.explore_command.Wanted.{Wanted}
+use Rattle.runs.specs.Inputs.{inputs_number}
+use Rattle.runs.specs.Judged.{first_judged, judged_end, takes}
 
 -- a run has one program to eight
 pub record IsProgramCount (n : ℕ) : Type 0 where
@@ -40,7 +46,15 @@ AreCheckersOf s (bytes ∷ files) (c ∷ checkers) = IsCheckerOf s bytes c × Ar
 
 -- what is judged, and what stands at the head of the report
 abbrev pub subject_of : Settings → LogValue → List CheckerValue → Subject
-subject_of s value checkers = record { plan = plan_of s value; checkers = checkers; bound = s.bound; tears = s.tears; first = s.first }
+subject_of s value checkers = record {
+  plan = plan_of s value;
+  checkers = checkers;
+  bound = s.bound;
+  tears = s.tears;
+  from = first_judged s.extent;
+  to = judged_end s.extent (length (images_of s value));
+  first = s.first;
+}
 
 abbrev pub program_head : CheckerValue → ProgramHead
 program_head checker = record { slots = length checker.program; limit = checker.limit; verified = is_some checker.verified }
@@ -59,9 +73,15 @@ head_of s value checkers = record {
   base = initial_number value;
 }
 
--- the report of a log and of checkers: of all failing lines, or of the first failing image alone
-abbrev pub report_of : Settings → LogValue → List CheckerValue → List ℕ
-report_of s value checkers = report_bytes (head_of s value checkers) (failing_lines (subject_of s value checkers))
+-- the text of the images that are meant: the report of all images, or the text of a part, which names the number of the inputs
+abbrev pub images_text : Extent → ℕ → HeadValue → List FailingLine → List ℕ
+images_text extent.Whole inputs h ls = report_bytes h ls
+images_text extent.Wide inputs h ls = report_bytes h ls
+images_text (extent.Part from to) inputs h ls = span_report h (record { from = from; to = to; images = h.images; inputs = inputs }) ls
+
+-- the report of a log and of checkers: of all failing lines of the images that are meant, or of the first failing one of them alone
+abbrev pub report_of : ℕ → Settings → LogValue → List CheckerValue → List ℕ
+report_of inputs s value checkers = images_text s.extent inputs (head_of s value checkers) (failing_lines (subject_of s value checkers))
 
 -- No program has a fault or spends its limit: on each image each ends in the machine's verdict within the limit
 -- that the report prints, and each line is that of a verdict.
@@ -81,9 +101,9 @@ pub record IsRun (Tells : Settings → LogValue → List CheckerValue → List �
   pub fails : IsTrue failing ↔ (failing_lines (subject_of s value checkers) ≢ [])
   pub faultless : s.checked ≡ None → IsFaultless (subject_of s value checkers)
 
--- the bytes report every failing image of the log and no other, or the first alone where that is asked for
+-- the bytes report every failing image of the log, of those that are meant, and no other, or the first alone where that is asked for
 abbrev pub IsReport : Recording → List (List ℕ) → Settings → List ℕ → Bool → Type 0
-IsReport text files s bytes failing = IsRun (λ s value checkers bytes. bytes ≡ report_of s value checkers) text files s bytes failing
+IsReport text files s bytes failing = IsRun (λ s value checkers bytes. bytes ≡ report_of (inputs_number text.text files) s value checkers) text files s bytes failing
 
 -- the same, whether or not there is a failing image
 abbrev pub HasReport : Recording → List (List ℕ) → Settings → List ℕ → Type 0
@@ -110,3 +130,8 @@ pub data Refuses (text : Recording) (files : List (List ℕ)) (s : Settings) : R
   for_count : (IsProgramCount (length files) → ⊥) → Refuses text files s (option_refusal place.Programs)
   for_source : (r : Refusal) → IsProgramCount (length files) → RefusesSource text s r → Refuses text files s r
   for_program : (r : Refusal) (value : LogValue) → IsProgramCount (length files) → HasImages text s value → RefusesProgram s files r → Refuses text files s r
+
+-- a run is refused that doesn't judge the images that are meant; every other one by these rules
+pub data RefusesWanted (w : Wanted) (text : Recording) (files : List (List ℕ)) (s : Settings) : Refusal → Type 0 where
+  for_extent : takes w s.extent ≡ false → RefusesWanted w text files s (option_refusal place.Images)
+  for_rest : (r : Refusal) → takes w s.extent ≡ true → Refuses text files s r → RefusesWanted w text files s r

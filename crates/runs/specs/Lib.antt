@@ -1,5 +1,7 @@
 -- What a run explores, what it finds, and how it is told.
 pub mod Programs
+pub mod Judged
+pub mod Inputs
 pub mod Explore
 pub mod Paged
 pub mod Why

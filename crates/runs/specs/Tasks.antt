@@ -19,4 +19,4 @@ telling_in form.Text = telling.Causes
 telling_in form.Page = telling.Page
 
 abbrev pub TellsTask : Telling → Task → List ℕ → Type 0
-TellsTask telling t bytes = Tells telling t.options.now t.log.now t.checkers.now bytes
+TellsTask telling t bytes = Tells telling t.span.inputs t.options.now t.log.now t.checkers.now bytes

@@ -16,6 +16,7 @@ use Rattle.cure.specs.Failures.{AreFailures, windows_in}
 use Rattle.cure.specs.Text.{programs_text, missing_line}
 use Rattle.outcomes.specs.Outcomes.{outcomes_failing}
 use Rattle.workers.specs.Failing.{failing_lines}
+use Rattle.runs.specs.Inputs.{inputs_number}
 use Rattle.runs.specs.Paged.{IsPageOf}
 use Rattle.request.specs.declared.settings.Settings.{Settings}
 use Rattle.request.specs.declared.settings.Telling.{Telling}
@@ -84,6 +85,7 @@ with_first first s = record {
   cache = s.cache;
   checked = s.checked;
   first = first;
+  extent = s.extent;
 }
 
 -- the bytes say why the programs fail on the images of the log, by the failing lines
@@ -97,14 +99,14 @@ PageOfLines s value checkers ls bytes =
     IsPageOf (head_of (with_first false s) value checkers) (starts_of s value) (λ program. images_failing program ls) ls bytes
 
 -- what the bytes of a run are: the report, why programs fail, or the page of where they fail
-abbrev pub Tells : Telling → Settings → LogValue → List CheckerValue → List ℕ → Type 0
-Tells telling.Report s value checkers bytes = bytes ≡ report_of s value checkers
-Tells telling.Causes s value checkers bytes = TellsOfLines s value checkers (failing_lines (subject_of s value checkers)) bytes
-Tells telling.Page s value checkers bytes = PageOfLines s value checkers (failing_lines (subject_of s value checkers)) bytes
+abbrev pub Tells : Telling → ℕ → Settings → LogValue → List CheckerValue → List ℕ → Type 0
+Tells telling.Report inputs s value checkers bytes = bytes ≡ report_of inputs s value checkers
+Tells telling.Causes inputs s value checkers bytes = TellsOfLines s value checkers (failing_lines (subject_of s value checkers)) bytes
+Tells telling.Page inputs s value checkers bytes = PageOfLines s value checkers (failing_lines (subject_of s value checkers)) bytes
 
 -- what a run answers
 abbrev pub IsTold : Telling → Recording → List (List ℕ) → Settings → List ℕ → Bool → Type 0
-IsTold t text files s bytes failing = IsRun (λ s value checkers bytes. Tells t s value checkers bytes) text files s bytes failing
+IsTold t text files s bytes failing = IsRun (λ s value checkers bytes. Tells t (inputs_number text.text files) s value checkers bytes) text files s bytes failing
 
 -- the bytes say why the programs fail on the crash images of the log: what the report says of them, image by image
 abbrev pub IsExplained : Recording → List (List ℕ) → Settings → List ℕ → Bool → Type 0

@@ -27,8 +27,9 @@ pub(crate) struct Basis<'x> {
     pub ghost history_is: { history.now ≡ task.now.plan.now },
 }
 
-/// Judges the crash images of a task: all of them, or perhaps none behind the first failing one where that alone is asked for.
-pub(crate) fn worked<'x, G: Gate + Sync, R: Threads + Wait + Sync>(
+/// Judges the crash images that are meant of a task: all of them, or perhaps none behind the first failing one where that alone is
+/// asked for.
+pub(crate) fn judge_images<'x, G: Gate + Sync, R: Threads + Wait + Sync>(
     rt: &R,
     alloc: Global,
     gate: &G,
@@ -42,7 +43,7 @@ pub(crate) fn worked<'x, G: Gate + Sync, R: Threads + Wait + Sync>(
     ensures refused { IfErr result (λ r. r ≡ memory_refusal) }
 {
     let (task, starts, history) = (basis.task, basis.starts, basis.history);
-    let (plan, checkers, options, images) = (task.plan, task.checkers, task.options, task.images);
+    let (plan, checkers, options, span) = (task.plan, task.checkers, task.options, task.span);
     let (bound, tears) = (options.bound(), options.tears());
     let input = Input::new(
         &*plan,
@@ -53,10 +54,11 @@ pub(crate) fn worked<'x, G: Gate + Sync, R: Threads + Wait + Sync>(
         Asked {
             bound,
             tears,
+            from: span.from,
+            to: span.to,
             first,
             workers: options.workers(),
             cache: options.cache(),
-            images,
         },
     );
     explore_all(rt, alloc, gate, &input)

@@ -11,9 +11,11 @@ ghost use Rattle.flushes.specs.Places.{AreWindows};
 ghost use Rattle.flushes.specs.Counted.{AreMissing};
 ghost use Rattle.cure.specs.Failures.{windows_in, places_in, calm_entries, HoldNoFlush};
 ghost use Rattle.cure.specs.Text.{begin_text, uncured_text, flush_line, refused_line};
+ghost use Rattle.request.specs.declared.extent.Extent.TheVariants as extent;
 ghost use Rattle.request.specs.Source.{RefusesPlan, images_refusal};
 ghost use Rattle.report.specs.Report.{totals_line};
-ghost use Rattle.runs.specs.Explore.{Refuses};
+ghost use Rattle.runs.specs.declared.explore_command.Wanted.TheVariants as wants;
+ghost use Rattle.runs.specs.Explore.{RefusesWanted};
 ghost use Rattle.runs.specs.Tasks.{lines_of};
 ghost use Rattle.runs.specs.Why.{starts_of};
 ghost use Rattle.runs.specs.Cured.{IsCured, TellsCure, run_lines};
@@ -21,7 +23,7 @@ ghost use Rattle.facts.specs.Fewer.{FindsFewer};
 ghost use Rattle.runs.specs.Finds.{FindsBreach, FindsAll};
 ghost use Rattle.runs.specs.Trials.{HasFailures, IsFound, TellsOn};
 
-use crate::basis::{Basis, worked};
+use crate::basis::{Basis, judge_images};
 use crate::explore_command::{Explored, Question, Wanted, head_of_run, run_with};
 use crate::task::Task;
 use base::causes::RequestCause;
@@ -37,8 +39,8 @@ use flushes::Window;
 use images::History;
 use lines::Lines;
 use logfmt::Log;
-use report::{Head, put_totals};
-use request::{Options, planned};
+use report::{Head, Span, put_totals};
+use request::{Options, plan_of};
 use std::alloc::{AllocError, Global};
 use std::sync::Wait;
 use std::thread::Threads;
@@ -90,6 +92,7 @@ fn found_by(
     starts: &Starts<'_>,
     work: Work,
 ) -> Result<Found, AllocError>
+    requires whole { task.now.options.now.extent ≡ extent.Whole }
     requires starts { starts.now ≡ starts_of task.now.options.now task.now.log.now }
     requires order { IsNonDecreasing (map (λ l. l.image) work.lines) }
     requires lines { work.lines ≡ lines_of task.now }
@@ -111,6 +114,7 @@ fn found_in<'x, G: Gate + Sync, R: Threads + Wait + Sync>(
 ) -> Result<Found, Refusal>
     requires checkers { length task.now.checkers.now ≤ 8 }
     requires verified { AreFor task.now.options.now.sectors task.now.checkers.now }
+    requires whole { task.now.options.now.extent ≡ extent.Whole }
     ensures found { IfOk result (λ f. IsFound task.now.options.now task.now.checkers.now task.now.log.now f.head f.work.lines f.failures.items) }
     ensures refused { IfErr result (λ r. r ≡ memory_refusal) }
 {
@@ -129,7 +133,7 @@ fn found_in<'x, G: Gate + Sync, R: Threads + Wait + Sync>(
         starts: &starts,
         history: &history,
     };
-    let work = worked(rt, alloc, gate, &basis, false)?;
+    let work = judge_images(rt, alloc, gate, &basis, false)?;
     match found_by(alloc, task, &starts, work) {
         Ok(found) => Ok(found),
         Err(_error) => Err(Refusal::of_memory()),
@@ -146,17 +150,23 @@ fn found_of<G: Gate + Sync, R: Threads + Wait + Sync>(
 ) -> Result<Found, Refusal>
     requires checkers { length judges.now.checkers.now ≤ 8 }
     requires verified { AreFor judges.now.options.now.sectors judges.now.checkers.now }
+    requires whole { judges.now.options.now.extent ≡ extent.Whole }
     requires device { log.now.sectors ≡ judges.now.options.now.sectors }
     ensures found { IfOk result (λ f. IsFound judges.now.options.now judges.now.checkers.now log.now f.head f.work.lines f.failures.items) }
     ensures refused { IfErr result (RefusesPlan judges.now.options.now log.now) }
 {
-    let (plan, images) = planned(alloc, log, judges.options)?;
+    let (plan, images) = plan_of(alloc, log, judges.options)?;
     let task = Task {
         log,
         plan: &plan,
         checkers: judges.checkers,
         options: judges.options,
-        images,
+        span: Span {
+            from: 0,
+            to: images,
+            images,
+            inputs: 0,
+        },
     };
     found_in(rt, alloc, gate, &task)
 }
@@ -239,6 +249,7 @@ fn all_rounds<G: Gate + Sync, R: Threads + Wait + Sync>(
 ) -> Result<u64, Refusal>
     requires checkers { length judges.now.checkers.now ≤ 8 }
     requires verified { AreFor judges.now.options.now.sectors judges.now.checkers.now }
+    requires whole { judges.now.options.now.extent ≡ extent.Whole }
     requires log { IsLog first.log }
     requires device { first.log.sectors ≡ judges.now.options.now.sectors }
     requires found { IsFound judges.now.options.now judges.now.checkers.now first.log first.found.head first.found.work.lines first.found.failures.items }
@@ -281,7 +292,7 @@ fn begin_bytes(alloc: Global, found: &Found) -> Result<Vec<u8>, AllocError>
 }
 
 /// Both, one behind the other.
-fn joined(begin: Vec<u8>, rounds: &str) -> Result<Vec<u8>, Refusal>
+fn join_texts(begin: Vec<u8>, rounds: &str) -> Result<Vec<u8>, Refusal>
     ensures bytes { IfOk result (λ bytes. bytes.items ≡ begin.items ++ rounds.now) }
     ensures refused { IfErr result (λ r. r ≡ memory_refusal) }
 {
@@ -302,6 +313,7 @@ pub(crate) fn cured_log<G: Gate + Sync, R: Threads + Wait + Sync>(
 ) -> Result<Explored, Refusal>
     requires checkers { length judges.now.checkers.now ≤ 8 }
     requires verified { AreFor judges.now.options.now.sectors judges.now.checkers.now }
+    requires whole { judges.now.options.now.extent ≡ extent.Whole }
     requires log { IsLog log }
     requires device { log.sectors ≡ judges.now.options.now.sectors }
     ensures bytes { IfOk result (λ e. TellsCure judges.now.options.now log judges.now.checkers.now e.bytes.items) }
@@ -316,7 +328,7 @@ pub(crate) fn cured_log<G: Gate + Sync, R: Threads + Wait + Sync>(
     let failing = !found.work.lines.is_empty();
     let mut rounds = String::new(alloc);
     let hits = all_rounds(rt, alloc, gate, judges, &mut rounds, Trial { log, found })?;
-    let bytes = joined(begin, rounds.as_str())?;
+    let bytes = join_texts(begin, rounds.as_str())?;
     Ok(Explored {
         bytes,
         hits,
@@ -333,7 +345,7 @@ pub(crate) fn cured_log<G: Gate + Sync, R: Threads + Wait + Sync>(
 /// # Errors
 ///
 /// Those of `explore_with`, of the first run. A later run that has too many images ends the text.
-pub fn cured<G: Gate + Sync, R: Threads + Wait + Sync>(
+pub fn cure_run<G: Gate + Sync, R: Threads + Wait + Sync>(
     rt: &R,
     alloc: Global,
     gate: &G,
@@ -341,7 +353,7 @@ pub fn cured<G: Gate + Sync, R: Threads + Wait + Sync>(
     facts: &mut Facts,
 ) -> Result<Explored, Refusal>
     ensures cured { IfOk result (λ e. IsCured question.now.recording.now (map (λ f. f.items) question.now.programs.now) question.now.options.now e.bytes.items e.failing) }
-    ensures refused { IfErr result (Refuses question.now.recording.now (map (λ f. f.items) question.now.programs.now) question.now.options.now) }
+    ensures refused { IfErr result (RefusesWanted wants.Cured question.now.recording.now (map (λ f. f.items) question.now.programs.now) question.now.options.now) }
     ensures found { IfOk result (λ _. FindsAll question.now.recording.now (map (λ f. f.items) question.now.programs.now) question.now.options.now facts.new) }
     ensures breach { IfErr result (λ r. IfSome facts.new.breach (FindsBreach question.now.options.now.sectors (map (λ f. f.items) question.now.programs.now) r)) }
     ensures fewer { IfSome facts.new.fewer (FindsFewer question.now.recording.now question.now.options.now) }

@@ -1,13 +1,17 @@
 //! From the bytes of a log and of programs to the bytes of the report, or to why the programs fail.
 
-ghost use Rattle.std.specs.Prelude.{◌≡◌, ◌≢◌, ◌≤◌, ◌<◌, ◌+◌, ◌⊎◌, ◌↔◌, IsTrue, ◌++◌, ◌∷◌, [], length, map, false, IfOk, IfErr, IfSome, OnOk, None, Some};
+ghost use Rattle.std.specs.Prelude.{◌≡◌, ◌≢◌, ◌≤◌, ◌<◌, ◌+◌, ◌⊎◌, ◌↔◌, IsTrue, ◌++◌, ◌∷◌, [], length, map, true, false, IfOk, IfErr, IfSome, OnOk, None, Some};
 ghost use Rattle.base.specs.declared.causes.CodeCause.TheVariants as code;
 ghost use Rattle.bpf_isa.specs.Program.{IsSpelledBy, HasNoFault};
 ghost use Rattle.std.specs.List.Sorted.{IsNonDecreasing};
 ghost use Rattle.checker.specs.Checker.{AreFor};
 ghost use Rattle.base.specs.Refusals.{memory_refusal};
+ghost use Rattle.request.specs.Extents.{is_extent, most_images, has_extent};
 ghost use Rattle.request.specs.Source.{RefusesPlan};
-ghost use Rattle.runs.specs.Explore.{HasReport, IsReport, IsProgramCount, Refuses, program_head, head_of};
+ghost use Rattle.runs.specs.Explore.{HasReport, IsReport, IsProgramCount, Refuses, RefusesWanted, program_head, head_of};
+ghost use Rattle.runs.specs.Inputs.{inputs_number, number_told};
+ghost use Rattle.runs.specs.Judged.{takes, IsJudged};
+ghost use Rattle.runs.specs.declared.explore_command.Wanted.TheVariants as wants;
 ghost use Rattle.request.specs.declared.settings.Telling.TheVariants as tells;
 ghost use Rattle.runs.specs.Why.{with_first, first_asked, IsExplained, IsPaged};
 ghost use Rattle.runs.specs.Cured.{IsAnswered};
@@ -18,9 +22,10 @@ ghost use Rattle.runs.specs.Finds.{FindsNext, FindsUnreached, IsBreachOf, IsBrea
 ghost use Rattle.facts.specs.Found.{KeepsLog};
 ghost use Rattle.runs.specs.Programs.{IsRunWithin, IsCodeFault, IsUnaccepted, code_refusal, verifier_refusal, AreDecoded, AreFirstMade, RefusesOneOf};
 
-use crate::basis::{Basis, worked};
+use crate::basis::{Basis, judge_images};
 use crate::causes::causes_text;
 use crate::curing::{Judges, cured_log};
+use crate::inputs::number_told;
 use crate::paging::page_bytes;
 use crate::reading::Reading;
 use crate::task::{Findings, Task};
@@ -33,8 +38,8 @@ use choices::Starts;
 use facts::{Facts, Recording};
 use images::{History, initial_number};
 use outcomes::printed_text;
-use report::{Head, ProgramHead, write_report};
-use request::{MOST_PROGRAMS, OptionPlace, Options, Telling, option_refusal_of};
+use report::{Head, ProgramHead, Span, write_part, write_report};
+use request::{Extent, MOST_PROGRAMS, OptionPlace, Options, Telling, option_refusal_of};
 use std::alloc::{AllocError, Global};
 use std::sync::Wait;
 use std::thread::Threads;
@@ -155,7 +160,7 @@ fn checker_of<'p>(
     ensures breach { IfErr result (λ r. IfSome facts.new.breach (IsBreachOf options.now.sectors number program.now r)) }
     ensures others { KeepsLog facts.old facts.new }
 {
-    match options.checked() {
+    match options.step_limit() {
         Some(limit) => Ok(Checker::limited(program, limit)),
         None => match verify_known(alloc, program, options.sectors()) {
             Ok(verified) => {
@@ -237,20 +242,26 @@ pub(crate) fn head_of_run(alloc: Global, task: &Task<'_>, first: bool) -> Result
         by: options.by(),
         first,
         programs: program_heads(alloc, task.checkers)?,
-        images: task.images,
+        images: task.span.images,
         base: initial_number(task.log),
     })
 }
 
-/// The report of what was found.
-fn reported(alloc: Global, findings: &Findings<'_>) -> Result<Vec<u8>, AllocError>
+/// The report of what was found, or the text of the part that is meant.
+fn report_of(alloc: Global, findings: &Findings<'_>) -> Result<Vec<u8>, AllocError>
     requires order { IsNonDecreasing (map (λ l. l.image) findings.now.work.now.lines) }
     requires lines { AreFound findings.now.task.now.options.now.first (lines_of findings.now.task.now) findings.now.work.now.lines }
     ensures { IfOk result (λ bytes. TellsTask tells.Report findings.now.task.now bytes.items) }
 {
-    let task = findings.task;
+    let (task, lines) = (findings.task, &findings.work.lines);
     let head = head_of_run(alloc, task, task.options.first())?;
-    write_report(alloc, &head, &findings.work.lines)
+    match task.options.extent() {
+        Extent::Part {
+            from: _from,
+            to: _to,
+        } => write_part(alloc, &head, task.span, lines),
+        _ => write_report(alloc, &head, lines),
+    }
 }
 
 /// In which form it is told why programs fail.
@@ -263,7 +274,7 @@ pub(crate) enum Form {
 }
 
 /// Why the programs fail, in that form, by what was found.
-fn explained(alloc: Global, form: Form, findings: &Findings<'_>) -> Result<Vec<u8>, AllocError>
+fn why_of(alloc: Global, form: Form, findings: &Findings<'_>) -> Result<Vec<u8>, AllocError>
     requires order { IsNonDecreasing (map (λ l. l.image) findings.now.work.now.lines) }
     requires lines { findings.now.work.now.lines ≡ lines_of findings.now.task.now }
     ensures { IfOk result (λ bytes. TellsTask (telling_in form) findings.now.task.now bytes.items) }
@@ -284,17 +295,55 @@ fn explained(alloc: Global, form: Form, findings: &Findings<'_>) -> Result<Vec<u
     }
 }
 
+/// The images that are judged, of so many: all, or those of the part that is meant.
+fn span_with(wanted: Wanted, extent: Extent, images: u64, inputs: u64) -> Span
+    requires taken { takes wanted extent ≡ true }
+    requires good { is_extent extent ≡ true }
+    requires few { images ≤ most_images extent }
+    requires within { has_extent extent images ≡ true }
+    ensures judged { IsJudged extent images result }
+    ensures number { result.inputs ≡ inputs }
+{
+    match extent {
+        Extent::Part { from, to } => Span {
+            from,
+            to,
+            images,
+            inputs,
+        },
+        Extent::Whole | Extent::Wide => Span {
+            from: 0,
+            to: images,
+            images,
+            inputs,
+        },
+    }
+}
+
 /// What is to be told of what was found.
-fn told(alloc: Global, telling: Telling, findings: &Findings<'_>) -> Result<Vec<u8>, AllocError>
+fn tell(alloc: Global, telling: Telling, findings: &Findings<'_>) -> Result<Vec<u8>, AllocError>
     requires order { IsNonDecreasing (map (λ l. l.image) findings.now.work.now.lines) }
     requires lines { AreFound (first_asked telling findings.now.task.now.options.now.first) (lines_of findings.now.task.now) findings.now.work.now.lines }
     ensures { IfOk result (λ bytes. TellsTask telling findings.now.task.now bytes.items) }
 {
     match telling {
-        Telling::Report => reported(alloc, findings),
-        Telling::Causes => explained(alloc, Form::Text, findings),
-        Telling::Page => explained(alloc, Form::Page, findings),
+        Telling::Report => report_of(alloc, findings),
+        Telling::Causes => why_of(alloc, Form::Text, findings),
+        Telling::Page => why_of(alloc, Form::Page, findings),
     }
+}
+
+/// The images that are judged of a run that is asked this, of so many, with the number of its inputs.
+fn span_of(question: &Question<'_>, images: u64) -> Span
+    requires taken { takes question.now.wanted question.now.options.now.extent ≡ true }
+    requires few { images ≤ most_images question.now.options.now.extent }
+    requires within { has_extent question.now.options.now.extent images ≡ true }
+    ensures judged { IsJudged question.now.options.now.extent images result }
+    ensures number { result.inputs ≡ number_told question.now.options.now.extent (inputs_number question.now.recording.now.text (map (λ f. f.items) question.now.programs.now)) }
+{
+    let extent = question.options.extent();
+    let inputs = number_told(extent, question.recording.log(), question.programs);
+    span_with(question.wanted, extent, images, inputs)
 }
 
 /// Whether blocks behind the first failing image may be passed over.
@@ -308,7 +357,7 @@ fn is_first_asked(telling: Telling, options: &Options) -> bool
 }
 
 /// Judges the crash images of a task, and tells of those that fail.
-fn judged<'x, G: Gate + Sync, R: Threads + Wait + Sync>(
+fn judge_task<'x, G: Gate + Sync, R: Threads + Wait + Sync>(
     rt: &R,
     alloc: Global,
     gate: &G,
@@ -337,14 +386,14 @@ fn judged<'x, G: Gate + Sync, R: Threads + Wait + Sync>(
         history: &history,
     };
     let first = is_first_asked(telling, options);
-    let work = worked(rt, alloc, gate, &basis, first)?;
+    let work = judge_images(rt, alloc, gate, &basis, first)?;
     let findings = Findings {
         task: &*task,
         starts: &starts,
         history: &history,
         work: &work,
     };
-    match told(alloc, telling, &findings) {
+    match tell(alloc, telling, &findings) {
         Ok(bytes) => Ok(Explored {
             bytes,
             hits: work.hits,
@@ -363,6 +412,21 @@ pub enum Wanted {
     Cured,
 }
 
+/// Whether a run that is asked for this judges the images that are meant: all of a run, or those of a part where the report is asked
+/// for.
+fn does_take(wanted: Wanted, extent: Extent) -> bool
+    ensures { result ≡ takes wanted extent }
+{
+    match extent {
+        Extent::Whole => true,
+        Extent::Wide => false,
+        Extent::Part {
+            from: _from,
+            to: _to,
+        } => matches!(wanted, Wanted::Told(Telling::Report)),
+    }
+}
+
 /// What a run is asked: what it is to tell of the images of a log, as one to eight programs judge them.
 #[derive(Clone, Copy)]
 pub struct Question<'a> {
@@ -376,19 +440,15 @@ pub struct Question<'a> {
     pub options: &'a Options,
 }
 
-/// Judges the crash images of a log by one to eight programs, and tells of those that fail what is asked for: what
-/// `explore_with`, `why`, `page` or `cured` answers. What is found on the way takes the place of what `facts` held.
-///
-/// # Errors
-///
-/// Those of `explore_with`.
-pub fn run_with<G: Gate + Sync, R: Threads + Wait + Sync>(
+/// Makes a run that judges the images that are meant: what `run_with` answers.
+fn make_run<G: Gate + Sync, R: Threads + Wait + Sync>(
     rt: &R,
     alloc: Global,
     gate: &G,
     question: &Question<'_>,
     facts: &mut Facts,
 ) -> Result<Explored, Refusal>
+    requires { takes question.now.wanted question.now.options.now.extent ≡ true }
     ensures told { IfOk result (λ e. IsAnswered question.now.wanted question.now.recording.now (map (λ f. f.items) question.now.programs.now) question.now.options.now e.bytes.items e.failing) }
     ensures refused { IfErr result (Refuses question.now.recording.now (map (λ f. f.items) question.now.programs.now) question.now.options.now) }
     ensures found { IfOk result (λ _. FindsAll question.now.recording.now (map (λ f. f.items) question.now.programs.now) question.now.options.now facts.new) }
@@ -417,9 +477,9 @@ pub fn run_with<G: Gate + Sync, R: Threads + Wait + Sync>(
                 plan: &plan,
                 checkers: made,
                 options,
-                images,
+                span: span_of(question, images),
             };
-            judged(rt, alloc, gate, telling, &task)
+            judge_task(rt, alloc, gate, telling, &task)
         }
         Wanted::Cured => {
             // The log is changed from run to run.
@@ -433,16 +493,46 @@ pub fn run_with<G: Gate + Sync, R: Threads + Wait + Sync>(
     }
 }
 
+/// Judges the crash images of a log by one to eight programs, and tells of those that fail what is asked for: what
+/// `explore_with`, `why`, `page` or `cure_run` answers. What is found on the way takes the place of what `facts` held.
+///
+/// # Errors
+///
+/// Those of `explore_with`, and 13 at 17 where the options mean a part of a run and not its report is wanted.
+pub fn run_with<G: Gate + Sync, R: Threads + Wait + Sync>(
+    rt: &R,
+    alloc: Global,
+    gate: &G,
+    question: &Question<'_>,
+    facts: &mut Facts,
+) -> Result<Explored, Refusal>
+    ensures taken { IfOk result (λ _. takes question.now.wanted question.now.options.now.extent ≡ true) }
+    ensures told { IfOk result (λ e. IsAnswered question.now.wanted question.now.recording.now (map (λ f. f.items) question.now.programs.now) question.now.options.now e.bytes.items e.failing) }
+    ensures refused { IfErr result (RefusesWanted question.now.wanted question.now.recording.now (map (λ f. f.items) question.now.programs.now) question.now.options.now) }
+    ensures found { IfOk result (λ _. FindsAll question.now.recording.now (map (λ f. f.items) question.now.programs.now) question.now.options.now facts.new) }
+    ensures breach { IfErr result (λ r. IfSome facts.new.breach (FindsBreach question.now.options.now.sectors (map (λ f. f.items) question.now.programs.now) r)) }
+    ensures fewer { IfSome facts.new.fewer (FindsFewer question.now.recording.now question.now.options.now) }
+{
+    if !does_take(question.wanted, question.options.extent()) {
+        *facts = Facts::new();
+        return Err(option_refusal_of(OptionPlace::Images));
+    }
+    make_run(rt, alloc, gate, question, facts)
+}
+
 /// Explores the crash images of a log: judges each by the one to eight programs, and reports those that
 /// fail, or the first of them alone (docs/REPORT.md). Without a limit of steps each program has to be
 /// accepted by the verifier. `gate` is told the number of images, then of each block before and after it
 /// is judged. The number of workers and the size of the cache change nothing but `hits`. It waits until
 /// all workers are back.
 ///
+/// Where the options mean a part of a run, its images alone are judged, and the bytes are the text of the part.
+///
 /// # Errors
 ///
 /// The first refusal in the order of docs/REPORT.md: the number of programs, the log, the number of its
-/// images, then each program; or want of memory.
+/// images, then each program; or want of memory. Before them 13 at 17 for options that allow a run more than 16,777,216 images and
+/// mean no part of it.
 pub fn explore_with<G: Gate + Sync, R: Threads + Wait + Sync>(
     rt: &R,
     alloc: Global,
@@ -452,7 +542,7 @@ pub fn explore_with<G: Gate + Sync, R: Threads + Wait + Sync>(
     options: &Options,
 ) -> Result<Explored, Refusal>
     ensures report { IfOk result (λ e. IsReport recording.now (map (λ f. f.items) programs.now) options.now e.bytes.items e.failing) }
-    ensures refused { IfErr result (Refuses recording.now (map (λ f. f.items) programs.now) options.now) }
+    ensures refused { IfErr result (RefusesWanted (wants.Told tells.Report) recording.now (map (λ f. f.items) programs.now) options.now) }
 {
     let question = Question {
         wanted: Wanted::Told(Telling::Report),
@@ -469,7 +559,7 @@ pub fn explore_with<G: Gate + Sync, R: Threads + Wait + Sync>(
 ///
 /// # Errors
 ///
-/// Those of `explore_with`.
+/// Those of `explore_with`, and 13 at 17 where the options mean a part of a run.
 pub fn why<G: Gate + Sync, R: Threads + Wait + Sync>(
     rt: &R,
     alloc: Global,
@@ -479,7 +569,7 @@ pub fn why<G: Gate + Sync, R: Threads + Wait + Sync>(
     options: &Options,
 ) -> Result<Explored, Refusal>
     ensures explained { IfOk result (λ e. IsExplained recording.now (map (λ f. f.items) programs.now) options.now e.bytes.items e.failing) }
-    ensures refused { IfErr result (Refuses recording.now (map (λ f. f.items) programs.now) options.now) }
+    ensures refused { IfErr result (RefusesWanted (wants.Told tells.Causes) recording.now (map (λ f. f.items) programs.now) options.now) }
 {
     let question = Question {
         wanted: Wanted::Told(Telling::Causes),
@@ -495,7 +585,7 @@ pub fn why<G: Gate + Sync, R: Threads + Wait + Sync>(
 ///
 /// # Errors
 ///
-/// Those of `explore_with`.
+/// Those of `explore_with`, and 13 at 17 where the options mean a part of a run.
 pub fn page<G: Gate + Sync, R: Threads + Wait + Sync>(
     rt: &R,
     alloc: Global,
@@ -505,7 +595,7 @@ pub fn page<G: Gate + Sync, R: Threads + Wait + Sync>(
     options: &Options,
 ) -> Result<Explored, Refusal>
     ensures paged { IfOk result (λ e. IsPaged recording.now (map (λ f. f.items) programs.now) options.now e.bytes.items e.failing) }
-    ensures refused { IfErr result (Refuses recording.now (map (λ f. f.items) programs.now) options.now) }
+    ensures refused { IfErr result (RefusesWanted (wants.Told tells.Page) recording.now (map (λ f. f.items) programs.now) options.now) }
 {
     let question = Question {
         wanted: Wanted::Told(Telling::Page),
@@ -525,7 +615,7 @@ pub fn explore<R: Threads + Wait + Sync>(
     options: &Options,
 ) -> Result<Vec<u8>, Refusal>
     ensures report { IfOk result (λ bytes. HasReport recording.now (map (λ f. f.items) programs.now) options.now bytes.items) }
-    ensures refused { IfErr result (Refuses recording.now (map (λ f. f.items) programs.now) options.now) }
+    ensures refused { IfErr result (RefusesWanted (wants.Told tells.Report) recording.now (map (λ f. f.items) programs.now) options.now) }
 {
     let explored = explore_with(rt, alloc, &OpenGate, recording, programs, options)?;
     Ok(explored.bytes)

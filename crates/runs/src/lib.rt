@@ -10,12 +10,12 @@
 //!
 //! | Call | Answers |
 //! |---|---|
-//! | `explore_with(rt, alloc, gate, recording, programs, options)` | the report, how often the cache was hit, and whether an image fails; `gate` is told of each block |
+//! | `explore_with(rt, alloc, gate, recording, programs, options)` | the report, or the text of a part, how often the cache was hit, and whether an image fails; `gate` is told of each block |
 //! | `explore(rt, alloc, recording, programs, options)` | the bytes of the report |
 //! | `why(rt, alloc, gate, recording, programs, options)` | the same run told by its causes (`causes.rt`) |
 //! | `page(rt, alloc, gate, recording, programs, options)` | the same run as a page for a browser (`paging.rt`) |
 //! | `run_with(rt, alloc, gate, question, facts)` | one of the four, by what is wanted |
-//! | `cured(rt, alloc, gate, question, facts)` | where flushes are missing, and what is left with them, run by run (`curing.rt`) |
+//! | `cure_run(rt, alloc, gate, question, facts)` | where flushes are missing, and what is left with them, run by run (`curing.rt`) |
 //!
 //! # What is proved
 //!
@@ -28,12 +28,16 @@
 //! run has a fault or spends its budget, and no line says so (`IsFaultless` in `specs/Explore.antt`), by the
 //! soundness of the verifier.
 //!
+//! Where the options mean a part of a run, the images of the part alone are judged, and the bytes are its text: the definition is
+//! `span_report` of `report`, over the failing lines of these images and the number of the inputs (`specs/Inputs.antt`). Which images
+//! are judged says `specs/Judged.antt`. `why`, `page` and `cure_run` judge whole runs alone.
+//!
 //! `why` answers, of the same failing lines, which flushes are missing and what fails of each program at each cut (`IsExplained` in
 //! `specs/Why.antt`), and `page` the page of it (`IsPaged`). Where one of them answers `Err`, the refusal is the first in the order of docs/REPORT.md
 //! (`Refuses` in `specs/Explore.antt`): the number of programs, the log, the number of its images, then each program; or memory
 //! ran out.
 //!
-//! What `run_with` and `cured` find for the notes is that of `specs/Finds.antt`: of the log how many entries no image loses as a
+//! What `run_with` and `cure_run` find for the notes is that of `specs/Finds.antt`: of the log how many entries no image loses as a
 //! whole, of each program that is verified what no run reaches, and of a refused one the instruction and what is known there.
 //!
 //! A run has one program to eight, one worker to 64, and a cache of up to 65,536 outcomes. The bytes and
@@ -41,8 +45,10 @@
 //!
 //! # Example
 //!
-//! ```text
-//! let options = Options::new(&Settings { sectors: 1, cuts: Cuts::ALL, bound: 0, .. })?;
+//! ```
+//! use runs::explore;
+//!
+//! // `options` are of a device of one sector and a bound of 0, the log has no entry, and `programs` is mov64 r0, 0; exit
 //! let report = explore(rt, alloc, &recording, programs, &options)?;
 //! // crash report 2
 //! // sectors 1 entries 0 cuts all bound 0 tears no first no
@@ -55,10 +61,11 @@ mod basis;
 mod causes;
 mod curing;
 mod explore_command;
+mod inputs;
 mod missing;
 mod paging;
 mod reading;
 mod task;
 
-pub use curing::cured;
+pub use curing::cure_run;
 pub use explore_command::{Explored, Question, Wanted, explore, explore_with, page, run_with, why};

@@ -1,8 +1,8 @@
 //! What a run judges, and what it finds.
 
-ghost use Rattle.std.specs.Prelude.{◌≡◌, ◌≤◌, length};
-ghost use Rattle.choices.specs.Choices.{limit};
+ghost use Rattle.std.specs.Prelude.{◌≡◌, length};
 ghost use Rattle.request.specs.Source.{plan_of, images_of};
+ghost use Rattle.runs.specs.Judged.{IsJudged};
 ghost use Rattle.runs.specs.Why.{starts_of};
 
 use checker::Checker;
@@ -10,6 +10,7 @@ use choices::Starts;
 use epochs::Plan;
 use images::History;
 use logfmt::Log;
+use report::Span;
 use request::Options;
 use workers::Work;
 
@@ -20,12 +21,11 @@ pub(crate) struct Task<'x> {
     pub(crate) plan: &'x Plan<'x>,
     pub(crate) checkers: &'x [Checker<'x>],
     pub(crate) options: &'x Options,
-    /// How many images there are.
-    pub(crate) images: u64,
+    /// Which images are judged, of how many.
+    pub(crate) span: Span,
     pub ghost plan_is: { plan.now ≡ plan_of options.now log.now },
     pub ghost device: { log.now.sectors ≡ options.now.sectors },
-    pub ghost count: { images ≡ length (images_of options.now log.now) },
-    pub ghost few: { images ≤ limit },
+    pub ghost judged: { IsJudged options.now.extent (length (images_of options.now log.now)) span },
 }
 
 /// What a run finds: its images by number, and what its work says of them.

@@ -95,13 +95,23 @@
 //!
 //! # Example
 //!
-//! ```text
+//! ```
+//! use shares::Board;
+//!
 //! let (board, seats) = Board::new(alloc, 2, 2)?;
-//! board.draw(&mut first)                  // Some(0)
-//! board.draw(&mut second)                 // Some(1)
-//! board.post(&mut first, 20);
-//! board.least(&mut second)                // Some(20)
-//! board.gather(seats)                     // Ok(Some(20))
+//! let mut seats = seats.into_iter();
+//! if let Some(mut first) = seats.next()
+//!     && let Some(mut second) = seats.next()
+//! {
+//!     let block = board.draw(&mut first);         // Some(0)
+//!     let other = board.draw(&mut second);        // Some(1)
+//!     board.post(&mut first, 20);
+//!     let least = board.least(&mut second);       // Some(20)
+//!     let mut back = Vec::new(alloc);
+//!     back.push(first)?;
+//!     back.push(second)?;
+//!     let least = board.gather(back)?;            // Some(20)
+//! }
 //! ```
 //!
 //! Of eight blocks, by two hands on one thread: the first `take` draws 0 to 3, and the other hand steals

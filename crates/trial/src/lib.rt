@@ -28,7 +28,7 @@
 //! use trial::try_image;
 //!
 //! let asked = Trial { limits: Limits::Usual, epoch: 0, marks: 0, checked: None, trace: 10 };
-//! let report = try_image(alloc, &program, &[0; 2048], &asked, &mut Facts::new())?;   // mov64 r0, 0; exit
+//! let report = try_image(alloc, bytes, &[0; 2048], &asked, &mut Facts::new())?;   // mov64 r0, 0; exit
 //! // crash check 1
 //! // sectors 4 epoch 0 marks 0
 //! // program slots 2 budget 2

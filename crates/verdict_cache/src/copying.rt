@@ -12,7 +12,7 @@ pub fn copy_of(outcome: &Outcome) -> Outcome
     match outcome {
         Outcome::Verdict(verdict) => Outcome::Verdict(Verdict {
             answer: verdict.answer,
-            codes: copied(verdict.codes.as_slice()),
+            codes: copy_codes(verdict.codes.as_slice()),
         }),
         Outcome::Fault { code, slot } => Outcome::Fault {
             code: *code,
@@ -23,7 +23,7 @@ pub fn copy_of(outcome: &Outcome) -> Outcome
 }
 
 /// The same codes.
-fn copied(codes: &[u64]) -> ArrayVec<u64, 16>
+fn copy_codes(codes: &[u64]) -> ArrayVec<u64, 16>
     requires { length codes.now ≤ 16 }
     ensures { result.items ≡ codes.now }
 {

@@ -61,22 +61,25 @@
 //! # Example
 //!
 //! ```
-//! // once a run
-//! let shards = shards::<J>(alloc, &history, checkers, 1_000)?;
+//! use images::Changes;
+//! use std::marker::Brand;
+//! use verdict_cache::{copy_of, shards};
+//!
+//! // once a run, whose name a type has
+//! let shards = shards::<Brand>(alloc, &history, checkers, 1_000)?;
 //! // once a worker
 //! let mut changes = Changes::new(alloc, &history);
 //! // once an image
-//! let Some(key) = changes.key(alloc, &view)? else {
-//!     return Ok(checker.judge(&view.context(), &view));
-//! };
-//! // once a checker; `key.set_program(number)` makes it the key of the next
-//! let shard = &shards[usize::from(key.shard())];
-//! if let Some(outcome) = shard.lock(rt).look(&key) {
-//!     return Ok(outcome);
+//! if let Some(mut key) = changes.key(alloc, &view)? {
+//!     // once a checker
+//!     key.set_program(0);
+//!     let shard = &shards[usize::from(key.shard())];
+//!     let kept = shard.lock(rt).look(&key);
+//!     if kept.is_none() {
+//!         let outcome = checkers[0].judge(&view.context(), &view);
+//!         shard.lock(rt).put(key, copy_of(&outcome));     // the next look for that key answers the outcome
+//!     }
 //! }
-//! let outcome = checker.judge(&view.context(), &view);
-//! shard.lock(rt).put(key, copy_of(&outcome));     // the next look for that key answers the outcome
-//! Ok(outcome)
 //! ```
 #![tactic(auto)]
 

@@ -33,7 +33,7 @@ pub fn shards<'a, J: Run>(
 {
     // The contract alone says which run they are of.
     let (_history, _checkers) = (history, checkers);
-    locked(alloc, empty_shards(alloc, size)?)
+    lock_each(alloc, empty_shards(alloc, size)?)
 }
 
 /// The shards of an empty cache of at most so many entries.
@@ -50,7 +50,7 @@ fn empty_shards<'a, J: Run>(alloc: Global, size: u32) -> Result<Vec<Shard<'a, J>
 }
 
 /// Each of them behind a lock, in their order.
-fn locked<T: Drop>(alloc: Global, values: Vec<T>) -> Result<Vec<Mutex<T>>, AllocError>
+fn lock_each<T: Drop>(alloc: Global, values: Vec<T>) -> Result<Vec<Mutex<T>>, AllocError>
     ensures { IfOk result (λ locks. length locks.items ≡ length values.items) }
 {
     let mut locks = Vec::new(alloc);

@@ -79,7 +79,7 @@ impl<'a, J: Run> Shard<'a, J> {
         let Some(cache) = &mut self.cache else {
             return None;
         };
-        let outcome = used(cache, key)?;
+        let outcome = look_up(cache, key)?;
         self.hits = self.hits.saturating_add(1);
         Some(outcome)
     }
@@ -132,7 +132,7 @@ fn share_of(size: u32, number: u32) -> u32
 
 /// The outcome of a key, whose entry becomes the most recently used.
 #[tactic(auto, using(crate::proofs::Listed::promoted_is))]
-fn used<'a>(cache: &mut LruCache<Key<'a>, Outcome>, key: &Key<'a>) -> Option<Outcome>
+fn look_up<'a>(cache: &mut LruCache<Key<'a>, Outcome>, key: &Key<'a>) -> Option<Outcome>
     ensures answer { result ≡ listed_outcome cache.old.entries key.now }
     ensures found { IfSome result (λ outcome. cache.new ≡ lru_cache (to_front cache.old.entries key.now outcome) cache.old.cap) }
     ensures missing { IfNone result (cache.new ≡ cache.old) }

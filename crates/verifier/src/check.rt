@@ -117,7 +117,7 @@ fn check_slots(scene: &Scene, table: &Table, room: &mut State) -> Result<(), Fau
 {
     for slot in 0..scene.program.slots() {
         if let Some(cause) = breach_at(scene, table, slot, room) {
-            return Err(refused(cause, slot));
+            return Err(fault_at(cause, slot));
         }
     }
     Ok(())
@@ -129,11 +129,11 @@ pub(crate) fn check_good(scene: &Scene, table: &Table) -> Result<(), Fault>
     ensures breach { IfErr result (λ f. FirstBreach scene.now.program.now scene.now.sectors table.now f.code f.slot) }
 {
     if table.slots() != scene.program.slots() {
-        return Err(refused(VerifierCause::Unsettled, 0));
+        return Err(fault_at(VerifierCause::Unsettled, 0));
     }
     let mut room = State::start();
     if !table.covers(0, &room) {
-        return Err(refused(VerifierCause::Unsettled, 0));
+        return Err(fault_at(VerifierCause::Unsettled, 0));
     }
     check_slots(scene, table, &mut room)
 }
@@ -165,14 +165,14 @@ pub(crate) fn check_rules(program: &Program, table: &Table) -> Result<(), Fault>
 {
     for slot in 0..program.slots() {
         if let Some(cause) = rule_at(program, table, slot) {
-            return Err(refused(cause, slot));
+            return Err(fault_at(cause, slot));
         }
     }
     Ok(())
 }
 
 /// The refusal of a slot.
-pub(crate) fn refused(code: VerifierCause, slot: usize) -> Fault
+pub(crate) fn fault_at(code: VerifierCause, slot: usize) -> Fault
     ensures { result ≡ record { code = code; slot = slot } }
 {
     Fault {

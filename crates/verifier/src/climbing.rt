@@ -25,7 +25,7 @@ ghost use Rattle.verifier.specs.Ways.{Goes, IsWay, LearnsAlong, LeavesAt};
 ghost use Rattle.verifier.specs.Passing.{Arrive, StaysSought, along, next_state, target_state};
 
 use crate::agenda::Agenda;
-use crate::check::refused;
+use crate::check::fault_at;
 use crate::origins::Edge;
 use crate::parts::{Parts, changed_by, parts_of};
 use crate::passing::{arrive_next, arrive_target, next_effect, rule_at, target_effect, target_of};
@@ -252,7 +252,7 @@ fn make_step(
     };
     let is_seen = agenda.is_seen_by(&instr);
     if is_seen && let Some(cause) = rule_at(scene.program, table, slot) {
-        return Err(refused(cause, slot));
+        return Err(fault_at(cause, slot));
     }
     pass_next(scene, table, agenda, slot, &instr, room);
     if agenda.keeps_from_target(&instr) {

@@ -79,12 +79,14 @@
 //!
 //! # Example
 //!
-//! ```text
-//! // mov64 r0, 0; exit
+//! ```
+//! use verifier::verify;
+//!
+//! // `program` is mov64 r0, 0; exit
 //! let verified = verify(alloc, &program, 4)?;
-//! verified.budget()       // 2
-//! // mov64 r1, 0; call 1; ldxb r0, [r0+0]; exit, without a test against 0
-//! verify(alloc, &other, 4)    // refused: OutsideRegion, number 52, at slot 2
+//! let budget = verified.budget();                 // 2
+//! // `other` is mov64 r1, 0; call 1; ldxb r0, [r0+0]; exit, without a test against 0
+//! let fault = verify(alloc, &other, 4).err();     // OutsideRegion, number 52, at slot 2
 //! ```
 #![tactic(auto)]
 

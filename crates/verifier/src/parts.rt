@@ -165,7 +165,7 @@ fn group_at(distance: u16) -> Parts {
 }
 
 /// The groups that a store may change: of the eight bytes at most that it writes. Register 10 is the end of the stack.
-fn stored(base: Register, offset: i16) -> Parts {
+fn parts_of_store(base: Register, offset: i16) -> Parts {
     if base.number() != 10 {
         return Parts::STACK;
     }
@@ -183,7 +183,7 @@ pub(crate) fn looked_at(instr: &Instr) -> Parts {
         Instr::SignExtend { src, .. } => Parts::of(*src),
         Instr::Load { base, offset, .. }
         | Instr::LoadSigned { base, offset, .. }
-        | Instr::StoreImmediate { base, offset, .. } => Parts::of(*base).and(stored(
+        | Instr::StoreImmediate { base, offset, .. } => Parts::of(*base).and(parts_of_store(
             *base, *offset,
         )),
         Instr::Store {
@@ -193,7 +193,7 @@ pub(crate) fn looked_at(instr: &Instr) -> Parts {
             ..
         } => Parts::of(*base)
             .and(Parts::of(*src))
-            .and(stored(*base, *offset)),
+            .and(parts_of_store(*base, *offset)),
         Instr::CallHelper { .. } | Instr::CallLocal { .. } => Parts::ARGUMENTS,
         Instr::Exit => register(0),
         Instr::Jump { .. } | Instr::LongJump { .. } | Instr::LoadImmediate { .. } => Parts::NONE,
@@ -201,7 +201,7 @@ pub(crate) fn looked_at(instr: &Instr) -> Parts {
 }
 
 /// The groups in which bytes are written.
-fn written(bytes: Stretch) -> Parts {
+fn parts_of_bytes(bytes: Stretch) -> Parts {
     let last = (bytes.at + bytes.n).saturating_sub(1) / 8;
     Parts {
         values: 0,
@@ -220,8 +220,8 @@ pub(crate) fn parts_of(change: &Change) -> Parts {
             values: 0,
             groups: 1 << (n % 64),
         },
-        Change::Written(bytes) => written(*bytes),
-        Change::Copied(bytes, _) => Parts::CALLED.and(written(*bytes)),
+        Change::Written(bytes) => parts_of_bytes(*bytes),
+        Change::Copied(bytes, _) => Parts::CALLED.and(parts_of_bytes(*bytes)),
     }
 }
 
@@ -238,7 +238,7 @@ pub(crate) fn changed_by(instr: &Instr) -> Parts {
         Instr::Branch { dst, source, .. } => Parts::of(*dst).and(second(source)),
         Instr::Jump { .. } | Instr::LongJump { .. } | Instr::Exit => Parts::NONE,
         Instr::StoreImmediate { base, offset, .. } | Instr::Store { base, offset, .. } => {
-            stored(*base, *offset)
+            parts_of_store(*base, *offset)
         }
         Instr::CallHelper { .. } | Instr::CallLocal { .. } => Parts::ALL,
     }

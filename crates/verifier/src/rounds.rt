@@ -58,7 +58,7 @@ fn push_marked(
 
 /// What all slots with a mark pass on.
 #[tactic(auto, unfolding(crate::specs::Passing::passed_again))]
-fn passed(
+fn passed_states(
     alloc: Global,
     scene: &Scene,
     table: &Table,
@@ -137,7 +137,7 @@ fn make_round(
     requires marks { IsMarked scene.now.program.now scene.now.sectors table.old marks.old.items }
     ensures { IfOk result (λ changed. MadeRound scene.now.program.now scene.now.sectors table.old table.new marks.new.items changed) }
 {
-    let waiting = passed(alloc, scene, table, marks.as_slice())?;
+    let waiting = passed_states(alloc, scene, table, marks.as_slice())?;
     clear(marks);
     Ok(arrive_all(table, marks, waiting.as_slice()))
 }

@@ -9,7 +9,7 @@ ghost use Rattle.why.specs.Failures.{numbers_in, AreOfCut};
 use crate::group::Group;
 use arrayvec::ArrayVec;
 use choices::{Starts, list_is_set, numbers_at};
-use groups::folded;
+use groups::fold;
 use std::alloc::{AllocError, Global};
 
 /// What fails at a cut.
@@ -60,5 +60,5 @@ pub(crate) fn examples_of(
     // A law of the choices at a cut, which does nothing: they are listed in their order.
     list_is_set();
     let numbers = numbers_of(alloc, starts, cut, first, images)?;
-    folded(alloc, numbers.as_slice())
+    fold(alloc, numbers.as_slice())
 }

@@ -27,8 +27,24 @@
 //! # How it is written
 //!
 //! The images of a cut are numbered in a row, so the failing ones of a cut are found by two searches by halves. Their departures
-//! are taken as numbers (`numbers_at` of `choices`), by which `folded` of `groups` finds the example of each. Then each image is
+//! are taken as numbers (`numbers_at` of `choices`), by which `fold` of `groups` finds the example of each. Then each image is
 //! counted at its example (`group`), and its outcome is compared with that of the example (`same`).
+//!
+//! # Example
+//!
+//! ```
+//! use epochs::By;
+//! use why::{failures, put_cuts};
+//!
+//! // two_slots of examples/ fails on images 104 to 118 of its cut 4; its first two are enough here
+//! let outcomes = ["answer 1 codes 1", "answer 1 codes 1"];
+//! let cuts = failures(alloc, &starts, &[104, 105], &outcomes)?;
+//! let mut out = String::new(alloc);
+//! put_cuts(&mut out, By::Sector, &starts, &outcomes, 0, cuts.as_slice())?;
+//! // cut 4 program 0 images 120 failing 2
+//! // group 2.0 lost: 1 image, all answer 1 codes 1, as image 104 choice 2.0:drop
+//! // ..
+//! ```
 #![tactic(auto)]
 
 mod cut;

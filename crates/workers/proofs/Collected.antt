@@ -24,13 +24,13 @@ of_row (x ∷ []) None e few = absurd (let bad : None ≡ Some x = e in cc)
 of_row (x ∷ []) (Some p) e few = let s : Some p ≡ Some x = e in let same : x ≡ p = cc in rw same refl
 of_row (x ∷ y ∷ ys) row e few = absurd (omega (arith, few))
 
-counted_row : (lines : List FailingLine) (row : Row) (missing : Bool) → is_missing (least_image lines) row ≡ missing
-    → length (filter (λ (p : PieceValue). counts lines p.block p.found) (option_to_list row)) ≡ (if missing then 0 else 1)
-counted_row lines None true e = refl
-counted_row lines None false e = absurd (let bad : true ≡ false = e in cc)
-counted_row lines (Some p) missing e =
-    let same = counts_by_least lines p.block p.found in
-    step (counts lines p.block p.found) missing (ap not (sym same) ∙ e)
+counted_row : (from : ℕ) (lines : List FailingLine) (row : Row) (missing : Bool) → is_missing from (least_image lines) row ≡ missing
+    → length (filter (λ (p : PieceValue). counts from lines p.block p.found) (option_to_list row)) ≡ (if missing then 0 else 1)
+counted_row from lines None true e = refl
+counted_row from lines None false e = absurd (let bad : true ≡ false = e in cc)
+counted_row from lines (Some p) missing e =
+    let same = counts_by_least from lines p.block p.found in
+    step (counts from lines p.block p.found) missing (ap not (sym same) ∙ e)
   where
     step : (b m : Bool) → not b ≡ m → length (if b then p ∷ [] else []) ≡ (if m then 0 else 1)
     step true true h = absurd (let bad : false ≡ true = h in cc)
@@ -50,45 +50,45 @@ pieces_in ps blocks b rows least row h there =
     let lt : b < blocks = rw (← h.count) (slice_get_within rows b row there) in
     of_row (of_block ps b) row (h.each b row there) (h.first b lt)
 
-counted_in : (ps : List PieceValue) (blocks b : ℕ) (rows : List Row) (least : Option ℕ) (row : Row) (missing : Bool) → AreRows ps blocks rows None least
-    → slice_get rows b ≡ Some row → is_missing least row ≡ missing → counted_at ps b ≡ (if missing then 0 else 1)
-counted_in ps blocks b rows least row missing h there e =
-    ap (λ (qs : List PieceValue). length (filter (λ (p : PieceValue). counts (full_lines ps) p.block p.found) qs)) (pieces_in ps blocks b rows least row h there)
-    ∙ counted_row (full_lines ps) row missing (ap (λ l. is_missing l row) (sym h.lowest) ∙ e)
+counted_in : (from : ℕ) (ps : List PieceValue) (blocks b : ℕ) (rows : List Row) (least : Option ℕ) (row : Row) (missing : Bool) → AreRows ps blocks rows None least
+    → slice_get rows b ≡ Some row → is_missing from least row ≡ missing → counted_at from ps b ≡ (if missing then 0 else 1)
+counted_in from ps blocks b rows least row missing h there e =
+    ap (λ (qs : List PieceValue). length (filter (λ (p : PieceValue). counts from (full_lines ps) p.block p.found) qs)) (pieces_in ps blocks b rows least row h there)
+    ∙ counted_row from (full_lines ps) row missing (ap (λ l. is_missing from l row) (sym h.lowest) ∙ e)
 
-pub missing_there : (ps : List PieceValue) (blocks b : ℕ) (rows : List Row) (least : Option ℕ) → AreRows ps blocks rows None least
-    → position (is_missing least) rows ≡ Some b → IsFirstMissing ps blocks b
-missing_there ps blocks b rows least h e =
-    let at = position-Some (is_missing least) rows b None e in
+pub missing_there : (from : ℕ) (ps : List PieceValue) (blocks b : ℕ) (rows : List Row) (least : Option ℕ) → AreRows ps blocks rows None least
+    → position (is_missing from least) rows ≡ Some b → IsFirstMissing from ps blocks b
+missing_there from ps blocks b rows least h e =
+    let at = position-Some (is_missing from least) rows b None e in
     let lt : b < blocks = rw (← h.count) at.0 in
     record {
       within = lt;
       once = h.first;
-      missing = counted_in ps blocks b rows least (get_or rows b None) true h (slice_get-get_or rows b None at.0) at.1;
+      missing = counted_in from ps blocks b rows least (get_or rows b None) true h (slice_get-get_or rows b None at.0) at.1;
       before = λ c less.
           let there : slice_get rows c ≡ Some (get_or rows c None) = slice_get-get_or rows c None (omega (arith, at.0, less)) in
-          counted_in ps blocks c rows least (get_or rows c None) false h there (at.2 c less);
+          counted_in from ps blocks c rows least (get_or rows c None) false h there (at.2 c less);
     }
 
-none_missing : (rows : List Row) (least : Option ℕ) → position (is_missing least) rows ≡ None → (b : ℕ) (row : Row) → slice_get rows b ≡ Some row
-    → is_missing least row ≡ false
-none_missing rows least e b row there =
-    let past : length rows ≤ position_or_len (is_missing least) rows = grind (arith, common_steps) in
+none_missing : (from : ℕ) (rows : List Row) (least : Option ℕ) → position (is_missing from least) rows ≡ None → (b : ℕ) (row : Row) → slice_get rows b ≡ Some row
+    → is_missing from least row ≡ false
+none_missing from rows least e b row there =
+    let past : length rows ≤ position_or_len (is_missing from least) rows = grind (arith, common_steps) in
     let lt = slice_get_within rows b row there in
-    subst (λ (r : Row). is_missing least r ≡ false) (get_or_from_slice_get rows b row row there)
-    (fails_before_first (is_missing least) rows b row (omega (arith, lt, past)))
+    subst (λ (r : Row). is_missing from least r ≡ false) (get_or_from_slice_get rows b row row there)
+    (fails_before_first (is_missing from least) rows b row (omega (arith, lt, past)))
 
-one_of_row : (least : Option ℕ) (row : Row) → is_missing least row ≡ false → length (option_to_list row) ≡ 1
-one_of_row least None e = absurd (let bad : true ≡ false = e in cc)
-one_of_row least (Some p) e = refl
+one_of_row : (from : ℕ) (least : Option ℕ) (row : Row) → is_missing from least row ≡ false → length (option_to_list row) ≡ 1
+one_of_row from least None e = absurd (let bad : true ≡ false = e in cc)
+one_of_row from least (Some p) e = refl
 
-pub whole_rows : (ps : List PieceValue) (blocks : ℕ) (rows : List Row) (least : Option ℕ) → AreRows ps blocks rows None least
-    → position (is_missing least) rows ≡ None → AreWhole ps blocks
-whole_rows ps blocks rows least h e = λ b lt.
+pub whole_rows : (from : ℕ) (ps : List PieceValue) (blocks : ℕ) (rows : List Row) (least : Option ℕ) → AreRows ps blocks rows None least
+    → position (is_missing from least) rows ≡ None → AreWhole from ps blocks
+whole_rows from ps blocks rows least h e = λ b lt.
     let row = get_or rows b None in
     let there : slice_get rows b ≡ Some row = slice_get-get_or rows b None (rw h.count lt) in
-    let some : is_missing least row ≡ false = none_missing rows least e b row there in
-    (ap length (pieces_in ps blocks b rows least row h there) ∙ one_of_row least row some, counted_in ps blocks b rows least row false h there some)
+    let some : is_missing from least row ≡ false = none_missing from rows least e b row there in
+    (ap length (pieces_in ps blocks b rows least row h there) ∙ one_of_row from least row some, counted_in from ps blocks b rows least row false h there some)
 
 lines_by_row : (ps : List PieceValue) (a : ℕ) (rows : List Row) → ((b : ℕ) (row : Row) → slice_get rows b ≡ Some row → row_lines row ≡ lines_at ps (a + b))
     → flat_map row_lines rows ≡ flat_map (lines_at ps) (range_with_len a (length rows))

@@ -13,7 +13,7 @@ use Rattle.workers.specs.declared.found.Found.{Found}
 use Rattle.workers.specs.declared.found.Found.TheVariants.{Lines, Passed}
 use Rattle.workers.specs.Counting.{reaches}
 use Rattle.workers.specs.Exploring.{passes_over}
-use Rattle.workers.specs.Failing.{Subject, image_count, part}
+use Rattle.workers.specs.Failing.{Subject, judged_count, part}
 use Rattle.workers.specs.Least.{lower, least_image}
 use Rattle.workers.specs.Pieces.{PieceValue, EachPiece, HasPart, passes, block_count, lines_of, full_lines, piece_of}
 use Rattle.workers.specs.Taking.{IsSeen, HandsOver, KeepsPosts, AddsPiece}
@@ -82,7 +82,7 @@ more s steps ps p h lt part_is full seen = record {
   own = each_push (λ q. (q.block < block_count s) × HasPart s q.block q.found) ps p h.own (lt, part_is);
   full = λ all. each_push (λ q. passes q.found ≡ false) ps p (h.full all) (full all);
   seen = each_push (λ q. IsSeen steps q.block q.found) ps p h.seen seen;
-  posted = λ image often. rw (← (least_of_push ps p)) (reaches_left (least_image (full_lines ps)) (least_image (lines_of p.found)) image (h.posted image often));
+  posted = λ image often. rw (← (least_of_push ps p)) (reaches_left (least_image (full_lines ps)) (least_image (lines_of p.found)) (s.from + image) (h.posted image often));
 }
 
 pub adds_passed : (s : Subject) (block image : ℕ) (before after : List SeatStep) → KeepsPosts before after → block < block_count s → passes_over s block image ≡ true → 0 < finds image after
@@ -106,7 +106,7 @@ pub adds_full : (s : Subject) (block : ℕ) (before after : List SeatStep) → K
 adds_full s block before after keeps lt = record { block_is = refl; adds = λ ps h. full_more s block after ps (keeps_posts s before after ps keeps h) lt }
 
 -- with its first failing image posted
-posts_own : (s : Subject) (steps : List SeatStep) (ps : List PieceValue) (image found : ℕ) → HandsOver s steps ps → reaches (least_image (full_lines ps)) image ≡ true
+posts_own : (s : Subject) (steps : List SeatStep) (ps : List PieceValue) (image found : ℕ) → HandsOver s steps ps → reaches (least_image (full_lines ps)) (s.from + image) ≡ true
     → HandsOver s (steps ++ Posted image found ∷ []) ps
 posts_own s steps ps image found h reached = record {
   own = h.own;
@@ -118,16 +118,16 @@ posts_own s steps ps image found h reached = record {
       (eqb_tells image other);
 }
 
-pub adds_posted : (s : Subject) (block image found : ℕ) (before after : List SeatStep) → KeepsPosts before after → block < block_count s → least_image (part s block) ≡ Some image
+pub adds_posted : (s : Subject) (block image found : ℕ) (before after : List SeatStep) → KeepsPosts before after → block < block_count s → least_image (part s block) ≡ Some (s.from + image)
     → AddsPiece s block before (after ++ Posted image found ∷ []) (piece_of s block)
 adds_posted s block image found before after keeps lt least_is = record {
   block_is = refl;
   adds = λ ps h.
-      let same : nat_le image image ≡ true = grind (arith, nat_tests) in
-      let own : reaches (least_image (part s block)) image ≡ true = rw least_is same in
+      let same : nat_le (s.from + image) (s.from + image) ≡ true = grind (arith, nat_tests) in
+      let own : reaches (least_image (part s block)) (s.from + image) ≡ true = rw least_is same in
       posts_own s after (ps ++ piece_of s block ∷ []) image found
       (full_more s block after ps (keeps_posts s before after ps keeps h) lt)
-      (rw (← (least_of_push ps (piece_of s block))) (reaches_right (least_image (full_lines ps)) (least_image (part s block)) image own));
+      (rw (← (least_of_push ps (piece_of s block))) (reaches_right (least_image (full_lines ps)) (least_image (part s block)) (s.from + image) own));
 }
 
 -- two workers together
@@ -146,8 +146,8 @@ both s steps more_steps ps qs h g = record {
       (λ i p there. seen_more more_steps (steps ++ more_steps) (λ image. omega (arith, total_append (found_it image) steps more_steps)) p.block p.found (g.seen i p there));
   posted = λ image often. rw (lines_both, least_append (full_lines ps) (full_lines qs))
       (⊎_elim
-      (λ t. reaches_left (least_image (full_lines ps)) (least_image (full_lines qs)) image (h.posted image (omega (arith, t.1))))
-      (λ t. reaches_right (least_image (full_lines ps)) (least_image (full_lines qs)) image (g.posted image (omega (arith, t.1, often, total_append (posted_it image) steps more_steps))))
+      (λ t. reaches_left (least_image (full_lines ps)) (least_image (full_lines qs)) (s.from + image) (h.posted image (omega (arith, t.1))))
+      (λ t. reaches_right (least_image (full_lines ps)) (least_image (full_lines qs)) (s.from + image) (g.posted image (omega (arith, t.1, often, total_append (posted_it image) steps more_steps))))
       (leb_tells 1 (posts image steps)));
 }
   where
@@ -193,26 +193,31 @@ least_found found image o before after e f g =
     subst (λ (i : ℕ). 0 < finds i after) (image_is found image o e f) there
 
 pub adds_last : (s : Subject) (block image found : ℕ) (before after last : List SeatStep) (p : PieceValue) → KeepsPosts before after → last ≡ after ++ Posted image found ∷ [] → p ≡ piece_of s block
-    → block < block_count s → least_image (lines_of p.found) ≡ Some image → AddsPiece s block before last p
+    → block < block_count s → least_image (lines_of p.found) ≡ Some (s.from + image) → AddsPiece s block before last p
 adds_last s block image found before after last p keeps e f lt least_is =
-    let least_part : least_image (part s block) ≡ Some image = ap (λ (q : PieceValue). least_image (lines_of q.found)) (sym f) ∙ least_is in
+    let least_part : least_image (part s block) ≡ Some (s.from + image) = ap (λ (q : PieceValue). least_image (lines_of q.found)) (sym f) ∙ least_is in
     rw (e, f) (adds_posted s block image found before after keeps lt least_part)
 
--- the images of a block can be posted
+-- the least image of a block is one that is judged
 
-least_below : (n : ℕ) (ls : List FailingLine) → Each (λ l. l.image < n) ls → IfSome (least_image ls) (λ image. image < n)
-least_below n [] h = tt
-least_below n (l ∷ ls) h = step (least_image ls) (least_below n ls h.1)
+least_each : (P : ℕ → Type 0) (ls : List FailingLine) → Each (λ l. P l.image) ls → IfSome (least_image ls) P
+least_each P [] h = tt
+least_each P (l ∷ ls) h = step (least_image ls) (least_each P ls h.1)
   where
-    step : (o : Option ℕ) → IfSome o (λ image. image < n) → IfSome (lower (Some l.image) o) (λ image. image < n)
+    step : (o : Option ℕ) → IfSome o P → IfSome (lower (Some l.image) o) P
     step None g = h.0
-    step (Some m) g = omega (arith, g, h.0)
+    step (Some m) g = ⊎_elim
+        (λ t. let e : l.image ≡ min l.image m = omega (arith, t.1) in subst P e h.0)
+        (λ t. let e : m ≡ min l.image m = omega (arith, t.1) in subst P e g)
+        (leb_tells l.image m)
 
-part_below : (s : Subject) (b n : ℕ) → b < block_count s → image_count s ≤ n → Each (λ l. l.image < n) (part s b)
+part_judged : (s : Subject) (b : ℕ) → Each (λ l. (s.from ≤ l.image) × (l.image < s.to)) (part s b)
 unfolding part
-part_below s b n lt few = each_then _ _ _ (λ l is. omega (arith, is.1, lt, few)) (of_range s (64 * b) (min 64 (image_count s - 64 * b)))
+part_judged s b = each_then _ _ _ (λ l is. (omega (arith, is.0), omega (arith, is.0, is.1))) (of_range s (s.from + 64 * b) (min 64 (judged_count s - 64 * b)))
 
-pub postable : (s : Subject) (p : PieceValue) (n images : ℕ) (o : Option ℕ) → p ≡ piece_of s p.block → p.block < block_count s → images ≡ image_count s → images ≤ n → o ≡ least_image (lines_of p.found)
-    → IfSome o (λ image. image < n)
-postable s p n images o e lt count few f =
-    rw (f, ap (λ (q : PieceValue). least_image (lines_of q.found)) e) (least_below n (part s p.block) (part_below s p.block n lt (omega (arith, count, few))))
+pub least_judged : (s : Subject) (p : PieceValue) (image : ℕ) (o : Option ℕ) → p ≡ piece_of s p.block → o ≡ least_image (lines_of p.found) → o ≡ Some image
+    → (s.from ≤ image) × (image < s.to)
+least_judged s p image o e f g =
+    let found : least_image (part s p.block) ≡ Some image = ap (λ (q : PieceValue). least_image (lines_of q.found)) (sym e) ∙ sym f ∙ g in
+    subst (λ (x : Option ℕ). IfSome x (λ i. (s.from ≤ i) × (i < s.to))) found
+    (least_each (λ i. (s.from ≤ i) × (i < s.to)) (part s p.block) (part_judged s p.block))

@@ -11,7 +11,7 @@ use Rattle.choices.specs.Choices.{ChoiceValue}
 use Rattle.choices.specs.Picked.{PickedValue, IsRanked}
 use Rattle.checker.specs.Checker.{CheckerValue}
 use Rattle.lines.specs.Line.{FailingLine}
-use Rattle.workers.specs.Failing.{Subject, choices_of, image_count, ending_at, line_if, line_of, image_lines, lines_from, failing_lines, part}
+use Rattle.workers.specs.Failing.{Subject, choices_of, image_count, judged_count, ending_at, line_if, line_of, image_lines, lines_from, failing_lines, part}
 use Rattle.verdict_cache.specs.Endings.{ending_on}
 use Rattle.machine.specs.Outcome.{Ending}
 use Rattle.workers.specs.Input.{line_list}
@@ -68,18 +68,17 @@ image_next s a i first before le so =
     let f : a + (i - a) ≡ i = omega arith in
     rw (e, range_with_len-more a (i - a), f, flat_map-append (image_lines s) (range_with_len a (i - a)) (i ∷ []), so, append_assoc, append-nil) refl
 
-block_after : (s : Subject) (n : ℕ) → lines_from s 0 (min (64 * n) (image_count s)) ++ part s n ≡ lines_from s 0 (min (64 * (n + 1)) (image_count s))
+block_after : (s : Subject) (n : ℕ) → lines_from s s.from (min (64 * n) (judged_count s)) ++ part s n ≡ lines_from s s.from (min (64 * (n + 1)) (judged_count s))
 unfolding part
-block_after s n = elim (cases_lt (image_count s) (64 * n)) [
+block_after s n = elim (cases_lt (judged_count s) (64 * n)) [
   | inl less ↦
-      let none : min 64 (image_count s - 64 * n) ≡ 0 = omega (arith, less) in
-      let same : min (64 * n) (image_count s) ≡ min (64 * (n + 1)) (image_count s) = omega (arith, less) in
-      rw (none, same) (append-nil (lines_from s 0 (min (64 * (n + 1)) (image_count s))))
+      let none : min 64 (judged_count s - 64 * n) ≡ 0 = omega (arith, less) in
+      let same : min (64 * n) (judged_count s) ≡ min (64 * (n + 1)) (judged_count s) = omega (arith, less) in
+      rw (none, same) (append-nil (lines_from s s.from (min (64 * (n + 1)) (judged_count s))))
   | inr more ↦
-      let e : min (64 * n) (image_count s) ≡ 64 * n = omega (arith, more) in
-      let f : min (64 * (n + 1)) (image_count s) ≡ 64 * n + min 64 (image_count s - 64 * n) = omega (arith, more) in
-      let z : 0 + 64 * n ≡ 64 * n = omega arith in
-      rw (e, f, range_with_len-append 0 (64 * n) (min 64 (image_count s - 64 * n)), z, flat_map-append (image_lines s) (range_with_len 0 (64 * n)) (range_with_len (64 * n) (min 64 (image_count s - 64 * n)))) refl
+      let e : min (64 * n) (judged_count s) ≡ 64 * n = omega (arith, more) in
+      let f : min (64 * (n + 1)) (judged_count s) ≡ 64 * n + min 64 (judged_count s - 64 * n) = omega (arith, more) in
+      rw (e, f, range_with_len-append s.from (64 * n) (min 64 (judged_count s - 64 * n)), flat_map-append (image_lines s) (range_with_len s.from (64 * n)) (range_with_len (s.from + 64 * n) (min 64 (judged_count s - 64 * n)))) refl
 ]
 
 part_more : (s : Subject) (n : ℕ) → flat_map (part s) (range_with_len 0 (n + 1)) ≡ flat_map (part s) (range_with_len 0 n) ++ part s n
@@ -88,19 +87,19 @@ part_more s n =
     rw (range_with_len-more 0 n, z, flat_map-append (part s) (range_with_len 0 n) (n ∷ []), append-nil (part s n)) refl
 
 -- the parts of some blocks are the lines of their images
-parts : (s : Subject) (n : ℕ) → flat_map (part s) (range_with_len 0 n) ≡ lines_from s 0 (min (64 * n) (image_count s))
-parts s zero = let e : min (64 * 0) (image_count s) ≡ 0 = omega arith in rw e refl
+parts : (s : Subject) (n : ℕ) → flat_map (part s) (range_with_len 0 n) ≡ lines_from s s.from (min (64 * n) (judged_count s))
+parts s zero = let e : min (64 * 0) (judged_count s) ≡ 0 = omega arith in rw e refl
 parts s (suc n) =
     let e : n + 1 ≡ suc n = omega arith in
-    subst (λ k. flat_map (part s) (range_with_len 0 k) ≡ lines_from s 0 (min (64 * k) (image_count s))) e
+    subst (λ k. flat_map (part s) (range_with_len 0 k) ≡ lines_from s s.from (min (64 * k) (judged_count s))) e
     (part_more s n ∙ ap (λ (ls : List FailingLine). ls ++ part s n) (parts s n) ∙ block_after s n)
 
 -- the parts of all blocks are the failing lines
 pub all_parts : (s : Subject) → flat_map (part s) (range_with_len 0 (block_count s)) ≡ failing_lines s
 unfolding failing_lines
 all_parts s =
-    let e : min (64 * block_count s) (image_count s) ≡ image_count s = omega arith in
-    parts s (block_count s) ∙ ap (λ n. lines_from s 0 n) e
+    let e : min (64 * block_count s) (judged_count s) ≡ judged_count s = omega arith in
+    parts s (block_count s) ∙ ap (λ n. lines_from s s.from n) e
 
 -- the choice that follows that of image i, where one does
 pub choice_next : (s : Subject) (moved : Bool) (old new : ChoiceValue) (i : ℕ)

@@ -9,13 +9,13 @@ use Rattle.epochs.specs.Touching.{touching}
 use Rattle.choices.specs.declared.pick.Pick.{Pick}
 use Rattle.choices.specs.Choices.{ChoiceValue, choice_of, ranked_choices}
 use Rattle.choices.proofs.Plans.{stands}
-use Rattle.choices.specs.Picked.{PickedValue, IsRanked, Extends, choice_of_picked, marked, picked_of}
+use Rattle.choices.specs.Picked.{PickedValue, IsRanked, Extends, choice_of_picked, marked_picks, picked_of}
 use Rattle.images.specs.Views.{ViewValue, view_of, sectors_of, context_at}
 use Rattle.images.proofs.Devices.{images_are_devices}
 use Rattle.checker.specs.Checker.{CheckerValue, judgement}
 use Rattle.machine.specs.Outcome.{Ending}
 use Rattle.helpers.specs.Footprint.{FootprintValue}
-use Rattle.checker.specs.Footprints.{AgreeingAreJudgedAlike, AgreeAt, kept}
+use Rattle.checker.specs.Footprints.{AgreeingAreJudgedAlike, AgreeAt, kept_footprint}
 use Rattle.choices.proofs.Passing.{ranked_wanted}
 use Rattle.images.proofs.Covering.{touching_tells}
 use Rattle.checker.proofs.Alike.{judged_alike}
@@ -25,7 +25,7 @@ use Rattle.workers.specs.Reuse.{IsKnown, NoneTold, told_or}
 
 -- Marked departures are some of all, and the others aren't told.
 
-marked_from : (marks : List Bool) (picks : List Pick) (i : ℕ) (x : Pick) → slice_get (marked marks picks) i ≡ Some x → (j : ℕ) × (slice_get picks j ≡ Some x)
+marked_from : (marks : List Bool) (picks : List Pick) (i : ℕ) (x : Pick) → slice_get (marked_picks marks picks) i ≡ Some x → (j : ℕ) × (slice_get picks j ≡ Some x)
 marked_from [] picks i x there = absurd (let bad : None ≡ Some x = there in cc)
 marked_from (b ∷ marks) [] i x there = absurd (let bad : None ≡ Some x = there in cc)
 marked_from (true ∷ marks) (p ∷ picks) zero x there = (0, there)
@@ -33,7 +33,7 @@ marked_from (true ∷ marks) (p ∷ picks) (suc i) x there = let rest = marked_f
 marked_from (false ∷ marks) (p ∷ picks) i x there = let rest = marked_from marks picks i x there in (suc rest.0, rest.1)
 
 marked_to : (marks : List Bool) (picks : List Pick) (i : ℕ) (x : Pick) → slice_index_or marks i false ≡ true → slice_get picks i ≡ Some x
-    → (j : ℕ) × (slice_get (marked marks picks) j ≡ Some x)
+    → (j : ℕ) × (slice_get (marked_picks marks picks) j ≡ Some x)
 marked_to [] picks i x mark there = absurd (let bad : false ≡ true = mark in cc)
 marked_to (b ∷ marks) [] i x mark there = absurd (let bad : None ≡ Some x = there in cc)
 marked_to (true ∷ marks) (p ∷ picks) zero x mark there = (0, there)
@@ -41,19 +41,19 @@ marked_to (false ∷ marks) (p ∷ picks) zero x mark there = absurd (let bad : 
 marked_to (true ∷ marks) (p ∷ picks) (suc i) x mark there = let rest = marked_to marks picks i x mark there in (suc rest.0, rest.1)
 marked_to (false ∷ marks) (p ∷ picks) (suc i) x mark there = marked_to marks picks i x mark there
 
-extends : (marks : List Bool) (picks : List Pick) (told : List ℕ) → NoneTold (Some told) marks picks → Extends (marked marks picks) told picks
+extends : (marks : List Bool) (picks : List Pick) (told : List ℕ) → NoneTold (Some told) marks picks → Extends (marked_picks marks picks) told picks
 extends marks picks told none = record {
   has = marked_from marks picks;
   others = λ i x there. by i x there (slice_index_or marks i false) refl;
 }
   where
     by : (i : ℕ) (x : Pick) → slice_get picks i ≡ Some x → (b : Bool) → slice_index_or marks i false ≡ b
-        → ((j : ℕ) × (slice_get (marked marks picks) j ≡ Some x)) ⊎ (list_any (λ (part : ℕ). part == x.part) told ≡ false)
+        → ((j : ℕ) × (slice_get (marked_picks marks picks) j ≡ Some x)) ⊎ (list_any (λ (part : ℕ). part == x.part) told ≡ false)
     by i x there true mark = inl (marked_to marks picks i x mark there)
     by i x there false mark = inr (none i x there mark)
 
 -- where each may be told all are marked
-whole : (marks : List Bool) (picks : List Pick) → NoneTold None marks picks → marked marks picks ≡ picks
+whole : (marks : List Bool) (picks : List Pick) → NoneTold None marks picks → marked_picks marks picks ≡ picks
 whole [] [] none = refl
 whole [] (p ∷ picks) none = absurd (let bad : true ≡ false = none 0 p refl refl in cc)
 whole (b ∷ marks) [] none = refl
@@ -67,7 +67,7 @@ view_at s p = view_of s.plan (choice_of_picked s.plan p)
 -- what is told covers a sector that was kept of the run on a choice
 abbrev pub AreTold : Subject → CheckerValue → ℕ → PickedValue → Option (List ℕ) → Type 0
 AreTold s checker room own told = (parts : List ℕ) → told ≡ Some parts → (sectors : List ℕ)
-    × ((kept room checker (sectors_of (view_at s own)) (context_at s.plan.log (choice_of_picked s.plan own).cut)).sectors ≡ Some sectors)
+    × ((kept_footprint room checker (sectors_of (view_at s own)) (context_at s.plan.log (choice_of_picked s.plan own).cut)).sectors ≡ Some sectors)
     × (parts ≡ touching s.plan.by s.plan.log.entries own.cut sectors)
 
 -- the images of two choices of a cut, of which one extends the other, agree at the sectors that were kept
@@ -97,7 +97,7 @@ one_cut s n m own p first second place =
 alike : AgreeingAreJudgedAlike → (s : Subject) (checker : CheckerValue) (room n m : ℕ) (own : PickedValue) (picks : List Pick) (marks : List Bool) (told : Option (List ℕ))
     → IsLog s.plan.log → AreTold s checker room own told
     → IsRanked s.plan s.bound s.tears n own → IsRanked s.plan s.bound s.tears m (record own { picks = picks })
-    → marked marks picks ≡ own.picks → NoneTold told marks picks
+    → marked_picks marks picks ≡ own.picks → NoneTold told marks picks
     → ending_at s (choice_of_picked s.plan (record own { picks = picks })) checker ≡ ending_at s (choice_of_picked s.plan own) checker
 unfolding ending_at choice_of
 alike law s checker room n m own picks marks None bounds are first second same none =
@@ -139,23 +139,23 @@ pub record IsLearned (s : Subject) (checker : CheckerValue) (picked made : Picke
   pub history_is : history ≡ s.plan
   pub number : ℕ
   pub there : slice_get (ranked_choices plan s.bound s.tears) number ≡ Some choice
-  pub choice_is : choice ≡ choice_of_picked plan (record picked { picks = marked marks picked.picks })
+  pub choice_is : choice ≡ choice_of_picked plan (record picked { picks = marked_picks marks picked.picks })
   pub made_is : made ≡ picked_of choice
   pub view_is : view ≡ view_of history choice
   pub bounds : IsLog view.log
   pub ends : ending ≡ judgement checker (sectors_of view) (context_at view.log view.cut)
-  pub looks : footprint ≡ kept 32 checker (sectors_of view) (context_at view.log view.cut)
+  pub looks : footprint ≡ kept_footprint 32 checker (sectors_of view) (context_at view.log view.cut)
   pub cut : ℕ
   pub cut_is : cut ≡ choice.cut
   pub cover : IsTrue told → (sectors : List ℕ) × (footprint.sectors ≡ Some sectors) × (more ≡ touching plan.by plan.log.entries cut sectors)
 
 -- the choice of the marked departures
 abbrev pub own_of : PickedValue → List Bool → PickedValue
-own_of picked marks = record picked { picks = marked marks picked.picks }
+own_of picked marks = record picked { picks = marked_picks marks picked.picks }
 
 -- its numbers are those of the marked departures
 pub made_picks : (plan : PlanValue) (picked made : PickedValue) (marks : List Bool) (choice : ChoiceValue) → choice ≡ choice_of_picked plan (own_of picked marks)
-    → made ≡ picked_of choice → marked marks picked.picks ≡ made.picks
+    → made ≡ picked_of choice → marked_picks marks picked.picks ≡ made.picks
 unfolding choice_of
 made_picks plan picked made marks choice is made_is =
     sym (ap (λ (p : PickedValue). p.picks) made_is ∙ ap (λ (c : ChoiceValue). c.picks) is)
@@ -170,8 +170,8 @@ unfolding choice_of
 covered s checker picked made marks choice view footprint ending false more is view_is choice_is parts those = absurd (let bad : None ≡ Some parts = those in cc)
 covered s checker picked made marks choice view footprint ending true more is view_is choice_is parts those =
     let found = is.cover refl in
-    let looked : footprint ≡ kept 32 checker (sectors_of (view_at s (own_of picked marks))) (context_at s.plan.log (choice_of_picked s.plan (own_of picked marks)).cut) =
-    is.looks ∙ ap (λ (v : ViewValue). kept 32 checker (sectors_of v) (context_at v.log v.cut)) view_is in
+    let looked : footprint ≡ kept_footprint 32 checker (sectors_of (view_at s (own_of picked marks))) (context_at s.plan.log (choice_of_picked s.plan (own_of picked marks)).cut) =
+    is.looks ∙ ap (λ (v : ViewValue). kept_footprint 32 checker (sectors_of v) (context_at v.log v.cut)) view_is in
     let at : is.cut ≡ picked.cut = is.cut_is ∙ ap (λ (c : ChoiceValue). c.cut) choice_is in (
       found.0,
       ap (λ (f : FootprintValue). f.sectors) (sym looked) ∙ found.1,

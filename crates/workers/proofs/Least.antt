@@ -1,5 +1,5 @@
 -- The least image of lines.
-use Rattle.std.proofs.Common.{ℕ, ◌≡◌, ◌∙◌, ◌*◌, inl, inr, min, Bool, true, false, ◌&&◌, ◌||◌, nat_lt, nat_le, List, [], ◌∷◌, ◌++◌, Option, None, Some, refl, sym, ap, arith, append-nil}
+use Rattle.std.proofs.Common.{ℕ, ◌≡◌, ◌∙◌, ◌+◌, ◌*◌, inl, inr, min, Bool, true, false, ◌&&◌, ◌||◌, nat_lt, nat_le, List, [], ◌∷◌, ◌++◌, Option, None, Some, refl, sym, ap, arith, append-nil}
 use Rattle.std.specs.List.{list_any}
 use Rattle.std.proofs.lemmas.Bool.Decides.{leb_tells, nat_tests}
 use Rattle.std.proofs.lemmas.Grind.{flat_map-append}
@@ -55,6 +55,6 @@ reaches_any : (image : ℕ) (ls : List FailingLine) → reaches (least_image ls)
 reaches_any image [] = refl
 reaches_any image (l ∷ ls) = reaches_lower l.image image (least_image ls) ∙ ap (λ b. nat_le l.image image || b) (reaches_any image ls)
 
-pub counts_by_least : (lines : List FailingLine) (block : ℕ) (found : Found) → counts_with (least_image lines) block found ≡ counts lines block found
-counts_by_least lines block (Lines own) = refl
-counts_by_least lines block (Passed image) = ap (λ b. nat_lt image (64 * block) && b) (reaches_any image lines)
+pub counts_by_least : (from : ℕ) (lines : List FailingLine) (block : ℕ) (found : Found) → counts_with from (least_image lines) block found ≡ counts from lines block found
+counts_by_least from lines block (Lines own) = refl
+counts_by_least from lines block (Passed image) = ap (λ b. nat_lt image (64 * block) && b) (reaches_any (from + image) lines)

@@ -5,9 +5,9 @@ use Rattle.std.proofs.lemmas.Bool.Decides.{nat_tests}
 use Rattle.std.proofs.lemmas.List.{take_all}
 use Rattle.std.proofs.lemmas.Option.{same_Some}
 use Rattle.choices.specs.declared.pick.Pick.{Pick}
-use Rattle.choices.specs.Picked.{marked}
+use Rattle.choices.specs.Picked.{marked_picks}
 
-pub none_marked : (marks : List Bool) → marked marks [] ≡ []
+pub none_marked : (marks : List Bool) → marked_picks marks [] ≡ []
 none_marked [] = refl
 none_marked (b ∷ marks) = refl
 
@@ -15,7 +15,7 @@ abbrev pub if_marked : Bool → Pick → List Pick
 if_marked mark x = if mark then x ∷ [] else []
 
 pub marked_more : (marks : List Bool) (picks : List Pick) (i : ℕ) (x : Pick) → slice_get picks i ≡ Some x
-    → marked marks (take (suc i) picks) ≡ marked marks (take i picks) ++ if_marked (slice_index_or marks i false) x
+    → marked_picks marks (take (suc i) picks) ≡ marked_picks marks (take i picks) ++ if_marked (slice_index_or marks i false) x
 marked_more [] picks i x there = refl
 marked_more (b ∷ marks) [] i x there = absurd (let bad : None ≡ Some x = there in cc)
 marked_more (true ∷ marks) (p ∷ picks) zero x there = ap (λ (rest : List Pick). p ∷ rest) (none_marked marks) ∙ ap (λ (y : Pick). y ∷ []) (same_Some p x there)
@@ -29,28 +29,28 @@ taken_on (p ∷ own) zero x there = ap (λ (y : Pick). y ∷ []) (sym (same_Some
 taken_on (p ∷ own) (suc i) x there = ap (λ (rest : List Pick). p ∷ rest) (taken_on own i x there)
 
 -- behind the last of them, all are marked that there are
-pub all_marked : (marks : List Bool) (picks own : List Pick) (place seen : ℕ) → length picks ≤ place → marked marks (take place picks) ≡ take seen own
-    → IsTrue (seen == length own) → marked marks picks ≡ own
+pub all_marked : (marks : List Bool) (picks own : List Pick) (place seen : ℕ) → length picks ≤ place → marked_picks marks (take place picks) ≡ take seen own
+    → IsTrue (seen == length own) → marked_picks marks picks ≡ own
 all_marked marks picks own place seen past so whole =
     let same : seen ≡ length own = grind (arith, nat_tests) in
-    ap (marked marks) (sym (take_all place picks past)) ∙ so ∙ take_all seen own (omega arith)
+    ap (marked_picks marks) (sym (take_all place picks past)) ∙ so ∙ take_all seen own (omega arith)
 
 -- one more, which is marked or isn't
 pub marked_on : (marks : List Bool) (picks own : List Pick) (place seen : ℕ) (x : Pick) → slice_get picks place ≡ Some x → slice_index_or marks place false ≡ true
-    → slice_get own seen ≡ Some x → marked marks (take place picks) ≡ take seen own → marked marks (take (place + 1) picks) ≡ take (seen + 1) own
+    → slice_get own seen ≡ Some x → marked_picks marks (take place picks) ≡ take seen own → marked_picks marks (take (place + 1) picks) ≡ take (seen + 1) own
 marked_on marks picks own place seen x there mark next so =
-    ap (λ (n : ℕ). marked marks (take n picks)) (add-one place)
+    ap (λ (n : ℕ). marked_picks marks (take n picks)) (add-one place)
     ∙ marked_more marks picks place x there
-    ∙ ap (λ (b : Bool). marked marks (take place picks) ++ if_marked b x) mark
+    ∙ ap (λ (b : Bool). marked_picks marks (take place picks) ++ if_marked b x) mark
     ∙ ap (λ (front : List Pick). front ++ x ∷ []) so
     ∙ taken_on own seen x next
     ∙ ap (λ (n : ℕ). take n own) (sym (add-one seen))
 
 pub unmarked_on : (marks : List Bool) (picks own : List Pick) (place seen : ℕ) (x : Pick) → slice_get picks place ≡ Some x → slice_index_or marks place false ≡ false
-    → marked marks (take place picks) ≡ take seen own → marked marks (take (place + 1) picks) ≡ take seen own
+    → marked_picks marks (take place picks) ≡ take seen own → marked_picks marks (take (place + 1) picks) ≡ take seen own
 unmarked_on marks picks own place seen x there mark so =
-    ap (λ (n : ℕ). marked marks (take n picks)) (add-one place)
+    ap (λ (n : ℕ). marked_picks marks (take n picks)) (add-one place)
     ∙ marked_more marks picks place x there
-    ∙ ap (λ (b : Bool). marked marks (take place picks) ++ if_marked b x) mark
-    ∙ append-nil (marked marks (take place picks))
+    ∙ ap (λ (b : Bool). marked_picks marks (take place picks) ++ if_marked b x) mark
+    ∙ append-nil (marked_picks marks (take place picks))
     ∙ so

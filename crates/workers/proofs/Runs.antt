@@ -10,7 +10,7 @@ use Rattle.lines.specs.Line.{FailingLine, first_lines}
 use Rattle.workers.specs.declared.found.Found.{Found}
 use Rattle.workers.specs.declared.found.Found.TheVariants.{Lines, Passed}
 use Rattle.workers.specs.Exploring.{ArePiecesOf}
-use Rattle.workers.specs.Failing.{Subject, image_count, lines_from, failing_lines, part}
+use Rattle.workers.specs.Failing.{Subject, judged_count, lines_from, failing_lines, part}
 use Rattle.workers.specs.Laws.{AreSomeOf, BeginsWithFirst}
 use Rattle.workers.specs.Pieces.{PieceValue, EachPiece, ArePieces, AreFull, AreWhole, HasPart, passes, block_count, of_block, pieces_at, counted_at, lines_at, lines_of, full_lines, counts, lines_by_block, RefusesPieces, two_pieces, no_piece, no_memory}
 use Rattle.workers.proofs.JudgedLines.{all_parts}
@@ -63,19 +63,19 @@ alike : (f g : ℕ → List FailingLine) (a n : ℕ) → ((b : ℕ) → b < a + 
 alike f g a zero h = refl
 alike f g a (suc n) h = rw (h a (omega arith), alike f g (a + 1) n (λ b lt. h b (omega (arith, lt)))) refl
 
-pub without_passed : (s : Subject) (ps : List PieceValue) → ArePieces s ps → AreFull ps → AreWhole ps (block_count s) → lines_by_block ps (block_count s) ≡ failing_lines s
+pub without_passed : (s : Subject) (ps : List PieceValue) → ArePieces s ps → AreFull ps → AreWhole s.from ps (block_count s) → lines_by_block ps (block_count s) ≡ failing_lines s
 unfolding lines_by_block
 without_passed s ps h full whole =
     alike (lines_at ps) (part s) 0 (block_count s) (λ b lt. own_part s ps b h full (whole b (omega (arith, lt))).0) ∙ all_parts s
 
 -- where some were
 
-part_in : (s : Subject) (b : ℕ) → AreIn b (part s b)
+part_in : (s : Subject) (b : ℕ) → AreIn s.from b (part s b)
 unfolding part
-part_in s b = step (of_range s (64 * b) (min 64 (image_count s - 64 * b)))
+part_in s b = step (of_range s (s.from + 64 * b) (min 64 (judged_count s - 64 * b)))
   where
-    step : Each (λ l. (64 * b ≤ l.image) × (l.image < 64 * b + min 64 (image_count s - 64 * b))) (lines_from s (64 * b) (min 64 (image_count s - 64 * b)))
-        → AreIn b (lines_from s (64 * b) (min 64 (image_count s - 64 * b)))
+    step : Each (λ l. (s.from + 64 * b ≤ l.image) × (l.image < s.from + 64 * b + min 64 (judged_count s - 64 * b))) (lines_from s (s.from + 64 * b) (min 64 (judged_count s - 64 * b)))
+        → AreIn s.from b (lines_from s (s.from + 64 * b) (min 64 (judged_count s - 64 * b)))
     step h = each_then _ _ _ (λ l is. (is.0, omega (arith, is.1))) h
 
 any_in : (P : FailingLine → Type 0) (test : FailingLine → Bool) (ls : List FailingLine) → Each P ls → list_any test ls ≡ true
@@ -134,26 +134,26 @@ no_lines (p ∷ ps) c e i q there = elim (eqb_tells p.block c) [
     here_not other rest (suc i) at own = rest i q at own
 
 -- a full piece that has a line at or before an image has a block at or before it
-block_of_line : (s : Subject) (image c : ℕ) (found : Found) → HasPart s c found → list_any (λ (l : FailingLine). nat_le l.image image) (lines_of found) ≡ true → 64 * c ≤ image
+block_of_line : (s : Subject) (image c : ℕ) (found : Found) → HasPart s c found → list_any (λ (l : FailingLine). nat_le l.image (s.from + image)) (lines_of found) ≡ true → 64 * c ≤ image
 block_of_line s image c (Passed other) h e = absurd (let bad : false ≡ true = e in cc)
 block_of_line s image c (Lines own) h e =
-    let within : AreIn c own = subst (AreIn c) (sym h) (part_in s c) in
-    let l = any_in (λ l. (64 * c ≤ l.image) × (l.image < 64 * c + 64)) (λ (l : FailingLine). nat_le l.image image) own within e in
-    let le : l.0.image ≤ image = grind (arith, nat_tests, l.2) in
+    let within : AreIn s.from c own = subst (AreIn s.from c) (sym h) (part_in s c) in
+    let l = any_in (λ l. (s.from + 64 * c ≤ l.image) × (l.image < s.from + 64 * c + 64)) (λ (l : FailingLine). nat_le l.image (s.from + image)) own within e in
+    let le : l.0.image ≤ s.from + image = grind (arith, nat_tests, l.2) in
     omega (arith, le, l.1.0)
 
-earlier : (s : Subject) (ps : List PieceValue) (b image : ℕ) → ArePieces s ps → counts (full_lines ps) b (Passed image) ≡ true
+earlier : (s : Subject) (ps : List PieceValue) (b image : ℕ) → ArePieces s ps → counts s.from (full_lines ps) b (Passed image) ≡ true
     → (c : ℕ) × (c < b) × (lines_at ps c ≢ [])
 earlier s ps b image h e =
-    let two = both (nat_lt image (64 * b)) (list_any (λ (l : FailingLine). nat_le l.image image) (full_lines ps)) e in
+    let two = both (nat_lt image (64 * b)) (list_any (λ (l : FailingLine). nat_le l.image (s.from + image)) (full_lines ps)) e in
     let lt : image < 64 * b = grind (arith, nat_tests, two.0) in
-    let q = line_of_piece (λ (l : FailingLine). nat_le l.image image) ps two.1 in
+    let q = line_of_piece (λ (l : FailingLine). nat_le l.image (s.from + image)) ps two.1 in
     let le = block_of_line s image q.1.0.block q.1.0.found (h q.0 q.1.0 q.1.1).1 q.1.2 in (
       q.1.0.block,
       omega (arith, lt, le),
       λ none.
           let empty : lines_of q.1.0.found ≡ [] = no_lines ps q.1.0.block none q.0 q.1.0 q.1.1 refl in
-          let bad : false ≡ true = sym (ap (list_any (λ (l : FailingLine). nat_le l.image image)) empty) ∙ q.1.2 in
+          let bad : false ≡ true = sym (ap (list_any (λ (l : FailingLine). nat_le l.image (s.from + image))) empty) ∙ q.1.2 in
           cc,
     )
   where
@@ -161,47 +161,52 @@ earlier s ps b image h e =
     both true b h = (refl, h)
     both false b h = absurd (let bad : false ≡ true = h in cc)
 
-one_counts : (lines : List FailingLine) (p : PieceValue) → length (filter (λ (q : PieceValue). counts lines q.block q.found) (p ∷ [])) ≡ 1 → counts lines p.block p.found ≡ true
-one_counts lines p e = step (counts lines p.block p.found) e
+one_counts : (from : ℕ) (lines : List FailingLine) (p : PieceValue) → length (filter (λ (q : PieceValue). counts from lines q.block q.found) (p ∷ [])) ≡ 1 → counts from lines p.block p.found ≡ true
+one_counts from lines p e = step (counts from lines p.block p.found) e
   where
     step : (b : Bool) → length (cond b (p ∷ []) []) ≡ 1 → b ≡ true
     step true h = refl
     step false h = absurd (omega (arith, h))
 
-kept_part : (s : Subject) (ps : List PieceValue) (b : ℕ) (found : Found) → ArePieces s ps → HasPart s b found → counts (full_lines ps) b found ≡ true
+kept_part : (s : Subject) (ps : List PieceValue) (b : ℕ) (found : Found) → ArePieces s ps → HasPart s b found → counts s.from (full_lines ps) b found ≡ true
     → lines_at ps b ≡ lines_of found → IsKept (lines_at ps) (part s) b
 kept_part s ps b (Lines own) h has count e = inl (e ∙ has)
 kept_part s ps b (Passed image) h has count e = inr (e, earlier s ps b image h count)
 
-kept : (s : Subject) (ps : List PieceValue) (b : ℕ) → ArePieces s ps → pieces_at ps b ≡ 1 → counted_at ps b ≡ 1 → IsKept (lines_at ps) (part s) b
+kept : (s : Subject) (ps : List PieceValue) (b : ℕ) → ArePieces s ps → pieces_at ps b ≡ 1 → counted_at s.from ps b ≡ 1 → IsKept (lines_at ps) (part s) b
 kept s ps b h one count =
     let p = one_piece (λ p. (p.block < block_count s) × HasPart s p.block p.found) ps b h one in
     let lines : lines_at ps b ≡ lines_of p.0.found = ap full_lines p.3 ∙ append-nil (lines_of p.0.found) in
-    let counted : counts (full_lines ps) p.0.block p.0.found ≡ true =
-    one_counts (full_lines ps) p.0 (ap (λ (qs : List PieceValue). length (filter (λ (q : PieceValue). counts (full_lines ps) q.block q.found) qs)) (sym p.3) ∙ count) in
+    let counted : counts s.from (full_lines ps) p.0.block p.0.found ≡ true =
+    one_counts s.from (full_lines ps) p.0 (ap (λ (qs : List PieceValue). length (filter (λ (q : PieceValue). counts s.from (full_lines ps) q.block q.found) qs)) (sym p.3) ∙ count) in
     kept_part s ps b p.0.found h (rw p.2 at p.1.1) (rw p.2 at counted) lines
 
-pub some_lines : (s : Subject) (ps : List PieceValue) → ArePieces s ps → AreWhole ps (block_count s) → AreSomeOf (lines_by_block ps (block_count s)) (failing_lines s)
+pub some_lines : (s : Subject) (ps : List PieceValue) → ArePieces s ps → AreWhole s.from ps (block_count s) → AreSomeOf (lines_by_block ps (block_count s)) (failing_lines s)
 unfolding lines_by_block
 some_lines s ps h whole =
     rw (← all_parts s)
     (some_of_blocks (lines_at ps) (part s) 0 (block_count s)
     (λ b lt. let at = whole b (omega (arith, lt)) in kept s ps b h at.0 at.1))
 
-pub same_first_lines : (s : Subject) (ps : List PieceValue) → ArePieces s ps → AreWhole ps (block_count s) → first_lines (lines_by_block ps (block_count s)) ≡ first_lines (failing_lines s)
+pub same_first_lines : (s : Subject) (ps : List PieceValue) → ArePieces s ps → AreWhole s.from ps (block_count s) → first_lines (lines_by_block ps (block_count s)) ≡ first_lines (failing_lines s)
 unfolding lines_by_block
 same_first_lines s ps h whole =
-    first_of_blocks (lines_at ps) (part s) 0 (block_count s) (part_in s)
+    first_of_blocks s.from (lines_at ps) (part s) 0 (block_count s) (part_in s)
     (λ b lt. let at = whole b (omega (arith, lt)) in kept s ps b h at.0 at.1)
     (λ b lt. absurd (omega (arith, lt)))
     ∙ ap first_lines (all_parts s)
 
-pub with_passed : (s : Subject) (ps : List PieceValue) → ArePieces s ps → AreWhole ps (block_count s) → BeginsWithFirst (failing_lines s) (lines_by_block ps (block_count s))
+pub with_passed : (s : Subject) (ps : List PieceValue) → ArePieces s ps → AreWhole s.from ps (block_count s) → BeginsWithFirst (failing_lines s) (lines_by_block ps (block_count s))
 with_passed s ps h whole =
     begins (failing_lines s) (lines_by_block ps (block_count s)) (all_ordered s) (some_lines s ps h whole) (same_first_lines s ps h whole)
 
-pub lines_ordered : (s : Subject) (ps : List PieceValue) → ArePieces s ps → AreWhole ps (block_count s) → Ordered (lines_by_block ps (block_count s))
+pub lines_ordered : (s : Subject) (ps : List PieceValue) → ArePieces s ps → AreWhole s.from ps (block_count s) → Ordered (lines_by_block ps (block_count s))
 lines_ordered s ps h whole = some_ordered (lines_by_block ps (block_count s)) (failing_lines s) (all_ordered s) (some_lines s ps h whole)
+
+-- as they were collected
+
+pub whole_run_of : (s : Subject) (ps : List PieceValue) (from blocks : ℕ) → from ≡ s.from → blocks ≡ block_count s → AreWhole from ps blocks → AreWhole s.from ps (block_count s)
+whole_run_of s ps from blocks e f h = subst (λ n. AreWhole n ps (block_count s)) e (subst (λ n. AreWhole from ps n) f h)
 
 -- one more piece
 
@@ -232,9 +237,9 @@ all_count test (p ∷ ps) b h = step (p.block == b) (all_count test ps b (of_tai
     step true e = let this : test p ≡ true = h 0 p refl in rw this (ap suc e)
     step false e = e
 
-pub only_memory : (s : Subject) (ps : List PieceValue) (r : Refusal) → ArePiecesOf s ps → RefusesPieces ps (block_count s) r → r ≡ work_refusal work.Memory 0
+pub only_memory : (s : Subject) (ps : List PieceValue) (r : Refusal) → ArePiecesOf s ps → RefusesPieces s.from ps (block_count s) r → r ≡ work_refusal work.Memory 0
 only_memory s ps r are (two_pieces block h) = absurd (omega (arith, are.once block h.within, h.twice))
 only_memory s ps r are (no_piece block h) =
-    let counted = all_count (λ (p : PieceValue). counts (full_lines ps) p.block p.found) ps block are.counted in
+    let counted = all_count (λ (p : PieceValue). counts s.from (full_lines ps) p.block p.found) ps block are.counted in
     absurd (omega (arith, are.once block h.within, counted, h.missing))
 only_memory s ps r are no_memory = refl

@@ -1,5 +1,5 @@
 -- The failing lines are the set of those that fail, in their order.
-use Rattle.std.proofs.Common.{ℕ, zero, suc, ◌≡◌, ◌+◌, ◌<◌, ◌≤◌, inl, inr, Bool, true, false, List, [], ◌∷◌, ◌++◌, length, map, get_or, Option, None, Some, slice_get, refl, sym, ◌∙◌, arith}
+use Rattle.std.proofs.Common.{ℕ, zero, suc, ◌≡◌, ◌+◌, ◌-◌, ◌<◌, ◌≤◌, inl, inr, Bool, true, false, IsTrue, List, [], ◌∷◌, ◌++◌, length, map, get_or, Option, None, Some, slice_get, refl, sym, ◌∙◌, arith}
 use Rattle.std.specs.Option.{option_and_then}
 use Rattle.std.specs.List.{cons_option, filter_map, flat_map, range_with_len}
 use Rattle.std.specs.List.Sorted.{IsNonDecreasing}
@@ -10,7 +10,7 @@ use Rattle.choices.specs.Choices.{ChoiceValue}
 use Rattle.checker.specs.Checker.{CheckerValue}
 use Rattle.machine.specs.Outcome.{Ending}
 use Rattle.lines.specs.Line.{FailingLine, fails}
-use Rattle.workers.specs.Failing.{Subject, choices_of, image_count, ending_at, line_if, line_at, line_of, image_lines, lines_from, failing_lines}
+use Rattle.workers.specs.Failing.{Subject, choices_of, ending_at, line_if, line_at, line_of, image_lines, lines_from, failing_lines}
 use Rattle.workers.specs.Laws.{IsFailing, Precedes, ListsFailing}
 use Rattle.workers.proofs.JudgedLines.{line_is}
 
@@ -54,13 +54,25 @@ ordered_at (x ∷ xs) (suc i) (suc j) a b h lt f g = ordered_at xs i j a b h.1 (
 
 -- the line of an image and a checker
 
+-- the line tells truly of an image and a checker of the run, whether the image is judged or not
+record IsLine (s : Subject) (l : FailingLine) : Type 0 where
+  choice : ChoiceValue
+  of_image : slice_get (choices_of s) l.image ≡ Some choice
+  checker : CheckerValue
+  of_program : slice_get s.checkers l.program ≡ Some checker
+  ends : l.ending ≡ ending_at s choice checker
+  cut : l.cut ≡ choice.cut
+  by_is : l.by ≡ s.plan.by
+  departures : l.departures ≡ choice.departures
+  fails : IsTrue (fails l.ending)
+
 -- what the line of that image says, with a checker from p on
 abbrev IsOf : Subject → ℕ → ℕ → FailingLine → Type 0
-IsOf s i p l = IsFailing s l × (l.image ≡ i) × (p ≤ l.program)
+IsOf s i p l = IsLine s l × (l.image ≡ i) × (p ≤ l.program)
 
 abbrev IsOfOption : Subject → ℕ → ℕ → Option FailingLine → Type 0
 IsOfOption s i p None = Unit {0}
-IsOfOption s i p (Some l) = IsFailing s l × (l.image ≡ i) × (l.program ≡ p)
+IsOfOption s i p (Some l) = IsLine s l × (l.image ≡ i) × (l.program ≡ p)
 
 line_if-fails : (s : Subject) (i p : ℕ) (choice : ChoiceValue) (checker : CheckerValue) (b : Bool)
     → slice_get (choices_of s) i ≡ Some choice → slice_get s.checkers p ≡ Some checker → fails (ending_at s choice checker) ≡ b
@@ -117,7 +129,7 @@ lines_here s a = of_image s a 0 (length s.checkers)
 -- the lines of images from a on
 
 abbrev IsFrom : Subject → ℕ → FailingLine → Type 0
-IsFrom s a l = IsFailing s l × (a ≤ l.image)
+IsFrom s a l = IsLine s l × (a ≤ l.image)
 
 of_images : (s : Subject) (a n : ℕ) → Each (IsFrom s a) (lines_from s a n) × Ordered (lines_from s a n)
 of_images s a zero = (tt, tt)
@@ -187,17 +199,34 @@ in_image s l h =
     let lt = slice_get_within s.checkers l.program h.checker h.of_program in
     in_options (line_of s l.image) 0 (length s.checkers) l.program l (omega arith) (omega (arith, lt)) (option_line s l h)
 
+is_failing : (s : Subject) (l : FailingLine) → s.from ≤ l.image → l.image < s.to → IsLine s l → IsFailing s l
+is_failing s l low high is = record {
+  low = low;
+  high = high;
+  choice = is.choice;
+  of_image = is.of_image;
+  checker = is.checker;
+  of_program = is.of_program;
+  ends = is.ends;
+  cut = is.cut;
+  by_is = is.by_is;
+  departures = is.departures;
+  fails = is.fails;
+}
+
 pub listed : (s : Subject) → ListsFailing s (failing_lines s)
 unfolding failing_lines
 listed s =
-    let all = of_images s 0 (image_count s) in
+    let lines = lines_from s s.from (s.to - s.from) in
+    let all = of_images s s.from (s.to - s.from) in
     record {
-      sound = λ i l there. (each_at (IsFrom s 0) (lines_from s 0 (image_count s)) i l all.0 there).0;
+      sound = λ i l there.
+          let at = each_at (λ k. (s.from ≤ k.image) × (k.image < s.from + (s.to - s.from))) lines i l (of_range s s.from (s.to - s.from)) there in
+          is_failing s l at.0 (omega (arith, at.0, at.1)) (each_at (IsFrom s s.from) lines i l all.0 there).0;
       complete = λ l h.
-          let lt = slice_get_within (choices_of s) l.image h.choice h.of_image in
           let within = in_image s l h in
-          in_lists (image_lines s) 0 (image_count s) l.image within.0 l (omega arith) (omega (arith, lt)) within.1;
-      ordered = λ i j a b lt f g. ordered_at (lines_from s 0 (image_count s)) i j a b all.1 lt f g;
+          in_lists (image_lines s) s.from (s.to - s.from) l.image within.0 l h.low (omega (arith, h.low, h.high)) within.1;
+      ordered = λ i j a b lt f g. ordered_at lines i j a b all.1 lt f g;
     }
 
 -- the images of the lines never fall
@@ -221,4 +250,4 @@ images_rise ls h = λ i j d le lt. rises ls i j d h le lt
 
 pub all_ordered : (s : Subject) → Ordered (failing_lines s)
 unfolding failing_lines
-all_ordered s = (of_images s 0 (image_count s)).1
+all_ordered s = (of_images s s.from (s.to - s.from)).1

@@ -41,11 +41,11 @@ whole_run s steps ps all left few h found_posted once below are =
       full = handed.full;
     }
   where
-    by_found : HandsOver s steps all → (block : ℕ) (found : Found) → block < block_count s → IsSeen steps block found → counts (full_lines all) block found ≡ true
+    by_found : HandsOver s steps all → (block : ℕ) (found : Found) → block < block_count s → IsSeen steps block found → counts s.from (full_lines all) block found ≡ true
     by_found handed block (Lines own) lt seen = refl
     by_found handed block (Passed image) lt seen =
         let before : nat_lt image (64 * block) ≡ true = grind (arith, nat_tests, seen.0) in
         let posted = found_posted.each image (omega (arith, seen.0, lt, few)) seen.1 in
         let reached = handed.posted image posted in
-        let counted : counts_with (least_image (full_lines all)) block (Passed image) ≡ true = rw (before, reached) refl in
-        sym (counts_by_least (full_lines all) block (Passed image)) ∙ counted
+        let counted : counts_with s.from (least_image (full_lines all)) block (Passed image) ≡ true = rw (before, reached) refl in
+        sym (counts_by_least s.from (full_lines all) block (Passed image)) ∙ counted

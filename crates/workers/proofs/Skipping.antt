@@ -13,7 +13,7 @@ use Rattle.choices.specs.declared.pick.Pick.{Pick}
 use Rattle.choices.specs.Choices.{ChoiceValue}
 use Rattle.choices.specs.Laws.{AreRising}
 use Rattle.choices.specs.Picks.{fates_of}
-use Rattle.choices.specs.Picked.{PickedValue, choice_of_picked, IsRanked, CanPass, passed, with_last}
+use Rattle.choices.specs.Picked.{PickedValue, choice_of_picked, IsRanked, CanPass, pick_after, with_last}
 use Rattle.choices.proofs.Passing.{ranked_is_choice, pass_leads, passed_part}
 use Rattle.machine.specs.Outcome.{Ending}
 use Rattle.checker.specs.Checker.{CheckerValue}
@@ -82,7 +82,7 @@ good_at s checker entries p found i most count n zero known is named good reache
     (good_line s n i (choice_of_picked s.plan p) checker is.entry.ending ranked named (found_ends s checker entries n p found known ranked is) good)
 good_at s checker entries p found i most count n (suc j) known is named good reaches within holds ranked lt =
     let (few, front, last, can) = reaches (suc j) (omega arith) (omega (arith, lt, within)) in
-    let other : Pick = passed (fates_of s.tears) (suc j) last in
+    let other : Pick = pick_after (fates_of s.tears) (suc j) last in
     let (mark, told) = holds front last (suc j) can (omega arith) lt in
     let there : IsRanked s.plan s.bound s.tears (n + suc j) (with_last p front other) = pass_leads s.plan s.bound s.tears n p front last (suc j) ranked can in
     good_line s (n + suc j) i (choice_of_picked s.plan (with_last p front other)) checker is.entry.ending there named
@@ -167,9 +167,9 @@ holds_on s p entries found is n at count last next ranked long there mark told e
     let room : last.part * m + last.fate + j < parts_at s p * m = subst (λ (x : Pick). x.part * m + x.fate + j < parts_at s p * m) same can.room in
     let low = passed_part m j (parts_at s p) last fits.1 room in
     let unmarked : tells is.entry.told last.part ≡ false = is.holds.others at last there mark in
-    let high : (x : ℕ) → next ≡ Some x → (passed m j last).part < x = λ x e. (passed_part m j x last fits.1 (let end = ends x e in omega (arith, end, lt))).1 in (
+    let high : (x : ℕ) → next ≡ Some x → (pick_after m j last).part < x = λ x e. (passed_part m j x last fits.1 (let end = ends x e in omega (arith, end, lt))).1 in (
       subst (λ k. slice_index_or found.marks k false ≡ false) place mark,
-      subst (λ (x : Pick). tells is.entry.told (passed m j x).part ≡ false) (sym same) (not_told is.entry.told last.part (passed m j last).part next unmarked told low.0 high),
+      subst (λ (x : Pick). tells is.entry.told (pick_after m j x).part ≡ false) (sym same) (not_told is.entry.told last.part (pick_after m j last).part next unmarked told low.0 high),
     )
 
 pub holds_once : (s : Subject) (p : PickedValue) (found : Known) (entry : EntryValue) → HoldsFrom s p found entry 1

@@ -115,16 +115,16 @@ some_of_blocks f g a (suc n) h =
     step own rest (inl e) some = rw e (some_append (g a) rest (flat_map g (range_with_len (a + 1) n)) some)
     step own rest (inr e) some = rw e.0 (some_behind (g a) rest (flat_map g (range_with_len (a + 1) n)) some)
 
--- the lines of block b are of its images
-abbrev pub AreIn : ℕ → List FailingLine → Type 0
-AreIn b ls = Each (λ l. (64 * b ≤ l.image) × (l.image < 64 * b + 64)) ls
+-- the lines of block b are of its images, where the first block begins with that image
+abbrev pub AreIn : ℕ → ℕ → List FailingLine → Type 0
+AreIn first b ls = Each (λ l. (first + 64 * b ≤ l.image) × (l.image < first + 64 * b + 64)) ls
 
-from_block : (g : ℕ → List FailingLine) (a n : ℕ) → ((b : ℕ) → AreIn b (g b)) → Each (λ l. 64 * a ≤ l.image) (flat_map g (range_with_len a n))
-from_block g a zero h = tt
-from_block g a (suc n) h =
-    each_append (λ l. 64 * a ≤ l.image) (g a) (flat_map g (range_with_len (a + 1) n))
-    (each_then (λ l. (64 * a ≤ l.image) × (l.image < 64 * a + 64)) (λ l. 64 * a ≤ l.image) (g a) (λ l is. is.0) (h a))
-    (each_then (λ l. 64 * (a + 1) ≤ l.image) (λ l. 64 * a ≤ l.image) (flat_map g (range_with_len (a + 1) n)) (λ l is. omega (arith, is)) (from_block g (a + 1) n h))
+from_block : (first : ℕ) (g : ℕ → List FailingLine) (a n : ℕ) → ((b : ℕ) → AreIn first b (g b)) → Each (λ l. first + 64 * a ≤ l.image) (flat_map g (range_with_len a n))
+from_block first g a zero h = tt
+from_block first g a (suc n) h =
+    each_append (λ l. first + 64 * a ≤ l.image) (g a) (flat_map g (range_with_len (a + 1) n))
+    (each_then (λ l. (first + 64 * a ≤ l.image) × (l.image < first + 64 * a + 64)) (λ l. first + 64 * a ≤ l.image) (g a) (λ l is. is.0) (h a))
+    (each_then (λ l. first + 64 * (a + 1) ≤ l.image) (λ l. first + 64 * a ≤ l.image) (flat_map g (range_with_len (a + 1) n)) (λ l is. omega (arith, is)) (from_block first g (a + 1) n h))
 
 -- lines before others of later images begin with the same ones, whatever the others are
 front_decides : (l : FailingLine) (ls rest other : List FailingLine) → Each (λ k. l.image < k.image) rest → Each (λ k. l.image < k.image) other
@@ -140,12 +140,12 @@ empty_more f a own before b lt = elim (eqb_tells b a) [
   | inr there ↦ before b (omega (arith, lt, there.1))
 ]
 
-pub first_of_blocks : (f g : ℕ → List FailingLine) (a n : ℕ) → ((b : ℕ) → AreIn b (g b)) → ((b : ℕ) → b < a + n → IsKept f g b)
+pub first_of_blocks : (first : ℕ) (f g : ℕ → List FailingLine) (a n : ℕ) → ((b : ℕ) → AreIn first b (g b)) → ((b : ℕ) → b < a + n → IsKept f g b)
     → ((b : ℕ) → b < a → f b ≡ []) → first_lines (flat_map f (range_with_len a n)) ≡ first_lines (flat_map g (range_with_len a n))
-first_of_blocks f g a zero own kept before = refl
-first_of_blocks f g a (suc n) own kept before =
+first_of_blocks first f g a zero own kept before = refl
+first_of_blocks first f g a (suc n) own kept before =
     step (f a) (g a) refl (own a) (kept a (omega arith))
-    (λ none. first_of_blocks f g (a + 1) n own (λ b lt. kept b (omega (arith, lt))) (empty_more f a none before))
+    (λ none. first_of_blocks first f g (a + 1) n own (λ b lt. kept b (omega (arith, lt))) (empty_more f a none before))
   where
     kept_rest : List FailingLine
     kept_rest = flat_map f (range_with_len (a + 1) n)
@@ -153,13 +153,13 @@ first_of_blocks f g a (suc n) own kept before =
     rest : List FailingLine
     rest = flat_map g (range_with_len (a + 1) n)
 
-    later : (m : ℕ) → m < 64 * a + 64 → Each (λ k. m < k.image) rest
-    later m lt = each_then (λ k. 64 * (a + 1) ≤ k.image) (λ k. m < k.image) rest (λ k is. omega (arith, is, lt)) (from_block g (a + 1) n own)
+    later : (m : ℕ) → m < first + 64 * a + 64 → Each (λ k. m < k.image) rest
+    later m lt = each_then (λ k. first + 64 * (a + 1) ≤ k.image) (λ k. m < k.image) rest (λ k is. omega (arith, is, lt)) (from_block first g (a + 1) n own)
 
     some : AreSomeOf kept_rest rest
     some = some_of_blocks f g (a + 1) n (λ b lt. kept b (omega (arith, lt)))
 
-    step : (ks ls : List FailingLine) → f a ≡ ks → AreIn a ls → (ks ≡ ls) ⊎ ((ks ≡ []) × ((c : ℕ) × (c < a) × (f c ≢ [])))
+    step : (ks ls : List FailingLine) → f a ≡ ks → AreIn first a ls → (ks ≡ ls) ⊎ ((ks ≡ []) × ((c : ℕ) × (c < a) × (f c ≢ [])))
         → (f a ≡ [] → first_lines kept_rest ≡ first_lines rest) → first_lines (ks ++ kept_rest) ≡ first_lines (ls ++ rest)
     step ks ls is within (inr passed) then = absurd (passed.1.2 (before passed.1.0 passed.1.1))
     step ks [] is within (inl full) then = rw full (then (is ∙ full))

@@ -4,7 +4,7 @@ use Rattle.std.specs.List.{slice_index_or}
 use Rattle.std.proofs.lemmas.Option.{slice_get_within}
 use Rattle.base.proofs.Lists.{slice_get-append_left, slice_get_of_push}
 use Rattle.choices.specs.declared.pick.Pick.{Pick}
-use Rattle.choices.specs.Picked.{PickedValue, IsRanked, choice_of_picked, marked, with_last}
+use Rattle.choices.specs.Picked.{PickedValue, IsRanked, choice_of_picked, marked_picks, with_last}
 use Rattle.checker.specs.Checker.{CheckerValue}
 use Rattle.workers.specs.declared.entries.Known.{Known}
 use Rattle.workers.specs.Failing.{Subject, ending_at}
@@ -23,7 +23,7 @@ pub found_ends : (s : Subject) (checker : CheckerValue) (entries : List EntryVal
 found_ends s checker entries n p found known ranked is = known found.entry is.entry is.there n p found.marks refl ranked is.holds
 
 -- a last departure that isn't marked is left out
-unmarked_last : (marks : List Bool) (front : List Pick) (x : Pick) → slice_index_or marks (length front) false ≡ false → marked marks (front ++ x ∷ []) ≡ marked marks front
+unmarked_last : (marks : List Bool) (front : List Pick) (x : Pick) → slice_index_or marks (length front) false ≡ false → marked_picks marks (front ++ x ∷ []) ≡ marked_picks marks front
 unmarked_last [] front x unmarked = refl
 unmarked_last (true ∷ marks) [] x unmarked = absurd (let bad : true ≡ false = unmarked in cc)
 unmarked_last (false ∷ marks) [] x unmarked = none_marked marks
@@ -46,6 +46,6 @@ found_passes s checker entries m p found front last other known is picks unmarke
     known found.entry is.entry is.there m (with_last p front other) found.marks refl ranked (record {
       own =
           unmarked_last found.marks front other unmarked ∙ sym (unmarked_last found.marks front last unmarked)
-          ∙ ap (marked found.marks) (sym picks) ∙ is.holds.own;
+          ∙ ap (marked_picks found.marks) (sym picks) ∙ is.holds.own;
       others = other_last is.entry.told found.marks front last other (subst (NoneTold is.entry.told found.marks) picks is.holds.others) untold;
     })

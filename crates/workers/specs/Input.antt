@@ -1,16 +1,16 @@
 -- What the work is given.
-use Rattle.std.specs.Prelude.{ℕ, ◌≡◌, ◌≤◌, List, [], ◌∷◌, length, Option, None, Some}
+use Rattle.std.specs.Prelude.{ℕ, ◌≡◌, ◌≤◌, ◌<◌, ◌^◌, List, [], ◌∷◌, length, Option, None, Some}
 use Rattle.epochs.specs.declared.part.By.{By}
 use Rattle.epochs.specs.Plan.{PlanValue}
 use Rattle.checker.specs.Checker.{CheckerValue, AreFor}
 use Rattle.choices.specs.Choices.{limit}
 use Rattle.choices.specs.Sums.{StartsValue}
 use Rattle.lines.specs.Line.{FailingLine}
-use Rattle.workers.specs.Failing.{Subject, image_count}
+use Rattle.workers.specs.Failing.{Subject, image_count, judged_count}
 
--- the history, the table of choices and what departs as one are those of the plan, each checker is for the device of its log, the images are
--- counted, and each number is within its limit
-pub record IsInput (s : Subject) (plan : PlanValue) (starts : StartsValue) (way : By) (workers cache images : ℕ) : Type 0 where
+-- the history, the table of choices and what departs as one are those of the plan. Each checker is for the device of its log, the
+-- images that are judged are some of the run's, and each number is within its limit.
+pub record IsInput (s : Subject) (plan : PlanValue) (starts : StartsValue) (way : By) (workers cache : ℕ) : Type 0 where
   pub history : plan ≡ s.plan
   pub table : starts ≡ record { plan = s.plan; bound = s.bound; tears = s.tears }
   pub by_is : way ≡ s.plan.by
@@ -20,8 +20,10 @@ pub record IsInput (s : Subject) (plan : PlanValue) (starts : StartsValue) (way 
   pub some_worker : 1 ≤ workers
   pub few_workers : workers ≤ 64
   pub cache_size : cache ≤ 65536
-  pub count : images ≡ image_count s
-  pub few : images ≤ limit
+  pub order : s.from ≤ s.to
+  pub within : s.to ≤ image_count s
+  pub few : judged_count s ≤ limit
+  pub counted : image_count s < 2 ^ 63
 
 -- the run of that plan and those checkers, as the shards of a cache name it, judges this subject
 pub record IsRunOf (plan : PlanValue) (checkers : List CheckerValue) (s : Subject) : Type 0 where

@@ -1,13 +1,15 @@
 -- The failing lines are the set of those that fail, in their order.
-use Rattle.std.specs.Prelude.{ℕ, ◌≡◌, ◌<◌, ◌⊎◌, IsTrue, List, [], ◌∷◌, ◌++◌, slice_get, Some}
+use Rattle.std.specs.Prelude.{ℕ, ◌≡◌, ◌<◌, ◌≤◌, ◌⊎◌, IsTrue, List, [], ◌∷◌, ◌++◌, slice_get, Some}
 use Rattle.choices.specs.Choices.{ChoiceValue}
 use Rattle.checker.specs.Checker.{CheckerValue}
 use Rattle.lines.specs.Line.{FailingLine, fails, first_lines}
 use Rattle.workers.specs.Failing.{Subject, choices_of, ending_at, failing_lines}
 use Rattle.workers.specs.Pieces.{PieceValue, ArePieces, AreFull, AreWhole, block_count, lines_by_block}
 
--- the line tells truly of an image and a checker of the run, and the checker does not answer 0 there
+-- the line tells truly of an image that is judged and of a checker of the run, and the checker does not answer 0 there
 pub record IsFailing (s : Subject) (l : FailingLine) : Type 0 where
+  pub low : s.from ≤ l.image
+  pub high : l.image < s.to
   pub choice : ChoiceValue
   pub of_image : slice_get (choices_of s) l.image ≡ Some choice
   pub checker : CheckerValue
@@ -33,7 +35,7 @@ LinesAreSet = (s : Subject) → ListsFailing s (failing_lines s)
 
 -- the pieces of a run, one of each block and none passed over, have its failing lines
 abbrev pub CollectionIsFailing : Type 0
-CollectionIsFailing = (s : Subject) (pieces : List PieceValue) → ArePieces s pieces → AreFull pieces → AreWhole pieces (block_count s)
+CollectionIsFailing = (s : Subject) (pieces : List PieceValue) → ArePieces s pieces → AreFull pieces → AreWhole s.from pieces (block_count s)
     → lines_by_block pieces (block_count s) ≡ failing_lines s
 
 -- some of the lines, in their order
@@ -51,5 +53,5 @@ pub record BeginsWithFirst (all lines : List FailingLine) : Type 0 where
 
 -- with passed pieces, they have those of its first failing image, and then some of the others
 abbrev pub CollectionBeginsWithFirst : Type 0
-CollectionBeginsWithFirst = (s : Subject) (pieces : List PieceValue) → ArePieces s pieces → AreWhole pieces (block_count s)
+CollectionBeginsWithFirst = (s : Subject) (pieces : List PieceValue) → ArePieces s pieces → AreWhole s.from pieces (block_count s)
     → BeginsWithFirst (failing_lines s) (lines_by_block pieces (block_count s))

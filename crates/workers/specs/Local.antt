@@ -6,7 +6,7 @@ use Rattle.epochs.specs.Parts.{volatile_parts}
 use Rattle.choices.specs.declared.pick.Pick.{Pick}
 use Rattle.choices.specs.Choices.{ChoiceValue}
 use Rattle.choices.specs.Picks.{fates_of}
-use Rattle.choices.specs.Picked.{PickedValue, choice_of_picked, IsRanked, CanPass, passed}
+use Rattle.choices.specs.Picked.{PickedValue, choice_of_picked, IsRanked, CanPass, pick_after}
 use Rattle.machine.specs.Outcome.{Ending}
 use Rattle.interp.specs.Ending.{ending_of}
 use Rattle.checker.specs.Checker.{CheckerValue}
@@ -68,7 +68,7 @@ Reaches s p count = (j : ℕ) → 1 ≤ j → j < count → (parts_at s p ≤ 26
 -- the entry that was found for a choice holds for so many in a row from it on, of which the last departure alone differs
 abbrev pub HoldsFrom : Subject → PickedValue → Known → EntryValue → ℕ → Type 0
 HoldsFrom s p found entry count = (front : List Pick) (last : Pick) (j : ℕ) → CanPass (fates_of s.tears) (parts_at s p) j front last p.picks → 1 ≤ j → j < count
-    → (slice_index_or found.marks (length front) false ≡ false) × (tells entry.told (passed (fates_of s.tears) j last).part ≡ false)
+    → (slice_index_or found.marks (length front) false ≡ false) × (tells entry.told (pick_after (fates_of s.tears) j last).part ≡ false)
 
 -- what is said of a choice and a checker
 abbrev pub Tells : Subject → PickedValue → ℕ → ℕ → Look → Type 0

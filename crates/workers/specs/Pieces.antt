@@ -7,16 +7,17 @@ use Rattle.base.specs.Refusals.{work_refusal}
 use Rattle.lines.specs.Line.{FailingLine}
 use Rattle.workers.specs.declared.found.Found.{Found}
 use Rattle.workers.specs.declared.found.Found.TheVariants.{Lines, Passed}
-use Rattle.workers.specs.Failing.{Subject, image_count, part}
+use Rattle.workers.specs.Failing.{Subject, judged_count, part}
 
--- a piece of the work: the lines of a block, or the image after which the block was passed over
+-- a piece of the work: the lines of a block, or the image after which the block was passed over. That is its number less that of the
+-- first image that is judged.
 pub record PieceValue : Type 0 where
   pub block : ℕ
   pub found : Found
 
--- into how many blocks the images of a run fall
+-- into how many blocks the images that are judged fall
 abbrev pub block_count : Subject → ℕ
-block_count s = (image_count s + 63) / 64
+block_count s = (judged_count s + 63) / 64
 
 -- the full piece of that block
 abbrev pub piece_of : Subject → ℕ → PieceValue
@@ -30,11 +31,11 @@ lines_of (Passed image) = []
 abbrev pub full_lines : List PieceValue → List FailingLine
 full_lines pieces = flat_map (λ (p : PieceValue). lines_of p.found) pieces
 
--- whether a piece counts beside the lines of the full pieces: a passed one does where the image that it
--- names comes before all of its block, and does not precede each image of those lines
-abbrev pub counts : List FailingLine → ℕ → Found → Bool
-counts lines block (Lines own) = true
-counts lines block (Passed image) = nat_lt image (64 * block) && list_any (λ (l : FailingLine). nat_le l.image image) lines
+-- whether a piece counts beside the lines of the full pieces. A passed one does where the image that it names comes before all of its
+-- block, and does not precede each image of those lines. It names that image less `from`, with which the first block begins.
+abbrev pub counts : ℕ → List FailingLine → ℕ → Found → Bool
+counts from lines block (Lines own) = true
+counts from lines block (Passed image) = nat_lt image (64 * block) && list_any (λ (l : FailingLine). nat_le l.image (from + image)) lines
 
 -- the pieces of a block
 abbrev pub of_block : List PieceValue → ℕ → List PieceValue
@@ -45,8 +46,8 @@ abbrev pub pieces_at : List PieceValue → ℕ → ℕ
 pieces_at pieces block = length (of_block pieces block)
 
 -- how many of them count
-abbrev pub counted_at : List PieceValue → ℕ → ℕ
-counted_at pieces block = length (filter (λ (p : PieceValue). counts (full_lines pieces) p.block p.found) (of_block pieces block))
+abbrev pub counted_at : ℕ → List PieceValue → ℕ → ℕ
+counted_at from pieces block = length (filter (λ (p : PieceValue). counts from (full_lines pieces) p.block p.found) (of_block pieces block))
 
 -- the lines of the pieces of a block
 abbrev pub lines_at : List PieceValue → ℕ → List FailingLine
@@ -63,21 +64,21 @@ pub record IsFirstTwice (pieces : List PieceValue) (blocks block : ℕ) : Type 0
   pub before : (b : ℕ) → b < block → pieces_at pieces b ≤ 1
 
 -- no block has two pieces, and this is the first that has none that counts
-pub record IsFirstMissing (pieces : List PieceValue) (blocks block : ℕ) : Type 0 where
+pub record IsFirstMissing (from : ℕ) (pieces : List PieceValue) (blocks block : ℕ) : Type 0 where
   pub within : block < blocks
   pub once : (b : ℕ) → b < blocks → pieces_at pieces b ≤ 1
-  pub missing : counted_at pieces block ≡ 0
-  pub before : (b : ℕ) → b < block → counted_at pieces b ≡ 1
+  pub missing : counted_at from pieces block ≡ 0
+  pub before : (b : ℕ) → b < block → counted_at from pieces b ≡ 1
 
 -- each block has one piece, and it counts
-abbrev pub AreWhole : List PieceValue → ℕ → Type 0
-AreWhole pieces blocks = (b : ℕ) → b < blocks → (pieces_at pieces b ≡ 1) × (counted_at pieces b ≡ 1)
+abbrev pub AreWhole : ℕ → List PieceValue → ℕ → Type 0
+AreWhole from pieces blocks = (b : ℕ) → b < blocks → (pieces_at pieces b ≡ 1) × (counted_at from pieces b ≡ 1)
 
 -- the refusals of a collection: first a block with two pieces, then one without, each the lowest
-pub data RefusesPieces (pieces : List PieceValue) (blocks : ℕ) : Refusal → Type 0 where
-  two_pieces : (block : ℕ) → IsFirstTwice pieces blocks block → RefusesPieces pieces blocks (work_refusal work.PieceTwice block)
-  no_piece : (block : ℕ) → IsFirstMissing pieces blocks block → RefusesPieces pieces blocks (work_refusal work.PieceMissing block)
-  no_memory : RefusesPieces pieces blocks (work_refusal work.Memory 0)
+pub data RefusesPieces (from : ℕ) (pieces : List PieceValue) (blocks : ℕ) : Refusal → Type 0 where
+  two_pieces : (block : ℕ) → IsFirstTwice pieces blocks block → RefusesPieces from pieces blocks (work_refusal work.PieceTwice block)
+  no_piece : (block : ℕ) → IsFirstMissing from pieces blocks block → RefusesPieces from pieces blocks (work_refusal work.PieceMissing block)
+  no_memory : RefusesPieces from pieces blocks (work_refusal work.Memory 0)
 
 -- P of each piece
 abbrev pub EachPiece : (PieceValue → Type 0) → List PieceValue → Type 0

@@ -2,7 +2,7 @@
 use Rattle.std.specs.Prelude.{ℕ, ◌≡◌, ◌<◌, ◌==◌, Bool, true, false, if◌then◌else◌, List, Option, None, Some, slice_get}
 use Rattle.std.specs.List.{list_any, slice_index_or}
 use Rattle.choices.specs.declared.pick.Pick.{Pick}
-use Rattle.choices.specs.Picked.{PickedValue, IsRanked, choice_of_picked, marked}
+use Rattle.choices.specs.Picked.{PickedValue, IsRanked, choice_of_picked, marked_picks}
 use Rattle.machine.specs.Outcome.{Ending}
 use Rattle.checker.specs.Checker.{CheckerValue}
 use Rattle.workers.specs.declared.entries.Known.{Known}
@@ -26,7 +26,7 @@ NoneTold told marks picks = (i : ℕ) (x : Pick) → slice_get picks i ≡ Some 
 
 -- an entry has the marked ones of some departures, and none of the others is of a part that may be told
 pub record Holds (entry : EntryValue) (marks : List Bool) (picks : List Pick) : Type 0 where
-  pub own : marked marks picks ≡ entry.picks
+  pub own : marked_picks marks picks ≡ entry.picks
   pub others : NoneTold entry.told marks picks
 
 -- at the wanted cut of that place the checker ends so on each choice for which the entry holds

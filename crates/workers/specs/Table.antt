@@ -23,9 +23,9 @@ first_of None block = block
 first_of (Some other) block = min other block
 
 -- whether a row has no piece that counts
-abbrev pub is_missing : Option ℕ → Option PieceValue → Bool
-is_missing least None = true
-is_missing least (Some p) = not (counts_with least p.block p.found)
+abbrev pub is_missing : ℕ → Option ℕ → Option PieceValue → Bool
+is_missing from least None = true
+is_missing from least (Some p) = not (counts_with from least p.block p.found)
 
 abbrev pub row_lines : Option PieceValue → List FailingLine
 row_lines None = []

@@ -17,12 +17,13 @@ abbrev pub IsSeen : List SeatStep → ℕ → Found → Type 0
 IsSeen steps block (Lines own) = Unit {0}
 IsSeen steps block (Passed image) = (image < 64 * block) × (0 < finds image steps)
 
--- pieces of a run that workers hand over who made those steps. Of what they posted each image fails in a full piece, or one before it does.
+-- pieces of a run that workers hand over who made those steps. They post images less the first one that is judged. Of what they posted
+-- each image fails in a full piece, or one before it does.
 pub record HandsOver (s : Subject) (steps : List SeatStep) (pieces : List PieceValue) : Type 0 where
   pub own : ArePieces s pieces
   pub full : s.first ≡ false → AreFull pieces
   pub seen : EachPiece (λ p. IsSeen steps p.block p.found) pieces
-  pub posted : (image : ℕ) → 0 < posts image steps → reaches (least_image (full_lines pieces)) image ≡ true
+  pub posted : (image : ℕ) → 0 < posts image steps → reaches (least_image (full_lines pieces)) (s.from + image) ≡ true
 
 -- later steps that posted nothing more
 pub record KeepsPosts (before after : List SeatStep) : Type 0 where

@@ -133,7 +133,7 @@ impl BlockLines {
     }
 
     /// The same, without the room that no line takes.
-    pub(crate) fn trimmed(self) -> BlockLines
+    pub(crate) fn trim(self) -> BlockLines
         ensures { result ≡ self }
     {
         let BlockLines { alloc, some } = self;

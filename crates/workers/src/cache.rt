@@ -50,7 +50,7 @@ impl<'b, 'a, J: Run> Shards<'b, 'a, J> {
     }
 
     /// The shard of that number.
-    fn numbered(&self, number: u8) -> Numbered<'b, 'a, J>
+    fn numbered_shard(&self, number: u8) -> Numbered<'b, 'a, J>
         requires { number < 16 }
         ensures { result.number ≡ number }
     {
@@ -64,7 +64,7 @@ impl<'b, 'a, J: Run> Shards<'b, 'a, J> {
     pub(crate) fn of_key(&self, key: &Key<'_>) -> Numbered<'b, 'a, J>
         ensures { result.number ≡ shard_of key.now }
     {
-        self.numbered(key.shard())
+        self.numbered_shard(key.shard())
     }
 
     /// How many looks have found an entry, in all shards, at most 2^64 - 1.

@@ -75,24 +75,24 @@ fn table_of(alloc: Global, pieces: Vec<Piece>, blocks: u32) -> Result<Table, All
 }
 
 /// Whether a row has no piece that counts.
-fn is_missing(row: &Option<Piece>, least: Option<u64>) -> bool
-    ensures { result ≡ is_missing least row.now }
+fn is_missing(row: &Option<Piece>, from: u64, least: Option<u64>) -> bool
+    ensures { result ≡ is_missing from least row.now }
 {
     match row {
-        Some(piece) => !piece.counts(least),
+        Some(piece) => !piece.counts(from, least),
         None => true,
     }
 }
 
 /// The first block without a piece that counts.
-fn first_missing(rows: &[Option<Piece>], least: Option<u64>) -> Option<usize>
-    ensures { result ≡ position (is_missing least) rows.now }
+fn first_missing(rows: &[Option<Piece>], from: u64, least: Option<u64>) -> Option<usize>
+    ensures { result ≡ position (is_missing from least) rows.now }
 {
-    rows.iter().position(|row| is_missing(row, least))
+    rows.iter().position(|row| is_missing(row, from, least))
 }
 
 /// The lines of all rows, one after the other.
-fn joined(alloc: Global, rows: Vec<Option<Piece>>) -> Result<Lines, AllocError>
+fn join_rows(alloc: Global, rows: Vec<Option<Piece>>) -> Result<Lines, AllocError>
     ensures { IfOk result (λ lines. lines ≡ flat_map row_lines rows.items) }
 {
     let mut all = Lines::new(alloc);
@@ -104,29 +104,29 @@ fn joined(alloc: Global, rows: Vec<Option<Piece>>) -> Result<Lines, AllocError>
     Ok(all)
 }
 
-/// The lines of the pieces of a run, by block. The pieces come in any order; there are to be as many
-/// as blocks, one of each. A passed piece counts as none where the image that it names is not before
+/// The lines of the pieces of a run, by block; the first block begins with image `from`. The pieces come in any order; there
+/// are to be as many as blocks, one of each. A passed piece counts as none where the image that it names is not before
 /// all of its block, or precedes every failing image of the full pieces.
 ///
 /// # Errors
 ///
 /// The lowest block of which there are two pieces; or else the lowest of which there is none; or want
 /// of memory.
-pub fn collect(alloc: Global, pieces: Vec<Piece>, blocks: u32) -> Result<Lines, Refusal>
+pub fn collect(alloc: Global, pieces: Vec<Piece>, from: u64, blocks: u32) -> Result<Lines, Refusal>
     requires { All (λ piece. piece.block < blocks) pieces.items }
-    ensures whole { OnOk result (AreWhole pieces.items blocks) }
+    ensures whole { OnOk result (AreWhole from pieces.items blocks) }
     ensures lines { IfOk result (λ lines. lines ≡ lines_by_block pieces.items blocks) }
-    ensures refused { IfErr result (RefusesPieces pieces.items blocks) }
+    ensures refused { IfErr result (RefusesPieces from pieces.items blocks) }
 {
     let table = match table_of(alloc, pieces, blocks) {
         Ok(table) => table,
         Err(_error) => return Err(Refusal::of_memory()),
     };
     let Table { rows, twice, least } = table;
-    match (twice, first_missing(rows.as_slice(), least)) {
+    match (twice, first_missing(rows.as_slice(), from, least)) {
         (Some(block), _) => Err(Refusal::of_work(WorkCause::PieceTwice, u64::from(block))),
         (None, Some(block)) => Err(Refusal::of_work(WorkCause::PieceMissing, block as u64)),
-        (None, None) => match joined(alloc, rows) {
+        (None, None) => match join_rows(alloc, rows) {
             Ok(lines) => Ok(lines),
             Err(_error) => Err(Refusal::of_memory()),
         },

@@ -64,7 +64,7 @@ fn jobs_of<H: Deal>(
 
 impl<H: Deal> Job<H> {
     /// Takes blocks until there is none left.
-    fn done<'a, J: Run, G: Gate, R: Wait>(
+    fn take_all<'a, J: Run, G: Gate, R: Wait>(
         self,
         rt: &R,
         gate: &G,
@@ -121,7 +121,7 @@ fn all_done<
             requires { IsRunOf J.plan J.checkers input.now × (board.now.name.blocks ≡ block_count input.now) × (H.blocks ≡ block_count input.now)
                 × (job.seat.board ≡ board.now.name) × (job.seat.steps ≡ []) × IsEmptyHand job.hand }
             ensures { IsDone input.entry.now board.entry.now.name job.hand.place result }
-        { job.done(rt, gate, input, shards, board) },
+        { job.take_all(rt, gate, input, shards, board) },
     )
 }
 
@@ -149,7 +149,7 @@ struct Returned<H: Deal> {
 /// # Errors
 ///
 /// A worker found no memory.
-fn parted<H: Deal>(alloc: Global, done: Vec<Done<H>>) -> Result<Returned<H>, AllocError>
+fn split_done<H: Deal>(alloc: Global, done: Vec<Done<H>>) -> Result<Returned<H>, AllocError>
     ensures { IfOk result (λ parts. AreParted done.items parts.seats.items parts.hands.items parts.pieces.items) }
 {
     let mut seats = Vec::new(alloc);
@@ -207,7 +207,7 @@ pub(crate) fn crew_back<
         seats,
         mut hands,
         pieces,
-    } = parted(alloc, done)?;
+    } = split_done(alloc, done)?;
     hands.reverse();
     let refused = are_refused(hands.as_slice());
     let left = blocks_left(alloc, hands)?;

@@ -3,11 +3,11 @@
 ghost use Rattle.std.specs.Prelude.{◌≡◌, ◌<◌, ◌≤◌, ◌++◌, ℕ, [], false, is_none, length, slice_get, IfOk, IfSome, Some, List};
 ghost use Rattle.std.specs.Option.{option_map_or};
 ghost use Rattle.logfmt.specs.Bounds.{IsLog};
-ghost use Rattle.choices.specs.Picked.{IsRanked, marked};
+ghost use Rattle.choices.specs.Picked.{IsRanked, marked_picks};
 ghost use Rattle.images.specs.Views.{context_at, sectors_of};
 ghost use Rattle.interp.specs.Ending.{ending_of};
 ghost use Rattle.checker.specs.Checker.{IsFor, judgement};
-ghost use Rattle.checker.specs.Footprints.{kept};
+ghost use Rattle.checker.specs.Footprints.{kept_footprint};
 ghost use Rattle.workers.specs.Entries.{AddsTold};
 ghost use Rattle.workers.specs.Reuse.{AreKnown, EntryValue, IsEntryOf, IsFound, IsNextTold, Rises, tells, told_or};
 
@@ -78,7 +78,7 @@ pub(crate) struct Known {
 fn noted_on(view: &View<'_>, checker: &Checker<'_>) -> Noted<ROOM>
     requires device { IsFor view.now.log.sectors checker.now.verified }
     ensures ends { ending_of result.outcome ≡ judgement checker.now (sectors_of view.now) (context_at view.now.log view.now.cut) }
-    ensures looks { result.footprint ≡ kept 32 checker.now (sectors_of view.now) (context_at view.now.log view.now.cut) }
+    ensures looks { result.footprint ≡ kept_footprint 32 checker.now (sectors_of view.now) (context_at view.now.log view.now.cut) }
     ensures bounds { IsLog view.now.log }
 {
     let context = view.context();
@@ -149,7 +149,7 @@ impl Entries {
     /// The entry of the marked departures.
     fn entry_of(&self, picks: &[Pick], marks: &[bool; 3]) -> Option<usize>
         requires { length picks.now ≤ 3 }
-        ensures { IfSome result (λ entry. IsEntryOf self.now entry (marked marks.now picks.now)) }
+        ensures { IfSome result (λ entry. IsEntryOf self.now entry (marked_picks marks.now picks.now)) }
     {
         let place = usize::from(self.index[place_of(picks, marks)]);
         let entry = self.entries.as_slice().get(place)?;
@@ -184,7 +184,7 @@ impl Entries {
         requires device { IsFor input.now.plan.log.sectors checker.now.verified }
         requires member { (n : ℕ) × IsRanked input.now.plan input.now.bound input.now.tears n picked.now }
         ensures known { AreKnown input.now picked.now.place checker.now self.new }
-        ensures entry { IfOk result (λ entry. IsEntryOf self.new entry (marked marks.now picked.now.picks)) }
+        ensures entry { IfOk result (λ entry. IsEntryOf self.new entry (marked_picks marks.now picked.now.picks)) }
     {
         let choice = picked.only(input.plan, marks);
         let view = input.history.view(alloc, &choice)?;
@@ -216,7 +216,7 @@ impl Entries {
         requires device { IsFor input.now.plan.log.sectors checker.now.verified }
         requires member { (n : ℕ) × IsRanked input.now.plan input.now.bound input.now.tears n picked.now }
         ensures known { AreKnown input.now picked.now.place checker.now self.new }
-        ensures entry { IfSome result (λ entry. IsEntryOf self.new entry (marked marks.now picked.now.picks)) }
+        ensures entry { IfSome result (λ entry. IsEntryOf self.new entry (marked_picks marks.now picked.now.picks)) }
     {
         if let Some(entry) = self.entry_of(picked.picks(), marks) {
             return Some(entry);

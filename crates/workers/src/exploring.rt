@@ -71,7 +71,7 @@ fn all_pieces<'a, J: Run + Send + Sync, G: Gate + Sync, R: Threads + Wait + Sync
 }
 
 /// The work of the run that `J` names.
-fn explored<J: Run + Send + Sync, G: Gate + Sync, R: Threads + Wait + Sync>(
+fn explore_by<J: Run + Send + Sync, G: Gate + Sync, R: Threads + Wait + Sync>(
     rt: &R,
     alloc: Global,
     gate: &G,
@@ -95,7 +95,7 @@ fn explored<J: Run + Send + Sync, G: Gate + Sync, R: Threads + Wait + Sync>(
         Ok(pieces) => pieces,
         Err(refusal) => return Err(refusal),
     };
-    match collect(alloc, pieces, input.block_count()) {
+    match collect(alloc, pieces, input.first_image(), input.block_count()) {
         Ok(lines) => Ok(Work {
             lines,
             hits: shards.hits(rt),
@@ -104,11 +104,11 @@ fn explored<J: Run + Send + Sync, G: Gate + Sync, R: Threads + Wait + Sync>(
     }
 }
 
-/// Judges the images of a run, and answers the failing lines: all of them, or with `first` those of the
-/// first failing image and perhaps some behind them, since blocks that lie wholly after a failing image
+/// Judges the images that are asked of a run, and answers the failing lines: all of them, or with `first` those of
+/// the first failing image and perhaps some behind them, since blocks that lie wholly after a failing image
 /// are passed over. It takes as many workers as `Input::new` was told, but no more than there are blocks:
 /// the caller is worker 0, and each other one has a thread of its own, where one can be made. `gate` is
-/// told the number of images first, and then of each block before and after it is taken.
+/// told how many images are judged first, and then of each block before and after it is taken.
 ///
 /// How many workers there are, and how much they keep, changes no line. It waits until all are back.
 ///
@@ -127,6 +127,6 @@ pub fn explore_all<G: Gate + Sync, R: Threads + Wait + Sync>(
     ensures order { IfOk result (λ work. IsNonDecreasing (map (λ l. l.image) work.lines)) }
     ensures refused { IfErr result (λ r. r ≡ memory_refusal) }
 {
-    gate.begin(input.image_count());
-    explored::<Brand, G, R>(rt, alloc, gate, input, input.cache())
+    gate.begin(input.judged_count());
+    explore_by::<Brand, G, R>(rt, alloc, gate, input, input.cache())
 }

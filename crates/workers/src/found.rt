@@ -7,6 +7,7 @@ use crate::block_lines::BlockLines;
 pub(crate) enum Found {
     /// All its failing lines.
     Lines(BlockLines),
-    /// Nothing: the block was passed over, since this failing image comes before all of it.
+    /// Nothing: the block was passed over, since this failing image comes before all of it. It is counted from the first
+    /// image on that is judged.
     Passed(u64),
 }

@@ -1,6 +1,6 @@
 //! A gate through which every block of the work passes.
 
-/// Is told how many images there are, before any of them is judged; then called by the worker that is
+/// Is told how many images are judged, before any of them is; then called by the worker that is
 /// about to judge a block, and when it has judged it or passed over it. A test holds workers by it, and a
 /// run may count by it how far it is.
 pub trait Gate {

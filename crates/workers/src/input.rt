@@ -1,11 +1,11 @@
 //! What the work is given.
 
-ghost use Rattle.std.specs.Prelude.{◌≡◌, ◌≤◌, ◌<◌, length, slice_get, Some, ◌+◌, ◌*◌, ℕ};
+ghost use Rattle.std.specs.Prelude.{◌≡◌, ◌≤◌, ◌<◌, length, slice_get, min, Some, ◌+◌, ◌-◌, ◌*◌, ◌^◌, ℕ};
 ghost use Rattle.epochs.specs.Cuts.{cuts_of};
 ghost use Rattle.choices.specs.Choices.{limit, ranked_choices};
 ghost use Rattle.choices.specs.Picked.{IsRanked};
 ghost use Rattle.checker.specs.Checker.{AreFor};
-ghost use Rattle.workers.specs.Failing.{choices_of, image_count};
+ghost use Rattle.workers.specs.Failing.{choices_of, image_count, judged_count};
 ghost use Rattle.workers.specs.Pieces.{block_count};
 ghost use Rattle.workers.specs.Exploring.{passes_over};
 ghost use Rattle.workers.specs.Local.{Reaches};
@@ -17,9 +17,9 @@ use epochs::{By, Plan};
 use images::History;
 use std::marker::Model;
 
-/// What is judged: the crash images of a plan with at most `bound` departures, torn writes or none,
-/// by checkers in their order; and whether the first failing image is all that is asked for. Contracts
-/// see this much; how many workers judge, and how many entries their cache has, changes no answer.
+/// What is judged: of the crash images of a plan with at most `bound` departures, torn writes or none, those from
+/// one on to before another, by checkers in their order; and whether the first failing image is all that is asked for.
+/// Contracts see this much; how many workers judge, and how many entries their cache has, changes no answer.
 #[derive(Drop)]
 pub struct Input<'a> {
     starts: &'a Starts<'a>,
@@ -31,16 +31,18 @@ pub struct Input<'a> {
 }
 
 /// What is asked of a run, by names: at most `bound` departures, and torn writes or none; with `first` the first
-/// failing image alone. It is judged by 1 to 64 workers, who keep at most `cache` outcomes, 0 to 65,536. `images`
-/// is the number of its images, as `choices::count` gives it.
+/// failing image alone. Image `from` is the first that is judged, and `to` the one behind the last. The whole run is
+/// from 0 to the number of its images, as `choices::count` gives it. It is judged by 1 to 64 workers, who keep at most
+/// `cache` outcomes, 0 to 65,536.
 #[derive(Clone, Copy)]
 pub struct Asked {
     pub bound: u8,
     pub tears: bool,
+    pub from: u64,
+    pub to: u64,
     pub first: bool,
     pub workers: u8,
     pub cache: u32,
-    pub images: u64,
 }
 
 impl<'a> Model for Input<'a> {
@@ -49,14 +51,14 @@ impl<'a> Model for Input<'a> {
 
     ghost Value = { Subject };
 
-    ghost view = { λ i. record { plan = i.plan.now; checkers = i.checkers.now; bound = i.asked.bound; tears = i.asked.tears; first = i.asked.first } };
+    ghost view = { λ i. record { plan = i.plan.now; checkers = i.checkers.now; bound = i.asked.bound; tears = i.asked.tears; from = i.asked.from; to = i.asked.to; first = i.asked.first } };
 
-    ghost invariant = { λ i. IsInput (record { plan = i.plan.now; checkers = i.checkers.now; bound = i.asked.bound; tears = i.asked.tears; first = i.asked.first }) i.history.now i.starts.now i.by i.asked.workers i.asked.cache i.asked.images };
+    ghost invariant = { λ i. IsInput (record { plan = i.plan.now; checkers = i.checkers.now; bound = i.asked.bound; tears = i.asked.tears; from = i.asked.from; to = i.asked.to; first = i.asked.first }) i.history.now i.starts.now i.by i.asked.workers i.asked.cache };
 }
 
 impl<'a> Input<'a> {
     /// What is judged by a run. The history, the table of choices and what departs as one are those of the plan, and the images
-    /// are counted. A checker that was verified is one that was for devices of the log's size.
+    /// that are judged are some of those that there are. A checker that was verified is one that was for devices of the log's size.
     pub fn new(
         plan: &'a Plan<'a>,
         starts: &'a Starts<'a>,
@@ -73,9 +75,11 @@ impl<'a> Input<'a> {
         requires bound { asked.bound ≤ 3 }
         requires workers { (1 ≤ asked.workers) × (asked.workers ≤ 64) }
         requires cache { asked.cache ≤ 65536 }
-        requires images { asked.images ≡ length (ranked_choices plan.now asked.bound asked.tears) }
-        requires few { asked.images ≤ limit }
-        ensures { result ≡ record { plan = plan.now; checkers = checkers.now; bound = asked.bound; tears = asked.tears; first = asked.first } }
+        requires order { asked.from ≤ asked.to }
+        requires images { asked.to ≤ length (ranked_choices plan.now asked.bound asked.tears) }
+        requires few { asked.to - asked.from ≤ limit }
+        requires counted { length (ranked_choices plan.now asked.bound asked.tears) < 2 ^ 63 }
+        ensures { result ≡ record { plan = plan.now; checkers = checkers.now; bound = asked.bound; tears = asked.tears; from = asked.from; to = asked.to; first = asked.first } }
     {
         Input {
             starts,
@@ -87,12 +91,19 @@ impl<'a> Input<'a> {
         }
     }
 
-    /// How many images there are.
-    pub fn image_count(&self) -> u64
-        ensures value { result ≡ image_count self.now }
+    /// The number of the first image that is judged.
+    pub fn first_image(&self) -> u64
+        ensures { result ≡ self.now.from }
+    {
+        self.asked.from
+    }
+
+    /// How many images are judged.
+    pub fn judged_count(&self) -> u64
+        ensures value { result ≡ judged_count self.now }
         ensures few { result ≤ limit }
     {
-        self.asked.images
+        self.asked.to - self.asked.from
     }
 
     /// How many blocks there are, of 64 images in a row each; the last may be shorter.
@@ -100,7 +111,19 @@ impl<'a> Input<'a> {
         ensures value { result ≡ block_count self.now }
         ensures few { result ≤ 262144 }
     {
-        self.image_count().div_ceil(BLOCK) as u32
+        self.judged_count().div_ceil(BLOCK) as u32
+    }
+
+    /// The images of a block: the first, and the one behind the last.
+    pub(crate) fn images_of(&self, block: u32) -> (u64, u64)
+        requires { block < block_count self.now }
+        ensures first { result.0 ≡ self.now.from + 64 * block }
+        ensures some { result.0 < result.1 }
+        ensures count { result.1 - result.0 ≡ min 64 (judged_count self.now - 64 * block) }
+        ensures within { result.1 ≤ image_count self.now }
+    {
+        let first = self.asked.from + BLOCK * u64::from(block);
+        (first, self.asked.to.min(first + BLOCK))
     }
 
     /// How many workers judge its images: as many as were asked for, but no more than there are blocks,
@@ -218,8 +241,17 @@ impl<'a> Input<'a> {
         self.asked.first
     }
 
-    /// Whether a block is passed over after that failing image: where the first is all that is asked
-    /// for, and all of the block lies after it.
+    /// How far an image that is judged lies behind the first one.
+    pub(crate) fn behind_first(&self, image: u64) -> u64
+        requires { (self.now.from ≤ image) × (image < self.now.to) }
+        ensures value { self.now.from + result ≡ image }
+        ensures few { result < 16777216 }
+    {
+        image - self.asked.from
+    }
+
+    /// Whether a block is passed over after that failing image, less the first one that is judged: where the first failing
+    /// image is all that is asked for, and all of the block lies after it.
     pub(crate) fn passes_over(&self, block: u32, image: u64) -> bool
         ensures { result ≡ passes_over self.now block image }
     {

@@ -1,18 +1,19 @@
-//! The work of a run: it judges every crash image of a plan by checkers, and collects the failing lines.
+//! The work of a run: it judges crash images of a plan by checkers, all of them or a range, and collects the failing lines.
 //!
-//! The images of a run are numbered from 0. They fall into blocks of 64 in a row, of which the last may
-//! be shorter. A block is judged as one piece of work: each of its images by each checker. A checker
-//! that does not answer 0 on an image makes a line.
+//! The images of a run are numbered from 0, and there may be any number of them below 2^63. Those from one on to before
+//! another are judged, at most 16,777,216; the whole run is from 0 to the number of its images. They fall into blocks of
+//! 64 in a row, of which the last may be shorter. A block is judged as one piece of work: each of its images by each
+//! checker. A checker that does not answer 0 on an image makes a line, which has the image's own number.
 //!
 //! | Type or call | What it is |
 //! |---|---|
 //! | `Input::new(plan, starts, history, checkers, by, asked)` | what is judged |
-//! | `Asked` | what is asked of a run, by names: bound and tears, the first failing image or all, how many workers, how large a cache, and how many images there are |
+//! | `Asked` | what is asked of a run, by names: bound and tears, the first failing image or all, how many workers, how large a cache, and which images |
 //! | `judge_block(rt, alloc, input, shards, block)` | the piece of a block: its lines, by image and then by checker |
-//! | `Piece::passed(block, image)` | the piece of a block that was passed over after a failing image |
-//! | `collect(alloc, pieces, blocks)` | all lines, of pieces in any order; refused where a block has two pieces or none |
+//! | `Piece::passed(block, image)` | the piece of a block that was passed over after a failing image, less the first one that is judged |
+//! | `collect(alloc, pieces, from, blocks)` | all lines, of pieces in any order; refused where a block has two pieces or none |
 //! | `explore_all(rt, alloc, gate, input)` | the work as a whole: the failing lines, in order |
-//! | `Gate` | is told how many images there are, and of each block before and after it is taken |
+//! | `Gate` | is told how many images are judged, and of each block before and after it is taken |
 //!
 //! Workers share the board of `shares`, from which each takes blocks by its hand until there is none left,
 //! and the shards of `verdict_cache`. The caller is worker 0, each other one has a thread of its own where one can
@@ -25,9 +26,9 @@
 //! there (`entries`, by footprints). Images whose outcome follows from that are not judged: where all checkers
 //! find them good they are passed over by their number (`reuse`).
 //!
-//! A worker posts the first failing image of each block. With `first` a run looks for the first failing
-//! image alone: a block whose images all lie after a failing image that was posted is then passed over.
-//! None of its images is formed, and its piece names that image.
+//! A worker posts the first failing image of each block. What is posted is a number below 16,777,216: the image's, less the
+//! first one that is judged. With `first` a run looks for the first failing image alone: a block whose images all lie after
+//! a failing image that was posted is then passed over. None of its images is formed, and its piece names what was posted.
 //!
 //! # Place
 //!
@@ -37,7 +38,7 @@
 //!
 //! # What is proved
 //!
-//! `failing_lines` (`specs/Failing.antt`) says what a run finds: the lines of each image with each
+//! `failing_lines` (`specs/Failing.antt`) says what a run finds: the lines of each image that is judged with each
 //! checker whose ending there, by the definition of the machine on the definition of the image, is not a
 //! verdict with answer 0. A law stands above it (`lines_are_set`): it has exactly these lines, by image
 //! and then by checker, each once. A second law (`accepted_checkers_run_safely`, `specs/Safe.antt`): a checker
@@ -91,6 +92,32 @@
 //! the pieces into a table with a row for each block, and notes the lowest block that comes twice and the
 //! least failing image. `exploring` puts all together; there a
 //! run gets its name, a type parameter that only contracts read, so that its shards are its own.
+//!
+//! # Example
+//!
+//! ```
+//! use epochs::By;
+//! use std::marker::Brand;
+//! use std::sync::Mutex;
+//! use verdict_cache::{Shard, shards};
+//! use workers::{Asked, Input, OpenGate, Piece, collect, explore_all, judge_block};
+//!
+//! // `plan` has 200 images, `starts` is its table of choices, and the checker answers 1 on image 150 alone
+//! let asked = Asked { bound: 1, tears: false, from: 0, to: 200, first: false, workers: 2, cache: 0 };
+//! let whole = Input::new(&plan, &starts, &history, checkers, By::Sector, asked);
+//! let blocks = whole.block_count();                           // 4: the last block has 8 images
+//! let work = explore_all(rt, alloc, &OpenGate, &whole)?;      // `work.lines` has one line, of image 150
+//! // the same by hand, of the images from 100 on
+//! let asked = Asked { bound: 1, tears: false, from: 100, to: 200, first: false, workers: 2, cache: 0 };
+//! let part = Input::new(&plan, &starts, &history, checkers, By::Sector, asked);
+//! let blocks = part.block_count();                            // 2: of images 100 to 163, and 164 to 199
+//! let shards: Vec<Mutex<Shard<'_, Brand>>> = shards(alloc, &history, checkers, 0)?;
+//! let piece = judge_block(rt, alloc, &part, shards.as_slice(), 0)?;
+//! let least = piece.least_image();                            // Some(150)
+//! // all of block 1 lies after image 100 + 50, so it may be passed over
+//! let pieces = vec![in alloc; Piece::passed(1, 50), piece]?;
+//! let lines = collect(alloc, pieces, 100, blocks)?;           // the same line
+//! ```
 #![tactic(auto)]
 
 mod block_lines;

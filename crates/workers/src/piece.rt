@@ -1,8 +1,8 @@
 //! A piece of the work.
 
-ghost use Rattle.std.specs.Prelude.{◌≡◌, ◌++◌, IfOk};
+ghost use Rattle.std.specs.Prelude.{◌≡◌, ◌+◌, ◌++◌, IfOk};
 ghost use Rattle.workers.specs.declared.found.Found.TheVariants as held;
-ghost use Rattle.workers.specs.Counting.{counts_with};
+ghost use Rattle.workers.specs.Counting.{counts_with, reaches};
 ghost use Rattle.workers.specs.Least.{least_image};
 ghost use Rattle.workers.specs.Pieces.{lines_of};
 
@@ -31,6 +31,16 @@ impl Model for Piece {
     ghost view = { λ p. record { block = p.block; found = p.found } };
 }
 
+/// Whether a failing image, if there is one, is at most so many behind another.
+fn reaches(least: Option<u64>, from: u64, image: u64) -> bool
+    ensures { result ≡ reaches least (from + image) }
+{
+    match least {
+        Some(least) => least.saturating_sub(from) <= image,
+        None => false,
+    }
+}
+
 impl Piece {
     /// The full piece of a block that has those lines. It takes no more room than they do.
     pub(crate) fn of(block: u32, lines: BlockLines) -> Piece
@@ -38,12 +48,12 @@ impl Piece {
     {
         Piece {
             block,
-            found: Found::Lines(lines.trimmed()),
+            found: Found::Lines(lines.trim()),
         }
     }
 
-    /// The piece of a block that was passed over, since that failing image comes before all of it.
-    /// `collect` takes it only where this is so.
+    /// The piece of a block that was passed over, since that failing image comes before all of it. It is counted from the
+    /// first image on that is judged. `collect` takes the piece only where this is so.
     pub fn passed(block: u32, image: u64) -> Piece
         ensures { result ≡ record { block = block; found = held.Passed image } }
     {
@@ -70,16 +80,16 @@ impl Piece {
         }
     }
 
-    /// Whether it counts where that is the least failing image of the full pieces. A full piece
-    /// always does; a passed one where the image that it names comes before all of its block, and is
+    /// Whether it counts where that is the least failing image of the full pieces, and `from` the first image that is
+    /// judged. A full piece always does; a passed one where the image that it names comes before all of its block, and is
     /// the least failing image or comes after it.
-    pub(crate) fn counts(&self, least: Option<u64>) -> bool
-        ensures { result ≡ counts_with least self.now.block self.now.found }
+    pub(crate) fn counts(&self, from: u64, least: Option<u64>) -> bool
+        ensures { result ≡ counts_with from least self.now.block self.now.found }
     {
         match &self.found {
             Found::Lines(_) => true,
             Found::Passed(image) => {
-                *image < BLOCK * u64::from(self.block) && least.is_some_and(|least| least <= *image)
+                *image < BLOCK * u64::from(self.block) && reaches(least, from, *image)
             }
         }
     }

@@ -14,7 +14,7 @@ use crate::input::Input;
 use crate::judging::Seen;
 use crate::local::Local;
 use crate::look::{Look, Stop};
-use crate::piece::{BLOCK, Piece};
+use crate::piece::Piece;
 use crate::reuse::Reuse;
 use crate::worker::Worker;
 use choices::Picked;
@@ -217,15 +217,14 @@ impl<'b, 'a, J: Run, G: Gate> Worker<'b, 'a, J, G> {
         ensures piece { IfOk result (λ piece. piece ≡ piece_of self.now.input.now block) }
         ensures local { IsLocal self.now.input.now local.new }
     {
-        let first = BLOCK * u64::from(block);
-        let end = self.input.image_count().min(first + BLOCK);
+        let (first, end) = self.input.images_of(block);
         let lines = self.judge_row(rt, local, first, end)?;
         Ok(Piece::of(block, lines))
     }
 }
 
-/// Judges the images of a block: 64 in a row from `64 * block` on, or those that are left. The sixteen
-/// shards are those of the cache of the run. Without a cache it asks none of them.
+/// Judges the images of a block: 64 in a row, from the one on that is `64 * block` behind the first, or those that are left. The
+/// sixteen shards are those of the cache of the run. Without a cache it asks none of them.
 ///
 /// Without a cache it takes memory for the lines, and for what is known by footprints: where that is refused, images are
 /// judged by themselves. With one it takes memory for the lines and for keys. An image borrows its sectors from the log.

@@ -1,6 +1,6 @@
 //! A worker: it takes blocks, and hands over a piece of each.
 
-ghost use Rattle.std.specs.Prelude.{◌≡◌, ◌≤◌, ◌<◌, [], length, true, IfOk, OnOk, IfSome};
+ghost use Rattle.std.specs.Prelude.{◌≡◌, ◌≤◌, ◌<◌, ◌+◌, [], length, true, option_map, IfOk, OnOk, IfSome};
 ghost use Rattle.shares.specs.Steps.{next_seen, finds};
 ghost use Rattle.shares.specs.declared.deque.Phase.TheVariants.{Open, Closing};
 ghost use Rattle.shares.specs.Hands.{HandValue, IsEmptyHand, IsShut};
@@ -22,8 +22,8 @@ use std::alloc::AllocError;
 use std::sync::Wait;
 use verdict_cache::Run;
 
-/// The failing image after which a block is passed over: one that was posted by now, where the first is
-/// all that is asked for, and all of the block lies after it.
+/// The failing image after which a block is passed over, less the first one that is judged: one that was posted by now, where
+/// the first failing image is all that is asked for, and all of the block lies after it.
 fn image_before(input: &Input<'_>, board: &Board, seat: &mut Seat, block: u32) -> Option<u64>
     requires { seat.old.board ≡ board.now.name }
     ensures board { seat.new.board ≡ seat.old.board }
@@ -43,16 +43,17 @@ fn image_before(input: &Input<'_>, board: &Board, seat: &mut Seat, block: u32) -
     }
 }
 
-/// The first failing image of a piece that was judged. It is one that can be posted, since a run has few
-/// enough images.
+/// The first failing image of a piece that was judged, less the first one that is judged. It is a number that can be
+/// posted, since few enough images are judged.
 fn first_failing(input: &Input<'_>, piece: &Piece) -> Option<u64>
     requires piece { piece.now ≡ piece_of input.now piece.now.block }
-    requires block { piece.now.block < block_count input.now }
-    ensures value { result ≡ least_image (lines_of piece.now.found) }
+    ensures value { option_map (λ image. input.now.from + image) result ≡ least_image (lines_of piece.now.found) }
     ensures few { IfSome result (λ image. image < 16777216) }
 {
-    let _images = input.image_count();
-    piece.least_image()
+    match piece.least_image() {
+        Some(image) => Some(input.behind_first(image)),
+        None => None,
+    }
 }
 
 /// The piece of a block that a worker took. It is passed over where it can be; else it is judged, and

@@ -3,7 +3,7 @@
 ghost use Rattle.std.specs.Prelude.{◌≡◌, ◌<◌, ◌≤◌, false, length, slice_get, IsTrue, MatchOption, Some};
 ghost use Rattle.std.specs.List.{slice_index_or};
 ghost use Rattle.workers.specs.Reuse.{IsNextTold, NoneTold, Rises, tells, told_or};
-ghost use Rattle.choices.specs.Picked.{marked};
+ghost use Rattle.choices.specs.Picked.{marked_picks};
 
 use choices::Pick;
 
@@ -45,7 +45,7 @@ fn stands(picks: &[Pick], place: usize, pick: &Pick) -> bool
 /// Whether these are the marked ones of those.
 pub(crate) fn are_marked(own: &[Pick], picks: &[Pick], marks: &[bool; 3]) -> bool
     requires { length picks.now ≤ 3 }
-    ensures { IsTrue result → marked marks.now picks.now ≡ own.now }
+    ensures { IsTrue result → marked_picks marks.now picks.now ≡ own.now }
 {
     let mut seen = 0;
     for (place, pick) in picks.iter().enumerate() {

@@ -47,7 +47,7 @@ fn both_collected<'a, J: Run, R: Wait>(
     if pieces.push(second).is_err() || pieces.push(first).is_err() {
         return Err(Refusal::of_memory());
     }
-    collect(alloc, pieces, 2)
+    collect(alloc, pieces, 0, 2)
 }
 
 /// Whether each image is a line, of blocks that are judged by themselves.
@@ -103,10 +103,11 @@ pub fn are_right<R: Threads + Wait + Sync>(rt: &R, alloc: Global) -> bool {
         Asked {
             bound: 0,
             tears: false,
+            from: 0,
+            to: images,
             first: false,
             workers: 1,
             cache: 16,
-            images,
         },
     );
     if !blocks_are_right::<Brand, R>(rt, alloc, &input, &history, &checkers) {

@@ -38,7 +38,7 @@ fn key_is_right<'a>(
         return false;
     };
     let copy = settled!(key.copy(alloc));
-    copy == key && key.changed().len() == wanted
+    copy == key && key.changed_sectors().len() == wanted
 }
 
 /// Whether the keys of the first images are right.

@@ -14,7 +14,7 @@ returns-then-is_some c =
       λ cycle. absurd (no_cycle (plain c.args.program.now) n l.weights c.args.lengths.now.items l.settled.partial c.args.slot read.0 read.1 cycle),
     )
 
-pub reached-requires-clause-within : goal.reached-requires-clause-within
-reached-requires-clause-within c = λ t leads.
+pub reach_of_edges-requires-clause-within : goal.reach_of_edges-requires-clause-within
+reach_of_edges-requires-clause-within c = λ t leads.
     let there : Leads (plain c.args.program.now c.args.slot) t = rw c.plain.ensures at leads in
     c.requires.edges c.args.slot t there

@@ -14,13 +14,6 @@ overflow_add-sum c =
     let all = c.requires.counted in
     omega (arith, more, within, all)
 
-pub overflow_cast-sum : goal.overflow_cast-sum
-overflow_cast-sum c =
-    let more = counted _ _ _ _ _ _ _ c.cuts-cuts.ensures.value c.loop-cut-test.true c.loop-cut.invariant.0 c.ways_at-sum.ensures.value in
-    let within = before_within c.args.plan.now c.args.bound c.args.tears (c.loop-cut.cut-index + 1) in
-    let all = c.requires.counted in
-    omega (arith, more, within, all)
-
 pub loop-cut-preserved : goal.loop-cut-preserved
 loop-cut-preserved c =
     let more = counted _ _ _ _ _ _ _ c.cuts-cuts.ensures.value c.loop-cut-test.true c.loop-cut.invariant.0 c.ways_at-sum.ensures.value in

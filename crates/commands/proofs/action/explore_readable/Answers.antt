@@ -1,7 +1,7 @@
 use Rattle.std.proofs.Common.{◌≡◌, ◌∙◌, ap, sym, subst, map, position, is_none, None}
 use Rattle.std.proofs.lemmas.Result.{err_from_is_err_and}
 use Rattle.commands.specs.Acting.{for_run, AnswersRun}
-use Rattle.runs.specs.Explore.{Refuses}
+use Rattle.runs.specs.Explore.{RefusesWanted}
 use Rattle.commands.proofs.Acts.{no_file, no_log, no_program, no_base, files_read, memory_wanting}
 use Rattle.request.proofs.Results.{both_ok, one_err}
 use Rattle.commands.proofs.action.explore_readable.Goals as goal
@@ -48,7 +48,7 @@ returns-in-Ok-clause-refused g c =
     for_run c.as_slice.result.now (map (λ f. f.items) c.as_slice-in-Ok.result.now) c.in_ok-initial.initial.now r
     (files_read (λ f. f.items) c.args.asked.now.files.now.named.now c.in-Some.first.now c.in-Some.others.now c.in-Some-first.log c.as_slice.result.now _
     c.in-Some.ensures.cases.0 c.in-Some-first.is readable c.as_slice.ensures.value (ap (map (λ f. f.items)) c.as_slice-in-Ok.ensures.value ∙ c.in-Ok.ensures))
-    c.in_ok-initial.ensures (subst (λ text. Refuses text (map (λ f. f.items) c.as_slice-in-Ok.result.now) c.args.options.now r) c.of-recording.ensures refused))
+    c.in_ok-initial.ensures (subst (λ text. RefusesWanted c.args.asked.now.wanted text (map (λ f. f.items) c.as_slice-in-Ok.result.now) c.args.options.now r) c.of-recording.ensures refused))
 
 pub returns-in-Err-clause-refused : goal.returns-in-Err-clause-refused
 returns-in-Err-clause-refused g c =

@@ -1,6 +1,7 @@
 use Rattle.std.proofs.Common.{ℕ, ◌≡◌, ◌≤◌, ◌∙◌, arith, None, Some, false, replicate}
 use native.Mathlib.Bridge.{le_prop}
 use Rattle.limits.specs.declared.Limits.TheVariants as limit
+use Rattle.request.specs.declared.extent.Extent.TheVariants as extent
 use Rattle.epochs.specs.declared.cuts.CutKind.TheVariants as kind
 use Rattle.epochs.specs.declared.part.By.TheVariants as by
 use Rattle.request.specs.declared.settings.Settings.{Settings}
@@ -20,6 +21,7 @@ settings_by few = record {
   cache = 0;
   checked = Some 2;
   first = false;
+  extent = extent.Whole;
 }
 
 same_settings : (few : 0 ≤ 64) → settings_by few ≡ stored_settings

@@ -3,8 +3,8 @@ use Rattle.images.proofs.Sectors.{flush_within}
 use Rattle.images.proofs.Growing.{none_between, known_on}
 use Rattle.images.proofs.changes.known_at.Goals as goal
 
-pub followed-requires-clause-flush : goal.followed-requires-clause-flush
-followed-requires-clause-flush c =
+pub changes_of_cut-requires-clause-flush : goal.changes_of_cut-requires-clause-flush
+changes_of_cut-requires-clause-flush c =
     let last = c.requires.known.last in
     let within = c.requires.known.within in
     let low = flush_within c.args.versions.now.entries c.args.known.cut in
@@ -14,5 +14,5 @@ pub returns-then-first-cut : goal.returns-then-first-cut
 returns-then-first-cut c =
     (refl, known_on _ _ _ _ _ _ _ _ c.requires.known c.if-old-epoch.true c.requires.cut c.requires.epoch c.in_ok-sectors.ensures)
 
-pub followed-requires-2-clause-known : goal.followed-requires-2-clause-known
-followed-requires-2-clause-known c = c.new.ensures.items ∙ none_between c.args.versions.now c.last_flush-flush.result
+pub changes_of_cut-requires-2-clause-known : goal.changes_of_cut-requires-2-clause-known
+changes_of_cut-requires-2-clause-known c = c.new.ensures.items ∙ none_between c.args.versions.now c.last_flush-flush.result

@@ -13,6 +13,6 @@ returns-then-same c = λ durable image here shown.
 pub returns-else-same : goal.returns-else-same
 returns-else-same c = λ durable image here shown.
     let own : ChangedValue = record { number = c.args.number; content = c.args.sector.now } in
-    ap (λ (s : ChangedValue). Some s) c.lent.ensures
+    ap (λ (s : ChangedValue). Some s) c.borrow_sector.ensures
     ∙ ap (λ b. if b then None else Some own) (sym c.if-same.false)
     ∙ change_by_test durable image c.args.number c.args.base.now c.args.sector.now c.same.result (same_test _ _ c.same.result c.same.ensures) here shown

@@ -18,8 +18,8 @@ tear-number-requires-clause-device c =
     let small = c.requires.bounds.device in
     omega (arith, on, small)
 
-pub formed-requires-clause-number : goal.formed-requires-clause-number
-formed-requires-clause-number c =
+pub form_sector-requires-clause-number : goal.form_sector-requires-clause-number
+form_sector-requires-clause-number c =
     let there = slice_get_read c.args.departures.now _ c.loop-departure.departure-index _ refl c.loop-departure-test.true c.departure-item.is in
     let on = (c.requires.parts c.loop-departure.departure-index _ there).device in
     let inside = c.tear-number.ensures.inside in
@@ -32,7 +32,7 @@ loop-departure-preserved c =
     let there = slice_get_read ds _ c.loop-departure.departure-index _ refl c.loop-departure-test.true c.departure-item.is in
     elim c.if-tears.branch [
       | then-tears w ↦
-          rw w.torn-is (one_torn log c.args.cut ds c.loop-departure.departure-index c.loop-departure.torn.items _ c.departure-item.result _ c.loop-departure.invariant there w.push.ensures.items w.tear-number.ensures.value (w.formed.ensures ∙ ap (sector_after log (units_before log.entries c.args.cut) ds) w.tear-number.ensures.value))
+          rw w.torn-is (one_torn log c.args.cut ds c.loop-departure.departure-index c.loop-departure.torn.items _ c.departure-item.result _ c.loop-departure.invariant there w.push.ensures.items w.tear-number.ensures.value (w.form_sector.ensures ∙ ap (sector_after log (units_before log.entries c.args.cut) ds) w.tear-number.ensures.value))
       | else-tears w ↦
           rw w.torn-is (not_torn log c.args.cut ds c.loop-departure.departure-index c.loop-departure.torn.items c.departure-item.result c.loop-departure.invariant there
           (sym c.tears.ensures ∙ w.if-tears.false))

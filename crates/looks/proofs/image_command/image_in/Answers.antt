@@ -26,7 +26,7 @@ choice_meant-requires-clause-log c = subst (λ (p : PlanValue). IsLog p.log) (sy
 pub returns-in_err-choice-clause-refused : goal.returns-in_err-choice-clause-refused
 returns-in_err-choice-clause-refused c =
     let p = err_from_is_err_and c.from_residual-in_err-choice.result c.from_residual-in_err-choice.ensures.1 in
-    let has = has_images _ c.args.options.now c.in_ok-log.log _ c.in_ok-log.ensures.log c.in_ok-plan.ensures.count c.in_ok-plan.ensures.few in
+    let has = has_images _ c.args.options.now c.in_ok-log.log _ c.in_ok-log.ensures.log c.in_ok-plan.ensures.count c.in_ok-plan.ensures.few c.in_ok-plan.ensures.within in
     rw (p.1, p.2) (choice_refused _ _ c.in_ok-log.log _ c.args.which _ has c.in_ok-plan.ensures.plan c.in_err-choice.ensures.refused)
 
 pub told-requires-clause-bounds : goal.told-requires-clause-bounds
@@ -37,11 +37,11 @@ told-requires-clause-member c = meant_member _ c.args.options.now.bound c.args.o
 
 pub returns-in-Ok-clause-shown : goal.returns-in-Ok-clause-shown
 returns-in-Ok-clause-shown c =
-    let has = has_images _ c.args.options.now c.in_ok-log.log _ c.in_ok-log.ensures.log c.in_ok-plan.ensures.count c.in_ok-plan.ensures.few in
+    let has = has_images _ c.args.options.now c.in_ok-log.log _ c.in_ok-log.ensures.log c.in_ok-plan.ensures.count c.in_ok-plan.ensures.few c.in_ok-plan.ensures.within in
     image_is c.args.form _ c.args.options.now c.in_ok-log.log _ c.args.which c.in_ok-choice.choice _ has c.in_ok-plan.ensures.plan c.in_ok-choice.ensures.meant c.in-Ok.ensures
 
 pub returns-clause-refused : goal.returns-clause-refused
 returns-clause-refused c =
     rw c.of_memory.ensures
     (for_memory c.in_ok-log.log
-    (has_images _ c.args.options.now c.in_ok-log.log _ c.in_ok-log.ensures.log c.in_ok-plan.ensures.count c.in_ok-plan.ensures.few))
+    (has_images _ c.args.options.now c.in_ok-log.log _ c.in_ok-log.ensures.log c.in_ok-plan.ensures.count c.in_ok-plan.ensures.few c.in_ok-plan.ensures.within))

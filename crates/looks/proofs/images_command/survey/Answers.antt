@@ -1,7 +1,9 @@
-use Rattle.std.proofs.Common.{◌≤◌, length, arith}
-use Rattle.choices.specs.Choices.{limit}
+use Rattle.std.proofs.Common.{ℕ, ◌≡◌, ◌≤◌, true, length, subst, arith}
+use Rattle.request.specs.Extents.{most_images, has_extent}
 use Rattle.std.proofs.lemmas.Result.{err_from_is_err_and}
 use Rattle.request.specs.Source.{for_log, for_plan, images_of}
+use Rattle.request.proofs.Logs.{has_images}
+use Rattle.looks.proofs.Refused.{parts_refused}
 use Rattle.looks.specs.Survey.{for_source, for_memory}
 use Rattle.looks.proofs.images_command.survey.Goals as goal
 
@@ -17,12 +19,19 @@ returns-in_err-plan-clause-refused c =
     (for_source _
     (for_plan _ c.in_ok-log.log (c.in_ok-log.ensures.log) c.in_err-plan.ensures.refused))
 
+pub returns-then-not-can_be_laid_out-clause-refused : goal.returns-then-not-can_be_laid_out-clause-refused
+returns-then-not-can_be_laid_out-clause-refused c =
+    let has = has_images _ c.args.options.now c.in_ok-log.log _ c.in_ok-log.ensures.log c.in_ok-plan.ensures.count c.in_ok-plan.ensures.few c.in_ok-plan.ensures.within in
+    rw c.option_refusal_of.ensures
+    (parts_refused c.args.parts _ c.args.options.now c.in_ok-log.log _ _ has c.in_ok-plan.ensures.count c.can_be_laid_out.ensures c.if-not-can_be_laid_out.true)
+
 pub returns-clause-refused : goal.returns-clause-refused
 returns-clause-refused c =
-    let few : length (images_of c.args.options.now c.in_ok-log.log) ≤ limit = omega (arith, c.in_ok-plan.ensures.count, c.in_ok-plan.ensures.few) in
+    let few : length (images_of c.args.options.now c.in_ok-log.log) ≤ most_images c.args.options.now.extent = omega (arith, c.in_ok-plan.ensures.count, c.in_ok-plan.ensures.few) in
     rw c.of_memory.ensures
     (for_memory c.in_ok-log.log
     (record {
       reads = c.in_ok-log.ensures.log;
       few = few;
+      within = subst (λ (n : ℕ). has_extent c.args.options.now.extent n ≡ true) c.in_ok-plan.ensures.count c.in_ok-plan.ensures.within;
     }))

@@ -7,16 +7,16 @@ pub returns-then-initial-sectors-clause-refused : goal.returns-then-initial-sect
 returns-then-initial-sectors-clause-refused c =
     rw c.option_refusal_of.ensures (past_device (let device = c.sectors.ensures.value in omega (arith, device, c.if-initial-sectors.true)))
 
-pub recorded-requires : goal.recorded-requires
-recorded-requires c = let device = c.sectors.ensures.value in omega (arith, device, c.if-initial-sectors.false)
+pub log_over_base-requires : goal.log_over_base-requires
+log_over_base-requires c = let device = c.sectors.ensures.value in omega (arith, device, c.if-initial-sectors.false)
 
 pub returns-in-Err-clause-refused : goal.returns-in-Err-clause-refused
 returns-in-Err-clause-refused c =
     rw c.log_refusal_of.ensures
     (log_refused _ _ c.in-Err.fault (let device = c.sectors.ensures.value in omega (arith, device, c.if-initial-sectors.false)) c.in-Err.ensures.fault)
 
-pub flushed-requires : goal.flushed-requires
-flushed-requires c = there c.cuts-cuts.result c.in-Ok.log _ c.places.result.now _ c.entries.ensures.value c.places.ensures.value c.first_lacking.ensures c.in-None.is
+pub with_flushes-requires : goal.with_flushes-requires
+with_flushes-requires c = there c.cuts-cuts.result c.in-Ok.log _ c.places.result.now _ c.entries.ensures.value c.places.ensures.value c.first_lacking.ensures c.in-None.is
 
 pub returns-in-Some-clause-refused : goal.returns-in-Some-clause-refused
 returns-in-Some-clause-refused c =
@@ -25,5 +25,5 @@ returns-in-Some-clause-refused c =
 
 pub returns-in-None-clause-log : goal.returns-in-None-clause-log
 returns-in-None-clause-log c =
-    log_of _ c.args.options.now c.cuts-cuts.result c.in-Ok.log c.flushed.result _ c.places.result.now _ c.cuts-cuts.ensures c.in-Ok.ensures.log c.entries.ensures.value c.places.ensures.value
-    c.first_lacking.ensures c.in-None.is c.flushed.ensures
+    log_of _ c.args.options.now c.cuts-cuts.result c.in-Ok.log c.with_flushes.result _ c.places.result.now _ c.cuts-cuts.ensures c.in-Ok.ensures.log c.entries.ensures.value c.places.ensures.value
+    c.first_lacking.ensures c.in-None.is c.with_flushes.ensures

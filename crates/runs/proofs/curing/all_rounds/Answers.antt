@@ -22,7 +22,7 @@ next_log-requires-clause-calm g c =
     c.loop-alloc.invariant.found.failures.calm
 
 pub end_refused-requires : goal.end_refused-requires
-end_refused-requires g c = run_refused c.args.judges.now.options.now c.in_ok-added.added.log c.in-Err.refusal c.in-Err.ensures.refused
+end_refused-requires g c = run_refused c.args.judges.now.options.now c.in_ok-added.added.log c.in-Err.refusal c.requires.whole c.in-Err.ensures.refused
 
 pub returns-in-Err-clause-told : goal.returns-in-Err-clause-told
 returns-in-Err-clause-told g c =
@@ -30,7 +30,7 @@ returns-in-Err-clause-told g c =
     trying_past _ _ _ _ _ (string_bytes c.next_log.new.out) (string_bytes c.end_refused.new.out) _ _ c.in_ok-added.added.log _ _ _ _ c.as_slice-in-loop-alloc.result.now
     c.in_ok-added.added.flushes.items c.in-Err.refusal.at c.loop-alloc.invariant some c.as_slice-in-loop-alloc.ensures.value c.in_ok-added.ensures.missing
     c.in_ok-added.ensures.log c.in_ok-added.ensures.told
-    (past_of c.args.judges.now.options.now c.in_ok-added.added.log c.in-Err.refusal c.in-Err.ensures.refused c.in_ok-end_refused-in-Err.ensures.cause)
+    (past_of c.args.judges.now.options.now c.in_ok-added.added.log c.in-Err.refusal c.requires.whole c.in-Err.ensures.refused c.in_ok-end_refused-in-Err.ensures.cause)
     c.in_ok-end_refused-in-Err.ensures.told
 
 pub loop-alloc-preserved : goal.loop-alloc-preserved

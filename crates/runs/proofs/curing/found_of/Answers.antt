@@ -1,5 +1,6 @@
 use Rattle.request.specs.Source.{no_plan_memory}
 use Rattle.request.proofs.Results.{one_err}
+use Rattle.runs.proofs.Judging.{judged_whole}
 use Rattle.runs.proofs.curing.found_of.Goals as goal
 
 pub invariant_of-task : goal.invariant_of-task
@@ -7,8 +8,7 @@ invariant_of-task g c =
     record {
       plan_is = c.in_ok-plan.ensures.plan;
       device = c.requires.device;
-      count = c.in_ok-plan.ensures.count;
-      few = c.in_ok-plan.ensures.few;
+      judged = judged_whole _ _ c.in_ok-plan.images 0 c.requires.whole c.in_ok-plan.ensures.count c.in_ok-plan.ensures.few;
     }
 
 pub returns-clause-refused : goal.returns-clause-refused

@@ -7,12 +7,12 @@ use Rattle.verifier.specs.Breaches.{FirstSlot, FirstBreach, wrong_length, no_sta
 use Rattle.verifier.proofs.check.check_good.Goals as goal
 
 pub returns-then-slots-clause-breach : goal.returns-then-slots-clause-breach
-returns-then-slots-clause-breach c = rw c.refused.ensures (wrong_length (λ e. c.if-slots.true (c.slots.ensures.slots ∙ e ∙ sym c.slots-2.ensures.number)))
+returns-then-slots-clause-breach c = rw c.fault_at.ensures (wrong_length (λ e. c.if-slots.true (c.slots.ensures.slots ∙ e ∙ sym c.slots-2.ensures.number)))
 
 pub returns-then-not-covers-clause-breach : goal.returns-then-not-covers-clause-breach
 returns-then-not-covers-clause-breach c =
     let long : length c.args.table.now ≡ length c.args.scene.now.program.now = search rules in
-    rw c.refused-then-not-covers.ensures (no_start long (λ h.
+    rw c.fault_at-then-not-covers.ensures (no_start long (λ h.
     let there : Covers (state_at c.args.table.now 0) (state_of c.start-room.result) = rw c.start-room.ensures h in
     let bad : false ≡ true = sym c.if-not-covers.true ∙ c.covers.ensures.1 there in
     cc))

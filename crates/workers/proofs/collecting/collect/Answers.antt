@@ -14,20 +14,20 @@ returns-in-Some-default-clause-refused c =
 
 pub returns-in-None-Some-clause-refused : goal.returns-in-None-Some-clause-refused
 returns-in-None-Some-clause-refused c =
-    let here : position (is_missing c.in-Ok.table.least) c.in-Ok.table.rows.items ≡ Some c.in-None-Some.block =
-    ap (position (is_missing c.in-Ok.table.least)) (sym c.as_slice.ensures.value) ∙ sym c.first_missing.ensures ∙ c.in-None-Some.is-1 in
+    let here : position (is_missing c.args.from c.in-Ok.table.least) c.in-Ok.table.rows.items ≡ Some c.in-None-Some.block =
+    ap (position (is_missing c.args.from c.in-Ok.table.least)) (sym c.as_slice.ensures.value) ∙ sym c.first_missing.ensures ∙ c.in-None-Some.is-1 in
     rw c.of_work-in-None-Some.ensures
-    (no_piece c.in-None-Some.block (missing_there _ _ _ _ _ (none_twice _ _ _ _ _ c.in-Ok.ensures c.in-None-Some.is-0) here))
+    (no_piece c.in-None-Some.block (missing_there _ _ _ _ _ _ (none_twice _ _ _ _ _ c.in-Ok.ensures c.in-None-Some.is-0) here))
 
-pub returns-in-Ok-joined-clause-whole : goal.returns-in-Ok-joined-clause-whole
-returns-in-Ok-joined-clause-whole c =
-    let none : position (is_missing c.in-Ok.table.least) c.in-Ok.table.rows.items ≡ None =
-    ap (position (is_missing c.in-Ok.table.least)) (sym c.as_slice.ensures.value) ∙ sym c.first_missing.ensures ∙ c.in-None-None.is-1 in
-    whole_rows _ _ _ _ (none_twice _ _ _ _ _ c.in-Ok.ensures c.in-None-None.is-0) none
+pub returns-in-Ok-join_rows-clause-whole : goal.returns-in-Ok-join_rows-clause-whole
+returns-in-Ok-join_rows-clause-whole c =
+    let none : position (is_missing c.args.from c.in-Ok.table.least) c.in-Ok.table.rows.items ≡ None =
+    ap (position (is_missing c.args.from c.in-Ok.table.least)) (sym c.as_slice.ensures.value) ∙ sym c.first_missing.ensures ∙ c.in-None-None.is-1 in
+    whole_rows _ _ _ _ _ (none_twice _ _ _ _ _ c.in-Ok.ensures c.in-None-None.is-0) none
 
-pub returns-in-Ok-joined-clause-lines : goal.returns-in-Ok-joined-clause-lines
-returns-in-Ok-joined-clause-lines c =
-    c.in-Ok-joined.ensures ∙ lines_of_rows _ _ _ _ (none_twice _ _ _ _ _ c.in-Ok.ensures c.in-None-None.is-0)
+pub returns-in-Ok-join_rows-clause-lines : goal.returns-in-Ok-join_rows-clause-lines
+returns-in-Ok-join_rows-clause-lines c =
+    c.in-Ok-join_rows.ensures ∙ lines_of_rows _ _ _ _ (none_twice _ _ _ _ _ c.in-Ok.ensures c.in-None-None.is-0)
 
-pub returns-in-Err-joined-clause-refused : goal.returns-in-Err-joined-clause-refused
-returns-in-Err-joined-clause-refused c = rw c.of_memory-in-Err-joined.ensures no_memory
+pub returns-in-Err-join_rows-clause-refused : goal.returns-in-Err-join_rows-clause-refused
+returns-in-Err-join_rows-clause-refused c = rw c.of_memory-in-Err-join_rows.ensures no_memory

@@ -1,4 +1,4 @@
-use Rattle.std.proofs.Common.{◌∙◌, sym, arith}
+use Rattle.std.proofs.Common.{ℕ, ◌+◌, ◌∙◌, option_map, sym, ap, arith}
 use Rattle.shares.specs.declared.view.SeatStep.TheVariants.{Posted}
 use Rattle.workers.proofs.HandingOver.{seen_later, adds_passed, adds_full, adds_last}
 use Rattle.workers.proofs.taking.piece_taken.Goals as goal
@@ -24,7 +24,7 @@ returns-clause-added g c = elim c.match-first_failing.branch [
       let step = w.post.ensures.step in
       rw w.seat-is
       (adds_last c.args.worker.now.input.now c.args.block w.in-Some-first_failing.image step.0 c.args.seat.now.steps c.image_before.new.seat.steps w.post.new.seat.steps c.in_ok-piece.piece c.image_before.ensures.posts step.1
-      c.in_ok-piece.ensures.piece c.requires.block (sym c.first_failing.ensures.value ∙ w.in-Some-first_failing.is))
+      c.in_ok-piece.ensures.piece c.requires.block (sym c.first_failing.ensures.value ∙ ap (option_map (λ (i : ℕ). c.args.worker.now.input.now.from + i)) w.in-Some-first_failing.is))
   | in_default-first_failing w ↦
       rw (w.seat-is, c.in_ok-piece.ensures.piece) (adds_full c.args.worker.now.input.now c.args.block c.args.seat.now.steps c.image_before.new.seat.steps c.image_before.ensures.posts c.requires.block)
 ]

@@ -1,4 +1,4 @@
-use Rattle.std.proofs.Common.{List, ℕ, subst, sym}
+use Rattle.std.proofs.Common.{List, ℕ, refl, subst, sym}
 use Rattle.choices.specs.Sums.{StartsValue, AreSums}
 use Rattle.choices.proofs.Sums.{some_cut, not_below, not_above, found_cut}
 use Rattle.choices.proofs.starts.Starts.place_of.Goals as goal
@@ -25,5 +25,5 @@ last_up_to-place-requires-clause-high c =
 pub returns : goal.returns
 returns c =
     let own = subst (λ v. table v c.self.inside.sums.items) c.self.view_is c.self.invariant.1 in
-    found_cut _ _ _ c.args.number c.last_up_to-place.result c.from.result _ (subst (λ xs. table c.args.self.now xs) (sym c.as_slice-sums.ensures.value) own)
-    c.last_up_to-place.ensures c.from.ensures
+    found_cut _ _ _ c.args.number c.last_up_to-place.result _ _ (subst (λ xs. table c.args.self.now xs) (sym c.as_slice-sums.ensures.value) own)
+    c.last_up_to-place.ensures refl

@@ -15,4 +15,4 @@ returns-clause-own c = λ cut wanted.
     let first = are.each c.args.place (omega (arith, inside)) in
     let end = are.each (c.args.place + 1) (omega (arith, inside)) in
     let more = before_more c.args.self.now.plan c.args.self.now.bound c.args.self.now.tears c.args.place cut wanted in
-    omega (arith, more, first, end, c.from.ensures, c.from-2.ensures)
+    omega (arith, more, first, end)

@@ -1,7 +1,0 @@
-use Rattle.std.proofs.Common.{◌≡◌, ◌<◌, IfSome}
-use Rattle.epochs.specs.Cuts.{is_flush_at}
-use Rattle.crash_text.specs.Cut.{last_before}
-use Rattle.crash_text.proofs.cut.last_flush.Given as goal
-
-abbrev pub invariant-loop-entry : goal.invariant-loop-entry
-invariant-loop-entry l = (l.last ≡ last_before (is_flush_at l.entries) l.entry) × IfSome l.last (λ e. e < l.entry)

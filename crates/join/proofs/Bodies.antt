@@ -1,0 +1,119 @@
+-- Failing lines, read from a text to the byte.
+use Rattle.std.proofs.Common.{ℕ, ◌≡◌, ◌≢◌, ◌+◌, ◌<◌, ◌^◌, true, List, ◌∷◌, ◌++◌, length, length-append, append_assoc, codes, refl, sym, subst, ◌∙◌, ap, arith}
+use Rattle.std.specs.Fmt.{decimal}
+use Rattle.lines.specs.declared.marks.Mark.{Mark}
+use Rattle.lines.specs.Line.{FailingLine}
+use Rattle.lines.specs.Reading.{lacks, ReadsField}
+use Rattle.lines.specs.Text.{line_text}
+use Rattle.lines.proofs.Back.{lacks_both, end_lacks, words_of as line_words}
+use Rattle.join.specs.declared.line.Words.{Words}
+use Rattle.join.specs.Printable.{IsEnd, IsPrintable, end_text}
+use Rattle.join.specs.Reading.{words_text, words_of, body_text, ReadsWords, Fit, IsBody, NoBody, IsCut, NoCut, IsLine, NoLine}
+use Rattle.join.proofs.Texts.{one_cut, cancel, has_it}
+use Rattle.join.proofs.Spans.{line_lacks, blank_lacks, SaysNumber}
+
+pub by_words : (w : Words) (more : List ℕ)
+    → words_text w ++ more
+    ≡ codes "image" ++ 32 ∷ (decimal w.image ++ 32 ∷ (codes "cut" ++ 32 ∷ (decimal w.cut ++ 32 ∷ (codes "program" ++ 32 ∷ (decimal w.program ++ 32 ∷ more)))))
+unfolding words_text
+by_words w more = simp append_assoc
+
+pub words_read : (line image behind_image at behind_cut program rest : List ℕ) (i k p : ℕ)
+    → ReadsField line image behind_image → ReadsField behind_image at behind_cut → ReadsField behind_cut program rest
+    → SaysNumber image i → SaysNumber at k → SaysNumber program p → ReadsWords line (record { image = i; cut = k; program = p })
+words_read line image behind_image at behind_cut program rest i k p f1 f2 f3 n1 n2 n3 = record { read = reads }
+  where
+    reads : (w : Words) (more : List ℕ) → w.image < 2 ^ 64 → w.cut < 2 ^ 64 → w.program < 2 ^ 64 → line ≡ words_text w ++ more → record { image = i; cut = k; program = p } ≡ w
+    reads w more s1 s2 s3 e =
+        let p1 = f1.read (codes "image") (decimal w.image) _ refl (blank_lacks w.image s1) (e ∙ by_words w more) in
+        let p2 = f2.read (codes "cut") (decimal w.cut) _ refl (blank_lacks w.cut s2) p1.1 in
+        let p3 = f3.read (codes "program") (decimal w.program) more refl (blank_lacks w.program s3) p2.1 in
+        let e1 = n1 w.image s1 p1.0 in
+        let e2 = n2 w.cut s2 p2.0 in
+        let e3 = n3 w.program s3 p3.0 in
+        rw (e1, e2, e3) refl
+
+-- the numbers of a line are those of its words
+of_line : (line : List ℕ) (words : Words) → ReadsWords line words → (l : FailingLine) → IsPrintable l → line ≡ body_text l → words ≡ words_of l
+of_line line words reads l small e =
+    let image = small.image in
+    let at = small.cut in
+    let program = small.program in
+    reads.read (words_of l) (end_text l.ending l.by l.departures) (omega (arith, image)) (omega (arith, at)) (omega (arith, program)) e
+
+pub too_large : (line : List ℕ) (words : Words) → ReadsWords line words → (Fit words → ⊥) → NoBody line
+too_large line words reads large = record {
+  none = λ l small e.
+      let same = of_line line words reads l small e in
+      large (record { cut = rw same small.cut; program = rw same small.program });
+}
+
+pub other_words : (line printed : List ℕ) (words : Words) → ReadsWords line words → printed ≡ words_text words → ((rest : List ℕ) → line ≢ printed ++ rest) → NoBody line
+other_words line printed words reads is none = record {
+  none = λ l small e.
+      let same = of_line line words reads l small e in
+      none (end_text l.ending l.by l.departures) (e ∙ ap (λ (bs : List ℕ). bs ++ end_text l.ending l.by l.departures) (ap (λ (w : Words). words_text w) (sym same) ∙ sym is));
+}
+
+pub other_end : (line printed end : List ℕ) (words : Words) → ReadsWords line words → printed ≡ words_text words → line ≡ printed ++ end → (IsEnd end → ⊥) → NoBody line
+other_end line printed end words reads is parts none = record {
+  none = λ l small e.
+      let same = of_line line words reads l small e in
+      let front : words_text (words_of l) ≡ printed = ap (λ (w : Words). words_text w) (sym same) ∙ sym is in
+      let whole : printed ++ end ≡ printed ++ end_text l.ending l.by l.departures = sym parts ∙ e ∙ ap (λ (bs : List ℕ). bs ++ end_text l.ending l.by l.departures) front in
+      none (record { ending = l.ending; way = l.by; departures = l.departures; within = small.ending; names = small.names; is = cancel printed _ _ whole });
+}
+
+pub is_body : (line printed end : List ℕ) (words : Words) → words.image < 2 ^ 64 → Fit words → printed ≡ words_text words → line ≡ printed ++ end → IsEnd end
+    → IsBody line (record { image = words.image; program = words.program })
+is_body line printed end words small fit is parts e = record {
+  line = record { image = words.image; cut = words.cut; program = words.program; ending = e.ending; by = e.way; departures = e.departures };
+  printable = record { image = small; cut = fit.cut; program = fit.program; ending = e.within; names = e.names };
+  is = rw (parts, is, e.is) refl;
+  marked = refl;
+}
+
+-- a line without its newline has none
+pub body_lacks : (l : FailingLine) → IsPrintable l → lacks 10 (body_text l) ≡ true
+unfolding words_text
+body_lacks l small =
+    let image = small.image in
+    let at = small.cut in
+    let program = small.program in
+    lacks_both 10 (words_text (words_of l)) (end_text l.ending l.by l.departures)
+    (lacks_both 10 (codes "image " ++ decimal l.image ++ codes " cut " ++ decimal l.cut ++ codes " program " ++ decimal l.program) (codes " ")
+    (lacks_both 10 (codes "image " ++ decimal l.image ++ codes " cut " ++ decimal l.cut ++ codes " program ") (decimal l.program)
+    (lacks_both 10 (codes "image " ++ decimal l.image ++ codes " cut " ++ decimal l.cut) (codes " program ")
+    (lacks_both 10 (codes "image " ++ decimal l.image ++ codes " cut ") (decimal l.cut)
+    (lacks_both 10 (codes "image " ++ decimal l.image) (codes " cut ") (lacks_both 10 (codes "image ") (decimal l.image) refl (line_lacks l.image image)) refl)
+    (line_lacks l.cut (omega (arith, at)))) refl)
+    (line_lacks l.program (omega (arith, program)))) refl)
+    (end_lacks l)
+
+pub line_is : (l : FailingLine) (more : List ℕ) → line_text l ++ more ≡ body_text l ++ 10 ∷ more
+line_is l more =
+    line_words l more ∙ sym (by_words (words_of l) (end_text l.ending l.by l.departures ++ 10 ∷ more))
+    ∙ sym (append_assoc (words_text (words_of l)) (end_text l.ending l.by l.departures) (10 ∷ more))
+
+pub no_newline_no_line : (text : List ℕ) → NoCut 10 text → NoLine text
+no_newline_no_line text lack = record { none = λ l more small e. has_it 10 (body_text l) more (subst (λ (bs : List ℕ). lacks 10 bs ≡ true) (e ∙ line_is l more) lack.none) }
+
+pub no_body_no_line : (text line more : List ℕ) → IsCut 10 text line more → NoBody line → NoLine text
+no_body_no_line text line more cut lack = record {
+  none = λ l rest small e.
+      let same : line ++ 10 ∷ more ≡ body_text l ++ 10 ∷ rest = sym cut.is ∙ e ∙ line_is l rest in
+      lack.none l small (one_cut 10 line (body_text l) more rest cut.first (body_lacks l small) same).0;
+}
+
+pub body_is_line : (text line more : List ℕ) (mark : Mark) → IsCut 10 text line more → IsBody line mark → IsLine text mark more
+body_is_line text line more mark cut body = record {
+  line = body.line;
+  printable = body.printable;
+  is = cut.is ∙ ap (λ (bs : List ℕ). bs ++ 10 ∷ more) body.is ∙ sym (line_is body.line more);
+  marked = body.marked;
+}
+
+pub line_shorter : (text line more : List ℕ) → IsCut 10 text line more → length more < length text
+line_shorter text line more cut =
+    let all : length text ≡ length line + length (10 ∷ more) = ap length cut.is ∙ length-append line (10 ∷ more) in
+    omega (arith, all)

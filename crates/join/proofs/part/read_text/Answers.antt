@@ -1,0 +1,25 @@
+use Rattle.std.proofs.Common.{rules}
+use Rattle.join.specs.Reading.{IsSpanOf}
+use Rattle.join.proofs.Endings.{fails}
+use Rattle.join.proofs.Parts.{no_last_no_part, not_whole_no_part, other_head_no_part}
+use Rattle.join.proofs.part.read_text.Goals as goal
+
+pub returns-in_default-2 : goal.returns-in_default-2
+returns-in_default-2 c =
+    let span : IsSpanOf c.args.text.now c.in-Some.span c.in-Some.body.now = search rules in
+    let none = rw (c.in_default-2.is, c.saturating_sub.ensures) at c.in_ok-first.ensures in
+    no_last_no_part c.args.text.now c.in-Some.body.now c.in-Some-behind_head.found.now c.in_ok-tally.last.now c.in-Some.span c.in_ok-tally.tally span c.in-Some-behind_head.ensures c.in_ok-tally.ensures.read c.in_ok-tally.ensures.end none
+
+pub returns-then-not-is_whole : goal.returns-then-not-is_whole
+returns-then-not-is_whole c =
+    let span : IsSpanOf c.args.text.now c.in-Some.span c.in-Some.body.now = search rules in
+    let at = rw (c.in-Some-2.is, c.saturating_sub.ensures) at c.in_ok-first.ensures in
+    not_whole_no_part c.args.text.now c.in-Some.body.now c.in-Some-behind_head.found.now c.in_ok-tally.last.now c.in-Some.span c.in_ok-tally.tally c.in-Some-2.first span c.in-Some-behind_head.ensures c.in_ok-tally.ensures.read
+    c.in_ok-tally.ensures.end at (fails c.is_whole.result c.if-not-is_whole.true c.is_whole.ensures)
+
+pub returns-then-not-branch : goal.returns-then-not-branch
+returns-then-not-branch c =
+    let span : IsSpanOf c.args.text.now c.in-Some.span c.in-Some.body.now = search rules in
+    let at = rw (c.in-Some-2.is, c.saturating_sub.ensures) at c.in_ok-first.ensures in
+    other_head_no_part c.args.text.now c.in-Some.body.now c.in-Some-behind_head.found.now c.in_ok-tally.last.now c.before-head.result.now c.in-Some.span c.in_ok-tally.tally c.in-Some-2.first span c.in-Some-behind_head.ensures
+    c.in_ok-tally.ensures.read c.in_ok-tally.ensures.end at c.before-head.ensures (fails c.in_ok-are_options.field-0 c.if-not-branch.true c.in_ok-are_options.ensures)

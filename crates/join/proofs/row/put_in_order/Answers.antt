@@ -1,0 +1,10 @@
+use Rattle.std.proofs.Common.{rules}
+use Rattle.std.proofs.lemmas.List.Sorted.{IsNonDecreasingBy-from_sort_by_key, answers_always}
+use Rattle.join.specs.Reading.{PartRead}
+use Rattle.join.proofs.row.put_in_order.Goals as goal
+
+pub returns-clause-rising : goal.returns-clause-rising
+returns-clause-rising c = IsNonDecreasingBy-from_sort_by_key (λ (r : PartRead). r.span.from) _ c.in_ok-sort_by_key.ensures.sorted (λ a r q k. search rules)
+
+pub returns-clause-stable : goal.returns-clause-stable
+returns-clause-stable c = c.in_ok-sort_by_key.ensures.stable (λ (r : PartRead). r.span.from) (answers_always _ _ _ (λ f a r g h. search rules))

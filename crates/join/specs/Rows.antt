@@ -1,0 +1,89 @@
+-- Parts in a row, as the code goes through them.
+use Rattle.std.specs.Prelude.{ℕ, ◌+◌, ◌-◌, ◌≡◌, ◌↔◌, IsTrue, Bool, ◌<◌, ◌⊎◌, List, ◌++◌, length, slice_get, Some}
+use Rattle.std.specs.List.Sorted.{IsPermutation, IsNonDecreasingBy, IsStableByKey}
+use Rattle.std.specs.Ordering.{nat_cmp}
+use Rattle.base.specs.declared.causes.JoinCause.{JoinCause}
+use Rattle.base.specs.declared.causes.JoinCause.TheVariants as cause
+use Rattle.join.specs.declared.fault.JoinFault.{JoinFault}
+use Rattle.report.specs.declared.span.Span.{Span}
+use Rattle.join.specs.Reading.{PartRead, none_read, last_text}
+use Rattle.join.specs.Joining.{IsOfRun, opening_text, shown_bytes, totalled}
+
+-- the part at each place below n is of the run of the first
+abbrev pub AreAlikeTo : List PartRead → ℕ → Type 0
+AreAlikeTo rs n = (k : ℕ) (run r : PartRead) → k < n → slice_get rs 0 ≡ Some run → slice_get rs k ≡ Some r → IsOfRun run r
+
+pub record NoneIsStrange (rs : List PartRead) : Type 0 where
+  pub alike : (n : ℕ) → AreAlikeTo rs n
+
+pub record IsStrangeAt (rs : List PartRead) (place : ℕ) : Type 0 where
+  pub within : place < length rs
+  pub run : PartRead
+  pub run_there : slice_get rs 0 ≡ Some run
+  pub read : PartRead
+  pub there : slice_get rs place ≡ Some read
+  pub alike : AreAlikeTo rs place
+  pub strange : IsOfRun run read → ⊥
+
+-- at each place below n the next part begins where the part ends
+abbrev pub AreJoinedTo : List PartRead → ℕ → Type 0
+AreJoinedTo rs n = (k : ℕ) (left right : PartRead) → k < n → slice_get rs k ≡ Some left → slice_get rs (k + 1) ≡ Some right → left.span.to ≡ right.span.from
+
+pub record NoneIsApart (rs : List PartRead) : Type 0 where
+  pub joined : (n : ℕ) → AreJoinedTo rs n
+
+-- why the right part doesn't begin where the left one ends
+abbrev pub IsApart : PartRead → PartRead → JoinCause → Type 0
+IsApart left right kind = ((kind ≡ cause.Gap) × (left.span.to < right.span.from)) ⊎ ((kind ≡ cause.Overlap) × (right.span.from < left.span.to))
+
+pub record IsApartAt (rs : List PartRead) (fault : JoinFault) : Type 0 where
+  pub place : ℕ
+  pub left : PartRead
+  pub left_there : slice_get rs place ≡ Some left
+  pub right : PartRead
+  pub right_there : slice_get rs (place + 1) ≡ Some right
+  pub joined : AreJoinedTo rs place
+  pub file : fault.file ≡ right.file
+  pub kind : IsApart left right fault.cause
+
+-- the bytes are the text of the images of a span, of parts
+pub record IsWritten (span : Span) (rs : List PartRead) (bytes : List ℕ) : Type 0 where
+  pub run : PartRead
+  pub there : slice_get rs 0 ≡ Some run
+  pub is : bytes ≡ opening_text span ++ (run.head ++ (shown_bytes run.first rs ++ last_text run.first (span.to - span.from) (totalled none_read rs)))
+
+-- the span from the first image of the first part to the last of the last
+pub record IsSpanOfRow (rs : List PartRead) (span : Span) : Type 0 where
+  pub run : PartRead
+  pub there : slice_get rs 0 ≡ Some run
+  pub last : PartRead
+  pub last_there : slice_get rs (length rs - 1) ≡ Some last
+  pub is : span ≡ record { from = run.span.from; to = last.span.to; images = run.span.images; inputs = run.span.inputs }
+
+-- the bytes are the text of parts in a row, with a failing line or without
+pub record IsRowText (rs : List PartRead) (bytes : List ℕ) (failing : Bool) : Type 0 where
+  pub joined : NoneIsApart rs
+  pub span : Span
+  pub of_row : IsSpanOfRow rs span
+  pub written : IsWritten span rs bytes
+  pub fails : IsTrue failing ↔ (0 < (totalled none_read rs).lines)
+
+-- the bytes are the text of parts, put into the order of their images
+pub record IsSortedText (reads : List PartRead) (bytes : List ℕ) (failing : Bool) : Type 0 where
+  pub row : List PartRead
+  pub order : IsPermutation reads row
+  pub text : IsRowText row bytes failing
+
+-- parts, put into the order of their images, break
+pub record IsSortedApart (reads : List PartRead) (fault : JoinFault) : Type 0 where
+  pub row : List PartRead
+  pub order : IsPermutation reads row
+  pub rising : IsNonDecreasingBy (λ (r : PartRead). r.span.from) row
+  pub stable : IsStableByKey (λ (r : PartRead). r.span.from) nat_cmp reads row
+  pub apart : IsApartAt row fault
+
+-- why parts that were read are not joined
+pub data WhyNotJoined (reads : List PartRead) : JoinFault → Type 0 where
+  for_memory : WhyNotJoined reads (record { cause = cause.Memory; file = 0 })
+  for_run : (place : ℕ) → IsStrangeAt reads place → WhyNotJoined reads (record { cause = cause.OtherRun; file = place })
+  for_images : (fault : JoinFault) → NoneIsStrange reads → IsSortedApart reads fault → WhyNotJoined reads fault

@@ -1,0 +1,88 @@
+//! The texts of parts of a run, and what they come to together.
+//!
+//! A run of billions of images is laid out in parts: each is judged by itself, on any machine, and makes a text
+//! (docs/REPORT.md, The text of a part). This crate reads such texts and joins them: to the report of the run, to the byte what one
+//! run of all images would print, or where images are missing at the ends, to the text of a greater part.
+//!
+//! ```text
+//! crash part 1
+//! part 102..154 of 823 inputs 589552134
+//! sectors 4 entries 12 cuts all bound 2 tears yes first no
+//! program 0 slots 39 budget 87
+//! image 104 cut 4 program 0 answer 1 codes 1 choice 2.0:drop
+//! images 52 failing 1 lines 1
+//! ```
+//!
+//! | Type or call | What it is |
+//! |---|---|
+//! | `join(alloc, files)` | the text of all images of these parts, as a `JoinedText`; or why they aren't joined |
+//! | `JoinedText` | the bytes of a text, and whether a failing line stands there |
+//! | `JoinFault` | the file that is at fault, and why |
+//! | `join_is_run`, `parts_are_joined` | laws, as functions that do nothing |
+//!
+//! # Place
+//!
+//! On `report` and `lines`, whose definitions say what is printed, and on `choice_text`, which reads a choice. What a log is, or a
+//! program, isn't known here, and neither is how images are judged: a run is its head, a number of its inputs, and for each image its
+//! failing lines (`RunValue` in `specs/Text.antt`).
+//!
+//! # What is proved
+//!
+//! Where `join` answers `Ok`, each file is the text of a part to the byte (`IsPart`), all are of one run, in a row each begins where the
+//! one before it ends, and the bytes are those of all lines in that order, with their totals (`IsJoined` in `specs/Joining.antt`).
+//! Where it answers `Err`, the fault is the first in the order of docs/REPORT.md (`RefusesJoin`), or there was no memory. More than 1 GiB
+//! is never joined, and is refused before a text is read (the clauses `short` and `first`). Any bytes are taken.
+//!
+//! The laws are about whole runs (`specs/Laws.antt`). Where the texts are those of parts of one run by the definition of the report, and
+//! each image from A to below B is in one of them and no other image is in any, then what they come to is the text of the images from A
+//! to below B by that definition, and of all images the report. Such texts are refused for their length or for want of memory alone.
+//!
+//! # How it is written
+//!
+//! A text is read from the front, and each piece is compared to the byte with what is printed of what was read; so no other text is taken
+//! for that of a part. Lines are read one after the other and not kept: of each its image and its program are looked at, and counted. What
+//! is printed in the end are the very bytes of the files.
+//!
+//! `words` cuts texts, and reads words and numbers. `span` reads the first two lines. `heading` finds the end of the head, and compares it
+//! with what `report` prints of what `options` and `programs` read there. `line` and `ending` read a failing line, `tally` counts lines,
+//! `reading` reads all lines of a part, and `part` a whole text. `row` puts parts into their order, and `joining` joins them. Files are
+//! borrowed: what is kept of one are slices of its bytes.
+//!
+//! # Example
+//!
+//! ```
+//! use base::causes::JoinCause;
+//! use join::{JoinFault, join};
+//!
+//! // `bytes` is the text above
+//! let mut parts = Vec::new(alloc);
+//! parts.push(bytes.to_vec(alloc)?)?;
+//! if let Ok(joined) = join(alloc, parts.as_slice()) {
+//!     // one part alone is joined to its own text: `joined.bytes` is `bytes`, and `joined.failing` is true
+//!     let is_same = joined.failing && joined.bytes.as_slice() == bytes;
+//! }
+//! parts.push(bytes.to_vec(alloc)?)?;
+//! if let Err(JoinFault { cause: JoinCause::Overlap, file }) = join(alloc, parts.as_slice()) {
+//!     // `file` is 1: its images are in the file before it too
+//! }
+//! ```
+#![tactic(auto)]
+
+mod ending;
+mod fault;
+mod heading;
+mod joining;
+mod laws;
+mod line;
+mod options;
+mod part;
+mod programs;
+mod reading;
+mod row;
+mod span;
+mod tally;
+mod words;
+
+pub use fault::JoinFault;
+pub use joining::{JoinedText, join};
+pub use laws::{join_is_run, parts_are_joined};

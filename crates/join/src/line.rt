@@ -1,0 +1,101 @@
+//! One failing line of a text.
+
+ghost use Rattle.std.specs.Prelude.{◌≡◌, ◌<◌, ◌^◌, ◌↔◌, ◌++◌, IfOk, IfSome, IsTrue, MatchOption, OnOk, string_bytes, length};
+ghost use Rattle.lines.specs.Reading.{ReadsField};
+ghost use Rattle.join.specs.Reading.{words_text, ReadsWords, Fit, IsBody, NoBody, IsLine, NoLine, IsCut, NoCut};
+
+use crate::ending::is_end;
+use crate::words::{behind, cut, number, parts};
+use lines::Mark;
+use std::alloc::{AllocError, Global};
+
+/// What a line says before its outcome.
+#[derive(Clone, Copy, Drop)]
+pub struct Words {
+    pub(crate) image: u64,
+    pub(crate) cut: u64,
+    pub(crate) program: u64,
+}
+
+/// The word behind the first one, and what stands behind it.
+fn field(text: &str) -> (&str, &str)
+    ensures { ReadsField text.now result.0.now result.1.now }
+{
+    let (_name, named) = cut(text, ' ');
+    cut(named, ' ')
+}
+
+/// What a line says before its outcome, and something where it is no line.
+fn words_said(line: &str) -> Words
+    ensures { ReadsWords line.now result }
+{
+    let (image, behind_image) = field(line);
+    let (at, behind_cut) = field(behind_image);
+    let (program, _behind_program) = field(behind_cut);
+    Words {
+        image: number(image),
+        cut: number(at),
+        program: number(program),
+    }
+}
+
+/// Whether the numbers of a cut and a program are within their ranges.
+fn is_fit(words: Words) -> bool
+    ensures { IsTrue result ↔ Fit words }
+{
+    words.cut < 4_294_967_296 && words.program < 256
+}
+
+/// The words of a line before its outcome.
+#[tactic(auto, unfolding(crate::specs::Reading::words_text))]
+fn words_text(alloc: Global, words: Words) -> Result<String, AllocError>
+    ensures { IfOk result (λ out. string_bytes out ≡ words_text words) }
+{
+    let mut out = String::new(alloc);
+    write!(
+        out,
+        "image {} cut {} program {} ",
+        words.image, words.cut, words.program
+    )?;
+    Ok(out)
+}
+
+/// The mark of a line without its newline, if it is one to the byte.
+#[tactic(auto, using(crate::proofs::Bodies::too_large, crate::proofs::Bodies::other_words, crate::proofs::Bodies::other_end, crate::proofs::Bodies::is_body))]
+fn mark_of(alloc: Global, line: &str) -> Result<Option<Mark>, AllocError>
+    ensures { IfOk result (λ found. MatchOption found (NoBody line.now) (λ mark. IsBody line.now mark)) }
+{
+    let words = words_said(line);
+    if !is_fit(words) {
+        return Ok(None);
+    }
+    let printed = words_text(alloc, words)?;
+    let Some(end) = behind(printed.as_str(), line) else {
+        return Ok(None);
+    };
+    if !is_end(alloc, end)? {
+        return Ok(None);
+    }
+    Ok(Some(Mark {
+        image: words.image,
+        program: words.program as u8,
+    }))
+}
+
+/// The mark of the line with which a text begins, and what stands behind it, if it begins with one to the byte.
+#[tactic(auto, using(crate::proofs::Bodies::no_newline_no_line, crate::proofs::Bodies::no_body_no_line, crate::proofs::Bodies::body_is_line, crate::proofs::Bodies::line_shorter))]
+pub(crate) fn read_line<'t>(
+    alloc: Global,
+    text: &'t str,
+) -> Result<Option<(Mark, &'t str)>, AllocError>
+    ensures line { IfOk result (λ found. MatchOption found (NoLine text.now) (λ x. IsLine text.now x.0 x.1.now)) }
+    ensures shorter { IfOk result (λ found. IfSome found (λ x. length x.1.now < length text.now)) }
+{
+    let Some((line, more)) = parts(text, '\n') else {
+        return Ok(None);
+    };
+    match mark_of(alloc, line)? {
+        Some(mark) => Ok(Some((mark, more))),
+        None => Ok(None),
+    }
+}

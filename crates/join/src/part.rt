@@ -1,0 +1,194 @@
+//! A part of a run, read from its text.
+
+ghost use Rattle.std.specs.Prelude.{ℕ, ◌≡◌, ◌≢◌, ◌≤◌, ◌↔◌, ◌++◌, ◌^◌, Bool, true, false, IfOk, IfSome, IsTrue, MatchOption, OnOk, string_bytes, length};
+ghost use Rattle.report.specs.Report.{image_text};
+ghost use Rattle.join.specs.Reading.{last_text, IsWhole, IsPartText, NoPartText, BeginsImage};
+ghost use Rattle.join.specs.Text.{IsSpan};
+
+use crate::heading::{are_options, behind_head};
+use crate::reading::read_lines;
+use crate::span::read_span;
+use crate::tally::Tally;
+use crate::words::before;
+use report::Span;
+use std::alloc::{AllocError, Global};
+use std::marker::Model;
+use std::str;
+
+/// A part of a run, as its text tells it.
+#[derive(Drop)]
+pub struct Part<'t> {
+    /// Which images of which run it is of.
+    pub(crate) span: Span,
+    /// The lines of its options and its programs.
+    pub(crate) head: &'t [u8],
+    /// Whether it is of the first failing image alone.
+    pub(crate) first: bool,
+    /// Its failing lines.
+    pub(crate) lines: &'t [u8],
+    /// What is counted of these.
+    pub(crate) tally: Tally,
+    /// The number of its file.
+    pub(crate) file: u32,
+}
+
+impl<'t> Model for Part<'t> {
+    ghost use Rattle.join.specs.Reading.{PartRead};
+
+    ghost Value = { PartRead };
+
+    ghost view = { λ p. record { span = p.span; head = p.head.now; first = p.first; lines = p.lines.now; tally = p.tally; file = p.file } };
+}
+
+/// Appends an image, or that there is none.
+fn put_image(out: &mut String, image: Option<u64>) -> Result<(), AllocError>
+    ensures { OnOk result (string_bytes out.new ≡ string_bytes out.old ++ image_text image) }
+{
+    match image {
+        Some(image) => write!(out, "{image}"),
+        None => write!(out, "none"),
+    }
+}
+
+/// Appends the last line of a part with the first failing image alone.
+#[tactic(auto, unfolding(crate::specs::Reading::last_text))]
+fn put_first(out: &mut String, images: u64, tally: Tally) -> Result<(), AllocError>
+    ensures { OnOk result (string_bytes out.new ≡ string_bytes out.old ++ last_text true images tally) }
+{
+    write!(out, "images {images} first ")?;
+    put_image(out, tally.first)?;
+    write!(out, "\n")
+}
+
+/// Appends the last line of a part with all lines.
+#[tactic(auto, unfolding(crate::specs::Reading::last_text))]
+fn put_totals(out: &mut String, images: u64, tally: Tally) -> Result<(), AllocError>
+    ensures { OnOk result (string_bytes out.new ≡ string_bytes out.old ++ last_text false images tally) }
+{
+    write!(
+        out,
+        "images {images} failing {} lines {}\n",
+        tally.images, tally.lines
+    )
+}
+
+/// Appends the last line of a part.
+pub(crate) fn put_last(
+    out: &mut String,
+    first: bool,
+    images: u64,
+    tally: Tally,
+) -> Result<(), AllocError>
+    ensures { OnOk result (string_bytes out.new ≡ string_bytes out.old ++ last_text first images tally) }
+{
+    if first {
+        put_first(out, images, tally)
+    } else {
+        put_totals(out, images, tally)
+    }
+}
+
+/// Whether a text is the last line of a part.
+fn is_last(
+    alloc: Global,
+    first: bool,
+    images: u64,
+    tally: Tally,
+    text: &str,
+) -> Result<bool, AllocError>
+    ensures { IfOk result (λ is. IsTrue is ↔ (text.now ≡ last_text first images tally)) }
+{
+    let mut printed = String::new(alloc);
+    put_last(&mut printed, first, images, tally)?;
+    Ok(printed.as_str() == text)
+}
+
+/// Whether a text is the last line of a part with the first failing image alone, or of one with all lines; none where it is neither.
+#[tactic(auto, using(crate::proofs::Findings::neither_kind))]
+fn kind_of_last(
+    alloc: Global,
+    images: u64,
+    tally: Tally,
+    text: &str,
+) -> Result<Option<bool>, AllocError>
+    ensures { IfOk result (λ found. MatchOption found ((first : Bool) → text.now ≢ last_text first images tally) (λ first. text.now ≡ last_text first images tally)) }
+{
+    if is_last(alloc, false, images, tally, text)? {
+        return Ok(Some(false));
+    }
+    if is_last(alloc, true, images, tally, text)? {
+        return Ok(Some(true));
+    }
+    Ok(None)
+}
+
+/// Whether these can be images of a run.
+fn is_span(span: Span) -> bool
+    ensures { IsTrue result ↔ IsSpan span }
+{
+    span.from <= span.to
+        && span.to <= span.images
+        && (span.from < span.to || span.images == 0)
+        && span.images < 9_223_372_036_854_775_808
+}
+
+/// Whether these can be the lines of a part of these images.
+fn is_whole(span: Span, first: bool, tally: Tally) -> bool
+    ensures { IsTrue result ↔ IsWhole span first tally }
+{
+    let one = !first || tally.images <= 1;
+    is_span(span) && tally.ordered && one
+}
+
+/// The part of which a text is that, to the byte; none where it is that of no part.
+#[tactic(auto, using(crate::proofs::Parts::no_span_no_part, crate::proofs::Parts::no_head_no_part, crate::proofs::Parts::no_last_no_part, crate::proofs::Parts::not_whole_no_part, crate::proofs::Parts::other_head_no_part, crate::proofs::Parts::lines_behind_head, crate::proofs::Parts::part_found, crate::proofs::Parts::head_in_front, crate::proofs::Parts::lines_in_front))]
+fn read_text<'t>(alloc: Global, file: u32, text: &'t str) -> Result<Option<Part<'t>>, AllocError>
+    requires { length text.now ≤ 2 ^ 30 }
+    ensures { IfOk result (λ found. MatchOption found (NoPartText text.now) (λ part. IsPartText text.now part × (part.file ≡ file))) }
+{
+    let Some((span, body)) = read_span(alloc, text)? else {
+        return Ok(None);
+    };
+    let Some(found) = behind_head(body) else {
+        return Ok(None);
+    };
+    let (tally, last) = read_lines(alloc, span, found)?;
+    let Some(first) = kind_of_last(alloc, span.to.saturating_sub(span.from), tally, last)? else {
+        return Ok(None);
+    };
+    if !is_whole(span, first, tally) {
+        return Ok(None);
+    }
+    let head = before(body, found);
+    if !are_options(alloc, body, head, first)? {
+        return Ok(None);
+    }
+    Ok(Some(Part {
+        span,
+        head,
+        first,
+        lines: before(found, last),
+        tally,
+        file,
+    }))
+}
+
+/// The part of which these bytes are the text, to the byte; none where they are that of no part.
+///
+/// # Errors
+///
+/// Want of memory.
+#[tactic(auto, using(crate::proofs::Utf8::no_text_no_part))]
+pub(crate) fn read_part<'t>(
+    alloc: Global,
+    file: u32,
+    bytes: &'t [u8],
+) -> Result<Option<Part<'t>>, AllocError>
+    requires { length bytes.now ≤ 2 ^ 30 }
+    ensures { IfOk result (λ found. MatchOption found (NoPartText bytes.now) (λ part. IsPartText bytes.now part × (part.file ≡ file))) }
+{
+    match str::from_utf8(bytes) {
+        Ok(text) => read_text(alloc, file, text),
+        Err(_error) => Ok(None),
+    }
+}

@@ -1,0 +1,56 @@
+//! Which images of which run a text is of, read from its first two lines.
+
+ghost use Rattle.std.specs.Prelude.{◌≡◌, ◌++◌, IfOk, MatchOption, string_bytes};
+ghost use Rattle.report.specs.Part.{span_text};
+ghost use Rattle.join.specs.Reading.{ReadsSpan, IsSpanOf, NoSpan};
+
+use crate::words::{behind, cut, number};
+use report::{Span, put_span};
+use std::alloc::{AllocError, Global};
+
+/// The span that a text begins with, and what stands behind it; and some span where it begins with none.
+fn span_said(text: &str) -> (Span, &str)
+    ensures { ReadsSpan text.now result.0 result.1.now }
+{
+    let (_title, line) = cut(text, '\n');
+    let (_part, range) = cut(line, ' ');
+    let (from, behind_from) = cut(range, '.');
+    let (_point, behind_points) = cut(behind_from, '.');
+    let (to, behind_to) = cut(behind_points, ' ');
+    let (_of, all) = cut(behind_to, ' ');
+    let (images, behind_images) = cut(all, ' ');
+    let (_inputs, last) = cut(behind_images, ' ');
+    let (inputs, rest) = cut(last, '\n');
+    let span = Span {
+        from: number(from),
+        to: number(to),
+        images: number(images),
+        inputs: number(inputs),
+    };
+    (span, rest)
+}
+
+/// The two lines with which the text of a part begins.
+fn span_text(alloc: Global, span: Span) -> Result<String, AllocError>
+    ensures { IfOk result (λ out. string_bytes out ≡ span_text span) }
+{
+    let mut out = String::new(alloc);
+    put_span(&mut out, span)?;
+    Ok(out)
+}
+
+/// The span that a text begins with, and what stands behind it, if it begins with one to the byte.
+#[tactic(auto, using(crate::proofs::Spans::found_span, crate::proofs::Spans::no_span))]
+pub(crate) fn read_span<'t>(
+    alloc: Global,
+    text: &'t str,
+) -> Result<Option<(Span, &'t str)>, AllocError>
+    ensures { IfOk result (λ found. MatchOption found (NoSpan text.now) (λ x. IsSpanOf text.now x.0 x.1.now)) }
+{
+    let (span, _rest) = span_said(text);
+    let printed = span_text(alloc, span)?;
+    match behind(printed.as_str(), text) {
+        Some(rest) => Ok(Some((span, rest))),
+        None => Ok(None),
+    }
+}

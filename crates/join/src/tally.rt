@@ -1,0 +1,93 @@
+//! What is counted of lines.
+
+ghost use Rattle.std.specs.Prelude.{◌≡◌, ◌<◌, ◌+◌, ◌^◌};
+ghost use Rattle.join.specs.Order.{is_behind, follows};
+ghost use Rattle.join.specs.Reading.{is_new, first_of, none_read, one_more};
+
+use lines::Mark;
+use report::Span;
+
+/// What is counted of some lines.
+#[derive(Clone, Copy, Drop)]
+pub struct Tally {
+    /// The last line.
+    pub(crate) last: Option<Mark>,
+    /// The image of the first line.
+    pub(crate) first: Option<u64>,
+    /// How many lines there are.
+    pub(crate) lines: u64,
+    /// How many lines are of another image than the one before.
+    pub(crate) images: u64,
+    /// Whether each is of an image of the part, and behind the one before it.
+    pub(crate) ordered: bool,
+}
+
+/// Whether a line stands behind another: by image, and then by program.
+fn is_behind(last: Mark, mark: Mark) -> bool
+    ensures { result ≡ is_behind last mark }
+{
+    last.image < mark.image || (last.image == mark.image && last.program < mark.program)
+}
+
+/// Whether a line stands behind the last one, if there is one.
+fn follows(last: Option<Mark>, mark: Mark) -> bool
+    ensures { result ≡ follows last mark }
+{
+    match last {
+        Some(last) => is_behind(last, mark),
+        None => true,
+    }
+}
+
+/// Whether a line is of another image than the last one.
+fn is_new(last: Option<Mark>, image: u64) -> bool
+    ensures { result ≡ is_new last image }
+{
+    match last {
+        Some(last) => last.image != image,
+        None => true,
+    }
+}
+
+/// The first of two images, each of which there may not be.
+fn first_of(first: Option<u64>, image: u64) -> Option<u64>
+    ensures { result ≡ first_of first image }
+{
+    match first {
+        Some(first) => Some(first),
+        None => Some(image),
+    }
+}
+
+impl Tally {
+    /// That of no line.
+    pub(crate) fn none() -> Tally
+        ensures { result ≡ none_read }
+    {
+        Tally {
+            last: None,
+            first: None,
+            lines: 0,
+            images: 0,
+            ordered: true,
+        }
+    }
+
+    /// That of one more line.
+    pub(crate) fn more(self, span: Span, mark: Mark) -> Tally
+        requires lines { self.lines + 1 < 2 ^ 64 }
+        requires images { self.images + 1 < 2 ^ 64 }
+        ensures { result ≡ one_more span self mark }
+    {
+        let new = is_new(self.last, mark.image);
+        let behind = follows(self.last, mark);
+        let within = span.from <= mark.image && mark.image < span.to && behind;
+        Tally {
+            last: Some(mark),
+            first: first_of(self.first, mark.image),
+            lines: self.lines + 1,
+            images: self.images + u64::from(new),
+            ordered: self.ordered && within,
+        }
+    }
+}

@@ -1,0 +1,82 @@
+//! Words of a text.
+
+ghost use Rattle.std.specs.Prelude.{ℕ, ◌≡◌, ◌≢◌, ◌-◌, ◌<◌, ◌≤◌, ◌^◌, ◌++◌, List, length, take, MatchOption};
+ghost use Rattle.std.specs.Fmt.{decimal};
+ghost use Rattle.lines.specs.Reading.{IsCutAt};
+ghost use Rattle.join.specs.Heads.{ReadsWord};
+ghost use Rattle.join.specs.Reading.{HasFront, IsCut, NoCut};
+
+/// What stands before and behind the first such character.
+pub(crate) fn cut(text: &str, at: char) -> (&str, &str)
+    requires { at < 128 }
+    ensures { IsCutAt at text.now result.0.now result.1.now }
+{
+    match text.split_once(at) {
+        Some(parts) => parts,
+        None => ("", ""),
+    }
+}
+
+/// What stands before and behind the first such character, if there is one.
+pub(crate) fn parts(text: &str, at: char) -> Option<(&str, &str)>
+    requires { at < 128 }
+    ensures { MatchOption result (NoCut at text.now) (λ x. IsCut at text.now x.0.now x.1.now) }
+{
+    text.split_once(at)
+}
+
+/// The first word of a line, and what stands behind its blank.
+#[tactic(auto, using(crate::proofs::WordsRead::word_cut, crate::proofs::WordsRead::word_last))]
+pub(crate) fn next_word(line: &str) -> (&str, &str)
+    ensures { ReadsWord line.now result.0.now result.1.now }
+{
+    match parts(line, ' ') {
+        Some(found) => found,
+        None => (line, ""),
+    }
+}
+
+/// The number that a word says, and some number where it says none.
+pub(crate) fn number(word: &str) -> u64
+    ensures { (n : ℕ) → n < 2 ^ 64 → word.now ≡ decimal n → result ≡ n }
+{
+    match word.parse() {
+        Ok(number) => number,
+        Err(_) => 0,
+    }
+}
+
+/// The number of 32 bits that a word says, and some number where it says none.
+pub(crate) fn small_number(word: &str) -> u32
+    ensures { (n : ℕ) → n < 2 ^ 32 → word.now ≡ decimal n → result ≡ n }
+{
+    match word.parse() {
+        Ok(number) => number,
+        Err(_) => 0,
+    }
+}
+
+/// The number of a byte that a word says, and some number where it says none.
+pub(crate) fn byte_number(word: &str) -> u8
+    ensures { (n : ℕ) → n < 2 ^ 8 → word.now ≡ decimal n → result ≡ n }
+{
+    match word.parse() {
+        Ok(number) => number,
+        Err(_) => 0,
+    }
+}
+
+/// What stands behind these words, if a text begins with them.
+pub(crate) fn behind<'t>(front: &str, text: &'t str) -> Option<&'t str>
+    ensures { MatchOption result ((rest : List ℕ) → text.now ≢ front.now ++ rest) (λ rest. text.now ≡ front.now ++ rest.now) }
+{
+    text.strip_prefix(front)
+}
+
+/// The bytes of a text that stand before some of its last ones.
+pub(crate) fn before<'t>(text: &'t str, rest: &str) -> &'t [u8]
+    requires { HasFront text.now rest.now }
+    ensures { (front : List ℕ) → text.now ≡ front ++ rest.now → result.now ≡ front }
+{
+    &text.as_bytes()[..text.len() - rest.len()]
+}

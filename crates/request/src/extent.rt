@@ -1,0 +1,59 @@
+//! How many crash images a run may have, and which of them are meant.
+
+ghost use Rattle.std.specs.Prelude.{◌≡◌};
+ghost use Rattle.request.specs.Extents.{most_images, is_extent, has_extent};
+
+/// The most crash images of a run, and of a part of one (docs/CRASH-MODEL.md, Limits).
+const MOST_IMAGES: u64 = 16_777_216;
+
+/// The most crash images of a run that isn't judged as a whole.
+const MOST_WIDE: u64 = 9_223_372_036_854_775_807;
+
+/// How many crash images a run may have, and which of them are meant.
+#[derive(Clone, Copy)]
+pub enum Extent {
+    /// All images, of a run that has at most 16,777,216.
+    Whole,
+    /// Those that a command names, of a run that has fewer than 2^63.
+    Wide,
+    /// The images from one number to below another, of a run that has fewer than 2^63.
+    Part { from: u64, to: u64 },
+}
+
+impl Extent {
+    /// How many images the run may have.
+    pub fn most(self) -> u64
+        ensures { result ≡ most_images self }
+    {
+        match self {
+            Extent::Whole => MOST_IMAGES,
+            Extent::Wide => MOST_WIDE,
+            Extent::Part {
+                from: _from,
+                to: _to,
+            } => MOST_WIDE,
+        }
+    }
+
+    /// Whether it can be asked for: a part has 1 to 16,777,216 images, or is 0..0.
+    pub fn is_extent(self) -> bool
+        ensures { result ≡ is_extent self }
+    {
+        match self {
+            Extent::Whole | Extent::Wide => true,
+            Extent::Part { from, to } => {
+                (from < to || (from == 0 && to == 0)) && to - from <= MOST_IMAGES
+            }
+        }
+    }
+
+    /// Whether a run of so many images has those that are meant. 0..0 is the part of a run without images.
+    pub fn is_within(self, images: u64) -> bool
+        ensures { result ≡ has_extent self images }
+    {
+        match self {
+            Extent::Whole | Extent::Wide => true,
+            Extent::Part { from, to } => to <= images && (from < to || images == 0),
+        }
+    }
+}

@@ -1,0 +1,52 @@
+use Rattle.std.proofs.Common.{Bool, subst}
+use Rattle.std.proofs.lemmas.Result.{err_from_is_err_and}
+use Rattle.request.specs.Source.{no_plan_memory}
+use Rattle.workers.specs.Failing.{failing_lines}
+use Rattle.runs.specs.Explore.{subject_of}
+use Rattle.runs.specs.Found.{AreFound}
+use Rattle.runs.proofs.Findings.{fails_of_found}
+use Rattle.runs.proofs.Explained.{starts_made}
+use Rattle.runs.proofs.explore_command.judge_task.Goals as goal
+
+pub returns-in-Err-clause-refused : goal.returns-in-Err-clause-refused
+returns-in-Err-clause-refused g c = rw c.of_memory.ensures no_plan_memory
+
+pub returns-in-Err-new-clause-refused : goal.returns-in-Err-new-clause-refused
+returns-in-Err-new-clause-refused g c = rw c.of_memory-in-Err-new.ensures no_plan_memory
+
+pub invariant_of-basis : goal.invariant_of-basis
+invariant_of-basis g c =
+    let task = c.args.task.now in
+    record {
+      starts_are = starts_made task.options.now task.log.now task.plan.now c.bound-bound.result c.tears-tears.result _ task.plan_is c.bound-bound.ensures.value c.tears-tears.ensures
+          c.in-Ok-new.ensures;
+      history_is = c.in-Ok.ensures;
+    }
+
+pub returns-in_err-work-clause-refused : goal.returns-in_err-work-clause-refused
+returns-in_err-work-clause-refused g c =
+    let p = err_from_is_err_and c.from_residual.result c.from_residual.ensures.1 in
+    rw (p.1, p.2, c.in_err-work.ensures.refused) no_plan_memory
+
+pub invariant_of-findings : goal.invariant_of-findings
+invariant_of-findings g c =
+    let task = c.args.task.now in
+    record {
+      starts_are = starts_made task.options.now task.log.now task.plan.now c.bound-bound.result c.tears-tears.result _ task.plan_is c.bound-bound.ensures.value c.tears-tears.ensures
+          c.in-Ok-new.ensures;
+      history_is = c.in-Ok.ensures;
+    }
+
+pub tell-requires-clause-lines : goal.tell-requires-clause-lines
+tell-requires-clause-lines g c =
+    let task = c.args.task.now in
+    subst (λ (b : Bool). AreFound b (failing_lines (subject_of task.options.now task.log.now task.checkers.now)) c.in_ok-work.work.lines) c.is_first_asked-first.ensures
+    c.in_ok-work.ensures.lines
+
+pub returns-clause-refused : goal.returns-clause-refused
+returns-clause-refused g c = rw c.of_memory-in-Err-tell.ensures no_plan_memory
+
+pub returns-in-Ok-tell-clause-failing : goal.returns-in-Ok-tell-clause-failing
+returns-in-Ok-tell-clause-failing g c =
+    let task = c.args.task.now in
+    fails_of_found task.options.now task.log.now task.checkers.now _ c.in_ok-work.work.lines c.is_empty.result c.in_ok-work.ensures.lines c.is_empty.ensures

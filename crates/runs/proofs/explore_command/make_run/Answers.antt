@@ -1,0 +1,145 @@
+use Rattle.std.proofs.Common.{ℕ, ◌≡◌, true, ◌∙◌, sym, subst}
+use Rattle.std.proofs.lemmas.Bool.{false≢true}
+use Rattle.std.proofs.lemmas.Result.{err_from_is_err_and}
+use Rattle.request.specs.Source.{for_plan}
+use Rattle.runs.specs.declared.explore_command.Wanted.TheVariants as wanted
+use Rattle.runs.specs.Cured.{TellsWanted}
+use Rattle.runs.specs.Explore.{for_count, for_source, for_program, no_list_memory}
+use Rattle.runs.specs.Inputs.{inputs_number}
+use Rattle.runs.specs.Judged.{takes, IsJudged}
+use Rattle.runs.specs.declared.explore_command.Wanted.{Wanted}
+use Rattle.runs.proofs.Judging.{whole_of}
+use Rattle.runs.proofs.Findings.{told_by_number}
+use Rattle.runs.proofs.RefusalLemmas.{counted, uncounted, few_decoded, unaccepted_of, undecoded_of, checkers_decoded}
+use Rattle.runs.proofs.Finding.{breach_of, fewer_of_log}
+use Rattle.runs.proofs.Fitting.{made_fit}
+use Rattle.request.proofs.Logs.{bounds_of, device_of, has_images}
+use Rattle.request.proofs.Results.{both_ok, one_err}
+use Rattle.runs.proofs.Runs.{of_log, run_of}
+use Rattle.runs.proofs.explore_command.make_run.Goals as goal
+
+pub returns-then-not-is_program_count-clause-refused : goal.returns-then-not-is_program_count-clause-refused
+returns-then-not-is_program_count-clause-refused g c =
+    rw c.option_refusal_of.ensures
+    (for_count (λ count. false≢true (sym c.if-not-is_program_count.true ∙ c.is_program_count.ensures.1 (uncounted _ c.args.question.now.programs.now count))))
+
+pub returns-in_err-log-clause-refused : goal.returns-in_err-log-clause-refused
+returns-in_err-log-clause-refused g c =
+    let p = err_from_is_err_and c.from_residual.result c.from_residual.ensures.1 in
+    rw (p.1, p.2)
+    (of_log _ _ _ _ (counted _ c.args.question.now.programs.now (c.is_program_count.ensures.0 c.if-not-is_program_count.false)) c.in_err-log.ensures.refused)
+
+pub returns-in_err-plan-clause-refused : goal.returns-in_err-plan-clause-refused
+returns-in_err-plan-clause-refused g c =
+    let p = err_from_is_err_and c.from_residual-in_err-plan.result c.from_residual-in_err-plan.ensures.1 in
+    rw (p.1, p.2)
+    (for_source _ (counted _ c.args.question.now.programs.now (c.is_program_count.ensures.0 c.if-not-is_program_count.false))
+    (for_plan _ c.in_ok-log.log c.in_ok-log.ensures.log c.in_err-plan.ensures.refused))
+
+pub returns-in_err-decoded-clause-refused : goal.returns-in_err-decoded-clause-refused
+returns-in_err-decoded-clause-refused g c =
+    let p = err_from_is_err_and c.from_residual-in_err-decoded.result c.from_residual-in_err-decoded.ensures.1 in
+    rw (p.1, p.2, c.in_err-decoded.ensures.refused)
+    (for_program _ c.in_ok-log.log (counted _ c.args.question.now.programs.now (c.is_program_count.ensures.0 c.if-not-is_program_count.false))
+    (has_images _ _ _ _ c.in_ok-log.ensures.log c.in_ok-plan.ensures.count c.in_ok-plan.ensures.few c.in_ok-plan.ensures.within)
+    no_list_memory)
+
+pub checkers_of-requires-clause-few : goal.checkers_of-requires-clause-few
+checkers_of-requires-clause-few g c =
+    few_decoded _ _ c.as_slice.result.now _ (counted _ c.args.question.now.programs.now (c.is_program_count.ensures.0 c.if-not-is_program_count.false)).few c.as_slice.ensures.value c.in_ok-decoded.ensures.decoded
+
+pub returns-in_err-checkers-clause-refused : goal.returns-in_err-checkers-clause-refused
+returns-in_err-checkers-clause-refused g c =
+    let p = err_from_is_err_and c.from_residual-in_err-checkers.result c.from_residual-in_err-checkers.ensures.1 in
+    rw (p.1, p.2)
+    (for_program _ c.in_ok-log.log (counted _ c.args.question.now.programs.now (c.is_program_count.ensures.0 c.if-not-is_program_count.false))
+    (has_images _ _ _ _ c.in_ok-log.ensures.log c.in_ok-plan.ensures.count c.in_ok-plan.ensures.few c.in_ok-plan.ensures.within)
+    (unaccepted_of _ _ _ c.as_slice.result.now _ _ c.as_slice.ensures.value c.in_ok-decoded.ensures.decoded c.in_err-checkers.ensures.refused))
+
+pub returns-in_err-checkers-clause-breach : goal.returns-in_err-checkers-clause-breach
+returns-in_err-checkers-clause-breach g c =
+    let p = err_from_is_err_and c.from_residual-in_err-checkers.result c.from_residual-in_err-checkers.ensures.1 in
+    rw (p.1, p.2)
+    (breach_of _ _ _ c.as_slice.result.now _ _ _ c.as_slice.ensures.value c.in_ok-decoded.ensures.decoded c.in_err-checkers.ensures.breach)
+
+pub returns-in-Some-clause-refused : goal.returns-in-Some-clause-refused
+returns-in-Some-clause-refused g c =
+    for_program _ c.in_ok-log.log (counted _ c.args.question.now.programs.now (c.is_program_count.ensures.0 c.if-not-is_program_count.false))
+    (has_images _ _ _ _ c.in_ok-log.ensures.log c.in_ok-plan.ensures.count c.in_ok-plan.ensures.few c.in_ok-plan.ensures.within)
+    (undecoded_of _ _ _ c.as_slice.result.now _ _ _ c.as_slice.ensures.value c.in_ok-decoded.ensures.decoded c.in-Some.is
+    c.in_ok-checkers.ensures.made c.in_ok-checkers.ensures.all)
+
+pub invariant_of-task : goal.invariant_of-task
+invariant_of-task g c =
+    record {
+      plan_is = c.in_ok-plan.ensures.plan;
+      device = device_of _ c.args.question.now.options.now c.in_ok-log.log c.in_ok-log.ensures.log;
+      judged = subst (λ (n : ℕ). IsJudged c.args.question.now.options.now.extent n c.span_of.result) c.in_ok-plan.ensures.count c.span_of.ensures.judged;
+    }
+
+pub judge_task-requires-clause-verified : goal.judge_task-requires-clause-verified
+judge_task-requires-clause-verified g c =
+    λ κs lives. rw c.as_slice-made.ensures.value (made_fit c.args.question.now.options.now c.as_slice.result.now c.in_ok-checkers.checkers.items c.in_ok-checkers.ensures.made)
+
+pub returns-in-Told-clause-told : goal.returns-in-Told-clause-told
+returns-in-Told-clause-told g c =
+    rw c.in-Told.is
+    (both_ok c.judge_task.result _ _ _ c.judge_task.ensures.bytes c.judge_task.ensures.failing
+    (λ e bytes failing.
+    run_of c.accepted_checkers_run_safely.ensures (TellsWanted (wanted.Told c.in-Told.telling) (inputs_number c.args.question.now.recording.now.text _)) _ _ _ c.in_ok-log.log c.in_ok-checkers.checkers.items c.as_slice-made.result.now _ _
+    (counted _ c.args.question.now.programs.now (c.is_program_count.ensures.0 c.if-not-is_program_count.false))
+    (has_images _ _ _ _ c.in_ok-log.ensures.log c.in_ok-plan.ensures.count c.in_ok-plan.ensures.few c.in_ok-plan.ensures.within)
+    (checkers_decoded _ _ _ c.as_slice.result.now _ _ c.as_slice.ensures.value c.in_ok-decoded.ensures.decoded c.in_default.not-Some
+    c.in_ok-checkers.ensures.made c.in_ok-checkers.ensures.all)
+    c.as_slice-made.ensures.value
+    (told_by_number c.in-Told.telling _ c.span_of.result.inputs c.args.question.now.options.now c.in_ok-log.log c.as_slice-made.result.now e.bytes.items c.span_of.ensures.number bytes)
+    failing))
+
+pub returns-in-Told-clause-refused : goal.returns-in-Told-clause-refused
+returns-in-Told-clause-refused g c =
+    one_err c.judge_task.result _ _ c.judge_task.ensures.refused
+    (λ r refused.
+    for_source r (counted _ c.args.question.now.programs.now (c.is_program_count.ensures.0 c.if-not-is_program_count.false))
+    (for_plan r c.in_ok-log.log c.in_ok-log.ensures.log refused))
+
+pub returns-in-Told-clause-fewer : goal.returns-in-Told-clause-fewer
+returns-in-Told-clause-fewer g c =
+    fewer_of_log _ _ c.in_ok-log.log _ _ c.in_ok-log.ensures.log c.in_ok-checkers.ensures.others.fewer c.in_ok-plan.ensures.fewer
+
+pub cured_log-requires-clause-verified : goal.cured_log-requires-clause-verified
+cured_log-requires-clause-verified g c =
+    λ κs lives. rw c.as_slice-made.ensures.value (made_fit c.args.question.now.options.now c.as_slice.result.now c.in_ok-checkers.checkers.items c.in_ok-checkers.ensures.made)
+
+pub cured_log-requires-clause-log : goal.cured_log-requires-clause-log
+cured_log-requires-clause-log g c =
+    λ κs lives. bounds_of _ c.args.question.now.options.now c.in_ok-log.log c.in_ok-log.ensures.log
+
+pub cured_log-requires-clause-device : goal.cured_log-requires-clause-device
+cured_log-requires-clause-device g c =
+    λ κs lives. device_of _ c.args.question.now.options.now c.in_ok-log.log c.in_ok-log.ensures.log
+
+pub cured_log-requires-clause-whole : goal.cured_log-requires-clause-whole
+cured_log-requires-clause-whole g c = λ κs lives. whole_of c.args.question.now.options.now.extent (subst (λ (w : Wanted). takes w c.args.question.now.options.now.extent ≡ true) c.in-Cured.is c.requires)
+
+pub returns-in-Cured-clause-told : goal.returns-in-Cured-clause-told
+returns-in-Cured-clause-told g c =
+    rw c.in-Cured.is
+    (both_ok c.cured_log.result _ _ _ c.cured_log.ensures.bytes c.cured_log.ensures.failing
+    (λ e bytes failing.
+    run_of c.accepted_checkers_run_safely.ensures (TellsWanted wanted.Cured 0) _ _ _ c.in_ok-log.log c.in_ok-checkers.checkers.items c.as_slice-made.result.now _ _
+    (counted _ c.args.question.now.programs.now (c.is_program_count.ensures.0 c.if-not-is_program_count.false))
+    (has_images _ _ _ _ c.in_ok-log.ensures.log c.in_ok-plan.ensures.count c.in_ok-plan.ensures.few c.in_ok-plan.ensures.within)
+    (checkers_decoded _ _ _ c.as_slice.result.now _ _ c.as_slice.ensures.value c.in_ok-decoded.ensures.decoded c.in_default.not-Some
+    c.in_ok-checkers.ensures.made c.in_ok-checkers.ensures.all)
+    c.as_slice-made.ensures.value bytes failing))
+
+pub returns-in-Cured-clause-refused : goal.returns-in-Cured-clause-refused
+returns-in-Cured-clause-refused g c =
+    one_err c.cured_log.result _ _ c.cured_log.ensures.refused
+    (λ r refused.
+    for_source r (counted _ c.args.question.now.programs.now (c.is_program_count.ensures.0 c.if-not-is_program_count.false))
+    (for_plan r c.in_ok-log.log c.in_ok-log.ensures.log refused))
+
+pub returns-in-Cured-clause-fewer : goal.returns-in-Cured-clause-fewer
+returns-in-Cured-clause-fewer g c =
+    fewer_of_log _ _ c.in_ok-log.log _ _ c.in_ok-log.ensures.log c.in_ok-checkers.ensures.others.fewer c.in_ok-plan.ensures.fewer

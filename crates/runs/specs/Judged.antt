@@ -1,0 +1,43 @@
+-- Which images a run judges (docs/REPORT.md, The text of a part).
+use Rattle.std.specs.Prelude.{ℕ, ◌-◌, ◌≡◌, ◌<◌, ◌≤◌, ◌^◌, Bool, true, false}
+use Rattle.choices.specs.Choices.{limit}
+use Rattle.report.specs.declared.span.Span.{Span}
+use Rattle.request.specs.declared.extent.Extent.{Extent}
+use Rattle.request.specs.declared.extent.Extent.TheVariants as extent
+use Rattle.request.specs.declared.settings.Telling.TheVariants as telling
+use Rattle.runs.specs.declared.explore_command.Wanted.{Wanted}
+use Rattle.runs.specs.declared.explore_command.Wanted.TheVariants as wanted
+
+-- the first image that is judged, and the one behind the last, of a run with so many: all, or those of the part that is meant
+abbrev pub first_judged : Extent → ℕ
+first_judged extent.Whole = 0
+first_judged extent.Wide = 0
+first_judged (extent.Part from to) = from
+
+abbrev pub judged_end : Extent → ℕ → ℕ
+judged_end extent.Whole images = images
+judged_end extent.Wide images = images
+judged_end (extent.Part from to) images = to
+
+-- a part is told of by the report alone
+abbrev pub takes_part : Wanted → Bool
+takes_part (wanted.Told telling.Report) = true
+takes_part (wanted.Told telling.Causes) = false
+takes_part (wanted.Told telling.Page) = false
+takes_part wanted.Cured = false
+
+-- whether a run that is asked for this judges the images that are meant: no run judges all of a run that may have more than 16,777,216
+abbrev pub takes : Wanted → Extent → Bool
+takes w extent.Whole = true
+takes w extent.Wide = false
+takes w (extent.Part from to) = takes_part w
+
+-- the span of the images that are judged, of a run with so many
+pub record IsJudged (e : Extent) (images : ℕ) (span : Span) : Type 0 where
+  pub all : span.images ≡ images
+  pub counted : images < 2 ^ 63
+  pub first : span.from ≡ first_judged e
+  pub end : span.to ≡ judged_end e images
+  pub rising : span.from ≤ span.to
+  pub within : span.to ≤ images
+  pub few : span.to - span.from ≤ limit

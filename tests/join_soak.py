@@ -1,0 +1,248 @@
+#!/usr/bin/env python3
+"""Cuts random runs into parts and joins them, and gives `join` damaged texts.
+
+    python3 tests/join_soak.py [--runs N] [--seed S] [PROGRAM]
+
+PROGRAM is as in run.py; N is 300 where it isn't given, S is 1. A run has a log, one to three checkers and options picked at random,
+as those of footprint_soak.py. It is cut at random places. Each part is judged by some number of workers, with or without a cache.
+The parts are joined in a random order, some of them first and these joins with the others. That has to print the bytes of the run as a
+whole and end with its status.
+
+Then texts are damaged, several times for each run: a byte is changed, a line is dropped, doubled or moved, the end is cut off, a number
+is another one, a part is left out or stands there twice, two texts change their places, or a text is of the same run with other options.
+What `join` says is compared with the model (parts_model.py): the bytes, or the number and the place of the refusal. Other bytes than
+those of the whole are an answer only where each text is that of a part to the byte. A text has no checksum: an answer of 3 in place of 2
+is a part of another run. How often that was so is counted and printed.
+
+Each run is made of its number and the seed alone. One that isn't as expected is printed, and `--only NUMBER` makes it again and leaves
+its files in the folder join_soak. The last line is as in run.py. It takes some minutes, and is no part of the gate.
+"""
+import argparse
+import random
+import re
+import subprocess
+import sys
+import tempfile
+from pathlib import Path
+
+sys.dont_write_bytecode = True
+
+from footprint_soak import checker, entry
+from notation import TOP, log
+from parts_model import joined
+from run import Assembler, split_notes
+
+LIMIT = 120
+MOST_IMAGES = 20_000
+DAMAGES = 12
+
+
+def pick_line(chance, text):
+    lines = text.split(b"\n")
+    return lines, chance.randrange(len(lines))
+
+
+def change_byte(chance, text):
+    at = chance.randrange(len(text))
+    new = chance.choice([text[at] ^ 1 << chance.randrange(8), chance.randrange(256), *b"0123456789 \n,:-"])
+    return text[:at] + bytes([new]) + text[at + 1 :]
+
+
+def lose_byte(chance, text):
+    at = chance.randrange(len(text))
+    return text[:at] + text[at + 1 :]
+
+
+def double_byte(chance, text):
+    at = chance.randrange(len(text))
+    return text[:at] + text[at : at + 1] + text[at:]
+
+
+def drop_line(chance, text):
+    lines, at = pick_line(chance, text)
+    return b"\n".join(lines[:at] + lines[at + 1 :])
+
+
+def double_line(chance, text):
+    lines, at = pick_line(chance, text)
+    return b"\n".join(lines[: at + 1] + lines[at:])
+
+
+def move_line(chance, text):
+    lines, at = pick_line(chance, text)
+    line = lines.pop(at)
+    lines.insert(chance.randrange(len(lines) + 1), line)
+    return b"\n".join(lines)
+
+
+def cut_off(chance, text):
+    return text[: chance.randrange(len(text))]
+
+
+def change_number(chance, text):
+    numbers = list(re.finditer(rb"\d+", text))
+    found = chance.choice(numbers)
+    new = chance.choice([int(found[0]) + 1, max(int(found[0]) - 1, 0), 2**32, 2**64, 2**64 - 1, 0, 88, 89])
+    return text[: found.start()] + str(new).encode() + text[found.end() :]
+
+
+def change_word(chance, text):
+    pairs = [(b"drop", b"head1"), (b"tail7", b"tail8"), (b"yes", b"no"), (b"no", b"yes"), (b"all", b"mark"), (b"budget", b"limit")]
+    old, new = chance.choice(pairs)
+    return text.replace(old, new, 1)
+
+
+OF_TEXT = [change_byte, change_byte, lose_byte, double_byte, drop_line, double_line, move_line, cut_off, change_number, change_number, change_word]
+
+
+def damaged(chance, texts, whole):
+    """The texts with some damage."""
+    texts = list(texts)
+    kind = chance.random()
+    at = chance.randrange(len(texts))
+    if kind < 0.7:
+        texts[at] = chance.choice(OF_TEXT)(chance, texts[at])
+    elif kind < 0.76:
+        texts.append(texts[at])
+    elif kind < 0.82 and len(texts) > 1:
+        texts.pop(at)
+    elif kind < 0.86:
+        texts[at] = whole
+    elif kind < 0.9:
+        other = chance.choice(texts)
+        half = chance.randrange(len(other))
+        texts[at] = texts[at][: chance.randrange(len(texts[at]))] + other[half:]
+    else:
+        texts = [chance.choice(OF_TEXT)(chance, it) if chance.random() < 0.3 else it for it in texts]
+    chance.shuffle(texts)
+    return texts
+
+
+class Soak:
+    """The program under test, and the folder of a run."""
+
+    def __init__(self, program, folder):
+        self.program, self.folder, self.assembler = program, folder, Assembler(program)
+        self.joins, self.taken = 0, 0
+
+    def called(self, words):
+        """The status, standard output, and the line of a refusal."""
+        done = subprocess.run([self.program, *words], cwd=self.folder, capture_output=True, timeout=LIMIT)
+        return done.returncode, done.stdout, split_notes(done.stderr)[0].decode()
+
+    def join(self, texts):
+        for number, text in enumerate(texts):
+            Path(self.folder, f"t{number}").write_bytes(text)
+        self.joins += 1
+        return self.called(["join", *(f"t{number}" for number in range(len(texts)))])
+
+    def make(self, chance):
+        """Writes a log and programs, and returns the words of the run behind `explore`, and those of `images`."""
+        sectors = chance.choice([3, 8, 16, 64])
+        values = chance.sample(range(256), chance.choice([2, 3, 8]))
+        entries = [entry(chance, sectors, values) for _ in range(chance.choice([3, 8, 12, 16]))]
+        by_number = chance.random() < 0.3
+        Path(self.folder, "log").write_bytes(log(entries))
+        names = [f"p{place}" for place in range(chance.choice([1, 1, 2, 3]))]
+        for name in names:
+            Path(self.folder, name).write_bytes(self.assembler.assemble(checker(chance, sectors, by_number)))
+        options = f"--sectors {sectors} --bound {chance.choice([1, 2, 2, 3])} --cuts {chance.choice(['all', 'flush', 'mark'])}"
+        options += " --tears" * (chance.random() < 0.3) + " --by write" * (chance.random() < 0.3)
+        last = len(entries)
+        options += f" --flush {chance.randrange(last)},{chance.randrange(last)}" * (chance.random() < 0.2)
+        options += f" --from {chance.randrange(last)}" * (chance.random() < 0.2)
+        if chance.random() < 0.2:
+            Path(self.folder, "base").write_bytes(chance.randbytes(chance.choice([1, 512, 700])))
+            options += " --base base"
+        of_run = f" --checked 200" * (by_number or chance.random() < 0.1) + " --first" * (chance.random() < 0.25)
+        return ["log", *names, *options.split(), *of_run.split()], ["images", "log", *options.split()]
+
+    def part(self, chance, words, start, end):
+        more = chance.choice(["", "", "--workers 2", "--workers 5", "--cache 16", "--workers 3 --cache 4096"])
+        return self.called(["explore", *words, "--images", f"{start}..{end}", *more.split()])
+
+    def parts(self, chance, words, total):
+        """The texts of a run that is cut at random places, or what went wrong."""
+        places = sorted(chance.sample(range(1, total), min(total - 1, chance.choice([0, 1, 2, 5, 12])))) if total > 1 else []
+        ranges = list(zip([0, *places], [*places, total]))
+        done = [self.part(chance, words, *it) for it in ranges]
+        wrong = [f"--images {start}..{end}: {it[0]} {it[2]}" for (start, end), it in zip(ranges, done) if it[0] > 1]
+        wrong += [f"--images {start}..{end}: the status is {it[0]}" for (start, end), it in zip(ranges, done) if it[0] != (b"\nimage " in it[1])]
+        return [it[1] for it in done], wrong
+
+    def in_steps(self, chance, texts):
+        """The texts with some that stand in a row joined first."""
+        while len(texts) > 2 and chance.random() < 0.7:
+            start = chance.randrange(len(texts) - 1)
+            end = chance.randrange(start + 1, len(texts)) + 1
+            some = texts[start:end]
+            chance.shuffle(some)
+            status, out, error = self.join(some)
+            if status > 1:
+                return texts, [f"a join of {end - start} parts is refused: {error}"]
+            if end - start < len(texts):
+                texts = [*texts[:start], out, *texts[end:]]
+        return texts, []
+
+    def judge(self, chance, texts, whole):
+        """What is wrong with the join of texts, by the model."""
+        status, out, error = self.join(texts)
+        wanted, said = joined(texts)
+        right = (status, out, error) == (2, b"", "refused {} at {}\n".format(*said)) if wanted == 2 else (status, out, error) == (wanted, said, "")
+        if right and status < 2 and out != whole:
+            self.taken += 1
+        return [] if right else [f"damaged: status {status}, {error.strip() or 'an answer'}; wanted {wanted} {said if wanted == 2 else ''}"]
+
+    def differs(self, number, seed):
+        """What is wrong with a run, or None where it is refused or too long."""
+        chance = random.Random(f"{seed} {number}")
+        words, survey = self.make(chance)
+        counted = self.called(survey)
+        total = int(counted[1].split()[-1]) if counted[0] == 0 else MOST_IMAGES + 1
+        whole = self.called(["explore", *words]) if total <= MOST_IMAGES else (2,)
+        if whole[0] == 2:
+            return None
+        texts, wrong = self.parts(chance, words, total)
+        if wrong:
+            return wrong
+        steps, wrong = self.in_steps(chance, texts)
+        chance.shuffle(steps)
+        found = self.join(steps)
+        wrong += [] if found[:2] == whole[:2] else [f"joined of {len(texts)} parts: status {found[0]}, {found[2] or 'other bytes'}"]
+        for _ in range(DAMAGES):
+            wrong += self.judge(chance, damaged(chance, texts, whole[1]), whole[1])
+            if wrong:
+                break
+        return wrong
+
+
+def main():
+    parser = argparse.ArgumentParser(description="Cuts random runs into parts and joins them, and gives join damaged texts.")
+    parser.add_argument("--runs", type=int, default=300)
+    parser.add_argument("--seed", type=int, default=1)
+    parser.add_argument("--only", type=int)
+    parser.add_argument("program", nargs="?", default=str(TOP / "crates/crashbpf/out/crashbpf"))
+    given = parser.parse_args()
+    with tempfile.TemporaryDirectory() as room:
+        folder = Path("join_soak").resolve() if given.only is not None else room
+        Path(folder).mkdir(exist_ok=True)
+        soak = Soak(str(Path(given.program).resolve()), folder)
+        passed, failed, refused = 0, 0, 0
+        number = given.only if given.only is not None else 0
+        while passed + failed < (1 if given.only is not None else given.runs):
+            wrong = soak.differs(number, given.seed)
+            refused += wrong is None
+            passed += wrong == []
+            if wrong:
+                failed += 1
+                print(f"run {number}: " + "; ".join(wrong), flush=True)
+            number += 1
+            if given.only is not None:
+                break
+    print(f"{refused} refused or too long, {soak.joins} joins, {soak.taken} of them of damaged texts that are parts of another run")
+    print(f"{passed} passed, {failed} failed")
+    return 1 if failed else 0
+
+
+if __name__ == "__main__":
+    sys.exit(main())

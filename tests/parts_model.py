@@ -1,0 +1,323 @@
+"""Runs in parts, and their join, in the plainest form.
+
+Written from docs/REPORT.md ('The text of a part', 'Joining parts', 'The text of `images`') and docs/CRASH-MODEL.md ('Order and
+numbers of the images', 'How many there are'), and from nothing of the program under test. A run may have any number of
+images: they are counted, and each is found by its number, by binomials alone.
+"""
+import random
+import re
+from dataclasses import dataclass
+from functools import cache, lru_cache
+from itertools import accumulate, takewhile
+from math import comb
+
+from model import LOST, LOST_OR_TORN, Image, Run, failing_lines, head
+from notation import FIRST_LINE, FLUSH, FUA, SECTOR, log
+
+PART_LINE = "crash part 1\n"
+
+# By which the bytes of a run's inputs are joined to one number.
+INPUT_FACTOR = 1099511628211
+
+# How many images a process judges, and how many parts a run is laid out in.
+MOST_JUDGED = 1 << 24
+MOST_PARTS = 1 << 20
+
+
+class WideRun(Run):
+    """A run that finds the parts of a sector and of a cut without looking at all parts of the log each time."""
+
+    def __init__(self, *words, **more):
+        super().__init__(*words, **more)
+        self.over = {}
+        for part in self.parts:
+            for place in range(len(part.content) // SECTOR):
+                self.over.setdefault(part.sector + place, []).append(part)
+
+    def parts_over(self, number):
+        return self.over.get(number, [])
+
+    def volatile(self, cut):
+        behind = max((number for number in range(cut) if self.entries[number].flags & FLUSH), default=0)
+        return [it for it in self.parts if behind <= it.entry < cut and not self.entries[it.entry].flags & FUA]
+
+
+def number_of(files):
+    """A number of the bytes of a run's log and programs, file by file."""
+    number = 0
+    for content in files:
+        for byte in content + len(content).to_bytes(8, "little"):
+            number = (number * INPUT_FACTOR + byte + 1) % 2**64
+    return number
+
+
+def fates_of(run):
+    return LOST_OR_TORN if run.tears else LOST
+
+
+def departing(parts, count, fates):
+    """In how many ways so many of so many parts depart."""
+    return comb(parts, count) * fates**count
+
+
+@cache
+def cuts_of(run):
+    """The wanted cuts of a run, each with the parts that are on their way and the number of its images."""
+    on_way = [(cut, run.volatile(cut)) for cut in run.wanted_cuts()]
+    return [(cut, parts, sum(departing(len(parts), lost, len(fates_of(run))) for lost in range(run.bound + 1))) for cut, parts in on_way]
+
+
+def count(run):
+    """How many images a run has."""
+    return sum(images for _cut, _parts, images in cuts_of(run))
+
+
+def first_beyond(run, most):
+    """The cut with which the images are more than `most`."""
+    total = 0
+    for cut, _parts, images in cuts_of(run):
+        total += images
+        if total > most:
+            return cut
+    return None
+
+
+def departures_at(parts, count, fates, number):
+    """Of the ways to let `count` of these parts depart the one with that number: by the first part, its fate, then the others."""
+    if count == 0:
+        return ()
+
+    def before(place):
+        """How many ways begin with a part before that place."""
+        return departing(len(parts), count, len(fates)) - departing(len(parts) - place, count, len(fates))
+
+    least, most = 0, len(parts)
+    while most - least > 1:
+        middle = (least + most) // 2
+        least, most = (middle, most) if before(middle) <= number else (least, middle)
+    behind = number - before(least)
+    others = departing(len(parts) - least - 1, count - 1, len(fates))
+    fate, rest = divmod(behind, others)
+    return ((parts[least], fates[fate]), *departures_at(parts[least + 1 :], count - 1, fates, rest))
+
+
+def image_at(run, number):
+    """The image of a number."""
+    left, fates = number, fates_of(run)
+    for cut, parts, images in cuts_of(run):
+        if left < images:
+            break
+        left -= images
+    for lost in range(run.bound + 1):
+        ways = departing(len(parts), lost, len(fates))
+        if left < ways:
+            return Image(number, cut, departures_at(parts, lost, fates, left), run)
+        left -= ways
+    raise IndexError(number)
+
+
+@cache
+def lines_at(run, checkers, number):
+    """The failing lines of the image of a number."""
+    return failing_lines(image_at(run, number), checkers)
+
+
+def survey(run, parts=None):
+    """What `images` prints, with --parts how the run is laid out."""
+    text = ""
+    for cut, on_way, images in cuts_of(run):
+        text += f"cut {cut} epoch {run.epoch(cut)} marks {run.marks(cut)} volatile {len(on_way)} images {images}\n"
+    text += f"total {count(run)}\n"
+    return text + ("".join(f"part {start}..{end}\n" for start, end in layout(count(run), parts)) if parts else "")
+
+
+def layout(total, parts):
+    """So many images in so many parts, or fewer: their lengths differ by at most one, and the longer ones come first."""
+    parts = max(min(parts, total), 1)
+    each, rest = divmod(total, parts)
+    ends = list(accumulate([each + 1] * rest + [each] * (parts - rest)))
+    return list(zip([0, *ends[:-1]], ends))
+
+
+def found(run, checkers, start, end, first=False):
+    """The failing lines of the images from `start` to below `end`, the last line, and whether one fails."""
+    lines, failing, least = [], 0, "none"
+    for number in range(start, end):
+        more = lines_at(run, tuple(checkers), number)
+        if more and least == "none":
+            least = number
+        failing += 1 if more else 0
+        lines += more if not first or least == number else []
+    last = f"images {end - start} first {least}" if first else f"images {end - start} failing {failing} lines {len(lines)}"
+    return [*lines, last], failing > 0
+
+
+def part(run, checkers, start, end, inputs, first=False):
+    """What `explore --images START..END` prints."""
+    lines, _fails = found(run, checkers, start, end, first)
+    text = PART_LINE + f"part {start}..{end} of {count(run)} inputs {inputs}\n" + head(run, checkers, first)
+    return text + "".join(f"{it}\n" for it in lines)
+
+
+def report(run, checkers, first=False):
+    """What `explore` prints."""
+    lines, _fails = found(run, checkers, 0, count(run), first)
+    return FIRST_LINE + head(run, checkers, first) + "".join(f"{it}\n" for it in lines)
+
+
+def inputs_of(run, programs):
+    return number_of([log(run.recorded), *programs])
+
+
+def shuffled(name, parts):
+    """The same parts in another order, the same at each run of the tests."""
+    order = list(parts)
+    random.Random(name).shuffle(order)
+    return order
+
+
+# The text of a part, read
+
+NUMBER = "(?:0|[1-9][0-9]*)"
+NUMBERS = f"{NUMBER}(?:,{NUMBER})*"
+SPAN = re.compile(f"part ({NUMBER})[.][.]({NUMBER}) of ({NUMBER}) inputs ({NUMBER})")
+OPTIONS = re.compile(
+    f"sectors ({NUMBER}) entries ({NUMBER}) cuts (?:all|flush|mark) bound ({NUMBER}) tears (?:yes|no) first (?P<first>yes|no)(?: by write)?"
+    f"(?: flush (?P<flush>{NUMBERS}))?(?: from (?P<from>{NUMBER}))?(?: to (?P<to>{NUMBER}))?(?: base (?P<base>{NUMBER}))?"
+)
+PROGRAM = re.compile(f"program ({NUMBER}) slots ({NUMBER}) (?:budget|limit) ({NUMBER})")
+SECTOR_NAME = f"({NUMBER})[.]({NUMBER}):(?:drop|head[1-7]|tail[1-7])"
+WRITE_NAME = f"({NUMBER}):(?:drop|head[1-7]|tail[1-7])"
+CHOICE = "(?P<choice>[^ ]+)"
+FAILING = re.compile(
+    f"image ({NUMBER}) cut ({NUMBER}) program ({NUMBER}) "
+    f"(?:answer (?P<answer>{NUMBER}) codes (?P<codes>-|{NUMBERS})|fault (?:8[0-8]) slot (?P<slot>{NUMBER})|out of steps) choice {CHOICE}"
+)
+LAST = re.compile(f"images ({NUMBER}) failing ({NUMBER}) lines ({NUMBER})")
+LAST_OF_FIRST = re.compile(f"images ({NUMBER}) first ({NUMBER}|none)")
+
+
+@dataclass(frozen=True)
+class Read:
+    """A part as its text has it: its images, of how many, the number of the inputs, the lines of the head and the failing ones."""
+
+    start: int
+    end: int
+    images: int
+    inputs: int
+    head: tuple
+    first: bool
+    lines: tuple
+
+    def run(self):
+        return self.images, self.inputs, self.head
+
+
+def below(bits, *numbers):
+    return all(number is None or int(number) < 2**bits for number in numbers)
+
+
+def is_choice(text):
+    """Whether a text is that of at most three departures, all by sector or all by write."""
+    names = text.split(",")
+    if text == "-":
+        return True
+    ways = [[re.fullmatch(way, name) for name in names] for way in (SECTOR_NAME, WRITE_NAME)]
+    return len(names) <= 3 and any(all(way) and all(below(32, *it.groups()) for it in way) for way in ways)
+
+
+def read_span(line):
+    span = SPAN.fullmatch(line)
+    if not span:
+        return None
+    start, end, images, inputs = map(int, span.groups())
+    right = start <= end <= images < 2**63 and inputs < 2**64 and (start < end or images == 0)
+    return (start, end, images, inputs) if right else None
+
+
+def read_head(lines):
+    """How many lines the options and programs are with which these begin, and whether the first failing image alone is shown."""
+    options = OPTIONS.fullmatch(lines[0])
+    if not options:
+        return None
+    small = below(32, *options.group(1, 2)) and below(8, options[3]) and below(64, *options.group("from", "to", "base"))
+    flushes = options["flush"].split(",") if options["flush"] else []
+    programs = [PROGRAM.fullmatch(it) for it in takewhile(lambda line: line.startswith("program "), lines[1:])]
+    right = all(it and int(it[1]) == number and below(32, it[2]) and below(64, it[3]) for number, it in enumerate(programs))
+    if not (small and below(32, *flushes) and len(flushes) <= 64 and right and 1 <= len(programs) <= 8):
+        return None
+    return 1 + len(programs), options["first"] == "yes"
+
+
+@lru_cache(100_000)
+def read_failing(line):
+    """The image and the program of a failing line."""
+    found = FAILING.fullmatch(line)
+    if not found or not is_choice(found["choice"]):
+        return None
+    codes = found["codes"].split(",") if found["codes"] not in (None, "-") else []
+    small = below(32, found[2]) and below(8, found[3]) and below(64, found[1], found["answer"], found["slot"], *codes)
+    return (int(found[1]), int(found[3])) if small and len(codes) <= 16 else None
+
+
+def last_of(start, end, first, marks):
+    images = [image for image, _program in marks]
+    if first:
+        return f"images {end - start} first {images[0] if images else 'none'}"
+    return f"images {end - start} failing {len(set(images))} lines {len(images)}"
+
+
+@lru_cache(10_000)
+def read_part(text):
+    """The part of a text, None where it isn't the text of one."""
+    try:
+        lines = text.decode().split("\n")
+    except UnicodeDecodeError:
+        return None
+    span = read_span(lines[1]) if len(lines) >= 5 and lines[0] == PART_LINE[:-1] and lines[-1] == "" else None
+    head = read_head(lines[2:-2]) if span else None
+    if not head:
+        return None
+    length, first = head
+    failing = lines[2 + length : -2]
+    marks = [read_failing(it) for it in failing]
+    ordered = None not in marks and all(one < other for one, other in zip(marks, marks[1:]))
+    within = ordered and all(span[0] <= image < span[1] for image, _program in marks)
+    alone = within and (not first or len({image for image, _program in marks}) <= 1)
+    right = alone and lines[-2] == last_of(span[0], span[1], first, marks)
+    return Read(*span, tuple(lines[2 : 2 + length]), first, tuple(failing)) if right else None
+
+
+MOST_JOINED = 4096
+MOST_BYTES = 1 << 30
+
+
+def joined(texts):
+    """What `join` makes of texts: its status and the bytes, or 2 and the number and the place of the refusal."""
+    if len(texts) > MOST_JOINED:
+        return 2, (65, MOST_JOINED)
+    sizes = list(accumulate(map(len, texts)))
+    if sizes[-1] > MOST_BYTES:
+        return 2, (65, next(number for number, size in enumerate(sizes) if size > MOST_BYTES))
+    parts = [read_part(it) for it in texts]
+    if None in parts:
+        return 2, (61, parts.index(None))
+    strange = [number for number, it in enumerate(parts) if it.run() != parts[0].run()]
+    if strange:
+        return 2, (62, strange[0])
+    row = sorted(enumerate(parts), key=lambda it: it[1].start)
+    for (_file, one), (file, other) in zip(row, row[1:]):
+        if one.end != other.start:
+            return 2, (63 if one.end < other.start else 64, file)
+    return joined_row([it for _file, it in row])
+
+
+def joined_row(row):
+    """The status and the bytes of parts in a row."""
+    start, end, of = row[0].start, row[-1].end, row[0]
+    with_lines = [it for it in row if it.lines]
+    lines = [line for it in (with_lines[:1] if of.first else with_lines) for line in it.lines]
+    whole = (start, end) == (0, of.images)
+    begun = FIRST_LINE if whole else PART_LINE + f"part {start}..{end} of {of.images} inputs {of.inputs}\n"
+    last = last_of(start, end, of.first, [read_failing(it) for it in lines])
+    return (1 if lines else 0), (begun + "".join(f"{it}\n" for it in [*of.head, *lines, last])).encode()
