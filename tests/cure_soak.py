@@ -12,20 +12,18 @@ fails, and say nothing else but notes.
 Each run is made of its number and the seed alone. One that isn't as expected is printed, and `--only NUMBER` makes it again and
 leaves its files in the folder cure_soak. The last line is as in run.py. It takes some minutes, and is no part of the gate.
 """
-import argparse
 import random
 import subprocess
 import sys
-import tempfile
 from pathlib import Path
 
 sys.dont_write_bytecode = True
 
 import cure_model
 from model import Checker, Run, explored
-from notation import DISCARD, FLUSH, FUA, MARK, TOP, Entry, S, log
+from notation import DISCARD, FLUSH, FUA, MARK, Entry, S, log
 from page_model import page
-from run import Assembler
+from soaking import Soak, options, run_all
 from why_model import causes
 
 LIMIT = 60
@@ -88,12 +86,7 @@ def some_run(chance):
     return Run(entries, sectors, cuts, chance.randint(0, 3), chance.random() < 0.4, by, flush, first, last)
 
 
-class Soak:
-    """The program under test, and the folder of a run."""
-
-    def __init__(self, program, folder):
-        self.program, self.folder, self.assembler = program, folder, Assembler(program)
-
+class CureSoak(Soak):
     def called(self, words):
         done = subprocess.run([self.program, *words], cwd=self.folder, capture_output=True, timeout=LIMIT)
         return done.returncode, done.stdout, done.stderr
@@ -134,26 +127,8 @@ class Soak:
 
 
 def main():
-    parser = argparse.ArgumentParser(description="Compares random runs with the models.")
-    parser.add_argument("--runs", type=int, default=2_000)
-    parser.add_argument("--seed", type=int, default=1)
-    parser.add_argument("--only", type=int)
-    parser.add_argument("program", nargs="?", default=str(TOP / "crates/crashbpf/out/crashbpf"))
-    asked = parser.parse_args()
-    passed = failed = 0
-    with tempfile.TemporaryDirectory() as folder:
-        if asked.only is not None:
-            folder = "cure_soak"
-            Path(folder).mkdir(exist_ok=True)
-        soak = Soak(str(Path(asked.program).resolve()), folder)
-        for number in range(asked.runs) if asked.only is None else [asked.only]:
-            differs = soak.differs(number, asked.seed)
-            for words in differs or []:
-                print(f"run {number}: {words}")
-            passed += differs == []
-            failed += bool(differs)
-    print(f"{passed} passed, {failed} failed")
-    return 1 if failed else 0
+    given = options("Compares random runs with the models.", 2_000).parse_args()
+    return run_all(given, "cure_soak", CureSoak)
 
 
 if __name__ == "__main__":

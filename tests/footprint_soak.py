@@ -14,17 +14,15 @@ spend their steps.
 Each run is made of its number and the seed alone. One that isn't as expected is printed, and `--only NUMBER` makes it again and
 leaves its files in the folder footprint_soak. The last line is as in run.py. It takes some minutes, and is no part of the gate.
 """
-import argparse
 import random
 import subprocess
 import sys
-import tempfile
 from pathlib import Path
 
 sys.dont_write_bytecode = True
 
-from notation import DISCARD, FLUSH, FUA, MARK, TOP, Entry, W, log
-from run import Assembler
+from notation import DISCARD, FLUSH, FUA, MARK, Entry, W, log
+from soaking import Soak, options, run_all
 
 LIMIT = 120
 
@@ -82,11 +80,12 @@ def checker(chance, sectors, by_number):
     return text + f"mov64 r0, r6\nmod64 r0, {good}\njne r0, 0, +2\nmov64 r0, {chance.choice([1, 9, -1])}\nexit\nmov64 r0, 0\nexit\n"
 
 
-class Soak:
-    """The programs under test, and the folder of a run."""
+class FootprintSoak(Soak):
+    """A soak of two programs: the one under test and, where there is one, that of earlier."""
 
     def __init__(self, program, before, folder):
-        self.program, self.before, self.folder, self.assembler = program, before, folder, Assembler(program)
+        super().__init__(program, folder)
+        self.before = before
 
     def called(self, program, words):
         done = subprocess.run([program, *words], cwd=self.folder, capture_output=True, timeout=LIMIT)
@@ -118,35 +117,11 @@ class Soak:
 
 
 def main():
-    parser = argparse.ArgumentParser(description="Compares runs by footprints with runs that judge each image.")
-    parser.add_argument("--runs", type=int, default=1_000)
-    parser.add_argument("--seed", type=int, default=1)
-    parser.add_argument("--only", type=int)
+    parser = options("Compares runs by footprints with runs that judge each image.", 1_000)
     parser.add_argument("--before")
-    parser.add_argument("program", nargs="?", default=str(TOP / "crates/crashbpf/out/crashbpf"))
     given = parser.parse_args()
     before = str(Path(given.before).resolve()) if given.before else None
-    with tempfile.TemporaryDirectory() as room:
-        folder = Path("footprint_soak").resolve() if given.only is not None else room
-        Path(folder).mkdir(exist_ok=True)
-        soak = Soak(str(Path(given.program).resolve()), before, folder)
-        passed, failed, refused = 0, 0, 0
-        number = given.only if given.only is not None else 0
-        while passed + failed < (1 if given.only is not None else given.runs):
-            differ = soak.differs(number, given.seed)
-            if differ is None:
-                refused += 1
-            elif differ:
-                failed += 1
-                print(f"run {number}: " + "; ".join(differ), flush=True)
-            else:
-                passed += 1
-            number += 1
-            if given.only is not None:
-                break
-    print(f"{refused} refused")
-    print(f"{passed} passed, {failed} failed")
-    return 1 if failed else 0
+    return run_all(given, "footprint_soak", lambda program, folder: FootprintSoak(program, before, folder))
 
 
 if __name__ == "__main__":

@@ -17,20 +17,19 @@ is a part of another run. How often that was so is counted and printed.
 Each run is made of its number and the seed alone. One that isn't as expected is printed, and `--only NUMBER` makes it again and leaves
 its files in the folder join_soak. The last line is as in run.py. It takes some minutes, and is no part of the gate.
 """
-import argparse
 import random
 import re
 import subprocess
 import sys
-import tempfile
 from pathlib import Path
 
 sys.dont_write_bytecode = True
 
 from footprint_soak import checker, entry
-from notation import TOP, log
+from notation import log
 from parts_model import joined
-from run import Assembler, split_notes
+from run import split_notes
+from soaking import Soak, options, run_all
 
 LIMIT = 120
 MOST_IMAGES = 20_000
@@ -118,12 +117,13 @@ def damaged(chance, texts, whole):
     return texts
 
 
-class Soak:
-    """The program under test, and the folder of a run."""
-
+class JoinSoak(Soak):
     def __init__(self, program, folder):
-        self.program, self.folder, self.assembler = program, folder, Assembler(program)
+        super().__init__(program, folder)
         self.joins, self.taken = 0, 0
+
+    def said(self):
+        return f", {self.joins} joins, {self.taken} of them of damaged texts that are parts of another run"
 
     def called(self, words):
         """The status, standard output, and the line of a refusal."""
@@ -217,31 +217,8 @@ class Soak:
 
 
 def main():
-    parser = argparse.ArgumentParser(description="Cuts random runs into parts and joins them, and gives join damaged texts.")
-    parser.add_argument("--runs", type=int, default=300)
-    parser.add_argument("--seed", type=int, default=1)
-    parser.add_argument("--only", type=int)
-    parser.add_argument("program", nargs="?", default=str(TOP / "crates/crashbpf/out/crashbpf"))
-    given = parser.parse_args()
-    with tempfile.TemporaryDirectory() as room:
-        folder = Path("join_soak").resolve() if given.only is not None else room
-        Path(folder).mkdir(exist_ok=True)
-        soak = Soak(str(Path(given.program).resolve()), folder)
-        passed, failed, refused = 0, 0, 0
-        number = given.only if given.only is not None else 0
-        while passed + failed < (1 if given.only is not None else given.runs):
-            wrong = soak.differs(number, given.seed)
-            refused += wrong is None
-            passed += wrong == []
-            if wrong:
-                failed += 1
-                print(f"run {number}: " + "; ".join(wrong), flush=True)
-            number += 1
-            if given.only is not None:
-                break
-    print(f"{refused} refused or too long, {soak.joins} joins, {soak.taken} of them of damaged texts that are parts of another run")
-    print(f"{passed} passed, {failed} failed")
-    return 1 if failed else 0
+    given = options("Cuts random runs into parts and joins them, and gives join damaged texts.", 300).parse_args()
+    return run_all(given, "join_soak", JoinSoak)
 
 
 if __name__ == "__main__":

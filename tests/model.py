@@ -6,7 +6,7 @@ answer isn't worked out: a checker is a function of an image that stands for a p
 """
 import functools
 import struct
-from dataclasses import dataclass, replace
+from dataclasses import dataclass, field, replace
 
 from notation import DISCARD, FIRST_LINE, FLUSH, FUA, MARK, SECTOR
 
@@ -250,6 +250,34 @@ def explored(run, checkers, first=False):
             least = image.number
     last = f"images {total} first {least}" if first else f"images {total} failing {failing} lines {len(found)}"
     return FIRST_LINE + head(run, checkers, first) + "".join(f"{it}\n" for it in [*found, last])
+
+
+@dataclass(frozen=True)
+class Noted(Image):
+    """An image that notes at which sectors a checker looks."""
+
+    looked: set = field(default_factory=set)
+
+    def sector(self, number):
+        self.looked.add(number)
+        return super().sector(number)
+
+
+def is_blind(run, checker):
+    """Whether a checker passes at each wanted cut, where nothing is lost or torn, and looks at no more than 32 sectors there, none of
+    which an entry covers."""
+    cuts = run.wanted_cuts()
+    for cut in cuts:
+        image = Noted(0, cut, (), run)
+        if checker.judge(image)[0] != 0 or len(image.looked) > 32 or any(run.parts_over(it) for it in image.looked):
+            return False
+    return bool(cuts)
+
+
+def blind_notes(run, checkers):
+    """What is noted of checkers that look at nothing of what the log writes."""
+    words = "looks at no sector that an entry writes, so no crash makes it fail"
+    return [f"program {number}: {words}" for number, checker in enumerate(checkers) if is_blind(run, checker)]
 
 
 def departures_of(image):

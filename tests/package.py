@@ -33,7 +33,7 @@ sys.dont_write_bytecode = True
 from notation import TOP
 
 # The folders of the repository that tools/package reads, beside README.md and CONTRIBUTING.md.
-READ = ("docs", "examples", "crates/aside/data", "tools")
+READ = ("docs", "bench", "examples", "crates/aside/data", "tools")
 PATH = f"{os.environ['PATH']}:/usr/sbin:/sbin"
 INSTALLED = """\
 Package: {name}
@@ -112,8 +112,22 @@ def holds(made):
     wanted = {"bin/crashbpf", "bin/crashbpf-cc", "share/man/man1/crashbpf.1.gz", "share/doc/crashbpf/copyright"}
     wanted |= {"share/bash-completion/completions/crashbpf", "share/fish/vendor_completions.d/crashbpf.fish", "share/zsh/site-functions/_crashbpf"}
     shown = ("README.md", "CONTRIBUTING.md", "docs/REPORT.md", "docs/page.png", "examples/checker.h", "examples/tree/root.c", "examples/tree/wrong.log", "tools/trace_log.py")
+    shown += tuple(f"examples/many_machines/{it}" for it in ("README.md", "lay_out", "run_part", "join_all", "array.sh"))
     wanted |= {f"share/crashbpf/{it}" for it in shown}
-    return found + differs("what is missing", wanted - names[".gz"], set())
+    return found + differs("what is missing", wanted - names[".gz"], set()) + dead_links(names[".gz"])
+
+
+def dead_links(names):
+    """Returns the links of the pages that are installed to files that aren't."""
+    pages = [it.removeprefix("share/crashbpf/") for it in names if it.endswith(".md")]
+    kept = {str(it) for name in names for it in (Path(name), *Path(name).parents)}
+    found = []
+    for page in sorted(pages):
+        text = re.sub(r"`[^`]*`", "", (TOP / page).read_text())
+        for link in re.findall(r"\]\((?!\w+:)([^)#]+)", text):
+            if os.path.normpath(f"share/crashbpf/{Path(page).parent}/{link}") not in kept:
+                found.append(f"{page} has a link to {link}, which isn't installed")
+    return found
 
 
 def libraries(program):

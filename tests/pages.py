@@ -6,8 +6,8 @@
 takes the blocks between ``` and ``` out of the page of each crate, or of those that are named: the lines `//!` at the head of its
 src/lib.rt. Each block becomes the body of a function of one scratch crate, whose lines have the numbers that they have on the page.
 What an example is given by name has one type on all pages (GIVEN). A block that begins with ```text is no code: each library has an
-example that is, but for a few (TEXT_WILL_DO). The scratch crate stands on the built libraries, or on the sources where some aren't
-built. The last line is `N passed, M failed`, and counts pages.
+example that is, but for a few (TEXT_WILL_DO). The scratch crate stands on the libraries that are built here or were kept of this
+text, or on the sources where some are neither. The last line is `N passed, M failed`, and counts pages.
 """
 import os
 import re
@@ -19,6 +19,7 @@ sys.dont_write_bytecode = True
 sys.path.insert(0, os.path.join(os.path.dirname(os.path.abspath(__file__)), "..", "tools"))
 
 import kit
+import take_kept
 
 # The libraries whose example may be text: those of laws alone, and some whose page has no code yet.
 TEXT_WILL_DO = ("machine", "soundness", "run_jobs")
@@ -35,6 +36,7 @@ GIVEN = {
     "choice": "choices::Choice",
     "view": "images::View<'a>",
     "program": "bpf_isa::program::Program",
+    "programs": "&[Vec<u8>]",
     "verified": "verifier::Verified<'a>",
     "checkers": "&[checker::Checker<'a>]",
     "context": "helpers::Context",
@@ -153,6 +155,8 @@ def words_over(rt, libraries):
 def type_all(rt, libraries, modules):
     """Types the modules as one crate, and returns what the compiler says."""
     over = needed(libraries, modules)
+    if hasattr(rt, "Kept"):
+        take_kept.take_all(rt, {it.name for it in over})
     with tempfile.TemporaryDirectory(prefix="pages-") as room:
         os.mkdir(f"{room}/src")
         for name, text in [("lib", root_of(modules, over)), *((f"page_{name}", text) for name, text in modules.items())]:
@@ -165,6 +169,8 @@ def type_all(rt, libraries, modules):
 
 
 def main(names):
+    if names and names[0].startswith("-"):
+        sys.exit(__doc__)
     rt = kit.load()
     libraries = [it for it in kit.crates(rt) if not it.is_program and not it.name.endswith("_tests")]
     wanted = [it for it in libraries if not names or it.name in names]

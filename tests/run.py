@@ -38,6 +38,7 @@ Where the rows stand
     rows/arithmetic.py  each operation and each test on many operands
     rows/refusals.py    what the verifier accepts and refuses
     rows/notes.py       the notes behind each refusal, and beside answers
+    rows/blind.py       the note of checkers that look at nothing of what the log writes, against the model
     rows/tables.py      logs as tables, and listings with slots
     rows/trials.py      programs on one image: what they come to, their steps and the last ones in words
     rows/modelled.py    whole reports of many logs, against the model
@@ -91,6 +92,7 @@ from rows import (
     answers,
     arithmetic,
     based,
+    blind,
     browser,
     checkers,
     commands,
@@ -148,6 +150,7 @@ TABLES = [
     browser,
     ranges,
     based,
+    blind,
     flushes,
     workers,
     footprints,

@@ -7,23 +7,22 @@ PROGRAM is as in run.py; N is 100,000 where it isn't given, S is 1. Each run tak
 examples/ or of a row of rows/, changes some of it (bits, bytes, fields of headers and slots, pieces cut out, put in twice
 or appended), and gives it to a command with options of which some are out of range. It is expected that
 
-    the status is 0, 1 or 2; 1 only of `explore`, `why`, `cure` and `page`;
+    the status is 0, 1 or 2; 1 only of `explore`, `why`, `cure`, `page`, `check` and `join`;
     there is nothing on standard output where the status is 2, and one line at least on standard error there, and else
     nothing on standard error but notes;
-    no run takes longer than LIMIT seconds, or more memory than its log, 128 MiB, and 4 KiB for each entry of its cache.
+    no run takes longer than LIMIT seconds, or more memory than twice its files, 128 MiB, and 4 KiB for each entry of its cache.
 
 Every command is called, each with all options that it takes.
 
 Each run is made of its own number and the seed alone, and a run that isn't as expected is printed with it, so that it can
 be made again: `--only NUMBER` makes that run and leaves its files in the folder soak. The last line is as in run.py.
 """
-import argparse
+import json
 import os
 import random
 import subprocess
 import sys
 import tempfile
-import threading
 from concurrent.futures import ThreadPoolExecutor
 from pathlib import Path
 
@@ -32,6 +31,7 @@ sys.dont_write_bytecode = True
 from memory import WANT_OF_MEMORY
 from notation import SECTOR, TOP, Assembly
 from run import Assembler, all_rows, made, shortened, split_notes, split_progress
+from soaking import options
 
 LIMIT = 20
 MEMORY = 128 << 20
@@ -43,19 +43,20 @@ EDGES = [0, 1, 2, 3, 4, 7, 8, 15, 16, 255, 256, 511, 512, 513, 4095, 4096, 16384
 
 
 class Stock:
-    """Whole inputs, from which damaged ones are made."""
+    """Whole inputs, from which damaged ones are made: logs, raw logs, programs, assembly texts, and texts of parts."""
 
     def __init__(self, program):
         assembler = Assembler(program)
-        self.logs, self.programs, self.texts = [], [], []
+        self.logs, self.raw_logs, self.programs, self.texts, self.parts = [], [], [], [], []
+        of_command = {"asm": self.texts, "import": self.raw_logs, "join": self.parts}
         for row in all_rows():
-            command = row.words.split()[:1]
+            kinds = of_command.get(row.words.partition(" ")[0])
             for name, content in row.files.items():
                 if isinstance(content, Assembly):
                     self.texts.append(content.encode())
                     self.programs.append(assembler.assemble(content))
                 elif isinstance(content, (bytes, str)) and len(content) <= GREATEST:
-                    kind = self.logs if name == "log" else self.texts if command == ["asm"] else self.programs
+                    kind = self.logs if name == "log" else self.programs if kinds is None else kinds
                     kind.append(made(content))
         self.logs += [path.read_bytes() for path in sorted(TOP.glob("crates/aside/data/*/*.log"))]
 
@@ -109,52 +110,61 @@ def damaged(chance, whole):
     return content
 
 
-IMAGES = ["sectors", "flush", "cuts", "from", "to", "bound", "by"]
+IMAGES = ["sectors", "base", "flush", "cuts", "from", "to", "bound", "by"]
 RUN = [*IMAGES, "checked", "workers", "cache"]
 
 # The options with a value that each command takes, and how often those without one are given.
 TAKEN = {
-    "explore": RUN,
+    "explore": [*RUN, "images"],
     "why": RUN,
     "cure": RUN,
     "page": RUN,
-    "images": IMAGES,
+    "images": [*IMAGES, "parts"],
     "image": IMAGES,
     "show": IMAGES,
-    "log": ["sectors", "flush"],
+    "log": ["sectors", "base", "flush"],
     "verify": ["sectors"],
+    "check": ["epoch", "marks", "checked", "trace"],
+    "import": [],
+    "join": [],
     "asm": [],
     "list": [],
 }
 FLAGS = {
-    "explore": {"tears": 0.4, "first": 0.3, "progress": 0.1},
-    "why": {"tears": 0.4, "progress": 0.1},
-    "cure": {"tears": 0.4, "progress": 0.1},
-    "page": {"tears": 0.4, "progress": 0.1},
-    "images": {"tears": 0.4},
-    "image": {"tears": 0.4},
-    "show": {"tears": 0.4},
-    "log": {},
-    "verify": {},
+    "explore": {"large": 0.1, "tears": 0.4, "first": 0.3, "progress": 0.1},
+    "why": {"large": 0.1, "tears": 0.4, "progress": 0.1},
+    "cure": {"large": 0.1, "tears": 0.4, "progress": 0.1},
+    "page": {"large": 0.1, "tears": 0.4, "progress": 0.1},
+    "images": {"large": 0.1, "tears": 0.4, "images": 0.5},
+    "image": {"large": 0.1, "tears": 0.4, "images": 0.3},
+    "show": {"large": 0.1, "tears": 0.4, "images": 0.3},
+    "log": {"large": 0.1},
+    "verify": {"large": 0.1},
+    "check": {"large": 0.1},
+    "import": {"large": 0.5},
+    "join": {},
     "asm": {},
     "list": {"slots": 0.5},
 }
 
-# The commands that run programs, and those that tell one image.
+# The commands that run programs on images, those whose status may be 1, and those that tell one image.
 RUNS = ["explore", "why", "cure", "page"]
+MAY_FAIL = [*RUNS, "check", "join"]
 TELL = ["image", "show"]
 
 # How often each command is called, in all COMMANDS.
-COMMANDS = [*["explore"] * 3, *["why"] * 2, *["cure"] * 2, *["page"] * 2, "images", "image", "show", "show", "log", *["verify"] * 2, "asm", "list"]
+COMMANDS = [*["explore"] * 3, *["why"] * 2, *["cure"] * 2, *["page"] * 2, *TAKEN, "show", "verify", "check", "join"]
 
-# Choices as `--choice` takes them, good ones and others.
+# Choices as `--choice` takes them, and images as `--images` does, good ones and others.
 CHOICES = ["-", "0.0:drop", "0:drop", "1.0:head3", "1.0:tail7", "0.0:drop,1.0:drop", "2.1:head9", "x", "", "4294967296.0:drop"]
+RANGES = ["0..1", "0..3", "1..2", "2..9", "0..64", "0..16777216", "0..16777217", "0..0", "5..3", "3", "..", "1..", "0..9223372036854775807", "0..9223372036854775808"]
 
 
 def options_of(chance, command):
     """Some options of a command, each mostly within its range."""
     picked = {
         "sectors": chance.choice([1, 2, 3, 4, 8, 8, 64, 64, 16384, 16385, 0]),
+        "base": chance.choice(["base", "base", "none"]),
         "flush": chance.choice(["0", "1", "2", "0,3", "5,2,2", "65535", "4294967296", "1,", ",".join("0" * 64), ",".join("0" * 65)]),
         "cuts": chance.choice(["all", "flush", "mark"]),
         "from": chance.choice([0, 0, 1, 2, 65537, 1 << 63]),
@@ -164,33 +174,49 @@ def options_of(chance, command):
         "workers": chance.choice([1, 1, 2, 4, 64, 65, 0]),
         "cache": chance.choice([0, 1, 16, 65536, 65537]),
         "by": chance.choice(["sector", "write", "write", "page"]),
+        "images": chance.choice(RANGES),
+        "parts": chance.choice([1, 1, 2, 7, 64, 65536, 65537, 0]),
+        "epoch": chance.choice([0, 1, 3, 65536, 65537]),
+        "marks": chance.choice([0, 1, 3, 65536, 65537]),
+        "trace": chance.choice([0, 1, 5, 1000, 1 << 63]),
     }
     words = []
     for name in TAKEN[command]:
-        if name == "sectors" or chance.random() < 0.5:
+        if name == "sectors" or chance.random() < (0.2 if name in ("base", "images") else 0.5):
             words += [f"--{name}", str(picked[name])]
     return words + [f"--{name}" for name, often in FLAGS[command].items() if chance.random() < often]
+
+
+def some(chance, kind, name, counts):
+    """Damaged inputs of a kind, as files that are named by their numbers."""
+    return {f"{name}{place}": damaged(chance, kind) for place in range(chance.choice(counts))}
 
 
 def made_run(stock, seed, number):
     """The words and the files of the run of that number."""
     chance = random.Random(f"{seed} {number}")
     command = chance.choice(COMMANDS)
+    told = []
     if command == "asm":
-        return [command, "source"], {"source": damaged(chance, stock.texts)}
-    if command in ("verify", "list"):
-        return [command, "p0", *options_of(chance, command)], {"p0": damaged(chance, stock.programs)}
-    files = {"log": damaged(chance, stock.logs)}
-    words = [command, "log"]
+        files = {"source": damaged(chance, stock.texts)}
+    elif command in ("verify", "list"):
+        files = {"p0": damaged(chance, stock.programs)}
+    elif command == "check":
+        files = {"p0": damaged(chance, stock.programs), "image": bytes(SECTOR * chance.choice([0, 1, 2, 8])) + chance.randbytes(chance.choice([0, 0, SECTOR, 9]))}
+    elif command == "import":
+        files = {"raw": damaged(chance, stock.raw_logs)}
+    elif command == "join":
+        files = some(chance, stock.parts, "part", [1, 1, 2, 3])
+    else:
+        files = {"log": damaged(chance, stock.logs)} | (some(chance, stock.programs, "p", [1, 1, 1, 2, 8, 9]) if command in RUNS else {})
     if command in TELL and chance.random() < 0.5:
-        words.append(str(chance.choice([0, 1, 2, 5, 20, 1000, (1 << 64) - 1])))
+        told = [str(chance.choice([0, 1, 2, 5, 20, 1000, (1 << 64) - 1]))]
     elif command in TELL:
-        words += ["--cut", str(chance.choice([0, 1, 2, 5, 20, 65536, (1 << 64) - 1])), "--choice", chance.choice(CHOICES)]
-    if command in RUNS:
-        for place in range(chance.choice([1, 1, 1, 2, 8, 9])):
-            files[f"p{place}"] = damaged(chance, stock.programs)
-            words.append(f"p{place}")
-    return words + options_of(chance, command), files
+        told = ["--cut", str(chance.choice([0, 1, 2, 5, 20, 65536, (1 << 64) - 1])), "--choice", chance.choice(CHOICES)]
+    words = [command, *files, *told, *options_of(chance, command)]
+    if "base" in words:
+        files["base"] = chance.randbytes(chance.choice([0, 1, SECTOR, 3 * SECTOR, 9 * SECTOR]))
+    return words, files
 
 
 def wrong(words, done, most):
@@ -203,7 +229,7 @@ def wrong(words, done, most):
         return "not enough memory"
     if done.memory > most:
         return f"{done.memory >> 20} MiB of memory"
-    if done.returncode not in (0, 1, 2) or done.returncode == 1 and words[0] not in RUNS:
+    if done.returncode not in (0, 1, 2) or done.returncode == 1 and words[0] not in MAY_FAIL:
         return f"status {done.returncode}"
     if done.returncode == 2 and (done.stdout or not error.endswith(b"\n")):
         return f"status 2 with {len(done.stdout)} bytes, standard error '{shortened(done.stderr)}'"
@@ -215,59 +241,55 @@ def wrong(words, done, most):
 class Done:
     """How a run ended: its status, its outputs, and the most memory that it had, in bytes."""
 
-    def __init__(self, folder, ended):
-        _pid, status, used = ended
-        self.returncode = os.waitstatus_to_exitcode(status)
+    def __init__(self, folder, returncode, memory):
+        self.returncode, self.memory = returncode, memory
         self.stdout, self.stderr = Path(folder, "stdout").read_bytes(), Path(folder, "stderr").read_bytes()
-        self.memory = used.ru_maxrss << 10
 
 
-def run_one(program, stock, seed, number, folder):
-    """The words of the run of that number, and what isn't as expected of it, or None."""
-    words, files = made_run(stock, seed, number)
-    for name, content in files.items():
-        Path(folder, name).write_bytes(content)
-    with open(Path(folder, "stdout"), "wb") as out, open(Path(folder, "stderr"), "wb") as error:
-        started = subprocess.Popen([program, *words], cwd=folder, stdin=subprocess.DEVNULL, stdout=out, stderr=error)
-    late = threading.Timer(LIMIT, started.kill)
-    late.start()
-    done = Done(folder, os.wait4(started.pid, 0))
-    started.returncode = done.returncode
-    late.cancel()
-    cache = int(words[words.index("--cache") + 1]) if "--cache" in words else 0
-    return words, wrong(words, done, len(files.get("log", b"")) + MEMORY + ENTRY * min(cache, 65536))
+class Soak:
+    """Runs of the program on damaged inputs, started by a process of its own (measured.py)."""
 
+    def __init__(self, program, stock, seed):
+        self.program, self.stock, self.seed = program, stock, seed
+        command = [sys.executable, "-S", str(TOP / "tests/measured.py")]
+        self.starter = subprocess.Popen(command, stdin=subprocess.PIPE, stdout=subprocess.PIPE, text=True)
 
-def soaked(program, stock, seed, numbers):
-    """The runs of these numbers that weren't as expected."""
-    found = []
-    for number in numbers:
-        with tempfile.TemporaryDirectory() as folder:
-            words, what = run_one(program, stock, seed, number, folder)
-        if what:
-            found.append(f"FAILED run {number}, {' '.join(words)}: {what}")
-    return found
+    def run(self, number, folder):
+        """The words of the run of that number, and what isn't as expected of it, or None."""
+        words, files = made_run(self.stock, self.seed, number)
+        for name, content in files.items():
+            Path(folder, name).write_bytes(content)
+        self.starter.stdin.write(json.dumps([str(folder), [self.program, *words], LIMIT]) + "\n")
+        self.starter.stdin.flush()
+        done = Done(folder, *json.loads(self.starter.stdout.readline()))
+        cache = int(words[words.index("--cache") + 1]) if "--cache" in words else 0
+        return words, wrong(words, done, 2 * sum(map(len, files.values())) + MEMORY + ENTRY * min(cache, 65536))
+
+    def run_all(self, numbers):
+        """The runs of these numbers that weren't as expected."""
+        found = []
+        for number in numbers:
+            with tempfile.TemporaryDirectory() as folder:
+                words, what = self.run(number, folder)
+            if what:
+                found.append(f"FAILED run {number}, {' '.join(words)}: {what}")
+        return found
 
 
 def main():
-    parser = argparse.ArgumentParser(description="Runs the program on damaged inputs.")
-    parser.add_argument("--runs", type=int, default=100000)
-    parser.add_argument("--seed", type=int, default=1)
-    parser.add_argument("--only", type=int)
-    parser.add_argument("program", nargs="?", default=str(TOP / "crates/crashbpf/out/crashbpf"))
-    asked = parser.parse_args()
+    asked = options("Runs the program on damaged inputs.", 100_000).parse_args()
     program = str(Path(asked.program).resolve())
     stock = Stock(program)
     if asked.only is not None:
-        folder = Path("soak")
+        folder = Path("soak").resolve()
         folder.mkdir(exist_ok=True)
-        words, what = run_one(program, stock, asked.seed, asked.only, folder)
+        words, what = Soak(program, stock, asked.seed).run(asked.only, folder)
         print(" ".join(words), what or "as expected")
         return 0
-    workers = os.cpu_count()
+    workers = len(os.sched_getaffinity(0))
     parts = [range(first, asked.runs, workers) for first in range(workers)]
     with ThreadPoolExecutor(workers) as pool:
-        found = [line for part in pool.map(lambda part: soaked(program, stock, asked.seed, part), parts) for line in part]
+        found = [line for part in pool.map(lambda part: Soak(program, stock, asked.seed).run_all(part), parts) for line in part]
     print("\n".join(found + [f"{asked.runs - len(found)} passed, {len(found)} failed"]))
     return 1 if found else 0
 

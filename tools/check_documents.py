@@ -4,7 +4,8 @@
     tools/check_documents.py [TOP]
     tools/check_documents.py --long [TOP]
 
-The documents are the files *.md at the top (the folder above this one, or TOP) and in docs/, examples/ and bench/.
+The documents are the files *.md at the top (the folder above this one, or TOP), in docs/ and bench/, and in examples/ and its
+folders.
 
 - A link leads to a file that exists and, with #, to a heading in it.
 - A document that is named by its file, as docs/MAP.md or MAP.md, exists. This is asked of the crates' sources and
@@ -135,7 +136,7 @@ def long_sentences(lines, limit):
 
 def documents(top):
     """Returns the documents that people read: those at the top and in docs/, and the pages of the examples."""
-    return [it for folder in (top, top / "docs", top / "examples") for it in sorted(folder.glob("*.md"))]
+    return [it for pattern in ("*.md", "docs/*.md", "examples/*.md", "examples/*/*.md") for it in sorted(top.glob(pattern))]
 
 
 def clauses_by_function(texts):
@@ -225,7 +226,7 @@ def findings(top):
         count = sum(1 for path in documents(top) for _ in long_sentences(prose(path.read_text()), limit))
         if count > allowed:
             yield top / "docs", 1, f"{count} sentences have more than {limit} words, and at most {allowed} are allowed (--long shows them)"
-    for path in sorted(it for folder in ("", "docs", "examples", "bench") for it in (top / folder).glob("*.md")):
+    for path in sorted([*documents(top), *top.glob("bench/*.md")]):
         lines = prose(path.read_text())
         if path == top / "README.md":
             yield from ((path, number, it) for number, it in too_long(path.read_text()))

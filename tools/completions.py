@@ -202,6 +202,8 @@ def files(page):
 
 
 def main(words):
+    if words and words[0].startswith("-"):
+        sys.exit(__doc__)
     folder = Path(words[0]) if words else TOP / "docs/completions"
     folder.mkdir(parents=True, exist_ok=True)
     for name, text in files((TOP / "docs/crashbpf.1").read_text()).items():

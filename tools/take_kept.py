@@ -31,18 +31,22 @@ def take(rt, crate, kept):
     return is_there
 
 
+def take_all(rt, wanted):
+    """Takes the libraries of these names, and returns the names of those that weren't kept."""
+    rt.Crate.allowed = rt.handles_of(os.getcwd())
+    order = [it for it in rt.crates_of(os.getcwd()) if it.name in wanted]
+    kept = rt.Kept(order)
+    return [it.name for it in order if not take(rt, it, kept)]
+
+
 def main(names):
     if not names or names[0].startswith("-"):
         sys.exit(__doc__)
     rt = kit.load()
-    rt.Crate.allowed = rt.handles_of(os.getcwd())
-    crates = {it.name: it for it in rt.crates_of(os.getcwd())}
-    wanted = {below for name in names for below in crates[name].below()}
-    order = [it for it in crates.values() if it in wanted]
     if not hasattr(rt, "Kept"):
         sys.exit("this kit keeps nothing between checkouts")
-    kept = rt.Kept(order)
-    lacking = [it.name for it in order if not take(rt, it, kept)]
+    crates = {it.name: it for it in rt.crates_of(os.getcwd())}
+    lacking = take_all(rt, {below.name for name in names for below in crates[name].below()})
     print(f"not kept: {' '.join(lacking) or 'none'}")
 
 

@@ -6,7 +6,7 @@ complete -c crashbpf -n __fish_use_subcommand -a cure -d 'Tells before which ent
 complete -c crashbpf -n __fish_use_subcommand -a page -d 'Shows the log and the failing cuts as a page for a browser'
 complete -c crashbpf -n __fish_use_subcommand -a images -d 'Tells how many crash images each cut of a log has'
 complete -c crashbpf -n __fish_use_subcommand -a image -d 'Writes the bytes of one crash image, sector after sector'
-complete -c crashbpf -n __fish_use_subcommand -a show -d 'Tells one crash image in words: its cut, what departed, and which bytes differ'
+complete -c crashbpf -n __fish_use_subcommand -a show -d 'Tells one crash image in words: its cut, what was lost or torn, and which bytes differ'
 complete -c crashbpf -n __fish_use_subcommand -a log -d 'Prints the entries of a log'
 complete -c crashbpf -n __fish_use_subcommand -a import -d 'Makes a log of one with sectors of 512 or 4,096 bytes'
 complete -c crashbpf -n __fish_use_subcommand -a verify -d 'Says with which budget of steps the verifier accepts a program'

@@ -8,7 +8,8 @@ from pathlib import Path
 from program import SLOT, NoProgram
 
 CC = Path(__file__).resolve().parent
-HEADERS = ["-I", CC.parent, "-isystem", CC / "include"]
+# checker.h is found from anywhere. So is "../checker.h", as seen from the folder of this file: an example may be copied.
+HEADERS = ["-I", CC.parent, "-I", CC, "-isystem", CC / "include"]
 
 
 # A loop over bytes isn't made a call of the library, and indices stay as they are written.
@@ -29,7 +30,7 @@ def hints_for(said):
     """What helps where the compiler itself refuses."""
     if "redefinition of" in said:
         yield "a file may hold several checkers, each with a name of its own"
-    if re.search(r"fatal error: .*(file not found|No such file)", said):
+    if re.search(r"error: .*(file not found|No such file)", said):
         yield 'checker.h is found from anywhere: #include "checker.h"'
     if re.search(r"unknown type name .u(8|16|32|64)\b", said):
         yield 'a checker begins with #include "checker.h"'

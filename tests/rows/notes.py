@@ -494,6 +494,7 @@ def answered(name, words, content, out, *notes):
 
 
 UNREACHED = "is the checker the first function of its file?"
+LOOKS_AT_NOTHING = "looks at no sector that an entry writes, so no crash makes it fail"
 NOT_AMONG = "none is ever dropped as a whole"
 BY_WRITE = "with --by write each may be dropped as a whole"
 NO_LARGE = lines("""
@@ -549,8 +550,15 @@ ANSWERS = [
         EXPLORED,
         f"program 0: instructions that no run reaches: 2, the first at slot 2; {UNREACHED}",
         f"program 2: instructions that no run reaches: 2, the first at slot 2; {UNREACHED}",
+        *(f"program {number}: {LOOKS_AT_NOTHING}" for number in range(3)),
     ),
-    answered("nothing of a program that isn't verified", "explore log p0 --sectors 4 --bound 0 --checked 7", files(LOG, UNREACHED_ONE), EXPLORED_CHECKED),
+    answered(
+        "what isn't reached is not said of a program that isn't verified",
+        "explore log p0 --sectors 4 --bound 0 --checked 7",
+        files(LOG, UNREACHED_ONE),
+        EXPLORED_CHECKED,
+        f"program 0: {LOOKS_AT_NOTHING}",
+    ),
     answered("nothing to say of a log", "images log --sectors 4", files([W(0, 1, 1), F, W(0, 4, 1, FUA)]), NO_LARGE),
     answered(
         "writes of more sectors than the bound",

@@ -39,8 +39,8 @@ const ABOUT: &str =
 const AFTER: &str = "Without a word the program explores an empty log with a program of its own.
 
 A log has at most 64 MiB, 65,536 entries and 262,144 written or discarded sectors; a device 16,384
-sectors of 512 bytes; a program 4,096 slots; a run 8 programs and 16,777,216 images. With --large a
-log has at most 192 MiB, and a device 1,048,576 sectors.
+sectors of 512 bytes; a program 4,096 slots; a run 8 programs and 16,777,216 images, and in parts
+more. With --large a log has at most 192 MiB, and a device 1,048,576 sectors.
 
 Exit status: 0 where the command succeeded and no image fails, 1 where an image fails, 2 for a
 refusal (a line on standard error, as 'refused 12 at 3'), a fault of the command line, or a standard
@@ -453,7 +453,9 @@ fn image_command<'a>(alloc: Global) -> Result<Command<'a>, AllocError> {
 fn show_command<'a>(alloc: Global) -> Result<Command<'a>, AllocError> {
     Ok(
         named_command(alloc, "show")?
-            .about("Tells one crash image in words: its cut, what departed, and which bytes differ")
+            .about(
+                "Tells one crash image in words: its cut, what was lost or torn, and which bytes differ",
+            )
             .after_help(AFTER_SHOW),
     )
 }

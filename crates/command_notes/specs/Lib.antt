@@ -2,3 +2,4 @@
 pub mod Unreached
 pub mod Large
 pub mod Breach
+pub mod Blind

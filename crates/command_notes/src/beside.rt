@@ -1,5 +1,6 @@
 //! The notes beside an answer.
 
+use crate::blind::put_blind;
 use crate::large::put_large;
 use crate::unreached::put_unreached;
 use command_line::Words;
@@ -9,12 +10,13 @@ use notes::put_note;
 use request::{OptionWords, Request};
 use std::alloc::{AllocError, Global};
 
-/// Appends what no run reaches of the programs that were verified for a run, by their numbers.
+/// Appends what no run reaches of the programs that were verified for a run, by their numbers, and which pass without looking at what
+/// the log writes.
 fn put_explored_notes(out: &mut String, facts: &Facts) -> Result<(), AllocError> {
     for (number, found) in facts.unreached.iter().enumerate() {
         put_unreached(out, Some(number as u8), *found)?;
     }
-    Ok(())
+    put_blind(out, facts.blind.as_slice())
 }
 
 /// Appends how many writes of a log have more sectors than may depart, where sectors depart.
@@ -32,8 +34,8 @@ fn put_survey_notes(
 }
 
 /// The notes beside the answer of a command that succeeded, by what it found: what no run of a program reaches (`verify`, `check`
-/// and the commands of a run), and how many writes never depart as a whole (`images` and those commands, by sector). Each line
-/// begins with `note: `; mostly there is none.
+/// and the commands of a run), which programs pass without looking at what the log writes (`explore`, `why` and `page`), and how many
+/// writes never depart as a whole (`images` and the commands of a run, by sector). Each line begins with `note: `; mostly there is none.
 pub fn notes_beside(alloc: Global, words: &Words, facts: &Facts) -> Result<String, AllocError> {
     let mut out = String::new(alloc);
     match words.request() {

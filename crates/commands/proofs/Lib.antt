@@ -15,3 +15,10 @@ pub mod OneAnswer
 pub mod OneWork
 pub mod OneRefusal
 pub mod Differences
+pub mod Computed
+pub mod Holding
+pub mod Ending
+pub mod HeadLines
+pub mod RunOf
+pub mod PartsJoined
+pub mod Printed

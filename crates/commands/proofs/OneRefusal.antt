@@ -53,7 +53,6 @@ use Rattle.trial.specs.Image.{sectors_of}
 use Rattle.trial.specs.Trial as trials
 use Rattle.trial.specs.Trial.{IsTried, RefusesLimit, RefusesTrial}
 use Rattle.commands.specs.Acting.{AnswersTrial, RefusesCheck, for_trial_words, for_program_file, for_image_file, for_trial}
-use Rattle.base.specs.declared.causes.JoinCause.TheVariants as joining
 use Rattle.commands.specs.Acting.{AnswersJoin, JoinsTexts, RefusesTexts, for_texts, RefusesParts, for_no_part, for_many_parts, for_unread_part, for_parts, for_part_memory}
 use Rattle.commands.specs.Laws.{IsOfMemory}
 use Rattle.commands.proofs.OneJoin.{joined_or_refused}

@@ -6,3 +6,4 @@ pub mod Once
 pub mod Laws
 pub mod OneAnswer
 pub mod Differences
+pub mod Parts

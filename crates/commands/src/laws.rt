@@ -6,6 +6,7 @@ ghost use Rattle.commands.specs.Differences.{ShowNamesDifferences};
 ghost use Rattle.commands.specs.Laws.{OneReport, ReportOrRefusal};
 ghost use Rattle.commands.specs.OneAnswer.{OneAnswer, AnswerOrRefusal, WorkChangesNothing};
 ghost use Rattle.commands.specs.Once.{EachImageStandsOnce};
+ghost use Rattle.commands.specs.Parts.{JoinIsExplore, JoinedPartsAreRun, PartsOfRunAreJoined};
 
 use bpf_isa::laws::{no_fault_in_spelled, one_program};
 use choices::list_is_set;
@@ -88,4 +89,34 @@ pub fn each_image_stands_once()
     list_is_set();
     each_stands_once();
     all_stand();
+}
+
+/// The texts that `explore --images` answers for parts of a run, joined, are what the run answers for these images, where each of them
+/// is in one part and no other image is in any: the report of all images, or the text of the part that they make. Whether an image
+/// fails is told alike.
+pub fn joined_parts_are_run()
+    ensures { JoinedPartsAreRun }
+{
+    text_of_one_log();
+    one_program();
+    one_verdict();
+}
+
+/// `join` refuses such texts for their length or for want of memory alone.
+pub fn parts_of_run_are_joined()
+    ensures { PartsOfRunAreJoined }
+{
+    text_of_one_log();
+    one_program();
+    one_verdict();
+}
+
+/// Of files with what `explore --images` prints for parts of a run, which have each of its images once, `join` prints what `explore`
+/// prints of the whole run, with the same status.
+pub fn join_is_explore()
+    ensures { JoinIsExplore }
+{
+    text_of_one_log();
+    one_program();
+    one_verdict();
 }

@@ -26,7 +26,7 @@
 //! - `stored`: the run that the program holds itself.
 //! - `laws`: that there is one answer at most to what is asked, and no refusal beside it but for memory; that workers, cache
 //!   and progress change nothing of it; that `show` names each sector that differs; that each failing image stands once in what
-//!   `why` says.
+//!   `why` says; that the parts of a run, joined, are what the run answers.
 //! - `writing`: `emit`, which writes all of an answer to an `Output`, a writer that is asked no more once a write has failed.
 //! - `progress`: the gate that says on standard error how far an exploration is.
 //!
@@ -43,9 +43,12 @@
 //! `one_report`, `report_or_refusal`). Words that differ in the number of workers, the size of the cache and the line of
 //! progress alone have the same answer (`work_changes_nothing`). `show` names each sector in which an image differs from the
 //! image of its cut where nothing departs, and where it names none the two are the same (`show_names_differences`). Each image
-//! on which a program fails, by the lines of the report, stands once in what `why` says (`each_image_stands_once`). `emit`
-//! writes all bytes, or says how many were written before the writer failed. What a run reports, and what the other commands
-//! show, stands on the pages of `runs` and `looks`.
+//! on which a program fails, by the lines of the report, stands once in what `why` says (`each_image_stands_once`). The texts
+//! that a run answers for its parts, which have each image of a range once, come to what it answers for that range
+//! (`joined_parts_are_run`), and are refused for their length or want of memory alone (`parts_of_run_are_joined`). So `join`
+//! prints of such files what `explore` prints of the whole run, with the same status (`join_is_explore`). `emit` writes all
+//! bytes, or says how many were written before the writer failed. What a run reports, and what the other commands show, stands
+//! on the pages of `runs` and `looks`.
 //!
 //! # Example
 //!
@@ -74,8 +77,9 @@ pub use epochs::{By, CutKind, Cuts, Flushes};
 pub use exit::{Exit, perform};
 pub use facts::{Facts, Recording};
 pub use laws::{
-    answer_or_refusal, each_image_stands_once, one_answer, one_report, report_or_refusal,
-    show_names_differences, work_changes_nothing,
+    answer_or_refusal, each_image_stands_once, join_is_explore, joined_parts_are_run, one_answer,
+    one_report, parts_of_run_are_joined, report_or_refusal, show_names_differences,
+    work_changes_nothing,
 };
 pub use looks::{choices_are_short, image, report_prints_choices, show, survey};
 pub use progress::Progress;

@@ -21,6 +21,7 @@ pub record IsEmpty (facts : Facts) : Type 0 where
   pub fewer : facts.fewer ≡ None
   pub unreached : facts.unreached.items ≡ []
   pub breach : facts.breach ≡ None
+  pub blind : facts.blind.items ≡ []
 
 -- what no run reaches of a program that is accepted for devices of that many sectors
 pub record IsUnreached (program : List (Option Instr)) (sectors : ℕ) (found : Option Unreached) : Type 0 where
@@ -57,8 +58,10 @@ pub record IsBreach (program : List (Option Instr)) (sectors : ℕ) (f : Fault) 
 pub record KeepsPrograms (old new : Facts) : Type 0 where
   pub unreached : new.unreached.items ≡ old.unreached.items
   pub breach : new.breach ≡ old.breach
+  pub blind : new.blind.items ≡ old.blind.items
 
--- what was found of the log stays
+-- what was found of the log stays, and which programs are blind to it
 pub record KeepsLog (old new : Facts) : Type 0 where
   pub large : new.large ≡ old.large
   pub fewer : new.fewer ≡ old.fewer
+  pub blind : new.blind.items ≡ old.blind.items

@@ -40,6 +40,8 @@ pub struct Facts {
     pub unreached: ArrayVec<Option<Unreached>, 8>,
     /// Where the verifier refuses a program.
     pub breach: Option<Breach>,
+    /// Of each program of a run that is told of, one after the other, whether it passes without looking at what the log writes.
+    pub blind: ArrayVec<bool, 8>,
 }
 
 impl Facts {
@@ -52,6 +54,7 @@ impl Facts {
             fewer: None,
             unreached: ArrayVec::new(),
             breach: None,
+            blind: ArrayVec::new(),
         }
     }
 

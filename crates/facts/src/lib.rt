@@ -15,6 +15,8 @@
 //! | `facts.accept(verified)` | finds what no run reaches of an accepted program |
 //! | `facts.refuse(program, unaccepted)` | finds the instruction at which the verifier refuses a program, and what is known there |
 //!
+//! Which programs pass without looking at what a log writes is found by `runs`, which puts it into `facts.blind`.
+//!
 //! # What is proved
 //!
 //! What `Facts` holds is exactly what the definitions of `specs/Found.antt` and `specs/Fewer.antt` say of this log, with these

@@ -12,3 +12,4 @@ pub mod Pages
 pub mod Tried
 pub mod Leading
 pub mod Finding
+pub mod Unseeing

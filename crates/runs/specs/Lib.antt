@@ -3,6 +3,7 @@ pub mod Programs
 pub mod Judged
 pub mod Inputs
 pub mod Explore
+pub mod Blind
 pub mod Paged
 pub mod Why
 pub mod Marked

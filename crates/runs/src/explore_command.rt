@@ -14,6 +14,7 @@ ghost use Rattle.runs.specs.Judged.{takes, IsJudged};
 ghost use Rattle.runs.specs.declared.explore_command.Wanted.TheVariants as wants;
 ghost use Rattle.request.specs.declared.settings.Telling.TheVariants as tells;
 ghost use Rattle.runs.specs.Why.{with_first, first_asked, IsExplained, IsPaged};
+ghost use Rattle.runs.specs.Blind.{is_blind, FindsBlind};
 ghost use Rattle.runs.specs.Cured.{IsAnswered};
 ghost use Rattle.runs.specs.Tasks.{lines_of, telling_in, TellsTask};
 ghost use Rattle.runs.specs.Found.{AreFound};
@@ -23,12 +24,14 @@ ghost use Rattle.facts.specs.Found.{KeepsLog};
 ghost use Rattle.runs.specs.Programs.{IsRunWithin, IsCodeFault, IsUnaccepted, code_refusal, verifier_refusal, AreDecoded, AreFirstMade, RefusesOneOf};
 
 use crate::basis::{Basis, judge_images};
+use crate::blind::find_blind;
 use crate::causes::causes_text;
 use crate::curing::{Judges, cured_log};
 use crate::inputs::number_told;
 use crate::paging::page_bytes;
 use crate::reading::Reading;
 use crate::task::{Findings, Task};
+use arrayvec::ArrayVec;
 use base::refusal::{Cause, Refusal};
 use bpf_isa::codec::decode;
 use bpf_isa::program::{CodeFault, Program};
@@ -356,17 +359,21 @@ fn is_first_asked(telling: Telling, options: &Options) -> bool
     }
 }
 
-/// Judges the crash images of a task, and tells of those that fail.
+/// Judges the crash images of a task, and tells of those that fail. It is found which programs pass without looking at what the log
+/// writes.
 fn judge_task<'x, G: Gate + Sync, R: Threads + Wait + Sync>(
     rt: &R,
     alloc: Global,
     gate: &G,
     telling: Telling,
     task: &'x Task<'x>,
+    blind: &mut ArrayVec<bool, 8>,
 ) -> Result<Explored, Refusal>
     requires checkers { length task.now.checkers.now ≤ 8 }
     requires verified { AreFor task.now.options.now.sectors task.now.checkers.now }
+    requires fresh { blind.old.items ≡ [] }
     ensures bytes { IfOk result (λ e. TellsTask telling task.now e.bytes.items) }
+    ensures blind { IfOk result (λ _. blind.new.items ≡ map (is_blind task.now.plan.now) task.now.checkers.now) }
     ensures failing { IfOk result (λ e. IsTrue e.failing ↔ (lines_of task.now ≢ [])) }
     ensures refused { IfErr result (RefusesPlan task.now.options.now task.now.log.now) }
 {
@@ -387,6 +394,7 @@ fn judge_task<'x, G: Gate + Sync, R: Threads + Wait + Sync>(
     };
     let first = is_first_asked(telling, options);
     let work = judge_images(rt, alloc, gate, &basis, first)?;
+    find_blind(alloc, &basis, blind)?;
     let findings = Findings {
         task: &*task,
         starts: &starts,
@@ -452,6 +460,7 @@ fn make_run<G: Gate + Sync, R: Threads + Wait + Sync>(
     ensures told { IfOk result (λ e. IsAnswered question.now.wanted question.now.recording.now (map (λ f. f.items) question.now.programs.now) question.now.options.now e.bytes.items e.failing) }
     ensures refused { IfErr result (Refuses question.now.recording.now (map (λ f. f.items) question.now.programs.now) question.now.options.now) }
     ensures found { IfOk result (λ _. FindsAll question.now.recording.now (map (λ f. f.items) question.now.programs.now) question.now.options.now facts.new) }
+    ensures blind { IfOk result (λ _. FindsBlind question.now.wanted question.now.recording.now (map (λ f. f.items) question.now.programs.now) question.now.options.now facts.new.blind.items) }
     ensures breach { IfErr result (λ r. IfSome facts.new.breach (FindsBreach question.now.options.now.sectors (map (λ f. f.items) question.now.programs.now) r)) }
     ensures fewer { IfSome facts.new.fewer (FindsFewer question.now.recording.now question.now.options.now) }
 {
@@ -479,7 +488,7 @@ fn make_run<G: Gate + Sync, R: Threads + Wait + Sync>(
                 options,
                 span: span_of(question, images),
             };
-            judge_task(rt, alloc, gate, telling, &task)
+            judge_task(rt, alloc, gate, telling, &task, &mut facts.blind)
         }
         Wanted::Cured => {
             // The log is changed from run to run.
@@ -510,6 +519,7 @@ pub fn run_with<G: Gate + Sync, R: Threads + Wait + Sync>(
     ensures told { IfOk result (λ e. IsAnswered question.now.wanted question.now.recording.now (map (λ f. f.items) question.now.programs.now) question.now.options.now e.bytes.items e.failing) }
     ensures refused { IfErr result (RefusesWanted question.now.wanted question.now.recording.now (map (λ f. f.items) question.now.programs.now) question.now.options.now) }
     ensures found { IfOk result (λ _. FindsAll question.now.recording.now (map (λ f. f.items) question.now.programs.now) question.now.options.now facts.new) }
+    ensures blind { IfOk result (λ _. FindsBlind question.now.wanted question.now.recording.now (map (λ f. f.items) question.now.programs.now) question.now.options.now facts.new.blind.items) }
     ensures breach { IfErr result (λ r. IfSome facts.new.breach (FindsBreach question.now.options.now.sectors (map (λ f. f.items) question.now.programs.now) r)) }
     ensures fewer { IfSome facts.new.fewer (FindsFewer question.now.recording.now question.now.options.now) }
 {

@@ -16,6 +16,7 @@
 //! | `page(rt, alloc, gate, recording, programs, options)` | the same run as a page for a browser (`paging.rt`) |
 //! | `run_with(rt, alloc, gate, question, facts)` | one of the four, by what is wanted |
 //! | `cure_run(rt, alloc, gate, question, facts)` | where flushes are missing, and what is left with them, run by run (`curing.rt`) |
+//! | `blind_programs_pass()` | a law, by a function that does nothing: what it means that a program is blind (`blind.rt`) |
 //!
 //! # What is proved
 //!
@@ -40,6 +41,11 @@
 //! What `run_with` and `cure_run` find for the notes is that of `specs/Finds.antt`: of the log how many entries no image loses as a
 //! whole, of each program that is verified what no run reaches, and of a refused one the instruction and what is known there.
 //!
+//! Where failing images are told, `run_with` also finds which programs are blind (`specs/Blind.antt`): at each wanted cut, run on the
+//! image in which nothing is lost or torn, they answer 0 and look at no sector that an entry covers. A flag of each program says it,
+//! exactly. The law `blind_programs_pass` says what it means: such a program comes to the same on each image of a cut, and no
+//! failing line is of it.
+//!
 //! A run has one program to eight, one worker to 64, and a cache of up to 65,536 outcomes. The bytes and
 //! the refusals are the same for every number of workers and every size of the cache.
 //!
@@ -58,10 +64,12 @@
 #![tactic(auto)]
 
 mod basis;
+mod blind;
 mod causes;
 mod curing;
 mod explore_command;
 mod inputs;
+mod laws;
 mod missing;
 mod paging;
 mod reading;
@@ -69,3 +77,4 @@ mod task;
 
 pub use curing::cure_run;
 pub use explore_command::{Explored, Question, Wanted, explore, explore_with, page, run_with, why};
+pub use laws::blind_programs_pass;

@@ -41,5 +41,6 @@ loop-number-preserved c =
       record {
         large = c.in_ok-checker.ensures.others.large ∙ before.3.large;
         fewer = c.in_ok-checker.ensures.others.fewer ∙ before.3.fewer;
+        blind = c.in_ok-checker.ensures.others.blind ∙ before.3.blind;
       },
     )

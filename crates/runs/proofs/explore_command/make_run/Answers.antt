@@ -1,8 +1,10 @@
-use Rattle.std.proofs.Common.{ℕ, ◌≡◌, true, ◌∙◌, sym, subst}
+use Rattle.std.proofs.Common.{ℕ, ◌≡◌, true, ◌∙◌, sym, ap, map, subst}
 use Rattle.std.proofs.lemmas.Bool.{false≢true}
 use Rattle.std.proofs.lemmas.Result.{err_from_is_err_and}
+use Rattle.epochs.specs.Plan.{PlanValue}
 use Rattle.request.specs.Source.{for_plan}
 use Rattle.runs.specs.declared.explore_command.Wanted.TheVariants as wanted
+use Rattle.runs.specs.Blind.{is_blind}
 use Rattle.runs.specs.Cured.{TellsWanted}
 use Rattle.runs.specs.Explore.{for_count, for_source, for_program, no_list_memory}
 use Rattle.runs.specs.Inputs.{inputs_number}
@@ -16,6 +18,7 @@ use Rattle.runs.proofs.Fitting.{made_fit}
 use Rattle.request.proofs.Logs.{bounds_of, device_of, has_images}
 use Rattle.request.proofs.Results.{both_ok, one_err}
 use Rattle.runs.proofs.Runs.{of_log, run_of}
+use Rattle.runs.proofs.Unseeing.{found_blind}
 use Rattle.runs.proofs.explore_command.make_run.Goals as goal
 
 pub returns-then-not-is_program_count-clause-refused : goal.returns-then-not-is_program_count-clause-refused
@@ -95,6 +98,18 @@ returns-in-Told-clause-told g c =
     (told_by_number c.in-Told.telling _ c.span_of.result.inputs c.args.question.now.options.now c.in_ok-log.log c.as_slice-made.result.now e.bytes.items c.span_of.ensures.number bytes)
     failing))
 
+pub returns-in-Told-clause-blind : goal.returns-in-Told-clause-blind
+returns-in-Told-clause-blind g c =
+    rw c.in-Told.is
+    (both_ok c.judge_task.result _ _ _ c.judge_task.ensures.blind c.judge_task.ensures.blind
+    (λ e blind again.
+    found_blind (wanted.Told c.in-Told.telling) _ _ c.args.question.now.options.now c.in_ok-log.log c.in_ok-checkers.checkers.items c.as_slice-made.result.now _
+    (has_images _ _ _ _ c.in_ok-log.ensures.log c.in_ok-plan.ensures.count c.in_ok-plan.ensures.few c.in_ok-plan.ensures.within)
+    (checkers_decoded _ _ _ c.as_slice.result.now _ _ c.as_slice.ensures.value c.in_ok-decoded.ensures.decoded c.in_default.not-Some
+    c.in_ok-checkers.ensures.made c.in_ok-checkers.ensures.all)
+    c.as_slice-made.ensures.value
+    (blind ∙ ap (λ (p : PlanValue). map (is_blind p) c.as_slice-made.result.now) c.in_ok-plan.ensures.plan)))
+
 pub returns-in-Told-clause-refused : goal.returns-in-Told-clause-refused
 returns-in-Told-clause-refused g c =
     one_err c.judge_task.result _ _ c.judge_task.ensures.refused
@@ -132,6 +147,18 @@ returns-in-Cured-clause-told g c =
     (checkers_decoded _ _ _ c.as_slice.result.now _ _ c.as_slice.ensures.value c.in_ok-decoded.ensures.decoded c.in_default.not-Some
     c.in_ok-checkers.ensures.made c.in_ok-checkers.ensures.all)
     c.as_slice-made.ensures.value bytes failing))
+
+pub returns-in-Cured-clause-blind : goal.returns-in-Cured-clause-blind
+returns-in-Cured-clause-blind g c =
+    rw c.in-Cured.is
+    (both_ok c.cured_log.result _ _ _ c.cured_log.ensures.bytes c.cured_log.ensures.failing
+    (λ e bytes failing.
+    found_blind wanted.Cured _ _ c.args.question.now.options.now c.in_ok-log.log c.in_ok-checkers.checkers.items c.as_slice-made.result.now _
+    (has_images _ _ _ _ c.in_ok-log.ensures.log c.in_ok-plan.ensures.count c.in_ok-plan.ensures.few c.in_ok-plan.ensures.within)
+    (checkers_decoded _ _ _ c.as_slice.result.now _ _ c.as_slice.ensures.value c.in_ok-decoded.ensures.decoded c.in_default.not-Some
+    c.in_ok-checkers.ensures.made c.in_ok-checkers.ensures.all)
+    c.as_slice-made.ensures.value
+    (c.in_ok-checkers.ensures.others.blind ∙ c.in_ok-plan.ensures.others.blind ∙ c.in_ok-log.ensures.others.blind ∙ c.new.ensures.blind)))
 
 pub returns-in-Cured-clause-refused : goal.returns-in-Cured-clause-refused
 returns-in-Cured-clause-refused g c =

@@ -1,0 +1,260 @@
+-- The endings of programs are words: answers, codes and slots.
+use Rattle.std.proofs.Common.{◌≡◌, ◌<◌, ℕ, zero, suc, ◌+◌, ◌-◌, ◌^◌, nat_lt, Bool, true, false, if◌then◌else◌, List, [], ◌∷◌, ◌++◌, length, Option, None, Some, refl, arith}
+use Rattle.std.specs.Option.{option_map_or}
+use Rattle.std.specs.Int.{cast_unsigned, w32, w64}
+use Rattle.std.proofs.lemmas.Bool.Decides.{nat_tests}
+use Rattle.std.proofs.lemmas.List.Elements.{All-from_recursion}
+use Rattle.base.specs.Check.{Check, check, first_failing}
+use Rattle.base.specs.Numbers.{number_bytes}
+use Rattle.base.specs.declared.causes.MachineFault.{MachineFault}
+use Rattle.base.specs.declared.causes.MachineFault.TheVariants as fault
+use Rattle.bpf_isa.specs.declared.instr.Instr.{Instr}
+use Rattle.bpf_isa.specs.declared.instr.Instr.TheVariants as instr
+use Rattle.bpf_isa.specs.declared.instr.Operator.TheVariants as op
+use Rattle.bpf_isa.specs.Program.{IsProgram}
+use Rattle.bpf_isa.specs.Spelling.{IsInRange}
+use Rattle.bpf_isa.specs.Slots.{at, target_slot}
+use Rattle.helpers.specs.declared.device.Context.{Context}
+use Rattle.helpers.specs.declared.helper.Helper.{Helper}
+use Rattle.helpers.specs.declared.helper.Helper.TheVariants as helper
+use Rattle.helpers.specs.Helper.{helper_of}
+use Rattle.helpers.specs.Answers.{sector_answer, device_bytes, copy_answer, again_answer, report_answer, codes_after, zero_answer, mix_answer, same_answer}
+use Rattle.machine.specs.Arithmetic.{arithmetic, sign_extension, in_order, holds}
+use Rattle.machine.specs.State.{State, Caller, word, start, stack_end, unset_stack}
+use Rattle.machine.specs.Memory.{context_bytes, byte_at, byte_count, plain_size, extension_of, number_from, frames_with}
+use Rattle.machine.specs.Step.{Stepped, Next, Done, Fault, second, address, branch_slot, goes_on, caller_of, turns_here, count_turn, answer_step, saved_caller, enter_function, exit_frame, call_effect, checks, effect, step_of, step}
+use Rattle.machine.specs.Step as machine
+use Rattle.machine.specs.Outcome.{Verdict, after, steps_end, outcome}
+use Rattle.soundness.specs.Accepted.{IsImage}
+use Rattle.soundness.proofs.Loads.{small_number}
+use Rattle.soundness.proofs.Programs.{range_at}
+use Rattle.join.specs.Printable.{IsWithin}
+use Rattle.commands.proofs.Computed.{computed_word, extended_word, ordered_word, sector_word, zero_word, same_word, mix_word, copy_word, report_word, again_word}
+use Rattle.commands.proofs.Holding.{IsBelow, IsSaved, IsFrame, HoldsWords, AreBytes, HasBytes, each_set, each_both, each_taken, register_below, word_below, second_word, far, target_word, slot_within, byte_small, number_word, copied_small, bytes_kept, answer_kept, codes_kept, unset_below, saved_there}
+
+-- what a step comes to
+abbrev GoesWell : Stepped → Type 0
+GoesWell (Next t) = HoldsWords t
+GoesWell (Done answer codes) = IsWithin (Verdict answer codes)
+GoesWell (Fault cause slot) = slot < 2 ^ 64
+
+-- where a machine is, and on what
+record Place (device : List (List ℕ)) (context : List ℕ) (s : State) : Type 0 where
+  bytes : HasBytes context device
+  few : length device < 2 ^ 32
+  near : s.slot < 4096
+  words : HoldsWords s
+
+tested : (s : State) (o : Option MachineFault) (done : Stepped) → HoldsWords s → (o ≡ None → GoesWell done) → GoesWell (option_map_or (λ cause. Fault cause s.slot) o done)
+tested s None done h goes = goes refl
+tested s (Some cause) done h goes = h.slot
+
+set_goes : (s : State) (n dst x : ℕ) → HoldsWords s → s.slot + n < 2 ^ 64 → x < 2 ^ 64 → GoesWell (machine.set_and_go n s dst x)
+set_goes s n dst x h near small = record {
+  slot = near;
+  registers = each_set (IsBelow (2 ^ 64)) s.registers dst (Some x) h.registers small;
+  frames = h.frames;
+  few = h.few;
+  codes = h.codes;
+}
+
+jump_goes : (s : State) (slot : ℕ) → HoldsWords s → slot < 2 ^ 64 → GoesWell (machine.go_to slot s)
+jump_goes s slot h near = record { slot = near; registers = h.registers; frames = h.frames; few = h.few; codes = h.codes }
+
+store_goes : (s : State) (a : ℕ) (bytes : List ℕ) → HoldsWords s → s.slot + 1 < 2 ^ 64 → AreBytes bytes → GoesWell (machine.store s a bytes)
+store_goes s a bytes h near small = record { slot = near; registers = h.registers; frames = bytes_kept bytes s.frames a small h.frames; few = h.few; codes = h.codes }
+
+answer_goes : (s : State) (answer : ℕ) → HoldsWords s → s.slot + 1 < 2 ^ 64 → answer < 2 ^ 64 → GoesWell (answer_step s answer)
+answer_goes s answer h near small = record { slot = near; registers = answer_kept s.registers answer h.registers small; frames = h.frames; few = h.few; codes = h.codes }
+
+either_slot : (b : Bool) (x y : ℕ) → x < 2 ^ 64 → y < 2 ^ 64 → (if b then x else y) < 2 ^ 64
+either_slot true x y left right = left
+either_slot false x y left right = right
+
+called_goes : (device : List (List ℕ)) (context : List ℕ) (s : State) (h : Helper) → Place device context s → GoesWell (call_effect device s h)
+unfolding call_effect
+called_goes device context s helper.Sector p = let near = p.near in answer_goes s (sector_answer device (word s 1)) p.words (omega (arith, near)) (sector_word device (word s 1) p.few)
+called_goes device context s helper.Copy p =
+    let near = p.near in
+    let frames = bytes_kept (device_bytes device (word s 1) (word s 3)) s.frames (word s 2) (copied_small context device (word s 1) (word s 3) p.bytes) p.words.frames in
+    answer_goes (record s { frames = frames_with s.frames (word s 2) (device_bytes device (word s 1) (word s 3)) }) (copy_answer device (word s 1) (word s 3))
+    (record { slot = p.words.slot; registers = p.words.registers; frames = frames; few = p.words.few; codes = p.words.codes }) (omega (arith, near)) (copy_word device (word s 1) (word s 3))
+called_goes device context s helper.Again p =
+    let near = p.near in
+    answer_goes (record s { turns = count_turn s (word s 1) }) (again_answer (turns_here s) (word s 1))
+    (record { slot = p.words.slot; registers = p.words.registers; frames = p.words.frames; few = p.words.few; codes = p.words.codes }) (omega (arith, near)) (again_word (turns_here s) (word s 1))
+called_goes device context s helper.Report p =
+    let near = p.near in
+    let codes = codes_kept s.codes (word s 1) (record { few = p.words.few; words = p.words.codes }) (word_below s 1 p.words) in
+    answer_goes (record s { codes = codes_after s.codes (word s 1) }) (report_answer s.codes)
+    (record { slot = p.words.slot; registers = p.words.registers; frames = p.words.frames; few = codes.few; codes = codes.words }) (omega (arith, near)) (report_word s.codes)
+called_goes device context s helper.Zero p = let near = p.near in answer_goes s (zero_answer device (word s 1)) p.words (omega (arith, near)) (zero_word device (word s 1))
+called_goes device context s helper.Mix p = let near = p.near in answer_goes s (mix_answer device (word s 1)) p.words (omega (arith, near)) (mix_word device (word s 1))
+called_goes device context s helper.Same p = let near = p.near in answer_goes s (same_answer device (word s 1) (word s 2)) p.words (omega (arith, near)) (same_word device (word s 1) (word s 2))
+
+helper_goes : (device : List (List ℕ)) (context : List ℕ) (s : State) (o : Option Helper) → Place device context s → GoesWell (option_map_or (call_effect device s) o (Next s))
+helper_goes device context s None p = p.words
+helper_goes device context s (Some h) p = called_goes device context s h p
+
+-- a function's frame
+enter_goes : (device : List (List ℕ)) (context : List ℕ) (s : State) (entry : ℕ) → Place device context s → entry < 2 ^ 64 → length s.frames < 4 → GoesWell (enter_function s entry)
+enter_goes device context s entry p near few =
+    let here = p.near in
+    let reg = λ (r : ℕ). register_below s r p.words in
+    let end : stack_end (length s.frames) < 2 ^ 64 = omega (arith, few) in
+    let saved : IsSaved (Some (saved_caller s)) = (omega (arith, here), (reg 6, (reg 7, (reg 8, (reg 9, (reg 10, tt)))))) in
+    let frame : IsFrame (record { stack = unset_stack; caller = Some (saved_caller s) }) = record { stack = unset_below; saved = saved } in
+    record {
+      slot = near;
+      registers = (tt, (reg 1, (reg 2, (reg 3, (reg 4, (reg 5, (tt, (tt, (tt, (tt, (end, tt)))))))))));
+      frames = each_both IsFrame s.frames (record { stack = unset_stack; caller = Some (saved_caller s) } ∷ []) p.words.frames (frame, tt);
+      few = p.words.few;
+      codes = p.words.codes;
+    }
+
+exit_goes : (s : State) (c : Option Caller) → HoldsWords s → IsSaved c → GoesWell (exit_frame s c)
+exit_goes s None h saved = (word_below s 0 h, h.few, All-from_recursion (λ (n : ℕ). n < 2 ^ 64) s.codes h.codes)
+exit_goes s (Some c) h saved = record {
+  slot = saved.0;
+  registers = (register_below s 0 h, (tt, (tt, (tt, (tt, (tt, saved.1))))));
+  frames = each_taken IsFrame (length s.frames - 1) s.frames h.frames;
+  few = h.few;
+  codes = h.codes;
+}
+
+-- a call that opens a frame has fewer than four
+few_frames : (n : ℕ) (rest : List (Check MachineFault)) → first_failing (check fault.FrameLimit (nat_lt n 4) ∷ rest) ≡ None → n < 4
+few_frames n rest passed = by (nat_lt n 4) refl passed
+  where
+    by : (b : Bool) → nat_lt n 4 ≡ b → (if b then first_failing rest else Some fault.FrameLimit) ≡ None → n < 4
+    by true e f = grind (arith, nat_tests, e)
+    by false e f = absurd (let bad : Some fault.FrameLimit ≡ None = f in cc)
+
+effect_goes : (program : List (Option Instr)) (device : List (List ℕ)) (context : List ℕ) (s : State) (i : Instr) → Place device context s → IsInRange i
+    → first_failing (checks program (machine.memory context device s) s i) ≡ None → GoesWell (effect (machine.memory context device s) device s i)
+unfolding checks effect IsInRange
+effect_goes program device context s (instr.Arithmetic w o dst from) p range passed =
+    let near = p.near in
+    let next : s.slot + 1 < 2 ^ 64 = omega (arith, near) in
+    set_goes s 1 dst (arithmetic w o (word s dst) (second s from)) p.words next
+    (computed_word w o (word s dst) (second s from) (word_below s dst p.words) (second_word s from p.words range.1))
+effect_goes program device context s (instr.Negate w dst) p range passed =
+    let near = p.near in
+    let nought : 0 < 2 ^ 64 = omega arith in
+    let next : s.slot + 1 < 2 ^ 64 = omega (arith, near) in
+    set_goes s 1 dst (arithmetic w op.Sub 0 (word s dst)) p.words next (computed_word w op.Sub 0 (word s dst) nought (word_below s dst p.words))
+effect_goes program device context s (instr.SignExtend e dst src) p range passed =
+    let near = p.near in
+    let next : s.slot + 1 < 2 ^ 64 = omega (arith, near) in
+    set_goes s 1 dst (sign_extension e (word s src)) p.words next (extended_word e (word s src) (word_below s src p.words))
+effect_goes program device context s (instr.ByteOrder o size dst) p range passed =
+    let near = p.near in
+    let next : s.slot + 1 < 2 ^ 64 = omega (arith, near) in
+    set_goes s 1 dst (in_order o size (word s dst)) p.words next (ordered_word o size (word s dst) (word_below s dst p.words))
+effect_goes program device context s (instr.Jump distance) p range passed =
+    let near = p.near in
+    let small : s.slot < 2 ^ 32 = omega (arith, near) in
+    jump_goes s (target_slot s.slot distance) p.words (target_word s.slot distance small (far distance range))
+effect_goes program device context s (instr.LongJump distance) p range passed =
+    let near = p.near in
+    let small : s.slot < 2 ^ 32 = omega (arith, near) in
+    jump_goes s (target_slot s.slot distance) p.words (target_word s.slot distance small range)
+effect_goes program device context s (instr.Branch w c dst from distance) p range passed =
+    let near = p.near in
+    let next : s.slot + 1 < 2 ^ 64 = omega (arith, near) in
+    let small : s.slot < 2 ^ 32 = omega (arith, near) in
+    jump_goes s (branch_slot s w c dst from distance) p.words
+    (either_slot (holds w c (word s dst) (second s from)) (target_slot s.slot distance) (s.slot + 1) (target_word s.slot distance small (far distance range.2)) next)
+effect_goes program device context s (instr.CallHelper number) p range passed =
+    helper_goes device context s (helper_of (cast_unsigned w32 number)) p
+effect_goes program device context s (instr.CallLocal distance) p range passed =
+    let near = p.near in
+    let small : s.slot < 2 ^ 32 = omega (arith, near) in
+    enter_goes device context s (target_slot s.slot distance) p (target_word s.slot distance small range)
+    (few_frames (length s.frames) (goes_on program (target_slot s.slot distance) ∷ []) passed)
+effect_goes program device context s instr.Exit p range passed =
+    exit_goes s (caller_of s.frames) p.words (saved_there s.frames p.words.frames)
+effect_goes program device context s (instr.Load size dst base distance) p range passed =
+    let near = p.near in
+    let next : s.slot + 1 < 2 ^ 64 = omega (arith, near) in
+    set_goes s 1 dst (number_from (byte_at context device s.frames) (address s base distance) (byte_count size)) p.words next
+    (number_word (byte_at context device s.frames) (address s base distance) size (λ a. byte_small context device s.frames a p.bytes p.words.frames))
+effect_goes program device context s (instr.LoadSigned size dst base distance) p range passed =
+    let near = p.near in
+    let next : s.slot + 1 < 2 ^ 64 = omega (arith, near) in
+    let read = number_word (byte_at context device s.frames) (address s base distance) (plain_size size) (λ a. byte_small context device s.frames a p.bytes p.words.frames) in
+    set_goes s 1 dst (sign_extension (extension_of size) (number_from (byte_at context device s.frames) (address s base distance) (byte_count (plain_size size)))) p.words
+    next (extended_word (extension_of size) _ read)
+effect_goes program device context s (instr.StoreImmediate size base distance n) p range passed =
+    let near = p.near in
+    let next : s.slot + 1 < 2 ^ 64 = omega (arith, near) in
+    store_goes s (address s base distance) (number_bytes (byte_count size) (cast_unsigned w64 n)) p.words next (small_number (byte_count size) (cast_unsigned w64 n))
+effect_goes program device context s (instr.Store size base distance src) p range passed =
+    let near = p.near in
+    let next : s.slot + 1 < 2 ^ 64 = omega (arith, near) in
+    store_goes s (address s base distance) (number_bytes (byte_count size) (word s src)) p.words next (small_number (byte_count size) (word s src))
+effect_goes program device context s (instr.LoadImmediate dst x) p range passed =
+    let near = p.near in
+    let next : s.slot + 2 < 2 ^ 64 = omega (arith, near) in
+    set_goes s 2 dst x p.words next range.1
+
+instr_goes : (program : List (Option Instr)) (device : List (List ℕ)) (context : List ℕ) (s : State) (i : Instr) → Place device context s → IsInRange i
+    → GoesWell (step_of program context device s i)
+unfolding step_of
+instr_goes program device context s i p range =
+    tested s (first_failing (checks program (machine.memory context device s) s i)) (effect (machine.memory context device s) device s i) p.words
+    (λ passed. effect_goes program device context s i p range passed)
+
+step_goes : (program : List (Option Instr)) (device : List (List ℕ)) (context : List ℕ) (s : State) → IsProgram program → HasBytes context device → length device < 2 ^ 32 → HoldsWords s
+    → GoesWell (step program context device s)
+step_goes program device context s is bytes few h = by (at program s.slot) refl
+  where
+    by : (o : Option Instr) → at program s.slot ≡ o → GoesWell (option_map_or (step_of program context device s) o (Fault fault.NoInstruction s.slot))
+    by None there = h.slot
+    by (Some i) there =
+        let within = slot_within program s.slot i there in
+        let most = is.count.limit in
+        instr_goes program device context s i (record { bytes = bytes; few = few; near = omega (arith, within, most); words = h }) (range_at program s.slot i is there)
+
+steps_end_within : (program : List (Option Instr)) (device : List (List ℕ)) (context : List ℕ) (n : ℕ) (s : State) → IsProgram program → HasBytes context device → length device < 2 ^ 32 → HoldsWords s
+    → IsWithin (steps_end program context device n s)
+unfolding steps_end
+steps_end_within program device context zero s is bytes few h = tt
+steps_end_within program device context (suc n) s is bytes few h =
+    by (step program context device s) (λ t goes. steps_end_within program device context n t is bytes few goes) (step_goes program device context s is bytes few h)
+  where
+    by : (t : Stepped) → ((t : State) → HoldsWords t → IsWithin (steps_end program context device n t)) → GoesWell t → IsWithin (after (steps_end program context device n) t)
+    by (Next t) rest goes = rest t goes
+    by (Done answer codes) rest goes = goes
+    by (Fault cause slot) rest goes = goes
+
+start_words : HoldsWords start
+unfolding start
+start_words = record {
+  slot = omega arith;
+  registers = (tt, (omega arith, (tt, (tt, (tt, (tt, (tt, (tt, (tt, (tt, (omega arith, tt)))))))))));
+  frames = (record { stack = unset_below; saved = tt }, tt);
+  few = omega arith;
+  codes = tt;
+}
+
+small_both : (xs ys : List ℕ) → AreBytes xs → AreBytes ys → AreBytes (xs ++ ys)
+small_both [] ys left right i = right i
+small_both (x ∷ xs) ys left right zero = left 0
+small_both (x ∷ xs) ys left right (suc i) = small_both xs ys (λ j. left (suc j)) right i
+
+context_small : (c : Context) → AreBytes (context_bytes c)
+unfolding context_bytes
+context_small c =
+    let a : List ℕ = number_bytes 8 c.sectors in
+    let b : List ℕ = number_bytes 8 c.epoch in
+    let d : List ℕ = number_bytes 8 c.marks in
+    small_both ((a ++ b) ++ d) (number_bytes 8 0) (small_both (a ++ b) d (small_both a b (small_number 8 c.sectors) (small_number 8 c.epoch)) (small_number 8 c.marks)) (small_number 8 0)
+
+pub ends_are_words : (program : List (Option Instr)) (sectors : ℕ) (device : List (List ℕ)) (context : Context) (limit : ℕ) → IsProgram program → sectors < 2 ^ 32 → IsImage sectors device context
+    → IsWithin (outcome program device context limit)
+unfolding outcome
+ends_are_words program sectors device context limit is few image =
+    let count = image.count in
+    let bytes : HasBytes (context_bytes context) device = record { told = context_small context; sectors = λ n sector there. (image.whole n sector there).bytes } in
+    steps_end_within program device (context_bytes context) limit start is bytes (omega (arith, count, few)) start_words

@@ -1,0 +1,209 @@
+//! Programs that pass without looking at what a log writes (docs/CRASH-MODEL.md, A checker that looks at nothing).
+
+ghost use Rattle.std.specs.Prelude.{◌≡◌, ◌≤◌, ◌<◌, ◌&&◌, ℕ, not, [], length, map, IfOk, IfErr, OnOk, slice_get, Some, true, false};
+ghost use Rattle.std.specs.List.{list_all};
+ghost use Rattle.std.specs.Option.{option_map_or};
+ghost use Rattle.base.specs.Refusals.{memory_refusal};
+ghost use Rattle.logfmt.specs.Bounds.{IsLog};
+ghost use Rattle.epochs.specs.Cuts.{cuts_of};
+ghost use Rattle.images.specs.Views.{IsMember, view_of};
+ghost use Rattle.helpers.specs.Footprint.{lists};
+ghost use Rattle.interp.specs.Ending.{ending_of};
+ghost use Rattle.checker.specs.Checker.{IsFor, AreFor};
+ghost use Rattle.lines.specs.Line.{fails};
+ghost use Rattle.runs.specs.Blind.{covers, is_bare, ending_on, looks_on, whole_at, is_blind_at, is_blind};
+
+use crate::basis::Basis;
+use arrayvec::ArrayVec;
+use base::refusal::Refusal;
+use checker::Checker;
+use choices::{Choice, Starts};
+use images::View;
+use interp::{Noted, Outcome};
+use logfmt::Entry;
+use std::alloc::{AllocError, Global};
+
+/// The most sectors of a footprint that is kept.
+const ROOM: usize = 32;
+
+/// How many sectors are kept of which it is known that no entry writes or discards them.
+const KEPT: usize = 64;
+
+/// Whether an entry writes or discards a sector.
+fn covers(entry: &Entry, sector: u32) -> bool
+    ensures { result ≡ covers sector entry.now }
+{
+    let sector = u64::from(sector);
+    entry.sector <= sector && sector - entry.sector < entry.count
+}
+
+/// Whether no entry does.
+fn is_bare(entries: &[Entry], sector: u32) -> bool
+    ensures { result ≡ is_bare entries.now sector }
+{
+    for entry in entries {
+        if covers(entry, sector) {
+            return false;
+        }
+    }
+    true
+}
+
+/// Whether a number is one of those.
+fn lists(numbers: &[u32], number: u32) -> bool
+    ensures { result ≡ lists numbers.now number }
+{
+    numbers.iter().any(|own| *own == number)
+}
+
+/// Whether no entry writes or discards a sector, by what is known of some sectors. One of which it is found is known then, where
+/// there is room.
+fn is_bare_by(entries: &[Entry], known: &mut ArrayVec<u32, KEPT>, sector: u32) -> bool
+    requires known { list_all (is_bare entries.now) known.old.items ≡ true }
+    ensures value { result ≡ is_bare entries.now sector }
+    ensures known { list_all (is_bare entries.now) known.new.items ≡ true }
+{
+    if lists(known.as_slice(), sector) {
+        return true;
+    }
+    let bare = is_bare(entries, sector);
+    if bare && !known.is_full() {
+        known.push(sector);
+    }
+    bare
+}
+
+/// Whether no entry writes or discards one of those sectors.
+fn are_bare(entries: &[Entry], known: &mut ArrayVec<u32, KEPT>, sectors: &[u32]) -> bool
+    requires known { list_all (is_bare entries.now) known.old.items ≡ true }
+    ensures value { result ≡ list_all (is_bare entries.now) sectors.now }
+    ensures known { list_all (is_bare entries.now) known.new.items ≡ true }
+{
+    for sector in sectors {
+        if !is_bare_by(entries, known, *sector) {
+            return false;
+        }
+    }
+    true
+}
+
+/// Whether an outcome makes no line of the report.
+fn passes_with(outcome: &Outcome) -> bool
+    ensures { result ≡ not (fails (ending_of outcome.now)) }
+{
+    match outcome {
+        Outcome::Verdict(verdict) => verdict.answer == 0,
+        Outcome::Fault { code: _, slot: _ } => false,
+        Outcome::OutOfSteps => false,
+    }
+}
+
+/// What a checker ends in on an image, with the footprint of that run.
+#[tactic(auto, unfolding(crate::specs::Blind::ending_on, crate::specs::Blind::looks_on))]
+fn noted_on(view: &View<'_>, checker: &Checker<'_>) -> Noted<ROOM>
+    requires device { IsFor view.now.log.sectors checker.now.verified }
+    ensures ends { ending_of result.outcome ≡ ending_on checker.now view.now }
+    ensures looks { result.footprint.sectors ≡ looks_on checker.now view.now }
+{
+    let context = view.context();
+    checker.judge_noted::<View<'_>, ROOM>(&context, view)
+}
+
+/// Whether a run passed and looked at no sector that an entry writes or discards.
+fn was_blind(entries: &[Entry], known: &mut ArrayVec<u32, KEPT>, run: &Noted<ROOM>) -> bool
+    requires known { list_all (is_bare entries.now) known.old.items ≡ true }
+    ensures value { result ≡ not (fails (ending_of run.now.outcome)) && option_map_or (list_all (is_bare entries.now)) run.now.footprint.sectors false }
+    ensures known { list_all (is_bare entries.now) known.new.items ≡ true }
+{
+    if !passes_with(&run.outcome) {
+        return false;
+    }
+    match run.footprint.sectors() {
+        Some(sectors) => are_bare(entries, known, sectors),
+        None => false,
+    }
+}
+
+/// The choice of a wanted cut in which nothing is lost or torn.
+fn whole_choice(starts: &Starts<'_>, place: usize) -> Choice
+    requires { place < length (cuts_of starts.now.plan.kind starts.now.plan.log.entries) }
+    ensures member { IsMember starts.now.plan result }
+    ensures whole { (cut : ℕ) → slice_get (cuts_of starts.now.plan.kind starts.now.plan.log.entries) place ≡ Some cut → view_of starts.now.plan result ≡ whole_at starts.now.plan.log cut }
+{
+    let (first, _end) = starts.range_of(place);
+    starts.nth(first)
+}
+
+/// Whether a checker passes the image of a wanted cut in which nothing is lost or torn, and looks at no sector there that an entry
+/// writes or discards.
+fn is_blind_at(
+    alloc: Global,
+    basis: &Basis<'_>,
+    checker: &Checker<'_>,
+    place: usize,
+    known: &mut ArrayVec<u32, KEPT>,
+) -> Result<bool, AllocError>
+    requires device { IsFor basis.now.task.now.log.now.sectors checker.now.verified }
+    requires place { place < length (cuts_of basis.now.task.now.plan.now.kind basis.now.task.now.log.now.entries) }
+    requires known { list_all (is_bare basis.now.task.now.log.now.entries) known.old.items ≡ true }
+    ensures value { IfOk result (λ blind. (cut : ℕ) → slice_get (cuts_of basis.now.task.now.plan.now.kind basis.now.task.now.log.now.entries) place ≡ Some cut
+        → blind ≡ is_blind_at checker.now basis.now.task.now.log.now cut) }
+    ensures known { OnOk result (list_all (is_bare basis.now.task.now.log.now.entries) known.new.items ≡ true) }
+{
+    let choice = whole_choice(basis.starts, place);
+    let view = basis.history.view(alloc, &choice)?;
+    let run = noted_on(&view, checker);
+    Ok(was_blind(basis.task.log.entries(), known, &run))
+}
+
+/// Whether a checker does so at each wanted cut, and there is one.
+fn is_blind(alloc: Global, basis: &Basis<'_>, checker: &Checker<'_>) -> Result<bool, AllocError>
+    requires { IsFor basis.now.task.now.log.now.sectors checker.now.verified }
+    ensures { IfOk result (λ blind. blind ≡ is_blind basis.now.task.now.plan.now checker.now) }
+{
+    let cuts = basis.task.plan.cuts();
+    let mut known = ArrayVec::new();
+    for place in 0..cuts.len() {
+        let blind = is_blind_at(alloc, basis, checker, place, &mut known)?;
+        if !blind {
+            return Ok(false);
+        }
+    }
+    Ok(!cuts.is_empty())
+}
+
+/// Appends of each checker of a run whether it is so.
+fn put_blind(
+    alloc: Global,
+    basis: &Basis<'_>,
+    out: &mut ArrayVec<bool, 8>,
+) -> Result<(), AllocError>
+    requires few { length basis.now.task.now.checkers.now ≤ 8 }
+    requires device { AreFor basis.now.task.now.log.now.sectors basis.now.task.now.checkers.now }
+    requires fresh { out.old.items ≡ [] }
+    ensures { OnOk result (out.new.items ≡ map (is_blind basis.now.task.now.plan.now) basis.now.task.now.checkers.now) }
+{
+    for checker in basis.task.checkers {
+        out.push(is_blind(alloc, basis, checker)?);
+    }
+    Ok(())
+}
+
+/// Finds which programs of a run pass at each wanted cut, on the image in which nothing is lost or torn, without looking at a sector
+/// that an entry writes or discards. It makes a run of a program for each cut, up to the first at which it doesn't.
+pub(crate) fn find_blind(
+    alloc: Global,
+    basis: &Basis<'_>,
+    found: &mut ArrayVec<bool, 8>,
+) -> Result<(), Refusal>
+    requires few { length basis.now.task.now.checkers.now ≤ 8 }
+    requires verified { AreFor basis.now.task.now.options.now.sectors basis.now.task.now.checkers.now }
+    requires fresh { found.old.items ≡ [] }
+    ensures found { OnOk result (found.new.items ≡ map (is_blind basis.now.task.now.plan.now) basis.now.task.now.checkers.now) }
+    ensures refused { IfErr result (λ r. r ≡ memory_refusal) }
+{
+    match put_blind(alloc, basis, found) {
+        Ok(()) => Ok(()),
+        Err(_error) => Err(Refusal::of_memory()),
+    }
+}
