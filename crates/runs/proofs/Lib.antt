@@ -13,3 +13,4 @@ pub mod Tried
 pub mod Leading
 pub mod Finding
 pub mod Unseeing
+pub mod Contexts

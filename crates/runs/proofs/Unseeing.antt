@@ -169,15 +169,15 @@ blind_all plan log checker place own empty of_log own_is past all is =
 
 -- A blind program comes to the same on each image of a cut.
 
-and_first : (a b : Bool) → (a && b) ≡ true → a ≡ true
+pub and_first : (a b : Bool) → (a && b) ≡ true → a ≡ true
 and_first true b h = refl
 and_first false b h = absurd (let bad : false ≡ true = h in cc)
 
-and_second : (a b : Bool) → (a && b) ≡ true → b ≡ true
+pub and_second : (a b : Bool) → (a && b) ≡ true → b ≡ true
 and_second true b h = h
 and_second false b h = absurd (let bad : false ≡ true = h in cc)
 
-all_at : {X : Type 0} (p : X → Bool) (xs : List X) (i : ℕ) (x : X) → list_all p xs ≡ true → slice_get xs i ≡ Some x → p x ≡ true
+pub all_at : {X : Type 0} (p : X → Bool) (xs : List X) (i : ℕ) (x : X) → list_all p xs ≡ true → slice_get xs i ≡ Some x → p x ≡ true
 all_at p xs i x all there = by (p x) refl
   where
     by : (b : Bool) → p x ≡ b → b ≡ true
@@ -193,13 +193,13 @@ known_at plan checker place cut blind wanted =
     all_at (is_blind_at checker plan.log) cuts place cut (and_second (not (length cuts == 0)) (list_all (is_blind_at checker plan.log) cuts) blind) wanted
 
 -- the run there passes, and looks at bare sectors
-record PassesBare (checker : CheckerValue) (log : LogValue) (cut : ℕ) : Type 0 where
-  passes : fails (ending_on checker (whole_at log cut)) ≡ false
-  sectors : List ℕ
-  looks : looks_on checker (whole_at log cut) ≡ Some sectors
-  bare : list_all (is_bare log.entries) sectors ≡ true
+pub record PassesBare (checker : CheckerValue) (log : LogValue) (cut : ℕ) : Type 0 where
+  pub passes : fails (ending_on checker (whole_at log cut)) ≡ false
+  pub sectors : List ℕ
+  pub looks : looks_on checker (whole_at log cut) ≡ Some sectors
+  pub bare : list_all (is_bare log.entries) sectors ≡ true
 
-passes_bare : (checker : CheckerValue) (log : LogValue) (cut : ℕ) → is_blind_at checker log cut ≡ true → PassesBare checker log cut
+pub passes_bare : (checker : CheckerValue) (log : LogValue) (cut : ℕ) → is_blind_at checker log cut ≡ true → PassesBare checker log cut
 unfolding is_blind_at
 passes_bare checker log cut blind = by (looks_on checker (whole_at log cut)) refl (and_second good (seen (looks_on checker (whole_at log cut))) blind)
   where

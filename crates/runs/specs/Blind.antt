@@ -1,10 +1,11 @@
 -- Programs that pass without looking at what a log writes (docs/CRASH-MODEL.md, A checker that looks at nothing).
-use Rattle.std.specs.Prelude.{ℕ, ◌≡◌, ◌+◌, ◌==◌, Bool, true, false, not, nat_le, nat_lt, ◌&&◌, List, [], length, map, slice_get, Option, Some}
+use Rattle.std.specs.Prelude.{ℕ, ◌≡◌, ◌+◌, ◌-◌, ◌==◌, ◌≤◌, Bool, true, false, not, nat_le, nat_lt, ◌&&◌, List, [], length, map, slice_get, Option, Some}
 use Rattle.std.specs.List.{list_all}
 use Rattle.std.specs.Option.{option_map_or}
 use Rattle.logfmt.specs.declared.entry.Entry.{Entry}
 use Rattle.logfmt.specs.Bounds.{LogValue, IsLog}
 use Rattle.epochs.specs.Cuts.{cuts_of}
+use Rattle.epochs.specs.Units.{epoch_at, marks_at}
 use Rattle.epochs.specs.Plan.{PlanValue}
 use Rattle.choices.specs.Choices.{ChoiceValue}
 use Rattle.images.specs.Views.{ViewValue, sectors_of, context_at}
@@ -47,6 +48,18 @@ is_blind_at checker log cut =
 -- so it does at each wanted cut, and there is one
 unfoldable pub is_blind : PlanValue → CheckerValue → Bool
 is_blind plan checker = not (length (cuts_of plan.kind plan.log.entries) == 0) && list_all (is_blind_at checker plan.log) (cuts_of plan.kind plan.log.entries)
+
+-- two cuts have the same epoch and the same marks
+abbrev pub same_context : List Entry → ℕ → ℕ → Bool
+same_context es last cut = (epoch_at es last == epoch_at es cut) && (marks_at es last == marks_at es cut)
+
+-- the wanted cut of a place and the one before it
+pub record IsLastContext (plan : PlanValue) (place last cut : ℕ) : Type 0 where
+  pub before : slice_get (cuts_of plan.kind plan.log.entries) (place - 1) ≡ Some last
+  pub here : slice_get (cuts_of plan.kind plan.log.entries) place ≡ Some cut
+  pub low : last ≤ length plan.log.entries
+  pub within : cut ≤ length plan.log.entries
+  pub same : same_context plan.log.entries last cut ≡ true
 
 -- of which programs it is found: of all, one after the other, where failing images are told
 abbrev pub blind_found : Wanted → PlanValue → List CheckerValue → List Bool

@@ -1,6 +1,6 @@
 //! Programs that pass without looking at what a log writes (docs/CRASH-MODEL.md, A checker that looks at nothing).
 
-ghost use Rattle.std.specs.Prelude.{◌≡◌, ◌≤◌, ◌<◌, ◌&&◌, ℕ, not, [], length, map, IfOk, IfErr, OnOk, slice_get, Some, true, false};
+ghost use Rattle.std.specs.Prelude.{◌≡◌, ◌≤◌, ◌<◌, ◌&&◌, ℕ, not, [], length, map, IsTrue, IfOk, IfErr, OnOk, take, slice_get, Some, true, false};
 ghost use Rattle.std.specs.List.{list_all};
 ghost use Rattle.std.specs.Option.{option_map_or};
 ghost use Rattle.base.specs.Refusals.{memory_refusal};
@@ -11,13 +11,14 @@ ghost use Rattle.helpers.specs.Footprint.{lists};
 ghost use Rattle.interp.specs.Ending.{ending_of};
 ghost use Rattle.checker.specs.Checker.{IsFor, AreFor};
 ghost use Rattle.lines.specs.Line.{fails};
-ghost use Rattle.runs.specs.Blind.{covers, is_bare, ending_on, looks_on, whole_at, is_blind_at, is_blind};
+ghost use Rattle.runs.specs.Blind.{covers, is_bare, ending_on, looks_on, whole_at, is_blind_at, is_blind, same_context, IsLastContext};
 
 use crate::basis::Basis;
 use arrayvec::ArrayVec;
 use base::refusal::Refusal;
 use checker::Checker;
 use choices::{Choice, Starts};
+use epochs::Plan;
 use images::View;
 use interp::{Noted, Outcome};
 use logfmt::Entry;
@@ -156,6 +157,50 @@ fn is_blind_at(
     Ok(was_blind(basis.task.log.entries(), known, &run))
 }
 
+/// Whether two cuts have the same epoch and the same marks.
+fn is_same_context(plan: &Plan<'_>, last: u32, cut: u32) -> bool
+    requires last { last ≤ length plan.now.log.entries }
+    requires cut { cut ≤ length plan.now.log.entries }
+    ensures { result ≡ same_context plan.now.log.entries last cut }
+{
+    plan.epoch(last) == plan.epoch(cut) && plan.marks(last) == plan.marks(cut)
+}
+
+/// Whether a wanted cut has the epoch and the marks of the one before it.
+fn has_last_context(plan: &Plan<'_>, place: usize) -> bool
+    requires some { 0 < place }
+    requires inside { place < length (cuts_of plan.now.kind plan.now.log.entries) }
+    ensures { IsTrue result → (last : ℕ) × (cut : ℕ) × IsLastContext plan.now place last cut }
+{
+    let cuts = plan.cuts();
+    let (last, cut) = (cuts[place - 1], cuts[place]);
+    is_same_context(plan, last, cut)
+}
+
+/// The same, behind wanted cuts at which it was so. At a cut with the epoch and the marks of the one before it no run is made: what
+/// the checker looked at there, no entry changed.
+fn is_blind_next(
+    alloc: Global,
+    basis: &Basis<'_>,
+    checker: &Checker<'_>,
+    place: usize,
+    known: &mut ArrayVec<u32, KEPT>,
+) -> Result<bool, AllocError>
+    requires device { IsFor basis.now.task.now.log.now.sectors checker.now.verified }
+    requires place { place < length (cuts_of basis.now.task.now.plan.now.kind basis.now.task.now.log.now.entries) }
+    requires known { list_all (is_bare basis.now.task.now.log.now.entries) known.old.items ≡ true }
+    requires before { list_all (is_blind_at checker.now basis.now.task.now.log.now) (take place (cuts_of basis.now.task.now.plan.now.kind basis.now.task.now.log.now.entries)) ≡ true }
+    ensures value { IfOk result (λ blind. (cut : ℕ) → slice_get (cuts_of basis.now.task.now.plan.now.kind basis.now.task.now.log.now.entries) place ≡ Some cut
+        → blind ≡ is_blind_at checker.now basis.now.task.now.log.now cut) }
+    ensures known { OnOk result (list_all (is_bare basis.now.task.now.log.now.entries) known.new.items ≡ true) }
+{
+    let _entries = basis.task.log.entries();
+    if place > 0 && has_last_context(basis.task.plan, place) {
+        return Ok(true);
+    }
+    is_blind_at(alloc, basis, checker, place, known)
+}
+
 /// Whether a checker does so at each wanted cut, and there is one.
 fn is_blind(alloc: Global, basis: &Basis<'_>, checker: &Checker<'_>) -> Result<bool, AllocError>
     requires { IsFor basis.now.task.now.log.now.sectors checker.now.verified }
@@ -164,7 +209,7 @@ fn is_blind(alloc: Global, basis: &Basis<'_>, checker: &Checker<'_>) -> Result<b
     let cuts = basis.task.plan.cuts();
     let mut known = ArrayVec::new();
     for place in 0..cuts.len() {
-        let blind = is_blind_at(alloc, basis, checker, place, &mut known)?;
+        let blind = is_blind_next(alloc, basis, checker, place, &mut known)?;
         if !blind {
             return Ok(false);
         }
@@ -190,7 +235,8 @@ fn put_blind(
 }
 
 /// Finds which programs of a run pass at each wanted cut, on the image in which nothing is lost or torn, without looking at a sector
-/// that an entry writes or discards. It makes a run of a program for each cut, up to the first at which it doesn't.
+/// that an entry writes or discards. It makes a run of a program for each epoch and each number of marks at the cuts, up to the first
+/// cut at which it doesn't: no more runs than the images of the cuts need at least.
 pub(crate) fn find_blind(
     alloc: Global,
     basis: &Basis<'_>,
