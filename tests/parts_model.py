@@ -185,13 +185,13 @@ OPTIONS = re.compile(
     f"sectors ({NUMBER}) entries ({NUMBER}) cuts (?:all|flush|mark) bound ({NUMBER}) tears (?:yes|no) first (?P<first>yes|no)(?: by write)?"
     f"(?: flush (?P<flush>{NUMBERS}))?(?: from (?P<from>{NUMBER}))?(?: to (?P<to>{NUMBER}))?(?: base (?P<base>{NUMBER}))?"
 )
-PROGRAM = re.compile(f"program ({NUMBER}) slots ({NUMBER}) (?:budget|limit) ({NUMBER})")
+PROGRAM = re.compile(f"program ({NUMBER}) slots ({NUMBER}) (?:budget|limit) ({NUMBER})(?: guards ({NUMBER}))?")
 SECTOR_NAME = f"({NUMBER})[.]({NUMBER}):(?:drop|head[1-7]|tail[1-7])"
 WRITE_NAME = f"({NUMBER}):(?:drop|head[1-7]|tail[1-7])"
 CHOICE = "(?P<choice>[^ ]+)"
 FAILING = re.compile(
     f"image ({NUMBER}) cut ({NUMBER}) program ({NUMBER}) "
-    f"(?:answer (?P<answer>{NUMBER}) codes (?P<codes>-|{NUMBERS})|fault (?:8[0-8]) slot (?P<slot>{NUMBER})|out of steps) choice {CHOICE}"
+    f"(?:answer (?P<answer>{NUMBER}) codes (?P<codes>-|{NUMBERS})|fault (?:8[0-8]) slot (?P<slot>{NUMBER})|stray at slot (?P<stray>{NUMBER})|out of steps) choice {CHOICE}"
 )
 LAST = re.compile(f"images ({NUMBER}) failing ({NUMBER}) lines ({NUMBER})")
 LAST_OF_FIRST = re.compile(f"images ({NUMBER}) first ({NUMBER}|none)")
@@ -243,7 +243,7 @@ def read_head(lines):
     small = below(32, *options.group(1, 2)) and below(8, options[3]) and below(64, *options.group("from", "to", "base"))
     flushes = options["flush"].split(",") if options["flush"] else []
     programs = [PROGRAM.fullmatch(it) for it in takewhile(lambda line: line.startswith("program "), lines[1:])]
-    right = all(it and int(it[1]) == number and below(32, it[2]) and below(64, it[3]) for number, it in enumerate(programs))
+    right = all(it and int(it[1]) == number and below(32, it[2], it[4]) and below(64, it[3]) for number, it in enumerate(programs))
     if not (small and below(32, *flushes) and len(flushes) <= 64 and right and 1 <= len(programs) <= 8):
         return None
     return 1 + len(programs), options["first"] == "yes"
@@ -256,7 +256,7 @@ def read_failing(line):
     if not found or not is_choice(found["choice"]):
         return None
     codes = found["codes"].split(",") if found["codes"] not in (None, "-") else []
-    small = below(32, found[2]) and below(8, found[3]) and below(64, found[1], found["answer"], found["slot"], *codes)
+    small = below(32, found[2]) and below(8, found[3]) and below(64, found[1], found["answer"], found["slot"], found["stray"], *codes)
     return (int(found[1]), int(found[3])) if small and len(codes) <= 16 else None
 
 

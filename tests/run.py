@@ -40,6 +40,7 @@ Where the rows stand
     rows/notes.py       the notes behind each refusal, and beside answers
     rows/blind.py       the note of checkers that look at nothing of what the log writes, against the model
     rows/tables.py      logs as tables, and listings with slots
+    rows/guards.py      programs that `--guards` accepts: their guarded slots, and where their runs stray
     rows/trials.py      programs on one image: what they come to, their steps and the last ones in words
     rows/modelled.py    whole reports of many logs, against the model
     rows/small_logs.py  every image of small logs, what their cuts leave open, accepted programs with and without checks
@@ -101,6 +102,7 @@ from rows import (
     examples,
     flushes,
     footprints,
+    guards,
     joining,
     large,
     limits,
@@ -141,6 +143,7 @@ TABLES = [
     refusals,
     notes,
     tables,
+    guards,
     trials,
     modelled,
     small_logs,

@@ -31,6 +31,7 @@ complete -c crashbpf -n '__fish_seen_subcommand_from explore' -l by -x -a 'secto
 complete -c crashbpf -n '__fish_seen_subcommand_from explore' -l workers -x -d 'Threads, 1 to 64 [default: 1]'
 complete -c crashbpf -n '__fish_seen_subcommand_from explore' -l cache -x -d 'Verdicts to keep, up to 65536 [default: 0]'
 complete -c crashbpf -n '__fish_seen_subcommand_from explore' -l checked -x -d 'Ask no verifier, and run each program for at most N steps, 0 to 1000000000'
+complete -c crashbpf -n '__fish_seen_subcommand_from explore' -l guards -d 'Accept by weaker rules: runs test the places that aren\'t proved, and end where one is outside'
 complete -c crashbpf -n '__fish_seen_subcommand_from explore' -l progress -d 'Say on standard error how many images are judged'
 complete -c crashbpf -n '__fish_seen_subcommand_from explore' -l first -d 'Report the first failing image alone'
 complete -c crashbpf -n '__fish_seen_subcommand_from explore' -l images -x -d 'Judge the images from A to below B alone, and print the text of a part, for \'join\''
@@ -49,6 +50,7 @@ complete -c crashbpf -n '__fish_seen_subcommand_from why' -l by -x -a 'sector wr
 complete -c crashbpf -n '__fish_seen_subcommand_from why' -l workers -x -d 'Threads, 1 to 64 [default: 1]'
 complete -c crashbpf -n '__fish_seen_subcommand_from why' -l cache -x -d 'Verdicts to keep, up to 65536 [default: 0]'
 complete -c crashbpf -n '__fish_seen_subcommand_from why' -l checked -x -d 'Ask no verifier, and run each program for at most N steps, 0 to 1000000000'
+complete -c crashbpf -n '__fish_seen_subcommand_from why' -l guards -d 'Accept by weaker rules: runs test the places that aren\'t proved, and end where one is outside'
 complete -c crashbpf -n '__fish_seen_subcommand_from why' -l progress -d 'Say on standard error how many images are judged'
 complete -c crashbpf -n '__fish_seen_subcommand_from why' -s h -l help -d 'Print help'
 complete -c crashbpf -n '__fish_seen_subcommand_from why' -F
@@ -65,6 +67,7 @@ complete -c crashbpf -n '__fish_seen_subcommand_from cure' -l by -x -a 'sector w
 complete -c crashbpf -n '__fish_seen_subcommand_from cure' -l workers -x -d 'Threads, 1 to 64 [default: 1]'
 complete -c crashbpf -n '__fish_seen_subcommand_from cure' -l cache -x -d 'Verdicts to keep, up to 65536 [default: 0]'
 complete -c crashbpf -n '__fish_seen_subcommand_from cure' -l checked -x -d 'Ask no verifier, and run each program for at most N steps, 0 to 1000000000'
+complete -c crashbpf -n '__fish_seen_subcommand_from cure' -l guards -d 'Accept by weaker rules: runs test the places that aren\'t proved, and end where one is outside'
 complete -c crashbpf -n '__fish_seen_subcommand_from cure' -l progress -d 'Say on standard error how many images are judged'
 complete -c crashbpf -n '__fish_seen_subcommand_from cure' -s h -l help -d 'Print help'
 complete -c crashbpf -n '__fish_seen_subcommand_from cure' -F
@@ -81,6 +84,7 @@ complete -c crashbpf -n '__fish_seen_subcommand_from page' -l by -x -a 'sector w
 complete -c crashbpf -n '__fish_seen_subcommand_from page' -l workers -x -d 'Threads, 1 to 64 [default: 1]'
 complete -c crashbpf -n '__fish_seen_subcommand_from page' -l cache -x -d 'Verdicts to keep, up to 65536 [default: 0]'
 complete -c crashbpf -n '__fish_seen_subcommand_from page' -l checked -x -d 'Ask no verifier, and run each program for at most N steps, 0 to 1000000000'
+complete -c crashbpf -n '__fish_seen_subcommand_from page' -l guards -d 'Accept by weaker rules: runs test the places that aren\'t proved, and end where one is outside'
 complete -c crashbpf -n '__fish_seen_subcommand_from page' -l progress -d 'Say on standard error how many images are judged'
 complete -c crashbpf -n '__fish_seen_subcommand_from page' -s h -l help -d 'Print help'
 complete -c crashbpf -n '__fish_seen_subcommand_from page' -F
@@ -139,6 +143,8 @@ complete -c crashbpf -n '__fish_seen_subcommand_from import' -s h -l help -d 'Pr
 complete -c crashbpf -n '__fish_seen_subcommand_from import' -F
 complete -c crashbpf -n '__fish_seen_subcommand_from verify' -l sectors -x -d 'Sectors of the device, 1 to 16384, with --large to 1048576'
 complete -c crashbpf -n '__fish_seen_subcommand_from verify' -l large -d 'Allow a device of 1048576 sectors, 512 MiB, and a log of 192 MiB'
+complete -c crashbpf -n '__fish_seen_subcommand_from verify' -l guards -d 'Accept by weaker rules: runs test the places that aren\'t proved, and end where one is outside'
+complete -c crashbpf -n '__fish_seen_subcommand_from verify' -l list -d 'List each guarded slot, at which runs test a place, with its instruction'
 complete -c crashbpf -n '__fish_seen_subcommand_from verify' -s h -l help -d 'Print help'
 complete -c crashbpf -n '__fish_seen_subcommand_from verify' -F
 complete -c crashbpf -n '__fish_seen_subcommand_from check' -l large -d 'Allow a device of 1048576 sectors, 512 MiB, and a log of 192 MiB'

@@ -443,6 +443,17 @@ RULES = [
 INSIDE = "; an access of size 8 at +508 has to lie within its 512"
 NO_ADDRESS = "; an address is wanted"
 TOLD = {error: told for _, error, *told in RULES}
+
+# Of the rules that there aren't with guards: what may accept the program.
+GUARDS = "--guards may accept the program as it is: its runs then test the places that aren't proved, and an image on which one is outside fails (docs/CHECKERS.md, With guards)"
+GUARDS_ELSEWHERE = "'crashbpf explore --guards' may accept the program as it is (docs/CHECKERS.md, With guards); here --checked N runs it without the verifier"
+
+
+def of_guards(error, note=GUARDS):
+    """The note of guards, where there is one behind a refusal."""
+    return [note] if 51 <= int(error.split()[0]) <= 55 else []
+
+
 KNOWN = [
     ("mov64 r1, 0; call 1; jeq r0, 0, +1; ldxdw r0, [r0+508]; exit", "52 at 3", "ldxdw r0, [r0+508]", "r0: a sector, offset 0 to 0" + INSIDE),
     (
@@ -476,13 +487,16 @@ def known(text, error, instruction, *registers):
     """A row of a program that breaks the rule of an instruction."""
     number, slot = error.split(" at ")
     rule, cure = next(told[-2:] for of, told in TOLD.items() if of.startswith(number))
-    return noted(f"known at {instruction}", "verify p --sectors 4", {"p": program(text)}, f"refused {error}", f"slot {slot}: {instruction}", *registers, rule, cure)
+    return noted(f"known at {instruction}", "verify p --sectors 4", {"p": program(text)}, f"refused {error}", f"slot {slot}: {instruction}", *registers, rule, cure, *of_guards(number))
 
 
 VERIFIER = [known(*row) for row in KNOWN] + [
-    noted(f"rule {error}", "verify p --sectors 4", {"p": program(text)}, f"refused {error}", *told) for text, error, *told in RULES
+    noted(f"rule {error}", "verify p --sectors 4", {"p": program(text)}, f"refused {error}", *told, *of_guards(error)) for text, error, *told in RULES
 ] + [
-    noted(f"rule {error}, of a second program", "explore log p0 p1 --sectors 4", files(LOG, GOOD, program(text)), f"refused {error} of program 1", *told)
+    noted(f"rule {error}, of a second program", "explore log p0 p1 --sectors 4", files(LOG, GOOD, program(text)), f"refused {error} of program 1", *told, *of_guards(error))
+    for text, error, *told in RULES
+] + [
+    noted(f"rule {error}, of check", "check p image", {"p": program(text), "image": bytes(2048)}, f"refused {error}", *told, *of_guards(error, GUARDS_ELSEWHERE))
     for text, error, *told in RULES
 ]
 

@@ -8,7 +8,6 @@ use Rattle.std.proofs.lemmas.List.{length-append}
 use Rattle.std.proofs.lemmas.List.Elements.{All-from_recursion, recursion_from_All, All-contains_itself}
 use Rattle.helpers.specs.Footprint.{FootprintValue, unread, lists, sectors_with, footprint_with, footprint_after}
 use Rattle.helpers.proofs.KeptSectors.{kept_covers}
-use Rattle.machine.specs.Footprint.{footprint}
 use Rattle.checker.specs.Footprints.{footprint_of, KeptIsFootprint}
 
 -- one sector more is listed already, or there is room for it
@@ -81,9 +80,8 @@ few_push : (room : ℕ) (own : List ℕ) (x : ℕ) → length own < room → len
 few_push room own x less = omega (arith, length-append own (x ∷ []), less)
 
 pub kept_is_footprint : KeptIsFootprint
-unfolding footprint_of
 kept_is_footprint checker device context room sectors is =
-    let run : List ℕ = footprint checker.program device context checker.limit in
+    let run : List ℕ = footprint_of checker device context in
     let Any : ℕ → Type 0 = λ x. Unit {0} in
     let Own : List ℕ → Type 0 = AllByRecursion (Contains run) in
     let Few : List ℕ → Type 0 = λ own. length own ≤ room in (

@@ -1,3 +1,5 @@
+pub mod Guarded
+pub mod Counted
 pub mod Verified
 pub mod Suiting
 pub mod Alike

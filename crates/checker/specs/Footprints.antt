@@ -1,14 +1,16 @@
 -- What a checker can't tell apart (docs/MACHINE.md, Footprint).
-use Rattle.std.specs.Prelude.{ℕ, ◌≡◌, ◌≤◌, nat_eq, List, length, slice_get, All, Contains, Some}
+use Rattle.std.specs.Prelude.{ℕ, ◌≡◌, ◌≤◌, nat_eq, if◌then◌else◌, List, length, slice_get, All, Contains, Some, is_some}
 use Rattle.std.specs.List.{IsDistinct}
 use Rattle.helpers.specs.declared.device.Context.{Context}
 use Rattle.helpers.specs.Footprint.{FootprintValue, unread, footprint_after}
 use Rattle.machine.specs.Footprint.{footprint, AreSectors}
+use Rattle.machine.specs.Guards.{guarded_footprint}
 use Rattle.checker.specs.Checker.{CheckerValue, judgement}
 
 -- at which sectors the checker looks on that device and in that context
 unfoldable pub footprint_of : CheckerValue → List (List ℕ) → Context → List ℕ
-footprint_of checker device context = footprint checker.program device context checker.limit
+footprint_of checker device context =
+    if is_some checker.guards then guarded_footprint checker.program device context checker.limit else footprint checker.program device context checker.limit
 
 -- and what is kept of these in so much room
 abbrev pub kept_footprint : ℕ → CheckerValue → List (List ℕ) → Context → FootprintValue

@@ -1,21 +1,22 @@
 //! A program that judges crash images, with the way in which it is run.
 
-ghost use Rattle.std.specs.Prelude.{◌≡◌, length, None, Some, is_some};
+ghost use Rattle.std.specs.Prelude.{◌≡◌, length, None, is_some, IfOk};
 ghost use Rattle.interp.specs.Ending.{ending_of};
 ghost use Rattle.helpers.specs.Footprint.{footprint_after, unread};
 ghost use Rattle.machine.specs.Footprint.{footprint};
 ghost use Rattle.machine.specs.Outcome.{outcome};
 ghost use Rattle.plain.specs.Runs.{IsVerdict};
-ghost use Rattle.checker.specs.Checker.{Suits, judgement};
+ghost use Rattle.checker.specs.Checker.{Suits, checker_of, guarded_count, guarded_of, guards_of, judgement};
 ghost use Rattle.checker.specs.Footprints.{kept_footprint};
 
 use bpf_isa::program::Program;
 use helpers::{Context, Device};
-use interp::{Noted, Outcome, Verdict, run_noted};
-use plain::{Ended, run};
-use soundness::accepted_runs_safely;
+use interp::{Noted, Outcome, Verdict, run_noted, run_with_guards};
+use plain::{Ended, Guarded, run};
+use soundness::{accepted_runs_safely, guarded_runs_safely};
+use std::alloc::{AllocError, Global};
 use std::marker::Model;
-use verifier::Verified;
+use verifier::{Verified, guarded_slots, is_guarded_at};
 
 /// Runs a program without checks, which is known to end in a verdict within so many steps.
 #[inline(always)]
@@ -40,49 +41,113 @@ fn run_plain<D: Device, const ROOM: usize>(
     }
 }
 
+/// Of each slot of an accepted program whether it is guarded.
+#[tactic(auto, unfolding(crate::specs::Checker::guards_of))]
+fn guards_of(alloc: Global, verified: &Verified) -> Result<Vec<bool>, AllocError>
+    ensures { IfOk result (λ guards. guards.items ≡ guards_of verified.now) }
+{
+    let mut guards = Vec::new(alloc);
+    for slot in 0..verified.program().slots() {
+        guards.push(is_guarded_at(verified, slot))?;
+    }
+    Ok(guards)
+}
+
+/// An accepted program with its guards, where it is accepted with guards.
+fn guarded_of<'p>(alloc: Global, verified: &Verified<'p>) -> Result<Option<Guarded<'p>>, AllocError>
+    ensures { IfOk result (λ guarded. guarded ≡ guarded_of verified.now) }
+{
+    if !verified.has_guards() {
+        return Ok(None);
+    }
+    let guards = guards_of(alloc, verified)?;
+    let guarded = Guarded::new(alloc, verified.program(), guards)?;
+    Ok(Some(guarded))
+}
+
+/// How many slots of a program that is accepted with guards are guarded, and 0 of any other.
+fn guarded_count(alloc: Global, verified: &Verified<'_>) -> Result<u32, AllocError>
+    ensures { IfOk result (λ count. count ≡ guarded_count verified.now) }
+{
+    if verified.has_guards() {
+        let slots = guarded_slots(alloc, verified)?;
+        return Ok(slots.len() as u32);
+    }
+    Ok(0)
+}
+
 /// A program that judges crash images: one that the verifier accepted, with its budget, or one that no
 /// verifier was asked about, with a limit of steps.
 ///
-/// Contracts see the program, the most steps of a run, and for which size of devices it was verified.
+/// Contracts see the program, the most steps of a run, for which size of devices it was verified, and, where that was with
+/// guards, how many of its slots are guarded.
 #[derive(Drop)]
 pub struct Checker<'p> {
     program: &'p Program,
     limit: u64,
     /// The number of sectors of the devices for which the program was verified, if it was.
     verified: Option<u32>,
+    /// The program with its guards, if it was verified with guards.
+    guarded: Option<Guarded<'p>>,
+    /// How many of its slots are guarded then.
+    count: u32,
 }
 
 impl<'p> Model for Checker<'p> {
+    ghost use Rattle.std.specs.Option.{option_map};
     ghost use Rattle.checker.specs.Checker.{CheckerValue, IsChecker};
 
     ghost Value = { CheckerValue };
 
-    ghost view = { λ c. record { program = c.program.now; limit = c.limit; verified = c.verified } };
+    ghost view = { λ c. record { program = c.program.now; limit = c.limit; verified = c.verified; guards = option_map (λ _. c.count) c.guarded } };
 
-    ghost invariant = { λ c. IsChecker (record { program = c.program.now; limit = c.limit; verified = c.verified }) };
+    ghost invariant = { λ c. IsChecker (record { program = c.program.now; limit = c.limit; verified = c.verified; guards = option_map (λ _. c.count) c.guarded }) c.guarded };
 }
 
 impl<'p> Checker<'p> {
     /// A program that is run with every check, for at most so many steps.
     pub fn limited(program: &'p Program, limit: u64) -> Checker<'p>
-        ensures { result ≡ record { program = program.now; limit = limit; verified = None } }
+        ensures { result ≡ record { program = program.now; limit = limit; verified = None; guards = None } }
     {
         Checker {
             program,
             limit,
             verified: None,
+            guarded: None,
+            count: 0,
         }
     }
 
-    /// A program that the verifier accepted, for at most as many steps as its budget says. It keeps the
-    /// program alone, and not the table.
-    pub fn verified(verified: &Verified<'p>) -> Checker<'p>
-        ensures { result ≡ record { program = verified.now.program; limit = verified.now.budget; verified = Some verified.now.sectors } }
+    /// A program that the verifier accepted, for at most as many steps as its budget says. It keeps the program and which of
+    /// its slots are guarded, and not the table. It takes memory where the program is accepted with guards.
+    pub fn verified(alloc: Global, verified: &Verified<'p>) -> Result<Checker<'p>, AllocError>
+        ensures { IfOk result (λ c. c ≡ checker_of verified.now) }
     {
-        Checker {
+        let guarded = guarded_of(alloc, verified)?;
+        let count = guarded_count(alloc, verified)?;
+        Ok(Checker {
             program: verified.program(),
             limit: verified.budget(),
             verified: Some(verified.sectors()),
+            guarded,
+            count,
+        })
+    }
+
+    /// Whether the verifier accepted the program with guards.
+    pub fn has_guards(&self) -> bool
+        ensures { result ≡ is_some self.now.guards }
+    {
+        self.guards().is_some()
+    }
+
+    /// How many slots are guarded, where the verifier accepted the program with guards.
+    pub fn guards(&self) -> Option<u32>
+        ensures { result ≡ self.now.guards }
+    {
+        match &self.guarded {
+            Some(_guarded) => Some(self.count),
+            None => None,
         }
     }
 
@@ -108,7 +173,8 @@ impl<'p> Checker<'p> {
     }
 
     /// Runs the program on an image, and answers what it ends in (docs/MACHINE.md, Outcome). A verified one is
-    /// run without checks, on an image of a device of the size for which it was verified.
+    /// run without checks, on an image of a device of the size for which it was verified. With guards the places of
+    /// guarded slots are tested (docs/MACHINE.md, Guards).
     pub fn judge<D: Device>(&self, context: &Context, device: &D) -> Outcome
         requires image { Suits self.now.verified (D.content device.now) context.now }
         ensures { ending_of result ≡ judgement self.now (D.content device.now) context.now }
@@ -127,6 +193,28 @@ impl<'p> Checker<'p> {
         requires image { Suits self.now.verified (D.content device.now) context.now }
         ensures ends { ending_of result.outcome ≡ judgement self.now (D.content device.now) context.now }
         ensures reads { result.footprint ≡ kept_footprint ROOM self.now (D.content device.now) context.now }
+    {
+        match &self.guarded {
+            Some(guarded) => {
+                // A law of the machine, which does nothing: it ends in a verdict, or strays at a guarded slot.
+                guarded_runs_safely();
+                run_with_guards(guarded, context, device, self.limit)
+            }
+            None => self.judge_unguarded(context, device),
+        }
+    }
+
+    /// The same of a checker without guards.
+    #[inline(always)]
+    fn judge_unguarded<D: Device, const ROOM: usize>(
+        &self,
+        context: &Context,
+        device: &D,
+    ) -> Noted<ROOM>
+        requires image { Suits self.now.verified (D.content device.now) context.now }
+        requires unguarded { self.now.guards ≡ None }
+        ensures ends { ending_of result.outcome ≡ outcome self.now.program (D.content device.now) context.now self.now.limit }
+        ensures reads { result.footprint ≡ footprint_after (unread ROOM) (footprint self.now.program (D.content device.now) context.now self.now.limit) }
     {
         match self.verified {
             Some(_sectors) => {

@@ -1,30 +1,32 @@
 //! A checker: a program that judges crash images, with the way in which it is run.
 //!
 //! A program that the verifier accepted for a size of devices is run without checks, for at most as many steps
-//! as its budget says. One that no verifier was asked about is run with every check, for at most as many steps
-//! as its limit says.
+//! as its budget says. One that it accepted with guards is run so too, but that the places of its guarded slots are tested.
+//! One that no verifier was asked about is run with every check, for at most as many steps as its limit says.
 //!
 //! # Place
 //!
 //! Above both ways of running a program, `interp` with every check and `plain` without any, above `verifier`, whose
-//! accepted programs it runs, and above `soundness`, which proves that they meet no fault and end within their
-//! budgets. Below `verdict_cache` and `workers`, which judge images. Nothing else stands on both the machines and
+//! accepted programs it runs, and above `soundness`, which proves that they meet no fault, stray at guarded slots alone, and
+//! end within their budgets. Below `verdict_cache` and `workers`, which judge images. Nothing else stands on both the machines and
 //! the verifier, so neither has to wait for the other.
 //!
 //! # What is proved
 //!
 //! What `judge` answers is the `outcome` of `machine` within the checker's limit or budget, by whichever of the two
-//! runs; of a verified one it is a verdict. A `Checker` that says that it was verified holds a program that the
-//! verifier accepts for that size of devices, with that budget (`specs/Checker.antt`). So of a verified checker
-//! `judge` asks for an image of a device of the size for which it was verified (`Suits`), and tests nothing.
+//! runs; of a verified one it is a verdict. With guards it is the `guarded_outcome`, a verdict or a stray at a guarded slot.
+//! A `Checker` that says that it was verified holds a program that the verifier accepts for that size of devices, with that
+//! budget, and where that was with guards, which slots its least table guards (`IsChecker` in `specs/Checker.antt`). So of a
+//! verified checker `judge` asks for an image of a device of the size for which it was verified (`Suits`), and tests nothing.
 //!
 //! `judge_noted` answers the same, and in so much room the footprint of the run, the sectors at which it looked
-//! (docs/MACHINE.md, Footprint): what a `Footprint` keeps of the `footprint` of `machine`, by whichever of the two runs.
+//! (docs/MACHINE.md, Footprint): what a `Footprint` keeps of the `footprint` of `machine`, or of the `guarded_footprint`.
 //! That is a list of these sectors, each once, or no list where there is no room for all (`kept_is_the_footprint`). Where it
 //! is a list, the checker ends in the same on each device of that size that has the same bytes in these sectors
 //! (`agreeing_devices_are_judged_alike`; `specs/Footprints.antt`).
 //!
-//! No call takes memory, and each returns.
+//! `Checker::verified` takes memory where a program was accepted with guards, to keep its guarded slots. No other call does, and
+//! each returns.
 //!
 //! # Example
 //!
@@ -37,7 +39,7 @@
 //! let program = decode(alloc, bytes)?;   // mov64 r0, 0; exit
 //! let verified = verify(alloc, &program, 4)?;
 //! let context = Context { sectors: 4, epoch: 0, marks: 0 };
-//! let outcome = Checker::verified(&verified).judge(&context, &Filled::new(4, 0));
+//! let outcome = Checker::verified(alloc, &verified)?.judge(&context, &Filled::new(4, 0));
 //! // a verdict with the answer 0 and no codes
 //! ```
 #![tactic(auto)]

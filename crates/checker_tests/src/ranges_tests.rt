@@ -1,10 +1,14 @@
 //! Programs of docs/VERIFIER.md that go straight on, each with the instruction at which a rule is
-//! broken and its number there, the edges of a null test, and what a local call passes on.
+//! broken and its number there, the edges of a null test, and what a local call passes on. The same with guards, and what is
+//! guarded.
 
 use bpf_isa::instr::{Condition, Instr, Operator, Size, Source, Width};
 use bpf_isa::register::Register;
 use intervals::{Bounds, Range, SignedRange, reduce};
-use ranges::{SectorOffsets, StackOffset, State, Value, after, branch, check, entry};
+use ranges::{
+    SectorOffsets, StackOffset, State, Value, advance_loosely, after, branch, breaks_rule, check,
+    check_with_guards, entry, is_guarded,
+};
 use std::test::Fail;
 
 /// The register of this number.
@@ -326,7 +330,7 @@ fn behind_local_calls(rt: HostRuntime) {
 fn inside_local_calls(rt: HostRuntime) {
     let entered = entry(&before_call());
     let frame = Value::Stack(StackOffset { offset: 512 });
-    assert_eq!(rt; entered.values[1], Value::Unset);
+    assert_eq!(rt; entered.values[1], Value::Word);
     assert_eq!(rt; entered.values[2], number(Range::constant(3)));
     assert_eq!(rt; entered.values[6], Value::Unset);
     assert_eq!(rt; entered.values[10], frame);
@@ -480,4 +484,131 @@ fn answered_by(state: Option<State>) -> State {
         Some(state) => state,
         None => State::start(),
     }
+}
+
+/// The state behind an instruction with guards, on 4 sectors.
+fn behind_with_guards(instr: &Instr, state: &State) -> State {
+    if breaks_rule(instr, state) {
+        let mut next = *state;
+        advance_loosely(instr, &mut next);
+        next
+    } else {
+        behind(instr, state)
+    }
+}
+
+/// From a state on, the first instruction that breaks a rule with guards, and the number of the rule, as `refused`; and the
+/// last one before it that is guarded.
+fn guarded_from(state: &State, program: &[Instr]) -> (usize, u8, Option<usize>) {
+    let (mut state, mut guarded) = (*state, None);
+    for (place, instr) in program.iter().enumerate() {
+        if let Err(cause) = check_with_guards(instr, &state) {
+            return (place, cause.number(), guarded);
+        }
+        if is_guarded(instr, &state) {
+            guarded = Some(place);
+        }
+        state = behind_with_guards(instr, &state);
+    }
+    (program.len(), 0, guarded)
+}
+
+fn guarded(program: &[Instr]) -> (usize, u8, Option<usize>) {
+    guarded_from(&State::start(), program)
+}
+
+#[test]
+fn accepted_with_guards(rt: HostRuntime) {
+    assert_eq!(rt;
+        guarded(&[put(1, 0), call(1), load(Size::Byte, 0, 0, 0), Instr::Exit]),
+        (4, 0, Some(2))
+    );
+    assert_eq!(rt;
+        guarded(&[load(Size::Byte, 0, 10, -1), Instr::Exit]),
+        (2, 0, None)
+    );
+    assert_eq!(rt; guarded(&[copy(0, 1), Instr::Exit]), (2, 0, None));
+    assert_eq!(rt;
+        guarded(&[store_number(1, 0), put(0, 0), Instr::Exit]),
+        (3, 0, Some(0))
+    );
+    // inside a local function that was given a pointer
+    assert_eq!(rt;
+        guarded_from(
+            &entry(&State::start()),
+            &[load(Size::Byte, 0, 1, -1), Instr::Exit]
+        ),
+        (2, 0, Some(0))
+    );
+}
+
+#[test]
+fn refused_with_guards(rt: HostRuntime) {
+    assert_eq!(rt; guarded(&[Instr::Exit]), (0, 50, None));
+    assert_eq!(rt; guarded(&[store(10, -8, 2)]), (0, 50, None));
+    // a length that isn't known
+    assert_eq!(rt;
+        guarded(&[
+            put(1, 0),
+            copy(2, 10),
+            load(Size::Double, 3, 10, -8),
+            call(2)
+        ]),
+        (3, 56, None)
+    );
+}
+
+/// What r0 holds with guards behind a program without jumps, on 4 sectors.
+fn left_with_guards(program: &[Instr]) -> Value {
+    let mut state = State::start();
+    for instr in program {
+        state = behind_with_guards(instr, &state);
+    }
+    state.values[0]
+}
+
+#[test]
+fn loads_with_guards(rt: HostRuntime) {
+    // of eight bytes at a place that isn't proved nothing is known, and fewer are a number
+    assert_eq!(rt;
+        left_with_guards(&[load(Size::Double, 0, 1, 32)]),
+        Value::Word
+    );
+    assert_eq!(rt;
+        left_with_guards(&[load(Size::Byte, 0, 1, 32)]),
+        number(Range::up_to(255))
+    );
+    // no arithmetic makes a number of a pointer
+    assert_eq!(rt; left_with_guards(&[copy(0, 1), add(0, -1)]), Value::Word);
+}
+
+#[test]
+fn stores_with_guards(rt: HostRuntime) {
+    let keep = [store_number(10, -8), store_number(10, -16)];
+    // a pointer that isn't aligned is kept nowhere, and the groups that it touches are forgotten
+    assert_eq!(rt;
+        left_with_guards(&[keep[0], keep[1], store(10, -20, 1), read_back()]),
+        number(Range::constant(7))
+    );
+    assert_eq!(rt;
+        left_with_guards(&[keep[0], store(10, -12, 1), read_back()]),
+        Value::Word
+    );
+    // so are all where the place isn't proved
+    assert_eq!(rt;
+        left_with_guards(&[keep[0], store_number(1, 0), read_back()]),
+        Value::Word
+    );
+}
+
+#[test]
+fn joined_pointers(rt: HostRuntime) {
+    // r0 is a number, another pointer, or unset, where it was the context
+    let context = known(&[copy(0, 1)]);
+    let with_number = context.join(&known(&[put(0, 0)]));
+    assert_eq!(rt; with_number.values[0], Value::Word);
+    assert_eq!(rt; context.join(&known(&[copy(0, 10)])).values[0], Value::Word);
+    assert_eq!(rt; with_number.join(&State::start()).values[0], Value::Unset);
+    assert_eq!(rt; broken(&Instr::Exit, &with_number), 50);
+    assert!(rt; with_number.contains(&context) && !with_number.contains(&State::start()));
 }

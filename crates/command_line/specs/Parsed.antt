@@ -100,6 +100,7 @@ options_with p added meant = record {
   workers = unwrap_or p.workers 1;
   cache = unwrap_or p.cache 0;
   checked = p.checked;
+  guards = p.guards;
   first = p.first;
   images = meant;
 }
@@ -133,7 +134,7 @@ Asks p (Some verb.Images) r = (options : OptionWords) × AreOptions p options ×
 Asks p (Some verb.Image) r = (options : OptionWords) × (meant : Which) × AreOptions p options × IsWhich p meant × (r ≡ asks.Image options meant)
 Asks p (Some verb.Show) r = (options : OptionWords) × (meant : Which) × AreOptions p options × IsWhich p meant × (r ≡ asks.Show options meant)
 Asks p (Some verb.Log) r = (options : OptionWords) × AreOptions p options × (r ≡ asks.Log options)
-Asks p (Some verb.Verify) r = (options : OptionWords) × AreOptions p options × (r ≡ asks.Verify options)
+Asks p (Some verb.Verify) r = (options : OptionWords) × AreOptions p options × (r ≡ asks.Verify options p.list)
 Asks p (Some verb.Import) r = r ≡ asks.Import (limits_named p.large)
 Asks p (Some verb.Check) r = r ≡ asks.Check (trial_asked p)
 Asks p (Some verb.Asm) r = r ≡ asks.Asm
@@ -183,12 +184,14 @@ pub record IsRead (found : Found) (p : Parsed) : Type 0 where
   pub workers : IsNumberOf found (codes "workers") p.workers
   pub cache : IsNumberOf found (codes "cache") p.cache
   pub checked : IsNumberOf found (codes "checked") p.checked
+  pub guards : IsFlagOf found (codes "guards") p.guards
   pub first : IsFlagOf found (codes "first") p.first
   pub progress : IsFlagOf found (codes "progress") p.progress
   pub number : IsNumberOf found (codes "number") p.number
   pub cut : IsNumberOf found (codes "cut") p.cut
   pub choice : word_bytes p.choice ≡ first_value found (codes "choice")
   pub slots : IsFlagOf found (codes "slots") p.slots
+  pub listed : IsFlagOf found (codes "list") p.list
   pub epoch : IsNumberOf found (codes "epoch") p.epoch
   pub marks : IsNumberOf found (codes "marks") p.marks
   pub trace : IsNumberOf found (codes "trace") p.trace

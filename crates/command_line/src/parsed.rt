@@ -52,6 +52,8 @@ pub struct Parsed<'a> {
     pub cache: Option<u64>,
     /// The number behind `--checked`.
     pub checked: Option<u64>,
+    /// Whether `--guards` stands there.
+    pub guards: bool,
     /// Whether `--first` stands there.
     pub first: bool,
     /// Whether `--progress` stands there.
@@ -64,6 +66,8 @@ pub struct Parsed<'a> {
     pub choice: Option<&'a str>,
     /// Whether `--slots` stands there.
     pub slots: bool,
+    /// Whether `--list` stands there.
+    pub list: bool,
     /// The number behind `--epoch`.
     pub epoch: Option<u64>,
     /// The number behind `--marks`.
@@ -238,12 +242,14 @@ impl<'a> Parsed<'a> {
             workers: number_of(matches, "workers"),
             cache: number_of(matches, "cache"),
             checked: number_of(matches, "checked"),
+            guards: flag_of(matches, "guards"),
             first: flag_of(matches, "first"),
             progress: flag_of(matches, "progress"),
             number: number_of(matches, "number"),
             cut: number_of(matches, "cut"),
             choice: matches.get_str("choice"),
             slots: flag_of(matches, "slots"),
+            list: flag_of(matches, "list"),
             epoch: number_of(matches, "epoch"),
             marks: number_of(matches, "marks"),
             trace: number_of(matches, "trace"),
@@ -272,6 +278,7 @@ impl<'a> Parsed<'a> {
             workers: self.workers.unwrap_or(1),
             cache: self.cache.unwrap_or(0),
             checked: self.checked,
+            guards: self.guards,
             first: self.first,
             images,
         }
@@ -325,7 +332,10 @@ impl<'a> Parsed<'a> {
             Some(Verb::Show) => Request::Show(self.options(), self.which()),
             Some(Verb::Log) => Request::Log(self.options()),
             Some(Verb::Import) => Request::Import(limits_of(self.large)),
-            Some(Verb::Verify) => Request::Verify(self.options()),
+            Some(Verb::Verify) => Request::Verify {
+                words: self.options(),
+                listed: self.list,
+            },
             Some(Verb::Check) => Request::Check(self.trial()),
             Some(Verb::Asm) => Request::Asm,
             Some(Verb::List) => Request::List {

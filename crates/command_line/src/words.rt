@@ -135,9 +135,12 @@ Exit status: 0, or 2 for a refusal.";
 
 /// What stands behind the help of `verify`.
 const AFTER_VERIFY: &str =
-    "Prints 'accepted budget N': on each image of a device of that size a run takes at most N steps.
+    "Prints 'accepted budget N': on each image of a device of that size a run takes at most N steps. With --guards
+it prints 'accepted budget N guards G': at G slots a run tests the place of a load, a store or a copy. Where
+that is outside of what the program may touch, the run ends as 'stray at slot S'.
 
-Example: crashbpf verify check.bpf --sectors 64
+Examples: crashbpf verify check.bpf --sectors 64
+          crashbpf verify check.bpf --sectors 64 --guards --list
 
 Exit status: 0 where the program is accepted, 2 for a refusal: 20 to 26 for its bytes, 40 to 60 for
 the rule that it breaks, each at its slot.";
@@ -311,17 +314,31 @@ fn checked_option<'a>(alloc: Global) -> Arg<'a> {
     )
 }
 
+/// The option that asks for the second kind of acceptance.
+fn guards_option<'a>(alloc: Global) -> Arg<'a> {
+    flag_option(
+        alloc,
+        "guards",
+        "Accept by weaker rules: runs test the places that aren't proved, and end where one is outside",
+    )
+}
+
+/// The same of a run, where it excludes a limit of steps.
+fn guards_of_run<'a>(alloc: Global) -> Result<Arg<'a>, AllocError> {
+    guards_option(alloc).conflicts_with("checked")
+}
+
 /// The options of a run behind those of a log.
 fn with_run_options<'a>(alloc: Global, command: Command<'a>) -> Result<Command<'a>, AllocError> {
-    command
+    let command = command
         .arg(number_option(alloc, "workers", "Threads, 1 to 64 [default: 1]"))?
         .arg(number_option(alloc, "cache", "Verdicts to keep, up to 65536 [default: 0]"))?
-        .arg(checked_option(alloc))?
-        .arg(flag_option(
-            alloc,
-            "progress",
-            "Say on standard error how many images are judged",
-        ))
+        .arg(checked_option(alloc))?;
+    with_arg(command, guards_of_run(alloc))?.arg(flag_option(
+        alloc,
+        "progress",
+        "Say on standard error how many images are judged",
+    ))
 }
 
 /// The programs of a run.
@@ -503,13 +520,25 @@ fn file_command<'a>(
     Command::new(alloc, name).arg(file)
 }
 
+/// The option that lists the guarded slots.
+fn guards_list_option<'a>(alloc: Global) -> Result<Arg<'a>, AllocError> {
+    flag_option(
+        alloc,
+        "list",
+        "List each guarded slot, at which runs test a place, with its instruction",
+    )
+    .requires_arg("guards")
+}
+
 /// The command `verify`.
 fn verify_command<'a>(alloc: Global) -> Result<Command<'a>, AllocError> {
-    file_command(alloc, "verify", "PROGRAM", "A BPF program, as bytes")?
+    let command = file_command(alloc, "verify", "PROGRAM", "A BPF program, as bytes")?
         .about("Says with which budget of steps the verifier accepts a program")
         .after_help(AFTER_VERIFY)
         .arg(sectors_option(alloc))?
-        .arg(large_option(alloc))
+        .arg(large_option(alloc))?
+        .arg(guards_option(alloc))?;
+    with_arg(command, guards_list_option(alloc))
 }
 
 /// The image of a program.
@@ -681,7 +710,7 @@ impl Words {
             Request::Cure(words) | Request::Page(words) => words.sectors,
             Request::Images(words, _) | Request::Log(words) => words.sectors,
             Request::Image(words, _) | Request::Show(words, _) => words.sectors,
-            Request::Verify(words) => words.sectors,
+            Request::Verify { words, .. } => words.sectors,
             Request::Check(_) => 0,
             Request::StoredRun | Request::Import(_) => 0,
             Request::Asm | Request::List { .. } | Request::Join => 0,
@@ -697,7 +726,7 @@ impl Words {
             Request::Cure(words) | Request::Page(words) => words.limits,
             Request::Images(words, _) | Request::Log(words) => words.limits,
             Request::Image(words, _) | Request::Show(words, _) => words.limits,
-            Request::Verify(words) => words.limits,
+            Request::Verify { words, .. } => words.limits,
             Request::Check(words) => words.limits,
             Request::Import(limits) => limits,
             Request::StoredRun | Request::Join => Limits::Usual,

@@ -34,6 +34,14 @@ const RAW_CURE: &str = "record less at once; make file systems without discards"
 const LARGE_CURE: &str =
     "copy the first 192 MiB of the log device alone; make file systems without discards";
 
+/// What may accept a program as it is.
+const GUARDS_MAY: &str =
+    "--guards may accept the program as it is: its runs then test the places that aren't proved, and an image on which one is outside fails (docs/CHECKERS.md, With guards)";
+
+/// The same of a command that doesn't take the option.
+const GUARDS_ELSEWHERE: &str =
+    "'crashbpf explore --guards' may accept the program as it is (docs/CHECKERS.md, With guards); here --checked N runs it without the verifier";
+
 /// What a file holds, where it could be read.
 pub(crate) fn bytes_of(files: &[Option<Vec<u8>>], place: usize) -> Option<&[u8]> {
     match files.get(place) {
@@ -252,10 +260,51 @@ fn run_options(request: Request) -> Option<OptionWords> {
     }
 }
 
+/// Whether there is no such rule with guards.
+fn is_weakened(cause: VerifierCause) -> bool {
+    matches!(
+        cause,
+        VerifierCause::UnsetByte
+            | VerifierCause::OutsideRegion
+            | VerifierCause::ReadOnly
+            | VerifierCause::PointerArithmetic
+            | VerifierCause::PointerAsNumber
+    )
+}
+
+/// What is said of guards where these words ask for none.
+fn unasked_note(words: OptionWords) -> Option<&'static str> {
+    if words.guards {
+        None
+    } else {
+        Some(GUARDS_MAY)
+    }
+}
+
+/// What a command that verifies programs says of guards, where it was asked for none.
+fn guards_note(request: Request) -> Option<&'static str> {
+    match request {
+        Request::Verify { words, .. } => unasked_note(words),
+        Request::Explore(words) | Request::Why(words) => unasked_note(words),
+        Request::Cure(words) | Request::Page(words) => unasked_note(words),
+        Request::Check(_) => Some(GUARDS_ELSEWHERE),
+        _ => None,
+    }
+}
+
+/// Appends that guards may help, where a rule is broken that there isn't with them.
+fn put_guards(out: &mut String, request: Request, cause: VerifierCause) -> Result<(), AllocError> {
+    match guards_note(request) {
+        Some(text) if is_weakened(cause) => put_note(out, text),
+        _ => Ok(()),
+    }
+}
+
 /// Appends which rule a program breaks, the instruction that does, and what is known there.
 fn put_verifier_notes(
     alloc: Global,
     out: &mut String,
+    request: Request,
     cause: VerifierCause,
     slot: u64,
     facts: &Facts,
@@ -263,7 +312,8 @@ fn put_verifier_notes(
     if names_instruction(cause) {
         put_breach(out, slot, &facts.breach)?;
     }
-    put_cause(alloc, out, &cause, verifier_cure(cause))
+    put_cause(alloc, out, &cause, verifier_cure(cause))?;
+    put_guards(out, request, cause)
 }
 
 /// Appends how many images a log has with other cuts, where it has some, and not too many.
@@ -347,6 +397,7 @@ fn option_rule(place: u64) -> &'static str {
             "--images is A..B, two numbers with A below B, at most 16777216 images, and B at most the number of all images",
         18 =>
             "--parts is 1 to 1048576, and at least as many as leave none with more than 16777216 images",
+        19 => "--guards doesn't stand beside --checked",
         _ => {
             "the log has no image of that number with these --cuts, --by, --bound and --tears; 'crashbpf images' tells how many it has"
         },
@@ -456,7 +507,14 @@ pub fn notes_behind(
             refusal.program,
         )?,
         Cause::Asm(cause) => put_cause(alloc, &mut out, &cause, asm_cure(cause))?,
-        Cause::Verifier(cause) => { put_verifier_notes(alloc, &mut out, cause, refusal.at, facts)? }
+        Cause::Verifier(cause) => put_verifier_notes(
+            alloc,
+            &mut out,
+            words.request(),
+            cause,
+            refusal.at,
+            facts,
+        )?,
         Cause::Request(RequestCause::TooManyImages) => put_images_notes(&mut out, words, facts)?,
         Cause::Request(RequestCause::Option) => {
             put_note(&mut out, rule_within(refusal.at, words.limits()))?

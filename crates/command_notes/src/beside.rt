@@ -39,7 +39,7 @@ fn put_survey_notes(
 pub fn notes_beside(alloc: Global, words: &Words, facts: &Facts) -> Result<String, AllocError> {
     let mut out = String::new(alloc);
     match words.request() {
-        Request::Verify(_) | Request::Check(_) => {
+        Request::Verify { .. } | Request::Check(_) => {
             for found in facts.unreached.iter() {
                 put_unreached(&mut out, None, *found)?;
             }

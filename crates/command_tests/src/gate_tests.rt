@@ -31,6 +31,7 @@ const SETTINGS: Settings = Settings {
     workers: 1,
     cache: 0,
     checked: Some(2),
+    guards: false,
     first: false,
     extent: Extent::Whole,
 };
@@ -281,6 +282,7 @@ fn by_workers(workers: u64, cache: u64, first: bool) -> Settings {
         workers,
         cache,
         checked: Some(2),
+        guards: false,
         first,
         extent: Extent::Whole,
     }
@@ -363,6 +365,7 @@ const SIXTEEN_CODES: Settings = Settings {
     workers: 2,
     cache: 0,
     checked: None,
+    guards: false,
     first: false,
     extent: Extent::Whole,
 };
@@ -466,6 +469,7 @@ fn hits_of<R: Threads + Wait + Sync>(
         workers: 1,
         cache,
         checked: Some(7),
+        guards: false,
         first: false,
         extent: Extent::Whole,
     })

@@ -1,6 +1,7 @@
 -- The endings of programs are words: answers, codes and slots.
-use Rattle.std.proofs.Common.{◌≡◌, ◌<◌, ℕ, zero, suc, ◌+◌, ◌-◌, ◌^◌, nat_lt, Bool, true, false, if◌then◌else◌, List, [], ◌∷◌, ◌++◌, length, Option, None, Some, refl, arith}
-use Rattle.std.specs.Option.{option_map_or}
+use Rattle.std.proofs.Common.{◌≡◌, ◌<◌, ℕ, zero, suc, ◌+◌, ◌-◌, ◌^◌, nat_lt, Bool, true, false, if◌then◌else◌, List, [], ◌∷◌, ◌++◌, length, map, Option, None, Some, refl, arith}
+use Rattle.std.specs.Option.{option_map_or, unwrap_or}
+use Rattle.std.specs.List.{AllByRecursion}
 use Rattle.std.specs.Int.{cast_unsigned, w32, w64}
 use Rattle.std.proofs.lemmas.Bool.Decides.{nat_tests}
 use Rattle.std.proofs.lemmas.List.Elements.{All-from_recursion}
@@ -20,17 +21,18 @@ use Rattle.helpers.specs.declared.helper.Helper.TheVariants as helper
 use Rattle.helpers.specs.Helper.{helper_of}
 use Rattle.helpers.specs.Answers.{sector_answer, device_bytes, copy_answer, again_answer, report_answer, codes_after, zero_answer, mix_answer, same_answer}
 use Rattle.machine.specs.Arithmetic.{arithmetic, sign_extension, in_order, holds}
-use Rattle.machine.specs.State.{State, Caller, word, start, stack_end, unset_stack}
+use Rattle.machine.specs.State.{State, Frame, Caller, word, start, stack_end, unset_stack}
 use Rattle.machine.specs.Memory.{context_bytes, byte_at, byte_count, plain_size, extension_of, number_from, frames_with}
 use Rattle.machine.specs.Step.{Stepped, Next, Done, Fault, second, address, branch_slot, goes_on, caller_of, turns_here, count_turn, answer_step, saved_caller, enter_function, exit_frame, call_effect, checks, effect, step_of, step}
 use Rattle.machine.specs.Step as machine
 use Rattle.machine.specs.Outcome.{Verdict, after, steps_end, outcome}
+use Rattle.machine.specs.Guards.{filled_frame, filled, writes_own_here, is_place, guarded, guarded_step, guarded_after, guarded_end, guarded_outcome}
 use Rattle.soundness.specs.Accepted.{IsImage}
 use Rattle.soundness.proofs.Loads.{small_number}
 use Rattle.soundness.proofs.Programs.{range_at}
 use Rattle.join.specs.Printable.{IsWithin}
 use Rattle.commands.proofs.Computed.{computed_word, extended_word, ordered_word, sector_word, zero_word, same_word, mix_word, copy_word, report_word, again_word}
-use Rattle.commands.proofs.Holding.{IsBelow, IsSaved, IsFrame, HoldsWords, AreBytes, HasBytes, each_set, each_both, each_taken, register_below, word_below, second_word, far, target_word, slot_within, byte_small, number_word, copied_small, bytes_kept, answer_kept, codes_kept, unset_below, saved_there}
+use Rattle.commands.proofs.Holding.{IsBelow, IsSaved, IsFrame, HoldsWords, AreBelow, AreBytes, HasBytes, each_set, each_both, each_taken, register_below, word_below, second_word, far, target_word, slot_within, byte_small, number_word, copied_small, bytes_kept, answer_kept, codes_kept, unset_below, saved_there}
 
 -- what a step comes to
 abbrev GoesWell : Stepped → Type 0
@@ -251,10 +253,69 @@ context_small c =
     let d : List ℕ = number_bytes 8 c.marks in
     small_both ((a ++ b) ++ d) (number_bytes 8 0) (small_both (a ++ b) d (small_both a b (small_number 8 c.sectors) (small_number 8 c.epoch)) (small_number 8 c.marks)) (small_number 8 0)
 
+image_bytes : (sectors : ℕ) (device : List (List ℕ)) (context : Context) → IsImage sectors device context → HasBytes (context_bytes context) device
+image_bytes sectors device context image = record { told = context_small context; sectors = λ n sector there. (image.whole n sector there).bytes }
+
 pub ends_are_words : (program : List (Option Instr)) (sectors : ℕ) (device : List (List ℕ)) (context : Context) (limit : ℕ) → IsProgram program → sectors < 2 ^ 32 → IsImage sectors device context
     → IsWithin (outcome program device context limit)
 unfolding outcome
 ends_are_words program sectors device context limit is few image =
     let count = image.count in
-    let bytes : HasBytes (context_bytes context) device = record { told = context_small context; sectors = λ n sector there. (image.whole n sector there).bytes } in
-    steps_end_within program device (context_bytes context) limit start is bytes (omega (arith, count, few)) start_words
+    steps_end_within program device (context_bytes context) limit start is (image_bytes sectors device context image) (omega (arith, count, few)) start_words
+
+-- with guards
+
+filled_below : (cells : List (Option ℕ)) → AreBelow 256 cells → AreBelow 256 (map (λ c. Some (unwrap_or c 0)) cells)
+filled_below [] all = tt
+filled_below (None ∷ cells) all = (omega arith, filled_below cells all.1)
+filled_below (Some c ∷ cells) all = (all.0, filled_below cells all.1)
+
+filled_frames : (frames : List Frame) → AllByRecursion IsFrame frames → AllByRecursion IsFrame (map filled_frame frames)
+filled_frames [] all = tt
+filled_frames (f ∷ frames) all = (record { stack = filled_below f.stack all.0.stack; saved = all.0.saved }, filled_frames frames all.1)
+
+filled_words : (s : State) → HoldsWords s → HoldsWords (filled s)
+unfolding filled
+filled_words s h = record { slot = h.slot; registers = h.registers; frames = filled_frames s.frames h.frames; few = h.few; codes = h.codes }
+
+-- what a step with guards comes to: it may also stray
+abbrev GoesOrStrays : Option Stepped → Type 0
+GoesOrStrays None = Unit {0}
+GoesOrStrays (Some t) = GoesWell t
+
+guarded_goes : (own : Bool) (t : Stepped) → GoesWell t → GoesOrStrays (guarded own t)
+guarded_goes true (Next t) goes = filled_words t goes
+guarded_goes false (Next t) goes = tt
+guarded_goes own (Done answer codes) goes = goes
+guarded_goes own (Fault cause slot) goes = by (is_place cause)
+  where
+    by : (b : Bool) → GoesOrStrays (if b then None else Some (Fault cause slot))
+    by true = tt
+    by false = goes
+
+guarded_step_goes : (program : List (Option Instr)) (device : List (List ℕ)) (context : List ℕ) (s : State) → IsProgram program → HasBytes context device → length device < 2 ^ 32 → HoldsWords s
+    → GoesOrStrays (guarded_step program context device s)
+unfolding guarded_step
+guarded_step_goes program device context s is bytes few h =
+    guarded_goes (writes_own_here program s) (step program context device s) (step_goes program device context s is bytes few h)
+
+guarded_end_within : (program : List (Option Instr)) (device : List (List ℕ)) (context : List ℕ) (n : ℕ) (s : State) → IsProgram program → HasBytes context device → length device < 2 ^ 32
+    → HoldsWords s → IsWithin (guarded_end program context device n s)
+unfolding guarded_end
+guarded_end_within program device context zero s is bytes few h = tt
+guarded_end_within program device context (suc n) s is bytes few h =
+    by (guarded_step program context device s) (λ t goes. guarded_end_within program device context n t is bytes few goes) (guarded_step_goes program device context s is bytes few h)
+  where
+    by : (o : Option Stepped) → ((t : State) → HoldsWords t → IsWithin (guarded_end program context device n t)) → GoesOrStrays o
+        → IsWithin (guarded_after (guarded_end program context device n) s.slot o)
+    by None rest goes = h.slot
+    by (Some (Next t)) rest goes = rest t goes
+    by (Some (Done answer codes)) rest goes = goes
+    by (Some (Fault cause slot)) rest goes = goes
+
+pub guarded_ends_are_words : (program : List (Option Instr)) (sectors : ℕ) (device : List (List ℕ)) (context : Context) (limit : ℕ) → IsProgram program → sectors < 2 ^ 32
+    → IsImage sectors device context → IsWithin (guarded_outcome program device context limit)
+unfolding guarded_outcome
+guarded_ends_are_words program sectors device context limit is few image =
+    let count = image.count in
+    guarded_end_within program device (context_bytes context) limit (filled start) is (image_bytes sectors device context image) (omega (arith, count, few)) (filled_words start start_words)

@@ -16,7 +16,7 @@ use Rattle.lines.specs.Reading.{lacks}
 use Rattle.outcomes.proofs.Plain.{both, number, is_plain, ascii}
 use Rattle.report.specs.declared.head.ProgramHead.{ProgramHead}
 use Rattle.report.specs.Text.{yes_or_no, cuts_word, by_words}
-use Rattle.report.specs.Report.{HeadValue, base_words, device_text, choices_text, given_text, options_line, steps_word, program_line, program_lines, options_text}
+use Rattle.report.specs.Report.{HeadValue, base_words, device_text, choices_text, given_text, options_line, steps_word, guards_words, steps_text, program_line, program_lines, options_text}
 use Rattle.join.specs.Text.{lines_text, AreHeadLines, IsHead}
 
 -- a byte of a line: of ASCII, and no newline
@@ -84,6 +84,10 @@ inner_cuts cuts =
     behind (flush_words (places_of cuts.flushes) ++ from_words cuts.from) (to_words cuts.to)
     (behind (flush_words (places_of cuts.flushes)) (from_words cuts.from) (inner_flush (places_of cuts.flushes)) (inner_from cuts.from)) (inner_to cuts.to)
 
+inner_guards : (o : Option ℕ) → IsInner (guards_words o)
+inner_guards None = refl
+inner_guards (Some n) = behind (codes " guards ") (decimal n) refl (inner_number n)
+
 -- six texts one after the other
 six : (a b c d e f : List ℕ) → IsInner a → IsInner b → IsInner c → IsInner d → IsInner e → IsInner f → IsInner (((((a ++ b) ++ c) ++ d) ++ e) ++ f)
 six a b c d e f p q r s t u = behind ((((a ++ b) ++ c) ++ d) ++ e) f (behind (((a ++ b) ++ c) ++ d) e (behind ((a ++ b) ++ c) d (behind (a ++ b) c (behind a b p q) r) s) t) u
@@ -121,15 +125,14 @@ options_begins h = refl
 
 -- the line of a program without its newline
 unfoldable program_inside : ℕ → ProgramHead → List ℕ
-program_inside number p = codes "program " ++ decimal number ++ codes " slots " ++ decimal p.slots ++ codes " " ++ steps_word p.verified ++ codes " " ++ decimal p.limit
+program_inside number p = codes "program " ++ decimal number ++ codes " slots " ++ decimal p.slots ++ codes " " ++ steps_text p
 
 inner_program : (n : ℕ) (p : ProgramHead) → IsInner (program_inside n p)
 unfolding program_inside
 inner_program n p =
-    behind (codes "program " ++ decimal n ++ codes " slots " ++ decimal p.slots ++ codes " " ++ steps_word p.verified ++ codes " ") (decimal p.limit)
-    (behind (codes "program " ++ decimal n ++ codes " slots " ++ decimal p.slots ++ codes " " ++ steps_word p.verified) (codes " ")
-    (six (codes "program ") (decimal n) (codes " slots ") (decimal p.slots) (codes " ") (steps_word p.verified) refl (inner_number n) refl (inner_number p.slots) refl (inner_steps p.verified)) refl)
-    (inner_number p.limit)
+    six (codes "program ") (decimal n) (codes " slots ") (decimal p.slots) (codes " ") (steps_text p) refl (inner_number n) refl (inner_number p.slots) refl
+    (behind (steps_word p.verified ++ codes " " ++ decimal p.limit) (guards_words p.guards)
+    (behind (steps_word p.verified ++ codes " ") (decimal p.limit) (behind (steps_word p.verified) (codes " ") (inner_steps p.verified) refl) (inner_number p.limit)) (inner_guards p.guards))
 
 program_begins : (n : ℕ) (p : ProgramHead) → get_or (program_inside n p) 0 0 ≡ 112
 unfolding program_inside

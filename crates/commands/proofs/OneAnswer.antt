@@ -36,7 +36,7 @@ use Rattle.looks.specs.Which.{IsMeant, IsOnly}
 use Rattle.looks.specs.Image.{text_in, IsImageIn, IsImage, IsShown}
 use Rattle.looks.specs.Survey.{survey_text, parts_text, IsSurvey}
 use Rattle.looks.specs.Table.{IsTable}
-use Rattle.looks.specs.Verifying.{accepted_text, IsAcceptedText}
+use Rattle.looks.specs.Verifying.{verified_text, IsAcceptedText}
 use Rattle.looks.specs.Assembly.{listing_text, IsAssembled, IsListed}
 use Rattle.runs.specs.declared.explore_command.Wanted.{Wanted}
 use Rattle.runs.specs.declared.explore_command.Wanted.TheVariants as wanted
@@ -170,11 +170,14 @@ one_image laws form which s text bytes others a b =
     let same : text_in form s (plan_of s a.value) a.choice ≡ text_in form s (plan_of s b.value) b.choice = λ i. text_in form s (plan_of s (value i)) (choice i) in
     a.shown ∙ same ∙ sym b.shown
 
-one_verified : Laws → (s : Settings) → IsOne (λ code bytes. IsAcceptedText code s.sectors bytes)
-one_verified laws s code bytes others a b =
-    let slots = laws.programs code a.slots b.slots a.spelled b.spelled in
-    let budget : a.budget ≡ b.budget = (laws.verdicts.accepted _ _ a.accepted.1 b.accepted.1 slots refl).0 in
-    a.says ∙ ap accepted_text budget ∙ sym b.says
+one_verified : Laws → (listed : Bool) (s : Settings) → IsOne (λ code bytes. IsAcceptedText code s listed bytes)
+one_verified laws listed s code bytes others a b =
+    let program : a.verified.program ≡ b.verified.program = laws.programs code a.verified.program b.verified.program a.spelled b.spelled in
+    let kind : a.verified.guards ≡ b.verified.guards = a.guards ∙ sym b.guards in
+    let size : a.verified.sectors ≡ b.verified.sectors = a.sectors ∙ sym b.sectors in
+    let one = laws.verdicts.accepted a.verified b.verified a.accepted b.accepted program size in
+    let all : a.verified ≡ b.verified = λ i. record { guards = kind i; program = program i; sectors = size i; budget = one.0 i; table = one.1 i } in
+    a.says ∙ ap (verified_text listed) all ∙ sym b.says
 
 one_assembled : Laws → IsOne IsAssembled
 one_assembled laws text bytes others a b =
@@ -237,7 +240,8 @@ one_answer laws (request.Images w parts) files bytes others status ended a b = o
 one_answer laws (request.Log w) files bytes others status ended a b = of_once w (λ s text. IsTable text s) (one_table laws) files bytes others status ended a b
 one_answer laws (request.Image w which) files bytes others status ended a b = of_once w (λ s text. IsImage text s which) (one_image laws _ which) files bytes others status ended a b
 one_answer laws (request.Show w which) files bytes others status ended a b = of_once w (λ s text. IsShown text s which) (one_image laws _ which) files bytes others status ended a b
-one_answer laws (request.Verify w) files bytes others status ended a b = with_once w (λ s code. IsAcceptedText code s.sectors) (one_verified laws) files bytes others status ended a b
+one_answer laws (request.Verify w listed) files bytes others status ended a b =
+    with_once w (λ s code. IsAcceptedText code s listed) (one_verified laws listed) files bytes others status ended a b
 one_answer laws (request.Import limits) files bytes others status ended a b =
     file_once (λ raw. IsImported raw (sector_limit limits) limits) (one_imported limits) files bytes others status ended a b
 one_answer laws (request.Check w) files bytes others status ended a b = trial_once laws w files bytes others status ended a b

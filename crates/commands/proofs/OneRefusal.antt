@@ -56,7 +56,7 @@ use Rattle.commands.specs.Acting.{AnswersTrial, RefusesCheck, for_trial_words, f
 use Rattle.commands.specs.Acting.{AnswersJoin, JoinsTexts, RefusesTexts, for_texts, RefusesParts, for_no_part, for_many_parts, for_unread_part, for_parts, for_part_memory}
 use Rattle.commands.specs.Laws.{IsOfMemory}
 use Rattle.commands.proofs.OneJoin.{joined_or_refused}
-use Rattle.commands.proofs.OneReport.{Below, same_log, of_log, of_source, wanted_or_refusal}
+use Rattle.commands.proofs.OneReport.{Below, same_log, of_log, of_source, refused_as, wanted_or_refusal}
 use Rattle.commands.proofs.OneAnswer.{same_files, same_initial, same_settings, same_held, tried_alike}
 
 -- words that ask for settings are not refused
@@ -196,14 +196,14 @@ of_meant below which s text value choice _ source meant (image.for_number other 
     absurd (none.none choice (subst (λ (v : LogValue). IsMeant (plan_of s v) s.bound s.tears which choice) same meant))
 of_meant below which s text value choice _ source meant (image.for_memory other images) = refl
 
-of_verified : Below → (s : Settings) (code bytes : List ℕ) (r : Refusal) → IsAcceptedText code s.sectors bytes → RefusesVerified code s.sectors r → IsOfMemory r.code
-of_verified below s code bytes _ h (with_code_fault cause slot fault) = absurd (below.spelled code h.slots h.spelled cause slot fault)
-of_verified below s code bytes _ h no_code_memory = refl
-of_verified below s code bytes _ h (with_verifier_fault slots cause slot spelled refused) =
-    let same = below.programs code slots h.slots spelled h.spelled in
-    absurd (below.verdicts.not_both _ cause slot h.accepted.1 (subst (λ (p : List (Option Instr)). Refused p s.sectors cause slot) same refused))
-of_verified below s code bytes _ h no_verifier_memory = refl
-of_verified below s code bytes _ h no_text_memory = refl
+of_verified : Below → (listed : Bool) (s : Settings) (code bytes : List ℕ) (r : Refusal) → IsAcceptedText code s listed bytes → RefusesVerified code s r → IsOfMemory r.code
+of_verified below listed s code bytes _ h (with_code_fault cause slot fault) = absurd (below.spelled code h.verified.program h.spelled cause slot fault)
+of_verified below listed s code bytes _ h no_code_memory = refl
+of_verified below listed s code bytes _ h (with_verifier_fault slots cause slot spelled refused) =
+    let same : slots ≡ h.verified.program = below.programs code slots h.verified.program spelled h.spelled in
+    absurd (below.verdicts.not_both h.verified cause slot h.accepted (refused_as h.verified s.guards s.sectors slots cause slot h.guards same h.sectors refused))
+of_verified below listed s code bytes _ h no_verifier_memory = refl
+of_verified below listed s code bytes _ h no_text_memory = refl
 
 of_assembled : (text bytes : List ℕ) (r : Refusal) → IsAssembled text bytes → RefusesText text r → IsOfMemory r.code
 of_assembled text bytes _ h (assembly.no_characters none) = absurd (none h.characters)
@@ -286,8 +286,8 @@ answer_or_refusal below (request.Image w which) files bytes status refusal h why
 answer_or_refusal below (request.Show w which) files bytes status refusal h why =
     of_log_with w (λ s text. IsShown text s which) (λ s text. RefusesImage text s which)
     (λ s text shown r k. of_meant below which s text k.value k.choice r k.source k.meant.is) files bytes status refusal h why
-answer_or_refusal below (request.Verify w) files bytes status refusal h why =
-    of_with w (λ s code. IsAcceptedText code s.sectors) (λ s code. RefusesVerified code s.sectors) (of_verified below) files bytes status refusal h why
+answer_or_refusal below (request.Verify w listed) files bytes status refusal h why =
+    of_with w (λ s code. IsAcceptedText code s listed) (λ s code. RefusesVerified code s) (of_verified below listed) files bytes status refusal h why
 answer_or_refusal below (request.Import limits) files bytes status refusal h why =
     of_alone (λ raw. IsImported raw (sector_limit limits) limits) (RefusesImport limits) (of_imported limits) files bytes status refusal h why
 answer_or_refusal below (request.Check w) files bytes status refusal h why = of_trial below w files bytes status refusal h why

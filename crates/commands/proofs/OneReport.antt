@@ -13,9 +13,9 @@ use Rattle.epochs.specs.declared.part.By.{By}
 use Rattle.choices.specs.Choices.{choices_at, choices_over, ranked_choices, ranked_before, IsFirstPastOf}
 use Rattle.bpf_isa.specs.declared.instr.Instr.{Instr}
 use Rattle.bpf_isa.specs.Laws.{OneProgram, NoFaultInSpelled}
-use Rattle.verifier.specs.Verdicts.{Refused}
+use Rattle.verifier.specs.Verdicts.{VerifiedValue, RefusedWith}
 use Rattle.verifier.specs.Laws.{OneVerdict}
-use Rattle.checker.specs.Checker.{CheckerValue}
+use Rattle.checker.specs.Checker.{CheckerValue, checker_of}
 use Rattle.lines.specs.Line.{FailingLine}
 use Rattle.workers.specs.Failing.{failing_lines}
 use Rattle.request.specs.declared.settings.Settings.{Settings}
@@ -26,7 +26,7 @@ use Rattle.request.specs.Extents.{most_images, has_extent}
 use Rattle.runs.specs.Inputs.{inputs_number}
 use Rattle.runs.specs.Judged.{takes}
 use Rattle.runs.specs.declared.explore_command.Wanted.{Wanted}
-use Rattle.runs.specs.Programs.{IsRunWithin}
+use Rattle.runs.specs.Programs.{IsAcceptedChecker, IsRunWithin}
 use Rattle.runs.specs.Explore as explore
 use Rattle.runs.specs.Explore.{IsCheckerOf, AreCheckersOf, subject_of, report_of, IsRun, RefusesProgram, with_code_fault, with_verifier_fault, no_code_memory, no_verifier_memory, no_list_memory, Refuses, for_count, for_program, RefusesWanted, for_extent, for_rest}
 use Rattle.commands.specs.Laws.{IsOfMemory, OneReport}
@@ -40,17 +40,31 @@ same_asked texts text s v w h k = h.added ∙ ap (with_flushes (places_of s.cuts
 pub same_log : TextOfOneLog → (text : Recording) (s : Settings) (v w : LogValue) → HasImages text s v → HasImages text s w → v ≡ w
 same_log texts text s v w h k = same_asked texts text s v w h.reads k.reads
 
--- a program runs within one limit
-same_limit : OneVerdict → (checked : Option ℕ) (sectors : ℕ) (c d : CheckerValue) → c.program ≡ d.program → IsRunWithin checked sectors c → IsRunWithin checked sectors d
-    → (c.limit ≡ d.limit) × (c.verified ≡ d.verified)
-same_limit verdicts (Some most) sectors c d same h k = (h.0 ∙ sym k.0, h.1 ∙ sym k.1)
-same_limit verdicts None sectors c d same h k = ((verdicts.accepted _ _ h.0.1 k.0.1 same refl).0, h.1 ∙ sym k.1)
+-- an accepted program is accepted in one way
+same_verified : OneVerdict → (guards : Bool) (sectors : ℕ) (c d : CheckerValue) → c.program ≡ d.program → IsAcceptedChecker guards sectors c → IsAcceptedChecker guards sectors d → c ≡ d
+same_verified verdicts guards sectors c d same h k =
+    let program : h.verified.program ≡ k.verified.program =
+    ap (λ (x : CheckerValue). x.program) (sym h.made) ∙ same ∙ ap (λ (x : CheckerValue). x.program) k.made in
+    let kind : h.verified.guards ≡ k.verified.guards = h.kind ∙ sym k.kind in
+    let size : h.verified.sectors ≡ k.verified.sectors = h.size ∙ sym k.size in
+    let one = verdicts.accepted h.verified k.verified h.is k.is program size in
+    let all : h.verified ≡ k.verified = λ i. record { guards = kind i; program = program i; sectors = size i; budget = one.0 i; table = one.1 i } in
+    h.made ∙ ap checker_of all ∙ sym k.made
+
+-- a program is run in one way
+same_run : OneVerdict → (checked : Option ℕ) (guards : Bool) (sectors : ℕ) (c d : CheckerValue) → c.program ≡ d.program → IsRunWithin checked guards sectors c
+    → IsRunWithin checked guards sectors d → c ≡ d
+same_run verdicts (Some most) guards sectors c d same h k =
+    let limit : c.limit ≡ d.limit = h.limit ∙ sym k.limit in
+    let verified : c.verified ≡ d.verified = h.verified ∙ sym k.verified in
+    let guarded : c.guards ≡ d.guards = h.guards ∙ sym k.guards in
+    λ i. record { program = same i; limit = limit i; verified = verified i; guards = guarded i }
+same_run verdicts None guards sectors c d same h k = same_verified verdicts guards sectors c d same h k
 
 same_checker : OneProgram → OneVerdict → (s : Settings) (bytes : List ℕ) (c d : CheckerValue) → IsCheckerOf s bytes c → IsCheckerOf s bytes d → c ≡ d
 same_checker programs verdicts s bytes c d h k =
     let program : c.program ≡ d.program = programs bytes c.program d.program h.spelled k.spelled in
-    let within = same_limit verdicts s.checked s.sectors c d program h.within k.within in
-    λ i. record { program = program i; limit = within.0 i; verified = within.1 i }
+    same_run verdicts s.checked s.guards s.sectors c d program h.within k.within
 
 pub same_checkers : OneProgram → OneVerdict → (s : Settings) (files : List (List ℕ)) (cs ds : List CheckerValue) → AreCheckersOf s files cs → AreCheckersOf s files ds → cs ≡ ds
 same_checkers programs verdicts s [] [] [] h k = refl
@@ -151,11 +165,20 @@ of_source below text s value _ h (for_plan r other reads why) =
     let same : other ≡ value = same_asked below.texts text s other value reads h.reads in
     of_plan below s value r h.few h.within (subst (λ v. RefusesPlan s v r) same why)
 
-not_unaccepted : Below → (checked : Option ℕ) (sectors : ℕ) (c : CheckerValue) (slots : List (Option Instr)) (cause : VerifierCause) (slot : ℕ) → checked ≡ None
-    → IsRunWithin checked sectors c → slots ≡ c.program → Refused slots sectors cause slot → ⊥
-not_unaccepted below (Some n) sectors c slots cause slot unlimited within same refused = absurd (let bad : Some n ≡ None = unlimited in cc)
-not_unaccepted below None sectors c slots cause slot unlimited within same refused =
-    below.verdicts.not_both _ cause slot within.0.1 (subst (λ (p : List (Option Instr)). Refused p sectors cause slot) same refused)
+-- a refusal of what was asked is one of the same program
+pub refused_as : (v : VerifiedValue) (guards : Bool) (sectors : ℕ) (slots : List (Option Instr)) (cause : VerifierCause) (slot : ℕ) → v.guards ≡ guards → slots ≡ v.program → v.sectors ≡ sectors
+    → RefusedWith guards slots sectors cause slot → RefusedWith v.guards v.program v.sectors cause slot
+refused_as v guards sectors slots cause slot kind program size refused =
+    let one = subst (λ (p : List (Option Instr)). RefusedWith guards p sectors cause slot) program refused in
+    let two = subst (λ (g : Bool). RefusedWith g v.program sectors cause slot) (sym kind) one in
+    subst (λ (n : ℕ). RefusedWith v.guards v.program n cause slot) (sym size) two
+
+not_unaccepted : Below → (checked : Option ℕ) (guards : Bool) (sectors : ℕ) (c : CheckerValue) (slots : List (Option Instr)) (cause : VerifierCause) (slot : ℕ) → checked ≡ None
+    → IsRunWithin checked guards sectors c → slots ≡ c.program → RefusedWith guards slots sectors cause slot → ⊥
+not_unaccepted below (Some n) guards sectors c slots cause slot unlimited within same refused = absurd (let bad : Some n ≡ None = unlimited in cc)
+not_unaccepted below None guards sectors c slots cause slot unlimited within same refused =
+    let program : slots ≡ within.verified.program = same ∙ ap (λ (x : CheckerValue). x.program) within.made in
+    below.verdicts.not_both within.verified cause slot within.is (refused_as within.verified guards sectors slots cause slot within.kind program within.size refused)
 
 of_program : Below → (s : Settings) (files : List (List ℕ)) (checkers : List CheckerValue) (r : Refusal) → AreCheckersOf s files checkers → RefusesProgram s files r
     → IsOfMemory r.code
@@ -164,7 +187,7 @@ of_program below s files checkers _ made (with_code_fault r program bytes before
     absurd (below.spelled bytes c.0.program c.1.spelled fault.0 fault.1 fault.3)
 of_program below s files checkers _ made (with_verifier_fault r program bytes slots before first there spelled unlimited fault) =
     let c = checker_there s files checkers program bytes made there in
-    absurd (not_unaccepted below s.checked s.sectors c.0 slots fault.0 fault.1 unlimited c.1.within (below.programs bytes slots c.0.program spelled c.1.spelled) fault.3)
+    absurd (not_unaccepted below s.checked s.guards s.sectors c.0 slots fault.0 fault.1 unlimited c.1.within (below.programs bytes slots c.0.program spelled c.1.spelled) fault.3)
 of_program below s files checkers r made (no_code_memory program bytes before first there) = refl
 of_program below s files checkers r made (no_verifier_memory program bytes slots before first there spelled unlimited) = refl
 of_program below s files checkers r made no_list_memory = refl

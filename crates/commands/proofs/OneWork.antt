@@ -1,11 +1,12 @@
 -- Who does the work changes no answer.
 use Rattle.std.proofs.Common.{ℕ, ◌≡◌, nat_le, Bool, true, false, ◌&&◌, List, [], ◌∷◌, Option, None, Some, option_map, sym, ap, subst}
 use Rattle.std.specs.Option.{option_map_or, option_and_then}
-use Rattle.base.specs.Check.{check, first_failing}
+use Rattle.base.specs.Check.{Check, check, first_failing}
 use Rattle.logfmt.specs.Bounds.{LogValue}
 use Rattle.epochs.specs.declared.cuts.CutKind.{CutKind}
 use Rattle.epochs.specs.declared.flushes.Flushes.{Flushes}
 use Rattle.epochs.specs.declared.part.By.{By}
+use Rattle.request.specs.declared.settings.OptionPlace.{OptionPlace}
 use Rattle.request.specs.declared.settings.OptionPlace.TheVariants as place
 use Rattle.limits.specs.Sizes.{sector_limit}
 use Rattle.request.specs.declared.settings.Settings.{Settings}
@@ -16,7 +17,7 @@ use Rattle.request.specs.declared.command.Request.TheVariants as request
 use Rattle.request.specs.declared.extent.Extent.{Extent}
 use Rattle.request.specs.Extents.{is_extent}
 use Rattle.runs.specs.Inputs.{inputs_number}
-use Rattle.request.specs.Settings.{is_ordered, option_refusal, option_checks, settings_refusal}
+use Rattle.request.specs.Settings.{is_one_kind, is_ordered, option_refusal, option_checks, settings_refusal}
 use Rattle.request.specs.OptionWords.{settings_with, AskFor}
 use Rattle.request.specs.Source.{Recording, IsLogOf, HasImages}
 use Rattle.runs.specs.Explore.{AreCheckersOf, head_of}
@@ -46,6 +47,7 @@ set_alone s = record {
   workers = 1;
   cache = 0;
   checked = s.checked;
+  guards = s.guards;
   first = s.first;
   extent = s.extent;
 }
@@ -64,22 +66,21 @@ alone_of w (Some c) (Some way) (Some added) (Some extent) s h =
     ap (λ (t : Settings). Some (set_alone t)) same
 
 -- where no check fails, none fails with one worker without a cache
-passed_alone : (sectors bound workers cache checked range images : Bool)
-    → option_map option_refusal (first_failing (check place.Sectors sectors ∷ check place.Bound bound ∷ check place.Workers workers ∷ check place.Cache cache ∷ check place.Checked checked
-    ∷ check place.Range range ∷ check place.Images images ∷ [])) ≡ None
-    → option_map option_refusal (first_failing (check place.Sectors sectors ∷ check place.Bound bound ∷ check place.Workers true ∷ check place.Cache true ∷ check place.Checked checked
-    ∷ check place.Range range ∷ check place.Images images ∷ [])) ≡ None
-passed_alone false bound workers cache checked range images h = h
-passed_alone true false workers cache checked range images h = h
-passed_alone true true false cache checked range images h = absurd (let bad : Some (option_refusal place.Workers) ≡ None = h in cc)
-passed_alone true true true false checked range images h = absurd (let bad : Some (option_refusal place.Cache) ≡ None = h in cc)
-passed_alone true true true true checked range images h = h
+passed_alone : (sectors bound workers cache : Bool) (rest : List (Check OptionPlace))
+    → option_map option_refusal (first_failing (check place.Sectors sectors ∷ check place.Bound bound ∷ check place.Workers workers ∷ check place.Cache cache ∷ rest)) ≡ None
+    → option_map option_refusal (first_failing (check place.Sectors sectors ∷ check place.Bound bound ∷ check place.Workers true ∷ check place.Cache true ∷ rest)) ≡ None
+passed_alone false bound workers cache rest h = h
+passed_alone true false workers cache rest h = h
+passed_alone true true false cache rest h = absurd (let bad : Some (option_refusal place.Workers) ≡ None = h in cc)
+passed_alone true true true false rest h = absurd (let bad : Some (option_refusal place.Cache) ≡ None = h in cc)
+passed_alone true true true true rest h = h
 
 good_alone : (s : Settings) → settings_refusal s ≡ None → settings_refusal (set_alone s) ≡ None
 unfolding option_checks
 good_alone s h =
     passed_alone (nat_le 1 s.sectors && nat_le s.sectors (sector_limit s.limits)) (nat_le s.bound 3) (nat_le 1 s.workers && nat_le s.workers 64) (nat_le s.cache 65536)
-    (option_map_or (λ limit. nat_le limit 1000000000) s.checked true) (is_ordered s.cuts) (is_extent s.extent) h
+    (check place.Checked (option_map_or (λ limit. nat_le limit 1000000000) s.checked true) ∷ check place.Range (is_ordered s.cuts) ∷ check place.Images (is_extent s.extent)
+    ∷ check place.Guards (is_one_kind s.guards s.checked) ∷ []) h
 
 ask_alone : (w : OptionWords) (s : Settings) → AskFor w s → AskFor (alone w) (set_alone s)
 ask_alone w s h = record { asked = alone_of w w.cuts w.by w.flushes w.images s h.asked; good = good_alone s h.good }
@@ -223,8 +224,9 @@ answers_alone (request.Image w which) files bytes status h =
 answers_alone (request.Show w which) files bytes status h =
     of_alone w (λ s text. IsShown text s which)
     (λ s held shown k. record { value = k.value; source = images_alone k.source; choice = k.choice; meant = k.meant; shown = k.shown }) files bytes status h
-answers_alone (request.Verify w) files bytes status h =
-    with_alone w (λ s code. IsAcceptedText code s.sectors) (λ s held shown k. k) files bytes status h
+answers_alone (request.Verify w listed) files bytes status h =
+    with_alone w (λ s code. IsAcceptedText code s listed)
+    (λ s held shown k. record { verified = k.verified; spelled = k.spelled; accepted = k.accepted; guards = k.guards; sectors = k.sectors; says = k.says }) files bytes status h
 answers_alone (request.Import limits) files bytes status h = h
 answers_alone (request.Check w) files bytes status h = h
 answers_alone request.Asm files bytes status h = h

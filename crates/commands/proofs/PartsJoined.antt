@@ -14,7 +14,8 @@ use Rattle.logfmt.specs.Laws.{TextOfOneLog}
 use Rattle.choices.specs.Choices.{limit}
 use Rattle.bpf_isa.specs.Laws.{OneProgram}
 use Rattle.verifier.specs.Laws.{OneVerdict}
-use Rattle.checker.specs.Checker.{CheckerValue, judgement}
+use Rattle.checker.specs.Checker.{CheckerValue}
+use Rattle.machine.specs.Outcome.{Ending}
 use Rattle.lines.specs.Line.{FailingLine, first_lines}
 use Rattle.lines.specs.Text.{line_text}
 use Rattle.report.specs.Report.{shown_lines, report_bytes}
@@ -27,18 +28,21 @@ use Rattle.join.proofs.Rows.{texts_long}
 use Rattle.join.proofs.Runs.{part_value, is_part, part_is, one_part}
 use Rattle.join.proofs.OfRuns.{join_is_run, parts_are_joined}
 use Rattle.workers.specs.Failing.{ending_at, line_of, image_lines, failing_lines}
+use Rattle.workers.specs.Safe.{IsVerdict, IsAcceptedBy, IsOverWithGuards}
 use Rattle.workers.proofs.Sets.{listed}
+use Rattle.workers.proofs.Safe.{verdict_at, over_at}
 use Rattle.request.specs.declared.extent.Extent.{Extent}
 use Rattle.request.specs.declared.extent.Extent.TheVariants as extent
 use Rattle.request.specs.declared.settings.Settings.{Settings}
 use Rattle.request.specs.Extents.{most_images, is_extent, has_extent}
-use Rattle.base.specs.Check.{check, first_failing}
+use Rattle.base.specs.Check.{Check, check, first_failing}
 use Rattle.limits.specs.Sizes.{sector_limit}
+use Rattle.request.specs.declared.settings.OptionPlace.{OptionPlace}
 use Rattle.request.specs.declared.settings.OptionPlace.TheVariants as place
-use Rattle.request.specs.Settings.{is_ordered, option_checks, IsAsked}
+use Rattle.request.specs.Settings.{is_one_kind, is_ordered, option_checks, IsAsked}
 use Rattle.request.specs.Source.{Recording, images_of, IsLogOf}
 use Rattle.runs.specs.Inputs.{inputs_number}
-use Rattle.runs.specs.Explore.{AreCheckersOf, subject_of, head_of, report_of, IsFaultless, IsReport}
+use Rattle.runs.specs.Explore.{AreCheckersOf, subject_of, head_of, report_of, IsSafe, IsReport}
 use Rattle.runs.proofs.Judging.{ordered}
 use Rattle.commands.specs.Parts.{meant, part_of, IsAnswer, HasAnswer, AnswerParts, HasCount, AreTextsOf, extent_of, JoinedPartsAreRun, PartsOfRunAreJoined}
 use Rattle.commands.proofs.OneReport.{same_asked, same_checkers}
@@ -385,15 +389,36 @@ fails_is r ranges from to bytes failing parts joined = (one_way, other_way)
     other_way : lines_between r from to ≢ [] → IsTrue failing
     other_way some = by_lines joined.lines refl some
 
--- a run without faults has none, whichever of its images are meant
-still_faultless : (e f : Extent) (s : Settings) (value : LogValue) (checkers : List CheckerValue) → IsFaultless (subject_of (meant e s) value checkers) → IsFaultless (subject_of (meant f s) value checkers)
-unfolding ending_at judgement
-still_faultless e f s value checkers h = record {
-  runs = h.runs;
+-- a program that is accepted is, whichever images are meant
+abbrev pub still_accepted : (guards : Bool) (e f : Extent) (s : Settings) (value : LogValue) (checkers : List CheckerValue) (checker : CheckerValue)
+    → IsAcceptedBy guards (subject_of (meant e s) value checkers) checker → IsAcceptedBy guards (subject_of (meant f s) value checkers) checker
+still_accepted guards e f s value checkers checker h = record { accepted = h.accepted; kind = h.kind }
+
+-- a run that is safe is, whichever of its images are meant
+still_safe : (guards : Bool) (e f : Extent) (s : Settings) (value : LogValue) (checkers : List CheckerValue) → IsSafe guards (subject_of (meant e s) value checkers)
+    → IsSafe guards (subject_of (meant f s) value checkers)
+still_safe false e f s value checkers h = record {
+  runs = λ n c there. let own = h.runs n c there in (still_accepted false e f s value checkers c own.0, own.1);
   lines = λ i l there.
       let is = (listed (subject_of (meant f s) value checkers)).sound i l there in
-      let safe = h.runs l.program is.checker is.of_program l.image is.choice is.of_image in
-      (safe.answer, safe.codes, is.ends ∙ safe.ends);
+      let own = h.runs l.program is.checker is.of_program in
+      let safe = own.1 l.image is.choice is.of_image in
+      subst (λ (x : Ending). IsVerdict x) (sym is.ends) (verdict_at (subject_of (meant f s) value checkers) is.checker is.choice own.0.kind safe);
+}
+still_safe true e f s value checkers h = record {
+  runs = λ n c there. let own = h.runs n c there in (still_accepted true e f s value checkers c own.0, own.1);
+  lines = λ i l there.
+      let is = (listed (subject_of (meant f s) value checkers)).sound i l there in
+      let own = h.runs l.program is.checker is.of_program in
+      let safe = own.1 l.image is.choice is.of_image in
+      let accepted = still_accepted true e f s value checkers is.checker own.0 in
+      record {
+        checker = is.checker;
+        of_program = is.of_program;
+        is = accepted;
+        over = subst (λ (x : Ending). IsOverWithGuards (subject_of (meant f s) value checkers) is.checker accepted x) (sym is.ends)
+            (over_at (subject_of (meant f s) value checkers) is.checker is.choice accepted safe);
+      };
 }
 
 -- what is known of texts of parts, of which there is one
@@ -402,7 +427,7 @@ record Joins (text : Recording) (files : List (List ℕ)) (s : Settings) (texts 
   checkers : List CheckerValue
   first : Range
   given : IsGiven text files (part_of s first) value checkers
-  faultless : s.checked ≡ None → IsFaultless (subject_of (part_of s first) value checkers)
+  faultless : s.checked ≡ None → IsSafe s.guards (subject_of (part_of s first) value checkers)
   ranges : List Range
   are : texts ≡ texts_of (run_of s value checkers (inputs_number text.text files)) ranges
   parts : ArePartsOf (run_of s value checkers (inputs_number text.text files)) ranges x.from x.to
@@ -481,7 +506,7 @@ report_meant text files s texts x images e bytes failing j few within is fails =
   made = checkers_meant (extent.Part j.first.from j.first.to) e s files j.checkers j.given.made;
   tells = is;
   fails = fails;
-  faultless = λ free. still_faultless (extent.Part j.first.from j.first.to) e s j.value j.checkers (j.faultless free);
+  faultless = λ free. still_safe s.guards (extent.Part j.first.from j.first.to) e s j.value j.checkers (j.faultless free);
 }
 
 both_true : (a b : Bool) → a ≡ true → b ≡ true → (a && b) ≡ true
@@ -582,27 +607,28 @@ whole_of_wide text files s bytes failing images one count few h =
       made = checkers_meant extent.Wide extent.Whole s files h.checkers h.made;
       tells = h.tells ∙ same_text s h.value h.checkers (inputs_number text.text files);
       fails = subst (λ (ls : List FailingLine). IsTrue failing ↔ (ls ≢ [])) (same_lines s h.value h.checkers) h.fails;
-      faultless = λ free. still_faultless extent.Wide extent.Whole s h.value h.checkers (h.faultless free);
+      faultless = λ free. still_safe s.guards extent.Wide extent.Whole s h.value h.checkers (h.faultless free);
     }
 
 -- options that pass their checks pass them with other images, which can be asked for
-last_check : (a b c d e f g h : Bool) → h ≡ true
-    → first_failing (check place.Sectors a ∷ check place.Bound b ∷ check place.Workers c ∷ check place.Cache d ∷ check place.Checked e ∷ check place.Range f ∷ check place.Images g ∷ []) ≡ None
-    → first_failing (check place.Sectors a ∷ check place.Bound b ∷ check place.Workers c ∷ check place.Cache d ∷ check place.Checked e ∷ check place.Range f ∷ check place.Images h ∷ []) ≡ None
-last_check true true true true true true g true is passed = refl
-last_check true true true true true true g false is passed = absurd (let bad : false ≡ true = is in cc)
-last_check true true true true true false g h is passed = absurd (let bad : Some place.Range ≡ None = passed in cc)
-last_check true true true true false f g h is passed = absurd (let bad : Some place.Checked ≡ None = passed in cc)
-last_check true true true false e f g h is passed = absurd (let bad : Some place.Cache ≡ None = passed in cc)
-last_check true true false d e f g h is passed = absurd (let bad : Some place.Workers ≡ None = passed in cc)
-last_check true false c d e f g h is passed = absurd (let bad : Some place.Bound ≡ None = passed in cc)
-last_check false b c d e f g h is passed = absurd (let bad : Some place.Sectors ≡ None = passed in cc)
+images_check : (a b c d e f g h : Bool) (rest : List (Check OptionPlace)) → h ≡ true
+    → first_failing (check place.Sectors a ∷ check place.Bound b ∷ check place.Workers c ∷ check place.Cache d ∷ check place.Checked e ∷ check place.Range f ∷ check place.Images g ∷ rest) ≡ None
+    → first_failing (check place.Sectors a ∷ check place.Bound b ∷ check place.Workers c ∷ check place.Cache d ∷ check place.Checked e ∷ check place.Range f ∷ check place.Images h ∷ rest) ≡ None
+images_check true true true true true true true true rest is passed = passed
+images_check true true true true true true false true rest is passed = absurd (let bad : Some place.Images ≡ None = passed in cc)
+images_check true true true true true true g false rest is passed = absurd (let bad : false ≡ true = is in cc)
+images_check true true true true true false g h rest is passed = absurd (let bad : Some place.Range ≡ None = passed in cc)
+images_check true true true true false f g h rest is passed = absurd (let bad : Some place.Checked ≡ None = passed in cc)
+images_check true true true false e f g h rest is passed = absurd (let bad : Some place.Cache ≡ None = passed in cc)
+images_check true true false d e f g h rest is passed = absurd (let bad : Some place.Workers ≡ None = passed in cc)
+images_check true false c d e f g h rest is passed = absurd (let bad : Some place.Bound ≡ None = passed in cc)
+images_check false b c d e f g h rest is passed = absurd (let bad : Some place.Sectors ≡ None = passed in cc)
 
 checks_meant : (e f : Extent) (s : Settings) → is_extent f ≡ true → first_failing (option_checks (meant e s)) ≡ None → first_failing (option_checks (meant f s)) ≡ None
 unfolding option_checks
 checks_meant e f s good passed =
-    last_check (nat_le 1 s.sectors && nat_le s.sectors (sector_limit s.limits)) (nat_le s.bound 3) (nat_le 1 s.workers && nat_le s.workers 64) (nat_le s.cache 65536)
-    (option_map_or (λ most. nat_le most 1000000000) s.checked true) (is_ordered s.cuts) (is_extent e) (is_extent f) good passed
+    images_check (nat_le 1 s.sectors && nat_le s.sectors (sector_limit s.limits)) (nat_le s.bound 3) (nat_le 1 s.workers && nat_le s.workers 64) (nat_le s.cache 65536)
+    (option_map_or (λ most. nat_le most 1000000000) s.checked true) (is_ordered s.cuts) (is_extent e) (is_extent f) (check place.Guards (is_one_kind s.guards s.checked) ∷ []) good passed
 
 asked_meant : (e f : Extent) (s : Settings) → is_extent f ≡ true → IsAsked (meant e s) → IsAsked (meant f s)
 asked_meant e f s good h = record {
@@ -613,6 +639,7 @@ asked_meant e f s good h = record {
   few_workers = h.few_workers;
   cache = h.cache;
   extent = good;
+  one_kind = h.one_kind;
   passed = checks_meant e f s good h.passed;
 }
 

@@ -20,7 +20,7 @@ use Rattle.request.specs.declared.settings.Settings.{Settings}
 use Rattle.request.specs.declared.settings.Telling.TheVariants as telling
 use Rattle.request.specs.Extents.{is_extent}
 use Rattle.request.specs.OptionWords.{settings_with, settings_of, AskFor}
-use Rattle.request.specs.Settings.{is_ordered, option_checks, settings_refusal, option_refusal, IsAsked}
+use Rattle.request.specs.Settings.{is_one_kind, is_ordered, option_checks, settings_refusal, option_refusal, IsAsked}
 use Rattle.request.specs.Source.{Recording}
 use Rattle.runs.specs.declared.explore_command.Wanted.TheVariants as wanted
 use Rattle.runs.specs.Explore.{IsReport}
@@ -32,32 +32,35 @@ use Rattle.commands.proofs.PartsJoined.{AreOne, whole_answer}
 
 -- options that no check refuses are asked for
 
-record AllPass (a b c d e f g : Bool) : Type 0 where
+record AllPass (a b c d e f g h : Bool) : Type 0 where
   sectors : a ≡ true
   bound : b ≡ true
   workers : c ≡ true
   cache : d ≡ true
   images : g ≡ true
+  one_kind : h ≡ true
 
-all_pass : (a b c d e f g : Bool)
-    → first_failing (check place.Sectors a ∷ check place.Bound b ∷ check place.Workers c ∷ check place.Cache d ∷ check place.Checked e ∷ check place.Range f ∷ check place.Images g ∷ []) ≡ None
-    → AllPass a b c d e f g
-all_pass true true true true true true true passed = record { sectors = refl; bound = refl; workers = refl; cache = refl; images = refl }
-all_pass true true true true true true false passed = absurd (let bad : Some place.Images ≡ None = passed in cc)
-all_pass true true true true true false g passed = absurd (let bad : Some place.Range ≡ None = passed in cc)
-all_pass true true true true false f g passed = absurd (let bad : Some place.Checked ≡ None = passed in cc)
-all_pass true true true false e f g passed = absurd (let bad : Some place.Cache ≡ None = passed in cc)
-all_pass true true false d e f g passed = absurd (let bad : Some place.Workers ≡ None = passed in cc)
-all_pass true false c d e f g passed = absurd (let bad : Some place.Bound ≡ None = passed in cc)
-all_pass false b c d e f g passed = absurd (let bad : Some place.Sectors ≡ None = passed in cc)
+all_pass : (a b c d e f g h : Bool)
+    → first_failing (check place.Sectors a ∷ check place.Bound b ∷ check place.Workers c ∷ check place.Cache d ∷ check place.Checked e ∷ check place.Range f ∷ check place.Images g
+    ∷ check place.Guards h ∷ []) ≡ None
+    → AllPass a b c d e f g h
+all_pass true true true true true true true true passed = record { sectors = refl; bound = refl; workers = refl; cache = refl; images = refl; one_kind = refl }
+all_pass true true true true true true true false passed = absurd (let bad : Some place.Guards ≡ None = passed in cc)
+all_pass true true true true true true false h passed = absurd (let bad : Some place.Images ≡ None = passed in cc)
+all_pass true true true true true false g h passed = absurd (let bad : Some place.Range ≡ None = passed in cc)
+all_pass true true true true false f g h passed = absurd (let bad : Some place.Checked ≡ None = passed in cc)
+all_pass true true true false e f g h passed = absurd (let bad : Some place.Cache ≡ None = passed in cc)
+all_pass true true false d e f g h passed = absurd (let bad : Some place.Workers ≡ None = passed in cc)
+all_pass true false c d e f g h passed = absurd (let bad : Some place.Bound ≡ None = passed in cc)
+all_pass false b c d e f g h passed = absurd (let bad : Some place.Sectors ≡ None = passed in cc)
 
 checks_of : (s : Settings) → first_failing (option_checks s) ≡ None
     → AllPass (nat_le 1 s.sectors && nat_le s.sectors (sector_limit s.limits)) (nat_le s.bound 3) (nat_le 1 s.workers && nat_le s.workers 64) (nat_le s.cache 65536)
-    (option_map_or (λ most. nat_le most 1000000000) s.checked true) (is_ordered s.cuts) (is_extent s.extent)
+    (option_map_or (λ most. nat_le most 1000000000) s.checked true) (is_ordered s.cuts) (is_extent s.extent) (is_one_kind s.guards s.checked)
 unfolding option_checks
 checks_of s passed =
     all_pass (nat_le 1 s.sectors && nat_le s.sectors (sector_limit s.limits)) (nat_le s.bound 3) (nat_le 1 s.workers && nat_le s.workers 64) (nat_le s.cache 65536)
-    (option_map_or (λ most. nat_le most 1000000000) s.checked true) (is_ordered s.cuts) (is_extent s.extent) passed
+    (option_map_or (λ most. nat_le most 1000000000) s.checked true) (is_ordered s.cuts) (is_extent s.extent) (is_one_kind s.guards s.checked) passed
 
 both_low : (a b m : ℕ) → (nat_le a b && nat_le b m) ≡ true → (a ≤ b) × (b ≤ m)
 both_low a b m both = by_tests (nat_le a b) (nat_le b m) refl refl both
@@ -92,6 +95,7 @@ asked_of s good =
       few_workers = workers.1;
       cache = (let test : nat_le s.cache 65536 ≡ true = h.cache in grind (arith, nat_tests, test));
       extent = h.images;
+      one_kind = h.one_kind;
       passed = passed;
     }
 

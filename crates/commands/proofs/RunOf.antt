@@ -1,11 +1,11 @@
 -- A run as a value, of which the texts of its parts are.
-use Rattle.std.proofs.Common.{ℕ, zero, suc, ◌≡◌, ◌+◌, ◌-◌, ◌*◌, ◌<◌, ◌≤◌, ◌^◌, ◌%◌, ◌==◌, ◌&&◌, nat_le, nat_lt, Bool, true, false, if◌then◌else◌, inl, inr, List, [], ◌∷◌, ◌++◌, length, map, filter, get_or, append-nil, slice_get, All, Option, None, Some, refl, sym, ◌∙◌, ap, subst, arith}
+use Rattle.std.proofs.Common.{ℕ, zero, suc, ◌≡◌, ◌+◌, ◌-◌, ◌*◌, ◌<◌, ◌≤◌, ◌^◌, ◌%◌, ◌==◌, ◌&&◌, nat_le, nat_lt, Bool, true, false, if◌then◌else◌, inl, inr, List, [], ◌∷◌, ◌++◌, length, map, filter, get_or, append-nil, slice_get, All, Option, None, Some, is_some, refl, sym, ◌∙◌, ap, subst, arith}
 use Rattle.std.specs.Option.{option_map_or}
 use Rattle.std.specs.List.{flat_map, fold, range_with_len}
 use Rattle.std.proofs.lemmas.Bool.Decides.{nat_tests}
 use Rattle.std.proofs.lemmas.Option.{slice_get_within}
 use Rattle.std.proofs.Math.Nat.{mod-lt}
-use Rattle.base.specs.Check.{check, first_failing}
+use Rattle.base.specs.Check.{Check, check, first_failing}
 use Rattle.limits.specs.Sizes.{sector_limit}
 use Rattle.logfmt.specs.declared.entry.Entry.{Entry}
 use Rattle.logfmt.specs.Bounds.{LogValue}
@@ -16,18 +16,23 @@ use Rattle.epochs.specs.Laws.{IsOfKind}
 use Rattle.choices.specs.Choices.{ChoiceValue}
 use Rattle.choices.proofs.CrashModel.{ranked_is_model}
 use Rattle.bpf_isa.specs.Program.{IsProgram}
-use Rattle.machine.specs.Outcome.{Ending}
+use Rattle.helpers.specs.declared.device.Context.{Context}
+use Rattle.machine.specs.Outcome.{Ending, outcome}
+use Rattle.machine.specs.Guards.{guarded_outcome}
+use Rattle.verifier.specs.Guards.{guarded_slots}
+use Rattle.soundness.specs.Accepted.{IsImage}
 use Rattle.lanes.specs.Sector.{horner}
 use Rattle.images.specs.Number.{initial_mix, initial_number}
 use Rattle.images.specs.Views.{view_of, sectors_of, context_at}
 use Rattle.checker.specs.Checker.{CheckerValue, judgement}
+use Rattle.checker.proofs.Counted.{few_guarded}
 use Rattle.lines.specs.declared.marks.Mark.{Mark}
 use Rattle.lines.specs.Line.{FailingLine}
 use Rattle.lines.specs.Marks.{mark_of, marks_of}
 use Rattle.report.specs.declared.head.ProgramHead.{ProgramHead}
 use Rattle.join.specs.Printable.{IsWithin, IsPrintable, ArePrintable}
 use Rattle.join.specs.Order.{follows, in_order}
-use Rattle.join.specs.Heads.{IsSmallOption, IsProgramHead, IsPrintedHead}
+use Rattle.join.specs.Heads.{IsSmallOption, IsFewOption, IsProgramHead, IsPrintedHead}
 use Rattle.join.specs.Text.{RunValue}
 use Rattle.join.specs.Laws.{IsRun}
 use Rattle.join.proofs.Order.{next_back}
@@ -37,10 +42,11 @@ use Rattle.workers.proofs.Sets.{listed}
 use Rattle.workers.proofs.Safe.{is_image}
 use Rattle.request.specs.declared.extent.Extent.{Extent}
 use Rattle.request.specs.declared.extent.Extent.TheVariants as extent
+use Rattle.request.specs.declared.settings.OptionPlace.{OptionPlace}
 use Rattle.request.specs.declared.settings.OptionPlace.TheVariants as place
 use Rattle.request.specs.declared.settings.Settings.{Settings}
 use Rattle.request.specs.Extents.{most_images, is_extent}
-use Rattle.request.specs.Settings.{is_ordered, option_checks, IsAsked}
+use Rattle.request.specs.Settings.{is_one_kind, is_ordered, option_checks, IsAsked}
 use Rattle.request.specs.Source.{Recording, plan_of, images_of, cut_past, lacking, HasImages}
 use Rattle.request.proofs.Logs.{bounds_of}
 use Rattle.looks.proofs.Printed.{names_are}
@@ -48,7 +54,7 @@ use Rattle.runs.specs.Inputs.{with_byte, file_bytes, inputs_number}
 use Rattle.runs.specs.Programs.{IsRunWithin}
 use Rattle.runs.specs.Explore.{IsProgramCount, AreCheckersOf, subject_of, program_head, head_of}
 use Rattle.commands.proofs.HeadLines.{head_stands}
-use Rattle.commands.proofs.Ending.{ends_are_words}
+use Rattle.commands.proofs.Ending.{ends_are_words, guarded_ends_are_words}
 
 -- the run of a log and of checkers
 abbrev pub run_of : Settings → LogValue → List CheckerValue → ℕ → RunValue
@@ -124,7 +130,7 @@ made_long s (bytes ∷ files) (c ∷ checkers) made = let rest = made_long s fil
 
 record IsMade (s : Settings) (c : CheckerValue) : Type 0 where
   program : IsProgram c.program
-  within : IsRunWithin s.checked s.sectors c
+  within : IsRunWithin s.checked s.guards s.sectors c
 
 made_there : (s : Settings) (files : List (List ℕ)) (checkers : List CheckerValue) (n : ℕ) (c : CheckerValue) → AreCheckersOf s files checkers → slice_get checkers n ≡ Some c → IsMade s c
 made_there s [] [] n c made there = absurd (let bad : None ≡ Some c = there in cc)
@@ -137,39 +143,67 @@ made_there s (bytes ∷ files) (d ∷ checkers) zero c made there =
 made_there s (bytes ∷ files) (d ∷ checkers) (suc n) c made there = made_there s files checkers n c made.1 there
 
 -- a limit that is asked for has passed its check
-fifth : (a b c d e f g : Bool)
-    → first_failing (check place.Sectors a ∷ check place.Bound b ∷ check place.Workers c ∷ check place.Cache d ∷ check place.Checked e ∷ check place.Range f ∷ check place.Images g ∷ []) ≡ None → e ≡ true
-fifth true true true true true f g passed = refl
-fifth true true true true false f g passed = absurd (let bad : Some place.Checked ≡ None = passed in cc)
-fifth true true true false e f g passed = absurd (let bad : Some place.Cache ≡ None = passed in cc)
-fifth true true false d e f g passed = absurd (let bad : Some place.Workers ≡ None = passed in cc)
-fifth true false c d e f g passed = absurd (let bad : Some place.Bound ≡ None = passed in cc)
-fifth false b c d e f g passed = absurd (let bad : Some place.Sectors ≡ None = passed in cc)
+fifth : (a b c d e : Bool) (rest : List (Check OptionPlace))
+    → first_failing (check place.Sectors a ∷ check place.Bound b ∷ check place.Workers c ∷ check place.Cache d ∷ check place.Checked e ∷ rest) ≡ None → e ≡ true
+fifth true true true true true rest passed = refl
+fifth true true true true false rest passed = absurd (let bad : Some place.Checked ≡ None = passed in cc)
+fifth true true true false e rest passed = absurd (let bad : Some place.Cache ≡ None = passed in cc)
+fifth true true false d e rest passed = absurd (let bad : Some place.Workers ≡ None = passed in cc)
+fifth true false c d e rest passed = absurd (let bad : Some place.Bound ≡ None = passed in cc)
+fifth false b c d e rest passed = absurd (let bad : Some place.Sectors ≡ None = passed in cc)
 
 limit_passed : (s : Settings) → IsAsked s → option_map_or (λ limit. nat_le limit 1000000000) s.checked true ≡ true
 unfolding option_checks
 limit_passed s asked =
     fifth (nat_le 1 s.sectors && nat_le s.sectors (sector_limit s.limits)) (nat_le s.bound 3) (nat_le 1 s.workers && nat_le s.workers 64) (nat_le s.cache 65536)
-    (option_map_or (λ limit. nat_le limit 1000000000) s.checked true) (is_ordered s.cuts) (is_extent s.extent) asked.passed
+    (option_map_or (λ limit. nat_le limit 1000000000) s.checked true)
+    (check place.Range (is_ordered s.cuts) ∷ check place.Images (is_extent s.extent) ∷ check place.Guards (is_one_kind s.guards s.checked) ∷ []) asked.passed
 
-limit_small : (checked : Option ℕ) (sectors : ℕ) (c : CheckerValue) → option_map_or (λ limit. nat_le limit 1000000000) checked true ≡ true → IsRunWithin checked sectors c → c.limit < 2 ^ 64
-limit_small (Some limit) sectors c passed within =
+limit_small : (checked : Option ℕ) (guards : Bool) (sectors : ℕ) (c : CheckerValue) → option_map_or (λ limit. nat_le limit 1000000000) checked true ≡ true
+    → IsRunWithin checked guards sectors c → c.limit < 2 ^ 64
+limit_small (Some limit) guards sectors c passed within =
     let test : nat_le limit 1000000000 ≡ true = passed in
     let few : limit ≤ 1000000000 = grind (arith, nat_tests, test) in
-    let same : c.limit ≡ limit = within.0 in
+    let same : c.limit ≡ limit = within.limit in
     omega (arith, few, same)
-limit_small None sectors c passed within = let most : c.limit ≤ 1000000000 = within.0.1.limit in omega (arith, most)
+limit_small None guards sectors c passed within =
+    let most : within.verified.budget ≤ 1000000000 = within.is.limit in
+    let same : c.limit ≡ within.verified.budget = ap (λ (x : CheckerValue). x.limit) within.made in
+    omega (arith, most, same)
+
+guards_small : (checked : Option ℕ) (guards : Bool) (sectors : ℕ) (c : CheckerValue) → IsRunWithin checked guards sectors c → IsFewOption c.guards
+guards_small (Some limit) guards sectors c within = subst (λ (o : Option ℕ). IsFewOption o) (sym within.guards) tt
+guards_small None guards sectors c within = subst (λ (x : CheckerValue). IsFewOption x.guards) (sym within.made) (by within.verified.guards)
+  where
+    by : (b : Bool) → IsFewOption (if b then Some (length (guarded_slots within.verified.program within.verified.table)) else None)
+    by true = let few = few_guarded within.verified within.is in omega (arith, few)
+    by false = tt
 
 -- a failing line can be printed
 
 ending_within : (text : Recording) (files : List (List ℕ)) (s : Settings) (value : LogValue) (checkers : List CheckerValue) (choice : ChoiceValue) (n : ℕ) (c : CheckerValue)
     → IsGiven text files s value checkers → slice_get checkers n ≡ Some c → IsWithin (ending_at (subject_of s value checkers) choice c)
 unfolding ending_at judgement
-ending_within text files s value checkers choice n c given there =
-    let bounds = bounds_of text s value given.source.reads in
-    let device = bounds.device in
-    ends_are_words c.program value.sectors (sectors_of (view_of (plan_of s value) choice)) (context_at value choice.cut) c.limit
-    (made_there s files checkers n c given.made there).program (omega (arith, device)) (is_image (view_of (plan_of s value) choice) bounds)
+ending_within text files s value checkers choice n c given there = by (is_some c.guards)
+  where
+    device : List (List ℕ)
+    device = sectors_of (view_of (plan_of s value) choice)
+
+    context : Context
+    context = context_at value choice.cut
+
+    program : IsProgram c.program
+    program = (made_there s files checkers n c given.made there).program
+
+    image : IsImage value.sectors device context
+    image = is_image (view_of (plan_of s value) choice) (bounds_of text s value given.source.reads)
+
+    few : value.sectors < 2 ^ 32
+    few = let size = (bounds_of text s value given.source.reads).device in omega (arith, size)
+
+    by : (guards : Bool) → IsWithin (if guards then guarded_outcome c.program device context c.limit else outcome c.program device context c.limit)
+    by true = guarded_ends_are_words c.program value.sectors device context c.limit program few image
+    by false = ends_are_words c.program value.sectors device context c.limit program few image
 
 cut_within : (k : CutKind) (es : List Entry) (cut : ℕ) → IsOfKind k es cut → cut ≤ length es
 cut_within kind.All es cut is = is
@@ -260,7 +294,7 @@ programs_small s (bytes ∷ files) (c ∷ checkers) asked made = all (programs_s
     all : All IsProgramHead (map program_head checkers) → (k : ℕ) (d : ProgramHead) → k < length (program_head c ∷ map program_head checkers) → IsProgramHead (get_or (program_head c ∷ map program_head checkers) k d)
     all rest zero d small =
         let slots = made.0.spelled.program.count.limit in
-        record { slots = omega (arith, slots); limit = limit_small s.checked s.sectors c (limit_passed s asked) made.0.within }
+        record { slots = omega (arith, slots); limit = limit_small s.checked s.guards s.sectors c (limit_passed s asked) made.0.within; guards = guards_small s.checked s.guards s.sectors c made.0.within }
     all rest (suc k) d small = rest k d (omega (arith, small))
 
 heads_long : (checkers : List CheckerValue) → length (map program_head checkers) ≡ length checkers

@@ -33,6 +33,7 @@ alone w = record {
   workers = 1;
   cache = 0;
   checked = w.checked;
+  guards = w.guards;
   first = w.first;
   images = w.images;
 }
@@ -48,7 +49,7 @@ asked_alone (request.Images w parts) = request.Images (alone w) parts
 asked_alone (request.Log w) = request.Log (alone w)
 asked_alone (request.Image w which) = request.Image (alone w) which
 asked_alone (request.Show w which) = request.Show (alone w) which
-asked_alone (request.Verify w) = request.Verify (alone w)
+asked_alone (request.Verify w listed) = request.Verify (alone w) listed
 asked_alone (request.Import limits) = request.Import limits
 asked_alone (request.Check w) = request.Check w
 asked_alone request.Asm = request.Asm

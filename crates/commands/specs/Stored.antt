@@ -32,6 +32,7 @@ stored_settings = record {
   workers = 1;
   cache = 0;
   checked = Some 2;
+  guards = false;
   first = false;
   extent = extent.Whole;
 }

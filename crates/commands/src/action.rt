@@ -277,19 +277,20 @@ fn act_import(alloc: Global, limits: Limits, files: &Held<'_>) -> Result<(Vec<u8
     Ok((text, 0))
 }
 
-/// What the verifier says of a program.
+/// What the verifier says of a program, with each guarded slot or without.
 fn act_verify(
     alloc: Global,
     words: OptionWords,
+    listed: bool,
     files: &Held<'_>,
     facts: &mut Facts,
 ) -> Result<(Vec<u8>, u8), Refusal>
-    ensures answers { IfOk result (λ answer. Answers (asks.Verify words) (held_by files.now) answer.0.items answer.1) }
-    ensures refused { IfErr result (RefusesToAct (asks.Verify words) (held_by files.now)) }
+    ensures answers { IfOk result (λ answer. Answers (asks.Verify words listed) (held_by files.now) answer.0.items answer.1) }
+    ensures refused { IfErr result (RefusesToAct (asks.Verify words listed) (held_by files.now)) }
 {
     let options = options_of(words)?;
     let code = files.first()?;
-    let text = verify_program(alloc, code, &options, facts)?;
+    let text = verify_program(alloc, code, &options, listed, facts)?;
     Ok((text, 0))
 }
 
@@ -424,7 +425,7 @@ pub(crate) fn act_known<G: Gate + Sync, R: Threads + Wait + Sync>(
         Request::Import(limits) => act_import(alloc, limits, files),
         Request::Image(words, which) => act_look(alloc, Look::Image(which), words, files, facts),
         Request::Show(words, which) => act_look(alloc, Look::Show(which), words, files, facts),
-        Request::Verify(words) => act_verify(alloc, words, files, facts),
+        Request::Verify { words, listed } => act_verify(alloc, words, listed, files, facts),
         Request::Check(words) => act_check(alloc, words, files, facts),
         Request::Asm => act_asm(alloc, files),
         Request::List { numbered } => act_list(alloc, numbered, files),

@@ -31,6 +31,7 @@ const STORED_SETTINGS: Settings = Settings {
     workers: 1,
     cache: 0,
     checked: Some(2),
+    guards: false,
     first: false,
     extent: Extent::Whole,
 };

@@ -6,7 +6,7 @@ use Rattle.logfmt.specs.Bounds.{LogValue}
 use Rattle.notes.specs.LogTable.{word_text}
 use Rattle.choices.specs.Sums.{StartsValue}
 use Rattle.report.specs.declared.head.ProgramHead.{ProgramHead}
-use Rattle.report.specs.Report.{steps_word}
+use Rattle.report.specs.Report.{steps_text}
 use Rattle.why.specs.declared.cut.CutFailures.{CutFailures}
 use Rattle.why.specs.Text.{IsNumbered}
 use Rattle.crash_page.specs.declared.pieces.Piece.TheVariants as piece
@@ -46,9 +46,9 @@ strip_text es program f = strip_open es ++ strip_from es program f.missing.items
 abbrev pub most_of_program : ℕ
 most_of_program = 500
 
--- the program: its number, how many slots it has, and the most steps of a run
+-- the program: its number, how many slots it has, the most steps of a run, and how many slots are guarded where some may be
 unfoldable pub name_text : ℕ → ProgramHead → List ℕ
-name_text program p = decimal program ++ codes ": slots " ++ decimal p.slots ++ codes " " ++ steps_word p.verified ++ codes " " ++ decimal p.limit
+name_text program p = decimal program ++ codes ": slots " ++ decimal p.slots ++ codes " " ++ steps_text p
 
 unfoldable pub title_text : ℕ → ProgramHead → List ℕ
 title_text program p =

@@ -40,7 +40,7 @@
 //! let run = Run { starts: &starts, history: &history, numbering };
 //! let outcomes = ["answer 1 codes 1"];
 //! let program = ProgramFailures {
-//!     head: ProgramHead { slots: 39, limit: 87, verified: true },
+//!     head: ProgramHead { slots: 39, limit: 87, verified: true, guards: None },
 //!     failing: 1,
 //!     outcomes: Vec::from_slice(alloc, &outcomes)?,
 //!     cuts: failures(alloc, &starts, &[104], &outcomes)?,

@@ -4,7 +4,6 @@ ghost use Rattle.std.specs.Prelude.{◌≡◌, ◌==◌, if◌then◌else◌, �
 ghost use Rattle.crash_page.specs.declared.pieces.Piece.TheVariants as piece;
 ghost use Rattle.crash_page.specs.Pieces.{piece_text};
 ghost use Rattle.crash_page.specs.Groups.{cuts_text};
-ghost use Rattle.report.specs.Report.{steps_word};
 ghost use Rattle.crash_page.specs.Page.{fails, bad_text, judged_text, verdict_text, strip_open, strip_text, name_text, title_text, summary_text, most_of_program, program_text, IsOfRun, AreOfRun};
 
 use crate::cut::{Showing, put_cut, shown_of};
@@ -16,7 +15,7 @@ use crate::share::put_legend;
 use crate::strip::put_strip;
 use flushes::MissingFlush;
 use logfmt::Log;
-use report::ProgramHead;
+use report::{ProgramHead, put_steps};
 use std::alloc::{AllocError, Global};
 use why::CutFailures;
 
@@ -174,20 +173,13 @@ fn lacking_of<'a>(program: usize, failures: &'a ProgramFailures<'_>) -> Lacking<
     }
 }
 
-/// What the most steps of a run are called.
-fn steps_name(verified: bool) -> &'static str
-    ensures { result.now ≡ steps_word verified }
-{
-    if verified { "budget" } else { "limit" }
-}
-
-/// Appends the number of a program, how many slots it has, and the most steps of a run.
+/// Appends the number of a program, how many slots it has, the most steps of a run, and how many slots are guarded where some may be.
 #[tactic(auto, unfolding(crate::specs::Page::name_text))]
 fn put_name(out: &mut String, program: usize, head: ProgramHead) -> Result<(), AllocError>
     ensures { OnOk result (string_bytes out.new ≡ string_bytes out.old ++ name_text program head) }
 {
-    write!(out, "{program}: slots {}", head.slots)?;
-    write!(out, " {} {}", steps_name(head.verified), head.limit)
+    write!(out, "{program}: slots {} ", head.slots)?;
+    put_steps(out, head)
 }
 
 /// Appends the title of a program.

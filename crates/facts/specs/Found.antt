@@ -1,5 +1,5 @@
 -- What a command finds for its notes.
-use Rattle.std.specs.Prelude.{ℕ, ◌≡◌, List, [], ◌∷◌, ◌++◌, Option, None, Some}
+use Rattle.std.specs.Prelude.{ℕ, ◌≡◌, Bool, List, [], ◌∷◌, ◌++◌, Option, None, Some}
 use Rattle.std.specs.Option.{option_map}
 use Rattle.bpf_isa.specs.declared.instr.Instr.{Instr}
 use Rattle.bpf_isa.specs.Slots.{at}
@@ -7,7 +7,7 @@ use Rattle.bpf_shape.specs.declared.fault.Fault.{Fault}
 use Rattle.ranges.specs.SeenStates.{state_of}
 use Rattle.verifier.specs.declared.unreached.Unreached.{Unreached}
 use Rattle.verifier.specs.declared.verified.Unaccepted.{Unaccepted}
-use Rattle.verifier.specs.Inferred.{IsKnown}
+use Rattle.verifier.specs.Inferred.{IsKnownWith}
 use Rattle.verifier.specs.Reach.{unreached_slots, count_and_first}
 use Rattle.verifier.specs.Verdicts.{VerifiedValue, IsVerified}
 use Rattle.request.specs.Source.{Recording}
@@ -23,7 +23,8 @@ pub record IsEmpty (facts : Facts) : Type 0 where
   pub breach : facts.breach ≡ None
   pub blind : facts.blind.items ≡ []
 
--- what no run reaches of a program that is accepted for devices of that many sectors
+-- what no run reaches of a program that is accepted for devices of that many sectors, with guards or without: where it is accepted
+-- in both ways it has the same table in both
 pub record IsUnreached (program : List (Option Instr)) (sectors : ℕ) (found : Option Unreached) : Type 0 where
   pub verified : VerifiedValue
   pub is : IsVerified verified
@@ -49,10 +50,11 @@ abbrev pub HasBreach : List (Option Instr) → Unaccepted → Option Breach → 
 HasBreach program why None = ⊥
 HasBreach program why (Some b) = (b.instr ≡ at program why.fault.slot) × (b.state ≡ why.known)
 
--- the instruction at which the verifier refuses a program for devices of that many sectors, and what it knows there
-pub record IsBreach (program : List (Option Instr)) (sectors : ℕ) (f : Fault) (b : Breach) : Type 0 where
+-- the instruction at which the verifier refuses a program for devices of that many sectors, with guards or without, and what it
+-- knows there
+pub record IsBreach (guards : Bool) (program : List (Option Instr)) (sectors : ℕ) (f : Fault) (b : Breach) : Type 0 where
   pub instr : b.instr ≡ at program f.slot
-  pub known : IsKnown program sectors f (option_map state_of b.state)
+  pub known : IsKnownWith guards program sectors f (option_map state_of b.state)
 
 -- what was found of programs stays
 pub record KeepsPrograms (old new : Facts) : Type 0 where

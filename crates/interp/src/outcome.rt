@@ -23,6 +23,8 @@ pub enum Outcome {
     Fault { code: MachineFault, slot: u32 },
     /// All steps were made, and none of them ended the checker.
     OutOfSteps,
+    /// With guards: the checker strayed at that slot (docs/MACHINE.md, Guards).
+    Stray(u32),
 }
 
 /// What a run of a checker comes to, and its footprint (docs/MACHINE.md, Footprint) in so much room.

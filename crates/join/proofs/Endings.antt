@@ -10,7 +10,7 @@ use Rattle.std.proofs.lemmas.Bool.Decides.{nat_tests}
 use Rattle.base.specs.Causes.{fault_number}
 use Rattle.base.specs.declared.causes.MachineFault.{MachineFault}
 use Rattle.base.specs.declared.causes.MachineFault.TheVariants as fault
-use Rattle.machine.specs.Outcome.{Ending, Verdict, Stopped, OutOfSteps}
+use Rattle.machine.specs.Outcome.{Ending, Verdict, Stopped, OutOfSteps, Stray}
 use Rattle.lines.specs.Reading.{lacks}
 use Rattle.lines.specs.Text.{codes_text, ending_text}
 use Rattle.join.specs.Printable.{IsWithin}
@@ -294,11 +294,15 @@ fault_is_ending text said parts f = record { ending = Stopped f.fault f.slot; wi
 pub steps_are_ending : (text : List ℕ) → text ≡ codes "out of steps" → IsEnding text
 steps_are_ending text is = record { ending = OutOfSteps; within = tt; is = is }
 
--- which of the three an ending is
+pub stray_is_ending : (text said : List ℕ) → text ≡ codes "stray at slot " ++ said → IsNumber said → IsEnding text
+stray_is_ending text said parts n = record { ending = Stray n.number; within = n.small; is = parts ∙ ap (λ (bs : List ℕ). codes "stray at slot " ++ bs) n.is }
+
+-- which of the four an ending is
 pub data EndingOf (text : List ℕ) : Type 0 where
   of_verdict : (said : List ℕ) → text ≡ codes "answer " ++ said → IsVerdict said → EndingOf text
   of_fault : (said : List ℕ) → text ≡ codes "fault " ++ said → IsFault said → EndingOf text
   of_steps : text ≡ codes "out of steps" → EndingOf text
+  of_stray : (said : List ℕ) → text ≡ codes "stray at slot " ++ said → IsNumber said → EndingOf text
 
 pub ending_of : (text : List ℕ) → IsEnding text → EndingOf text
 ending_of text e = by_ending e.ending e.within e.is
@@ -309,11 +313,12 @@ ending_of text e = by_ending e.ending e.within e.is
         (record { answer = a; small = small; codes_said = codes_text ns; codes_are = record { numbers = ns; few = few; within = within; is = refl }; is = refl })
     by_ending (Stopped f slot) small is = of_fault (decimal (fault_number f) ++ codes " slot " ++ decimal slot) (is ∙ simp append_assoc) (record { fault = f; slot = slot; small = small; is = refl })
     by_ending OutOfSteps small is = of_steps is
+    by_ending (Stray slot) small is = of_stray (decimal slot) is (record { number = slot; small = small; is = refl })
 
 first_byte : (text xs ys : List ℕ) → text ≡ xs → text ≡ ys → get_or xs 0 0 ≡ get_or ys 0 0
 first_byte text xs ys one two = ap (λ (bs : List ℕ). get_or bs 0 0) (sym one ∙ two)
 
--- of a text that begins with `answer ` or with `fault `
+-- of a text that begins with `answer `, with `fault ` or with `stray at slot `
 pub ending_is_verdict : (text said : List ℕ) → text ≡ codes "answer " ++ said → IsEnding text → IsVerdict said
 ending_is_verdict text said parts e = by_kind (ending_of text e)
   where
@@ -321,6 +326,7 @@ ending_is_verdict text said parts e = by_kind (ending_of text e)
     by_kind (of_verdict own is v) = let same : said ≡ own = cancel (codes "answer ") said own (sym parts ∙ is) in subst (λ (bs : List ℕ). IsVerdict bs) (sym same) v
     by_kind (of_fault own is f) = absurd (let bad : 97 ≡ 102 = first_byte text (codes "answer " ++ said) (codes "fault " ++ own) parts is in omega (arith, bad))
     by_kind (of_steps is) = absurd (let bad : 97 ≡ 111 = first_byte text (codes "answer " ++ said) (codes "out of steps") parts is in omega (arith, bad))
+    by_kind (of_stray own is n) = absurd (let bad : 97 ≡ 115 = first_byte text (codes "answer " ++ said) (codes "stray at slot " ++ own) parts is in omega (arith, bad))
 
 pub ending_is_fault : (text said : List ℕ) → text ≡ codes "fault " ++ said → IsEnding text → IsFault said
 ending_is_fault text said parts e = by_kind (ending_of text e)
@@ -329,11 +335,23 @@ ending_is_fault text said parts e = by_kind (ending_of text e)
     by_kind (of_fault own is f) = let same : said ≡ own = cancel (codes "fault ") said own (sym parts ∙ is) in subst (λ (bs : List ℕ). IsFault bs) (sym same) f
     by_kind (of_verdict own is v) = absurd (let bad : 102 ≡ 97 = first_byte text (codes "fault " ++ said) (codes "answer " ++ own) parts is in omega (arith, bad))
     by_kind (of_steps is) = absurd (let bad : 102 ≡ 111 = first_byte text (codes "fault " ++ said) (codes "out of steps") parts is in omega (arith, bad))
+    by_kind (of_stray own is n) = absurd (let bad : 102 ≡ 115 = first_byte text (codes "fault " ++ said) (codes "stray at slot " ++ own) parts is in omega (arith, bad))
 
-pub no_ending : (text : List ℕ) → (text ≡ codes "out of steps" → ⊥) → ((rest : List ℕ) → text ≢ codes "answer " ++ rest) → ((rest : List ℕ) → text ≢ codes "fault " ++ rest) → IsEnding text → ⊥
-no_ending text steps answer word e = by_kind (ending_of text e)
+pub ending_is_stray : (text said : List ℕ) → text ≡ codes "stray at slot " ++ said → IsEnding text → IsNumber said
+ending_is_stray text said parts e = by_kind (ending_of text e)
+  where
+    by_kind : EndingOf text → IsNumber said
+    by_kind (of_stray own is n) = let same : said ≡ own = cancel (codes "stray at slot ") said own (sym parts ∙ is) in subst (λ (bs : List ℕ). IsNumber bs) (sym same) n
+    by_kind (of_verdict own is v) = absurd (let bad : 115 ≡ 97 = first_byte text (codes "stray at slot " ++ said) (codes "answer " ++ own) parts is in omega (arith, bad))
+    by_kind (of_fault own is f) = absurd (let bad : 115 ≡ 102 = first_byte text (codes "stray at slot " ++ said) (codes "fault " ++ own) parts is in omega (arith, bad))
+    by_kind (of_steps is) = absurd (let bad : 115 ≡ 111 = first_byte text (codes "stray at slot " ++ said) (codes "out of steps") parts is in omega (arith, bad))
+
+pub no_ending : (text : List ℕ) → (text ≡ codes "out of steps" → ⊥) → ((rest : List ℕ) → text ≢ codes "answer " ++ rest) → ((rest : List ℕ) → text ≢ codes "fault " ++ rest)
+    → ((rest : List ℕ) → text ≢ codes "stray at slot " ++ rest) → IsEnding text → ⊥
+no_ending text steps answer word stray e = by_kind (ending_of text e)
   where
     by_kind : EndingOf text → ⊥
     by_kind (of_verdict own is v) = answer own is
     by_kind (of_fault own is f) = word own is
     by_kind (of_steps is) = steps is
+    by_kind (of_stray own is n) = stray own is

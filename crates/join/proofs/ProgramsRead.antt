@@ -1,16 +1,16 @@
 -- The lines of programs, read one after the other.
-use Rattle.std.proofs.Common.{ℕ, zero, suc, ◌≡◌, ◌≢◌, ◌+◌, ◌<◌, ◌≤◌, ◌^◌, Bool, true, false, List, [], ◌∷◌, ◌++◌, length, length-append, append_assoc, append-nil, codes, refl, sym, subst, ap, ◌∙◌, arith}
+use Rattle.std.proofs.Common.{ℕ, zero, suc, ◌≡◌, ◌≢◌, ◌+◌, ◌<◌, ◌≤◌, ◌^◌, Bool, true, false, List, [], ◌∷◌, ◌++◌, length, length-append, append_assoc, append-nil, codes, Option, None, Some, refl, sym, subst, ap, ◌∙◌, arith}
 use Rattle.std.specs.Fmt.{decimal}
 use Rattle.std.specs.List.{All}
 use Rattle.lines.specs.Reading.{lacks}
 use Rattle.lines.proofs.Back.{lacks_both}
 use Rattle.report.specs.declared.head.ProgramHead.{ProgramHead}
-use Rattle.report.specs.Report.{steps_word, program_line, program_lines}
-use Rattle.join.specs.Heads.{join_words, program_words, IsWord, IsProgramHead, IsProgramLine, NoProgram, NoProgramLine, ReadsMore, ReadsProgram, ReadsPrograms, ReadsWord}
+use Rattle.report.specs.Report.{steps_word, guards_words, steps_text, program_line, program_lines}
+use Rattle.join.specs.Heads.{join_words, option_words, program_words, IsFewOption, IsWord, IsProgramHead, IsProgramLine, NoProgram, NoProgramLine, ReadsGuards, ReadsMore, ReadsProgram, ReadsPrograms, ReadsWord}
 use Rattle.join.specs.Reading.{NoCut}
 use Rattle.join.proofs.Texts.{cancel, one_cut, has_it}
 use Rattle.join.proofs.Spans.{SaysNumber, line_lacks}
-use Rattle.join.proofs.WordsRead.{number_word, less}
+use Rattle.join.proofs.WordsRead.{spaced, words_spaced, number_word, less}
 use Rattle.join.proofs.FlushesRead.{SaysSmall}
 
 steps_are : (is : Bool) → IsWord (steps_word is)
@@ -21,36 +21,86 @@ steps_lack : (is : Bool) → lacks 10 (steps_word is) ≡ true
 steps_lack true = refl
 steps_lack false = refl
 
--- a program is read from its words
-pub program_read : (line number r1 name r2 slots r3 steps r4 limit rest : List ℕ) (n m : ℕ) (is : Bool)
-    → ReadsWord line number r1 → ReadsWord r1 name r2 → ReadsWord r2 slots r3 → ReadsWord r3 steps r4 → ReadsWord r4 limit rest
-    → SaysSmall slots n → SaysNumber limit m → ((b : Bool) → steps ≡ steps_word b → is ≡ b)
-    → ReadsProgram line (record { slots = n; limit = m; verified = is })
-program_read line number r1 name r2 slots r3 steps r4 limit rest n m is c1 c2 c3 c4 c5 says1 says2 says3 = record { read = reads }
+-- the last words are none of guards
+pub guards_lacking : (line word value : List ℕ) → ReadsWord line word value → word ≢ codes "guards" → ReadsGuards line None
+guards_lacking line word value r other = record { read = reads }
   where
-    reads : (k : ℕ) (q : ProgramHead) → k < 2 ^ 64 → IsProgramHead q → line ≡ join_words (program_words k q) → record { slots = n; limit = m; verified = is } ≡ q
+    reads : (o : Option ℕ) → IsFewOption o → line ≡ join_words (option_words (codes "guards") o) → None ≡ o
+    reads None small e = refl
+    reads (Some n) small e = absurd (other (r.read (codes "guards") (decimal n ∷ []) (omega arith, refl) e).0)
+
+-- or these with their number
+pub guards_found : (line word value said rest : List ℕ) (n : ℕ) → ReadsWord line word value → word ≡ codes "guards" → ReadsWord value said rest → SaysSmall said n → ReadsGuards line (Some n)
+guards_found line word value said rest n r same s says = record { read = reads }
+  where
+    reads : (o : Option ℕ) → IsFewOption o → line ≡ join_words (option_words (codes "guards") o) → Some n ≡ o
+    reads None small e =
+        let none : length word ≡ 0 = ap length (r.none e) in
+        let long : length word ≡ 6 = ap length same in
+        absurd (omega (arith, none, long))
+    reads (Some m) small e =
+        let one = r.read (codes "guards") (decimal m ∷ []) (omega arith, refl) e in
+        let two = s.read (decimal m) [] (number_word m (less m small)) one.1 in
+        ap (λ (k : ℕ). Some k) (says m small two.0)
+
+-- a program is read from its words
+pub program_read : (line number r1 name r2 slots r3 steps r4 limit rest : List ℕ) (n m : ℕ) (is : Bool) (guards : Option ℕ)
+    → ReadsWord line number r1 → ReadsWord r1 name r2 → ReadsWord r2 slots r3 → ReadsWord r3 steps r4 → ReadsWord r4 limit rest
+    → ReadsGuards rest guards → SaysSmall slots n → SaysNumber limit m → ((b : Bool) → steps ≡ steps_word b → is ≡ b)
+    → ReadsProgram line (record { slots = n; limit = m; verified = is; guards = guards })
+program_read line number r1 name r2 slots r3 steps r4 limit rest n m is guards c1 c2 c3 c4 c5 c6 says1 says2 says3 = record { read = reads }
+  where
+    reads : (k : ℕ) (q : ProgramHead) → k < 2 ^ 64 → IsProgramHead q → line ≡ join_words (program_words k q) → record { slots = n; limit = m; verified = is; guards = guards } ≡ q
     reads k q small own e =
-        let p1 = c1.read (decimal k) (codes "slots" ∷ decimal q.slots ∷ steps_word q.verified ∷ decimal q.limit ∷ []) (number_word k small) e in
-        let p2 = c2.read (codes "slots") (decimal q.slots ∷ steps_word q.verified ∷ decimal q.limit ∷ []) (omega arith, refl) p1.1 in
-        let p3 = c3.read (decimal q.slots) (steps_word q.verified ∷ decimal q.limit ∷ []) (number_word q.slots (less q.slots own.slots)) p2.1 in
-        let p4 = c4.read (steps_word q.verified) (decimal q.limit ∷ []) (steps_are q.verified) p3.1 in
-        let p5 = c5.read (decimal q.limit) [] (number_word q.limit own.limit) p4.1 in
+        let g : List (List ℕ) = option_words (codes "guards") q.guards in
+        let p1 = c1.read (decimal k) (codes "slots" ∷ decimal q.slots ∷ steps_word q.verified ∷ decimal q.limit ∷ g) (number_word k small) e in
+        let p2 = c2.read (codes "slots") (decimal q.slots ∷ steps_word q.verified ∷ decimal q.limit ∷ g) (omega arith, refl) p1.1 in
+        let p3 = c3.read (decimal q.slots) (steps_word q.verified ∷ decimal q.limit ∷ g) (number_word q.slots (less q.slots own.slots)) p2.1 in
+        let p4 = c4.read (steps_word q.verified) (decimal q.limit ∷ g) (steps_are q.verified) p3.1 in
+        let p5 = c5.read (decimal q.limit) g (number_word q.limit own.limit) p4.1 in
+        let e4 = c6.read q.guards own.guards p5.1 in
         let e1 = says1 q.slots own.slots p3.0 in
         let e2 = says2 q.limit own.limit p5.0 in
         let e3 = says3 q.verified p4.0 in
-        rw (e1, e2, e3) refl
+        rw (e1, e2, e3, e4) refl
+
+guards_spaced : (o : Option ℕ) → spaced (option_words (codes "guards") o) ≡ guards_words o
+guards_spaced None = refl
+guards_spaced (Some n) = ap (λ (bs : List ℕ). codes " guards " ++ bs) (append-nil (decimal n))
+
+-- the words of a program with their blanks
+abbrev words_text : ℕ → ProgramHead → List ℕ
+words_text k q = decimal k ++ codes " slots " ++ decimal q.slots ++ codes " " ++ steps_text q
+
+words_are : (k : ℕ) (q : ProgramHead) → join_words (program_words k q) ≡ words_text k q
+words_are k q =
+    let e1 : spaced (option_words (codes "guards") q.guards) ≡ guards_words q.guards = guards_spaced q.guards in
+    words_spaced (decimal k) (codes "slots" ∷ decimal q.slots ∷ steps_word q.verified ∷ decimal q.limit ∷ option_words (codes "guards") q.guards)
+    ∙ ap (λ (bs : List ℕ). decimal k ++ 32 ∷ (codes "slots" ++ 32 ∷ (decimal q.slots ++ 32 ∷ (steps_word q.verified ++ 32 ∷ (decimal q.limit ++ bs))))) e1
+    ∙ simp append_assoc
+
+regrouped : (a b c d e f g more : List ℕ) → ((((((a ++ b) ++ c) ++ d) ++ e) ++ f) ++ g) ++ more ≡ a ++ (((((b ++ c) ++ d) ++ e) ++ f) ++ (g ++ more))
+regrouped a b c d e f g more = simp append_assoc
 
 -- the line of a program by its words
 pub line_words : (k : ℕ) (q : ProgramHead) (more : List ℕ) → program_line k q ++ more ≡ codes "program " ++ (join_words (program_words k q) ++ 10 ∷ more)
 unfolding program_line
-line_words k q more = simp append_assoc
+line_words k q more =
+    regrouped (codes "program ") (decimal k) (codes " slots ") (decimal q.slots) (codes " ") (steps_text q) (codes "\n") more
+    ∙ ap (λ (bs : List ℕ). codes "program " ++ (bs ++ 10 ∷ more)) (sym (words_are k q))
+
+guards_lack : (o : Option ℕ) → IsFewOption o → lacks 10 (guards_words o) ≡ true
+guards_lack None small = refl
+guards_lack (Some n) small = lacks_both 10 (codes " guards ") (decimal n) refl (line_lacks n (less n small))
 
 words_lack : (k : ℕ) (q : ProgramHead) → k < 2 ^ 64 → IsProgramHead q → lacks 10 (join_words (program_words k q)) ≡ true
 words_lack k q small own =
-    lacks_both 10 (decimal k) (32 ∷ (codes "slots" ++ 32 ∷ (decimal q.slots ++ 32 ∷ (steps_word q.verified ++ 32 ∷ decimal q.limit)))) (line_lacks k small)
-    (lacks_both 10 (32 ∷ codes "slots") (32 ∷ (decimal q.slots ++ 32 ∷ (steps_word q.verified ++ 32 ∷ decimal q.limit))) refl
-    (lacks_both 10 (32 ∷ decimal q.slots) (32 ∷ (steps_word q.verified ++ 32 ∷ decimal q.limit)) (line_lacks q.slots (less q.slots own.slots))
-    (lacks_both 10 (32 ∷ steps_word q.verified) (32 ∷ decimal q.limit) (steps_lack q.verified) (line_lacks q.limit own.limit))))
+    let steps = lacks_both 10 (steps_word q.verified ++ codes " " ++ decimal q.limit) (guards_words q.guards)
+    (lacks_both 10 (steps_word q.verified ++ codes " ") (decimal q.limit) (lacks_both 10 (steps_word q.verified) (codes " ") (steps_lack q.verified) refl) (line_lacks q.limit own.limit))
+    (guards_lack q.guards own.guards) in
+    let slots = lacks_both 10 (decimal k ++ codes " slots ") (decimal q.slots) (lacks_both 10 (decimal k) (codes " slots ") (line_lacks k small) refl) (line_lacks q.slots (less q.slots own.slots)) in
+    subst (λ (bs : List ℕ). lacks 10 bs ≡ true) (sym (words_are k q))
+    (lacks_both 10 (decimal k ++ codes " slots " ++ decimal q.slots ++ codes " ") (steps_text q) (lacks_both 10 (decimal k ++ codes " slots " ++ decimal q.slots) (codes " ") slots refl) steps)
 
 -- a text without the line of a program
 pub no_word : (text : List ℕ) → ((rest : List ℕ) → text ≢ codes "program " ++ rest) → NoProgramLine text

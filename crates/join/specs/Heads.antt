@@ -19,10 +19,16 @@ abbrev pub IsSmallOption : Option ℕ → Type 0
 IsSmallOption None = Unit {0}
 IsSmallOption (Some number) = number < 2 ^ 64
 
+-- and one within 32 bits
+abbrev pub IsFewOption : Option ℕ → Type 0
+IsFewOption None = Unit {0}
+IsFewOption (Some number) = number < 2 ^ 32
+
 -- what is said of a program is within its ranges
 pub record IsProgramHead (p : ProgramHead) : Type 0 where
   pub slots : p.slots < 2 ^ 32
   pub limit : p.limit < 2 ^ 64
+  pub guards : IsFewOption p.guards
 
 -- the numbers of a head are within their ranges
 pub record IsSmallHead (h : HeadValue) : Type 0 where
@@ -85,7 +91,7 @@ given_words h =
 
 -- the words of a program's line behind `program`
 abbrev pub program_words : ℕ → ProgramHead → List (List ℕ)
-program_words number p = decimal number ∷ codes "slots" ∷ decimal p.slots ∷ steps_word p.verified ∷ decimal p.limit ∷ []
+program_words number p = decimal number ∷ codes "slots" ∷ decimal p.slots ∷ steps_word p.verified ∷ decimal p.limit ∷ option_words (codes "guards") p.guards
 
 -- a text is one word
 abbrev pub IsWord : List ℕ → Type 0
@@ -162,6 +168,10 @@ pub record HaveSameOptions (h v : HeadValue) : Type 0 where
 
 pub record ReadsOptions (line : List ℕ) (h : HeadValue) : Type 0 where
   pub read : (v : HeadValue) → IsSmallHead v → line ≡ join_words (device_words v ++ (choices_words v ++ given_words v)) → HaveSameOptions h v
+
+-- of the words of guards, where there are some, their number is read
+pub record ReadsGuards (line : List ℕ) (found : Option ℕ) : Type 0 where
+  pub read : (o : Option ℕ) → IsFewOption o → line ≡ join_words (option_words (codes "guards") o) → found ≡ o
 
 pub record ReadsProgram (line : List ℕ) (p : ProgramHead) : Type 0 where
   pub read : (number : ℕ) (q : ProgramHead) → number < 2 ^ 64 → IsProgramHead q → line ≡ join_words (program_words number q) → p ≡ q

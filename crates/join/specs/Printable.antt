@@ -1,7 +1,7 @@
 -- Failing lines as a text can have them: each number within its range.
 use Rattle.std.specs.Prelude.{ℕ, ◌<◌, ◌≤◌, ◌^◌, ◌≡◌, List, [], ◌∷◌, ◌++◌, length, map, codes}
 use Rattle.std.specs.List.{All}
-use Rattle.machine.specs.Outcome.{Ending, Verdict, Stopped, OutOfSteps}
+use Rattle.machine.specs.Outcome.{Ending, Verdict, Stopped, OutOfSteps, Stray}
 use Rattle.epochs.specs.declared.part.By.{By}
 use Rattle.choices.specs.declared.choice.Departure.{Departure}
 use Rattle.choices.specs.Named.{name_of}
@@ -14,6 +14,7 @@ abbrev pub IsWithin : Ending → Type 0
 IsWithin (Verdict answer numbers) = (answer < 2 ^ 64) × (length numbers ≤ 16) × All (λ n. n < 2 ^ 64) numbers
 IsWithin (Stopped cause slot) = slot < 2 ^ 64
 IsWithin OutOfSteps = Unit {0}
+IsWithin (Stray slot) = slot < 2 ^ 64
 
 -- what a line has behind its program
 abbrev pub end_text : Ending → By → List Departure → List ℕ

@@ -106,7 +106,7 @@ fn is_fault(text: &str) -> bool
 }
 
 /// Whether a text says what a program ended in.
-#[tactic(auto, using(crate::proofs::Endings::steps_are_ending, crate::proofs::Endings::verdict_is_ending, crate::proofs::Endings::fault_is_ending, crate::proofs::Endings::ending_is_verdict, crate::proofs::Endings::ending_is_fault, crate::proofs::Endings::no_ending))]
+#[tactic(auto, using(crate::proofs::Endings::steps_are_ending, crate::proofs::Endings::verdict_is_ending, crate::proofs::Endings::fault_is_ending, crate::proofs::Endings::ending_is_verdict, crate::proofs::Endings::ending_is_fault, crate::proofs::Endings::stray_is_ending, crate::proofs::Endings::ending_is_stray, crate::proofs::Endings::no_ending))]
 fn is_ending(text: &str) -> bool
     ensures { IsTrue result ↔ IsEnding text.now }
 {
@@ -116,8 +116,11 @@ fn is_ending(text: &str) -> bool
     if let Some(verdict) = behind("answer ", text) {
         return is_verdict(verdict);
     }
-    match behind("fault ", text) {
-        Some(fault) => is_fault(fault),
+    if let Some(fault) = behind("fault ", text) {
+        return is_fault(fault);
+    }
+    match behind("stray at slot ", text) {
+        Some(slot) => is_number(slot),
         None => false,
     }
 }

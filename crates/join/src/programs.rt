@@ -2,7 +2,7 @@
 
 ghost use Rattle.std.specs.Prelude.{◌≡◌, Bool, All, IfOk, MatchOption};
 ghost use Rattle.report.specs.Report.{steps_word};
-ghost use Rattle.join.specs.Heads.{IsProgramHead, IsProgramLine, NoProgramLine, ReadsProgram, ReadsPrograms};
+ghost use Rattle.join.specs.Heads.{IsFewOption, IsProgramHead, IsProgramLine, NoProgramLine, ReadsGuards, ReadsProgram, ReadsPrograms};
 
 use crate::words::{behind, next_word, number, parts, small_number};
 use report::ProgramHead;
@@ -18,6 +18,20 @@ fn is_budget(word: &str) -> bool
     word == "budget"
 }
 
+/// How many slots are guarded, by the last words of the line of a program, where these say it.
+#[tactic(auto, using(crate::proofs::ProgramsRead::guards_lacking, crate::proofs::ProgramsRead::guards_found))]
+fn guards_said(line: &str) -> Option<u32>
+    ensures read { ReadsGuards line.now result }
+    ensures small { IsFewOption result }
+{
+    let (word, value) = next_word(line);
+    if word == "guards" {
+        let (said, _rest) = next_word(value);
+        return Some(small_number(said));
+    }
+    None
+}
+
 /// What the line of a program says behind its first word.
 fn program_said(line: &str) -> ProgramHead
     ensures read { ReadsProgram line.now result }
@@ -27,11 +41,12 @@ fn program_said(line: &str) -> ProgramHead
     let (_slots, line) = next_word(line);
     let (slots, line) = next_word(line);
     let (steps, line) = next_word(line);
-    let (limit, _rest) = next_word(line);
+    let (limit, line) = next_word(line);
     ProgramHead {
         slots: small_number(slots),
         limit: number(limit),
         verified: is_budget(steps),
+        guards: guards_said(line),
     }
 }
 

@@ -4,7 +4,7 @@ use Rattle.std.specs.Fmt.{decimal, digits, digits_onto, digit_glyph}
 use Rattle.std.specs.List.{flat_map}
 use Rattle.std.proofs.lemmas.Bool.Decides.{nat_tests}
 use Rattle.base.specs.Causes.{fault_number}
-use Rattle.machine.specs.Outcome.{Ending, Verdict, Stopped, OutOfSteps}
+use Rattle.machine.specs.Outcome.{Ending, Verdict, Stopped, OutOfSteps, Stray}
 use Rattle.epochs.specs.declared.part.By.{By}
 use Rattle.epochs.specs.declared.part.By.TheVariants as by
 use Rattle.epochs.specs.declared.part.Part.{Part}
@@ -75,6 +75,7 @@ ending_lacks (Verdict answer numbers) =
 ending_lacks (Stopped cause slot) =
     lacks_both 10 (codes "fault " ++ decimal (fault_number cause) ++ codes " slot ") (decimal slot) (lacks_both 10 (codes "fault " ++ decimal (fault_number cause)) (codes " slot ") (digit_lacks (fault_number cause)) refl) (digit_lacks slot)
 ending_lacks OutOfSteps = refl
+ending_lacks (Stray slot) = lacks_both 10 (codes "stray at slot ") (decimal slot) refl (digit_lacks slot)
 
 fate_lacks : (f : Fate) → lacks 10 (fate_text f) ≡ true
 fate_lacks fate.Drop = refl

@@ -1,6 +1,6 @@
 -- A failing line: an image on which a checker does not answer 0 (docs/REPORT.md, The report).
 use Rattle.std.specs.Prelude.{ℕ, ◌==◌, Bool, true, not, List, [], ◌∷◌, filter}
-use Rattle.machine.specs.Outcome.{Ending, Verdict, Stopped, OutOfSteps}
+use Rattle.machine.specs.Outcome.{Ending, Verdict, Stopped, OutOfSteps, Stray}
 use Rattle.epochs.specs.declared.part.By.{By}
 use Rattle.choices.specs.declared.choice.Departure.{Departure}
 
@@ -19,6 +19,7 @@ abbrev pub fails : Ending → Bool
 fails (Verdict answer codes) = not (answer == 0)
 fails (Stopped cause slot) = true
 fails OutOfSteps = true
+fails (Stray slot) = true
 
 -- the lines of the first failing image, of lines by image
 abbrev pub first_lines : List FailingLine → List FailingLine

@@ -3,7 +3,7 @@ use Rattle.std.specs.Prelude.{ℕ, List, [], ◌∷◌, ◌++◌, codes}
 use Rattle.std.specs.Fmt.{decimal}
 use Rattle.std.specs.List.{flat_map}
 use Rattle.base.specs.Causes.{fault_number}
-use Rattle.machine.specs.Outcome.{Ending, Verdict, Stopped, OutOfSteps}
+use Rattle.machine.specs.Outcome.{Ending, Verdict, Stopped, OutOfSteps, Stray}
 use Rattle.epochs.specs.declared.part.By.{By}
 use Rattle.epochs.specs.declared.part.By.TheVariants as by
 use Rattle.epochs.specs.declared.part.Part.{Part}
@@ -22,6 +22,7 @@ abbrev pub ending_text : Ending → List ℕ
 ending_text (Verdict answer numbers) = codes "answer " ++ decimal answer ++ codes " codes " ++ codes_text numbers
 ending_text (Stopped cause slot) = codes "fault " ++ decimal (fault_number cause) ++ codes " slot " ++ decimal slot
 ending_text OutOfSteps = codes "out of steps"
+ending_text (Stray slot) = codes "stray at slot " ++ decimal slot
 
 -- what became of a part that is not whole
 abbrev pub fate_text : Fate → List ℕ

@@ -39,6 +39,7 @@ pub fn put_outcome(out: &mut String, outcome: &Outcome) -> Result<(), AllocError
         }
         Outcome::Fault { code, slot } => write!(out, "fault {} slot {slot}", code.number()),
         Outcome::OutOfSteps => write!(out, "out of steps"),
+        Outcome::Stray(slot) => write!(out, "stray at slot {slot}"),
     }
 }
 

@@ -92,6 +92,7 @@ fn number_of(outcome: Option<Outcome>) -> Option<u64> {
         Outcome::Verdict(verdict) => Some(verdict.answer),
         Outcome::Fault { code: _, slot: _ } => None,
         Outcome::OutOfSteps => Some(100),
+        Outcome::Stray(_slot) => None,
     }
 }
 

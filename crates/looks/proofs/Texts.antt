@@ -1,5 +1,5 @@
 -- How logs, texts and single programs are refused.
-use Rattle.std.proofs.Common.{ℕ, ◌≡◌, ◌⊎◌, inl, inr, List, Option, subst}
+use Rattle.std.proofs.Common.{ℕ, ◌≡◌, ◌⊎◌, inl, inr, Bool, List, Option, subst}
 use Rattle.std.specs.Str.{IsUtf8}
 use Rattle.limits.specs.Sizes.{sector_limit}
 use Rattle.limits.specs.declared.Limits.{Limits}
@@ -14,8 +14,9 @@ use Rattle.bpf_isa.specs.declared.instr.Instr.{Instr}
 use Rattle.bpf_isa.specs.Program.{IsSpelledBy, FirstFault}
 use Rattle.bpf_shape.specs.declared.fault.Fault.{Fault}
 use Rattle.bpf_shape.specs.Fault as shape
-use Rattle.verifier.specs.Verdicts.{Refused}
+use Rattle.verifier.specs.Verdicts.{RefusedWith}
 use Rattle.request.specs.Refusals.{bytes_refusal}
+use Rattle.request.specs.declared.settings.Settings.{Settings}
 use Rattle.request.specs.Source.{log_refusal}
 use Rattle.looks.specs.Import.{RefusesImport, with_raw_fault, no_raw_memory}
 use Rattle.looks.specs.Verifying as verifying
@@ -34,13 +35,14 @@ pub text_refused : (text now : List ℕ) (f : AsmFault) → now ≡ text → IsU
 text_refused text now f same characters (inl e) = rw e no_text_memory
 text_refused text now f same characters (inr h) = says_none f.code f.line characters (rw (← same) h)
 
-pub bytes_unverified : (bytes : List ℕ) (sectors : ℕ) (f : CodeFault) → (f ≡ code.memory_fault) ⊎ FirstFault bytes f.code f.slot
-    → verifying.RefusesVerified bytes sectors (bytes_refusal f.code f.slot)
-bytes_unverified bytes sectors f (inl e) = rw e verifying.no_code_memory
-bytes_unverified bytes sectors f (inr h) = verifying.with_code_fault f.code f.slot h
+pub bytes_unverified : (bytes : List ℕ) (s : Settings) (f : CodeFault) → (f ≡ code.memory_fault) ⊎ FirstFault bytes f.code f.slot
+    → verifying.RefusesVerified bytes s (bytes_refusal f.code f.slot)
+bytes_unverified bytes s f (inl e) = rw e verifying.no_code_memory
+bytes_unverified bytes s f (inr h) = verifying.with_code_fault f.code f.slot h
 
-pub unverified : (bytes : List ℕ) (sectors found : ℕ) (slots : List (Option Instr)) (f : Fault) → found ≡ sectors → IsSpelledBy bytes slots
-    → (f ≡ shape.memory_fault) ⊎ Refused slots found f.code f.slot → verifying.RefusesVerified bytes sectors (verifying.unaccepted_refusal f.code f.slot)
-unverified bytes sectors found slots f same spelled (inl e) = rw e verifying.no_verifier_memory
-unverified bytes sectors found slots f same spelled (inr h) =
-    verifying.with_verifier_fault slots f.code f.slot spelled (subst (λ n. Refused slots n f.code f.slot) same h)
+pub unverified : (bytes : List ℕ) (s : Settings) (guards : Bool) (sectors : ℕ) (slots : List (Option Instr)) (f : Fault) → guards ≡ s.guards → sectors ≡ s.sectors
+    → IsSpelledBy bytes slots → (f ≡ shape.memory_fault) ⊎ RefusedWith guards slots sectors f.code f.slot
+    → verifying.RefusesVerified bytes s (verifying.unaccepted_refusal f.code f.slot)
+unverified bytes s guards sectors slots f kind size spelled (inl e) = rw e verifying.no_verifier_memory
+unverified bytes s guards sectors slots f kind size spelled (inr h) =
+    verifying.with_verifier_fault slots f.code f.slot spelled (subst (λ (g : Bool). RefusedWith g slots s.sectors f.code f.slot) kind (subst (λ (n : ℕ). RefusedWith guards slots n f.code f.slot) size h))

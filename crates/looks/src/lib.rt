@@ -14,7 +14,7 @@
 //! | `show(alloc, recording, which, options, facts)` | `show` | one crash image in words |
 //! | `shown_log(alloc, recording, options, facts)` | `log` | the log as a table |
 //! | `import(alloc, raw, limits)` | `import` | the log that is imported of a raw log |
-//! | `verify_program(alloc, code, options, facts)` | `verify` | the budget with which a program is accepted; what else is known of it goes into `facts` |
+//! | `verify_program(alloc, code, options, listed, facts)` | `verify` | the budget with which a program is accepted, and with guards the guarded slots; what else is known of it goes into `facts` |
 //! | `assemble(alloc, source)` | `asm` | the program of a source text, as bytes |
 //! | `list(alloc, code, numbered)` | `list` | the listing of a program, with its slots or without |
 //!
@@ -30,7 +30,8 @@
 //! once, in their order, and each can be asked for (`parts_are_even`, `specs/Layout.antt`). `shown_log` answers the table of the log
 //! (`specs/Table.antt`). `import` answers the text of `raw_log` for the largest device within the limits (`specs/Import.antt`).
 //!
-//! What `verify_program` answers is the budget of an accepted program (`specs/Verifying.antt`). What `assemble` answers spells the
+//! What `verify_program` answers is the budget of an accepted program, and with guards how many of its slots are guarded, and
+//! which (`specs/Verifying.antt`). What `assemble` answers spells the
 //! program that the source text says, and what `list` answers is the listing of the program that the bytes spell
 //! (`specs/Assembly.antt`).
 //!

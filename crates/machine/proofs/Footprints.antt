@@ -90,7 +90,7 @@ set_at context a b frames p =
     either_way is_set _ _ _ _ _ (nat_lt p context_start) (nat_lt p stack_start) (nat_lt p sector_start)
     (held_set (in_blocks a (p - sector_start)) ∙ sym (held_set (in_blocks b (p - sector_start))))
 
-all_mapped_alike : (context : List ℕ) (a b : List (List ℕ)) (frames : List Frame) → AreAlike a b → (p n : ℕ)
+pub all_mapped_alike : (context : List ℕ) (a b : List (List ℕ)) (frames : List Frame) → AreAlike a b → (p n : ℕ)
     → all_mapped (byte_at context a frames) p n ≡ all_mapped (byte_at context b frames) p n
 all_mapped_alike context a b frames alike p n = ap (λ (test : ℕ → Bool). all_at test p n) (fun_ext (λ at. mapped_at context a b frames at alike))
 
@@ -100,7 +100,7 @@ all_set_alike context a b frames p n = ap (λ (test : ℕ → Bool). all_at test
 
 -- so all checks are the same
 
-two : {X Y Z : Type 0} (f : X → Y → Z) {x u : X} {y v : Y} → x ≡ u → y ≡ v → f x y ≡ f u v
+pub two : {X Y Z : Type 0} (f : X → Y → Z) {x u : X} {y v : Y} → x ≡ u → y ≡ v → f x y ≡ f u v
 two f {x = x} {v = v} e h = ap (f x) h ∙ ap (λ z. f z v) e
 
 load_tests_alike : (program : List (Option Instr)) (context : List ℕ) (a b : List (List ℕ)) (s : State) (p n : ℕ) → AreAlike a b
@@ -163,7 +163,7 @@ checks_alike program context a b s alike (instr.LoadImmediate dst x) = refl
 
 -- where the sectors that it reads are the same, so is the effect
 
-same_split : (a b : List (List ℕ)) (xs ys : List ℕ) → HaveSame a b (xs ++ ys) → HaveSame a b xs × HaveSame a b ys
+pub same_split : (a b : List (List ℕ)) (xs ys : List ℕ) → HaveSame a b (xs ++ ys) → HaveSame a b xs × HaveSame a b ys
 same_split a b [] ys same = (tt, same)
 same_split a b (x ∷ xs) ys same =
     let rest = same_split a b xs ys same.1 in
@@ -432,7 +432,7 @@ instr_same program context a b s i alike same =
     ∙ tested_same s (first_failing own) (effect (memory context a s) a s i) (effect (memory context b s) b s i)
     (λ passes. effect_same context a b s i alike.count (instr_may program (memory context a s) s i passes) same)
 
-found_same : (program : List (Option Instr)) (context : List ℕ) (a b : List (List ℕ)) (s : State) (found : Option Instr) → AreAlike a b
+pub found_same : (program : List (Option Instr)) (context : List ℕ) (a b : List (List ℕ)) (s : State) (found : Option Instr) → AreAlike a b
     → HaveSame a b (option_map_or (reads_of a s) found [])
     → option_map_or (step_of program context b s) found (Fault fault.NoInstruction s.slot) ≡ option_map_or (step_of program context a s) found (Fault fault.NoInstruction s.slot)
 found_same program context a b s None alike same = refl
@@ -468,7 +468,7 @@ reads_of_alike a b s e (instr.StoreImmediate size base distance n) = refl
 reads_of_alike a b s e (instr.Store size base distance src) = refl
 reads_of_alike a b s e (instr.LoadImmediate dst x) = refl
 
-read_here_alike : (program : List (Option Instr)) (a b : List (List ℕ)) (s : State) → length a ≡ length b → read_here program b s ≡ read_here program a s
+pub read_here_alike : (program : List (Option Instr)) (a b : List (List ℕ)) (s : State) → length a ≡ length b → read_here program b s ≡ read_here program a s
 read_here_alike program a b s e = found_alike (reads_of b s) (reads_of a s) [] (at program s.slot) (reads_of_alike a b s e)
 
 -- so runs are the same, step by step

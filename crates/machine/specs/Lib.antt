@@ -6,3 +6,4 @@ pub mod Step
 pub mod Outcome
 pub mod Laws
 pub mod Footprint
+pub mod Guards

@@ -3,6 +3,7 @@
 ghost use Rattle.std.specs.Prelude.{◌≡◌, ◌-◌, ◌^◌};
 ghost use Rattle.machine.specs.Arithmetic.{arithmetic, sign_extension, in_order};
 ghost use Rattle.machine.specs.Footprint.{FootprintTells};
+ghost use Rattle.machine.specs.Guards.{OneGuardedEnd, NoMemoryFault, GuardedFootprintTells, GuardsKeepVerdicts};
 ghost use Rattle.machine.specs.Laws.{AreInOrder, OneJudgement};
 
 use bpf_isa::instr::{Operator, Order, OrderSize, SignExtension, Width};
@@ -50,4 +51,24 @@ pub fn one_judgement()
 /// What a run comes to hangs on no sector but those of its footprint.
 pub fn footprint_tells()
     ensures { FootprintTells }
+{}
+
+/// A program has at most one end with guards.
+pub fn one_guarded_end()
+    ensures { OneGuardedEnd }
+{}
+
+/// With guards no run stops at a fault of its memory.
+pub fn no_memory_fault()
+    ensures { NoMemoryFault }
+{}
+
+/// What a run with guards comes to hangs on no sector but those of its footprint.
+pub fn guarded_footprint_tells()
+    ensures { GuardedFootprintTells }
+{}
+
+/// Guards keep the verdict of a run whose steps write nothing but the frame at hand.
+pub fn guards_keep_verdicts()
+    ensures { GuardsKeepVerdicts }
 {}

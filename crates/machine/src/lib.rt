@@ -21,6 +21,8 @@
 //! - `Outcome`: `outcome` is what a number of steps from the start end in, a verdict, a fault or
 //!   neither, and `IsJudgement` says which verdict some limit gives.
 //! - `Footprint`: `footprint` is the list of the sectors at which the helpers and the loads of a run look.
+//! - `Guards`: the machine with guards. `guarded_outcome` is what a number of its steps end in, and `guarded_footprint`
+//!   where they look.
 //!
 //! # What is proved
 //!
@@ -32,6 +34,9 @@
 //!   fault at most once.
 //! - `one_judgement`: a program has at most one judgement on an image.
 //! - `footprint_tells`: what a run comes to hangs on the sectors of its footprint alone, and on how many the device has.
+//! - `one_guarded_end`, `guarded_footprint_tells`: the same of runs with guards. `no_memory_fault`: they stop at none of
+//!   the faults 82 to 84. `guards_keep_verdicts`: a run that writes nothing but the frame at hand has its verdict with
+//!   guards too.
 //!
 //! # Example
 //!
@@ -42,7 +47,10 @@
 
 mod laws;
 
-pub use laws::{checks_in_order, footprint_tells, one_judgement, worked_arithmetic, worked_bytes};
+pub use laws::{
+    checks_in_order, footprint_tells, guarded_footprint_tells, guards_keep_verdicts,
+    no_memory_fault, one_guarded_end, one_judgement, worked_arithmetic, worked_bytes,
+};
 
 /// What stands at an address of a program's memory (docs/MACHINE.md, Address space).
 #[derive(Clone, Copy)]

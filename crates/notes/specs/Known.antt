@@ -19,7 +19,7 @@ use Rattle.machine.specs.Memory.{byte_count, plain_size}
 use Rattle.intervals.specs.Spans.{Span}
 use Rattle.intervals.specs.SignedSpans.{SignedSpan, least, greatest}
 use Rattle.intervals.specs.Reducing.{Limits, has_one_sign}
-use Rattle.ranges.specs.Kinds.{Kind, Unset, Num, Ctx, Stack, Sector, SectorOrNull}
+use Rattle.ranges.specs.Kinds.{Kind, Unset, Word, Num, Ctx, Stack, Sector, SectorOrNull}
 use Rattle.ranges.specs.States.{Abstract}
 use Rattle.ranges.specs.Reading.{value}
 
@@ -43,6 +43,7 @@ number_text x = word_text x.unsigned ++ (if says_no_more x then [] else reading_
 -- what a register may hold; an offset in the stack counts from its lower end
 abbrev pub kind_text : Kind → List ℕ
 kind_text Unset = codes "unset, or not of one kind on all paths"
+kind_text Word = codes "unset, or not of one kind on all paths"
 kind_text (Num x) = number_text x
 kind_text (Ctx at) = codes "the context, offset " ++ decimal at
 kind_text (Stack at) = codes "the stack, " ++ decimal (512 - at) ++ codes " below r10"
@@ -61,6 +62,7 @@ within_text room distance n = size_text n ++ with_sign distance ++ room_text roo
 
 abbrev pub wanted_text : Kind → ℤ → ℕ → List ℕ
 wanted_text Unset distance n = []
+wanted_text Word distance n = []
 wanted_text (Num x) distance n = codes "; an address is wanted"
 wanted_text (Ctx at) distance n = within_text 32 distance n
 wanted_text (Stack at) distance n = within_text 512 distance n

@@ -74,7 +74,7 @@ fn put_value(out: &mut String, value: Value) -> Result<(), AllocError>
     ensures { OnOk result (string_bytes out.new ≡ string_bytes out.old ++ kind_text (kind_of value)) }
 {
     match value {
-        Value::Unset => out.push_str("unset, or not of one kind on all paths"),
+        Value::Unset | Value::Word => out.push_str("unset, or not of one kind on all paths"),
         Value::Num(bounds) => put_number(out, bounds),
         Value::Ctx(place) => write!(out, "the context, offset {}", place.offset),
         Value::Stack(place) => put_below(out, place.offset),
@@ -124,7 +124,7 @@ fn put_wanted(out: &mut String, value: Value, distance: i16, bytes: u64) -> Resu
     ensures { OnOk result (string_bytes out.new ≡ string_bytes out.old ++ wanted_text (kind_of value) distance bytes) }
 {
     match value {
-        Value::Unset => Ok(()),
+        Value::Unset | Value::Word => Ok(()),
         Value::Num(_) => out.push_str("; an address is wanted"),
         Value::Ctx(_) => put_within(out, 32, distance, bytes),
         Value::Stack(_) | Value::Sector(_) => put_within(out, 512, distance, bytes),

@@ -9,6 +9,7 @@
 //! | Call | Says |
 //! |---|---|
 //! | `numbered_listing(alloc, program)` | the listing, each line behind its slot |
+//! | `put_slot(out, slot, instr)` | a line of it |
 //! | `log_table(alloc, log)` | the entries of a log, one a line, by the numbers that the report names |
 //! | `put_note(out, text)` | one line of a note |
 //! | `put_refused(out, rule, cure)` | what a refusal means, and what helps, if anything is known |
@@ -50,5 +51,5 @@ pub use device::put_least;
 pub use escaped::put_escaped;
 pub use known::put_known;
 pub use line::{put_note, put_refused};
-pub use listing::numbered_listing;
+pub use listing::{numbered_listing, put_slot};
 pub use table::{log_table, put_entry, put_entry_line};

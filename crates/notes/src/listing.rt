@@ -17,8 +17,8 @@ fn put_numbered(out: &mut String, slot: usize, instr: &Instr) -> Result<(), Allo
     out.push_str("\n")
 }
 
-/// Appends the line of a slot in which an instruction begins.
-fn put_line(out: &mut String, slot: usize, instr: Option<Instr>) -> Result<(), AllocError>
+/// Appends the line of a slot in which an instruction begins, as the listing has it.
+pub fn put_slot(out: &mut String, slot: usize, instr: Option<Instr>) -> Result<(), AllocError>
     ensures { OnOk result (string_bytes out.new ≡ string_bytes out.old ++ numbered_slot slot instr) }
 {
     let Some(instr) = instr else {
@@ -33,7 +33,7 @@ pub fn numbered_listing(alloc: Global, program: &Program) -> Result<String, Allo
 {
     let mut out = String::new(alloc);
     for slot in 0..program.slots() {
-        put_line(&mut out, slot, program.at(slot))?;
+        put_slot(&mut out, slot, program.at(slot))?;
     }
     Ok(out)
 }

@@ -8,7 +8,7 @@ use Rattle.std.proofs.lemmas.List.Folds.{list_all-append}
 use Rattle.std.proofs.lemmas.Str.{IsUtf8-from_ascii}
 use Rattle.std.proofs.lemmas.Str.Ascii.{IsAscii-nil, IsAscii-cons}
 use Rattle.base.specs.Causes.{fault_number}
-use Rattle.machine.specs.Outcome.{Ending, Verdict, Stopped, OutOfSteps}
+use Rattle.machine.specs.Outcome.{Ending, Verdict, Stopped, OutOfSteps, Stray}
 use Rattle.epochs.specs.declared.part.By.{By}
 use Rattle.epochs.specs.declared.part.By.TheVariants as by
 use Rattle.epochs.specs.declared.part.Part.{Part}
@@ -61,6 +61,7 @@ record WordsPass (p : ℕ → Bool) : Type 0 where
   fault : list_all p (codes "fault ") ≡ true
   slot : list_all p (codes " slot ") ≡ true
   steps : list_all p (codes "out of steps") ≡ true
+  stray : list_all p (codes "stray at slot ") ≡ true
 
 codes_pass : (p : ℕ → Bool) → WordsPass p → (ns : List ℕ) → list_all p (codes_text ns) ≡ true
 unfolding codes_text
@@ -78,6 +79,7 @@ ending_pass p w (Stopped cause slot) =
     (both p (codes "fault " ++ decimal (fault_number cause)) (codes " slot ") (both p (codes "fault ") (decimal (fault_number cause)) w.fault (number p (fault_number cause) w.digit)) w.slot)
     (number p slot w.digit)
 ending_pass p w OutOfSteps = w.steps
+ending_pass p w (Stray slot) = both p (codes "stray at slot ") (decimal slot) w.stray (number p slot w.digit)
 
 -- an ending has no h
 abbrev is_other : ℕ → Bool
@@ -93,6 +95,7 @@ others = record {
   fault = refl;
   slot = refl;
   steps = refl;
+  stray = refl;
 }
 
 lacks_all : (bs : List ℕ) → list_all is_other bs ≡ true → lacks 104 bs ≡ true
@@ -123,6 +126,7 @@ plain = record {
   fault = refl;
   slot = refl;
   steps = refl;
+  stray = refl;
 }
 
 plain_number : (n : ℕ) → list_all is_plain (decimal n) ≡ true

@@ -6,5 +6,8 @@ pub mod Framing
 pub mod Leaving
 pub mod Loading
 pub mod Agreeing
+pub mod Places
+pub mod Guards
 pub mod Runs
 pub mod Footprints
+pub mod GuardedRuns

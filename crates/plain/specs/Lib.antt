@@ -6,3 +6,5 @@ pub mod Blocks
 pub mod Steps
 pub mod Reads
 pub mod Runs
+pub mod Guarded
+pub mod Guards

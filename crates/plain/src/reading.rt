@@ -1,6 +1,6 @@
 //! At which sectors a step looks (docs/MACHINE.md, Footprint).
 
-ghost use Rattle.std.specs.Prelude.{◌≡◌, ◌<◌};
+ghost use Rattle.std.specs.Prelude.{◌≡◌, ◌<◌, ◌≤◌};
 ghost use Rattle.helpers.specs.Footprint.{footprint_after, on_device, sectors_at};
 ghost use Rattle.machine.specs.Memory.{byte_count};
 ghost use Rattle.plain.specs.Reads.{plain_call_reads, record_reads};
@@ -14,9 +14,10 @@ use helpers::{Device, Footprint, Helper};
 
 /// The number of bytes of an access.
 #[inline(always)]
-fn bytes_of(size: Size) -> u8
+pub(crate) fn bytes_of(size: Size) -> u8
     ensures count { result ≡ byte_count size }
     ensures some { 0 < result }
+    ensures few { result ≤ 8 }
 {
     match size {
         Size::Byte => 1,

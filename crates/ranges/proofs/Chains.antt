@@ -5,16 +5,22 @@ use Rattle.std.proofs.lemmas.Int.{ints}
 use Rattle.intervals.specs.Spans.{Span, Within}
 use Rattle.intervals.specs.Reducing.{Limits, LimitsWithin}
 use Rattle.intervals.proofs.CallerLemmas.{within_self, within_chain}
-use Rattle.ranges.specs.Kinds.{Kind, Unset, Num, Ctx, Stack, Sector, SectorOrNull, is_number}
+use Rattle.ranges.specs.Kinds.{Kind, Unset, Word, Num, Ctx, Stack, Sector, SectorOrNull, is_number}
 use Rattle.ranges.specs.Groups.{GroupKind, Marked, Spilled, unset_marks}
 use Rattle.ranges.specs.States.{Abstract}
-use Rattle.ranges.specs.Order.{Under, MarksUnder, GroupUnder, EachUnder, StateUnder}
+use Rattle.ranges.specs.Order.{Under, IsWord, MarksUnder, GroupUnder, EachUnder, StateUnder}
 
 span_chain : (x y z : Span) → Within x y → Within y z → Within x z
 span_chain x y z p q = record { from = omega (arith, p.from, q.from); upto = omega (arith, p.upto, q.upto) }
 
+word_chain : (k l : Kind) → Under k l → IsWord l → IsWord k
+word_chain Unset Unset p q = absurd q
+word_chain Unset l p q = absurd p
+word_chain k l p q = tt
+
 pub under_chain : (k l m : Kind) → Under k l → Under l m → Under k m
 under_chain k l Unset p q = tt
+under_chain k l Word p q = word_chain k l p q
 under_chain (Num x) (Num y) (Num z) p q = within_chain x y z p q
 under_chain k (Num y) (Num z) p q = absurd p
 under_chain k l (Num z) p q = absurd q
@@ -61,6 +67,7 @@ pub number_under : (k l : Kind) → Under k l → IsTrue (is_number l) → IsTru
 number_under (Num x) (Num y) p n = refl
 number_under k (Num y) p n = absurd p
 number_under k Unset p n = absurd (let bad : false ≡ true = n in cc)
+number_under k Word p n = absurd (let bad : false ≡ true = n in cc)
 number_under k (Ctx a) p n = absurd (let bad : false ≡ true = n in cc)
 number_under k (Stack a) p n = absurd (let bad : false ≡ true = n in cc)
 number_under k (Sector x) p n = absurd (let bad : false ≡ true = n in cc)
@@ -85,6 +92,7 @@ state_chain s t u p q = record {
 -- each is under itself
 pub under_self : (k : Kind) → Under k k
 under_self Unset = tt
+under_self Word = tt
 under_self (Num x) = within_self x
 under_self (Ctx a) = refl
 under_self (Stack a) = refl
@@ -123,12 +131,15 @@ limits_both x y p q =
 
 under_both : (k l : Kind) → Under k l → Under l k → k ≡ l
 under_both Unset Unset p q = refl
+under_both Word Word p q = refl
 under_both (Num x) (Num y) p q = ap (λ z. Num z) (limits_both x y p q)
 under_both (Ctx a) (Ctx b) p q = ap (λ z. Ctx z) p
 under_both (Stack a) (Stack b) p q = ap (λ z. Stack z) p
 under_both (Sector x) (Sector y) p q = ap (λ z. Sector z) (span_both x y p q)
 under_both SectorOrNull SectorOrNull p q = refl
 under_both k Unset p q = absurd q
+under_both Unset l p q = absurd p
+under_both k Word p q = absurd q
 under_both k l p q = absurd p
 
 bool_both : (x y : Bool) → (IsTrue y → IsTrue x) → (IsTrue x → IsTrue y) → x ≡ y

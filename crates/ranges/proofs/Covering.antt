@@ -1,6 +1,6 @@
 -- The order of groups and of states.
 use Rattle.std.proofs.Common.{◌≡◌, ℕ, zero, suc, ◌&&◌, ◌⊎◌, inl, inr, not, Bool, true, false, IsTrue, List, [], ◌∷◌, length, map, replicate, refl, sym, ◌∙◌, arith, ap, subst}
-use Rattle.ranges.specs.Kinds.{Kind, Unset, Num, Ctx, Stack, Sector, SectorOrNull, is_number, is_unset, join, round}
+use Rattle.ranges.specs.Kinds.{Kind, Unset, Word, Num, Ctx, Stack, Sector, SectorOrNull, is_number, is_unknown, join, round}
 use Rattle.ranges.specs.Groups.{GroupKind, Marked, Spilled, zip_with, unset_marks, group_kept, marks_at_join, join_group, round_group, GroupContains}
 use Rattle.ranges.specs.States.{Abstract, join_state, round_state, StateContains}
 use Rattle.ranges.specs.Order.{Under, MarksUnder, GroupUnder, EachUnder, StateUnder, IsBounded, IsGroup, Each, IsState}
@@ -24,11 +24,11 @@ and_same false y p = refl
 
 -- the marks of a group
 
-marks_refl : (xs : List Bool) → MarksUnder xs xs
+pub marks_refl : (xs : List Bool) → MarksUnder xs xs
 marks_refl [] = tt
 marks_refl (x ∷ xs) = (λ t. t, marks_refl xs)
 
-marks_unset : (xs : List Bool) (n : ℕ) → length xs ≡ n → MarksUnder xs (replicate n false)
+pub marks_unset : (xs : List Bool) (n : ℕ) → length xs ≡ n → MarksUnder xs (replicate n false)
 marks_unset [] zero e = tt
 marks_unset [] (suc n) e = absurd (let bad : 0 ≡ suc n = e in cc)
 marks_unset (x ∷ xs) zero e = absurd (let bad : suc (length xs) ≡ 0 = e in cc)
@@ -74,6 +74,7 @@ unset_under zs e = rw e (marks_refl unset_marks)
 
 over_kept : (k m : Kind) → Under k m → GroupUnder (Spilled k) (group_kept m)
 over_kept k Unset p = inr refl
+over_kept k Word p = inr refl
 over_kept k (Num x) p = p
 over_kept k (Ctx a) p = p
 over_kept k (Stack a) p = p
@@ -82,6 +83,7 @@ over_kept k SectorOrNull p = p
 
 kept_unset : (k : Kind) (zs : List Bool) → zs ≡ unset_marks → GroupUnder (group_kept k) (Marked zs)
 kept_unset Unset zs e = rw e (marks_refl unset_marks)
+kept_unset Word zs e = rw e (marks_refl unset_marks)
 kept_unset (Num x) zs e = inr e
 kept_unset (Ctx a) zs e = inr e
 kept_unset (Stack a) zs e = inr e
@@ -96,18 +98,21 @@ kept_joined (Num x) (Num y) zs p q = inl refl
 kept_joined k l zs (inr e) q = kept_unset (join k l) zs e
 kept_joined k l zs p (inr e) = kept_unset (join k l) zs e
 kept_joined Unset l zs (inl n) q = absurd (let bad : false ≡ true = n in cc)
+kept_joined Word l zs (inl n) q = absurd (let bad : false ≡ true = n in cc)
 kept_joined (Ctx a) l zs (inl n) q = absurd (let bad : false ≡ true = n in cc)
 kept_joined (Stack a) l zs (inl n) q = absurd (let bad : false ≡ true = n in cc)
 kept_joined (Sector x) l zs (inl n) q = absurd (let bad : false ≡ true = n in cc)
 kept_joined SectorOrNull l zs (inl n) q = absurd (let bad : false ≡ true = n in cc)
 kept_joined (Num x) Unset zs p (inl n) = absurd (let bad : false ≡ true = n in cc)
+kept_joined (Num x) Word zs p (inl n) = absurd (let bad : false ≡ true = n in cc)
 kept_joined (Num x) (Ctx a) zs p (inl n) = absurd (let bad : false ≡ true = n in cc)
 kept_joined (Num x) (Stack a) zs p (inl n) = absurd (let bad : false ≡ true = n in cc)
 kept_joined (Num x) (Sector y) zs p (inl n) = absurd (let bad : false ≡ true = n in cc)
 kept_joined (Num x) SectorOrNull zs p (inl n) = absurd (let bad : false ≡ true = n in cc)
 
-kept_under : (k m : Kind) → IsTrue (not (is_unset m)) → Under k m → GroupUnder (group_kept k) (Spilled m)
+kept_under : (k m : Kind) → IsTrue (not (is_unknown m)) → Under k m → GroupUnder (group_kept k) (Spilled m)
 kept_under k Unset t p = absurd (let bad : false ≡ true = t in cc)
+kept_under k Word t p = absurd (let bad : false ≡ true = t in cc)
 kept_under (Num x) (Num y) t p = p
 kept_under k (Num y) t p = absurd p
 kept_under (Ctx a) (Ctx b) t p = p
@@ -119,8 +124,9 @@ kept_under k (Sector y) t p = absurd p
 kept_under SectorOrNull SectorOrNull t p = p
 kept_under k SectorOrNull t p = absurd p
 
-kept_known : (k : Kind) → IsTrue (not (is_unset k)) → group_kept k ≡ Spilled k
+kept_known : (k : Kind) → IsTrue (not (is_unknown k)) → group_kept k ≡ Spilled k
 kept_known Unset t = absurd (let bad : false ≡ true = t in cc)
+kept_known Word t = absurd (let bad : false ≡ true = t in cc)
 kept_known (Num x) t = refl
 kept_known (Ctx a) t = refl
 kept_known (Stack a) t = refl
@@ -132,6 +138,7 @@ kept_known SectorOrNull t = refl
 marks_met : (xs : List Bool) (k : Kind) → length xs ≡ 8 → MarksUnder xs (marks_at_join xs k)
 marks_met xs (Num x) e = marks_refl xs
 marks_met xs Unset e = marks_unset xs 8 e
+marks_met xs Word e = marks_unset xs 8 e
 marks_met xs (Ctx a) e = marks_unset xs 8 e
 marks_met xs (Stack a) e = marks_unset xs 8 e
 marks_met xs (Sector x) e = marks_unset xs 8 e
@@ -140,6 +147,7 @@ marks_met xs SectorOrNull e = marks_unset xs 8 e
 value_met : (xs : List Bool) (k : Kind) → GroupUnder (Spilled k) (Marked (marks_at_join xs k))
 value_met xs (Num x) = inl refl
 value_met xs Unset = inr refl
+value_met xs Word = inr refl
 value_met xs (Ctx a) = inr refl
 value_met xs (Stack a) = inr refl
 value_met xs (Sector x) = inr refl
@@ -148,6 +156,7 @@ value_met xs SectorOrNull = inr refl
 met_under : (xs : List Bool) (k : Kind) (zs : List Bool) → MarksUnder xs zs → IsTrue (is_number k) ⊎ (zs ≡ unset_marks) → MarksUnder (marks_at_join xs k) zs
 met_under xs (Num x) zs p q = p
 met_under xs Unset zs p q = unset_under zs (or_unset Unset zs refl q)
+met_under xs Word zs p q = unset_under zs (or_unset Word zs refl q)
 met_under xs (Ctx a) zs p q = unset_under zs (or_unset (Ctx a) zs refl q)
 met_under xs (Stack a) zs p q = unset_under zs (or_unset (Stack a) zs refl q)
 met_under xs (Sector x) zs p q = unset_under zs (or_unset (Sector x) zs refl q)
@@ -156,6 +165,7 @@ met_under xs SectorOrNull zs p q = unset_under zs (or_unset SectorOrNull zs refl
 met_same : (xs : List Bool) (k : Kind) → IsTrue (is_number k) ⊎ (xs ≡ unset_marks) → marks_at_join xs k ≡ xs
 met_same xs (Num x) q = refl
 met_same xs Unset q = sym (or_unset Unset xs refl q)
+met_same xs Word q = sym (or_unset Word xs refl q)
 met_same xs (Ctx a) q = sym (or_unset (Ctx a) xs refl q)
 met_same xs (Stack a) q = sym (or_unset (Stack a) xs refl q)
 met_same xs (Sector x) q = sym (or_unset (Sector x) xs refl q)
@@ -165,6 +175,7 @@ round_marks : (k : Kind) (ys : List Bool) → IsTrue (is_number k) ⊎ (ys ≡ u
 unfolding round
 round_marks (Num x) ys q = inl refl
 round_marks Unset ys q = q
+round_marks Word ys q = q
 round_marks (Ctx a) ys q = q
 round_marks (Stack a) ys q = q
 round_marks (Sector x) ys q = inr (or_unset (Sector x) ys refl q)

@@ -6,7 +6,7 @@ use Rattle.intervals.specs.Spans.{Span, IsSpan, hull}
 use Rattle.intervals.proofs.Digits.{rounded_fits}
 use Rattle.intervals.proofs.Smaller as limits
 use Rattle.intervals.proofs.SignedDigits.{limits_rounded_fits}
-use Rattle.ranges.specs.Kinds.{Kind, Unset, Num, Ctx, Stack, Sector, SectorOrNull, is_unset, join, round}
+use Rattle.ranges.specs.Kinds.{Kind, Unset, Word, Num, Ctx, Stack, Sector, SectorOrNull, is_unknown, join, round}
 use Rattle.ranges.specs.Groups.{GroupKind, Marked, Spilled, zip_with, unset_marks, group_kept, marks_at_join, join_group, round_group}
 use Rattle.ranges.specs.States.{Abstract, join_state, round_state, start, unset_groups}
 use Rattle.ranges.specs.Order.{IsBounded, IsGroup, Each, IsState}
@@ -46,11 +46,11 @@ each_get P (y ∷ ys) (suc i) d h a = each_get P ys i d h a.1
 
 -- values
 
-context_fits : (b : Bool) (a : ℕ) → a ≤ 32 → IsBounded (if b then Ctx a else Unset)
+context_fits : (b : Bool) (a : ℕ) → a ≤ 32 → IsBounded (if b then Ctx a else Word)
 context_fits true a h = h
 context_fits false a h = tt
 
-stack_fits : (b : Bool) (a : ℕ) → a ≤ 512 → IsBounded (if b then Stack a else Unset)
+stack_fits : (b : Bool) (a : ℕ) → a ≤ 512 → IsBounded (if b then Stack a else Word)
 stack_fits true a h = h
 stack_fits false a h = tt
 
@@ -64,20 +64,23 @@ join_fits (Ctx a) (Ctx b) h g = context_fits (a == b) a h
 join_fits (Stack a) (Stack b) h g = stack_fits (a == b) a h
 join_fits (Sector x) (Sector y) h g = hull_fits 65535 x y h g
 join_fits SectorOrNull SectorOrNull h g = tt
+join_fits Word Unset h g = tt
 join_fits _ _ h g = tt
 
 pub round_fits : (k : Kind) → IsBounded k → IsBounded (round k)
 unfolding round
 round_fits Unset h = tt
+round_fits Word h = tt
 round_fits (Num x) h = limits_rounded_fits x h
 round_fits (Ctx a) h = h
 round_fits (Stack a) h = h
 round_fits (Sector x) h = rounded_fits 16 x (omega arith) h
 round_fits SectorOrNull h = tt
 
-round_known : (k : Kind) → IsTrue (not (is_unset k)) → IsTrue (not (is_unset (round k)))
+round_known : (k : Kind) → IsTrue (not (is_unknown k)) → IsTrue (not (is_unknown (round k)))
 unfolding round
 round_known Unset t = t
+round_known Word t = t
 round_known (Num x) t = t
 round_known (Ctx a) t = t
 round_known (Stack a) t = t
@@ -88,6 +91,7 @@ round_known SectorOrNull t = t
 
 kept_fits : (k : Kind) → IsBounded k → IsGroup (group_kept k)
 kept_fits Unset h = refl
+kept_fits Word h = refl
 kept_fits (Num x) h = (refl, h)
 kept_fits (Ctx a) h = (refl, h)
 kept_fits (Stack a) h = (refl, h)
@@ -97,6 +101,7 @@ kept_fits SectorOrNull h = (refl, tt)
 met_fits : (marks : List Bool) (k : Kind) → length marks ≡ 8 → IsGroup (Marked (marks_at_join marks k))
 met_fits marks (Num x) e = e
 met_fits marks Unset e = refl
+met_fits marks Word e = refl
 met_fits marks (Ctx a) e = refl
 met_fits marks (Stack a) e = refl
 met_fits marks (Sector x) e = refl

@@ -30,7 +30,7 @@ use Rattle.intervals.proofs.Outcomes.{refined_fits}
 use Rattle.intervals.proofs.CallerLemmas.{limits_fit, words_are_limits}
 use Rattle.ranges.specs.declared.place.Place.{Place}
 use Rattle.ranges.specs.declared.place.Place.TheVariants as place
-use Rattle.ranges.specs.Kinds.{Kind, Unset, Num, Ctx, Stack, Sector, is_unset}
+use Rattle.ranges.specs.Kinds.{Kind, Unset, Num, Ctx, Stack, Sector, is_unknown}
 use Rattle.ranges.specs.Groups.{GroupKind, Marked, Spilled, map_places}
 use Rattle.ranges.specs.States.{Abstract, start}
 use Rattle.ranges.specs.Pointers.{offset_in, offsets_in, moved_offset, moved_place, moved_offsets, moved_pointer}
@@ -79,7 +79,7 @@ place_fits limit down o y = by_test (is_constant y)
 up_to_fits : (low high : ℕ) → low ≤ high → high < 2 ^ 64 → IsBounded (Num (any_sign (span low high)))
 up_to_fits low high h k = any_fits (span low high) (record { ordered = h; most = omega (arith, k) })
 
-any_word_fits : IsLimits any_word
+pub any_word_fits : IsLimits any_word
 any_word_fits = up_to_fits 0 (2 ^ 64 - 1) (omega arith) (omega arith)
 
 pub words_fit : (k : Kind) → IsBounded k → IsLimits (words k)
@@ -94,7 +94,7 @@ computed_fits i k l h g =
 
 -- loads
 
-any_of_fits : (s : Size) → IsBounded (any_of (byte_count s))
+pub any_of_fits : (s : Size) → IsBounded (any_of (byte_count s))
 any_of_fits size.Byte = up_to_fits 0 (2 ^ 8 - 1) (omega arith) (omega arith)
 any_of_fits size.Half = up_to_fits 0 (2 ^ 16 - 1) (omega arith) (omega arith)
 any_of_fits size.Word = up_to_fits 0 (2 ^ 32 - 1) (omega arith) (omega arith)
@@ -229,18 +229,18 @@ unfolding map_places
 places_long at n g [] = refl
 places_long at n g (x ∷ xs) = let rest = places_long at n (g + 1) xs in omega (arith, rest)
 
-written_fits : (s : Abstract) (p : Place) (n : ℕ) → IsState s → IsState (with_groups s (written_at s.groups p n))
+pub written_fits : (s : Abstract) (p : Place) (n : ℕ) → IsState s → IsState (with_groups s (written_at s.groups p n))
 unfolding groups_after_write
 written_fits s (place.Stack at) n a = with_groups_fits s (map_places (group_after at n) 0 s.groups) a (places_fit at n 0 s.groups a.groups) (places_long at n 0 s.groups)
 written_fits s place.Outside n a = a
 written_fits s (place.Context at) n a = a
 written_fits s place.Sector n a = a
 
-stored_fits : (s : Abstract) (k : Kind) (p : Place) (n : ℕ) → IsBounded k → IsState s → IsState (with_groups s (stored_groups k s.groups p n))
+pub stored_fits : (s : Abstract) (k : Kind) (p : Place) (n : ℕ) → IsBounded k → IsState s → IsState (with_groups s (stored_groups k s.groups p n))
 unfolding stored_groups
-stored_fits s k (place.Stack at) n h a = by_test (not (is_unset k)) (is_group at n) refl
+stored_fits s k (place.Stack at) n h a = by_test (not (is_unknown k)) (is_group at n) refl
   where
-    by_test : (b c : Bool) → not (is_unset k) ≡ b → IsState (with_groups s (if b && c then set s.groups (at / 8) (Spilled k) else groups_after_write at n s.groups))
+    by_test : (b c : Bool) → not (is_unknown k) ≡ b → IsState (with_groups s (if b && c then set s.groups (at / 8) (Spilled k) else groups_after_write at n s.groups))
     by_test true true e = with_groups_fits s (set s.groups (at / 8) (Spilled k)) a (each_set IsGroup s.groups (at / 8) (Spilled k) (e, h) a.groups) (length-set s.groups (at / 8) (Spilled k))
     by_test true false e = written_fits s (place.Stack at) n a
     by_test false c e = written_fits s (place.Stack at) n a
@@ -250,7 +250,7 @@ stored_fits s k place.Sector n h a = a
 
 -- helpers
 
-answer_fits : (h : Helper) → IsBounded (answer_kind h)
+pub answer_fits : (h : Helper) → IsBounded (answer_kind h)
 answer_fits helper.Sector = tt
 answer_fits helper.Mix = any_word_fits
 answer_fits helper.Copy = up_to_fits 0 1 (omega arith) (omega arith)
@@ -259,7 +259,7 @@ answer_fits helper.Report = up_to_fits 0 1 (omega arith) (omega arith)
 answer_fits helper.Zero = up_to_fits 0 2 (omega arith) (omega arith)
 answer_fits helper.Same = up_to_fits 0 2 (omega arith) (omega arith)
 
-answered_fits : (s : Abstract) (k : Kind) → IsBounded k → IsState s → IsState (after_answer s k)
+pub answered_fits : (s : Abstract) (k : Kind) → IsBounded k → IsState s → IsState (after_answer s k)
 answered_fits s k h a =
     let s0 = with_value s 0 k in let a0 = with_value_fits s 0 k h a in
     let s1 = with_value s0 1 Unset in let a1 = with_value_fits s0 1 Unset tt a0 in

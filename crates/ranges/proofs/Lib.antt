@@ -12,3 +12,5 @@ pub mod SmallerMoves
 pub mod SmallerRules
 pub mod SmallerStates
 pub mod Writing
+pub mod GuardedRules
+pub mod GuardedPasses

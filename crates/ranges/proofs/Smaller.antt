@@ -15,7 +15,7 @@ use Rattle.intervals.specs.SignedEdges.{limits_refined}
 use Rattle.intervals.specs.LimitLaws.{Related, BothWithin}
 use Rattle.intervals.proofs.Outcomes.{refined_mono}
 use Rattle.intervals.proofs.CallerLemmas.{within_self, words_are_limits}
-use Rattle.ranges.specs.Kinds.{Kind, Unset, Num, Ctx, Stack, Sector, SectorOrNull, is_number}
+use Rattle.ranges.specs.Kinds.{Kind, Unset, Word, Num, Ctx, Stack, Sector, SectorOrNull, is_number}
 use Rattle.ranges.specs.States.{Abstract}
 use Rattle.ranges.specs.Reading.{value, second, with_value, words}
 use Rattle.ranges.specs.Rules.{compares, is_null_test, is_wide, is_equality, is_zero, may_be_null}
@@ -67,6 +67,7 @@ null_under : (k l : Kind) → Under k l → may_be_null l ≡ true → may_be_nu
 null_under SectorOrNull SectorOrNull u e = refl
 null_under k SectorOrNull u e = absurd u
 null_under k Unset u e = absurd (let bad : false ≡ true = e in cc)
+null_under k Word u e = absurd (let bad : false ≡ true = e in cc)
 null_under k (Num x) u e = absurd (let bad : false ≡ true = e in cc)
 null_under k (Ctx x) u e = absurd (let bad : false ≡ true = e in cc)
 null_under k (Stack x) u e = absurd (let bad : false ≡ true = e in cc)
@@ -95,6 +96,7 @@ pub words_under : (k l : Kind) → Under k l → is_number l ≡ true → Limits
 words_under (Num x) (Num y) u e = u
 words_under k (Num y) u e = absurd u
 words_under k Unset u e = absurd (let bad : false ≡ true = e in cc)
+words_under k Word u e = absurd (let bad : false ≡ true = e in cc)
 words_under k (Ctx x) u e = absurd (let bad : false ≡ true = e in cc)
 words_under k (Stack x) u e = absurd (let bad : false ≡ true = e in cc)
 words_under k (Sector x) u e = absurd (let bad : false ≡ true = e in cc)
@@ -104,6 +106,7 @@ smaller_no_test : (w : Width) (c : Condition) (from : Source) (k l : Kind) → U
 smaller_no_test w c from (Num x) (Num y) u e = number_no_test w c from x
 smaller_no_test w c from k (Num y) u e = absurd u
 smaller_no_test w c from k Unset u e = absurd (let bad : false ≡ true = e in cc)
+smaller_no_test w c from k Word u e = absurd (let bad : false ≡ true = e in cc)
 smaller_no_test w c from k (Ctx x) u e = absurd (let bad : false ≡ true = e in cc)
 smaller_no_test w c from k (Stack x) u e = absurd (let bad : false ≡ true = e in cc)
 smaller_no_test w c from k (Sector x) u e = absurd (let bad : false ≡ true = e in cc)

@@ -23,7 +23,7 @@ use Rattle.machine.specs.Step.{source_registers, operands}
 use Rattle.ranges.specs.declared.place.Place.{Place}
 use Rattle.ranges.specs.declared.place.Place.TheVariants as place
 use Rattle.ranges.specs.declared.place.Mark.TheVariants as mark
-use Rattle.ranges.specs.Kinds.{Kind, Unset, Num, Ctx, Stack, Sector, is_number, is_unset}
+use Rattle.ranges.specs.Kinds.{Kind, Unset, Word, Num, Ctx, Stack, Sector, is_number, is_unknown}
 use Rattle.ranges.specs.Groups.{GroupKind, Marked, Spilled, unset_marks}
 use Rattle.ranges.specs.States.{Abstract}
 use Rattle.ranges.specs.Pointers.{offset_in, moved_pointer}
@@ -43,13 +43,13 @@ or_mono true b c d f g e = refl
 or_mono false b true d f g e = absurd (let bad : false ≡ true = f refl in cc)
 or_mono false b false d f g e = g e
 
-and_mono : (a b c d : Bool) → (c ≡ true → a ≡ true) → (d ≡ true → b ≡ true) → (c && d) ≡ true → (a && b) ≡ true
+pub and_mono : (a b c d : Bool) → (c ≡ true → a ≡ true) → (d ≡ true → b ≡ true) → (c && d) ≡ true → (a && b) ≡ true
 and_mono a b true d f g e = rw (f refl) (g e)
 and_mono a b false d f g e = absurd (let bad : false ≡ true = e in cc)
 
 -- checks, those of a list after those before it
 
-two_pass : {C : Type 0} (c d : C) (x y a b : Bool) → (a ≡ true → x ≡ true) → (a ≡ true → b ≡ true → y ≡ true)
+pub two_pass : {C : Type 0} (c d : C) (x y a b : Bool) → (a ≡ true → x ≡ true) → (a ≡ true → b ≡ true → y ≡ true)
     → first_failing (check c a ∷ check d b ∷ []) ≡ None → first_failing (check c x ∷ check d y ∷ []) ≡ None
 two_pass c d x y false b f g e = absurd (let bad : Some c ≡ None = e in cc)
 two_pass c d x y true false f g e = absurd (let bad : Some d ≡ None = e in cc)
@@ -84,9 +84,11 @@ five_pass c d i j o x y z u v true true true true true f g h k p e = rw (f refl,
 
 -- values
 
-pub known_under : (k l : Kind) → Under k l → not (is_unset l) ≡ true → not (is_unset k) ≡ true
-known_under Unset Unset u e = e
+pub known_under : (k l : Kind) → Under k l → not (is_unknown l) ≡ true → not (is_unknown k) ≡ true
+known_under k Unset u e = absurd (let bad : false ≡ true = e in cc)
+known_under k Word u e = absurd (let bad : false ≡ true = e in cc)
 known_under Unset l u e = absurd u
+known_under Word l u e = absurd u
 known_under k l u e = refl
 
 pub number_under : (k l : Kind) → Under k l → is_number l ≡ true → is_number k ≡ true
@@ -94,7 +96,7 @@ number_under (Num x) l u e = refl
 number_under k (Num y) u e = absurd u
 number_under k l u e = absurd (let bad : false ≡ true = e in cc)
 
-stack_under : (k l : Kind) → Under k l → is_stack l ≡ true → is_stack k ≡ true
+pub stack_under : (k l : Kind) → Under k l → is_stack l ≡ true → is_stack k ≡ true
 stack_under (Stack a) l u e = refl
 stack_under k (Stack b) u e = absurd u
 stack_under k l u e = absurd (let bad : false ≡ true = e in cc)
@@ -111,7 +113,7 @@ base_under k l u e = absurd (let bad : false ≡ true = e in cc)
 pub are_set_under : (s t : Abstract) (rs : List ℕ) → StateUnder s t → are_set t rs ≡ true → are_set s rs ≡ true
 are_set_under s t [] u e = refl
 are_set_under s t (r ∷ rs) u e =
-    and_mono (not (is_unset (value s r))) (are_set s rs) (not (is_unset (value t r))) (are_set t rs)
+    and_mono (not (is_unknown (value s r))) (are_set s rs) (not (is_unknown (value t r))) (are_set t rs)
     (known_under (value s r) (value t r) (value_under s t r u)) (are_set_under s t rs u) e
 
 same_numbers : (a b : ℕ) → (a == b) ≡ true → a ≡ b

@@ -30,7 +30,7 @@ use Rattle.intervals.proofs.CallerLemmas.{limits_monotone, words_are_limits}
 use Rattle.ranges.specs.declared.place.Place.{Place}
 use Rattle.ranges.specs.declared.place.Place.TheVariants as place
 use Rattle.ranges.specs.declared.place.Mark.TheVariants as mark
-use Rattle.ranges.specs.Kinds.{Kind, Unset, Num, is_number, is_unset}
+use Rattle.ranges.specs.Kinds.{Kind, Unset, Num, is_number, is_unknown}
 use Rattle.ranges.specs.Groups.{GroupKind, Marked, Spilled, map_places}
 use Rattle.ranges.specs.States.{Abstract}
 use Rattle.ranges.specs.Pointers.{moved_pointer}
@@ -50,14 +50,14 @@ use Rattle.ranges.proofs.SmallerRules.{known_under, number_under, length_under, 
 
 -- what checks tell that pass
 
-first_check : {C : Type 0} (c : C) (b : Bool) (rest : List (Check C)) → first_failing (check c b ∷ rest) ≡ None → (b ≡ true) × (first_failing rest ≡ None)
+pub first_check : {C : Type 0} (c : C) (b : Bool) (rest : List (Check C)) → first_failing (check c b ∷ rest) ≡ None → (b ≡ true) × (first_failing rest ≡ None)
 first_check c true rest e = (refl, e)
 first_check c false rest e = absurd (let bad : Some c ≡ None = e in cc)
 
-two_tell : {C : Type 0} (c d : C) (x y : Bool) → first_failing (check c x ∷ check d y ∷ []) ≡ None → (x ≡ true) × (y ≡ true)
+pub two_tell : {C : Type 0} (c d : C) (x y : Bool) → first_failing (check c x ∷ check d y ∷ []) ≡ None → (x ≡ true) × (y ≡ true)
 two_tell c d x y e = let h = first_check c x (check d y ∷ []) e in (h.0, (first_check d y [] h.1).0)
 
-three_tell : {C : Type 0} (c d a : C) (x y z : Bool) → first_failing (check c x ∷ check d y ∷ check a z ∷ []) ≡ None → (x ≡ true) × (y ≡ true) × (z ≡ true)
+pub three_tell : {C : Type 0} (c d a : C) (x y z : Bool) → first_failing (check c x ∷ check d y ∷ check a z ∷ []) ≡ None → (x ≡ true) × (y ≡ true) × (z ≡ true)
 three_tell c d a x y z e =
     let h = first_check c x (check d y ∷ check a z ∷ []) e in
     let k = two_tell d a y z h.1 in (h.0, k.0, k.1)
@@ -162,7 +162,7 @@ unfolding none_is
 first_byte gs at zero some e = absurd (omega (arith, some))
 first_byte gs at (suc n) some e = and_left (not (is_mark (mark_at gs at) mark.Unset)) (none_is mark.Unset gs (at + 1) n) e
 
-some_bytes : (at n : ℕ) → is_group at n ≡ true → 0 < n
+pub some_bytes : (at n : ℕ) → is_group at n ≡ true → 0 < n
 some_bytes at zero e = absurd (let bad : false ≡ true = e in cc)
 some_bytes at (suc n) e = omega arith
 
@@ -229,7 +229,7 @@ written_under place.Outside n gs hs u = u
 written_under (place.Context at) n gs hs u = u
 written_under place.Sector n gs hs u = u
 
-stored_under : (k l : Kind) (gs hs : List GroupKind) (p : Place) (n : ℕ) → Under k l → not (is_unset l) ≡ true → EachUnder GroupUnder gs hs
+stored_under : (k l : Kind) (gs hs : List GroupKind) (p : Place) (n : ℕ) → Under k l → not (is_unknown l) ≡ true → EachUnder GroupUnder gs hs
     → EachUnder GroupUnder (stored_groups k gs p n) (stored_groups l hs p n)
 unfolding stored_groups groups_after_write
 stored_under k l gs hs (place.Stack at) n v e u = rw (known_under k l v e, e) (by_test (is_group at n))
@@ -241,10 +241,10 @@ stored_under k l gs hs place.Outside n v e u = u
 stored_under k l gs hs (place.Context at) n v e u = u
 stored_under k l gs hs place.Sector n v e u = u
 
-with_groups_under : (s t : Abstract) (gs hs : List GroupKind) → EachUnder GroupUnder gs hs → StateUnder s t → StateUnder (with_groups s gs) (with_groups t hs)
+pub with_groups_under : (s t : Abstract) (gs hs : List GroupKind) → EachUnder GroupUnder gs hs → StateUnder s t → StateUnder (with_groups s gs) (with_groups t hs)
 with_groups_under s t gs hs h u = record { values = u.values; groups = h }
 
-store_under : (s t : Abstract) (set : Bool) (k l : Kind) (size : Size) (base : ℕ) (d : ℤ) → IsState s → StateUnder s t → Under k l → (set ≡ true → not (is_unset l) ≡ true)
+store_under : (s t : Abstract) (set : Bool) (k l : Kind) (size : Size) (base : ℕ) (d : ℤ) → IsState s → StateUnder s t → Under k l → (set ≡ true → not (is_unknown l) ≡ true)
     → first_failing (store_rules t set l base d (byte_count size)) ≡ None → StateUnder (store_after s k size base d) (store_after t l size base d)
 unfolding store_rules
 store_under s t set k l size base d a u v known e =
@@ -261,7 +261,7 @@ store_under s t set k l size base d a u v known e =
 
 -- calls
 
-answered_under : (s t : Abstract) (k : Kind) → StateUnder s t → StateUnder (after_answer s k) (after_answer t k)
+pub answered_under : (s t : Abstract) (k : Kind) → StateUnder s t → StateUnder (after_answer s k) (after_answer t k)
 answered_under s t k u =
     let s0 = with_value s 0 k in let t0 = with_value t 0 k in let u0 = with_value_under s t 0 k k (under_self k) u in
     let s1 = with_value s0 1 Unset in let t1 = with_value t0 1 Unset in let u1 = with_value_under s0 t0 1 Unset Unset tt u0 in
@@ -295,10 +295,10 @@ call_under s t helper.Same a u e = answered_under s t (answer_kind helper.Same) 
 
 -- the state behind an instruction
 
-last_known : (s : Abstract) (base src : ℕ) → are_set s (base ∷ src ∷ []) ≡ true → not (is_unset (value s src)) ≡ true
+last_known : (s : Abstract) (base src : ℕ) → are_set s (base ∷ src ∷ []) ≡ true → not (is_unknown (value s src)) ≡ true
 last_known s base src e =
-    let rest : are_set s (src ∷ []) ≡ true = and_right (not (is_unset (value s base))) (are_set s (src ∷ [])) e in
-    and_left (not (is_unset (value s src))) (are_set s []) rest
+    let rest : are_set s (src ∷ []) ≡ true = and_right (not (is_unknown (value s base))) (are_set s (src ∷ [])) e in
+    and_left (not (is_unknown (value s src))) (are_set s []) rest
 
 pub after_mono : AfterIsMonotone
 unfolding after_of rules IsInRange
@@ -338,8 +338,10 @@ after_mono sectors s t (instr.LoadImmediate dst x) r a b u e = with_value_under 
 -- what is passed
 
 given_under : (k l : Kind) → Under k l → Under (argument_kind k) (argument_kind l)
+given_under k Unset u = tt
 given_under (Num x) (Num y) u = u
 given_under k (Num y) u = absurd u
+given_under Unset l u = absurd u
 given_under k l u = tt
 
 entry_under : (s t : Abstract) → StateUnder s t → StateUnder (entry_state s) (entry_state t)
@@ -351,7 +353,7 @@ entry_under s t u =
       groups = each_self GroupUnder group_self (entry_state s).groups;
     }
 
-sent_under : (slot : ℕ) (m n : Option Abstract) → EdgeUnder m n → SentUnder (passed_state slot m) (passed_state slot n)
+pub sent_under : (slot : ℕ) (m n : Option Abstract) → EdgeUnder m n → SentUnder (passed_state slot m) (passed_state slot n)
 sent_under slot None n h = tt
 sent_under slot (Some s) None h = absurd h
 sent_under slot (Some s) (Some t) h = inl (refl, h, tt)
@@ -361,7 +363,7 @@ after_more [] qs rs h = tt
 after_more (p ∷ ps) qs [] h = h
 after_more (p ∷ ps) qs (r ∷ rs) h = inr (after_more (p ∷ ps) qs rs h)
 
-both_under : (ps qs xs ys : List (ℕ × Abstract)) → SentUnder ps qs → SentUnder xs ys → SentUnder (ps ++ xs) (qs ++ ys)
+pub both_under : (ps qs xs ys : List (ℕ × Abstract)) → SentUnder ps qs → SentUnder xs ys → SentUnder (ps ++ xs) (qs ++ ys)
 both_under [] qs xs ys h k = after_more xs ys qs k
 both_under (p ∷ ps) [] xs ys h k = absurd h
 both_under (p ∷ ps) (q ∷ qs) xs ys (inl h) k = inl (h.0, h.1, both_under ps qs xs ys h.2 k)

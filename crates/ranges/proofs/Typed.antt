@@ -13,6 +13,7 @@ use Rattle.ranges.specs.SeenStates.{group_of, state_of}
 
 value_fits : (v : Value) → IsBounded (kind_of v)
 value_fits value.Unset = tt
+value_fits value.Word = tt
 value_fits (value.Num x) = limits_are x
 value_fits (value.Ctx o) = o.within
 value_fits (value.Stack o) = o.within

@@ -1,8 +1,11 @@
--- A group of a stack of which bytes are written.
-use Rattle.std.proofs.Common.{◌≡◌, ℕ, zero, suc, ◌+◌, ◌<◌, List, [], ◌∷◌, length, get_or, refl, sym, arith}
+-- What stands at a place behind a change: a group of a stack of which bytes are written, and a register behind a call.
+use Rattle.std.proofs.Common.{◌≡◌, ℕ, zero, suc, ◌+◌, ◌<◌, ◌==◌, nat_le, false, if◌then◌else◌, List, [], ◌∷◌, length, get_or, refl, sym, arith}
+use Rattle.std.proofs.lemmas.Bool.Decides.{nat_tests}
 use Rattle.std.specs.Prelude.{slice_index_or}
+use Rattle.ranges.specs.Kinds.{Kind, Unset}
 use Rattle.ranges.specs.Groups.{GroupKind, Marked, map_places}
-use Rattle.ranges.specs.After.{group_after, groups_after_write}
+use Rattle.ranges.specs.Reading.{value}
+use Rattle.ranges.specs.After.{group_after, groups_after_write, after_answer}
 
 place_mapped : {A B : Type 0} (f : ℕ → A → B) (g : ℕ) (xs : List A) (k : ℕ) (d : A) (e : B) → k < length xs
     → get_or (map_places f g xs) k e ≡ f (g + k) (get_or xs k d)
@@ -21,3 +24,22 @@ group_written at n groups k small =
     let e : get_or (map_places (group_after at n) 0 groups) k (Marked []) ≡ group_after at n k (get_or groups k (Marked [])) =
     rw z at (place_mapped (group_after at n) 0 groups k (Marked []) (Marked []) small) in
     sym e
+
+pub answered_at : (values : List Kind) (groups : List GroupKind) (k : Kind) (r : ℕ) (x : Kind) → length values ≡ 11 → x ≡ get_or values r Unset
+    → (if r == 0 then k else if nat_le r 5 then Unset else x) ≡ value (after_answer (record { values = values; groups = groups }) k) r
+answered_at (a ∷ b ∷ c ∷ d ∷ e ∷ f ∷ rest) groups k zero x n h = refl
+answered_at (a ∷ b ∷ c ∷ d ∷ e ∷ f ∷ rest) groups k (suc zero) x n h = refl
+answered_at (a ∷ b ∷ c ∷ d ∷ e ∷ f ∷ rest) groups k (suc (suc zero)) x n h = refl
+answered_at (a ∷ b ∷ c ∷ d ∷ e ∷ f ∷ rest) groups k (suc (suc (suc zero))) x n h = refl
+answered_at (a ∷ b ∷ c ∷ d ∷ e ∷ f ∷ rest) groups k (suc (suc (suc (suc zero)))) x n h = refl
+answered_at (a ∷ b ∷ c ∷ d ∷ e ∷ f ∷ rest) groups k (suc (suc (suc (suc (suc zero))))) x n h = refl
+answered_at (a ∷ b ∷ c ∷ d ∷ e ∷ f ∷ rest) groups k (suc (suc (suc (suc (suc (suc r)))))) x n h =
+    let some : (suc (suc (suc (suc (suc (suc r))))) == 0) ≡ false = grind (arith, nat_tests) in
+    let past : nat_le (suc (suc (suc (suc (suc (suc r)))))) 5 ≡ false = grind (arith, nat_tests) in
+    rw (some, past) h
+answered_at [] groups k r x n h = absurd (let bad : 0 ≡ 11 = n in omega arith)
+answered_at (a ∷ []) groups k r x n h = absurd (let bad : 1 ≡ 11 = n in omega arith)
+answered_at (a ∷ b ∷ []) groups k r x n h = absurd (let bad : 2 ≡ 11 = n in omega arith)
+answered_at (a ∷ b ∷ c ∷ []) groups k r x n h = absurd (let bad : 3 ≡ 11 = n in omega arith)
+answered_at (a ∷ b ∷ c ∷ d ∷ []) groups k r x n h = absurd (let bad : 4 ≡ 11 = n in omega arith)
+answered_at (a ∷ b ∷ c ∷ d ∷ e ∷ []) groups k r x n h = absurd (let bad : 5 ≡ 11 = n in omega arith)

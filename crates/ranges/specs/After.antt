@@ -19,7 +19,7 @@ use Rattle.intervals.specs.SignedResults.{limits_result_of}
 use Rattle.ranges.specs.declared.place.Place.{Place}
 use Rattle.ranges.specs.declared.place.Place.TheVariants as place
 use Rattle.ranges.specs.declared.place.Mark.TheVariants as mark
-use Rattle.ranges.specs.Kinds.{Kind, Unset, Num, SectorOrNull, is_unset}
+use Rattle.ranges.specs.Kinds.{Kind, Unset, Num, SectorOrNull, is_unknown}
 use Rattle.ranges.specs.Groups.{GroupKind, Marked, Spilled, map_places}
 use Rattle.ranges.specs.States.{Abstract}
 use Rattle.ranges.specs.Pointers.{moved_pointer}
@@ -93,7 +93,7 @@ written_at groups p n = groups
 -- a value stored to a group is kept there; other stores make bytes written
 unfoldable pub stored_groups : Kind → List GroupKind → Place → ℕ → List GroupKind
 stored_groups k groups (place.Stack at) n =
-    if not (is_unset k) && is_group at n then slice_set groups (at / 8) (Spilled k) else groups_after_write at n groups
+    if not (is_unknown k) && is_group at n then slice_set groups (at / 8) (Spilled k) else groups_after_write at n groups
 stored_groups k groups p n = groups
 
 -- what a helper answers

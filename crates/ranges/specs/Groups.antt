@@ -1,6 +1,6 @@
 -- The bytes of a stack in aligned groups of eight (docs/VERIFIER.md, Abstract states).
 use Rattle.std.specs.Prelude.{◌≡◌, ℕ, ◌+◌, ◌&&◌, if◌then◌else◌, Bool, false, List, [], ◌∷◌, replicate}
-use Rattle.ranges.specs.Kinds.{Kind, Unset, is_number, join, round}
+use Rattle.ranges.specs.Kinds.{Kind, Unset, Word, is_number, join, round}
 
 -- two lists, element by element
 unfoldable pub zip_with : {A B C : Type 0} → (A → B → C) → List A → List B → List C
@@ -24,6 +24,7 @@ unset_marks = replicate 8 false
 -- a value that is kept in eight bytes; what may be anything leaves them unset
 abbrev pub group_kept : Kind → GroupKind
 group_kept Unset = Marked unset_marks
+group_kept Word = Marked unset_marks
 group_kept k = Spilled k
 
 -- what bytes that are known by marks are where a value is kept instead: all bytes of a number are

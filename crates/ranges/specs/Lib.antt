@@ -14,3 +14,4 @@ pub mod Order
 pub mod Laws
 pub mod Moving
 pub mod Changing
+pub mod Guards

@@ -3,13 +3,19 @@
 use Rattle.std.specs.Prelude.{◌≡◌, ℕ, ◌≤◌, ◌⊎◌, not, IsTrue, Bool, List, [], ◌∷◌, length, Option, None, Some}
 use Rattle.intervals.specs.Spans.{IsSpan, Within}
 use Rattle.intervals.specs.Reducing.{LimitsWithin, IsLimits}
-use Rattle.ranges.specs.Kinds.{Kind, Unset, Num, Ctx, Stack, Sector, SectorOrNull, is_number, is_unset}
+use Rattle.ranges.specs.Kinds.{Kind, Unset, Word, Num, Ctx, Stack, Sector, SectorOrNull, is_number, is_unknown}
 use Rattle.ranges.specs.Groups.{GroupKind, Marked, Spilled, unset_marks}
 use Rattle.ranges.specs.States.{Abstract}
+
+-- it isn't unset
+abbrev pub IsWord : Kind → Type 0
+IsWord Unset = ⊥
+IsWord _ = Unit {0}
 
 -- the second holds all that the first does
 abbrev pub Under : Kind → Kind → Type 0
 Under k Unset = Unit {0}
+Under k Word = IsWord k
 Under (Num x) (Num y) = LimitsWithin x y
 Under (Ctx a) (Ctx b) = a ≡ b
 Under (Stack a) (Stack b) = a ≡ b
@@ -42,6 +48,7 @@ pub record StateUnder (s t : Abstract) : Type 0 where
 -- the bounds of values, of groups and of states
 abbrev pub IsBounded : Kind → Type 0
 IsBounded Unset = Unit {0}
+IsBounded Word = Unit {0}
 IsBounded (Num x) = IsLimits x
 IsBounded (Ctx o) = o ≤ 32
 IsBounded (Stack o) = o ≤ 512
@@ -50,7 +57,7 @@ IsBounded SectorOrNull = Unit {0}
 
 abbrev pub IsGroup : GroupKind → Type 0
 IsGroup (Marked marks) = length marks ≡ 8
-IsGroup (Spilled k) = IsTrue (not (is_unset k)) × IsBounded k
+IsGroup (Spilled k) = IsTrue (not (is_unknown k)) × IsBounded k
 
 abbrev pub Each : {X : Type 0} → (X → Type 0) → List X → Type 0
 Each P [] = Unit {0}

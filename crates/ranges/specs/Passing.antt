@@ -11,7 +11,7 @@ use Rattle.bpf_isa.specs.Slots.{target_slot}
 use Rattle.intervals.specs.Spans.{only}
 use Rattle.intervals.specs.Reducing.{Limits, any_sign}
 use Rattle.intervals.specs.SignedEdges.{limits_refined}
-use Rattle.ranges.specs.Kinds.{Kind, Unset, Num, Stack, Sector}
+use Rattle.ranges.specs.Kinds.{Kind, Unset, Word, Num, Stack, Sector}
 use Rattle.ranges.specs.States.{Abstract, unset_groups}
 use Rattle.ranges.specs.Reading.{value, second, with_value, words}
 use Rattle.ranges.specs.Rules.{is_null_test}
@@ -56,12 +56,13 @@ edge_of s (instr.StoreImmediate size base distance n) taken = Some s
 edge_of s (instr.Store size base distance src) taken = Some s
 edge_of s (instr.LoadImmediate dst x) taken = Some s
 
--- what a local function is given of a register: a number, and no pointer
+-- what a local function is given of a register: a number, or a word, and no pointer
 abbrev pub argument_kind : Kind → Kind
 argument_kind (Num x) = Num x
-argument_kind _ = Unset
+argument_kind Unset = Unset
+argument_kind _ = Word
 
--- The state at the entry of a local function: registers 1 to 5 where they are numbers, the end of a
+-- The state at the entry of a local function: registers 1 to 5, of which only numbers are known, the end of a
 -- stack of its own, and nothing else of its caller.
 unfoldable pub entry_state : Abstract → Abstract
 entry_state s = record {

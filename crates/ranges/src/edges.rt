@@ -48,18 +48,18 @@ pub fn branch(instr: &Instr, taken: bool, state: &State) -> Option<State>
     }
 }
 
-/// What a local function is given of a register: a number, and no pointer.
+/// What a local function is given of a register: a number, or a word, and no pointer.
 fn argument_value(value: Value) -> Value
     ensures { kind_of result ≡ argument_kind (kind_of value) }
 {
     match value {
-        Value::Num(_) => value,
-        _ => Value::Unset,
+        Value::Num(_) | Value::Unset => value,
+        _ => Value::Word,
     }
 }
 
-/// The state at the entry of a local function that is called at a state: r1 to r5 where they are
-/// numbers, r10 the end of a stack of its own, and nothing else.
+/// The state at the entry of a local function that is called at a state: r1 to r5, of which only numbers
+/// are known, r10 the end of a stack of its own, and nothing else.
 #[tactic(auto, unfolding(crate::specs::Passing::entry_state, crate::specs::States::unset_groups))]
 pub fn entry(state: &State) -> State
     ensures { state_of result ≡ entry_state (state_of state.now) }

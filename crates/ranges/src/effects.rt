@@ -104,7 +104,7 @@ fn context_word(sectors: u32, at: u64) -> Value
 }
 
 /// Any number of a size.
-fn any_of(size: Size) -> Value
+pub(crate) fn any_of(size: Size) -> Value
     ensures { kind_of result ≡ any_of (byte_count size) }
 {
     up_to(match size {

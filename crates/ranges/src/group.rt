@@ -29,7 +29,7 @@ fn group_of(value: Value) -> Group
     ensures { group_of result ≡ group_kept (kind_of value) }
 {
     match value {
-        Value::Unset => UNSET,
+        Value::Unset | Value::Word => UNSET,
         value => Group::Spilled(Spill { value }),
     }
 }

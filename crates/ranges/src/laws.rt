@@ -1,5 +1,6 @@
 //! Laws of abstract values. The functions do nothing; each contract is a theorem.
 
+ghost use Rattle.ranges.specs.Guards.{GuardedRulesAreWeaker, GuardedRulesAreMonotone, GuardedPassesAreMonotone, GuardedPassesFit, GuardsAreProved};
 ghost use Rattle.ranges.specs.Laws.{JoinIsLeast, RoundContains, StatesJoin, StatesRound, StartFits, StatesFit, EdgesAreMonotone, StatesAreOrdered, RulesAreMonotone, AfterIsMonotone, PassesAreMonotone};
 
 /// The join of two values is the least that holds all that either does.
@@ -56,4 +57,29 @@ pub fn after_is_monotone()
 /// Where a larger state breaks no rule, a smaller one passes smaller states to the same slots, or passes nothing.
 pub fn passes_are_monotone()
     ensures { PassesAreMonotone }
+{}
+
+/// The rules with guards are weaker than those without.
+pub fn guarded_rules_are_weaker()
+    ensures { GuardedRulesAreWeaker }
+{}
+
+/// A smaller state breaks no rule with guards where a larger one breaks none.
+pub fn guarded_rules_are_monotone()
+    ensures { GuardedRulesAreMonotone }
+{}
+
+/// Nothing is guarded where the rules without guards hold, nor at a smaller state where it isn't at a larger one.
+pub fn guards_are_proved()
+    ensures { GuardsAreProved }
+{}
+
+/// Where a larger state breaks no rule with guards, a smaller one passes smaller states to the same slots, or nothing.
+pub fn guarded_passes_are_monotone()
+    ensures { GuardedPassesAreMonotone }
+{}
+
+/// What is passed on with guards is within the bounds of states.
+pub fn guarded_passes_fit()
+    ensures { GuardedPassesFit }
 {}

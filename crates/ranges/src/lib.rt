@@ -17,6 +17,10 @@
 //! | `branch(&instr, taken, &state)` | the state on an edge of a conditional jump, None where no machine goes that way |
 //! | `entry(&state)` | the state at the entry of a local function that is called there |
 //! | `s.take_in(&t)`, `s.widen()`, `advance(..)`, `follow(..)`, `enter(..)` | `join`, `round`, `after`, `branch` and `entry`, in place |
+//! | `check_with_guards(&instr, &state)` | that each rule with guards holds, or the first that is broken |
+//! | `breaks_rule(&instr, &state)` | whether a rule without guards is broken |
+//! | `advance_loosely(&instr, &mut state)` | what is passed on there, along each edge |
+//! | `is_guarded(&instr, &state)` | whether the slot is guarded: the place of its access isn't proved |
 //!
 //! No call takes memory, and none refuses but by its answer. `after` and `branch` are meant for an
 //! instruction that breaks no rule at the state; at another they answer what their definition says,
@@ -56,6 +60,12 @@
 //! - `after_is_monotone`, `edges_are_monotone`, `passes_are_monotone`: there it is left with a smaller
 //!   state behind an instruction and on the edges of a conditional jump, or with none, and passes smaller
 //!   states to the same slots.
+//! - `check_with_guards` answers the first failing one of the list `guarded_rules`, `advance_loosely` is exactly `loose_after`,
+//!   and `is_guarded` that of `specs/Guards.antt`.
+//! - `guarded_rules_are_weaker`: where no rule without guards is broken, none with guards is.
+//! - `guarded_rules_are_monotone`, `guarded_passes_are_monotone`, `guarded_passes_fit`: as those of acceptance without guards.
+//! - `guards_are_proved`: nothing is guarded where no rule without guards is broken, nor at a smaller state where it isn't at a
+//!   larger one.
 //!
 //! That states cover what the machine does is proved in `soundness`.
 //!
@@ -66,6 +76,7 @@
 //!   known of the bytes there. `writes`: stores.
 //! - `reads`, `rules`: the rules, one function a form. Their causes are those of `base`.
 //! - `change`: what an instruction changes, where that needs no copy; `stretch`: bytes that are written.
+//! - `guards`: the rules with guards, what follows where one without guards is broken, and which slots are guarded.
 //! - `moving`: what an instruction, an edge and a local call make of a state, in place; `effects` and
 //!   `edges` have the values for it. `after` and `branch` copy a state and then do that.
 //! - `knowing`: what is known of a state, and joining and rounding it.
@@ -98,6 +109,7 @@ mod change;
 mod edges;
 mod effects;
 mod group;
+mod guards;
 mod knowing;
 pub mod laws;
 mod moving;
@@ -116,6 +128,7 @@ pub use change::{Change, Effect, effect_along, effect_behind};
 pub use edges::{branch, entry};
 pub use effects::after;
 pub use group::Group;
+pub use guards::{advance_loosely, breaks_rule, check_with_guards, effect_loosely, is_guarded};
 pub use moving::{advance, enter, follow};
 pub use rules::check;
 pub use spill::Spill;

@@ -38,7 +38,7 @@ fn put(state: &mut State, register: Register, value: Option<Value>) -> bool
 }
 
 /// A call answers: r1 to r5 are unset.
-fn answer(state: &mut State, value: Value)
+pub(crate) fn answer(state: &mut State, value: Value)
     ensures { state_of state.new ≡ after_answer (state_of state.old) (kind_of value) }
 {
     state.set_at(0, value);

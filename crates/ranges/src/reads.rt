@@ -2,7 +2,7 @@
 
 ghost use Rattle.std.specs.Prelude.{◌≡◌, not, [], ◌∷◌};
 ghost use Rattle.machine.specs.Step.{source_registers, operands};
-ghost use Rattle.ranges.specs.Kinds.{is_unset};
+ghost use Rattle.ranges.specs.Kinds.{is_unknown};
 ghost use Rattle.ranges.specs.Reading.{value, are_set};
 ghost use Rattle.ranges.specs.SeenStates.{state_of};
 
@@ -12,7 +12,7 @@ use bpf_isa::register::Register;
 
 /// Whether a register is set.
 pub(crate) fn is_set(state: &State, register: Register) -> bool
-    ensures { result ≡ not (is_unset (value (state_of state.now) register)) }
+    ensures { result ≡ not (is_unknown (value (state_of state.now) register)) }
 {
     state.value(register).is_set()
 }

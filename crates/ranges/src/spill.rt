@@ -1,7 +1,7 @@
 //! A value on the stack.
 
 ghost use Rattle.std.specs.Prelude.{IsTrue, not};
-ghost use Rattle.ranges.specs.Kinds.{is_unset};
+ghost use Rattle.ranges.specs.Kinds.{is_unknown};
 ghost use Rattle.ranges.specs.Seen.{kind_of};
 
 use crate::value::Value;
@@ -10,5 +10,5 @@ use crate::value::Value;
 #[derive(Clone, Copy)]
 pub struct Spill {
     pub value: Value,
-    pub ghost known: { IsTrue (not (is_unset (kind_of value))) },
+    pub ghost known: { IsTrue (not (is_unknown (kind_of value))) },
 }

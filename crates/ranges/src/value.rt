@@ -32,6 +32,8 @@ pub struct SectorOffsets {
 pub enum Value {
     /// Anything, unset too.
     Unset,
+    /// Any word.
+    Word,
     /// The words of both ranges of a number.
     Num(Bounds),
     /// The address of the context, and an offset.
@@ -46,7 +48,7 @@ pub enum Value {
 
 impl Value {
     ghost use Rattle.std.specs.Prelude.{◌≡◌, IsTrue, ◌↔◌, not};
-    ghost use Rattle.ranges.specs.Kinds.{join, round, Contains, is_number, is_unset};
+    ghost use Rattle.ranges.specs.Kinds.{join, round, Contains, is_number, is_unknown, is_unset};
     ghost use Rattle.ranges.specs.Reading.{is_stack, is_base, has_length, words};
     ghost use Rattle.ranges.specs.Seen.{kind_of};
     ghost use Rattle.intervals.specs.SeenBounds.{limits_of};
@@ -62,7 +64,8 @@ impl Value {
             (Value::Stack(a), Value::Stack(b)) if a.offset == b.offset => self,
             (Value::Sector(x), Value::Sector(y)) => Value::Sector(x.join(y)),
             (Value::SectorOrNull, Value::SectorOrNull) => self,
-            _ => Value::Unset,
+            (Value::Unset, _) | (_, Value::Unset) => Value::Unset,
+            _ => Value::Word,
         }
     }
 
@@ -74,6 +77,7 @@ impl Value {
     {
         match (self, other) {
             (Value::Unset, _) => true,
+            (Value::Word, other) => !matches!(other, Value::Unset),
             (Value::Num(x), Value::Num(y)) => x.contains(y),
             (Value::Ctx(a), Value::Ctx(b)) => a.offset == b.offset,
             (Value::Stack(a), Value::Stack(b)) => a.offset == b.offset,
@@ -87,7 +91,7 @@ impl Value {
     #[tactic(auto, unfolding(crate::specs::Kinds::round))]
     pub fn round(self) -> Value
         ensures value { kind_of result ≡ round (kind_of self) }
-        ensures kind { is_unset (kind_of result) ≡ is_unset (kind_of self) }
+        ensures kind { is_unknown (kind_of result) ≡ is_unknown (kind_of self) }
     {
         match self {
             Value::Num(x) => Value::Num(x.round()),
@@ -98,6 +102,13 @@ impl Value {
 
     /// Whether something is known of it.
     pub(crate) fn is_set(self) -> bool
+        ensures { result ≡ not (is_unknown (kind_of self)) }
+    {
+        !matches!(self, Value::Unset | Value::Word)
+    }
+
+    /// Whether it isn't unset.
+    pub(crate) fn is_word(self) -> bool
         ensures { result ≡ not (is_unset (kind_of self)) }
     {
         !matches!(self, Value::Unset)

@@ -50,10 +50,19 @@ abbrev pub steps_word : Bool → List ℕ
 steps_word true = codes "budget"
 steps_word false = codes "limit"
 
+-- how many slots are guarded, where the program was accepted with guards
+abbrev pub guards_words : Option ℕ → List ℕ
+guards_words None = []
+guards_words (Some number) = codes " guards " ++ decimal number
+
+-- the most steps of a run, and how many slots are guarded where some may be
+abbrev pub steps_text : ProgramHead → List ℕ
+steps_text p = steps_word p.verified ++ codes " " ++ decimal p.limit ++ guards_words p.guards
+
 -- the line of a program, with its number
 unfoldable pub program_line : ℕ → ProgramHead → List ℕ
 program_line number p =
-    codes "program " ++ decimal number ++ codes " slots " ++ decimal p.slots ++ codes " " ++ steps_word p.verified ++ codes " " ++ decimal p.limit ++ codes "\n"
+    codes "program " ++ decimal number ++ codes " slots " ++ decimal p.slots ++ codes " " ++ steps_text p ++ codes "\n"
 
 abbrev pub program_lines : ℕ → List ProgramHead → List ℕ
 program_lines number [] = []

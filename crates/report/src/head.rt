@@ -11,6 +11,8 @@ pub struct ProgramHead {
     pub limit: u64,
     /// Whether the verifier accepted the program.
     pub verified: bool,
+    /// How many of its slots are guarded, where it was accepted with guards.
+    pub guards: Option<u32>,
 }
 
 /// What the report says at its head, and how many images there are.

@@ -18,6 +18,7 @@
 //! | `write_part(alloc, head, span, lines)` | the bytes of a part of a run |
 //! | `Span`, `put_span(out, span)` | which images of which run a text is of, and the two lines that say so |
 //! | `put_options(out, head)`, `put_totals(out, images, lines)` | append its options and programs, and its last line |
+//! | `put_steps(out, program)` | appends of a program the most steps of a run, and how many slots are guarded |
 //!
 //! # Place
 //!
@@ -57,4 +58,4 @@ mod writer;
 
 pub use head::{Head, ProgramHead};
 pub use span::{Span, put_span};
-pub use writer::{put_options, put_totals, write_part, write_report};
+pub use writer::{put_options, put_steps, put_totals, write_part, write_report};

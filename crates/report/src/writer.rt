@@ -6,7 +6,7 @@ ghost use Rattle.std.specs.List.Sorted.{IsNonDecreasing};
 ghost use Rattle.lines.specs.Line.{first_lines};
 ghost use Rattle.lines.specs.Text.{line_text};
 ghost use Rattle.report.specs.Text.{yes_or_no, cuts_word, by_words};
-ghost use Rattle.report.specs.Report.{device_text, choices_text, given_text, base_words, steps_word, program_line, program_lines, totals_line, image_text, first_line, last_line, shown_lines, options_text, head_text, findings_text, report_bytes};
+ghost use Rattle.report.specs.Report.{device_text, choices_text, given_text, base_words, steps_word, guards_words, steps_text, program_line, program_lines, totals_line, image_text, first_line, last_line, shown_lines, options_text, head_text, findings_text, report_bytes};
 ghost use Rattle.report.specs.Part.{span_text, span_report};
 
 use crate::head::{Head, ProgramHead};
@@ -95,17 +95,33 @@ fn put_given(out: &mut String, head: &Head) -> Result<(), AllocError>
     write!(out, "\n")
 }
 
+/// Appends how many slots are guarded, where the program was accepted with guards.
+fn put_guards(out: &mut String, guards: Option<u32>) -> Result<(), AllocError>
+    ensures { OnOk result (string_bytes out.new ≡ string_bytes out.old ++ guards_words guards) }
+{
+    match guards {
+        Some(number) => write!(out, " guards {number}"),
+        None => Ok(()),
+    }
+}
+
+/// Appends the most steps of a run of a program, and how many of its slots are guarded where it was accepted with guards.
+pub fn put_steps(out: &mut String, program: ProgramHead) -> Result<(), AllocError>
+    ensures { OnOk result (string_bytes out.new ≡ string_bytes out.old ++ steps_text program) }
+{
+    let steps = word_of_steps(program.verified);
+    write!(out, "{steps} {}", program.limit)?;
+    put_guards(out, program.guards)
+}
+
 /// Appends the line of a program.
 #[tactic(auto, unfolding(crate::specs::Report::program_line))]
 fn put_program(out: &mut String, number: usize, program: ProgramHead) -> Result<(), AllocError>
     ensures { OnOk result (string_bytes out.new ≡ string_bytes out.old ++ program_line number program) }
 {
-    let steps = word_of_steps(program.verified);
-    write!(
-        out,
-        "program {number} slots {} {steps} {}\n",
-        program.slots, program.limit
-    )
+    write!(out, "program {number} slots {} ", program.slots)?;
+    put_steps(out, program)?;
+    write!(out, "\n")
 }
 
 /// Appends the lines of the programs.

@@ -23,6 +23,7 @@ settings_with w kind way added extent = record {
   workers = w.workers;
   cache = w.cache;
   checked = w.checked;
+  guards = w.guards;
   first = w.first;
   extent = extent;
 }

@@ -21,3 +21,4 @@ place_number place.Epoch = 15
 place_number place.Marks = 16
 place_number place.Images = 17
 place_number place.Parts = 18
+place_number place.Guards = 19

@@ -1,5 +1,5 @@
 -- The options of a run, and which are refused (docs/REPORT.md, Options).
-use Rattle.std.specs.Prelude.{◌≡◌, ◌≤◌, Bool, true, ◌&&◌, nat_le, List, [], ◌∷◌, Option, None}
+use Rattle.std.specs.Prelude.{ℕ, ◌≡◌, ◌≤◌, Bool, true, ◌&&◌, not, nat_le, List, [], ◌∷◌, Option, None, is_some}
 use Rattle.std.specs.Option.{option_map, option_map_or}
 use Rattle.base.specs.Check.{Check, check, first_failing}
 use Rattle.limits.specs.Sizes.{most_sectors, sector_limit}
@@ -22,6 +22,10 @@ option_refusal at = record { code = Request request.Option; at = place_number at
 abbrev pub is_ordered : Cuts → Bool
 is_ordered cuts = option_map_or (λ first. is_before_last cuts.to first) cuts.from true
 
+-- programs are accepted in one way: guards don't go with a limit of steps, with which no verifier is asked
+abbrev pub is_one_kind : Bool → Option ℕ → Bool
+is_one_kind guards checked = not (guards && is_some checked)
+
 -- the checks of the options, each with its place
 unfoldable pub option_checks : Settings → List (Check OptionPlace)
 option_checks s =
@@ -32,6 +36,7 @@ option_checks s =
     ∷ check place.Checked (option_map_or (λ limit. nat_le limit 1000000000) s.checked true)
     ∷ check place.Range (is_ordered s.cuts)
     ∷ check place.Images (is_extent s.extent)
+    ∷ check place.Guards (is_one_kind s.guards s.checked)
     ∷ []
 
 -- the refusal of the first option that a check refuses, if one does
@@ -47,4 +52,5 @@ pub record IsAsked (s : Settings) : Type 0 where
   pub few_workers : s.workers ≤ 64
   pub cache : s.cache ≤ 65536
   pub extent : is_extent s.extent ≡ true
+  pub one_kind : is_one_kind s.guards s.checked ≡ true
   pub passed : first_failing (option_checks s) ≡ None

@@ -41,6 +41,8 @@ pub struct OptionWords {
     pub cache: u64,
     /// The number behind `--checked`, where that stands there.
     pub checked: Option<u64>,
+    /// Whether `--guards` stands there.
+    pub guards: bool,
     /// Whether `--first` stands there.
     pub first: bool,
     /// How many images the run may have, and which of them are meant, by `--images`; none where the word behind it names no images.
@@ -83,8 +85,8 @@ pub enum Request {
     Show(OptionWords, Which),
     /// `import RAW`
     Import(Limits),
-    /// `verify PROGRAM`, of which the number of sectors counts.
-    Verify(OptionWords),
+    /// `verify PROGRAM`, of which the number of sectors and the guards count; with each guarded slot or without.
+    Verify { words: OptionWords, listed: bool },
     /// `check PROGRAM IMAGE`
     Check(TrialWords),
     /// `asm SOURCE`
@@ -122,6 +124,7 @@ fn options_with(
         workers: words.workers,
         cache: words.cache,
         checked: words.checked,
+        guards: words.guards,
         first: words.first,
         extent,
     })

@@ -23,7 +23,8 @@
 //!
 //! `Options::new` answers what it was asked, and refuses exactly the first option that is out of its range, by its place
 //! (`specs/Settings.antt`, docs/REPORT.md, Options). So whoever has `Options` has numbers in their ranges: 1 to 16,384 sectors,
-//! at most 3 parts that depart, 1 to 64 workers, a cache of at most 65,536 outcomes, a limit of at most 10^9 steps.
+//! at most 3 parts that depart, 1 to 64 workers, a cache of at most 65,536 outcomes, a limit of at most 10^9 steps, and no limit
+//! where programs are accepted with guards.
 //! `options_of` refuses first a word that names no kind of cut, then one that names no kind of part, then one that is no list of
 //! entries (`specs/OptionWords.antt`). `trial_of` refuses exactly the first number that is out of its range (`specs/Trials.antt`).
 //!
@@ -53,6 +54,7 @@
 //!     workers: 1,
 //!     cache: 16,
 //!     checked: None,
+//!     guards: false,
 //!     first: false,
 //!     extent: Extent::Whole,
 //! };

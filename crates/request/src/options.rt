@@ -3,7 +3,7 @@
 ghost use Rattle.std.specs.Prelude.{◌≡◌, ◌≤◌, MatchResult, IfOk, None, Some, not, nat_le, true};
 ghost use Rattle.std.specs.Option.{option_map_or};
 ghost use Rattle.request.specs.Extents.{is_extent};
-ghost use Rattle.request.specs.Settings.{settings_refusal, is_ordered, IsAsked};
+ghost use Rattle.request.specs.Settings.{settings_refusal, is_one_kind, is_ordered, IsAsked};
 
 use crate::extent::Extent;
 use crate::refusals::option_refusal_of;
@@ -40,6 +40,7 @@ pub struct Options {
     workers: u8,
     cache: u32,
     checked: Option<u64>,
+    guards: bool,
     first: bool,
     extent: Extent,
 }
@@ -50,9 +51,9 @@ impl Model for Options {
 
     ghost Value = { Settings };
 
-    ghost view = { λ o. record { sectors = o.sectors; limits = o.limits; cuts = o.cuts; bound = o.bound; tears = o.tears; by = o.by; workers = o.workers; cache = o.cache; checked = o.checked; first = o.first; extent = o.extent } };
+    ghost view = { λ o. record { sectors = o.sectors; limits = o.limits; cuts = o.cuts; bound = o.bound; tears = o.tears; by = o.by; workers = o.workers; cache = o.cache; checked = o.checked; guards = o.guards; first = o.first; extent = o.extent } };
 
-    ghost invariant = { λ o. IsAsked (record { sectors = o.sectors; limits = o.limits; cuts = o.cuts; bound = o.bound; tears = o.tears; by = o.by; workers = o.workers; cache = o.cache; checked = o.checked; first = o.first; extent = o.extent }) };
+    ghost invariant = { λ o. IsAsked (record { sectors = o.sectors; limits = o.limits; cuts = o.cuts; bound = o.bound; tears = o.tears; by = o.by; workers = o.workers; cache = o.cache; checked = o.checked; guards = o.guards; first = o.first; extent = o.extent }) };
 }
 
 /// Whether there is a limit of steps that is too great.
@@ -80,7 +81,7 @@ impl Options {
     ///
     /// # Errors
     ///
-    /// The first option that is out of its range, by its place.
+    /// The first option that is out of its range, by its place; then guards beside a limit of steps.
     #[tactic(auto, unfolding(crate::specs::Settings::option_checks))]
     pub fn new(settings: &Settings) -> Result<Options, Refusal>
         ensures made { IfOk result (λ o. o ≡ settings.now) }
@@ -108,6 +109,9 @@ impl Options {
         if !settings.extent.is_extent() {
             return Err(option_refusal_of(OptionPlace::Images));
         }
+        if settings.guards && settings.checked.is_some() {
+            return Err(option_refusal_of(OptionPlace::Guards));
+        }
         Ok(Options {
             sectors: settings.sectors as u32,
             limits: settings.limits,
@@ -118,6 +122,7 @@ impl Options {
             workers: settings.workers as u8,
             cache: settings.cache as u32,
             checked: settings.checked,
+            guards: settings.guards,
             first: settings.first,
             extent: settings.extent,
         })
@@ -201,5 +206,13 @@ impl Options {
         ensures { result ≡ self.now.checked }
     {
         self.checked
+    }
+
+    /// Whether programs are accepted with guards. Then there is no limit of steps.
+    pub fn guards(&self) -> bool
+        ensures value { result ≡ self.now.guards }
+        ensures alone { is_one_kind result self.now.checked ≡ true }
+    {
+        self.guards
     }
 }

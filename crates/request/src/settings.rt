@@ -28,6 +28,8 @@ pub struct Settings {
     pub cache: u64,
     /// The limit of steps, for programs that no verifier is asked about.
     pub checked: Option<u64>,
+    /// Whether programs are accepted with guards. It doesn't go with a limit of steps.
+    pub guards: bool,
     /// Whether the first failing image is all that is asked for.
     pub first: bool,
     /// How many images the run may have, and which of them are meant.
@@ -76,6 +78,8 @@ pub enum OptionPlace {
     Images = 17,
     /// In how many parts a run is to be laid out.
     Parts = 18,
+    /// Guards beside a limit of steps.
+    Guards = 19,
 }
 
 impl OptionPlace {

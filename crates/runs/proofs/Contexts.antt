@@ -24,6 +24,7 @@ use Rattle.images.proofs.Rows.{all_units}
 use Rattle.images.proofs.Sectors.{view_there}
 use Rattle.machine.specs.Outcome.{Ending}
 use Rattle.machine.proofs.Footprints.{footprint_tells}
+use Rattle.machine.proofs.Guarded as guarded
 use Rattle.checker.specs.Checker.{CheckerValue, judgement}
 use Rattle.checker.specs.Footprints.{AgreeAt, kept_footprint, footprint_of}
 use Rattle.checker.proofs.Alike.{judged_alike}
@@ -108,7 +109,7 @@ blind_on checker log k j bounds le other context blind =
     let passed = passes_bare checker log k blind in
     let device = sectors_of (whole_at log k) in
     let next = sectors_of (whole_at log j) in
-    let alike = judged_alike footprint_tells checker device next (context_at log k) 32 passed.sectors passed.looks (agree_cuts log k j passed.sectors bounds le other passed.bare) in
+    let alike = judged_alike footprint_tells guarded.footprint_tells checker device next (context_at log k) 32 passed.sectors passed.looks (agree_cuts log k j passed.sectors bounds le other passed.bare) in
     let ends : ending_on checker (whole_at log j) ≡ ending_on checker (whole_at log k) =
     ap (judgement checker next) (sym context) ∙ alike.ends in
     let looks : looks_on checker (whole_at log j) ≡ looks_on checker (whole_at log k) =

@@ -42,10 +42,10 @@ find_next None sectors programs n p us new h there next =
     })
 
 -- a breach of one of the programs, by its file
-pub breach_of : (sectors : ℕ) (files : List (List ℕ)) (programs now : List (List (Option Instr))) (refusal : Option Refusal) (r : Refusal) (o : Option Breach) → now ≡ programs
-    → AreDecoded files programs refusal → IfSome o (IsBreachIn sectors now r) → IfSome o (FindsBreach sectors files r)
-breach_of sectors files programs now refusal r None same decoded h = tt
-breach_of sectors files programs now refusal r (Some b) same decoded h =
+pub breach_of : (s : Settings) (files : List (List ℕ)) (programs now : List (List (Option Instr))) (refusal : Option Refusal) (r : Refusal) (o : Option Breach) → now ≡ programs
+    → AreDecoded files programs refusal → IfSome o (IsBreachIn s now r) → IfSome o (FindsBreach s files r)
+breach_of s files programs now refusal r None same decoded h = tt
+breach_of s files programs now refusal r (Some b) same decoded h =
     let stands = spelled_there files programs h.number h.program (first_decoded files programs refusal decoded)
     (subst (λ (ps : List (List (Option Instr))). slice_get ps h.number ≡ Some h.program) same h.there) in
     record {
@@ -57,10 +57,10 @@ breach_of sectors files programs now refusal r (Some b) same decoded h =
       is = h.is;
     }
 
-pub breach_at : (sectors : ℕ) (programs : List (List (Option Instr))) (n : ℕ) (p : List (Option Instr)) (r : Refusal) (o : Option Breach) → slice_get programs n ≡ Some p
-    → IfSome o (IsBreachOf sectors n p r) → IfSome o (IsBreachIn sectors programs r)
-breach_at sectors programs n p r None there h = tt
-breach_at sectors programs n p r (Some b) there h = record {
+pub breach_at : (s : Settings) (programs : List (List (Option Instr))) (n : ℕ) (p : List (Option Instr)) (r : Refusal) (o : Option Breach) → slice_get programs n ≡ Some p
+    → IfSome o (IsBreachOf s n p r) → IfSome o (IsBreachIn s programs r)
+breach_at s programs n p r None there h = tt
+breach_at s programs n p r (Some b) there h = record {
   number = n;
   program = p;
   there = there;

@@ -46,7 +46,7 @@ decoded_until files programs n bytes r h there why =
 
 -- one more checker
 pub made-push : (s : Settings) (programs : List (List (Option Instr))) (checkers : List CheckerValue) (slots : List (Option Instr)) (c : CheckerValue)
-    → AreFirstMade s programs checkers → slice_get programs (length checkers) ≡ Some slots → c.program ≡ slots → IsRunWithin s.checked s.sectors c
+    → AreFirstMade s programs checkers → slice_get programs (length checkers) ≡ Some slots → c.program ≡ slots → IsRunWithin s.checked s.guards s.sectors c
     → AreFirstMade s programs (checkers ++ c ∷ [])
 made-push s [] [] slots c h there same within = absurd (let bad : None ≡ Some slots = there in cc)
 made-push s [] (d ∷ ds) slots c h there same within = absurd h
@@ -57,7 +57,7 @@ made-push s (p ∷ ps) (d ∷ ds) slots c h there same within =
     (h.0, h.1, made-push s ps ds slots c h.2 there same within)
 
 pub made_next : (s : Settings) (programs : List (List (Option Instr))) (checkers : List CheckerValue) (n : ℕ) (slots : List (Option Instr)) (c : CheckerValue)
-    → AreFirstMade s programs checkers × (length checkers ≡ n) → slice_get programs n ≡ Some slots → c.program ≡ slots → IsRunWithin s.checked s.sectors c
+    → AreFirstMade s programs checkers × (length checkers ≡ n) → slice_get programs n ≡ Some slots → c.program ≡ slots → IsRunWithin s.checked s.guards s.sectors c
     → AreFirstMade s programs (checkers ++ c ∷ []) × (length (checkers ++ c ∷ []) ≡ n + 1)
 made_next s programs checkers n slots c h there same within = (
   made-push s programs checkers slots c h.0 (subst (λ k. slice_get programs k ≡ Some slots) (sym h.1) there) same within,
@@ -98,7 +98,7 @@ all_made s files programs checkers h long made all =
 
 unaccepted_one : (s : Settings) (files : List (List ℕ)) (programs : List (List (Option Instr))) (r : Refusal) (n : ℕ) (slots : List (Option Instr)) (before : List CheckerValue)
     → AreFirstOf files programs → AreCheckersOf s (take n files) before → slice_get programs n ≡ Some slots → s.checked ≡ None
-    → (r ≡ verifier_refusal n verifier.Memory 0) ⊎ IsVerifierFault s.sectors n slots r → RefusesProgram s files r
+    → (r ≡ verifier_refusal n verifier.Memory 0) ⊎ IsVerifierFault s.guards s.sectors n slots r → RefusesProgram s files r
 unaccepted_one s files programs r n slots before h made there unlimited (inl e) =
     let stands = spelled_there files programs n slots h there in
     rw e (no_verifier_memory n stands.0 slots before made stands.1 stands.2 unlimited)

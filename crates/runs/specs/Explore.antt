@@ -14,7 +14,7 @@ use Rattle.report.specs.Report.{HeadValue, report_bytes}
 use Rattle.report.specs.Part.{span_report}
 use Rattle.lines.specs.Line.{FailingLine}
 use Rattle.workers.specs.Failing.{Subject, failing_lines}
-use Rattle.workers.specs.Safe.{IsVerdict, RunsSafely}
+use Rattle.workers.specs.Safe.{IsVerdict, RunsSafely, IsAcceptedFor, IsAcceptedBy, RunsSafelyWithGuards, IsOverWithGuards}
 use Rattle.request.specs.declared.extent.Extent.{Extent}
 use Rattle.request.specs.declared.extent.Extent.TheVariants as extent
 use Rattle.request.specs.declared.settings.OptionPlace.TheVariants as place
@@ -35,7 +35,7 @@ pub record IsProgramCount (n : ℕ) : Type 0 where
 pub record IsCheckerOf (s : Settings) (bytes : List ℕ) (c : CheckerValue) : Type 0 where
   pub spelled : code_fault.IsSpelledBy bytes c.program
   pub clean : code_fault.HasNoFault bytes
-  pub within : IsRunWithin s.checked s.sectors c
+  pub within : IsRunWithin s.checked s.guards s.sectors c
 
 -- the checkers that a run makes of its files
 abbrev pub AreCheckersOf : Settings → List (List ℕ) → List CheckerValue → Type 0
@@ -57,7 +57,7 @@ subject_of s value checkers = record {
 }
 
 abbrev pub program_head : CheckerValue → ProgramHead
-program_head checker = record { slots = length checker.program; limit = checker.limit; verified = is_some checker.verified }
+program_head checker = record { slots = length checker.program; limit = checker.limit; verified = is_some checker.verified; guards = checker.guards }
 
 unfoldable pub head_of : Settings → LogValue → List CheckerValue → HeadValue
 head_of s value checkers = record {
@@ -83,11 +83,30 @@ images_text (extent.Part from to) inputs h ls = span_report h (record { from = f
 abbrev pub report_of : ℕ → Settings → LogValue → List CheckerValue → List ℕ
 report_of inputs s value checkers = images_text s.extent inputs (head_of s value checkers) (failing_lines (subject_of s value checkers))
 
--- No program has a fault or spends its limit: on each image each ends in the machine's verdict within the limit
--- that the report prints, and each line is that of a verdict.
+-- No program has a fault or spends its limit: each is accepted without guards, and ends on each image in the machine's verdict
+-- within the limit that the report prints, and each line is that of a verdict.
 pub record IsFaultless (subject : Subject) : Type 0 where
-  pub runs : (program : ℕ) (checker : CheckerValue) → slice_get subject.checkers program ≡ Some checker → RunsSafely subject checker
+  pub runs : (program : ℕ) (checker : CheckerValue) → slice_get subject.checkers program ≡ Some checker → IsAcceptedFor subject checker × RunsSafely subject checker
   pub lines : (i : ℕ) (l : FailingLine) → slice_get (failing_lines subject) i ≡ Some l → IsVerdict l.ending
+
+-- a line is of a program that is accepted with guards, and that of a verdict or of a stray at a slot that its least table guards
+pub record IsOverLine (subject : Subject) (l : FailingLine) : Type 0 where
+  pub checker : CheckerValue
+  pub of_program : slice_get subject.checkers l.program ≡ Some checker
+  pub is : IsAcceptedBy true subject checker
+  pub over : IsOverWithGuards subject checker is l.ending
+
+-- With guards a program may also stray, at a slot that its least table guards: on each image each ends so within the budget that the
+-- report prints, and so says each line.
+pub record IsGuarded (subject : Subject) : Type 0 where
+  pub runs : (program : ℕ) (checker : CheckerValue) → slice_get subject.checkers program ≡ Some checker
+      → (is : IsAcceptedBy true subject checker) × RunsSafelyWithGuards subject checker is
+  pub lines : (i : ℕ) (l : FailingLine) → slice_get (failing_lines subject) i ≡ Some l → IsOverLine subject l
+
+-- what is true of runs of accepted programs, without guards and with them
+abbrev pub IsSafe : Bool → Subject → Type 0
+IsSafe false subject = IsFaultless subject
+IsSafe true subject = IsGuarded subject
 
 -- the bytes tell this of the programs on the crash images of the log; where no limit of steps is asked for, nothing has a fault
 -- or spends a limit
@@ -99,7 +118,7 @@ pub record IsRun (Tells : Settings → LogValue → List CheckerValue → List �
   pub made : AreCheckersOf s files checkers
   pub tells : Tells s value checkers bytes
   pub fails : IsTrue failing ↔ (failing_lines (subject_of s value checkers) ≢ [])
-  pub faultless : s.checked ≡ None → IsFaultless (subject_of s value checkers)
+  pub faultless : s.checked ≡ None → IsSafe s.guards (subject_of s value checkers)
 
 -- the bytes report every failing image of the log, of those that are meant, and no other, or the first alone where that is asked for
 abbrev pub IsReport : Recording → List (List ℕ) → Settings → List ℕ → Bool → Type 0
@@ -116,7 +135,7 @@ pub data RefusesProgram (s : Settings) (files : List (List ℕ)) : Refusal → T
       → AreCheckersOf s (take program files) before → slice_get files program ≡ Some bytes → IsCodeFault program bytes r → RefusesProgram s files r
   with_verifier_fault : (r : Refusal) (program : ℕ) (bytes : List ℕ) (slots : List (Option Instr)) (before : List CheckerValue)
       → AreCheckersOf s (take program files) before → slice_get files program ≡ Some bytes → code_fault.IsSpelledBy bytes slots
-      → s.checked ≡ None → IsVerifierFault s.sectors program slots r → RefusesProgram s files r
+      → s.checked ≡ None → IsVerifierFault s.guards s.sectors program slots r → RefusesProgram s files r
   no_code_memory : (program : ℕ) (bytes : List ℕ) (before : List CheckerValue)
       → AreCheckersOf s (take program files) before → slice_get files program ≡ Some bytes → RefusesProgram s files (code_refusal program code.Memory 0)
   no_verifier_memory : (program : ℕ) (bytes : List ℕ) (slots : List (Option Instr)) (before : List CheckerValue)

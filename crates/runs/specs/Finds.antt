@@ -24,26 +24,26 @@ FindsUnreached (Some limit) sectors programs found = found ≡ []
 FindsUnreached None sectors programs found = AreUnreached sectors programs found
 
 -- what is known where program `number` is refused, as the refusal says
-pub record IsBreachOf (sectors number : ℕ) (program : List (Option Instr)) (r : Refusal) (b : Breach) : Type 0 where
+pub record IsBreachOf (s : Settings) (number : ℕ) (program : List (Option Instr)) (r : Refusal) (b : Breach) : Type 0 where
   pub fault : Fault
   pub says : r ≡ verifier_refusal number fault.code fault.slot
-  pub breach : IsBreach program sectors fault b
+  pub breach : IsBreach s.guards program s.sectors fault b
 
 -- of one of these programs
-pub record IsBreachIn (sectors : ℕ) (programs : List (List (Option Instr))) (r : Refusal) (b : Breach) : Type 0 where
+pub record IsBreachIn (s : Settings) (programs : List (List (Option Instr))) (r : Refusal) (b : Breach) : Type 0 where
   pub number : ℕ
   pub program : List (Option Instr)
   pub there : slice_get programs number ≡ Some program
-  pub is : IsBreachOf sectors number program r b
+  pub is : IsBreachOf s number program r b
 
 -- of the program that one of the files spells
-pub record FindsBreach (sectors : ℕ) (files : List (List ℕ)) (r : Refusal) (b : Breach) : Type 0 where
+pub record FindsBreach (s : Settings) (files : List (List ℕ)) (r : Refusal) (b : Breach) : Type 0 where
   pub number : ℕ
   pub bytes : List ℕ
   pub program : List (Option Instr)
   pub there : slice_get files number ≡ Some bytes
   pub spelled : IsSpelledBy bytes program
-  pub is : IsBreachOf sectors number program r b
+  pub is : IsBreachOf s number program r b
 
 -- of the log how many entries no image loses as a whole, and of all programs what no run reaches
 pub record FindsAll (text : Recording) (files : List (List ℕ)) (s : Settings) (facts : Facts) : Type 0 where

@@ -1,6 +1,6 @@
 -- The programs of a run: how long each may run, and what the verifier says of it (docs/REPORT.md,
 -- Refusals in their order).
-use Rattle.std.specs.Prelude.{ℕ, ◌≡◌, ◌⊎◌, List, [], ◌∷◌, length, Option, None, Some, slice_get}
+use Rattle.std.specs.Prelude.{ℕ, ◌≡◌, ◌⊎◌, Bool, List, [], ◌∷◌, length, Option, None, Some, slice_get}
 use Rattle.base.specs.declared.causes.CodeCause.{CodeCause}
 use Rattle.base.specs.declared.causes.CodeCause.TheVariants as code
 use Rattle.base.specs.declared.causes.VerifierCause.{VerifierCause}
@@ -10,15 +10,29 @@ use Rattle.base.specs.Refusals.{memory_refusal}
 use Rattle.base.specs.declared.refusal.Cause.TheVariants.{Code, Verifier}
 use Rattle.bpf_isa.specs.declared.instr.Instr.{Instr}
 use Rattle.bpf_isa.specs.Program as code_fault
-use Rattle.verifier.specs.Verdicts.{IsAccepted, Refused}
-use Rattle.checker.specs.Checker.{CheckerValue}
+use Rattle.verifier.specs.Verdicts.{VerifiedValue, IsVerified, RefusedWith}
+use Rattle.checker.specs.Checker.{CheckerValue, checker_of}
 use Rattle.request.specs.declared.settings.Settings.{Settings}
 
--- How often a program may step in a run: as often as the limit that was asked for; or, without one, as
--- often as the budget says with which the verifier accepts the program for the device.
-abbrev pub IsRunWithin : Option ℕ → ℕ → CheckerValue → Type 0
-IsRunWithin (Some limit) sectors c = (c.limit ≡ limit) × (c.verified ≡ None)
-IsRunWithin None sectors c = IsAccepted c.program sectors c.limit × (c.verified ≡ Some sectors)
+-- a program as it is run that no verifier is asked about: with every check, as often as the limit says
+pub record IsLimited (most : ℕ) (c : CheckerValue) : Type 0 where
+  pub limit : c.limit ≡ most
+  pub verified : c.verified ≡ None
+  pub guards : c.guards ≡ None
+
+-- and one that the verifier accepts for a device of that many sectors, with guards or without: as often as its budget says
+pub record IsAcceptedChecker (guards : Bool) (sectors : ℕ) (c : CheckerValue) : Type 0 where
+  pub verified : VerifiedValue
+  pub is : IsVerified verified
+  pub kind : verified.guards ≡ guards
+  pub size : verified.sectors ≡ sectors
+  pub made : c ≡ checker_of verified
+
+-- How a program is run: with the limit of steps that was asked for; or, without one, accepted by the verifier for the device, with
+-- guards or without, as it was asked.
+abbrev pub IsRunWithin : Option ℕ → Bool → ℕ → CheckerValue → Type 0
+IsRunWithin (Some limit) guards sectors c = IsLimited limit c
+IsRunWithin None guards sectors c = IsAcceptedChecker guards sectors c
 
 abbrev pub code_refusal : ℕ → CodeCause → ℕ → Refusal
 code_refusal program cause slot = record { code = Code cause; at = slot; program = Some program }
@@ -31,10 +45,10 @@ IsCodeFault program bytes r =
 abbrev pub verifier_refusal : ℕ → VerifierCause → ℕ → Refusal
 verifier_refusal program cause slot = record { code = Verifier cause; at = slot; program = Some program }
 
--- the refusal says why the verifier refuses that program for a device of that many sectors
-abbrev pub IsVerifierFault : ℕ → ℕ → List (Option Instr) → Refusal → Type 0
-IsVerifierFault sectors program slots r =
-    (cause : VerifierCause) × (slot : ℕ) × (r ≡ verifier_refusal program cause slot) × Refused slots sectors cause slot
+-- the refusal says why the verifier refuses that program for a device of that many sectors, with guards or without
+abbrev pub IsVerifierFault : Bool → ℕ → ℕ → List (Option Instr) → Refusal → Type 0
+IsVerifierFault guards sectors program slots r =
+    (cause : VerifierCause) × (slot : ℕ) × (r ≡ verifier_refusal program cause slot) × RefusedWith guards slots sectors cause slot
 
 -- these programs are spelled by the first files
 abbrev pub AreFirstOf : List (List ℕ) → List (List (Option Instr)) → Type 0
@@ -47,7 +61,7 @@ AreFirstOf (bytes ∷ files) (slots ∷ programs) =
 abbrev pub AreFirstMade : Settings → List (List (Option Instr)) → List CheckerValue → Type 0
 AreFirstMade s programs [] = Unit {0}
 AreFirstMade s [] (c ∷ checkers) = ⊥
-AreFirstMade s (slots ∷ programs) (c ∷ checkers) = (c.program ≡ slots) × IsRunWithin s.checked s.sectors c × AreFirstMade s programs checkers
+AreFirstMade s (slots ∷ programs) (c ∷ checkers) = (c.program ≡ slots) × IsRunWithin s.checked s.guards s.sectors c × AreFirstMade s programs checkers
 
 -- why the program of those bytes can't be decoded: its first fault, or want of memory
 abbrev pub IsUndecoded : ℕ → List ℕ → Refusal → Type 0
@@ -59,11 +73,11 @@ AreDecoded files programs None = AreFirstOf files programs × (length programs �
 AreDecoded files programs (Some r) =
     AreFirstOf files programs × ((bytes : List ℕ) × (slice_get files (length programs) ≡ Some bytes) × IsUndecoded (length programs) bytes r)
 
--- Why the verifier does not accept a program: it refuses it, or there is no memory to verify it. It is
+-- Why the verifier does not accept a program: it refuses it, or there is no memory to verify it and to keep its guards. It is
 -- asked where there is no limit of steps.
 pub record IsUnaccepted (s : Settings) (number : ℕ) (slots : List (Option Instr)) (r : Refusal) : Type 0 where
   pub unlimited : s.checked ≡ None
-  pub why : (r ≡ verifier_refusal number verifier.Memory 0) ⊎ IsVerifierFault s.sectors number slots r
+  pub why : (r ≡ verifier_refusal number verifier.Memory 0) ⊎ IsVerifierFault s.guards s.sectors number slots r
 
 -- the first of the programs that isn't accepted, or no memory for the list
 pub data RefusesOneOf (s : Settings) (programs : List (List (Option Instr))) : Refusal → Type 0 where

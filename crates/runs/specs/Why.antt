@@ -84,6 +84,7 @@ with_first first s = record {
   workers = s.workers;
   cache = s.cache;
   checked = s.checked;
+  guards = s.guards;
   first = first;
   extent = s.extent;
 }

@@ -96,6 +96,7 @@ fn passes_with(outcome: &Outcome) -> bool
         Outcome::Verdict(verdict) => verdict.answer == 0,
         Outcome::Fault { code: _, slot: _ } => false,
         Outcome::OutOfSteps => false,
+        Outcome::Stray(_) => false,
     }
 }
 

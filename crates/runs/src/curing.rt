@@ -355,7 +355,7 @@ pub fn cure_run<G: Gate + Sync, R: Threads + Wait + Sync>(
     ensures cured { IfOk result (λ e. IsCured question.now.recording.now (map (λ f. f.items) question.now.programs.now) question.now.options.now e.bytes.items e.failing) }
     ensures refused { IfErr result (RefusesWanted wants.Cured question.now.recording.now (map (λ f. f.items) question.now.programs.now) question.now.options.now) }
     ensures found { IfOk result (λ _. FindsAll question.now.recording.now (map (λ f. f.items) question.now.programs.now) question.now.options.now facts.new) }
-    ensures breach { IfErr result (λ r. IfSome facts.new.breach (FindsBreach question.now.options.now.sectors (map (λ f. f.items) question.now.programs.now) r)) }
+    ensures breach { IfErr result (λ r. IfSome facts.new.breach (FindsBreach question.now.options.now (map (λ f. f.items) question.now.programs.now) r)) }
     ensures fewer { IfSome facts.new.fewer (FindsFewer question.now.recording.now question.now.options.now) }
 {
     let question = Question {

@@ -20,7 +20,7 @@ ghost use Rattle.runs.specs.Tasks.{lines_of, telling_in, TellsTask};
 ghost use Rattle.runs.specs.Found.{AreFound};
 ghost use Rattle.facts.specs.Fewer.{FindsFewer};
 ghost use Rattle.runs.specs.Finds.{FindsNext, FindsUnreached, IsBreachOf, IsBreachIn, FindsBreach, FindsAll};
-ghost use Rattle.facts.specs.Found.{KeepsLog};
+ghost use Rattle.facts.specs.Found.{AddsUnreached, KeepsLog};
 ghost use Rattle.runs.specs.Programs.{IsRunWithin, IsCodeFault, IsUnaccepted, code_refusal, verifier_refusal, AreDecoded, AreFirstMade, RefusesOneOf};
 
 use crate::basis::{Basis, judge_images};
@@ -46,7 +46,7 @@ use request::{Extent, MOST_PROGRAMS, OptionPlace, Options, Telling, option_refus
 use std::alloc::{AllocError, Global};
 use std::sync::Wait;
 use std::thread::Threads;
-use verifier::verify_known;
+use verifier::verify_with;
 use workers::{Gate, OpenGate, accepted_checkers_run_safely, lines_are_set};
 
 /// What a run answers.
@@ -146,6 +146,41 @@ fn verifier_refusal_of(number: u8, fault: Fault) -> Refusal
     program_refusal(number, Cause::Verifier(fault.code), fault.slot)
 }
 
+/// A program as a checker where no limit of steps is asked for: verified, with guards or without.
+#[tactic(auto, using(crate::proofs::Fitting::accepted_within))]
+fn verified_checker<'p>(
+    alloc: Global,
+    number: u8,
+    program: &'p Program,
+    options: &Options,
+    facts: &mut Facts,
+) -> Result<Checker<'p>, Refusal>
+    requires unlimited { options.now.checked ≡ None }
+    requires few { length facts.old.unreached.items < 8 }
+    requires calm { facts.old.breach ≡ None }
+    ensures program { IfOk result (λ c. c.program ≡ program.now) }
+    ensures within { IfOk result (λ c. IsRunWithin options.now.checked options.now.guards options.now.sectors c) }
+    ensures refused { IfErr result (IsUnaccepted options.now number program.now) }
+    ensures unreached { OnOk result (AddsUnreached program.now options.now.sectors facts.old.unreached.items facts.new.unreached.items) }
+    ensures calm { OnOk result (facts.new.breach ≡ facts.old.breach) }
+    ensures breach { IfErr result (λ r. IfSome facts.new.breach (IsBreachOf options.now number program.now r)) }
+    ensures others { KeepsLog facts.old facts.new }
+{
+    match verify_with(alloc, program, options.sectors(), options.guards()) {
+        Ok(verified) => {
+            facts.accept(&verified);
+            match Checker::verified(alloc, &verified) {
+                Ok(checker) => Ok(checker),
+                Err(error) => Err(verifier_refusal_of(number, Fault::from(error))),
+            }
+        }
+        Err(unaccepted) => {
+            facts.refuse(program, &unaccepted);
+            Err(verifier_refusal_of(number, unaccepted.fault))
+        }
+    }
+}
+
 /// A program as a checker: with the limit of steps that is asked for, or verified.
 fn checker_of<'p>(
     alloc: Global,
@@ -154,27 +189,19 @@ fn checker_of<'p>(
     options: &Options,
     facts: &mut Facts,
 ) -> Result<Checker<'p>, Refusal>
-    requires { length facts.old.unreached.items < 8 }
+    requires few { length facts.old.unreached.items < 8 }
+    requires calm { facts.old.breach ≡ None }
     ensures program { IfOk result (λ c. c.program ≡ program.now) }
-    ensures within { IfOk result (λ c. IsRunWithin options.now.checked options.now.sectors c) }
+    ensures within { IfOk result (λ c. IsRunWithin options.now.checked options.now.guards options.now.sectors c) }
     ensures refused { IfErr result (IsUnaccepted options.now number program.now) }
     ensures unreached { OnOk result (FindsNext options.now.checked options.now.sectors program.now facts.old.unreached.items facts.new.unreached.items) }
     ensures calm { OnOk result (facts.new.breach ≡ facts.old.breach) }
-    ensures breach { IfErr result (λ r. IfSome facts.new.breach (IsBreachOf options.now.sectors number program.now r)) }
+    ensures breach { IfErr result (λ r. IfSome facts.new.breach (IsBreachOf options.now number program.now r)) }
     ensures others { KeepsLog facts.old facts.new }
 {
     match options.step_limit() {
         Some(limit) => Ok(Checker::limited(program, limit)),
-        None => match verify_known(alloc, program, options.sectors()) {
-            Ok(verified) => {
-                facts.accept(&verified);
-                Ok(Checker::verified(&verified))
-            }
-            Err(unaccepted) => {
-                facts.refuse(program, &unaccepted);
-                Err(verifier_refusal_of(number, unaccepted.fault))
-            }
-        },
+        None => verified_checker(alloc, number, program, options, facts),
     }
 }
 
@@ -204,7 +231,7 @@ pub(crate) fn checkers_of<'p>(
     ensures refused { IfErr result (RefusesOneOf options.now programs.now) }
     ensures unreached { IfOk result (λ _. FindsUnreached options.now.checked options.now.sectors programs.now facts.new.unreached.items) }
     ensures calm { OnOk result (facts.new.breach ≡ None) }
-    ensures breach { IfErr result (λ r. IfSome facts.new.breach (IsBreachIn options.now.sectors programs.now r)) }
+    ensures breach { IfErr result (λ r. IfSome facts.new.breach (IsBreachIn options.now programs.now r)) }
     ensures others { KeepsLog facts.old facts.new }
 {
     let mut checkers = Vec::new(alloc);
@@ -225,6 +252,7 @@ fn program_heads(alloc: Global, checkers: &[Checker<'_>]) -> Result<Vec<ProgramH
             slots: checker.slots(),
             limit: checker.limit(),
             verified: checker.is_verified(),
+            guards: checker.guards(),
         })?;
     }
     Ok(heads)
@@ -461,7 +489,7 @@ fn make_run<G: Gate + Sync, R: Threads + Wait + Sync>(
     ensures refused { IfErr result (Refuses question.now.recording.now (map (λ f. f.items) question.now.programs.now) question.now.options.now) }
     ensures found { IfOk result (λ _. FindsAll question.now.recording.now (map (λ f. f.items) question.now.programs.now) question.now.options.now facts.new) }
     ensures blind { IfOk result (λ _. FindsBlind question.now.wanted question.now.recording.now (map (λ f. f.items) question.now.programs.now) question.now.options.now facts.new.blind.items) }
-    ensures breach { IfErr result (λ r. IfSome facts.new.breach (FindsBreach question.now.options.now.sectors (map (λ f. f.items) question.now.programs.now) r)) }
+    ensures breach { IfErr result (λ r. IfSome facts.new.breach (FindsBreach question.now.options.now (map (λ f. f.items) question.now.programs.now) r)) }
     ensures fewer { IfSome facts.new.fewer (FindsFewer question.now.recording.now question.now.options.now) }
 {
     *facts = Facts::new();
@@ -520,7 +548,7 @@ pub fn run_with<G: Gate + Sync, R: Threads + Wait + Sync>(
     ensures refused { IfErr result (RefusesWanted question.now.wanted question.now.recording.now (map (λ f. f.items) question.now.programs.now) question.now.options.now) }
     ensures found { IfOk result (λ _. FindsAll question.now.recording.now (map (λ f. f.items) question.now.programs.now) question.now.options.now facts.new) }
     ensures blind { IfOk result (λ _. FindsBlind question.now.wanted question.now.recording.now (map (λ f. f.items) question.now.programs.now) question.now.options.now facts.new.blind.items) }
-    ensures breach { IfErr result (λ r. IfSome facts.new.breach (FindsBreach question.now.options.now.sectors (map (λ f. f.items) question.now.programs.now) r)) }
+    ensures breach { IfErr result (λ r. IfSome facts.new.breach (FindsBreach question.now.options.now (map (λ f. f.items) question.now.programs.now) r)) }
     ensures fewer { IfSome facts.new.fewer (FindsFewer question.now.recording.now question.now.options.now) }
 {
     if !does_take(question.wanted, question.options.extent()) {

@@ -25,9 +25,9 @@
 //! machine on the definition of the image, is not a verdict with answer 0. With the option `first` they
 //! are the report of the first failing image alone. A program runs within the limit
 //! of steps that is asked for, or, without one, within the budget with which the verifier accepts it for
-//! the device; what it doesn't accept is refused (`specs/Programs.antt`). Without a limit that is asked for no
-//! run has a fault or spends its budget, and no line says so (`IsFaultless` in `specs/Explore.antt`), by the
-//! soundness of the verifier.
+//! the device, with guards or without, as the options say; what it doesn't accept is refused (`specs/Programs.antt`). Without a
+//! limit that is asked for no run has a fault or spends its budget, and no line says so (`IsFaultless` in `specs/Explore.antt`), by
+//! the soundness of the verifier. With guards a run may also stray, at a slot that the program's least table guards (`IsGuarded`).
 //!
 //! Where the options mean a part of a run, the images of the part alone are judged, and the bytes are its text: the definition is
 //! `span_report` of `report`, over the failing lines of these images and the number of the inputs (`specs/Inputs.antt`). Which images

@@ -30,7 +30,7 @@ use Rattle.intervals.specs.Reducing.{Limits, HasWord}
 use Rattle.intervals.specs.SignedEdges.{limits_refined}
 use Rattle.intervals.proofs.Outcomes.{refined_has}
 use Rattle.intervals.proofs.CallerLemmas.{words_are_limits}
-use Rattle.ranges.specs.Kinds.{Kind, Unset, Num, SectorOrNull, is_unset}
+use Rattle.ranges.specs.Kinds.{Kind, Unset, Num, SectorOrNull, is_unknown}
 use Rattle.ranges.specs.States.{Abstract}
 use Rattle.ranges.specs.Reading.{value, second, are_set, with_value, words}
 use Rattle.ranges.specs.Rules.{rules, compares, is_null_test, is_wide, is_equality, is_zero, may_be_null}
@@ -47,8 +47,8 @@ use Rattle.soundness.proofs.Computing.{Site, read_has, second_has, rest_set, fir
 pub register_is : (sectors : ℕ) (known : Abstract) (m : Parts) (r : ℕ) (rest : List ℕ) → Site sectors known m → are_set known (r ∷ rest) ≡ true
     → get_or m.registers r None ≡ Some (word (machine m) r)
 register_is sectors known m r rest site e =
-    let set = and_parts (not (is_unset (value known r))) (are_set known rest) e in
-    let h = means_word sectors (number m) (value known r) (get_or m.registers r None) (not_unset (is_unset (value known r)) set.0) (site.stands.values r) in
+    let set = and_parts (not (is_unknown (value known r))) (are_set known rest) e in
+    let h = means_word sectors (number m) (value known r) (get_or m.registers r None) (not_unset (is_unknown (value known r)) set.0) (site.stands.values r) in
     by (get_or m.registers r None) h.0 h.1
   where
     by : (c : Option ℕ) (w : ℕ) → c ≡ Some w → c ≡ Some (unwrap_or c 0)

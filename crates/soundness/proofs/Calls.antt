@@ -27,7 +27,7 @@ use Rattle.machine.specs.Step.{checks, effect, step_of, after_checks, Stepped, N
 use Rattle.intervals.specs.Spans.{span, is_constant}
 use Rattle.intervals.specs.Reducing.{any_sign}
 use Rattle.ranges.specs.declared.place.Place.TheVariants as place
-use Rattle.ranges.specs.Kinds.{Kind, Unset, Num, Ctx, Stack, Sector, SectorOrNull, is_number}
+use Rattle.ranges.specs.Kinds.{Kind, Unset, Word, Num, Ctx, Stack, Sector, SectorOrNull, is_number}
 use Rattle.ranges.specs.States.{Abstract}
 use Rattle.ranges.specs.Order.{IsBounded}
 use Rattle.ranges.specs.Reading.{value, are_set, with_groups, any_word, is_stack, has_length}
@@ -49,7 +49,7 @@ use Rattle.soundness.proofs.Stores.{stack_mapped, stack_in_stacks, stack_place}
 use Rattle.soundness.proofs.Computing.{Site, first_describes, rest_set}
 
 -- a machine whose counts or codes changed, behind an answer
-answers : (sectors : ℕ) (known : Abstract) (m : Parts) (list : List (Check MachineFault)) (k : Kind) (x : ℕ) (turns codes : List ℕ) → Site sectors known m
+pub answers : (sectors : ℕ) (known : Abstract) (m : Parts) (list : List (Check MachineFault)) (k : Kind) (x : ℕ) (turns codes : List ℕ) → Site sectors known m
     → length turns ≡ 4096 → first_failing list ≡ None → x < 2 ^ 64 → Means sectors (number m) k (Some x)
     → Goes sectors m ((m.slot + 1, after.after_answer known k) ∷ [])
     (after_checks (machine m) list (step.answer_step (machine (record { slot = m.slot; registers = m.registers; below = m.below; caller = m.caller; stack = m.stack; turns = turns; codes = codes })) x))
@@ -67,12 +67,12 @@ reads_pass program sectors known m list site is next =
     pass_two fault.UnsetRegister fault.NoInstruction (list_all (λ r. is_some (get_or m.registers r None)) list) (is_some (at program (m.slot + 1)))
     (reads_set sectors (number m) known m.registers list site.stands.values is) next
 
-number_means : (sectors frame most x : ℕ) → most < 2 ^ 64 → x ≤ most → Means sectors frame (Num (any_sign (span 0 most))) (Some x)
+pub number_means : (sectors frame most x : ℕ) → most < 2 ^ 64 → x ≤ most → Means sectors frame (Num (any_sign (span 0 most))) (Some x)
 number_means sectors frame most x few le = (x, refl, word_in 0 most x few (omega arith) le)
 
 -- what the helpers answer
 
-sector_means : (sectors frame : ℕ) (device : List (List ℕ)) (n : ℕ) → length device ≡ sectors → Describes sectors frame SectorOrNull (sector_answer device n)
+pub sector_means : (sectors frame : ℕ) (device : List (List ℕ)) (n : ℕ) → length device ≡ sectors → Describes sectors frame SectorOrNull (sector_answer device n)
 unfolding sector_answer
 sector_means sectors frame device n count = by (nat_lt n (length device)) refl
   where
@@ -84,7 +84,7 @@ one_most : (b : Bool) → one_if b ≤ 1
 one_most true = omega arith
 one_most false = omega arith
 
-zero_most : (device : List (List ℕ)) (n : ℕ) → zero_answer device n ≤ 2
+pub zero_most : (device : List (List ℕ)) (n : ℕ) → zero_answer device n ≤ 2
 unfolding zero_answer
 zero_most device n = by (slice_get device n)
   where
@@ -92,7 +92,7 @@ zero_most device n = by (slice_get device n)
     by None = omega arith
     by (Some sector) = let h = one_most (list_all (λ byte. nat_eq byte 0) sector) in omega (arith, h)
 
-same_most : (device : List (List ℕ)) (a b : ℕ) → same_answer device a b ≤ 2
+pub same_most : (device : List (List ℕ)) (a b : ℕ) → same_answer device a b ≤ 2
 unfolding same_answer
 same_most device a b = by (slice_get device a) (slice_get device b)
   where
@@ -101,7 +101,7 @@ same_most device a b = by (slice_get device a) (slice_get device b)
     by (Some left) None = omega arith
     by (Some left) (Some right) = let h = one_most (pointwise nat_eq left right) in omega (arith, h)
 
-mix_word : (device : List (List ℕ)) (n : ℕ) → mix_answer device n < 2 ^ 64
+pub mix_word : (device : List (List ℕ)) (n : ℕ) → mix_answer device n < 2 ^ 64
 unfolding mix_answer mix
 mix_word device n = by (slice_get device n)
   where
@@ -109,7 +109,7 @@ mix_word device n = by (slice_get device n)
     by None = omega arith
     by (Some sector) = mod-lt _ (omega arith)
 
-report_most : (codes : List ℕ) → report_answer codes ≤ 1
+pub report_most : (codes : List ℕ) → report_answer codes ≤ 1
 unfolding report_answer
 report_most codes = by (nat_lt (length codes) 16)
   where
@@ -117,7 +117,7 @@ report_most codes = by (nat_lt (length codes) 16)
     by true = omega arith
     by false = omega arith
 
-again_most : (so_far n : ℕ) → again_answer so_far n ≤ 1
+pub again_most : (so_far n : ℕ) → again_answer so_far n ≤ 1
 unfolding again_answer
 again_most so_far n = by (nat_lt so_far n)
   where
@@ -125,7 +125,7 @@ again_most so_far n = by (nat_lt so_far n)
     by true = omega arith
     by false = omega arith
 
-copy_most : (device : List (List ℕ)) (position n : ℕ) → copy_answer device position n ≤ 1
+pub copy_most : (device : List (List ℕ)) (position n : ℕ) → copy_answer device position n ≤ 1
 unfolding copy_answer
 copy_most device position n = by (nat_le (position + n) (512 * length device))
   where
@@ -134,7 +134,7 @@ copy_most device position n = by (nat_le (position + n) (512 * length device))
     by false = omega arith
 
 -- the counts of `again`
-counted_long : (m : Parts) (n : ℕ) → length m.turns ≡ 4096 → length (count_turn (machine m) n) ≡ 4096
+pub counted_long : (m : Parts) (n : ℕ) → length m.turns ≡ 4096 → length (count_turn (machine m) n) ≡ 4096
 counted_long m n long = by (nat_lt (turns_here (machine m)) n)
   where
     by : (b : Bool) → length (if b then set m.turns m.slot (turns_here (machine m) + 1) else m.turns) ≡ 4096
@@ -143,7 +143,7 @@ counted_long m n long = by (nat_lt (turns_here (machine m)) n)
 
 -- copied bytes
 
-long_copied : (device : List (List ℕ)) (position n : ℕ) → length (device_bytes device position n) ≡ n
+pub long_copied : (device : List (List ℕ)) (position n : ℕ) → length (device_bytes device position n) ≡ n
 unfolding device_bytes
 long_copied device position n = length-map (range_with_len position n) (device_byte device) ∙ length-range_with_len position n
 
@@ -160,7 +160,7 @@ small_mapped f [] h i = omega arith
 small_mapped f (x ∷ xs) h zero = h x
 small_mapped f (x ∷ xs) h (suc i) = small_mapped f xs h i
 
-small_copied : (device : List (List ℕ)) (position n : ℕ) → ((k : ℕ) (sector : List ℕ) → slice_get device k ≡ Some sector → AreSmall sector) → AreSmall (device_bytes device position n)
+pub small_copied : (device : List (List ℕ)) (position n : ℕ) → ((k : ℕ) (sector : List ℕ) → slice_get device k ≡ Some sector → AreSmall sector) → AreSmall (device_bytes device position n)
 unfolding device_bytes
 small_copied device position n h = small_mapped (device_byte device) (range_with_len position n) (λ x. small_device device x h)
 
@@ -207,8 +207,9 @@ copies program sectors device context known m p n set site is length_is count ne
     (goes_first sectors (after.after_answer less k) to [] last site.turns)
 
 -- the length of a copy
-length_known : (sectors frame : ℕ) (k : Kind) (w : ℕ) → has_length k ≡ true → Describes sectors frame k w → (w ≡ length_of k) × (is_length (length_of k) ≡ true)
+pub length_known : (sectors frame : ℕ) (k : Kind) (w : ℕ) → has_length k ≡ true → Describes sectors frame k w → (w ≡ length_of k) × (is_length (length_of k) ≡ true)
 length_known sectors frame Unset w e d = absurd (let bad : false ≡ true = e in cc)
+length_known sectors frame Word w e d = absurd (let bad : false ≡ true = e in cc)
 length_known sectors frame (Ctx o) w e d = absurd (let bad : false ≡ true = e in cc)
 length_known sectors frame (Stack o) w e d = absurd (let bad : false ≡ true = e in cc)
 length_known sectors frame (Sector x) w e d = absurd (let bad : false ≡ true = e in cc)

@@ -1,5 +1,5 @@
 -- Arithmetic: what a register means behind it.
-use Rattle.std.proofs.Common.{◌≡◌, ◌<◌, ◌≤◌, ℕ, ◌+◌, ◌-◌, ◌^◌, ◌==◌, ℤ, Bool, true, false, not, List, [], ◌∷◌, length, get_or, Option, None, Some, is_some, refl, arith}
+use Rattle.std.proofs.Common.{◌≡◌, ◌<◌, ℕ, ◌+◌, ◌^◌, ◌==◌, ℤ, Bool, true, false, not, List, [], ◌∷◌, length, get_or, Option, None, Some, is_some, refl, arith}
 use Rattle.std.specs.Option.{option_map, option_or, IsSomeAnd}
 use Rattle.std.specs.Int.{cast_unsigned, w64}
 use Rattle.std.specs.List.{list_all}
@@ -30,7 +30,7 @@ use Rattle.intervals.specs.Reducing.{Limits, HasWord, any_sign, IsLimits}
 use Rattle.intervals.specs.SignedResults.{limits_result_of}
 use Rattle.intervals.proofs.Outcomes.{any_has}
 use Rattle.intervals.proofs.CallerLemmas.{limits_cover, limits_fit, words_are_limits}
-use Rattle.ranges.specs.Kinds.{Kind, Unset, Num, is_unset, is_number}
+use Rattle.ranges.specs.Kinds.{Kind, Unset, Num, is_unknown, is_number}
 use Rattle.ranges.specs.States.{Abstract}
 use Rattle.ranges.specs.Order.{IsBounded, IsState}
 use Rattle.ranges.specs.Pointers.{moved_pointer}
@@ -53,7 +53,7 @@ pub record Site (sectors : ℕ) (known : Abstract) (m : Parts) : Type 0 where
   pub turns : length m.turns ≡ 4096
 
 -- a word that a result has
-result_small : (i : Instr) (x y : Limits) (n : ℕ) → IsLimits x → IsLimits y → IsSomeAnd (limits_result_of i x y) (λ z. HasWord z n) → n < 2 ^ 64
+pub result_small : (i : Instr) (x y : Limits) (n : ℕ) → IsLimits x → IsLimits y → IsSomeAnd (limits_result_of i x y) (λ z. HasWord z n) → n < 2 ^ 64
 result_small i x y n hx hy h = by (limits_result_of i x y) refl h
   where
     by : (r : Option Limits) → limits_result_of i x y ≡ r → IsSomeAnd r (λ z. HasWord z n) → n < 2 ^ 64
@@ -80,14 +80,14 @@ second_has sectors known m (source.Register r) s range = read_has sectors known 
 pub read_describes : (sectors : ℕ) (known : Abstract) (m : Parts) (r : ℕ) → Site sectors known m → are_set known (r ∷ []) ≡ true
     → Describes sectors (number m) (value known r) (word (machine m) r)
 read_describes sectors known m r s e =
-    let set = and_parts (not (is_unset (value known r))) true e in
-    described sectors (number m) (value known r) (get_or m.registers r None) (not_unset (is_unset (value known r)) set.0) (s.stands.values r)
+    let set = and_parts (not (is_unknown (value known r))) true e in
+    described sectors (number m) (value known r) (get_or m.registers r None) (not_unset (is_unknown (value known r)) set.0) (s.stands.values r)
 
 pub first_describes : (sectors : ℕ) (known : Abstract) (m : Parts) (r : ℕ) (rest : List ℕ) → Site sectors known m → are_set known (r ∷ rest) ≡ true
     → Describes sectors (number m) (value known r) (word (machine m) r)
 first_describes sectors known m r rest s e =
-    let set = and_parts (not (is_unset (value known r))) (are_set known rest) e in
-    described sectors (number m) (value known r) (get_or m.registers r None) (not_unset (is_unset (value known r)) set.0) (s.stands.values r)
+    let set = and_parts (not (is_unknown (value known r))) (are_set known rest) e in
+    described sectors (number m) (value known r) (get_or m.registers r None) (not_unset (is_unknown (value known r)) set.0) (s.stands.values r)
 
 pub second_describes : (sectors : ℕ) (known : Abstract) (m : Parts) (from : Source) → Site sectors known m → IsSourceInRange from → are_set known (source_registers from) ≡ true
     → Describes sectors (number m) (second known from) (step.second (machine m) from)
@@ -95,11 +95,11 @@ second_describes sectors known m (source.Immediate n) s range e = constant_has k
 second_describes sectors known m (source.Register r) s range e = read_describes sectors known m r s e
 
 pub rest_set : (known : Abstract) (r : ℕ) (rest : List ℕ) → are_set known (r ∷ rest) ≡ true → are_set known rest ≡ true
-rest_set known r rest e = (and_parts (not (is_unset (value known r))) (are_set known rest) e).1
+rest_set known r rest e = (and_parts (not (is_unknown (value known r))) (are_set known rest) e).1
 
 -- numbers
 
-computed_has : (sectors : ℕ) (known : Abstract) (m : Parts) (w : Width) (o : Operator) (dst : ℕ) (from : Source) → Site sectors known m → IsSourceInRange from
+pub computed_has : (sectors : ℕ) (known : Abstract) (m : Parts) (w : Width) (o : Operator) (dst : ℕ) (from : Source) → Site sectors known m → IsSourceInRange from
     → IsSomeAnd (limits_result_of (instr.Arithmetic w o dst from) (words (value known dst)) (words (second known from)))
     (λ z. HasWord z (arithmetic w o (word (machine m) dst) (step.second (machine m) from)))
 computed_has sectors known m w o dst from s range =

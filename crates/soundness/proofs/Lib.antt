@@ -26,3 +26,9 @@ pub mod Saved
 pub mod Progress
 pub mod Within
 pub mod Safe
+pub mod Loose
+pub mod LooseStores
+pub mod LooseSteps
+pub mod Filling
+pub mod LooseTables
+pub mod LooseRuns

@@ -33,7 +33,7 @@ use Rattle.intervals.proofs.Extensions.{extended_has, extended_fits}
 use Rattle.ranges.specs.declared.place.Place.{Place}
 use Rattle.ranges.specs.declared.place.Place.TheVariants as place
 use Rattle.ranges.specs.declared.place.Mark.TheVariants as mark
-use Rattle.ranges.specs.Kinds.{Kind, Unset, Num, Ctx, Stack, Sector, SectorOrNull}
+use Rattle.ranges.specs.Kinds.{Kind, Unset, Word, Num, Ctx, Stack, Sector, SectorOrNull}
 use Rattle.ranges.specs.Groups.{GroupKind, Marked, Spilled}
 use Rattle.ranges.specs.States.{Abstract}
 use Rattle.ranges.specs.Reading.{value, are_set, any_word}
@@ -74,7 +74,7 @@ small_append [] ys h k i = k i
 small_append (x ∷ xs) ys h k zero = h 0
 small_append (x ∷ xs) ys h k (suc i) = small_append xs ys (λ j. h (suc j)) k i
 
-small_context : (c : Context) → AreSmall (context_bytes c)
+pub small_context : (c : Context) → AreSmall (context_bytes c)
 unfolding context_bytes
 small_context c =
     let a : List ℕ = number_bytes 8 c.sectors in let b : List ℕ = number_bytes 8 c.epoch in let d : List ℕ = number_bytes 8 c.marks in let e : List ℕ = number_bytes 8 0 in
@@ -146,13 +146,13 @@ context_word_means sectors frame c at told few epoch marks fits aligned = by (at
 
 -- any number
 
-any_describes : (sectors frame : ℕ) (s : Size) (x : ℕ) → x < 256 ^ byte_count s → Describes sectors frame (any_of (byte_count s)) x
+pub any_describes : (sectors frame : ℕ) (s : Size) (x : ℕ) → x < 256 ^ byte_count s → Describes sectors frame (any_of (byte_count s)) x
 any_describes sectors frame size.Byte x lt = word_in 0 (2 ^ 8 - 1) x (omega arith) (omega arith) (omega (arith, lt))
 any_describes sectors frame size.Half x lt = word_in 0 (2 ^ 16 - 1) x (omega arith) (omega arith) (omega (arith, lt))
 any_describes sectors frame size.Word x lt = word_in 0 (2 ^ 32 - 1) x (omega arith) (omega arith) (omega (arith, lt))
 any_describes sectors frame size.Double x lt = word_in 0 (2 ^ 64 - 1) x (omega arith) (omega arith) (omega (arith, lt))
 
-any_word_below : (s : Size) (x : ℕ) → x < 256 ^ byte_count s → x < 2 ^ 64
+pub any_word_below : (s : Size) (x : ℕ) → x < 256 ^ byte_count s → x < 2 ^ 64
 any_word_below size.Byte x lt = omega (arith, lt)
 any_word_below size.Half x lt = omega (arith, lt)
 any_word_below size.Word x lt = omega (arith, lt)
@@ -202,6 +202,7 @@ set_at sectors frame groups stack q h e =
 
 means_describes : (sectors frame : ℕ) (k : Kind) (w : ℕ) → Means sectors frame k (Some w) → Describes sectors frame k w
 means_describes sectors frame Unset w m = tt
+means_describes sectors frame Word w m = tt
 means_describes sectors frame (Num x) w m = let same : m.0 ≡ w = by m.0 m.1 in rw (← same) m.2
   where
     by : (v : ℕ) → Some w ≡ Some v → v ≡ w
@@ -337,7 +338,7 @@ load_goes program sectors device context known m s dst base distance set site fi
     set_goes sectors known m (step.load_checks program bytes (machine m) dst base distance n) 1 dst x k
     (load_passes program bytes sectors known m dst base n f.number distance site f.reads tell.0 free next) site.fits site.stands site.turns small (word_means sectors (number m) k x describes)
 
-extended_word : (e : SignExtension) (x : ℕ) → x < 2 ^ 64 → sign_extension e x < 2 ^ 64
+pub extended_word : (e : SignExtension) (x : ℕ) → x < 2 ^ 64 → sign_extension e x < 2 ^ 64
 extended_word e x lt =
     let r : Span = extended_result e (only x) in
     let fit : IsSpan (2 ^ 64 - 1) (only x) = record { ordered = omega arith; most = omega arith } in

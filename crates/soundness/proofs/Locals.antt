@@ -1,5 +1,6 @@
 -- Local calls: the step that enters a function, and the step that returns from it.
-use Rattle.std.proofs.Common.{◌≡◌, ◌<◌, ◌≤◌, ℕ, zero, suc, ◌+◌, ◌-◌, ◌^◌, nat_lt, true, false, ℤ, List, [], ◌∷◌, ◌++◌, length, map, get_or, replicate, take, Option, None, Some, is_some, refl, sym, ap, ◌∙◌, inl, inr, subst, arith}
+use Rattle.std.proofs.Common.{◌≡◌, ◌<◌, ◌≤◌, ℕ, zero, suc, ◌+◌, ◌-◌, ◌^◌, ◌&&◌, nat_lt, true, false, ℤ, List, [], ◌∷◌, ◌++◌, length, map, get_or, replicate, take, Option, None, Some, is_some, refl, sym, ap, ◌∙◌, inl, inr, subst, arith}
+use Rattle.std.specs.Prelude.{unwrap_or}
 use Rattle.std.specs.Option.{option_map}
 use Rattle.std.specs.List.{list_all}
 use Rattle.std.proofs.Math.ListN.{length-replicate}
@@ -19,7 +20,7 @@ use Rattle.bpf_shape.proofs.Kept.{edges_begin}
 use Rattle.machine.specs.State.{Caller, Frame, State, register, word, stack_end, unset_stack}
 use Rattle.machine.specs.Step as step
 use Rattle.machine.specs.Step.{checks, effect, step_of, after_checks, saved_caller, enter_function, exit_frame, returns_to, with_answer, Next, Done}
-use Rattle.ranges.specs.Kinds.{Kind, Num, is_number}
+use Rattle.ranges.specs.Kinds.{Kind, Unset, Word, Num, Ctx, Stack, Sector, SectorOrNull, is_number}
 use Rattle.ranges.specs.Groups.{Marked, unset_marks}
 use Rattle.ranges.specs.States.{Abstract, unset_groups}
 use Rattle.ranges.specs.Order.{Each}
@@ -35,7 +36,6 @@ use Rattle.soundness.proofs.Checks.{pass_one, pass_two, two_tell, tested_passes}
 use Rattle.soundness.proofs.Meanings.{word_in}
 use Rattle.soundness.proofs.Standing.{Parts, machine, number, frames_of, all_frames, number_is, last_is, Stands, covers_machine, answered_stands, reads_set}
 use Rattle.soundness.proofs.Computing.{Site}
-use Rattle.soundness.proofs.Branches.{register_is}
 use Rattle.soundness.proofs.Programs.{callee_is, behind_call, entry_begins, no_entry, no_limit_behind}
 use Rattle.soundness.proofs.Frames.{split_last, caller_is, without_last, length_of, each_below, each_pushed, first_pushed, waiting_popped, alone, not_deeper}
 
@@ -50,7 +50,7 @@ pub unset_is_stack : IsStack unset_stack
 unfolding unset_stack
 unset_is_stack = record { long = length-replicate {A = Option ℕ} 512 None; bytes = λ p b e. absurd (no_byte 512 p b e) }
 
-no_mark : (n k : ℕ) → get_or (replicate n false) k false ≡ true → ⊥
+pub no_mark : (n k : ℕ) → get_or (replicate n false) k false ≡ true → ⊥
 no_mark zero k e = let bad : false ≡ true = e in cc
 no_mark (suc n) zero e = let bad : false ≡ true = e in cc
 no_mark (suc n) (suc k) e = no_mark n k e
@@ -68,7 +68,12 @@ unset_means sectors frame stack g = nothing_known sectors frame 64 g g stack
 
 given_means : (sectors frame other : ℕ) (k : Kind) (c : Option ℕ) → Means sectors frame k c → Means sectors other (argument_kind k) c
 given_means sectors frame other (Num x) c h = h
-given_means sectors frame other _ c h = tt
+given_means sectors frame other Unset c h = tt
+given_means sectors frame other Word c h = h
+given_means sectors frame other (Ctx o) c h = (h.0, h.1, tt)
+given_means sectors frame other (Stack o) c h = (h.0, h.1, tt)
+given_means sectors frame other (Sector x) c h = (h.0, h.1, tt)
+given_means sectors frame other SectorOrNull c h = (h.0, h.1, tt)
 
 abbrev given_registers : Parts → List (Option ℕ)
 given_registers m =
@@ -235,28 +240,26 @@ returned program sectors table m below f c x shaped whole waiting is called lt =
       waiting = p.waiting;
     }
 
-pub exit_covered : (program : List (Option Instr)) (context : List ℕ) (device : List (List ℕ)) (sectors : ℕ) (table : List (Option Abstract)) (known : Abstract) (m : Parts) (arrivals : List (ℕ × Abstract))
-    → IsShaped program → Site sectors known m → IsMachine (machine m) → AreWaiting program sectors table 0 0 (all_frames m) m.slot
-    → first_failing (rules known instr.Exit) ≡ None → IsCovered program sectors table arrivals (machine m) (step_of program context device (machine m) instr.Exit)
-unfolding rules step_of checks effect
-exit_covered program context device sectors table known m arrivals shaped site whole waiting keeps =
+pub exit_set : (program : List (Option Instr)) (context : List ℕ) (device : List (List ℕ)) (sectors : ℕ) (table : List (Option Abstract)) (m : Parts) (arrivals : List (ℕ × Abstract))
+    → IsShaped program → AreRegisters m.registers → IsMachine (machine m) → AreWaiting program sectors table 0 0 (all_frames m) m.slot
+    → list_all (λ r. is_some (get_or m.registers r None)) (0 ∷ []) ≡ true → IsCovered program sectors table arrivals (machine m) (step_of program context device (machine m) instr.Exit)
+unfolding step_of checks effect
+exit_set program context device sectors table m arrivals shaped words whole waiting reads =
     subst (λ (o : Option Caller). IsCovered program sectors table arrivals (machine m) (after_checks (machine m) (step.reads (machine m) (0 ∷ []) ∷ returns_to program o) (exit_frame (machine m) o)))
     (sym (caller_is m)) (by m.caller refl)
   where
-    set : are_set known (0 ∷ []) ≡ true
-    set = (two_tell cause.UnsetRegister cause.PointerAsNumber (are_set known (0 ∷ [])) (is_number (value known 0)) keeps).0
-
-    reads : list_all (λ r. is_some (get_or m.registers r None)) (0 ∷ []) ≡ true
-    reads = reads_set sectors (number m) known m.registers (0 ∷ []) site.stands.values set
-
     x : ℕ
     x = word (machine m) 0
 
     there : register (machine m) 0 ≡ Some x
-    there = register_is sectors known m 0 [] site set
+    there = held (get_or m.registers 0 None) reads
+      where
+        held : (c : Option ℕ) → (is_some c && true) ≡ true → c ≡ Some (unwrap_or c 0)
+        held None e = absurd (let bad : false ≡ true = e in cc)
+        held (Some w) e = refl
 
     small : x < 2 ^ 64
-    small = site.stands.words.words 0 x there
+    small = words.words 0 x there
 
     by : (o : Option Caller) → m.caller ≡ o → IsCovered program sectors table arrivals (machine m) (after_checks (machine m) (step.reads (machine m) (0 ∷ []) ∷ returns_to program o) (exit_frame (machine m) o))
     by None e =
@@ -285,3 +288,11 @@ exit_covered program context device sectors table known m arrivals shaped site w
         } in
         subst (IsCovered program sectors table arrivals (machine m))
         (sym (tested_passes (machine m) (step.reads (machine m) (0 ∷ []) ∷ step.goes_on program c.slot ∷ []) (exit_frame (machine m) (Some c)) list_passes ∙ same)) (inr (inr returns))
+
+pub exit_covered : (program : List (Option Instr)) (context : List ℕ) (device : List (List ℕ)) (sectors : ℕ) (table : List (Option Abstract)) (known : Abstract) (m : Parts) (arrivals : List (ℕ × Abstract))
+    → IsShaped program → Site sectors known m → IsMachine (machine m) → AreWaiting program sectors table 0 0 (all_frames m) m.slot
+    → first_failing (rules known instr.Exit) ≡ None → IsCovered program sectors table arrivals (machine m) (step_of program context device (machine m) instr.Exit)
+unfolding rules
+exit_covered program context device sectors table known m arrivals shaped site whole waiting keeps =
+    let are = (two_tell cause.UnsetRegister cause.PointerAsNumber (are_set known (0 ∷ [])) (is_number (value known 0)) keeps).0 in
+    exit_set program context device sectors table m arrivals shaped site.stands.words whole waiting (reads_set sectors (number m) known m.registers (0 ∷ []) site.stands.values are)

@@ -1,10 +1,10 @@
 -- What values, groups and states mean.
-use Rattle.std.proofs.Common.{◌≡◌, ◌<◌, ◌≤◌, ◌^◌, ℕ, zero, suc, Bool, true, false, List, [], ◌∷◌, replicate, get_or, Option, Some, None, refl, sym, ◌∙◌, arith}
+use Rattle.std.proofs.Common.{◌≡◌, ◌<◌, ◌≤◌, ◌^◌, ℕ, zero, suc, Bool, true, false, List, [], ◌∷◌, get_or, Option, Some, None, refl, arith}
 use Rattle.machine.specs.State.{State}
 use Rattle.intervals.specs.Spans.{Span, span, Has, Within}
 use Rattle.intervals.specs.Reducing.{HasWord, any_sign}
 use Rattle.intervals.proofs.Outcomes as limits
-use Rattle.ranges.specs.Kinds.{Kind, Unset, Num, Ctx, Stack, Sector, SectorOrNull, is_unset}
+use Rattle.ranges.specs.Kinds.{Kind, Unset, Word, Num, Ctx, Stack, Sector, SectorOrNull, is_unknown, is_unset}
 use Rattle.ranges.specs.Groups.{GroupKind, Marked, Spilled}
 use Rattle.ranges.specs.States.{Abstract}
 use Rattle.ranges.specs.Order.{Under, MarksUnder, GroupUnder, EachUnder, StateUnder}
@@ -12,17 +12,29 @@ use Rattle.ranges.specs.Reading.{value}
 use Rattle.soundness.specs.Meaning.{Describes, Means, GroupMeans, CoversFrame, Covers, frame_number, last_stack}
 
 -- a set value is that of a word
-pub means_word : (sectors frame : ℕ) (k : Kind) (c : Option ℕ) → is_unset k ≡ false → Means sectors frame k c
+pub means_word : (sectors frame : ℕ) (k : Kind) (c : Option ℕ) → is_unknown k ≡ false → Means sectors frame k c
     → (w : ℕ) × (c ≡ Some w) × Describes sectors frame k w
 means_word sectors frame Unset c e m = absurd (let bad : true ≡ false = e in cc)
+means_word sectors frame Word c e m = absurd (let bad : true ≡ false = e in cc)
 means_word sectors frame (Num x) c e m = m
 means_word sectors frame (Ctx o) c e m = m
 means_word sectors frame (Stack o) c e m = m
 means_word sectors frame (Sector x) c e m = m
 means_word sectors frame SectorOrNull c e m = m
 
+-- so is one that isn't unset
+pub means_set : (sectors frame : ℕ) (k : Kind) (c : Option ℕ) → is_unset k ≡ false → Means sectors frame k c → (w : ℕ) × (c ≡ Some w) × Describes sectors frame k w
+means_set sectors frame Unset c e m = absurd (let bad : true ≡ false = e in cc)
+means_set sectors frame Word c e m = m
+means_set sectors frame (Num x) c e m = m
+means_set sectors frame (Ctx o) c e m = m
+means_set sectors frame (Stack o) c e m = m
+means_set sectors frame (Sector x) c e m = m
+means_set sectors frame SectorOrNull c e m = m
+
 pub word_means : (sectors frame : ℕ) (k : Kind) (w : ℕ) → Describes sectors frame k w → Means sectors frame k (Some w)
 word_means sectors frame Unset w d = tt
+word_means sectors frame Word w d = (w, refl, d)
 word_means sectors frame (Num x) w d = (w, refl, d)
 word_means sectors frame (Ctx o) w d = (w, refl, d)
 word_means sectors frame (Stack o) w d = (w, refl, d)
@@ -41,6 +53,7 @@ has_within x y a p h = record { from = omega (arith, p.from, h.from); upto = ome
 
 described_under : (sectors frame : ℕ) (k l : Kind) (w : ℕ) → Under k l → Describes sectors frame k w → Describes sectors frame l w
 described_under sectors frame k Unset w p d = tt
+described_under sectors frame k Word w p d = tt
 described_under sectors frame (Num x) (Num y) w p d = limits.within_has x y w p d
 described_under sectors frame (Ctx a) (Ctx b) w p d = rw (← p) d
 described_under sectors frame (Stack a) (Stack b) w p d = rw (← p) d
@@ -58,6 +71,7 @@ never_unset _ l e p = refl
 
 means_some : (sectors frame : ℕ) (l : Kind) (c : Option ℕ) → (is_unset l ≡ false → (w : ℕ) × (c ≡ Some w) × Describes sectors frame l w) → Means sectors frame l c
 means_some sectors frame Unset c f = tt
+means_some sectors frame Word c f = f refl
 means_some sectors frame (Num x) c f = f refl
 means_some sectors frame (Ctx o) c f = f refl
 means_some sectors frame (Stack o) c f = f refl
@@ -66,7 +80,7 @@ means_some sectors frame SectorOrNull c f = f refl
 
 pub means_under : (sectors frame : ℕ) (k l : Kind) (c : Option ℕ) → Under k l → Means sectors frame k c → Means sectors frame l c
 means_under sectors frame k l c p m =
-    means_some sectors frame l c (λ e. let h = means_word sectors frame k c (never_unset k l e p) m in (h.0, h.1, described_under sectors frame k l h.0 p h.2))
+    means_some sectors frame l c (λ e. let h = means_set sectors frame k c (never_unset k l e p) m in (h.0, h.1, described_under sectors frame k l h.0 p h.2))
 
 -- the order of groups
 

@@ -9,7 +9,7 @@ use Rattle.machine.specs.State.{context_start, stack_start}
 use Rattle.intervals.specs.Spans.{Span, span, IsSpan, Has}
 use Rattle.ranges.specs.declared.place.Place.{Place}
 use Rattle.ranges.specs.declared.place.Place.TheVariants as place
-use Rattle.ranges.specs.Kinds.{Kind, Unset, Num, Ctx, Stack, Sector, SectorOrNull}
+use Rattle.ranges.specs.Kinds.{Kind, Unset, Word, Num, Ctx, Stack, Sector, SectorOrNull}
 use Rattle.ranges.specs.Order.{IsBounded}
 use Rattle.ranges.specs.Places.{landing, place_of, is_inside}
 use Rattle.soundness.specs.Meaning.{Describes}
@@ -45,6 +45,7 @@ pub place_lands : (sectors frame : ℕ) (k : Kind) (distance : ℤ) (n w : ℕ) 
     → is_inside (place_of k distance n) ≡ true → Lands sectors frame (place_of k distance n) n ((w + cast_unsigned w64 distance) % 2 ^ 64)
 unfolding place_of
 place_lands sectors frame Unset distance n w few fits b d inside = absurd (let bad : false ≡ true = inside in cc)
+place_lands sectors frame Word distance n w few fits b d inside = absurd (let bad : false ≡ true = inside in cc)
 place_lands sectors frame (Num x) distance n w few fits b d inside = absurd (let bad : false ≡ true = inside in cc)
 place_lands sectors frame SectorOrNull distance n w few fits b d inside = absurd (let bad : false ≡ true = inside in cc)
 place_lands sectors frame (Ctx o) distance n w few fits b d inside = by (landing 32 n o distance) refl inside

@@ -1,11 +1,12 @@
 -- Accepted programs run safely: a good table covers the machine, and so the run has no fault and ends.
-use Rattle.std.proofs.Common.{◌≡◌, ℕ, List, Option, subst}
+use Rattle.std.proofs.Common.{◌≡◌, ℕ, false, List, Option, refl, subst}
 use Rattle.base.specs.declared.causes.MachineFault.{MachineFault}
 use Rattle.bpf_isa.specs.declared.instr.Instr.{Instr}
 use Rattle.helpers.specs.declared.device.Context.{Context}
 use Rattle.machine.specs.Memory.{context_bytes}
 use Rattle.machine.specs.Outcome.{outcome}
 use Rattle.machine.specs.Step.{Stepped, Fault}
+use Rattle.verifier.specs.Good.{IsGoodWith}
 use Rattle.verifier.specs.Verdicts.{VerifiedValue, IsVerified}
 use Rattle.soundness.specs.Machines.{IsSetting}
 use Rattle.soundness.specs.Reaching.{StepsWithoutFault, FaultsAreOfSteps}
@@ -14,7 +15,7 @@ use Rattle.soundness.specs.Laws.{IsNoFault}
 use Rattle.soundness.specs.Accepted.{IsImage, IsSafeRun, AcceptedRunsSafely}
 use Rattle.soundness.proofs.Tables.{table_covers}
 
-setting : (v : VerifiedValue) (device : List (List ℕ)) (context : Context) → IsVerified v → IsImage v.sectors device context → IsSetting v.program v.sectors device context
+pub setting : (v : VerifiedValue) (device : List (List ℕ)) (context : Context) → IsVerified v → IsImage v.sectors device context → IsSetting v.program v.sectors device context
 setting v device context verified image = record {
   made = verified.program;
   shaped = verified.shape;
@@ -29,11 +30,12 @@ setting v device context verified image = record {
 no_fault : (x : Stepped) (cause : MachineFault) (slot : ℕ) → IsNoFault x → x ≡ Fault cause slot → ⊥
 no_fault x cause slot h e = subst IsNoFault e h
 
-faultless : (v : VerifiedValue) (device : List (List ℕ)) (context : Context) → IsVerified v → IsImage v.sectors device context
+faultless : (v : VerifiedValue) (device : List (List ℕ)) (context : Context) → v.guards ≡ false → IsVerified v → IsImage v.sectors device context
     → StepsWithoutFault v.program (context_bytes context) device
-faultless v device context verified image = λ n s cause slot reached fault.
+faultless v device context without verified image = λ n s cause slot reached fault.
+    let good = subst (λ g. IsGoodWith g v.program v.sectors v.table) without verified.table.good in
     no_fault _ cause slot
-    (table_covers.sound v.program v.sectors device context v.table n s (setting v device context verified image) verified.table.good reached) fault
+    (table_covers.sound v.program v.sectors device context v.table n s (setting v device context verified image) good reached) fault
 
 ends : (program : List (Option Instr)) (device : List (List ℕ)) (context : Context) (budget : ℕ)
     → StepsWithoutFault program (context_bytes context) device → EndsWithin program (context_bytes context) device budget → IsSafeRun program device context budget
@@ -42,7 +44,7 @@ ends program device context budget steps e = record { faultless = steps; answer 
 
 pub runs_safely : RunsEndWithinBudget → FaultsAreOfSteps → AcceptedRunsSafely
 runs_safely end faults program sectors budget device context accepted image =
-    let v : VerifiedValue = record { program = program; sectors = sectors; budget = budget; table = accepted.0 } in
-    let steps = faultless v device context accepted.1 image in
+    let v : VerifiedValue = record { guards = false; program = program; sectors = sectors; budget = budget; table = accepted.0 } in
+    let steps = faultless v device context refl accepted.1 image in
     ends program device context budget steps
     (end program (context_bytes context) device budget accepted.1.program accepted.1.shape accepted.1.budget ((faults program (context_bytes context) device).1 steps))

@@ -162,7 +162,7 @@ group_written sectors frame gk bytes stack at n g count fits long lt m = by (is_
         out (inl near) (inr behind) = inr (omega (arith, behind, count))
         out (inl near) (inl there) = absurd (let bad : (nat_lt at (8 * g + 8) && nat_lt (8 * g) (at + n)) ≡ false = t in grind (arith, nat_tests))
 
-places_at : {A B : Type 0} (f : ℕ → A → B) (n : ℕ) (xs : List A) (i : ℕ) (d : A) (e : B) → i < length xs → get_or (map_places f n xs) i e ≡ f (n + i) (get_or xs i d)
+pub places_at : {A B : Type 0} (f : ℕ → A → B) (n : ℕ) (xs : List A) (i : ℕ) (d : A) (e : B) → i < length xs → get_or (map_places f n xs) i e ≡ f (n + i) (get_or xs i d)
 unfolding map_places
 places_at f n [] i d e lt = absurd (omega (arith, lt))
 places_at f n (x ∷ xs) zero d e lt = let n0 : n + 0 ≡ n = omega arith in rw n0 refl
@@ -170,12 +170,12 @@ places_at f n (x ∷ xs) (suc i) d e lt =
     let next : n + 1 + i ≡ n + suc i = omega arith in
     places_at f (n + 1) xs i d e (omega (arith, lt)) ∙ ap (λ (q : ℕ). f q (get_or xs i d)) next
 
-places_long : {A B : Type 0} (f : ℕ → A → B) (n : ℕ) (xs : List A) → length (map_places f n xs) ≡ length xs
+pub places_long : {A B : Type 0} (f : ℕ → A → B) (n : ℕ) (xs : List A) → length (map_places f n xs) ≡ length xs
 unfolding map_places
 places_long f n [] = refl
 places_long f n (x ∷ xs) = ap suc (places_long f (n + 1) xs)
 
-past_means : (sectors frame : ℕ) (groups : List GroupKind) (stack : List (Option ℕ)) (g : ℕ) → length groups ≡ 64 → 64 ≤ g → GroupMeans sectors frame (get_or groups g (Marked [])) stack g
+pub past_means : (sectors frame : ℕ) (groups : List GroupKind) (stack : List (Option ℕ)) (g : ℕ) → length groups ≡ 64 → 64 ≤ g → GroupMeans sectors frame (get_or groups g (Marked [])) stack g
 past_means sectors frame groups stack g long le =
     let none : get_or groups g (Marked []) ≡ Marked [] = get_or_past groups g (Marked []) (omega (arith, long, le)) in
     rw none (λ k lt e. absurd (let bad : false ≡ true = e in cc))

@@ -9,7 +9,7 @@ use Rattle.base.specs.declared.causes.MachineFault.{MachineFault}
 use Rattle.machine.specs.State.{Caller, Frame, State}
 use Rattle.machine.specs.Step.{Stepped, Next, Done, Fault, after_checks, set_and_go, with_answer}
 use Rattle.intervals.specs.Reducing.{HasWord}
-use Rattle.ranges.specs.Kinds.{Kind, Unset, Num, Ctx, Stack, Sector, SectorOrNull, is_unset}
+use Rattle.ranges.specs.Kinds.{Kind, Unset, Word, Num, Ctx, Stack, Sector, SectorOrNull, is_unknown}
 use Rattle.ranges.specs.Groups.{Marked}
 use Rattle.ranges.specs.States.{Abstract}
 use Rattle.ranges.specs.Order.{IsBounded, IsState}
@@ -170,11 +170,11 @@ pub reads_set : (sectors frame : ℕ) (known : Abstract) (registers : List (Opti
     → are_set known list ≡ true → list_all (λ r. is_some (get_or registers r None)) list ≡ true
 reads_set sectors frame known registers [] h e = refl
 reads_set sectors frame known registers (r ∷ rest) h e =
-    let both = and_parts (not (is_unset (value known r))) (are_set known rest) e in
-    let means = means_word sectors frame (value known r) (get_or registers r None) (not_unset (is_unset (value known r)) both.0) (h r) in
+    let both = and_parts (not (is_unknown (value known r))) (are_set known rest) e in
+    let means = means_word sectors frame (value known r) (get_or registers r None) (not_unset (is_unknown (value known r)) both.0) (h r) in
     rw means.1 (reads_set sectors frame known registers rest h both.1)
 
-pub described : (sectors frame : ℕ) (k : Kind) (c : Option ℕ) → is_unset k ≡ false → Means sectors frame k c → Describes sectors frame k (unwrap_or c 0)
+pub described : (sectors frame : ℕ) (k : Kind) (c : Option ℕ) → is_unknown k ≡ false → Means sectors frame k c → Describes sectors frame k (unwrap_or c 0)
 described sectors frame k c e m =
     let h = means_word sectors frame k c e m in
     rw h.1 h.2
@@ -189,8 +189,9 @@ words_has sectors frame k c w m = any_has c w
     any_has (Some x) w = let lt : x < 2 ^ 64 = w x refl in word_in 0 (2 ^ 64 - 1) x (omega arith) (omega arith) (omega (arith, lt))
 
 -- a pointer or a number that is within its bounds is a word
-pub described_word : (sectors frame : ℕ) (k : Kind) (w : ℕ) → AreFew sectors frame → is_unset k ≡ false → IsBounded k → Describes sectors frame k w → w < 2 ^ 64
+pub described_word : (sectors frame : ℕ) (k : Kind) (w : ℕ) → AreFew sectors frame → is_unknown k ≡ false → IsBounded k → Describes sectors frame k w → w < 2 ^ 64
 described_word sectors frame Unset w few e b d = absurd (let bad : true ≡ false = e in cc)
+described_word sectors frame Word w few e b d = absurd (let bad : true ≡ false = e in cc)
 described_word sectors frame (Num x) w few e b d = omega (arith, b.words.most, d.word.upto)
 described_word sectors frame (Ctx o) w few e b d = omega (arith, b, d)
 described_word sectors frame (Stack o) w few e b d = omega (arith, b, d, few.frames)

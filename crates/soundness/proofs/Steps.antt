@@ -50,7 +50,7 @@ use Rattle.soundness.proofs.Calls.{helper_goes}
 use Rattle.soundness.proofs.Programs.{free_at, helper_known, begins_at, calls_at, limit_taken, before_again}
 
 -- the argument of `again`
-limit_here : (program : List (Option Instr)) (m : Parts) (number : ℤ) → IsShaped program → at program m.slot ≡ Some (instr.CallHelper number)
+pub limit_here : (program : List (Option Instr)) (m : Parts) (number : ℤ) → IsShaped program → at program m.slot ≡ Some (instr.CallHelper number)
     → HasLimit program (machine m) → helper_of (cast_unsigned w32 number) ≡ Some helper.Again → is_limit (word (machine m) 1) ≡ true
 limit_here program m number shaped e limit is =
     let calls = calls_at program m.slot number e is in
@@ -153,14 +153,14 @@ arrives_of sectors [] ys t a = inr a
 arrives_of sectors (x ∷ xs) ys t (inl h) = inl (inl h)
 arrives_of sectors (x ∷ xs) ys t (inr h) = elim (arrives_of sectors xs ys t h) [ inl a ↦ inl (inr a) | inr a ↦ inr a ]
 
-one_slot : (sectors slot : ℕ) (s : Abstract) (t : State) → Arrives sectors ((slot, s) ∷ []) t → t.slot ≡ slot
+pub one_slot : (sectors slot : ℕ) (s : Abstract) (t : State) → Arrives sectors ((slot, s) ∷ []) t → t.slot ≡ slot
 one_slot sectors slot s t (inl h) = sym h.0
 one_slot sectors slot s t (inr h) = absurd h
 
-next_leads : (e : Option ℕ) (a b : ℕ) → b ≡ a → (Some a ≡ Some b) ⊎ (e ≡ Some b)
+pub next_leads : (e : Option ℕ) (a b : ℕ) → b ≡ a → (Some a ≡ Some b) ⊎ (e ≡ Some b)
 next_leads e a b h = inl (ap (λ (n : ℕ). Some n) (sym h))
 
-target_leads : (e : Option ℕ) (a b : ℕ) → b ≡ a → (e ≡ Some b) ⊎ (Some a ≡ Some b)
+pub target_leads : (e : Option ℕ) (a b : ℕ) → b ≡ a → (e ≡ Some b) ⊎ (Some a ≡ Some b)
 target_leads e a b h = inr (ap (λ (n : ℕ). Some n) (sym h))
 
 pub arrives_edge : (sectors : ℕ) (known : Abstract) (slot : ℕ) (i : Instr) (t : State) → stays i ≡ true → Arrives sectors (passes sectors known slot i) t → Leads (edges_of slot i) t.slot

@@ -22,7 +22,7 @@ use Rattle.machine.specs.Step as step
 use Rattle.bpf_isa.specs.Slots.{at}
 use Rattle.machine.specs.Step.{checks, effect, step_of, after_checks, Next}
 use Rattle.ranges.specs.declared.place.Place.TheVariants as place
-use Rattle.ranges.specs.Kinds.{Kind, Unset, Num, Ctx, Stack, Sector, SectorOrNull, is_unset, is_number}
+use Rattle.ranges.specs.Kinds.{Kind, Unset, Word, Num, Ctx, Stack, Sector, SectorOrNull, is_unknown, is_number}
 use Rattle.ranges.specs.Groups.{Marked, Spilled}
 use Rattle.ranges.specs.States.{Abstract}
 use Rattle.ranges.specs.Order.{IsBounded}
@@ -76,7 +76,7 @@ store_passes program context device sectors known m list a p n site e fits is ne
 stored_means : (sectors : ℕ) (known : Abstract) (m : Parts) (k : Kind) (p n x : ℕ) → Site sectors known m → p + n ≤ 512 → IsBounded k → Describes sectors (number m) k x
     → (g : ℕ) → GroupMeans sectors (number m) (get_or (stored_groups k known.groups (place.Stack p) n) g (Marked [])) (filled m.stack p (number_bytes n x)) g
 unfolding stored_groups
-stored_means sectors known m k p n x site fits bounded describes = by (not (is_unset k)) (is_group p n) refl refl
+stored_means sectors known m k p n x site fits bounded describes = by (not (is_unknown k)) (is_group p n) refl refl
   where
     plain : (g : ℕ) → GroupMeans sectors (number m) (get_or (groups_after_write p n known.groups) g (Marked [])) (filled m.stack p (number_bytes n x)) g
     plain = written_means sectors (number m) known.groups (number_bytes n x) m.stack p n site.fits.stack (length-number_bytes n x) fits site.stands.cells.long site.stands.groups
@@ -88,9 +88,9 @@ stored_means sectors known m k p n x site fits bounded describes = by (not (is_u
         subst (λ (v : ℕ). (g : ℕ) → GroupMeans sectors (number m) (get_or (set known.groups (p / 8) (Spilled k)) g (Marked [])) (filled m.stack p (number_bytes v x)) g) (sym e)
         (spilled_means sectors (number m) known.groups m.stack k p x site.fits.stack eight aligned site.stands.cells.long small (word_means sectors (number m) k x describes) site.stands.groups)
 
-    by : (b c : Bool) → not (is_unset k) ≡ b → is_group p n ≡ c
+    by : (b c : Bool) → not (is_unknown k) ≡ b → is_group p n ≡ c
         → (g : ℕ) → GroupMeans sectors (number m) (get_or (if b && c then set known.groups (p / 8) (Spilled k) else groups_after_write p n known.groups) g (Marked [])) (filled m.stack p (number_bytes n x)) g
-    by true true e f = let h = group_parts p n f in spilled n h.0 fits h.1 (described_word sectors (number m) k x site.few (not_unset (is_unset k) e) bounded describes)
+    by true true e f = let h = group_parts p n f in spilled n h.0 fits h.1 (described_word sectors (number m) k x site.few (not_unset (is_unknown k) e) bounded describes)
     by true false e f = plain
     by false c e f = plain
 
@@ -121,6 +121,7 @@ stored_at program context device sectors known m k list p n x a site is next bou
 pub stack_place : (k : Kind) (distance : ℤ) (n : ℕ) → is_stack k ≡ true → is_inside (place_of k distance n) ≡ true → (p : ℕ) × (place_of k distance n ≡ place.Stack p)
 unfolding place_of
 stack_place Unset distance n e inside = absurd (let bad : false ≡ true = e in cc)
+stack_place Word distance n e inside = absurd (let bad : false ≡ true = e in cc)
 stack_place (Num x) distance n e inside = absurd (let bad : false ≡ true = e in cc)
 stack_place (Ctx o) distance n e inside = absurd (let bad : false ≡ true = e in cc)
 stack_place (Sector x) distance n e inside = absurd (let bad : false ≡ true = e in cc)

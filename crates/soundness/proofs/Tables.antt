@@ -26,7 +26,7 @@ use Rattle.ranges.specs.Passing.{passes}
 use Rattle.ranges.proofs.Covering.{state_under}
 use Rattle.ranges.proofs.Fitting.{round_state_fits, start_fits}
 use Rattle.verifier.specs.Tables as tables
-use Rattle.verifier.specs.Tables.{state_at, CoversAll, AreStates, arrival, broken_rule, passed_on, rule_at, sent_from}
+use Rattle.verifier.specs.Tables.{state_at, CoversAll, AreStates, arrival, broken_with, passed_on_with, rule_with, sent_with, rule_at, sent_from}
 use Rattle.verifier.specs.Good.{IsGood}
 use Rattle.soundness.specs.Meaning.{Means, CoversFrame, Covers, frame_number, last_stack}
 use Rattle.soundness.specs.Machines.{IsSetting, IsStack, IsMachine, HasLimit}
@@ -51,7 +51,7 @@ next_slot slot t (instr.Jump distance) e = absurd (let bad : None ≡ Some t = e
 next_slot slot t (instr.LongJump distance) e = absurd (let bad : None ≡ Some t = e in cc)
 next_slot slot t _ e = inl (let there : Some (slot + 1) ≡ Some t = e in let same : slot + 1 ≡ t = cc in sym same)
 
-limit_next : (program : List (Option Instr)) (sectors : ℕ) (device : List (List ℕ)) (context : Context) (m : Parts) (i : Instr) (t : State)
+pub limit_next : (program : List (Option Instr)) (sectors : ℕ) (device : List (List ℕ)) (context : Context) (m : Parts) (i : Instr) (t : State)
     → IsSetting program sectors device context → length m.registers ≡ 11 → at program m.slot ≡ Some i
     → Leads (edges_of m.slot i) t.slot → step_of program (context_bytes context) device (machine m) i ≡ Next t → HasLimit program t
 limit_next program sectors device context m i t set long e (inr target) stepped = λ k calls is. absurd (no_target program m.slot t.slot i set.shaped e target calls)
@@ -136,7 +136,7 @@ kind_of (instr.CallLocal distance) = inr (inl (distance, refl))
 kind_of instr.Exit = inr (inr refl)
 kind_of _ = inl refl
 
-at_instr : (program : List (Option Instr)) (sectors : ℕ) (device : List (List ℕ)) (context : Context) (table : List (Option Abstract)) (known : Abstract) (m : Parts) (i : Instr)
+pub at_instr : (program : List (Option Instr)) (sectors : ℕ) (device : List (List ℕ)) (context : Context) (table : List (Option Abstract)) (known : Abstract) (m : Parts) (i : Instr)
     → IsSetting program sectors device context → Site sectors known m → IsMachine (machine m) → AreWaiting program sectors table 0 0 (all_frames m) m.slot
     → at program m.slot ≡ Some i → HasLimit program (machine m) → first_failing (rules known i) ≡ None
     → IsCovered program sectors table (map (arrival (heads program)) (passes sectors known m.slot i)) (machine m) (step_of program (context_bytes context) device (machine m) i)
@@ -154,25 +154,25 @@ at_instr program sectors device context table known m i set site whole waiting e
         (sym exit)
         (exit_covered program (context_bytes context) device sectors table known m (map (arrival (heads program)) (passes sectors known m.slot instr.Exit)) set.shaped site whole waiting keeps_exit)
 
-found_instr : (o : Option Instr) → is_some o ≡ true → (i : Instr) × (o ≡ Some i)
+pub found_instr : (o : Option Instr) → is_some o ≡ true → (i : Instr) × (o ≡ Some i)
 found_instr None e = absurd (let bad : false ≡ true = e in cc)
 found_instr (Some i) e = (i, refl)
 
-listed_fits : (o : Option Abstract) (known : Abstract) → Holds IsState o → o ≡ Some known → IsState known
+pub listed_fits : (o : Option Abstract) (known : Abstract) → Holds IsState o → o ≡ Some known → IsState known
 listed_fits None known h e = absurd (let bad : None ≡ Some known = e in cc)
 listed_fits (Some s) known h e = let same : s ≡ known = cc in subst IsState same h
 
 rule_is : (program : List (Option Instr)) (table : List (Option Abstract)) (slot : ℕ) (i : Instr) (known : Abstract) → at program slot ≡ Some i → state_at table slot ≡ Some known
     → rule_at program table slot ≡ None → first_failing (rules known i) ≡ None
-unfolding rule_at
+unfolding rule_with
 rule_is program table slot i known e f keeps =
-    ap (λ o. broken_rule o (Some known)) (sym e) ∙ ap (λ o. broken_rule (at program slot) o) (sym f) ∙ keeps
+    ap (λ o. broken_with false o (Some known)) (sym e) ∙ ap (λ o. broken_with false (at program slot) o) (sym f) ∙ keeps
 
 sent_is : (program : List (Option Instr)) (sectors : ℕ) (table : List (Option Abstract)) (slot : ℕ) (i : Instr) (known : Abstract) → at program slot ≡ Some i → state_at table slot ≡ Some known
     → sent_from program sectors table slot ≡ map (arrival (heads program)) (passes sectors known slot i)
-unfolding sent_from
+unfolding sent_with
 sent_is program sectors table slot i known e f =
-    ap (λ o. passed_on (heads program) sectors slot o (state_at table slot)) e ∙ ap (λ o. passed_on (heads program) sectors slot (Some i) o) f
+    ap (λ o. passed_on_with false (heads program) sectors slot o (state_at table slot)) e ∙ ap (λ o. passed_on_with false (heads program) sectors slot (Some i) o) f
 
 pub step_covered : StepIsCovered
 step_covered program sectors device context table s set fit known keeps =
@@ -221,7 +221,7 @@ look_up holds table (p ∷ xs) slot more states fits all (inl h) = by (state_at 
     by None e fit c = absurd c
     by (Some known) e fit c = record { known = known; listed = e; there = more p.1 known (state_under known p.1 fit fits.0 c) h.1 }
 
-arrivals_fit : (hs : List Bool) (xs : List (ℕ × Abstract)) → Each (λ (p : ℕ × Abstract). IsState p.1) xs → Each (λ (p : ℕ × Abstract). IsState p.1) (map (arrival hs) xs)
+pub arrivals_fit : (hs : List Bool) (xs : List (ℕ × Abstract)) → Each (λ (p : ℕ × Abstract). IsState p.1) xs → Each (λ (p : ℕ × Abstract). IsState p.1) (map (arrival hs) xs)
 arrivals_fit hs [] a = tt
 arrivals_fit hs (p ∷ xs) a = (by (get_or hs p.0 false), arrivals_fit hs xs a.1)
   where
@@ -231,27 +231,23 @@ arrivals_fit hs (p ∷ xs) a = (by (get_or hs p.0 false), arrivals_fit hs xs a.1
 
 sent_fit : (program : List (Option Instr)) (sectors : ℕ) (table : List (Option Abstract)) (slot : ℕ) → IsProgram program → sectors ≤ most_sectors → AreStates table
     → Each (λ (p : ℕ × Abstract). IsState p.1) (sent_from program sectors table slot)
-unfolding sent_from
+unfolding sent_with
 sent_fit program sectors table slot made few states = by (at program slot) (state_at table slot) refl (states slot)
   where
-    by : (o : Option Instr) (q : Option Abstract) → at program slot ≡ o → Holds IsState q → Each (λ (p : ℕ × Abstract). IsState p.1) (passed_on (heads program) sectors slot o q)
+    by : (o : Option Instr) (q : Option Abstract) → at program slot ≡ o → Holds IsState q → Each (λ (p : ℕ × Abstract). IsState p.1) (passed_on_with false (heads program) sectors slot o q)
     by None q e h = tt
     by (Some i) None e h = tt
     by (Some i) (Some s) e h = arrivals_fit (heads program) (passes sectors s slot i) (passes_fit sectors s slot i (omega (arith, few)) (range_at program slot i made e) h)
 
-pub step_safe : StepIsSafe
-step_safe program sectors device context table s set good known =
-    by (step program (context_bytes context) device s) (step_covered program sectors device context table s set good.states known (good.slots s.slot).rules)
+-- where the machine goes on, the table covers it, since what is sent is contained there
+pub way_safe : (program : List (Option Instr)) (sectors : ℕ) (device : List (List ℕ)) (context : Context) (table : List (Option Abstract)) (s : State) (sent : List (ℕ × Abstract))
+    → IsSetting program sectors device context → AreStates table → Each (λ (p : ℕ × Abstract). IsState p.1) sent → CoversAll table sent → IsKnown program sectors table s
+    → (t : State) → IsCovered program sectors table sent s (Next t) → IsKnown program sectors table t × Follows program s t
+way_safe program sectors device context table s sent set states fits edges known = each_way
   where
-    sent : List (ℕ × Abstract)
-    sent = sent_from program sectors table s.slot
-
-    fits : Each (λ (p : ℕ × Abstract). IsState p.1) sent
-    fits = sent_fit program sectors table s.slot set.made set.few good.states
-
     inside : (t : State) → GoesOn program sectors sent s t → IsKnown program sectors table t × Follows program s t
     inside t g =
-        let found = look_up (λ k. Covers sectors k t) table sent t.slot (λ k l under. covers_under sectors k l t under) good.states fits (good.slots s.slot).edges g.arrives in
+        let found = look_up (λ k. Covers sectors k t) table sent t.slot (λ k l under. covers_under sectors k l t under) states fits edges g.arrives in
         let q = g.frames in
         let had = ap (λ (fs : List Frame). length fs) q.had ∙ length_of q.below q.old in
         let has = ap (λ (fs : List Frame). length fs) q.has ∙ length_of q.below q.new in
@@ -271,11 +267,11 @@ step_safe program sectors device context table s set good known =
 
     into : (t : State) → Enters program sectors sent s t → IsKnown program sectors table t × Follows program s t
     into t g =
-        let found = look_up (λ k. Covers sectors k t) table sent t.slot (λ k l under. covers_under sectors k l t under) good.states fits (good.slots s.slot).edges g.arrives in
+        let found = look_up (λ k. Covers sectors k t) table sent t.slot (λ k l under. covers_under sectors k l t under) states fits edges g.arrives in
         let frame : ℕ = frame_number s.frames in
         let stack : List (Option ℕ) = last_stack s.frames in
         let back = look_up (λ k. CoversWaiting sectors frame k stack g.caller) table sent g.caller.slot
-        (λ k l under c x lt. frame_under sectors frame k l (registers_behind g.caller x) stack under (c x lt)) good.states fits (good.slots s.slot).edges g.waits in
+        (λ k l under c x lt. frame_under sectors frame k l (registers_behind g.caller x) stack under (c x lt)) states fits edges g.waits in
         let split = split_last s.frames known.whole.some in
         let new : Frame = record { stack = unset_stack; caller = Some g.caller } in
         let place : frame ≡ 0 + length split.below = ap frame_number split.is ∙ number_is split.below split.last ∙ omega arith in
@@ -312,6 +308,17 @@ step_safe program sectors device context table s set good known =
     each_way t (inl g) = inside t g
     each_way t (inr (inl g)) = into t g
     each_way t (inr (inr g)) = (g.known, inr (inr (g.frames, g.back)))
+
+pub step_safe : StepIsSafe
+step_safe program sectors device context table s set good known =
+    by (step program (context_bytes context) device s) (step_covered program sectors device context table s set good.states known (good.slots s.slot).rules)
+  where
+    sent : List (ℕ × Abstract)
+    sent = sent_from program sectors table s.slot
+
+    each_way : (t : State) → IsCovered program sectors table sent s (Next t) → IsKnown program sectors table t × Follows program s t
+    each_way =
+        way_safe program sectors device context table s sent set good.states (sent_fit program sectors table s.slot set.made set.few good.states) (good.slots s.slot).edges known
 
     by : (x : Stepped) → IsCovered program sectors table sent s x → IsSafe program sectors table s x
     by (Next u) g = record { sound = tt; goes = λ t e. let same : u ≡ t = cc in subst (λ (v : State). IsKnown program sectors table v × Follows program s v) same (each_way u g); ends = λ answer codes e. absurd (let bad : Next u ≡ Done answer codes = e in cc) }
@@ -384,10 +391,10 @@ start_limit : (program : List (Option Instr)) → HasLimit program start
 unfolding start limit_before
 start_limit program = λ k calls e. absurd (let bad : None ≡ Some k = e in cc)
 
-start_known : (program : List (Option Instr)) (sectors : ℕ) (device : List (List ℕ)) (context : Context) (table : List (Option Abstract)) → IsSetting program sectors device context
-    → IsGood program sectors table → IsKnown program sectors table start
+pub start_known : (program : List (Option Instr)) (sectors : ℕ) (device : List (List ℕ)) (context : Context) (table : List (Option Abstract)) → IsSetting program sectors device context
+    → AreStates table → tables.Covers (state_at table 0) states.start → IsKnown program sectors table start
 unfolding start
-start_known program sectors device context table set good = by (state_at table 0) refl (good.states 0) good.start
+start_known program sectors device context table set fit begins = by (state_at table 0) refl (fit 0) begins
   where
     by : (o : Option Abstract) → state_at table 0 ≡ o → Holds IsState o → tables.Covers o states.start → IsKnown program sectors table start
     by None e h c = absurd c
@@ -404,7 +411,7 @@ start_known program sectors device context table set good = by (state_at table 0
 reached : (program : List (Option Instr)) (sectors : ℕ) (device : List (List ℕ)) (context : Context) (table : List (Option Abstract)) (n : ℕ) (s : State)
     → IsSetting program sectors device context → IsGood program sectors table → Reached program (context_bytes context) device n s
     → IsKnown program sectors table s
-reached program sectors device context table zero s set good e = subst (λ (t : State). IsKnown program sectors table t) (sym e) (start_known program sectors device context table set good)
+reached program sectors device context table zero s set good e = subst (λ (t : State). IsKnown program sectors table t) (sym e) (start_known program sectors device context table set good.states good.start)
 reached program sectors device context table (suc n) s set good h =
     let before = reached program sectors device context table n h.0 set good h.1.0 in
     ((step_safe program sectors device context table h.0 set good before).goes s h.1.1).0

@@ -92,7 +92,7 @@ room_first : (program : List (Option Instr)) (budget : ℕ) (b : IsBudget progra
 unfolding start framed_first
 room_first program budget b = omega arith
 
-runs_first : (program : List (Option Instr)) (budget : ℕ) (b : IsBudget program budget) → Runs program b.longest start budget
+pub runs_first : (program : List (Option Instr)) (budget : ℕ) (b : IsBudget program budget) → Runs program b.longest start budget
 runs_first program budget b =
     let all : left program start.turns * b.longest ≤ turns program * b.longest = mul-le-mul_right b.longest (left_first program) in
     let one : 1 + turns program ≡ suc (turns program) = omega arith in

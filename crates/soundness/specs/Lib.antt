@@ -7,3 +7,5 @@ pub mod Laws
 pub mod Ending
 pub mod Accepted
 pub mod Worked
+pub mod GuardedTables
+pub mod Guards

@@ -6,7 +6,7 @@ use Rattle.helpers.specs.Answers.{sector_start}
 use Rattle.machine.specs.State.{Frame, State, context_start, stack_start}
 use Rattle.intervals.specs.Spans.{Has}
 use Rattle.intervals.specs.Reducing.{HasWord}
-use Rattle.ranges.specs.Kinds.{Kind, Unset, Num, Ctx, Stack, Sector, SectorOrNull}
+use Rattle.ranges.specs.Kinds.{Kind, Unset, Word, Num, Ctx, Stack, Sector, SectorOrNull}
 use Rattle.ranges.specs.Groups.{GroupKind, Marked, Spilled}
 use Rattle.ranges.specs.States.{Abstract}
 use Rattle.ranges.specs.Reading.{value}
@@ -16,6 +16,7 @@ use Rattle.ranges.specs.Reading.{value}
 -- sector, and an offset; 0 or the address of a sector.
 abbrev pub Describes : ℕ → ℕ → Kind → ℕ → Type 0
 Describes sectors frame Unset w = Unit {0}
+Describes sectors frame Word w = Unit {0}
 Describes sectors frame (Num x) w = HasWord x w
 Describes sectors frame (Ctx o) w = w ≡ context_start + o
 Describes sectors frame (Stack o) w = w ≡ stack_start + 1024 * frame + o

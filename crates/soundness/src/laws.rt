@@ -1,5 +1,6 @@
 //! Laws of the states that the verifier passes on. The functions do nothing; each contract is a theorem.
 
+ghost use Rattle.soundness.specs.GuardedTables.{GuardedStepIsCovered, GuardedTableCovers};
 ghost use Rattle.soundness.specs.Laws.{OrderKeepsMeaning, StepIsCovered, StepIsSafe, TableCovers};
 
 /// A state that knows less covers all that a state covers which knows more.
@@ -22,4 +23,16 @@ pub fn step_is_safe()
 /// A good table covers each machine that is reached from the start, and none of their steps is a fault.
 pub fn table_covers()
     ensures { TableCovers }
+{}
+
+/// Where a slot breaks no rule with guards, the step with guards of a machine that its state covers strays only at a guarded
+/// slot. Else it is no fault, and what the slot sends covers the machine behind it.
+pub fn guarded_step_is_covered()
+    ensures { GuardedStepIsCovered }
+{}
+
+/// A table that is good with guards covers each machine that is reached with guards from the start. None of their steps is a
+/// fault, and none strays but at a guarded slot.
+pub fn guarded_table_covers()
+    ensures { GuardedTableCovers }
 {}

@@ -41,6 +41,8 @@
 //! - `accepted_runs_safely`: a program that the verifier accepts for a number of sectors, with a budget, runs
 //!   safely on each image of that size: no step from a reached state is a fault, and the outcome within the
 //!   budget is a verdict.
+//! - `guarded_runs_safely`: one that it accepts with guards runs safely with guards: no step from a reached state is a fault, none
+//!   strays but at a guarded slot, and the outcome within the budget is a verdict, or a stray at such a slot.
 //! - `order_keeps_meaning`: a state that knows less covers all that one does which knows more. So joins and
 //!   rounding lose no machine.
 //! - `step_is_covered`: where a slot breaks no rule, the step of a machine that its state covers is never a
@@ -52,6 +54,10 @@
 //!   step is covered by the table again, and its frames below wait as before.
 //! - `table_covers`: so a good table covers each machine that is reached in any number of steps, and no step
 //!   of any of them is a fault.
+//! - `guarded_step_is_covered`: the same of a step with guards, where a slot breaks no rule with guards and no byte of a stack
+//!   is unset. It strays only at a guarded slot.
+//! - `guarded_table_covers`: so a table that is good with guards covers each machine that is reached with guards, no step of
+//!   any of them is a fault, and none strays but at a guarded slot.
 //! - `run_ends_within_budget`: a program of right shape whose run never faults ends in a verdict within its
 //!   budget, on every device and in every context.
 //! - `faults_are_of_steps`: the run never faults exactly where no step from a reached state is a fault.
@@ -64,7 +70,10 @@
 //! `Branches`, `Calls`. They speak of the frame at hand, with its number, over any frames below it. `Steps`
 //! puts them together. `Locals` has the two steps that change the number of frames: that no fifth is opened
 //! follows from the rule about chains of calls, since each frame keeps how its call was reached (`Frames`).
-//! `Tables` leads from one step to all of them.
+//! `Tables` leads from one step to all of them. `Loose` and `LooseStores` have the lemmas of steps with guards where a rule
+//! without them is broken, and `LooseSteps` puts them together with the others.
+//! `Filling` leads from a machine to the one whose unset bytes are 0, `LooseTables` to all that are reached, and
+//! `LooseRuns` to the end of a run, which takes the same potential: it hangs on no stack.
 //!
 //! That a run ends is another matter, of shape alone. Before each step three numbers are kept: how often the
 //! calls of `again` may still answer 1; a room for each frame, which bounds the weight of each path from where
@@ -89,6 +98,9 @@ mod accepted;
 mod ending;
 mod laws;
 
-pub use accepted::accepted_runs_safely;
+pub use accepted::{accepted_runs_safely, guarded_runs_safely};
 pub use ending::{faults_are_of_steps, run_ends_within_budget, runs_go_on, worked_loops};
-pub use laws::{order_keeps_meaning, step_is_covered, step_is_safe, table_covers};
+pub use laws::{
+    guarded_step_is_covered, guarded_table_covers, order_keeps_meaning, step_is_covered,
+    step_is_safe, table_covers,
+};

@@ -149,7 +149,7 @@ fn rejects(outcome: &Outcome) -> bool
 {
     match outcome {
         Outcome::Verdict(verdict) => verdict.answer != 0,
-        Outcome::Fault { .. } | Outcome::OutOfSteps => true,
+        Outcome::Fault { .. } | Outcome::OutOfSteps | Outcome::Stray(_) => true,
     }
 }
 

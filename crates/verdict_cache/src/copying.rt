@@ -19,6 +19,7 @@ pub fn copy_of(outcome: &Outcome) -> Outcome
             slot: *slot,
         },
         Outcome::OutOfSteps => Outcome::OutOfSteps,
+        Outcome::Stray(slot) => Outcome::Stray(*slot),
     }
 }
 

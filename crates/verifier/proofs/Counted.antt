@@ -28,3 +28,10 @@ counted_passed p n e = rw (one_more_chosen p n, e) (ap count_and_first (append-n
 pub few_more : (found : Option Unreached) (n : ℕ) → IfSome found (λ u. u.count ≤ n) → IfSome found (λ u. u.count ≤ n + 1)
 few_more None n h = h
 few_more (Some u) n h = omega (arith, h)
+
+-- the slots that are chosen, with one more, if it is chosen
+pub chosen_more : (p : ℕ → Bool) (n : ℕ) → p n ≡ true → filter p (range_with_len 0 n) ++ n ∷ [] ≡ filter p (range_with_len 0 (n + 1))
+chosen_more p n e = rw (one_more_chosen p n, e) refl
+
+pub passed_more : (p : ℕ → Bool) (n : ℕ) → p n ≡ false → filter p (range_with_len 0 n) ≡ filter p (range_with_len 0 (n + 1))
+passed_more p n e = rw (one_more_chosen p n, e, append-nil (filter p (range_with_len 0 n))) refl

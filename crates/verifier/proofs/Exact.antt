@@ -16,19 +16,22 @@ use Rattle.std.specs.Int.{cast_unsigned, w32}
 use Rattle.std.specs.Option.{option_map_or}
 use Rattle.ranges.specs.States.{Abstract}
 use Rattle.ranges.specs.Rules.{rules, load_rules, store_rules, call_rules}
+use Rattle.ranges.specs.Guards.{guarded_call_rules, guarded_rules, rules_with}
 use Rattle.ranges.specs.Order.{IsState, Each, Holds, EdgeUnder}
 use Rattle.ranges.proofs.Chains.{state_both}
-use Rattle.verifier.specs.Tables.{state_at, Covers, CoversAll, broken_rule, rule_at}
-use Rattle.verifier.specs.Good.{IsGood}
+use Rattle.verifier.specs.Tables.{state_at, Covers, CoversAll, AreStates, broken_with, rule_with}
+use Rattle.verifier.specs.Good.{IsGoodWith, IsGood}
 use Rattle.verifier.specs.Breaches.{FirstBreach, BreaksAt, wrong_length, no_start, at_slot}
-use Rattle.verifier.specs.Least.{IsLeast}
+use Rattle.verifier.specs.Least.{IsContained, IsLeast}
 use Rattle.verifier.specs.Rounds.{passed_by, passed_states, rounds, IsSame, IsSettled}
 use Rattle.verifier.specs.Measure.{weight}
+use Rattle.verifier.specs.Sought.{Below}
 use Rattle.verifier.specs.Passing.{IsRound}
-use Rattle.verifier.specs.Verdicts.{Refused, shape, no_table, sought}
+use Rattle.verifier.specs.Verdicts.{RefusedWith, shape, no_table, sought}
 use Rattle.verifier.specs.Laws.{AcceptanceIsExact, RoundsEnd}
 use Rattle.verifier.proofs.Settled.{each_round, settled_covers, slot_covers}
 use Rattle.verifier.proofs.Below.{covered_is_under, keeps_below, settled_below, settled_is_least, settled_round}
+use Rattle.verifier.proofs.Guards.{good_with_guards, good_without}
 use Rattle.verifier.proofs.Rising.{round_weighs, round_rises, round_is_below}
 
 -- two least tables are the same
@@ -52,57 +55,76 @@ contained_under : (m n : Option Abstract) → Holds IsState m → Holds IsState 
 contained_under None n a b c = tt
 contained_under (Some s) n a b c = covered_is_under n s b a c
 
-pub one_least : (program : List (Option Instr)) (sectors : ℕ) (t u : List (Option Abstract)) → IsLeast program sectors t → IsLeast program sectors u → t ≡ u
-one_least program sectors t u a b =
-    let long : length t ≡ length u = (let x = a.good.long in let y = b.good.long in omega (arith, x, y)) in
+one_table : (t u : List (Option Abstract)) → length t ≡ length u → AreStates t → AreStates u → IsContained t u → IsContained u t → t ≡ u
+one_table t u long h k a b =
     same_tables t u long
     (λ slot. same_known (state_at t slot) (state_at u slot)
-    (contained_under (state_at t slot) (state_at u slot) (a.good.states slot) (b.good.states slot) (a.least u b.good slot))
-    (contained_under (state_at u slot) (state_at t slot) (b.good.states slot) (a.good.states slot) (b.least t a.good slot)))
+    (contained_under (state_at t slot) (state_at u slot) (h slot) (k slot) (a slot))
+    (contained_under (state_at u slot) (state_at t slot) (k slot) (h slot) (b slot)))
+
+as_long : (t u : List (Option Abstract)) (n : ℕ) → length t ≡ n → length u ≡ n → length t ≡ length u
+as_long t u n x y = x ∙ sym y
+
+pub one_least : (guards : Bool) (program : List (Option Instr)) (sectors : ℕ) (t u : List (Option Abstract)) → IsLeast guards program sectors t → IsLeast guards program sectors u → t ≡ u
+one_least guards program sectors t u a b =
+    one_table t u (as_long t u (length program) a.good.long b.good.long) a.good.states b.good.states (a.least u b.good) (b.least t a.good)
 
 -- the rounds end
 
-abbrev Ends : List (Option Instr) → ℕ → Type 0
-Ends program sectors = (turns : ℕ) × IsSame program sectors (rounds program sectors turns)
+abbrev Ends : Bool → List (Option Instr) → ℕ → Type 0
+Ends guards program sectors = (turns : ℕ) × IsSame guards program sectors (rounds guards program sectors turns)
 
-ends_within : (program : List (Option Instr)) (sectors : ℕ) → sectors < 2 ^ 64 → IsProgram program → IsShaped program → (left turns : ℕ)
-    → 2 ^ 96 ≤ weight (rounds program sectors turns) + left → Ends program sectors
-ends_within program sectors few p h zero turns most =
-    let below : weight (rounds program sectors turns) < 2 ^ 96 = round_is_below program (rounds program sectors turns) p (each_round program sectors turns few p h) in
+ends_within : (guards : Bool) (program : List (Option Instr)) (sectors : ℕ) → sectors < 2 ^ 64 → IsProgram program → IsShaped program → (left turns : ℕ)
+    → 2 ^ 96 ≤ weight (rounds guards program sectors turns) + left → Ends guards program sectors
+ends_within guards program sectors few p h zero turns most =
+    let below : weight (rounds guards program sectors turns) < 2 ^ 96 = round_is_below program (rounds guards program sectors turns) p (each_round guards program sectors turns few p h) in
     absurd (omega (arith, most, below))
-ends_within program sectors few p h (suc left) turns most =
-    let both = round_weighs program sectors (rounds program sectors turns) few p h (each_round program sectors turns few p h) in
-    let least : weight (rounds program sectors turns) ≤ weight (rounds program sectors (suc turns)) = both.0 in
-    elim (cases_eq (weight (rounds program sectors turns)) (weight (rounds program sectors (suc turns)))) [
+ends_within guards program sectors few p h (suc left) turns most =
+    let both = round_weighs guards program sectors (rounds guards program sectors turns) few p h (each_round guards program sectors turns few p h) in
+    let least : weight (rounds guards program sectors turns) ≤ weight (rounds guards program sectors (suc turns)) = both.0 in
+    elim (cases_eq (weight (rounds guards program sectors turns)) (weight (rounds guards program sectors (suc turns)))) [
       | inl same ↦ (turns, sym (both.1 same))
-      | inr other ↦ ends_within program sectors few p h left (suc turns) (omega (arith, most, least, other))
+      | inr other ↦ ends_within guards program sectors few p h left (suc turns) (omega (arith, most, least, other))
     ]
 
-ends : (program : List (Option Instr)) (sectors : ℕ) → sectors < 2 ^ 64 → IsProgram program → IsShaped program → (left : ℕ) → left ≡ 2 ^ 96 → Ends program sectors
-ends program sectors few p h left e = ends_within program sectors few p h left 0 (omega (arith, e))
+ends : (guards : Bool) (program : List (Option Instr)) (sectors : ℕ) → sectors < 2 ^ 64 → IsProgram program → IsShaped program → (left : ℕ) → left ≡ 2 ^ 96 → Ends guards program sectors
+ends guards program sectors few p h left e = ends_within guards program sectors few p h left 0 (omega (arith, e))
 
-table_ends : (program : List (Option Instr)) (sectors : ℕ) → Ends program sectors → (table : List (Option Abstract)) × IsSettled program sectors table
-table_ends program sectors e = (rounds program sectors e.0, record { turns = e.0; is = refl; same = e.1 })
+table_ends : (guards : Bool) (program : List (Option Instr)) (sectors : ℕ) → Ends guards program sectors → (table : List (Option Abstract)) × IsSettled guards program sectors table
+table_ends guards program sectors e = (rounds guards program sectors e.0, record { turns = e.0; is = refl; same = e.1 })
 
-least_exists : (program : List (Option Instr)) (sectors : ℕ) (g : List (Option Abstract)) → sectors < 2 ^ 64 → IsProgram program → IsShaped program
-    → IsGood program sectors g → (table : List (Option Abstract)) × IsLeast program sectors table
-least_exists program sectors g few p h good =
-    let found = table_ends program sectors (ends program sectors few p h (2 ^ 96) refl) in
-    let round = settled_round program sectors found.0 few p h found.1 in (
+least_exists : (guards : Bool) (program : List (Option Instr)) (sectors : ℕ) (g : List (Option Abstract)) → sectors < 2 ^ 64 → IsProgram program → IsShaped program
+    → IsGoodWith guards program sectors g → (table : List (Option Abstract)) × IsLeast guards program sectors table
+least_exists guards program sectors g few p h good =
+    let found = table_ends guards program sectors (ends guards program sectors few p h (2 ^ 96) refl) in
+    let round = settled_round guards program sectors found.0 few p h found.1 in (
       found.0,
-      settled_is_least program sectors found.0 few p h found.1
-          (λ slot. keeps_below program sectors found.0 g slot p round.states good (settled_below program sectors found.0 g few p h found.1 good)),
+      settled_is_least guards program sectors found.0 few p h found.1
+          (λ slot. keeps_below guards program sectors found.0 g slot p round.states good (settled_below guards program sectors found.0 g few p h found.1 good)),
     )
 
 -- the rounds end at the least good table, where there is one
-pub least_is_settled : (program : List (Option Instr)) (sectors : ℕ) (t : List (Option Abstract)) → sectors < 2 ^ 64 → IsProgram program → IsShaped program
-    → IsLeast program sectors t → IsSettled program sectors t
-least_is_settled program sectors t few p h least =
-    let found = table_ends program sectors (ends program sectors few p h (2 ^ 96) refl) in
-    let round = settled_round program sectors found.0 few p h found.1 in
-    let there : IsLeast program sectors found.0 = settled_is_least program sectors found.0 few p h found.1
-    (λ slot. keeps_below program sectors found.0 t slot p round.states least.good (settled_below program sectors found.0 t few p h found.1 least.good)) in
-    subst (λ u. IsSettled program sectors u) (one_least program sectors found.0 t there least) found.1
+pub least_is_settled : (guards : Bool) (program : List (Option Instr)) (sectors : ℕ) (t : List (Option Abstract)) → sectors < 2 ^ 64 → IsProgram program → IsShaped program
+    → IsLeast guards program sectors t → IsSettled guards program sectors t
+least_is_settled guards program sectors t few p h least =
+    let found = table_ends guards program sectors (ends guards program sectors few p h (2 ^ 96) refl) in
+    let round = settled_round guards program sectors found.0 few p h found.1 in
+    let there : IsLeast guards program sectors found.0 = settled_is_least guards program sectors found.0 few p h found.1
+    (λ slot. keeps_below guards program sectors found.0 t slot p round.states least.good (settled_below guards program sectors found.0 t few p h found.1 least.good)) in
+    subst (λ u. IsSettled guards program sectors u) (one_least guards program sectors found.0 t there least) found.1
+
+-- The least table without guards is the least one with them: that one is below it, so it keeps the rules too.
+pub least_with_guards : (program : List (Option Instr)) (sectors : ℕ) (t : List (Option Abstract)) → sectors < 2 ^ 64 → IsProgram program → IsShaped program
+    → IsLeast false program sectors t → IsLeast true program sectors t
+least_with_guards program sectors t few p h least =
+    let good : IsGoodWith true program sectors t = good_with_guards program sectors t least.good in
+    let found = least_exists true program sectors t few p h good in
+    let states = found.1.good.states in
+    let below : Below found.0 t = λ slot. contained_under (state_at found.0 slot) (state_at t slot) (states slot) (least.good.states slot) (found.1.least t good slot) in
+    let without : IsGood program sectors found.0 = good_without program sectors found.0 found.1.good (λ slot. keeps_below false program sectors found.0 t slot p states least.good below) in
+    let same : found.0 ≡ t =
+    one_table found.0 t (as_long found.0 t (length program) found.1.good.long least.good.long) states least.good.states (found.1.least t good) (least.least found.0 without) in
+    subst (λ u. IsLeast true program sectors u) same found.1
 
 -- no refusal is for a table that isn't settled
 
@@ -164,44 +186,72 @@ other_rules s (instr.StoreImmediate size base distance n) = (refl, (refl, (refl,
 other_rules s (instr.Store size base distance src) = (refl, (refl, (refl, (refl, (refl, tt)))))
 other_rules s (instr.LoadImmediate dst x) = tt
 
-no_rule : (program : List (Option Instr)) (table : List (Option Abstract)) (slot : ℕ) (c : VerifierCause) → c ≡ cause.Unsettled → rule_at program table slot ≡ Some c → ⊥
-unfolding rule_at
-no_rule program table slot c u e = by_state (at program slot) (state_at table slot) e
+other_guarded_calls : (s : Abstract) (h : Helper) → Each (λ k. Other k.cause) (guarded_call_rules s h)
+unfolding guarded_call_rules
+other_guarded_calls s helper.Copy = (refl, (refl, tt))
+other_guarded_calls s helper.Same = (refl, tt)
+other_guarded_calls s helper.Sector = (refl, tt)
+other_guarded_calls s helper.Again = (refl, tt)
+other_guarded_calls s helper.Report = (refl, tt)
+other_guarded_calls s helper.Zero = (refl, tt)
+other_guarded_calls s helper.Mix = (refl, tt)
+
+other_guarded : (s : Abstract) (i : Instr) → Each (λ k. Other k.cause) (guarded_rules s i)
+unfolding guarded_rules
+other_guarded s (instr.Jump distance) = tt
+other_guarded s (instr.LongJump distance) = tt
+other_guarded s (instr.CallHelper number) = by_helper (helper_of (cast_unsigned w32 number))
   where
-    by_state : (i : Option Instr) (m : Option Abstract) → broken_rule i m ≡ Some c → ⊥
+    by_helper : (m : Option Helper) → Each (λ k. Other k.cause) (option_map_or (guarded_call_rules s) m [])
+    by_helper None = tt
+    by_helper (Some h) = other_guarded_calls s h
+other_guarded s (instr.CallLocal distance) = tt
+other_guarded s (instr.LoadImmediate dst x) = tt
+other_guarded s i = (refl, tt)
+
+other_with : (guards : Bool) (s : Abstract) (i : Instr) → Each (λ k. Other k.cause) (rules_with guards s i)
+other_with true s i = other_guarded s i
+other_with false s i = other_rules s i
+
+no_rule : (guards : Bool) (program : List (Option Instr)) (table : List (Option Abstract)) (slot : ℕ) (c : VerifierCause) → c ≡ cause.Unsettled → rule_with guards program table slot ≡ Some c → ⊥
+unfolding rule_with
+no_rule guards program table slot c u e = by_state (at program slot) (state_at table slot) e
+  where
+    by_state : (i : Option Instr) (m : Option Abstract) → broken_with guards i m ≡ Some c → ⊥
     by_state None m f = let bad : None ≡ Some c = f in cc
     by_state (Some i) None f = let bad : None ≡ Some c = f in cc
-    by_state (Some i) (Some s) f = no_check (rules s i) c u (other_rules s i) f
+    by_state (Some i) (Some s) f = no_check (rules_with guards s i) c u (other_with guards s i) f
 
-no_breach : (program : List (Option Instr)) (sectors : ℕ) (table : List (Option Abstract)) (c : VerifierCause) (slot : ℕ) → c ≡ cause.Unsettled → IsRound (length program) table
-    → CoversAll table (passed_states program sectors table) → FirstBreach program sectors table c slot → ⊥
-no_breach program sectors table _ _ u r covered (wrong_length e) = e r.long
-no_breach program sectors table _ _ u r covered (no_start e n) = n r.starts
-no_breach program sectors table _ _ u r covered (at_slot c slot e s b) = by_break b.breaks
+no_breach : (guards : Bool) (program : List (Option Instr)) (sectors : ℕ) (table : List (Option Abstract)) (c : VerifierCause) (slot : ℕ) → c ≡ cause.Unsettled → IsRound (length program) table
+    → CoversAll table (passed_states guards program sectors table) → FirstBreach guards program sectors table c slot → ⊥
+no_breach guards program sectors table _ _ u r covered (wrong_length e) = e r.long
+no_breach guards program sectors table _ _ u r covered (no_start e n) = n r.starts
+no_breach guards program sectors table _ _ u r covered (at_slot c slot e s b) = by_break b.breaks
   where
-    by_break : BreaksAt program sectors table slot c → ⊥
-    by_break (inl broken) = no_rule program table slot c u broken
+    by_break : BreaksAt guards program sectors table slot c → ⊥
+    by_break (inl broken) = no_rule guards program table slot c u broken
     by_break (inr out) =
-        let part : CoversAll table (passed_by program sectors table slot) = slot_covers program sectors table table slot covered in
+        let part : CoversAll table (passed_by guards program sectors table slot) = slot_covers guards program sectors table table slot covered in
         out.1.edges (rw out.1.rules at part)
 
-not_unsettled : (program : List (Option Instr)) (sectors : ℕ) (c : VerifierCause) (slot : ℕ) → sectors < 2 ^ 64 → IsProgram program → c ≡ cause.Unsettled → Refused program sectors c slot → ⊥
+not_unsettled : (guards : Bool) (program : List (Option Instr)) (sectors : ℕ) (c : VerifierCause) (slot : ℕ) → sectors < 2 ^ 64 → IsProgram program → c ≡ cause.Unsettled → RefusedWith guards program sectors c slot → ⊥
 unfolding FirstBroken
-not_unsettled program sectors _ _ few p u (shape c s x) = no_shape program c s order u (refl, (refl, (refl, (refl, (refl, (refl, (refl, (refl, tt)))))))) x
-not_unsettled program sectors _ _ few p u (no_table c s t h none k x) =
-    let round = settled_round program sectors t few p h k in
-    no_breach program sectors t c s u round (settled_covers program sectors t few p h round k.same) x
-not_unsettled program sectors _ _ few p u (sought c s t h none more k x) = no_rule program t s c u x
+not_unsettled guards program sectors _ _ few p u (shape c s x) = no_shape program c s order u (refl, (refl, (refl, (refl, (refl, (refl, (refl, (refl, tt)))))))) x
+not_unsettled guards program sectors _ _ few p u (no_table c s t h none k x) =
+    let round = settled_round guards program sectors t few p h k in
+    no_breach guards program sectors t c s u round (settled_covers guards program sectors t few p h round k.same) x
+not_unsettled guards program sectors _ _ few p u (sought c s t h none more k x) = no_rule guards program t s c u x
 
 pub acceptance_is_exact : AcceptanceIsExact
 acceptance_is_exact = record {
   least = least_exists;
   one = one_least;
-  settled = λ program sectors slot few p r. not_unsettled program sectors cause.Unsettled slot few p refl r;
+  settled = λ guards program sectors slot few p r. not_unsettled guards program sectors cause.Unsettled slot few p refl r;
+  same = least_with_guards;
 }
 
 pub rounds_end : RoundsEnd
 rounds_end = record {
-  rises = λ program sectors turns few p h changes. round_rises program sectors (rounds program sectors turns) few p h (each_round program sectors turns few p h) changes;
-  below = λ program sectors turns few p h. round_is_below program (rounds program sectors turns) p (each_round program sectors turns few p h);
+  rises = λ guards program sectors turns few p h changes. round_rises guards program sectors (rounds guards program sectors turns) few p h (each_round guards program sectors turns few p h) changes;
+  below = λ guards program sectors turns few p h. round_is_below program (rounds guards program sectors turns) p (each_round guards program sectors turns few p h);
 }

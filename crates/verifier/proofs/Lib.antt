@@ -21,3 +21,5 @@ pub mod Learned
 pub mod Counting
 pub mod Ways
 pub mod Counted
+pub mod Guards
+pub mod Unguarded

@@ -11,7 +11,7 @@ use Rattle.bpf_isa.specs.Program.{IsProgram}
 use Rattle.bpf_shape.specs.Rules.{IsShaped}
 use Rattle.ranges.specs.States.{Abstract, StateContains}
 use Rattle.ranges.specs.Order.{IsState, Holds}
-use Rattle.verifier.specs.Tables.{state_at, Covers, CoversAll, AreStates, rule_at, sent_from}
+use Rattle.verifier.specs.Tables.{state_at, Covers, CoversAll, AreStates, rule_with, sent_with}
 use Rattle.verifier.specs.Rounds.{receive, passed_by, passed_states, round_of}
 use Rattle.verifier.specs.Visits.{Learns}
 use Rattle.verifier.specs.Passing.{Arrive, Arrived, IsRound, IsMarked, MadeRound, Kept, passed_if, passed_again}
@@ -56,65 +56,65 @@ all_left_out marked f a (suc n) table h r c =
 
 -- a round in which only the marked slots pass on
 
-pub again_fits : (program : List (Option Instr)) (sectors : ℕ) (table : List (Option Abstract)) (marks : List Bool) → sectors < 2 ^ 64 → IsProgram program → IsShaped program
-    → AreStates table → Arrive (length program) (passed_again program sectors table marks)
+pub again_fits : (guards : Bool) (program : List (Option Instr)) (sectors : ℕ) (table : List (Option Abstract)) (marks : List Bool) → sectors < 2 ^ 64 → IsProgram program → IsShaped program
+    → AreStates table → Arrive (length program) (passed_again guards program sectors table marks)
 unfolding passed_again
-again_fits program sectors table marks few p h states =
-    each_in_range (λ q. (q.0 < length program) × IsState q.1) (passed_if program sectors table marks) 0 (length program)
-    (λ slot. pick (get_or marks slot false) (passed_by program sectors table slot) (slot_fits program sectors table slot few p h states))
+again_fits guards program sectors table marks few p h states =
+    each_in_range (λ q. (q.0 < length program) × IsState q.1) (passed_if guards program sectors table marks) 0 (length program)
+    (λ slot. pick (get_or marks slot false) (passed_by guards program sectors table slot) (slot_fits guards program sectors table slot few p h states))
   where
     pick : (b : Bool) (ps : List (ℕ × Abstract)) → Arrive (length program) ps → Arrive (length program) (if b then ps else [])
     pick true ps a = a
     pick false ps a = tt
 
-again_covers : (program : List (Option Instr)) (sectors : ℕ) (table : List (Option Abstract)) (marks : List Bool) → CoversAll table (passed_states program sectors table)
-    → CoversAll table (passed_again program sectors table marks)
+again_covers : (guards : Bool) (program : List (Option Instr)) (sectors : ℕ) (table : List (Option Abstract)) (marks : List Bool) → CoversAll table (passed_states guards program sectors table)
+    → CoversAll table (passed_again guards program sectors table marks)
 unfolding passed_again
-again_covers program sectors table marks h =
-    each_in_range (λ q. Covers (state_at table q.0) q.1) (passed_if program sectors table marks) 0 (length program)
-    (λ slot. pick (get_or marks slot false) (passed_by program sectors table slot) (slot_covers program sectors table table slot h))
+again_covers guards program sectors table marks h =
+    each_in_range (λ q. Covers (state_at table q.0) q.1) (passed_if guards program sectors table marks) 0 (length program)
+    (λ slot. pick (get_or marks slot false) (passed_by guards program sectors table slot) (slot_covers guards program sectors table table slot h))
   where
     pick : (b : Bool) (ps : List (ℕ × Abstract)) → CoversAll table ps → CoversAll table (if b then ps else [])
     pick true ps a = a
     pick false ps a = tt
 
-again_round : (program : List (Option Instr)) (sectors : ℕ) (table : List (Option Abstract)) (marks : List Bool) → sectors < 2 ^ 64 → IsProgram program → IsShaped program
-    → IsRound (length program) table → IsMarked program sectors table marks → fold receive table (passed_again program sectors table marks) ≡ round_of program sectors table
+again_round : (guards : Bool) (program : List (Option Instr)) (sectors : ℕ) (table : List (Option Abstract)) (marks : List Bool) → sectors < 2 ^ 64 → IsProgram program → IsShaped program
+    → IsRound (length program) table → IsMarked guards program sectors table marks → fold receive table (passed_again guards program sectors table marks) ≡ round_of guards program sectors table
 unfolding passed_again round_of passed_states
-again_round program sectors table marks few p h r m =
-    all_left_out (λ k. get_or marks k false) (passed_by program sectors table) 0 (length program) table r.states
-    (λ k. rw r.long (slot_fits program sectors table k few p h r.states)) m.rest
+again_round guards program sectors table marks few p h r m =
+    all_left_out (λ k. get_or marks k false) (passed_by guards program sectors table) 0 (length program) table r.states
+    (λ k. rw r.long (slot_fits guards program sectors table k few p h r.states)) m.rest
 
 -- the marks of the next round
 
-same_passed : (program : List (Option Instr)) (sectors : ℕ) (old new : List (Option Abstract)) (slot : ℕ) → state_at new slot ≡ state_at old slot
-    → passed_by program sectors new slot ≡ passed_by program sectors old slot
-unfolding rule_at sent_from
-same_passed program sectors old new slot e = rw e refl
+same_passed : (guards : Bool) (program : List (Option Instr)) (sectors : ℕ) (old new : List (Option Abstract)) (slot : ℕ) → state_at new slot ≡ state_at old slot
+    → passed_by guards program sectors new slot ≡ passed_by guards program sectors old slot
+unfolding rule_with sent_with
+same_passed guards program sectors old new slot e = rw e refl
 
-round_covers : (program : List (Option Instr)) (sectors : ℕ) (table : List (Option Abstract)) → sectors < 2 ^ 64 → IsProgram program → IsShaped program → IsRound (length program) table
-    → CoversAll (round_of program sectors table) (passed_states program sectors table)
+round_covers : (guards : Bool) (program : List (Option Instr)) (sectors : ℕ) (table : List (Option Abstract)) → sectors < 2 ^ 64 → IsProgram program → IsShaped program → IsRound (length program) table
+    → CoversAll (round_of guards program sectors table) (passed_states guards program sectors table)
 unfolding round_of
-round_covers program sectors table few p h r =
-    all_covered table (passed_states program sectors table) r.states (rw r.long (passed_fits program sectors table few p h r.states))
+round_covers guards program sectors table few p h r =
+    all_covered table (passed_states guards program sectors table) r.states (rw r.long (passed_fits guards program sectors table few p h r.states))
 
 -- a round by what arrived
-pub made_round : (program : List (Option Instr)) (sectors : ℕ) (table new : List (Option Abstract)) (marks before after : List Bool) (arrivals : List (ℕ × Abstract)) (more : Bool)
-    → sectors < 2 ^ 64 → IsProgram program → IsShaped program → IsRound (length program) table → IsMarked program sectors table marks
-    → arrivals ≡ passed_again program sectors table marks → length before ≡ length program → ((slot : ℕ) → get_or before slot false ≡ false)
+pub made_round : (guards : Bool) (program : List (Option Instr)) (sectors : ℕ) (table new : List (Option Abstract)) (marks before after : List Bool) (arrivals : List (ℕ × Abstract)) (more : Bool)
+    → sectors < 2 ^ 64 → IsProgram program → IsShaped program → IsRound (length program) table → IsMarked guards program sectors table marks
+    → arrivals ≡ passed_again guards program sectors table marks → length before ≡ length program → ((slot : ℕ) → get_or before slot false ≡ false)
     → Arrived table arrivals new more → Kept table before new after
-    → MadeRound program sectors table new after more
-made_round program sectors table new marks before after arrivals more few p h r m e long cleared a k =
-    let made : new ≡ round_of program sectors table = a.table ∙ ap (λ ps. fold receive table ps) e ∙ again_round program sectors table marks few p h r m in
-    let covered : CoversAll new (passed_states program sectors table) = rw made (round_covers program sectors table few p h r) in
+    → MadeRound guards program sectors table new after more
+made_round guards program sectors table new marks before after arrivals more few p h r m e long cleared a k =
+    let made : new ≡ round_of guards program sectors table = a.table ∙ ap (λ ps. fold receive table ps) e ∙ again_round guards program sectors table marks few p h r m in
+    let covered : CoversAll new (passed_states guards program sectors table) = rw made (round_covers guards program sectors table few p h r) in
     record {
       table = made;
       marks = record {
         long = k.long ∙ long;
         rest = λ slot none.
-            subst (λ ps. CoversAll new ps) (sym (same_passed program sectors table new slot (k.same slot none))) (slot_covers program sectors table new slot covered);
+            subst (λ ps. CoversAll new ps) (sym (same_passed guards program sectors table new slot (k.same slot none))) (slot_covers guards program sectors table new slot covered);
       };
-      changes = λ t same. a.left_out t (rw e (again_covers program sectors table marks (settled_covers program sectors table few p h r same)));
+      changes = λ t same. a.left_out t (rw e (again_covers guards program sectors table marks (settled_covers guards program sectors table few p h r same)));
       same = λ f. sym made ∙ a.same f;
       learned = record {
         marks = after;
@@ -140,15 +140,15 @@ in_replicate zero slot inside = absurd (omega (arith, inside))
 in_replicate (suc n) zero inside = refl
 in_replicate (suc n) (suc slot) inside = in_replicate n slot (omega (arith, inside))
 
-pub first_marks : (program : List (Option Instr)) (sectors : ℕ) (table : List (Option Abstract)) (marks : List Bool) → marks ≡ replicate (length program) true
-    → IsMarked program sectors table marks
-first_marks program sectors table marks e = record {
+pub first_marks : (guards : Bool) (program : List (Option Instr)) (sectors : ℕ) (table : List (Option Abstract)) (marks : List Bool) → marks ≡ replicate (length program) true
+    → IsMarked guards program sectors table marks
+first_marks guards program sectors table marks e = record {
   long = rw e (length-replicate {A = Bool} (length program) true);
   rest = λ slot none. elim (cases_lt slot (length program)) [
     | inl inside ↦
         let there : get_or (replicate (length program) true) slot false ≡ false = rw e at none in
         absurd (let bad : true ≡ false = sym (in_replicate (length program) slot inside) ∙ there in cc)
-    | inr past ↦ rw (passed_past program sectors table slot past) tt
+    | inr past ↦ rw (passed_past guards program sectors table slot past) tt
   ];
 }
 

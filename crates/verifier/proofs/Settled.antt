@@ -12,7 +12,7 @@ use Rattle.bpf_shape.specs.Rules.{IsShaped}
 use Rattle.ranges.specs.States.{Abstract, start}
 use Rattle.ranges.specs.Order.{IsState, Each}
 use Rattle.ranges.proofs.Fitting.{start_fits}
-use Rattle.verifier.specs.Tables.{state_at, Covers, CoversAll, rule_at, sent_from, AreStates}
+use Rattle.verifier.specs.Tables.{state_at, Covers, CoversAll, rule_with, sent_with, AreStates}
 use Rattle.verifier.specs.Good.{IsGoodAt}
 use Rattle.verifier.specs.Rounds.{passed_by, passed_states, round_of, first_table, rounds, IsSame}
 use Rattle.verifier.specs.Passing.{Arrive, IsRound}
@@ -48,20 +48,20 @@ one_slot_more f n xs e =
     let one : flat_map f (n ∷ []) ≡ f n = flat_map_one f n in
     rw (range_with_len-more 0 n, zero_plus, flat_map-append f (range_with_len 0 n) (n ∷ []), one, e) refl
 
-pub slot_fits : (program : List (Option Instr)) (sectors : ℕ) (table : List (Option Abstract)) (slot : ℕ) → sectors < 2 ^ 64 → IsProgram program → IsShaped program → AreStates table
-    → Arrive (length program) (passed_by program sectors table slot)
-slot_fits program sectors table slot few p h states = pick (is_some (rule_at program table slot))
+pub slot_fits : (guards : Bool) (program : List (Option Instr)) (sectors : ℕ) (table : List (Option Abstract)) (slot : ℕ) → sectors < 2 ^ 64 → IsProgram program → IsShaped program → AreStates table
+    → Arrive (length program) (passed_by guards program sectors table slot)
+slot_fits guards program sectors table slot few p h states = pick (is_some (rule_with guards program table slot))
   where
-    pick : (b : Bool) → Arrive (length program) (if b then [] else sent_from program sectors table slot)
+    pick : (b : Bool) → Arrive (length program) (if b then [] else sent_with guards program sectors table slot)
     pick true = tt
-    pick false = sent_fits program sectors table slot few p h states
+    pick false = sent_fits guards program sectors table slot few p h states
 
-pub passed_fits : (program : List (Option Instr)) (sectors : ℕ) (table : List (Option Abstract)) → sectors < 2 ^ 64 → IsProgram program → IsShaped program → AreStates table
-    → Arrive (length program) (passed_states program sectors table)
+pub passed_fits : (guards : Bool) (program : List (Option Instr)) (sectors : ℕ) (table : List (Option Abstract)) → sectors < 2 ^ 64 → IsProgram program → IsShaped program → AreStates table
+    → Arrive (length program) (passed_states guards program sectors table)
 unfolding passed_states
-passed_fits program sectors table few p h states =
-    each_in_range (λ q. (q.0 < length program) × IsState q.1) (passed_by program sectors table) 0 (length program)
-    (λ slot. slot_fits program sectors table slot few p h states)
+passed_fits guards program sectors table few p h states =
+    each_in_range (λ q. (q.0 < length program) × IsState q.1) (passed_by guards program sectors table) 0 (length program)
+    (λ slot. slot_fits guards program sectors table slot few p h states)
 
 -- the tables of the rounds are of states, as long as the program, and have the start in slot 0
 
@@ -85,64 +85,64 @@ unfolding first_table
 first_starts zero some = absurd (omega (arith, some))
 first_starts (suc n) some = contains_self start start_fits
 
-pub next_round : (program : List (Option Instr)) (sectors : ℕ) (table : List (Option Abstract)) → sectors < 2 ^ 64 → IsProgram program → IsShaped program
-    → IsRound (length program) table → IsRound (length program) (round_of program sectors table)
+pub next_round : (guards : Bool) (program : List (Option Instr)) (sectors : ℕ) (table : List (Option Abstract)) → sectors < 2 ^ 64 → IsProgram program → IsShaped program
+    → IsRound (length program) table → IsRound (length program) (round_of guards program sectors table)
 unfolding round_of
-next_round program sectors table few p h r =
-    let arrive : Arrive (length table) (passed_states program sectors table) = rw r.long (passed_fits program sectors table few p h r.states) in
+next_round guards program sectors table few p h r =
+    let arrive : Arrive (length table) (passed_states guards program sectors table) = rw r.long (passed_fits guards program sectors table few p h r.states) in
     record {
-      long = all_long table (passed_states program sectors table) ∙ r.long;
-      states = all_fit table (passed_states program sectors table) r.states arrive;
-      starts = all_keep table (passed_states program sectors table) 0 start r.states arrive start_fits r.starts;
+      long = all_long table (passed_states guards program sectors table) ∙ r.long;
+      states = all_fit table (passed_states guards program sectors table) r.states arrive;
+      starts = all_keep table (passed_states guards program sectors table) 0 start r.states arrive start_fits r.starts;
     }
 
-pub each_round : (program : List (Option Instr)) (sectors : ℕ) (turns : ℕ) → sectors < 2 ^ 64 → IsProgram program → IsShaped program
-    → IsRound (length program) (rounds program sectors turns)
-each_round program sectors zero few p h =
+pub each_round : (guards : Bool) (program : List (Option Instr)) (sectors : ℕ) (turns : ℕ) → sectors < 2 ^ 64 → IsProgram program → IsShaped program
+    → IsRound (length program) (rounds guards program sectors turns)
+each_round guards program sectors zero few p h =
     record { long = first_long (length program); states = first_fits (length program); starts = first_starts (length program) p.count.some }
-each_round program sectors (suc n) few p h = next_round program sectors (rounds program sectors n) few p h (each_round program sectors n few p h)
+each_round guards program sectors (suc n) few p h = next_round guards program sectors (rounds guards program sectors n) few p h (each_round guards program sectors n few p h)
 
 -- where a round changes nothing, all that is passed on is covered
 
-pub settled_covers : (program : List (Option Instr)) (sectors : ℕ) (table : List (Option Abstract)) → sectors < 2 ^ 64 → IsProgram program → IsShaped program
-    → IsRound (length program) table → IsSame program sectors table → CoversAll table (passed_states program sectors table)
+pub settled_covers : (guards : Bool) (program : List (Option Instr)) (sectors : ℕ) (table : List (Option Abstract)) → sectors < 2 ^ 64 → IsProgram program → IsShaped program
+    → IsRound (length program) table → IsSame guards program sectors table → CoversAll table (passed_states guards program sectors table)
 unfolding round_of
-settled_covers program sectors table few p h r same =
-    let arrive : Arrive (length table) (passed_states program sectors table) = rw r.long (passed_fits program sectors table few p h r.states) in
-    same_covers table (passed_states program sectors table) r.states arrive same
+settled_covers guards program sectors table few p h r same =
+    let arrive : Arrive (length table) (passed_states guards program sectors table) = rw r.long (passed_fits guards program sectors table few p h r.states) in
+    same_covers table (passed_states guards program sectors table) r.states arrive same
 
 -- past the end nothing is passed on
-pub passed_past : (program : List (Option Instr)) (sectors : ℕ) (table : List (Option Abstract)) (slot : ℕ) → length program ≤ slot → passed_by program sectors table slot ≡ []
-passed_past program sectors table slot past = let none = nothing_past program sectors table slot past in rw (none.0, none.1) refl
+pub passed_past : (guards : Bool) (program : List (Option Instr)) (sectors : ℕ) (table : List (Option Abstract)) (slot : ℕ) → length program ≤ slot → passed_by guards program sectors table slot ≡ []
+passed_past guards program sectors table slot past = let none = nothing_past guards program sectors table slot past in rw (none.0, none.1) refl
 
 -- what each slot passes on is covered, where all that is passed on is
-pub slot_covers : (program : List (Option Instr)) (sectors : ℕ) (table new : List (Option Abstract)) (slot : ℕ) → CoversAll new (passed_states program sectors table)
-    → CoversAll new (passed_by program sectors table slot)
+pub slot_covers : (guards : Bool) (program : List (Option Instr)) (sectors : ℕ) (table new : List (Option Abstract)) (slot : ℕ) → CoversAll new (passed_states guards program sectors table)
+    → CoversAll new (passed_by guards program sectors table slot)
 unfolding passed_states
-slot_covers program sectors table new slot h =
+slot_covers guards program sectors table new slot h =
     elim (cases_lt slot (length program)) [
-      | inl inside ↦ each_of_range (λ q. Covers (state_at new q.0) q.1) (passed_by program sectors table) 0 (length program) slot (omega arith) (omega (arith, inside)) h
-      | inr past ↦ rw (passed_past program sectors table slot past) tt
+      | inl inside ↦ each_of_range (λ q. Covers (state_at new q.0) q.1) (passed_by guards program sectors table) 0 (length program) slot (omega arith) (omega (arith, inside)) h
+      | inr past ↦ rw (passed_past guards program sectors table slot past) tt
     ]
 
-pub good_past : (program : List (Option Instr)) (sectors : ℕ) (table : List (Option Abstract)) (slot : ℕ) → length program ≤ slot → IsGoodAt program sectors table slot
-good_past program sectors table slot past =
-    let none = nothing_past program sectors table slot past in
+pub good_past : (guards : Bool) (program : List (Option Instr)) (sectors : ℕ) (table : List (Option Abstract)) (slot : ℕ) → length program ≤ slot → IsGoodAt guards program sectors table slot
+good_past guards program sectors table slot past =
+    let none = nothing_past guards program sectors table slot past in
     record { rules = none.0; edges = rw none.1 tt }
 
 pub settled_is_good : SettledIsGood
-settled_is_good program sectors table few p h s kept =
-    let round : IsRound (length program) table = rw s.is (each_round program sectors s.turns few p h) in
-    let covered = settled_covers program sectors table few p h round s.same in
+settled_is_good guards program sectors table few p h s kept =
+    let round : IsRound (length program) table = rw s.is (each_round guards program sectors s.turns few p h) in
+    let covered = settled_covers guards program sectors table few p h round s.same in
     record {
       states = round.states;
       long = round.long;
       start = round.starts;
       slots = λ slot. elim (cases_lt slot (length program)) [
         | inl inside ↦
-            let part = slot_covers program sectors table table slot covered in
-            let here : CoversAll table (sent_from program sectors table slot) = rw (kept slot) at part in
+            let part = slot_covers guards program sectors table table slot covered in
+            let here : CoversAll table (sent_with guards program sectors table slot) = rw (kept slot) at part in
             record { rules = kept slot; edges = here }
-        | inr past ↦ good_past program sectors table slot past
+        | inr past ↦ good_past guards program sectors table slot past
       ];
     }

@@ -43,7 +43,7 @@ use Rattle.intervals.proofs.Outcomes.{any_holds}
 use Rattle.intervals.proofs.CallerLemmas.{fitting, words_are_limits}
 use Rattle.ranges.specs.declared.place.Place.{Place}
 use Rattle.ranges.specs.declared.place.Place.TheVariants as place
-use Rattle.ranges.specs.Kinds.{Kind, Unset, Num, Ctx, Stack, Sector, SectorOrNull, is_pointer, is_unset, round}
+use Rattle.ranges.specs.Kinds.{Kind, Unset, Word, Num, Ctx, Stack, Sector, SectorOrNull, is_pointer, is_unknown, round}
 use Rattle.ranges.specs.Groups.{GroupKind, Spilled, map_places, round_group}
 use Rattle.ranges.specs.States.{Abstract, round_state}
 use Rattle.ranges.specs.Reading.{value, second, with_value, with_groups, words, any_word}
@@ -52,13 +52,13 @@ use Rattle.ranges.specs.Pointers.{moved_pointer}
 use Rattle.ranges.specs.Rules.{is_null_test}
 use Rattle.ranges.specs.After.{number_result, result_kind, is_touched, group_after, groups_after_write, stored_groups, load_after, after_answer, call_after, after_of}
 use Rattle.ranges.specs.Passing.{edge_of, entry_state, is_equal_edge, tested_kind, with_both, passed_state, passes}
-use Rattle.ranges.specs.Order.{Under, GroupUnder, EachUnder, StateUnder, IsBounded, IsGroup, Each, IsState, Holds, EdgeUnder}
+use Rattle.ranges.specs.Order.{Under, IsWord, GroupUnder, EachUnder, StateUnder, IsBounded, IsGroup, Each, IsState, Holds, EdgeUnder}
 use Rattle.ranges.proofs.Covering.{state_same, state_under, each_mono, group_round_mono}
 use Rattle.ranges.proofs.Fitting.{round_state_fits, round_fits, each_set, each_mapped, round_group_fits}
 use Rattle.ranges.proofs.Keeping.{holds_or, words_fit, value_fits, second_fits, with_value_fits, with_groups_fits, register_fits, moved_kind_fits, places_fit, places_long, tested_fits, after_fits, edge_fits, entry_fits}
 use Rattle.ranges.proofs.Joins.{round_mono}
 use Rattle.ranges.proofs.Smaller.{with_value_under}
-use Rattle.verifier.specs.Tables.{state_at, Covers, CoversAll, AreStates, sent_from, passed_on, arriving, arrival}
+use Rattle.verifier.specs.Tables.{state_at, Covers, CoversAll, AreStates, sent_from, sent_with, passed_on_with, arriving, arrival}
 use Rattle.verifier.specs.Good.{IsGood}
 use Rattle.verifier.specs.Unsigned.{number, numbers, unsigned_computed, unsigned_result, unsigned_stored, unsigned_after, unsigned_edge, unsigned_passes, unsigned_round, unsigned_round_state, unsigned_arriving, unsigned_arrival, unsigned_passed_on, unsigned_sent_from, IsUnsignedGood}
 use Rattle.ranges.proofs.Chains.{under_self, group_self, each_self, state_self, state_chain}
@@ -194,6 +194,7 @@ stored_below (Num x) groups (place.Stack at) n = by (is_group at n) refl
     by true e = let h = group_place at n e in kept_below at n (at / 8) 0 x groups h.0 h.1
     by false e = all_self (map_places (group_after at n) 0 groups)
 stored_below Unset groups (place.Stack at) n = all_self (map_places (group_after at n) 0 groups)
+stored_below Word groups (place.Stack at) n = all_self (map_places (group_after at n) 0 groups)
 stored_below (Ctx a) groups (place.Stack at) n = all_self (if is_group at n then set groups (at / 8) (Spilled (Ctx a)) else map_places (group_after at n) 0 groups)
 stored_below (Stack a) groups (place.Stack at) n = all_self (if is_group at n then set groups (at / 8) (Spilled (Stack a)) else map_places (group_after at n) 0 groups)
 stored_below (Sector a) groups (place.Stack at) n = all_self (if is_group at n then set groups (at / 8) (Spilled (Sector a)) else map_places (group_after at n) 0 groups)
@@ -212,8 +213,9 @@ unsigned_store_fits s k (place.Stack at) n h a = by (is_pointer k) (is_group at 
     marked : IsState (with_groups s (map_places (group_after at n) 0 s.groups))
     marked = with_groups_fits s (map_places (group_after at n) 0 s.groups) a (places_fit at n 0 s.groups a.groups) (places_long at n 0 s.groups)
 
-    known : (j : Kind) → is_pointer j ≡ true → IsTrue (not (is_unset j))
+    known : (j : Kind) → is_pointer j ≡ true → IsTrue (not (is_unknown j))
     known Unset e = absurd (let bad : false ≡ true = e in cc)
+    known Word e = absurd (let bad : false ≡ true = e in cc)
     known _ e = refl
 
     by : (b c : Bool) → is_pointer k ≡ b → IsState (with_groups s (if b && c then set s.groups (at / 8) (Spilled k) else map_places (group_after at n) 0 s.groups))
@@ -346,9 +348,20 @@ rounded_words x h =
     let settled = reduced_twice (round_limits x) (limits_rounded x) (widened_fits x (words_are_limits x h)) (rounded_is x h).is in
     settled.0.within.unsigned
 
+round_word : (k : Kind) → IsWord k → IsWord (round k)
+unfolding round
+round_word Unset p = absurd p
+round_word Word p = tt
+round_word (Num x) p = tt
+round_word (Ctx a) p = tt
+round_word (Stack a) p = tt
+round_word (Sector x) p = tt
+round_word SectorOrNull p = tt
+
 round_below : (k l : Kind) → IsBounded k → IsBounded l → Under k l → Under (round k) (unsigned_round l)
 unfolding round unsigned_round
 round_below k Unset h g p = tt
+round_below k Word h g p = round_word k p
 round_below (Num x) (Num y) h g p =
     any_holds (limits_rounded x) (round_span y.unsigned) (limits_rounded_fits x h) (rounded_fits 64 y.unsigned (omega arith) g.words)
     (spans_chain (limits_rounded x).unsigned (round_span x.unsigned) (round_span y.unsigned) (rounded_words x h) (rounded_mono x.unsigned y.unsigned h.words g.words p.unsigned))
@@ -366,6 +379,7 @@ unsigned_round_fits : (k : Kind) → IsBounded k → IsBounded (unsigned_round k
 unfolding unsigned_round
 unsigned_round_fits (Num x) h = any_fits (round_span x.unsigned) (rounded_fits 64 x.unsigned (omega arith) h.words)
 unsigned_round_fits Unset h = round_fits Unset h
+unsigned_round_fits Word h = round_fits Word h
 unsigned_round_fits (Ctx a) h = round_fits (Ctx a) h
 unsigned_round_fits (Stack a) h = round_fits (Stack a) h
 unsigned_round_fits (Sector x) h = round_fits (Sector x) h
@@ -537,11 +551,11 @@ passes_covered marks table sectors slot s (instr.LoadSigned size dst base distan
 
 at_covered : (program : List (Option Instr)) (sectors : ℕ) (table : List (Option Abstract)) (slot : ℕ) → sectors < 2 ^ 64 → IsProgram program → AreStates table
     → CoversAll table (unsigned_sent_from program sectors table slot) → CoversAll table (sent_from program sectors table slot)
-unfolding sent_from unsigned_sent_from
+unfolding sent_with unsigned_sent_from
 at_covered program sectors table slot few made states covered = by (at program slot) (state_at table slot) refl (states slot) covered
   where
     by : (i : Option Instr) (s : Option Abstract) → at program slot ≡ i → Holds IsState s → CoversAll table (unsigned_passed_on (heads program) sectors slot i s)
-        → CoversAll table (passed_on (heads program) sectors slot i s)
+        → CoversAll table (passed_on_with false (heads program) sectors slot i s)
     by None s e a c = tt
     by (Some i) None e a c = tt
     by (Some i) (Some s) e a c = passes_covered (heads program) table sectors slot s i few states (in_range program slot i made e) a c

@@ -27,7 +27,7 @@ use Rattle.bpf_shape.specs.Rules.{IsShaped}
 use Rattle.verifier.specs.Tables.{state_at, AreStates}
 use Rattle.verifier.specs.Seen.{table_of}
 use Rattle.verifier.specs.Sought.{TakesIn}
-use Rattle.verifier.specs.Passing.{Arrive, LearnsAt, StaysSought, along, next_state, target_of, target_state}
+use Rattle.verifier.specs.Passing.{Arrive, LearnsAt, StaysSought, along, next_with, target_of, target_with}
 use Rattle.verifier.specs.Ways.{passed_along, Goes, IsWay, LearnsAlong, LeavesAt, TellsValue, TellsGroup, TellsValueAt, TellsGroupAt}
 use Rattle.verifier.proofs.Stepping.{Passes, next_fits, target_fits, stays_next, stays_target}
 use Rattle.verifier.proofs.Learned.{learns_self, learned_value, learned_group, learned_some, takes_in}
@@ -163,7 +163,7 @@ nothing_changes : (effect : Effect) (way : Way) → effect ≡ Nothing → effec
 nothing_changes effect way a b = let both : Nothing ≡ Changed way.change = sym a ∙ b in cc
 
 -- what holds where a slot passes something on along an edge
-pub record Sends (program : List (Option Instr)) (sectors : ℕ) (table : List (Option Abstract)) (slot : ℕ) (i : Instr) (marks : List Bool) : Type 0 where
+pub record Sends (guards : Bool) (program : List (Option Instr)) (sectors : ℕ) (table : List (Option Abstract)) (slot : ℕ) (i : Instr) (marks : List Bool) : Type 0 where
   pub few : sectors < 2 ^ 64
   pub made : IsProgram program
   pub shape : IsShaped program
@@ -172,9 +172,9 @@ pub record Sends (program : List (Option Instr)) (sectors : ℕ) (table : List (
   pub there : at program slot ≡ Some i
   pub rounds : marks ≡ heads program
 
-passes_of : (program : List (Option Instr)) (sectors : ℕ) (table : List (Option Abstract)) (slot : ℕ) (i : Instr) (marks : List Bool) (s : Abstract)
-    → Sends program sectors table slot i marks → state_at table slot ≡ Some s → Passes program sectors table slot s i
-passes_of program sectors table slot i marks s h known = record {
+passes_of : (guards : Bool) (program : List (Option Instr)) (sectors : ℕ) (table : List (Option Abstract)) (slot : ℕ) (i : Instr) (marks : List Bool) (s : Abstract)
+    → Sends guards program sectors table slot i marks → state_at table slot ≡ Some s → Passes guards program sectors table slot s i
+passes_of guards program sectors table slot i marks s h known = record {
   few = h.few;
   made = h.made;
   shape = h.shape;
@@ -184,48 +184,48 @@ passes_of program sectors table slot i marks s h known = record {
   known = known;
 }
 
-pub fits_next : (program : List (Option Instr)) (sectors : ℕ) (table : List (Option Abstract)) (slot to : ℕ) (i : Instr) (marks : List Bool) (s : Abstract)
-    → Sends program sectors table slot i marks → (edges_of slot i).next ≡ Some to → state_at table slot ≡ Some s
-    → Arrive (length table) (option_to_list (along marks (Some to) (next_state sectors s i)))
-fits_next program sectors table slot to i marks s h e known =
-    rw h.rounds (rw e at (next_fits program sectors table slot s i (passes_of program sectors table slot i marks s h known)))
+pub fits_next : (guards : Bool) (program : List (Option Instr)) (sectors : ℕ) (table : List (Option Abstract)) (slot to : ℕ) (i : Instr) (marks : List Bool) (s : Abstract)
+    → Sends guards program sectors table slot i marks → (edges_of slot i).next ≡ Some to → state_at table slot ≡ Some s
+    → Arrive (length table) (option_to_list (along marks (Some to) (next_with guards sectors s i)))
+fits_next guards program sectors table slot to i marks s h e known =
+    rw h.rounds (rw e at (next_fits guards program sectors table slot s i (passes_of guards program sectors table slot i marks s h known)))
 
-pub comes_next : (program : List (Option Instr)) (sectors : ℕ) (table new : List (Option Abstract)) (slot to : ℕ) (i : Instr) (marks : List Bool) (s : Abstract)
-    → Sends program sectors table slot i marks → (edges_of slot i).next ≡ Some to → state_at table slot ≡ Some s
-    → TakesIn table (option_to_list (along marks (Some to) (next_state sectors s i))) new → StaysSought program sectors table new
-comes_next program sectors table new slot to i marks s h e known taken =
-    stays_next program sectors table new slot s i (passes_of program sectors table slot i marks s h known) (rw e (rw h.rounds at taken))
+pub comes_next : (guards : Bool) (program : List (Option Instr)) (sectors : ℕ) (table new : List (Option Abstract)) (slot to : ℕ) (i : Instr) (marks : List Bool) (s : Abstract)
+    → Sends guards program sectors table slot i marks → (edges_of slot i).next ≡ Some to → state_at table slot ≡ Some s
+    → TakesIn table (option_to_list (along marks (Some to) (next_with guards sectors s i))) new → StaysSought guards program sectors table new
+comes_next guards program sectors table new slot to i marks s h e known taken =
+    stays_next guards program sectors table new slot s i (passes_of guards program sectors table slot i marks s h known) (rw e (rw h.rounds at taken))
 
-pub learns_next : (program : List (Option Instr)) (sectors : ℕ) (table new : List (Option Abstract)) (slot to : ℕ) (i : Instr) (marks : List Bool) (effect : Effect) (way : Way)
-    → Sends program sectors table slot i marks → (edges_of slot i).next ≡ Some to → LeavesAt (state_at table slot) effect (λ s. next_state sectors s i)
-    → IsWay slot to (get_or marks to false) effect (length table) way → LearnsAlong way table new → StaysSought program sectors table new
-learns_next program sectors table new slot to i marks effect way h e leaves w learns = by_known (state_at table slot) refl leaves
+pub learns_next : (guards : Bool) (program : List (Option Instr)) (sectors : ℕ) (table new : List (Option Abstract)) (slot to : ℕ) (i : Instr) (marks : List Bool) (effect : Effect) (way : Way)
+    → Sends guards program sectors table slot i marks → (edges_of slot i).next ≡ Some to → LeavesAt (state_at table slot) effect (λ s. next_with guards sectors s i)
+    → IsWay slot to (get_or marks to false) effect (length table) way → LearnsAlong way table new → StaysSought guards program sectors table new
+learns_next guards program sectors table new slot to i marks effect way h e leaves w learns = by_known (state_at table slot) refl leaves
   where
-    by_known : (m : Option Abstract) → state_at table slot ≡ m → LeavesAt m effect (λ s. next_state sectors s i) → StaysSought program sectors table new
+    by_known : (m : Option Abstract) → state_at table slot ≡ m → LeavesAt m effect (λ s. next_with guards sectors s i) → StaysSought guards program sectors table new
     by_known None known left = absurd (nothing_changes effect way left w.changes)
     by_known (Some s) known left =
-        comes_next program sectors table new slot to i marks s h e known
-        (by_learning table new marks way slot to effect s (next_state sectors s i) w left known learns (fits_next program sectors table slot to i marks s h e known))
+        comes_next guards program sectors table new slot to i marks s h e known
+        (by_learning table new marks way slot to effect s (next_with guards sectors s i) w left known learns (fits_next guards program sectors table slot to i marks s h e known))
 
-pub fits_target : (program : List (Option Instr)) (sectors : ℕ) (table : List (Option Abstract)) (slot to : ℕ) (i : Instr) (marks : List Bool) (s : Abstract)
-    → Sends program sectors table slot i marks → target_of slot i ≡ Some to → state_at table slot ≡ Some s
-    → Arrive (length table) (option_to_list (along marks (Some to) (target_state s i)))
-fits_target program sectors table slot to i marks s h e known =
-    rw h.rounds (rw e at (target_fits program sectors table slot s i (passes_of program sectors table slot i marks s h known)))
+pub fits_target : (guards : Bool) (program : List (Option Instr)) (sectors : ℕ) (table : List (Option Abstract)) (slot to : ℕ) (i : Instr) (marks : List Bool) (s : Abstract)
+    → Sends guards program sectors table slot i marks → target_of slot i ≡ Some to → state_at table slot ≡ Some s
+    → Arrive (length table) (option_to_list (along marks (Some to) (target_with guards s i)))
+fits_target guards program sectors table slot to i marks s h e known =
+    rw h.rounds (rw e at (target_fits guards program sectors table slot s i (passes_of guards program sectors table slot i marks s h known)))
 
-pub comes_target : (program : List (Option Instr)) (sectors : ℕ) (table new : List (Option Abstract)) (slot to : ℕ) (i : Instr) (marks : List Bool) (s : Abstract)
-    → Sends program sectors table slot i marks → target_of slot i ≡ Some to → state_at table slot ≡ Some s
-    → TakesIn table (option_to_list (along marks (Some to) (target_state s i))) new → StaysSought program sectors table new
-comes_target program sectors table new slot to i marks s h e known taken =
-    stays_target program sectors table new slot s i (passes_of program sectors table slot i marks s h known) (rw e (rw h.rounds at taken))
+pub comes_target : (guards : Bool) (program : List (Option Instr)) (sectors : ℕ) (table new : List (Option Abstract)) (slot to : ℕ) (i : Instr) (marks : List Bool) (s : Abstract)
+    → Sends guards program sectors table slot i marks → target_of slot i ≡ Some to → state_at table slot ≡ Some s
+    → TakesIn table (option_to_list (along marks (Some to) (target_with guards s i))) new → StaysSought guards program sectors table new
+comes_target guards program sectors table new slot to i marks s h e known taken =
+    stays_target guards program sectors table new slot s i (passes_of guards program sectors table slot i marks s h known) (rw e (rw h.rounds at taken))
 
-pub learns_target : (program : List (Option Instr)) (sectors : ℕ) (table new : List (Option Abstract)) (slot to : ℕ) (i : Instr) (marks : List Bool) (effect : Effect) (way : Way)
-    → Sends program sectors table slot i marks → target_of slot i ≡ Some to → LeavesAt (state_at table slot) effect (λ s. target_state s i)
-    → IsWay slot to (get_or marks to false) effect (length table) way → LearnsAlong way table new → StaysSought program sectors table new
-learns_target program sectors table new slot to i marks effect way h e leaves w learns = by_known (state_at table slot) refl leaves
+pub learns_target : (guards : Bool) (program : List (Option Instr)) (sectors : ℕ) (table new : List (Option Abstract)) (slot to : ℕ) (i : Instr) (marks : List Bool) (effect : Effect) (way : Way)
+    → Sends guards program sectors table slot i marks → target_of slot i ≡ Some to → LeavesAt (state_at table slot) effect (λ s. target_with guards s i)
+    → IsWay slot to (get_or marks to false) effect (length table) way → LearnsAlong way table new → StaysSought guards program sectors table new
+learns_target guards program sectors table new slot to i marks effect way h e leaves w learns = by_known (state_at table slot) refl leaves
   where
-    by_known : (m : Option Abstract) → state_at table slot ≡ m → LeavesAt m effect (λ s. target_state s i) → StaysSought program sectors table new
+    by_known : (m : Option Abstract) → state_at table slot ≡ m → LeavesAt m effect (λ s. target_with guards s i) → StaysSought guards program sectors table new
     by_known None known left = absurd (nothing_changes effect way left w.changes)
     by_known (Some s) known left =
-        comes_target program sectors table new slot to i marks s h e known
-        (by_learning table new marks way slot to effect s (target_state s i) w left known learns (fits_target program sectors table slot to i marks s h e known))
+        comes_target guards program sectors table new slot to i marks s h e known
+        (by_learning table new marks way slot to effect s (target_with guards s i) w left known learns (fits_target guards program sectors table slot to i marks s h e known))

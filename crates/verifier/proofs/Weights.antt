@@ -3,7 +3,7 @@ use Rattle.std.proofs.Common.{◌≡◌, ◌<◌, ◌≤◌, ◌^◌, ◌+◌, �
 use Rattle.std.proofs.lemmas.Int.{ints}
 use Rattle.intervals.specs.Spans.{Span, Within}
 use Rattle.intervals.specs.Reducing.{Limits, LimitsWithin, IsLimits}
-use Rattle.ranges.specs.Kinds.{Kind, Unset, Num, Ctx, Stack, Sector, SectorOrNull, is_unset}
+use Rattle.ranges.specs.Kinds.{Kind, Unset, Word, Num, Ctx, Stack, Sector, SectorOrNull, is_unknown}
 use Rattle.ranges.specs.Groups.{GroupKind, Marked, Spilled}
 use Rattle.ranges.specs.States.{Abstract}
 use Rattle.ranges.specs.Order.{Under, MarksUnder, GroupUnder, EachUnder, StateUnder, IsBounded, IsGroup, Each, IsState, Holds, EdgeUnder}
@@ -62,9 +62,10 @@ number_width x h =
     let most = h.words.most in
     omega (arith, small, most)
 
-known_width : (k : Kind) → IsBounded k → IsTrue (not (is_unset k)) → width k < 2 ^ 66
+known_width : (k : Kind) → IsBounded k → IsTrue (not (is_unknown k)) → width k < 2 ^ 66
 unfolding width
 known_width Unset h t = absurd (let bad : false ≡ true = t in cc)
+known_width Word h t = absurd (let bad : false ≡ true = t in cc)
 known_width (Num x) h t = number_width x h
 known_width (Ctx o) h t = omega arith
 known_width (Stack o) h t = omega arith
@@ -74,6 +75,7 @@ known_width SectorOrNull h t = omega arith
 width_most : (k : Kind) → IsBounded k → width k ≤ 2 ^ 67
 unfolding width
 width_most Unset h = omega arith
+width_most Word h = omega arith
 width_most (Num x) h = let small = number_width x h in omega (arith, small)
 width_most (Ctx o) h = omega arith
 width_most (Stack o) h = omega arith
@@ -83,6 +85,14 @@ width_most SectorOrNull h = omega arith
 kind_weighs : (k l : Kind) → IsBounded k → IsBounded l → Under k l → (width k ≤ width l) × (width k ≡ width l → k ≡ l)
 unfolding width
 kind_weighs Unset Unset h g u = (omega arith, λ e. refl)
+kind_weighs Word Word h g u = (omega arith, λ e. refl)
+kind_weighs Word Unset h g u = (omega arith, λ e. absurd (omega (arith, e)))
+kind_weighs Unset Word h g u = absurd u
+kind_weighs (Num x) Word h g u = let small = number_width x h in (omega (arith, small), λ e. absurd (omega (arith, small, e)))
+kind_weighs (Ctx a) Word h g u = (omega arith, λ e. absurd (omega (arith, e)))
+kind_weighs (Stack a) Word h g u = (omega arith, λ e. absurd (omega (arith, e)))
+kind_weighs (Sector x) Word h g u = let most = h.most in (omega (arith, most), λ e. absurd (omega (arith, most, e)))
+kind_weighs SectorOrNull Word h g u = (omega arith, λ e. absurd (omega (arith, e)))
 kind_weighs (Num x) (Num y) h g u = let both = limits_weigh x y h g u in (both.0, λ e. ap (λ z. Num z) (both.1 e))
 kind_weighs (Ctx a) (Ctx b) h g u = (omega arith, λ e. ap (λ z. Ctx z) u)
 kind_weighs (Stack a) (Stack b) h g u = (omega arith, λ e. ap (λ z. Stack z) u)

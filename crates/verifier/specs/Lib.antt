@@ -16,3 +16,4 @@ pub mod Ways
 pub mod Laws
 pub mod Inferred
 pub mod Reach
+pub mod Guards

@@ -2,7 +2,7 @@
 use Rattle.std.specs.Prelude.{ℕ, ◌+◌, ◌-◌, ◌*◌, ◌^◌, Bool, true, false, ℤ, pos, negsuc, ◌-ℤ◌, List, [], ◌∷◌, Option, None, Some}
 use Rattle.intervals.specs.Spans.{Span}
 use Rattle.intervals.specs.SignedSpans.{SignedSpan}
-use Rattle.ranges.specs.Kinds.{Kind, Unset, Num, Ctx, Stack, Sector, SectorOrNull}
+use Rattle.ranges.specs.Kinds.{Kind, Unset, Word, Num, Ctx, Stack, Sector, SectorOrNull}
 use Rattle.ranges.specs.Groups.{GroupKind, Marked, Spilled}
 use Rattle.ranges.specs.States.{Abstract}
 
@@ -22,9 +22,10 @@ natural (negsuc n) = 0
 abbrev pub signed_length : SignedSpan → ℕ
 signed_length x = natural (x.high -ℤ x.low)
 
--- of a number the lengths of both ranges count, and pointers to one place have no width
+-- of a number the lengths of both ranges count, and pointers to one place have no width; any word is wider than each
 unfoldable pub width : Kind → ℕ
 width Unset = 2 ^ 67
+width Word = 2 ^ 66
 width (Num x) = span_length x.unsigned + signed_length x.signed
 width (Ctx o) = 0
 width (Stack o) = 0

@@ -1,5 +1,5 @@
 -- What is passed, edge by edge, and how it arrives. Only this crate's own contracts cite it.
-use Rattle.std.specs.Prelude.{◌≡◌, ◌<◌, ◌⊎◌, ℕ, Bool, true, false, if◌then◌else◌, List, [], length, get_or, Option, None, Some}
+use Rattle.std.specs.Prelude.{◌≡◌, ◌<◌, ◌⊎◌, ℕ, ◌&&◌, Bool, true, false, if◌then◌else◌, List, [], length, get_or, Option, None, Some}
 use Rattle.std.specs.Option.{option_map}
 use Rattle.bpf_isa.specs.declared.instr.Instr.{Instr}
 use Rattle.bpf_isa.specs.declared.instr.Instr.TheVariants as instr
@@ -8,6 +8,7 @@ use Rattle.bpf_shape.specs.Calls.{callee_of}
 use Rattle.ranges.specs.States.{Abstract, start}
 use Rattle.ranges.specs.After.{after_of}
 use Rattle.ranges.specs.Passing.{edge_of, entry_state}
+use Rattle.ranges.specs.Guards.{breaks_rule, loose_after}
 use Rattle.ranges.specs.Order.{IsState, StateUnder, Each, Holds, EdgeUnder}
 use Rattle.std.specs.List.{fold, flat_map, range_with_len}
 use Rattle.verifier.specs.Tables.{state_at, Covers, CoversAll, AreStates, arriving}
@@ -15,7 +16,7 @@ use Rattle.verifier.specs.Rounds.{receive, passed_by, round_of, IsSame}
 use Rattle.verifier.specs.Sought.{IsSought}
 use Rattle.verifier.specs.Visits.{Learns, HaveLearned, count_set}
 
--- the state on the edge to the next slot
+-- the state on the edge to the next slot, without guards
 unfoldable pub next_state : ℕ → Abstract → Instr → Option Abstract
 next_state sectors s (instr.Branch w c dst from distance) = edge_of s (instr.Branch w c dst from distance) false
 next_state sectors s (instr.Arithmetic w o dst from) = after_of sectors s (instr.Arithmetic w o dst from)
@@ -59,6 +60,16 @@ target_state s (instr.StoreImmediate size base distance n) = edge_of s (instr.St
 target_state s (instr.Store size base distance src) = edge_of s (instr.Store size base distance src) true
 target_state s (instr.LoadImmediate dst x) = edge_of s (instr.LoadImmediate dst x) true
 
+-- With guards a state is led along both edges where a rule without guards is broken.
+abbrev pub is_loose : Bool → Abstract → Instr → Bool
+is_loose guards s i = guards && breaks_rule s i
+
+unfoldable pub next_with : Bool → ℕ → Abstract → Instr → Option Abstract
+next_with guards sectors s i = if is_loose guards s i then Some (loose_after s i) else next_state sectors s i
+
+unfoldable pub target_with : Bool → Abstract → Instr → Option Abstract
+target_with guards s i = if is_loose guards s i then Some s else target_state s i
+
 -- what arrives along an edge, if there is one and something is passed
 abbrev pub along : List Bool → Option ℕ → Option Abstract → Option (ℕ × Abstract)
 along heads None m = None
@@ -83,17 +94,17 @@ pub record Arrived (old : List (Option Abstract)) (arrivals : List (ℕ × Abstr
   pub covered : more ≡ false → CoversAll old arrivals
 
 -- what a slot passes on that is marked; nothing, where it isn't
-abbrev pub passed_if : List (Option Instr) → ℕ → List (Option Abstract) → List Bool → ℕ → List (ℕ × Abstract)
-passed_if program sectors table marks slot = if get_or marks slot false then passed_by program sectors table slot else []
+abbrev pub passed_if : Bool → List (Option Instr) → ℕ → List (Option Abstract) → List Bool → ℕ → List (ℕ × Abstract)
+passed_if guards program sectors table marks slot = if get_or marks slot false then passed_by guards program sectors table slot else []
 
 -- what the marked slots pass on
-unfoldable pub passed_again : List (Option Instr) → ℕ → List (Option Abstract) → List Bool → List (ℕ × Abstract)
-passed_again program sectors table marks = flat_map (passed_if program sectors table marks) (range_with_len 0 (length program))
+unfoldable pub passed_again : Bool → List (Option Instr) → ℕ → List (Option Abstract) → List Bool → List (ℕ × Abstract)
+passed_again guards program sectors table marks = flat_map (passed_if guards program sectors table marks) (range_with_len 0 (length program))
 
 -- What a slot without a mark passes on is contained where it arrives, so it need not be passed on.
-pub record IsMarked (program : List (Option Instr)) (sectors : ℕ) (table : List (Option Abstract)) (marks : List Bool) : Type 0 where
+pub record IsMarked (guards : Bool) (program : List (Option Instr)) (sectors : ℕ) (table : List (Option Abstract)) (marks : List Bool) : Type 0 where
   pub long : length marks ≡ length program
-  pub rest : (slot : ℕ) → get_or marks slot false ≡ false → CoversAll table (passed_by program sectors table slot)
+  pub rest : (slot : ℕ) → get_or marks slot false ≡ false → CoversAll table (passed_by guards program sectors table slot)
 
 -- From one table with marks to another: a slot without a mark had none, and knows what it knew; one with a mark had
 -- one, or learned something. What was contained in what a slot knew still is.
@@ -107,17 +118,17 @@ pub record Kept (old : List (Option Abstract)) (before : List Bool) (new : List 
   pub grows : (slot : ℕ) (x : Abstract) → IsState x → Covers (state_at old slot) x → Covers (state_at new slot) x
 
 -- what a round makes of a table, with the marks for the next, and whether it changes it
-pub record MadeRound (program : List (Option Instr)) (sectors : ℕ) (old : List (Option Abstract)) (new : List (Option Abstract)) (after : List Bool) (changed : Bool) : Type 0 where
-  pub table : new ≡ round_of program sectors old
-  pub marks : IsMarked program sectors new after
-  pub changes : changed ≡ true → IsSame program sectors old → ⊥
-  pub same : changed ≡ false → IsSame program sectors old
+pub record MadeRound (guards : Bool) (program : List (Option Instr)) (sectors : ℕ) (old : List (Option Abstract)) (new : List (Option Abstract)) (after : List Bool) (changed : Bool) : Type 0 where
+  pub table : new ≡ round_of guards program sectors old
+  pub marks : IsMarked guards program sectors new after
+  pub changes : changed ≡ true → IsSame guards program sectors old → ⊥
+  pub same : changed ≡ false → IsSame guards program sectors old
   pub learned : HaveLearned old new (count_set after)
 
 -- From one table of the search to another.
-pub record StaysSought (program : List (Option Instr)) (sectors : ℕ) (old : List (Option Abstract)) (new : List (Option Abstract)) : Type 0 where
+pub record StaysSought (guards : Bool) (program : List (Option Instr)) (sectors : ℕ) (old : List (Option Abstract)) (new : List (Option Abstract)) : Type 0 where
   pub long : length new ≡ length old
-  pub sought : IsSought program sectors old → IsSought program sectors new
+  pub sought : IsSought guards program sectors old → IsSought guards program sectors new
 
 -- a state that another one tells something: it stays under each state under which it was, if that one is under it too
 pub record LearnsFrom (old : Abstract) (other : Abstract) (new : Abstract) : Type 0 where

@@ -1,10 +1,10 @@
 -- Tables to which a search comes that passes on what a slot knows, one slot after the other, in any order
 -- (docs/VERIFIER.md, Inference).
-use Rattle.std.specs.Prelude.{◌≡◌, ℕ, List, length, Option, Some}
+use Rattle.std.specs.Prelude.{◌≡◌, ℕ, Bool, List, length, Option, Some}
 use Rattle.bpf_isa.specs.declared.instr.Instr.{Instr}
 use Rattle.ranges.specs.States.{Abstract}
 use Rattle.ranges.specs.Order.{Each, EdgeUnder}
-use Rattle.verifier.specs.Tables.{state_at, AreStates, sent_from}
+use Rattle.verifier.specs.Tables.{state_at, AreStates, sent_with}
 use Rattle.verifier.specs.Rounds.{first_table}
 
 -- what is known of each slot in the first table is under what is known there in the second
@@ -22,7 +22,7 @@ pub record TakesIn (old : List (Option Abstract)) (arrivals : List (ℕ × Abstr
   pub below : (g : List (Option Abstract)) → AreStates g → Below old g → AllBelow g arrivals → Below new g
 
 -- the start in slot 0, and then one slot after the other passes on some of what it knows
-pub data IsSought (program : List (Option Instr)) (sectors : ℕ) : List (Option Abstract) → Type 0 where
-  at_first : IsSought program sectors (first_table (length program))
-  one_more : (old new : List (Option Abstract)) (slot : ℕ) → IsSought program sectors old → TakesIn old (sent_from program sectors old slot) new
-      → IsSought program sectors new
+pub data IsSought (guards : Bool) (program : List (Option Instr)) (sectors : ℕ) : List (Option Abstract) → Type 0 where
+  at_first : IsSought guards program sectors (first_table (length program))
+  one_more : (old new : List (Option Abstract)) (slot : ℕ) → IsSought guards program sectors old → TakesIn old (sent_with guards program sectors old slot) new
+      → IsSought guards program sectors new

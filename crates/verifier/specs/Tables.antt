@@ -1,14 +1,14 @@
--- What a table knows at a slot, which rule is broken there, and what the slot passes on
--- (docs/VERIFIER.md, Good table). A table is a list with a state, or none, for each slot.
-use Rattle.std.specs.Prelude.{ℕ, Bool, false, if◌then◌else◌, List, [], map, get_or, Option, None, Some}
+-- What a table knows at a slot, which rule is broken there, and what the slot passes on, by both kinds of acceptance
+-- (docs/VERIFIER.md, Good table and Guards). A table is a list with a state, or none, for each slot.
+use Rattle.std.specs.Prelude.{ℕ, Bool, true, false, if◌then◌else◌, List, [], map, get_or, Option, None, Some}
 use Rattle.base.specs.Check.{first_failing}
 use Rattle.base.specs.declared.causes.VerifierCause.{VerifierCause}
 use Rattle.bpf_isa.specs.declared.instr.Instr.{Instr}
 use Rattle.bpf_isa.specs.Slots.{at}
 use Rattle.bpf_shape.specs.Again.{heads}
 use Rattle.ranges.specs.States.{Abstract, round_state, StateContains}
-use Rattle.ranges.specs.Rules.{rules}
 use Rattle.ranges.specs.Passing.{passes}
+use Rattle.ranges.specs.Guards.{rules_with, passed_with_guards}
 use Rattle.ranges.specs.Order.{Each, Holds, IsState}
 
 -- what is known at a slot; None where it has no state
@@ -35,20 +35,32 @@ arriving heads slot s = if get_or heads slot false then round_state s else s
 abbrev pub arrival : List Bool → ℕ × Abstract → ℕ × Abstract
 arrival heads p = (p.0, arriving heads p.0 p.1)
 
+-- to which slots what state is passed, by both kinds of acceptance: with guards, or without
+abbrev pub passes_with : Bool → ℕ → Abstract → ℕ → Instr → List (ℕ × Abstract)
+passes_with true sectors s slot i = passed_with_guards sectors s slot i
+passes_with false sectors s slot i = passes sectors s slot i
+
 -- of an instruction with a state: the first rule that is broken
-abbrev pub broken_rule : Option Instr → Option Abstract → Option VerifierCause
-broken_rule (Some i) (Some s) = first_failing (rules s i)
-broken_rule _ _ = None
+abbrev pub broken_with : Bool → Option Instr → Option Abstract → Option VerifierCause
+broken_with guards (Some i) (Some s) = first_failing (rules_with guards s i)
+broken_with guards _ _ = None
 
 -- and what it passes on, with the slots to which it is passed
-abbrev pub passed_on : List Bool → ℕ → ℕ → Option Instr → Option Abstract → List (ℕ × Abstract)
-passed_on heads sectors slot (Some i) (Some s) = map (arrival heads) (passes sectors s slot i)
-passed_on heads sectors slot _ _ = []
+abbrev pub passed_on_with : Bool → List Bool → ℕ → ℕ → Option Instr → Option Abstract → List (ℕ × Abstract)
+passed_on_with guards heads sectors slot (Some i) (Some s) = map (arrival heads) (passes_with guards sectors s slot i)
+passed_on_with guards heads sectors slot _ _ = []
 
 -- The first rule that is broken at a slot. None is broken where there is no state, or in a second half.
-unfoldable pub rule_at : List (Option Instr) → List (Option Abstract) → ℕ → Option VerifierCause
-rule_at program table slot = broken_rule (at program slot) (state_at table slot)
+unfoldable pub rule_with : Bool → List (Option Instr) → List (Option Abstract) → ℕ → Option VerifierCause
+rule_with guards program table slot = broken_with guards (at program slot) (state_at table slot)
 
 -- what a slot passes on to which slots, as it arrives there, on a device of so many sectors
-unfoldable pub sent_from : List (Option Instr) → ℕ → List (Option Abstract) → ℕ → List (ℕ × Abstract)
-sent_from program sectors table slot = passed_on (heads program) sectors slot (at program slot) (state_at table slot)
+unfoldable pub sent_with : Bool → List (Option Instr) → ℕ → List (Option Abstract) → ℕ → List (ℕ × Abstract)
+sent_with guards program sectors table slot = passed_on_with guards (heads program) sectors slot (at program slot) (state_at table slot)
+
+-- the same without guards
+abbrev pub rule_at : List (Option Instr) → List (Option Abstract) → ℕ → Option VerifierCause
+rule_at program table slot = rule_with false program table slot
+
+abbrev pub sent_from : List (Option Instr) → ℕ → List (Option Abstract) → ℕ → List (ℕ × Abstract)
+sent_from program sectors table slot = sent_with false program sectors table slot

@@ -28,18 +28,18 @@ pub record HaveLearned (old : List (Option Abstract)) (new : List (Option Abstra
   pub count : n ≡ count_set marks
 
 -- so many visits come of so many rounds
-abbrev pub Visits : List (Option Instr) → ℕ → ℕ → ℕ → Type 0
-Visits program sectors zero n = n ≡ 0
-Visits program sectors (suc turns) n =
-    (m : ℕ) × (l : ℕ) × Visits program sectors turns m × HaveLearned (rounds program sectors turns) (rounds program sectors (suc turns)) l × (n ≡ m + l)
+abbrev pub Visits : Bool → List (Option Instr) → ℕ → ℕ → ℕ → Type 0
+Visits guards program sectors zero n = n ≡ 0
+Visits guards program sectors (suc turns) n =
+    (m : ℕ) × (l : ℕ) × Visits guards program sectors turns m × HaveLearned (rounds guards program sectors turns) (rounds guards program sectors (suc turns)) l × (n ≡ m + l)
 
 -- how many visits are made to find out how a program is refused
 abbrev pub most_visits : ℕ
 most_visits = 500000
 
 -- the rounds need more
-pub record NeedMore (program : List (Option Instr)) (sectors : ℕ) (most : ℕ) : Type 0 where
+pub record NeedMore (guards : Bool) (program : List (Option Instr)) (sectors : ℕ) (most : ℕ) : Type 0 where
   pub turns : ℕ
   pub visits : ℕ
-  pub made : Visits program sectors turns visits
+  pub made : Visits guards program sectors turns visits
   pub more : most < visits

@@ -1,13 +1,13 @@
 //! Whether a table is good.
 
-ghost use Rattle.std.specs.Prelude.{◌≡◌, ◌<◌, ◌↔◌, ℕ, IsTrue, OnOk, IfErr, IfSome, IfNone, Some};
+ghost use Rattle.std.specs.Prelude.{◌≡◌, ◌<◌, ◌↔◌, ℕ, IsTrue, false, OnOk, IfErr, IfSome, IfNone, Some};
 ghost use Rattle.std.specs.Option.{option_to_list};
 ghost use Rattle.bpf_shape.specs.Shape.{IsShapeOf};
 ghost use Rattle.ranges.specs.SeenStates.{state_of};
 ghost use Rattle.ranges.specs.States.{start};
-ghost use Rattle.verifier.specs.Passing.{along, next_state, target_state};
-ghost use Rattle.verifier.specs.Tables.{CoversAll, Covers, state_at, rule_at, sent_from, passed_on};
-ghost use Rattle.verifier.specs.Good.{IsGood, IsGoodAt};
+ghost use Rattle.verifier.specs.Passing.{along, next_with, target_with};
+ghost use Rattle.verifier.specs.Tables.{CoversAll, Covers, state_at, rule_with, sent_with, passed_on_with};
+ghost use Rattle.verifier.specs.Good.{IsGood, IsGoodWith, IsGoodAt};
 ghost use Rattle.verifier.specs.Breaches.{BreaksAt, FirstSlot, FirstBreach, FirstRule, KeepsRules};
 
 use crate::passing::{arrive_next, arrive_target, rule_at, target_of};
@@ -29,12 +29,12 @@ fn covers_next(
     state: &State,
     room: &mut State,
 ) -> bool
-    ensures { IsTrue result ↔ CoversAll table.now (option_to_list (along scene.now.shape.now.heads edge (next_state scene.now.sectors (state_of state.now) instr.now))) }
+    ensures { IsTrue result ↔ CoversAll table.now (option_to_list (along scene.now.shape.now.heads edge (next_with scene.now.guards scene.now.sectors (state_of state.now) instr.now))) }
 {
     match edge {
         Some(slot) => {
             *room = *state;
-            !arrive_next(scene.shape, slot, scene.sectors, instr, room) || table.covers(slot, room)
+            !arrive_next(scene, slot, instr, room) || table.covers(slot, room)
         }
         None => true,
     }
@@ -42,19 +42,19 @@ fn covers_next(
 
 /// The same of the other edge.
 fn covers_target(
-    shape: &Shape,
+    scene: &Scene,
     table: &Table,
     edge: Option<usize>,
     instr: &Instr,
     state: &State,
     room: &mut State,
 ) -> bool
-    ensures { IsTrue result ↔ CoversAll table.now (option_to_list (along shape.now.heads edge (target_state (state_of state.now) instr.now))) }
+    ensures { IsTrue result ↔ CoversAll table.now (option_to_list (along scene.now.shape.now.heads edge (target_with scene.now.guards (state_of state.now) instr.now))) }
 {
     match edge {
         Some(slot) => {
             *room = *state;
-            !arrive_target(shape, slot, instr, room) || table.covers(slot, room)
+            !arrive_target(scene, slot, instr, room) || table.covers(slot, room)
         }
         None => true,
     }
@@ -70,24 +70,17 @@ fn covers_edges(
     room: &mut State,
 ) -> bool
     requires { slot < 4096 }
-    ensures { IsTrue result ↔ CoversAll table.now (passed_on scene.now.shape.now.heads scene.now.sectors slot (Some instr.now) (Some (state_of state.now))) }
+    ensures { IsTrue result ↔ CoversAll table.now (passed_on_with scene.now.guards scene.now.shape.now.heads scene.now.sectors slot (Some instr.now) (Some (state_of state.now))) }
 {
     let next = edges_of(slot, instr).next;
     covers_next(scene, table, next, instr, state, room)
-        && covers_target(
-            scene.shape,
-            table,
-            target_of(slot, instr),
-            instr,
-            state,
-            room,
-        )
+        && covers_target(scene, table, target_of(slot, instr), instr, state, room)
 }
 
 /// Whether all that a slot passes on is contained in what a table knows where it arrives.
-#[tactic(auto, unfolding(crate::specs::Tables::sent_from))]
+#[tactic(auto, unfolding(crate::specs::Tables::sent_with))]
 fn covers_sent(scene: &Scene, table: &Table, slot: usize, room: &mut State) -> bool
-    ensures { IsTrue result ↔ CoversAll table.now (sent_from scene.now.program.now scene.now.sectors table.now slot) }
+    ensures { IsTrue result ↔ CoversAll table.now (sent_with scene.now.guards scene.now.program.now scene.now.sectors table.now slot) }
 {
     match (scene.program.at(slot), table.state(slot)) {
         (Some(instr), Some(state)) => covers_edges(scene, table, slot, &instr, state, room),
@@ -97,10 +90,10 @@ fn covers_sent(scene: &Scene, table: &Table, slot: usize, room: &mut State) -> b
 
 /// What a slot breaks first: a rule, or an edge.
 fn breach_at(scene: &Scene, table: &Table, slot: usize, room: &mut State) -> Option<VerifierCause>
-    ensures good { IfNone result (IsGoodAt scene.now.program.now scene.now.sectors table.now slot) }
-    ensures breach { IfSome result (λ cause. BreaksAt scene.now.program.now scene.now.sectors table.now slot cause) }
+    ensures good { IfNone result (IsGoodAt scene.now.guards scene.now.program.now scene.now.sectors table.now slot) }
+    ensures breach { IfSome result (λ cause. BreaksAt scene.now.guards scene.now.program.now scene.now.sectors table.now slot cause) }
 {
-    if let Some(cause) = rule_at(scene.program, table, slot) {
+    if let Some(cause) = rule_at(scene, table, slot) {
         return Some(cause);
     }
     if covers_sent(scene, table, slot, room) {
@@ -112,8 +105,8 @@ fn breach_at(scene: &Scene, table: &Table, slot: usize, room: &mut State) -> Opt
 
 /// Tests all slots, in rising order.
 fn check_slots(scene: &Scene, table: &Table, room: &mut State) -> Result<(), Fault>
-    ensures good { OnOk result ((slot : ℕ) → IsGoodAt scene.now.program.now scene.now.sectors table.now slot) }
-    ensures breach { IfErr result (λ f. FirstSlot scene.now.program.now scene.now.sectors table.now f.code f.slot) }
+    ensures good { OnOk result ((slot : ℕ) → IsGoodAt scene.now.guards scene.now.program.now scene.now.sectors table.now slot) }
+    ensures breach { IfErr result (λ f. FirstSlot scene.now.guards scene.now.program.now scene.now.sectors table.now f.code f.slot) }
 {
     for slot in 0..scene.program.slots() {
         if let Some(cause) = breach_at(scene, table, slot, room) {
@@ -125,8 +118,8 @@ fn check_slots(scene: &Scene, table: &Table, room: &mut State) -> Result<(), Fau
 
 /// Whether a table is good; else its first breach.
 pub(crate) fn check_good(scene: &Scene, table: &Table) -> Result<(), Fault>
-    ensures good { OnOk result (IsGood scene.now.program.now scene.now.sectors table.now) }
-    ensures breach { IfErr result (λ f. FirstBreach scene.now.program.now scene.now.sectors table.now f.code f.slot) }
+    ensures good { OnOk result (IsGoodWith scene.now.guards scene.now.program.now scene.now.sectors table.now) }
+    ensures breach { IfErr result (λ f. FirstBreach scene.now.guards scene.now.program.now scene.now.sectors table.now f.code f.slot) }
 {
     if table.slots() != scene.program.slots() {
         return Err(fault_at(VerifierCause::Unsettled, 0));
@@ -138,8 +131,29 @@ pub(crate) fn check_good(scene: &Scene, table: &Table) -> Result<(), Fault>
     check_slots(scene, table, &mut room)
 }
 
-/// Whether a table is good for a program and its shape, on a device of so many sectors; else the
+/// Whether a table is good for a program and its shape, on a device of so many sectors, with guards or without; else the
 /// first breach, in the order of docs/VERIFIER.md, Good table.
+pub fn check_table_with(
+    program: &Program,
+    shape: &Shape,
+    sectors: u32,
+    table: &Table,
+    guards: bool,
+) -> Result<(), Fault>
+    requires { IsShapeOf program.now shape.now }
+    ensures good { OnOk result (IsGoodWith guards program.now sectors table.now) }
+    ensures breach { IfErr result (λ f. FirstBreach guards program.now sectors table.now f.code f.slot) }
+{
+    let scene = Scene {
+        program,
+        shape,
+        sectors,
+        guards,
+    };
+    check_good(&scene, table)
+}
+
+/// The same without guards.
 pub fn check_table(
     program: &Program,
     shape: &Shape,
@@ -148,23 +162,18 @@ pub fn check_table(
 ) -> Result<(), Fault>
     requires { IsShapeOf program.now shape.now }
     ensures good { OnOk result (IsGood program.now sectors table.now) }
-    ensures breach { IfErr result (λ f. FirstBreach program.now sectors table.now f.code f.slot) }
+    ensures breach { IfErr result (λ f. FirstBreach false program.now sectors table.now f.code f.slot) }
 {
-    let scene = Scene {
-        program,
-        shape,
-        sectors,
-    };
-    check_good(&scene, table)
+    check_table_with(program, shape, sectors, table, false)
 }
 
 /// Whether each slot of a table keeps its rules, edges aside; else the lowest that doesn't.
-pub(crate) fn check_rules(program: &Program, table: &Table) -> Result<(), Fault>
-    ensures kept { OnOk result (KeepsRules program.now table.now) }
-    ensures broken { IfErr result (λ f. FirstRule program.now table.now f.code f.slot) }
+pub(crate) fn check_rules(scene: &Scene, table: &Table) -> Result<(), Fault>
+    ensures kept { OnOk result (KeepsRules scene.now.guards scene.now.program.now table.now) }
+    ensures broken { IfErr result (λ f. FirstRule scene.now.guards scene.now.program.now table.now f.code f.slot) }
 {
-    for slot in 0..program.slots() {
-        if let Some(cause) = rule_at(program, table, slot) {
+    for slot in 0..scene.program.slots() {
+        if let Some(cause) = rule_at(scene, table, slot) {
             return Err(fault_at(cause, slot));
         }
     }

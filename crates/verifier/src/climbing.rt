@@ -20,9 +20,9 @@ ghost use Rattle.bpf_isa.specs.Slots.{at};
 ghost use Rattle.ranges.specs.Moving.{reach};
 ghost use Rattle.ranges.specs.SeenStates.{state_of};
 ghost use Rattle.verifier.specs.Sought.{TakesIn, IsSought};
-ghost use Rattle.verifier.specs.Tables.{state_at, rule_at};
+ghost use Rattle.verifier.specs.Tables.{state_at, rule_with};
 ghost use Rattle.verifier.specs.Ways.{Goes, IsWay, LearnsAlong, LeavesAt};
-ghost use Rattle.verifier.specs.Passing.{Arrive, StaysSought, along, next_state, target_state};
+ghost use Rattle.verifier.specs.Passing.{Arrive, StaysSought, along, next_with, target_with};
 
 use crate::agenda::Agenda;
 use crate::check::fault_at;
@@ -71,11 +71,11 @@ fn lead_next(
     instr: &Instr,
     state: &mut State,
 )
-    requires { Arrive (length table.old) (option_to_list (along scene.now.shape.now.heads edge (next_state scene.now.sectors (state_of state.old) instr.now))) }
-    ensures { TakesIn table.old (option_to_list (along scene.now.shape.now.heads edge (next_state scene.now.sectors (state_of state.old) instr.now))) table.new }
+    requires { Arrive (length table.old) (option_to_list (along scene.now.shape.now.heads edge (next_with scene.now.guards scene.now.sectors (state_of state.old) instr.now))) }
+    ensures { TakesIn table.old (option_to_list (along scene.now.shape.now.heads edge (next_with scene.now.guards scene.now.sectors (state_of state.old) instr.now))) table.new }
 {
     if let Some(slot) = edge {
-        if arrive_next(scene.shape, slot, scene.sectors, instr, state) {
+        if arrive_next(scene, slot, instr, state) {
             let told = agenda.told(Edge::Next, slot, changed_by(instr));
             arrive(table, agenda, slot, state, told);
         }
@@ -91,11 +91,11 @@ fn lead_target(
     instr: &Instr,
     state: &mut State,
 )
-    requires { Arrive (length table.old) (option_to_list (along scene.now.shape.now.heads edge (target_state (state_of state.old) instr.now))) }
-    ensures { TakesIn table.old (option_to_list (along scene.now.shape.now.heads edge (target_state (state_of state.old) instr.now))) table.new }
+    requires { Arrive (length table.old) (option_to_list (along scene.now.shape.now.heads edge (target_with scene.now.guards (state_of state.old) instr.now))) }
+    ensures { TakesIn table.old (option_to_list (along scene.now.shape.now.heads edge (target_with scene.now.guards (state_of state.old) instr.now))) table.new }
 {
     if let Some(slot) = edge {
-        if arrive_target(scene.shape, slot, instr, state) {
+        if arrive_target(scene, slot, instr, state) {
             let told = agenda.told(Edge::Target, slot, changed_by(instr));
             arrive(table, agenda, slot, state, told);
         }
@@ -140,12 +140,12 @@ fn way_to(table: &Table, from: usize, to: usize, effect: Effect, is_head: bool) 
 /// What a slot's state becomes on the edge to the next slot. Nothing where it has none, and much where it isn't to be said.
 #[inline(always)]
 fn effect_next(scene: &Scene, table: &Table, slot: usize, is_asked: bool, instr: &Instr) -> Effect
-    ensures { LeavesAt (state_at table.now slot) result (λ s. next_state scene.now.sectors s instr.now) }
+    ensures { LeavesAt (state_at table.now slot) result (λ s. next_with scene.now.guards scene.now.sectors s instr.now) }
 {
     match table.state(slot) {
         Some(state) => {
             if is_asked {
-                next_effect(instr, state, scene.sectors)
+                next_effect(scene, instr, state)
             } else {
                 Effect::Much
             }
@@ -156,13 +156,13 @@ fn effect_next(scene: &Scene, table: &Table, slot: usize, is_asked: bool, instr:
 
 /// The same on the other edge.
 #[inline(always)]
-fn effect_target(table: &Table, slot: usize, is_asked: bool, instr: &Instr) -> Effect
-    ensures { LeavesAt (state_at table.now slot) result (λ s. target_state s instr.now) }
+fn effect_target(scene: &Scene, table: &Table, slot: usize, is_asked: bool, instr: &Instr) -> Effect
+    ensures { LeavesAt (state_at table.now slot) result (λ s. target_with scene.now.guards s instr.now) }
 {
     match table.state(slot) {
         Some(state) => {
             if is_asked {
-                target_effect(instr, state)
+                target_effect(scene, instr, state)
             } else {
                 Effect::Much
             }
@@ -184,7 +184,7 @@ fn pass_next(
     requires long { length table.old ≡ length scene.now.program.now }
     requires small { slot < 4096 }
     requires instr { at scene.now.program.now slot ≡ Some instr.now }
-    ensures { StaysSought scene.now.program.now scene.now.sectors table.old table.new }
+    ensures { StaysSought scene.now.guards scene.now.program.now scene.now.sectors table.old table.new }
 {
     let _states = table.slots();
     let _slots = scene.program.slots();
@@ -214,7 +214,7 @@ fn pass_target(
     requires long { length table.old ≡ length scene.now.program.now }
     requires small { slot < 4096 }
     requires instr { at scene.now.program.now slot ≡ Some instr.now }
-    ensures { StaysSought scene.now.program.now scene.now.sectors table.old table.new }
+    ensures { StaysSought scene.now.guards scene.now.program.now scene.now.sectors table.old table.new }
 {
     let _states = table.slots();
     let _slots = scene.program.slots();
@@ -222,7 +222,7 @@ fn pass_target(
     let Some(to) = edge else {
         return;
     };
-    let effect = effect_target(table, slot, agenda.has_told(Edge::Target), instr);
+    let effect = effect_target(scene, table, slot, agenda.has_told(Edge::Target), instr);
     if let Some(way) = way_to(table, slot, to, effect, scene.shape.is_head(to)) {
         let told = agenda.told(Edge::Target, to, parts_of(&way.change));
         arrive_along(table, agenda, &way, told);
@@ -241,8 +241,8 @@ fn make_step(
     room: &mut State,
 ) -> Result<bool, Fault>
     requires long { length table.old ≡ length scene.now.program.now }
-    ensures sought { StaysSought scene.now.program.now scene.now.sectors table.old table.new }
-    ensures broken { IfErr result (λ f. rule_at scene.now.program.now table.new f.slot ≡ Some f.code) }
+    ensures sought { StaysSought scene.now.guards scene.now.program.now scene.now.sectors table.old table.new }
+    ensures broken { IfErr result (λ f. rule_with scene.now.guards scene.now.program.now table.new f.slot ≡ Some f.code) }
 {
     let Some(slot) = agenda.take(scene) else {
         return Ok(false);
@@ -251,7 +251,7 @@ fn make_step(
         return Ok(true);
     };
     let is_seen = agenda.is_seen_by(&instr);
-    if is_seen && let Some(cause) = rule_at(scene.program, table, slot) {
+    if is_seen && let Some(cause) = rule_at(scene, table, slot) {
         return Err(fault_at(cause, slot));
     }
     pass_next(scene, table, agenda, slot, &instr, room);
@@ -266,8 +266,8 @@ fn make_step(
 /// rule that is broken there, if the search met one.
 #[tactic(auto, using(crate::proofs::Ascending::more_climbed))]
 pub(crate) fn climb(alloc: Global, scene: &Scene) -> Result<(Table, Option<Fault>), AllocError>
-    ensures sought { IfOk result (λ found. IsSought scene.now.program.now scene.now.sectors found.0) }
-    ensures met { IfOk result (λ found. IfSome found.1 (λ f. rule_at scene.now.program.now found.0 f.slot ≡ Some f.code)) }
+    ensures sought { IfOk result (λ found. IsSought scene.now.guards scene.now.program.now scene.now.sectors found.0) }
+    ensures met { IfOk result (λ found. IfSome found.1 (λ f. rule_with scene.now.guards scene.now.program.now found.0 f.slot ≡ Some f.code)) }
     ensures program { OnOk result (IsProgram scene.now.program.now) }
 {
     let mut table = Table::first(alloc, scene.program.slots())?;

@@ -4,7 +4,7 @@ ghost use Rattle.std.specs.Prelude.{◌≡◌, OnOk, IfOk, IfSome, Some};
 ghost use Rattle.bpf_isa.specs.Program.{IsProgram};
 ghost use Rattle.verifier.specs.Inferred.{IsFound};
 ghost use Rattle.verifier.specs.Sought.{IsSought};
-ghost use Rattle.verifier.specs.Tables.{rule_at};
+ghost use Rattle.verifier.specs.Tables.{rule_with};
 
 use crate::check::check_good;
 use crate::climbing::climb;
@@ -24,9 +24,9 @@ fn infer_refused(
     table: Table,
     met: Option<Fault>,
 ) -> Result<(Table, Option<Fault>), AllocError>
-    requires sought { IsSought scene.now.program.now scene.now.sectors table }
-    requires met { IfSome met (λ f. rule_at scene.now.program.now table f.slot ≡ Some f.code) }
-    ensures found { IfOk result (λ it. IsFound scene.now.program.now scene.now.sectors it.0 it.1) }
+    requires sought { IsSought scene.now.guards scene.now.program.now scene.now.sectors table }
+    requires met { IfSome met (λ f. rule_with scene.now.guards scene.now.program.now table f.slot ≡ Some f.code) }
+    ensures found { IfOk result (λ it. IsFound scene.now.guards scene.now.program.now scene.now.sectors it.0 it.1) }
     ensures program { OnOk result (IsProgram scene.now.program.now) }
 {
     let Some(fault) = met else {
@@ -43,7 +43,7 @@ fn infer_refused(
 /// the least, and the rounds would end there too. Where no table is good only they tell what is known. Where they need
 /// too many visits, it is the table at which the search ends, with the breach that it met.
 pub(crate) fn infer(alloc: Global, scene: &Scene) -> Result<(Table, Option<Fault>), AllocError>
-    ensures found { IfOk result (λ it. IsFound scene.now.program.now scene.now.sectors it.0 it.1) }
+    ensures found { IfOk result (λ it. IsFound scene.now.guards scene.now.program.now scene.now.sectors it.0 it.1) }
     ensures program { OnOk result (IsProgram scene.now.program.now) }
 {
     let (table, met) = climb(alloc, scene)?;

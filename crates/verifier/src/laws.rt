@@ -1,5 +1,6 @@
 //! Laws of tables. The functions do nothing; each contract is a theorem.
 
+ghost use Rattle.verifier.specs.Guards.{GoodNeedsNoGuards, AcceptedHasNoGuards};
 ghost use Rattle.verifier.specs.Laws.{GoodHasNoBreach, OneBreach, SettledIsGood, AcceptanceIsExact, RoundsEnd, UnsignedStaysGood, OneVerdict};
 
 use bpf_shape::laws::{no_fault_in_shaped, one_fault};
@@ -24,8 +25,8 @@ pub fn unsigned_stays_good()
     ensures { UnsignedStaysGood }
 {}
 
-/// Where a good table exists there is a least one, which is the only one; and no program is refused for a table that
-/// isn't settled.
+/// Where a good table exists there is a least one, which is the only one; no program is refused for a table that isn't
+/// settled; and the least table without guards is the least one with them.
 pub fn acceptance_is_exact()
     ensures { AcceptanceIsExact }
 {}
@@ -35,10 +36,20 @@ pub fn rounds_end()
     ensures { RoundsEnd }
 {}
 
-/// A program has one verdict at most: one refusal, or one budget and one table.
+/// A program has one verdict at most: one budget and one table, with guards and without, or by each kind one refusal.
 pub fn one_verdict()
     ensures { OneVerdict }
 {
     one_fault();
     no_fault_in_shaped();
 }
+
+/// A table that is good without guards is good with them, and guards no slot.
+pub fn good_needs_no_guards()
+    ensures { GoodNeedsNoGuards }
+{}
+
+/// A program that is accepted without guards is accepted with them, by the same table, in which no slot is guarded.
+pub fn accepted_has_no_guards()
+    ensures { AcceptedHasNoGuards }
+{}

@@ -1,5 +1,6 @@
 //! The verifier: which programs are accepted for devices of some size, with which budget, and why the
-//! others are refused (docs/VERIFIER.md, Good table to Refusals).
+//! others are refused (docs/VERIFIER.md, Good table to Refusals). It knows two kinds of acceptance, without guards and with
+//! them. With guards the rules are weaker, and a run tests the places of the accesses that aren't proved.
 //!
 //! A `Table` says what is known at each slot of a program: an abstract state, or none. A table is good
 //! where the start is known at slot 0, no rule is broken at any slot, and what each slot passes on is
@@ -12,9 +13,12 @@
 //! |---|---|
 //! | `verify(alloc, &program, sectors)` | the program with its budget and its table, or why it is refused |
 //! | `verify_known(alloc, &program, sectors)` | the same, and beside a refusal what is known at its slot |
+//! | `verify_with(alloc, &program, sectors, guards)` | the same, with guards or without |
+//! | `guarded_slots(alloc, &verified)`, `is_guarded_at(&verified, slot)` | at which slots a run tests the place of an access |
 //! | `unreached_of(&verified)` | how many instructions no run reaches, and the first |
 //! | `check_table(&program, &shape, sectors, &table)` | that a table is good, or its first breach; takes no memory |
-//! | `Verified`: `program`, `sectors`, `budget`, `table` | what was accepted, for which devices, how many steps a run takes at most, and what is known |
+//! | `check_table_with(&program, &shape, sectors, &table, guards)` | the same, with guards or without |
+//! | `Verified`: `has_guards`, `program`, `sectors`, `budget`, `table` | what was accepted, how, for which devices, how many steps a run takes at most, and what is known |
 //! | `raise(alloc, &table)` | what a table of the rules without signed bounds and spilled numbers, an `UnsignedTable`, is under those with them |
 //! | `Table`: `of`, `into_states`, `states`, `slots`, `state` | a table by its states |
 //!
@@ -30,16 +34,19 @@
 //! A contract sees a program as the list of its slots and a table as the list of its states. The
 //! definitions are in `specs/`:
 //!
-//! - `Tables`: `rule_at`, the first rule that is broken at a slot, and `sent_from`, what a slot passes
-//!   on to which slots as it arrives there, rounded at heads. All else is said by these two.
-//! - `Good`: `IsGood`. That the states are within their bounds is a part of it, and holds of each `Table`.
-//!   `Breaches`: `FirstBreach` of a table, in the order of the document.
+//! - `Tables`: `rule_with`, the first rule that is broken at a slot, and `sent_with`, what a slot passes
+//!   on to which slots as it arrives there, rounded at heads. Both take which kind of acceptance is meant, and so does what
+//!   follows. All else is said by these two. `rule_at` and `sent_from` are these without guards.
+//! - `Good`: `IsGoodWith`, and `IsGood` without guards. That the states are within their bounds is a part of it, and holds
+//!   of each `Table`. `Breaches`: `FirstBreach` of a table, in the order of the document.
 //! - `Least`: `IsLeast`, a good table that is contained in each good table.
 //! - `Rounds`: `round_of`, the table of so many `rounds`, and `IsSettled`: the one of them that a round doesn't
 //!   change. `Measure`: the sum of a table, by which the rounds end. `Visits`: how often slots are visited in them.
 //! - `Sought`: `IsSought`, a table to which a search comes that passes on what one slot after the other knows.
-//! - `Verdicts`: `IsVerified`, what holds of each `Verified`, and `Refused`, by cases. Acceptance speaks of no rounds:
-//!   a program is accepted where it has the right shape and a good table exists.
+//! - `Verdicts`: `IsVerified`, what holds of each `Verified`, and `RefusedWith`, by cases; `IsAccepted` and `Refused`
+//!   without guards. Acceptance speaks of no rounds: a program is accepted where it has the right shape and a good table
+//!   exists.
+//! - `Guards`: `guarded_slots` of a table.
 //!
 //! The contracts, in words:
 //!
@@ -53,6 +60,8 @@
 //!   up to so many visits, and none is refused for a table that isn't settled (`laws`).
 //! - The rounds end: each that changes the table raises its sum, which stays below 2^96 (`laws`). So there is no
 //!   limit of rounds.
+//! - A program that is accepted without guards is accepted with them, with the same budget and the same table, and none of
+//!   its slots is guarded (`laws`).
 //! - `verify_known` tells beside a broken rule what is known at its slot: by the settled table, or where the rounds need
 //!   too many visits, by the table at which the search met the broken rule.
 //!
@@ -62,7 +71,8 @@
 //! # How it is written
 //!
 //! - `table`: `Table`. `passing`: the rules and edges of one slot. `check`: `check_table`.
-//! - `scene`: a program of right shape, which the search, the test of a table and the rounds are given.
+//! - `scene`: a program of right shape, and the kind of acceptance, which the search, the test of a table and the rounds are
+//!   given. `passing` alone asks for the kind.
 //! - `climbing`: the search. Where little changes along an edge it passes on the changed parts alone (`way`); else it
 //!   leads a copy along the edge in place, in one room for all slots. Of it only is proved that one slot after the
 //!   other passed on what it knew, so that each good table contains what it ends with; that this one is good is tested
@@ -74,25 +84,28 @@
 //!   gets a mark, and only the marked slots pass on in the next round: what the others pass on is contained
 //!   where it arrives, so it would change nothing. The table after each round is still exactly that of the
 //!   definition, in which all slots pass on.
-//! - `verified`: `Verified`, `verify` and `verify_known`. `unreached`: what no run reaches. `laws`: the laws, contracts
-//!   of functions that do nothing.
+//! - `verified`: `Verified`, `verify`, `verify_known` and `verify_with`. `unreached`: what no run reaches. `guarded`: the
+//!   guarded slots. `laws`: the laws, contracts of functions that do nothing.
 //!
 //! # Example
 //!
 //! ```
-//! use verifier::verify;
+//! use verifier::{verify, verify_with};
 //!
 //! // `program` is mov64 r0, 0; exit
 //! let verified = verify(alloc, &program, 4)?;
 //! let budget = verified.budget();                 // 2
 //! // `other` is mov64 r1, 0; call 1; ldxb r0, [r0+0]; exit, without a test against 0
 //! let fault = verify(alloc, &other, 4).err();     // OutsideRegion, number 52, at slot 2
+//! // with guards it is accepted, and a run tests its load at slot 2
+//! let guarded = verify_with(alloc, &other, 4, true).ok();
 //! ```
 #![tactic(auto)]
 
 mod agenda;
 mod check;
 mod climbing;
+mod guarded;
 mod inferring;
 pub mod laws;
 mod learning;
@@ -111,9 +124,10 @@ mod verified;
 mod way;
 mod worklist;
 
-pub use check::check_table;
+pub use check::{check_table, check_table_with};
+pub use guarded::{guarded_slots, is_guarded_at};
 pub use raising::{UnsignedTable, raise};
 pub use table::Table;
 pub use unreached::{Unreached, unreached_of};
 pub use unsigned_state::{Pointer, UnsignedGroup, UnsignedState, UnsignedValue};
-pub use verified::{Unaccepted, Verified, verify, verify_known};
+pub use verified::{Unaccepted, Verified, verify, verify_known, verify_with};

@@ -5,7 +5,7 @@
 
 ghost use Rattle.std.specs.Prelude.{◌≡◌, ◌<◌, ◌≤◌, ◌++◌, [], ◌∷◌, OnOk, IfOk, IfSome, IfNone, true, false, get_or, length, map, replicate};
 ghost use Rattle.bpf_isa.specs.Program.{IsProgram};
-ghost use Rattle.verifier.specs.Tables.{sent_from};
+ghost use Rattle.verifier.specs.Tables.{sent_with};
 ghost use Rattle.verifier.specs.Seen.{arrival_of};
 ghost use Rattle.verifier.specs.Rounds.{passed_by, IsSettled};
 ghost use Rattle.verifier.specs.Visits.{one_if, count_set, NeedMore};
@@ -32,9 +32,9 @@ fn push_passed(
     table: &Table,
     slot: usize,
 ) -> Result<(), AllocError>
-    ensures { OnOk result (map arrival_of waiting.new.items ≡ map arrival_of waiting.old.items ++ passed_by scene.now.program.now scene.now.sectors table.now slot) }
+    ensures { OnOk result (map arrival_of waiting.new.items ≡ map arrival_of waiting.old.items ++ passed_by scene.now.guards scene.now.program.now scene.now.sectors table.now slot) }
 {
-    if rule_at(scene.program, table, slot).is_some() {
+    if rule_at(scene, table, slot).is_some() {
         return Ok(());
     }
     push_sent(waiting, scene, table, slot)
@@ -48,7 +48,7 @@ fn push_marked(
     marks: &[bool],
     slot: usize,
 ) -> Result<(), AllocError>
-    ensures { OnOk result (map arrival_of waiting.new.items ≡ map arrival_of waiting.old.items ++ passed_if scene.now.program.now scene.now.sectors table.now marks.now slot) }
+    ensures { OnOk result (map arrival_of waiting.new.items ≡ map arrival_of waiting.old.items ++ passed_if scene.now.guards scene.now.program.now scene.now.sectors table.now marks.now slot) }
 {
     if !is_marked(marks, slot) {
         return Ok(());
@@ -64,7 +64,7 @@ fn passed_states(
     table: &Table,
     marks: &[bool],
 ) -> Result<Vec<Arrival>, AllocError>
-    ensures passed { IfOk result (λ waiting. map arrival_of waiting.items ≡ passed_again scene.now.program.now scene.now.sectors table.now marks.now) }
+    ensures passed { IfOk result (λ waiting. map arrival_of waiting.items ≡ passed_again scene.now.guards scene.now.program.now scene.now.sectors table.now marks.now) }
     ensures program { OnOk result (IsProgram scene.now.program.now) }
 {
     let mut waiting = Vec::new(alloc);
@@ -134,8 +134,8 @@ fn make_round(
     marks: &mut Vec<bool>,
 ) -> Result<bool, AllocError>
     requires round { IsRound (length scene.now.program.now) table.old }
-    requires marks { IsMarked scene.now.program.now scene.now.sectors table.old marks.old.items }
-    ensures { IfOk result (λ changed. MadeRound scene.now.program.now scene.now.sectors table.old table.new marks.new.items changed) }
+    requires marks { IsMarked scene.now.guards scene.now.program.now scene.now.sectors table.old marks.old.items }
+    ensures { IfOk result (λ changed. MadeRound scene.now.guards scene.now.program.now scene.now.sectors table.old table.new marks.new.items changed) }
 {
     let waiting = passed_states(alloc, scene, table, marks.as_slice())?;
     clear(marks);
@@ -168,8 +168,8 @@ pub(crate) fn make_rounds_within(
     scene: &Scene,
     most: u64,
 ) -> Result<Option<Table>, AllocError>
-    ensures settled { IfOk result (λ found. IfSome found (IsSettled scene.now.program.now scene.now.sectors)) }
-    ensures more { IfOk result (λ found. IfNone found (NeedMore scene.now.program.now scene.now.sectors most)) }
+    ensures settled { IfOk result (λ found. IfSome found (IsSettled scene.now.guards scene.now.program.now scene.now.sectors)) }
+    ensures more { IfOk result (λ found. IfNone found (NeedMore scene.now.guards scene.now.program.now scene.now.sectors most)) }
     ensures program { OnOk result (IsProgram scene.now.program.now) }
 {
     let slots = scene.program.slots();
@@ -190,7 +190,7 @@ pub(crate) fn make_rounds_within(
 
 /// The table at which the rounds end: each that changes it raises its sum, which stays below 2^96.
 pub(crate) fn make_rounds(alloc: Global, scene: &Scene) -> Result<Table, AllocError>
-    ensures settled { IfOk result (λ table. IsSettled scene.now.program.now scene.now.sectors table) }
+    ensures settled { IfOk result (λ table. IsSettled scene.now.guards scene.now.program.now scene.now.sectors table) }
     ensures program { OnOk result (IsProgram scene.now.program.now) }
 {
     let slots = scene.program.slots();

@@ -20,6 +20,7 @@ use Rattle.choices.proofs.Passing.{ranked_wanted}
 use Rattle.images.proofs.Covering.{touching_tells}
 use Rattle.checker.proofs.Alike.{judged_alike}
 use Rattle.machine.proofs.Footprints.{footprint_tells}
+use Rattle.machine.proofs.Guarded as guarded
 use Rattle.workers.specs.Failing.{Subject, ending_at}
 use Rattle.workers.specs.Reuse.{IsKnown, NoneTold, told_or}
 
@@ -193,7 +194,7 @@ learned_by s checker picked made marks choice view footprint ending told more is
     ap (λ (q : PlanValue). slice_get (ranked_choices q s.bound s.tears) is.number) (sym is.plan_is) ∙ is.there ∙ ap (λ (c : ChoiceValue). Some c) choice_is in
     let ends : ending ≡ ending_at s (choice_of_picked s.plan own) checker =
     is.ends ∙ ap (λ (v : ViewValue). judgement checker (sectors_of v) (context_at v.log v.cut)) view_is in
-    learned (judged_alike footprint_tells) s checker 32 is.number own (told_or (not told) more) bounds first
+    learned (judged_alike footprint_tells guarded.footprint_tells) s checker 32 is.number own (told_or (not told) more) bounds first
     (covered s checker picked made marks choice view footprint ending told more is view_is choice_is)
     m p others place second
     (record { own = holds.own ∙ sym (made_picks is.plan picked made marks choice is.choice_is is.made_is); others = holds.others })

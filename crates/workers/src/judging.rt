@@ -39,6 +39,7 @@ pub(crate) fn fails_with(outcome: &Outcome) -> bool
         Outcome::Verdict(verdict) => verdict.answer != 0,
         Outcome::Fault { code: _, slot: _ } => true,
         Outcome::OutOfSteps => true,
+        Outcome::Stray(_slot) => true,
     }
 }
 

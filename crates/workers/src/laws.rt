@@ -3,7 +3,7 @@
 ghost use Rattle.workers.specs.Laws.{LinesAreSet, CollectionIsFailing, CollectionBeginsWithFirst};
 ghost use Rattle.workers.specs.Safe.{AcceptedCheckersRunSafely};
 
-use soundness::accepted_runs_safely;
+use soundness::{accepted_runs_safely, guarded_runs_safely};
 
 /// The failing lines of a run are those that docs/REPORT.md says, no other, each once, by image and
 /// then by program.
@@ -24,9 +24,11 @@ pub fn collection_begins_with_first()
 {}
 
 /// A checker that the verifier accepts for the device of the log ends in a verdict on each image, within
-/// its budget and without a fault. So each of its failing lines is that of a verdict.
+/// its budget and without a fault. So each of its failing lines is that of a verdict. With guards it may also stray, at
+/// a guarded slot.
 pub fn accepted_checkers_run_safely()
     ensures { AcceptedCheckersRunSafely }
 {
     accepted_runs_safely();
+    guarded_runs_safely();
 }

@@ -43,7 +43,8 @@
 //! verdict with answer 0. A law stands above it (`lines_are_set`): it has exactly these lines, by image
 //! and then by checker, each once. A second law (`accepted_checkers_run_safely`, `specs/Safe.antt`): a checker
 //! that the verifier accepts for the device of the log meets no fault on any image and ends in a verdict within
-//! its budget, so each of its lines is that of a verdict. It rests on `soundness`, and on `images_are_devices`.
+//! its budget, so each of its lines is that of a verdict; one that is accepted with guards may also stray at a guarded
+//! slot. It rests on `soundness`, and on `images_are_devices`.
 //!
 //! - `judge_block` gives exactly the block's part of it, whatever other workers do to the shards: what a
 //!   shard has is true by its type. What a worker knows by footprints is true of the run and of the cut at hand

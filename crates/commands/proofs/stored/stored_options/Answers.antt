@@ -20,6 +20,7 @@ settings_by few = record {
   workers = 1;
   cache = 0;
   checked = Some 2;
+  guards = false;
   first = false;
   extent = extent.Whole;
 }

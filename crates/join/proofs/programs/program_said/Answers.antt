@@ -3,4 +3,5 @@ use Rattle.join.proofs.programs.program_said.Goals as goal
 
 pub returns-clause-read : goal.returns-clause-read
 returns-clause-read c =
-    program_read _ _ _ _ _ _ _ _ _ _ _ _ _ _ c.next_word.ensures c.next_word-2.ensures c.next_word-3.ensures c.next_word-4.ensures c.next_word-5.ensures c.small_number.ensures c.number.ensures c.is_budget.ensures
+    program_read _ _ _ _ _ _ _ _ _ _ _ _ _ _ _ c.next_word.ensures c.next_word-2.ensures c.next_word-3.ensures c.next_word-4.ensures c.next_word-5.ensures
+    c.guards_said.ensures.read c.small_number.ensures c.number.ensures c.is_budget.ensures

@@ -5,9 +5,9 @@ use Rattle.looks.proofs.verify_command.verify_program.Goals as goal
 pub returns-in-Err-clause-refused : goal.returns-in-Err-clause-refused
 returns-in-Err-clause-refused c = rw c.bytes_refusal_of.ensures (bytes_unverified c.args.bytes.now _ c.in-Err.fault c.in-Err.ensures.fault)
 
-pub returns-in-Err-verify_known-clause-refused : goal.returns-in-Err-verify_known-clause-refused
-returns-in-Err-verify_known-clause-refused c =
-    rw c.unaccepted_refusal_of.ensures (unverified c.args.bytes.now _ c.sectors.result _ c.in-Err-verify_known.unaccepted.fault c.sectors.ensures.value c.in-Ok.ensures.spelled c.in-Err-verify_known.ensures.refused)
+pub returns-in-Err-verify_with-clause-refused : goal.returns-in-Err-verify_with-clause-refused
+returns-in-Err-verify_with-clause-refused c =
+    rw c.unaccepted_refusal_of.ensures (unverified c.args.bytes.now _ c.guards.result c.sectors.result _ c.in-Err-verify_with.unaccepted.fault c.guards.ensures.value c.sectors.ensures.value c.in-Ok.ensures.spelled c.in-Err-verify_with.ensures.refused)
 
 pub returns-clause-refused : goal.returns-clause-refused
 returns-clause-refused c = rw c.of_memory.ensures no_text_memory

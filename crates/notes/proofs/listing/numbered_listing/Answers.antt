@@ -8,7 +8,7 @@ use Rattle.notes.proofs.listing.numbered_listing.Goals as goal
 pub loop-slot-preserved : goal.loop-slot-preserved
 loop-slot-preserved c =
     let line : ℕ → List ℕ = λ slot. numbered_slot slot (at c.args.program.now slot) in
-    c.in_ok-put_line.ensures
+    c.in_ok-put_slot.ensures
     ∙ ap (λ (text : List ℕ). text ++ numbered_slot c.loop-slot.slot c.at.result) c.loop-slot.invariant
     ∙ rw c.at.ensures.value (sym (one_more_line line c.loop-slot.slot))
 

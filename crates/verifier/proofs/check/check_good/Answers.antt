@@ -21,5 +21,5 @@ pub returns-clause-breach : goal.returns-clause-breach
 returns-clause-breach c =
     let long : length c.args.table.now ≡ length c.args.scene.now.program.now = search rules in
     let starts : Covers (state_at c.args.table.now 0) start = search rules in
-    IfErr-weaker c.check_slots.result (λ f. FirstSlot c.args.scene.now.program.now c.args.scene.now.sectors c.args.table.now f.code f.slot)
-    (λ f. FirstBreach c.args.scene.now.program.now c.args.scene.now.sectors c.args.table.now f.code f.slot) (λ f h. at_slot f.code f.slot long starts h) c.check_slots.ensures.breach
+    IfErr-weaker c.check_slots.result (λ f. FirstSlot c.args.scene.now.guards c.args.scene.now.program.now c.args.scene.now.sectors c.args.table.now f.code f.slot)
+    (λ f. FirstBreach c.args.scene.now.guards c.args.scene.now.program.now c.args.scene.now.sectors c.args.table.now f.code f.slot) (λ f h. at_slot f.code f.slot long starts h) c.check_slots.ensures.breach

@@ -5,8 +5,8 @@ use Rattle.verifier.proofs.check.check_rules.Goals as goal
 
 pub returns-clause-kept : goal.returns-clause-kept
 returns-clause-kept c = λ slot.
-    let all : c.loop-slot.slot ≡ length c.args.program.now = omega arith in
-    elim (cases_lt slot (length c.args.program.now)) [
+    let all : c.loop-slot.slot ≡ length c.args.scene.now.program.now = omega arith in
+    elim (cases_lt slot (length c.args.scene.now.program.now)) [
       | inl inside ↦ c.loop-slot.invariant slot (omega (arith, all, inside))
-      | inr past ↦ (nothing_past c.args.program.now 0 c.args.table.now slot past).0
+      | inr past ↦ (nothing_past c.args.scene.now.guards c.args.scene.now.program.now 0 c.args.table.now slot past).0
     ]

@@ -8,5 +8,5 @@ returns-clause-good c = λ slot.
     let all : c.loop-slot.slot ≡ length c.args.scene.now.program.now = omega arith in
     elim (cases_lt slot (length c.args.scene.now.program.now)) [
       | inl inside ↦ c.loop-slot.invariant slot (omega (arith, all, inside))
-      | inr past ↦ good_past c.args.scene.now.program.now c.args.scene.now.sectors c.args.table.now slot past
+      | inr past ↦ good_past c.args.scene.now.guards c.args.scene.now.program.now c.args.scene.now.sectors c.args.table.now slot past
     ]

@@ -5,7 +5,7 @@ use Rattle.verifier.specs.Passing.{IsMarked}
 use Rattle.verifier.proofs.rounds.make_rounds.Given as goal
 
 abbrev pub invariant-loop-marks : goal.invariant-loop-marks
-invariant-loop-marks l = ((turns : ℕ) × (l.table ≡ rounds l.scene.program.now l.scene.sectors turns)) × IsMarked l.scene.program.now l.scene.sectors l.table l.marks.items
+invariant-loop-marks l = ((turns : ℕ) × (l.table ≡ rounds l.scene.guards l.scene.program.now l.scene.sectors turns)) × IsMarked l.scene.guards l.scene.program.now l.scene.sectors l.table l.marks.items
 
 abbrev pub decreases-loop-marks : goal.decreases-loop-marks
 decreases-loop-marks l = 2 ^ 96 - weight l.table

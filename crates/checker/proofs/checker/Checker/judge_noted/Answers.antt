@@ -1,9 +1,12 @@
 use Rattle.std.proofs.Common.{rules}
+use Rattle.std.specs.Option.{option_map}
+use Rattle.plain.specs.Guards.{GuardsValue}
 use Rattle.checker.specs.Checker.{CheckerValue}
-use Rattle.checker.proofs.Verified.{ends_verified}
+use Rattle.checker.proofs.Verified.{ends_guarded}
 use Rattle.checker.proofs.checker.Checker.judge_noted.Goals as goal
 
-pub run_plain-requires : goal.run_plain-requires
-run_plain-requires g c =
-    let checker : CheckerValue = record { program = c.self.inside.program.now; limit = c.self.inside.limit; verified = c.self.inside.verified } in
-    (search rules, ends_verified c.accepted_runs_safely.ensures checker _ _ _ c.in-Some.is c.self.invariant (rw (← c.self.view_is) at c.requires.image))
+pub run_with_guards-requires : goal.run_with_guards-requires
+run_with_guards-requires g c =
+    let inside = c.self.inside in
+    let checker : CheckerValue = record { program = inside.program.now; limit = inside.limit; verified = inside.verified; guards = option_map (λ (g : GuardsValue). inside.count) inside.guarded } in
+    (search rules, ends_guarded c.guarded_runs_safely.ensures checker inside.guarded c.in-Some.guarded _ _ c.in-Some.is c.self.invariant (rw (← c.self.view_is) at c.requires.image))

@@ -1,0 +1,643 @@
+-- What is passed on with guards: states, and smaller ones where a larger state breaks no rule with guards.
+use Rattle.std.proofs.Common.{◌≡◌, ℕ, zero, suc, ◌+◌, ◌/◌, ◌<◌, ◌==◌, not, ◌&&◌, ◌||◌, Bool, true, false, if◌then◌else◌, List, [], ◌∷◌, length, get_or, replicate, is_some, Option, None, Some, ℤ, pos, refl, sym, ◌∙◌, inl, inr, arith}
+use Rattle.std.specs.Prelude.{set}
+use Rattle.std.specs.Option.{option_map, option_map_or}
+use Rattle.std.specs.Int.{cast_unsigned, w32}
+use Rattle.std.proofs.lemmas.Bool.Decides.{nat_tests}
+use Rattle.base.specs.Check.{check, first_failing}
+use Rattle.base.specs.declared.causes.VerifierCause.{VerifierCause}
+use Rattle.base.specs.declared.causes.VerifierCause.TheVariants as cause
+use Rattle.bpf_isa.specs.declared.instr.Instr.{Instr}
+use Rattle.bpf_isa.specs.declared.instr.Instr.TheVariants as instr
+use Rattle.bpf_isa.specs.declared.instr.Source.{Source}
+use Rattle.bpf_isa.specs.declared.instr.Source.TheVariants as source
+use Rattle.bpf_isa.specs.declared.instr.Width.{Width}
+use Rattle.bpf_isa.specs.declared.instr.Width.TheVariants as width
+use Rattle.bpf_isa.specs.declared.instr.Operator.{Operator}
+use Rattle.bpf_isa.specs.declared.instr.Operator.TheVariants as op
+use Rattle.bpf_isa.specs.declared.instr.Condition.{Condition}
+use Rattle.bpf_isa.specs.declared.instr.Size.{Size}
+use Rattle.bpf_isa.specs.declared.instr.Size.TheVariants as size
+use Rattle.bpf_isa.specs.Slots.{target_slot}
+use Rattle.bpf_isa.specs.Spelling.{IsInRange, IsSourceInRange}
+use Rattle.helpers.specs.declared.helper.Helper.{Helper}
+use Rattle.helpers.specs.declared.helper.Helper.TheVariants as helper
+use Rattle.helpers.specs.Helper.{helper_of}
+use Rattle.machine.specs.Memory.{byte_count}
+use Rattle.machine.specs.Step.{source_registers, operands}
+use Rattle.intervals.specs.Spans.{span, only}
+use Rattle.intervals.specs.Reducing.{Limits, LimitsWithin, any_sign}
+use Rattle.intervals.specs.SignedResults.{limits_result_of}
+use Rattle.intervals.specs.SignedEdges.{limits_refined}
+use Rattle.intervals.proofs.Outcomes.{refined_fits}
+use Rattle.ranges.specs.declared.place.Place.{Place}
+use Rattle.ranges.specs.declared.place.Place.TheVariants as place
+use Rattle.ranges.specs.Kinds.{Kind, Unset, Word, Num, Ctx, Stack, Sector, SectorOrNull, is_number, is_unknown, is_unset}
+use Rattle.ranges.specs.Groups.{GroupKind, Marked, Spilled, unset_marks, map_places}
+use Rattle.ranges.specs.States.{Abstract, unset_groups, start}
+use Rattle.ranges.specs.Pointers.{moved_place, moved_offsets, moved_pointer}
+use Rattle.ranges.specs.Reading.{value, second, with_value, with_groups, words, any_word, are_set, has_length}
+use Rattle.ranges.specs.Places.{place_of, is_inside, is_group}
+use Rattle.ranges.specs.Rules.{compares, is_null_test, is_wide, is_equality, is_zero, may_be_null, call_rules, rules, length_of}
+use Rattle.ranges.specs.Passing.{edge_of, with_both, tested_kind, is_equal_edge, passed_state, passes}
+use Rattle.ranges.specs.After.{number_result, result_kind, context_word, any_of, group_value, loaded_kind, is_touched, marks_after, group_after, groups_after_write, written_at, stored_groups, answer_kind, after_answer, copied_state, call_after, load_after, store_after, after_of}
+use Rattle.ranges.specs.Order.{Under, IsWord, GroupUnder, EachUnder, StateUnder, IsGroup, Each, IsState, Holds, EdgeUnder, SentUnder}
+use Rattle.ranges.specs.Guards.{are_words, guarded_call_rules, guarded_rules, loosely_loaded, group_forgotten, groups_forgotten, loosely_stored, loosely_called, loose_after, loosely_passed, passed_with_guards, GuardedPassesAreMonotone, GuardedPassesFit}
+use Rattle.ranges.proofs.Chains.{under_self, under_chain}
+use Rattle.ranges.proofs.Covering.{marks_unset, marks_refl}
+use Rattle.ranges.proofs.Fitting.{start_fits}
+use Rattle.ranges.proofs.Keeping.{holds_or, value_fits, second_fits, words_fit, with_value_fits, any_of_fits, any_word_fits, answer_fits, answered_fits, with_groups_fits, written_fits, stored_fits}
+use Rattle.ranges.proofs.Smaller.{and_left, and_right, value_under, with_value_under, second_under}
+use Rattle.ranges.proofs.SmallerRules.{length_under, place_under, rules_mono}
+use Rattle.ranges.proofs.SmallerStates.{first_check, two_tell, some_bytes, answered_under, with_groups_under, sent_under, both_under, passes_mono, passes_fit}
+use Rattle.ranges.proofs.GuardedRules.{set_under}
+
+-- groups that are forgotten
+
+group_top : (g : GroupKind) → IsGroup g → GroupUnder g (Marked unset_marks)
+group_top (Marked xs) h = marks_unset xs 8 h
+group_top (Spilled k) h = inr refl
+
+all_top : (n : ℕ) (gs : List GroupKind) → Each IsGroup gs → length gs ≡ n → EachUnder GroupUnder gs (replicate n (Marked unset_marks))
+all_top zero [] a e = tt
+all_top zero (g ∷ gs) a e = absurd (omega (arith, e))
+all_top (suc n) [] a e = absurd (omega (arith, e))
+all_top (suc n) (g ∷ gs) a e = (group_top g a.0, all_top n gs a.1 (omega (arith, e)))
+
+unset_top : (gs : List GroupKind) → Each IsGroup gs → length gs ≡ 64 → EachUnder GroupUnder gs unset_groups
+unfolding unset_groups
+unset_top gs a e = all_top 64 gs a e
+
+forget_above : (at n g : ℕ) (x y : GroupKind) → IsGroup x → GroupUnder x y → GroupUnder x (group_forgotten at n g y)
+forget_above at n g x y h u = by_test (is_touched at n g)
+  where
+    by_test : (b : Bool) → GroupUnder x (if b then Marked unset_marks else y)
+    by_test true = group_top x h
+    by_test false = u
+
+forgotten_above : (at n g : ℕ) (gs hs : List GroupKind) → Each IsGroup gs → EachUnder GroupUnder gs hs → EachUnder GroupUnder gs (map_places (group_forgotten at n) g hs)
+unfolding map_places
+forgotten_above at n g [] [] a u = tt
+forgotten_above at n g [] (y ∷ ys) a u = absurd u
+forgotten_above at n g (x ∷ xs) [] a u = absurd u
+forgotten_above at n g (x ∷ xs) (y ∷ ys) a u = (forget_above at n g x y a.0 u.0, forgotten_above at n (g + 1) xs ys a.1 u.1)
+
+forget_both : (at n g : ℕ) (x y : GroupKind) → GroupUnder x y → GroupUnder (group_forgotten at n g x) (group_forgotten at n g y)
+forget_both at n g x y u = by_test (is_touched at n g)
+  where
+    by_test : (b : Bool) → GroupUnder (if b then Marked unset_marks else x) (if b then Marked unset_marks else y)
+    by_test true = marks_refl unset_marks
+    by_test false = u
+
+forgotten_both : (at n g : ℕ) (gs hs : List GroupKind) → EachUnder GroupUnder gs hs
+    → EachUnder GroupUnder (map_places (group_forgotten at n) g gs) (map_places (group_forgotten at n) g hs)
+unfolding map_places
+forgotten_both at n g [] [] u = tt
+forgotten_both at n g [] (y ∷ ys) u = absurd u
+forgotten_both at n g (x ∷ xs) [] u = absurd u
+forgotten_both at n g (x ∷ xs) (y ∷ ys) u = (forget_both at n g x y u.0, forgotten_both at n (g + 1) xs ys u.1)
+
+write_below : (at n g : ℕ) (x y : GroupKind) → GroupUnder x y → GroupUnder (group_after at n g x) (group_forgotten at n g y)
+unfolding group_after
+write_below at n g x y u = by_test (is_touched at n g)
+  where
+    by_test : (b : Bool) → GroupUnder (if b then Marked (marks_after at n g x) else x) (if b then Marked unset_marks else y)
+    by_test true = marks_unset (marks_after at n g x) 8 refl
+    by_test false = u
+
+written_below : (at n g : ℕ) (gs hs : List GroupKind) → EachUnder GroupUnder gs hs
+    → EachUnder GroupUnder (map_places (group_after at n) g gs) (map_places (group_forgotten at n) g hs)
+unfolding map_places
+written_below at n g [] [] u = tt
+written_below at n g [] (y ∷ ys) u = absurd u
+written_below at n g (x ∷ xs) [] u = absurd u
+written_below at n g (x ∷ xs) (y ∷ ys) u = (write_below at n g x y u.0, written_below at n (g + 1) xs ys u.1)
+
+touched_above : (at n g : ℕ) (k : Kind) (y : GroupKind) → is_touched at n g ≡ true → GroupUnder (Spilled k) (group_forgotten at n g y)
+touched_above at n g k y e = rw e (inr refl)
+
+spilled_below : (at n g i : ℕ) (k : Kind) (gs hs : List GroupKind) → Each IsGroup gs → is_touched at n (g + i) ≡ true → EachUnder GroupUnder gs hs
+    → EachUnder GroupUnder (set gs i (Spilled k)) (map_places (group_forgotten at n) g hs)
+unfolding map_places
+spilled_below at n g i k [] [] a e u = tt
+spilled_below at n g i k [] (y ∷ ys) a e u = absurd u
+spilled_below at n g i k (x ∷ xs) [] a e u = absurd u
+spilled_below at n g zero k (x ∷ xs) (y ∷ ys) a e u =
+    let here : g + 0 ≡ g = omega arith in
+    (touched_above at n g k y (rw here at e), forgotten_above at n (g + 1) xs ys a.1 u.1)
+spilled_below at n g (suc i) k (x ∷ xs) (y ∷ ys) a e u =
+    let there : g + suc i ≡ g + 1 + i = omega arith in
+    (forget_above at n g x y a.0 u.0, spilled_below at n (g + 1) i k xs ys a.1 (rw there at e) u.1)
+
+group_touched : (at n : ℕ) → 0 < n → is_touched at n (0 + at / 8) ≡ true
+group_touched at n some = grind (arith, nat_tests)
+
+stored_below : (k : Kind) (gs hs : List GroupKind) (at n : ℕ) → Each IsGroup gs → EachUnder GroupUnder gs hs
+    → EachUnder GroupUnder (stored_groups k gs (place.Stack at) n) (map_places (group_forgotten at n) 0 hs)
+unfolding stored_groups groups_after_write
+stored_below k gs hs at n a u = by_test (not (is_unknown k)) (is_group at n) refl
+  where
+    by_test : (b c : Bool) → is_group at n ≡ c
+        → EachUnder GroupUnder (if b && c then set gs (at / 8) (Spilled k) else groups_after_write at n gs) (map_places (group_forgotten at n) 0 hs)
+    by_test true true e = spilled_below at n 0 (at / 8) k gs hs a (group_touched at n (some_bytes at n e)) u
+    by_test true false e = written_below at n 0 gs hs u
+    by_test false c e = written_below at n 0 gs hs u
+
+-- the groups behind a store or a copy, where the larger state breaks a rule; x is what the smaller one is left with
+forgotten_place : (x gs hs : List GroupKind) (p q : Place) (n : ℕ) → Each IsGroup x → length x ≡ 64 → (is_inside q ≡ true → p ≡ q)
+    → ((at : ℕ) → p ≡ place.Stack at → EachUnder GroupUnder x (map_places (group_forgotten at n) 0 hs)) → EachUnder GroupUnder x (groups_forgotten hs q n)
+unfolding groups_forgotten
+forgotten_place x gs hs p (place.Stack at) n a e same stored = stored at (same refl)
+forgotten_place x gs hs p place.Outside n a e same stored = unset_top x a e
+forgotten_place x gs hs p (place.Context at) n a e same stored = unset_top x a e
+forgotten_place x gs hs p place.Sector n a e same stored = unset_top x a e
+
+-- registers
+
+unset_word : (k : Kind) → not (is_unset k) ≡ true → IsWord k
+unset_word Unset e = absurd (let bad : false ≡ true = e in cc)
+unset_word k e = tt
+
+known_word : (k : Kind) → not (is_unknown k) ≡ true → IsWord k
+known_word Unset e = absurd (let bad : false ≡ true = e in cc)
+known_word Word e = tt
+known_word k e = tt
+
+map_word : {X : Type 0} (f : X → Kind) → ((x : X) → IsWord (f x)) → (m : Option X) → Holds IsWord (option_map f m)
+map_word f h None = tt
+map_word f h (Some x) = h x
+
+number_word : (i : Instr) (k l : Kind) → Holds IsWord (number_result i k l)
+number_word i k l = map_word (λ x. Num x) (λ x. tt) (limits_result_of i (words k) (words l))
+
+moved_word : (down : Bool) (k l : Kind) → Holds IsWord (moved_pointer down k l)
+unfolding moved_pointer
+moved_word down (Ctx o) (Num y) = map_word (λ p. Ctx p) (λ p. tt) (moved_place 32 down o y.unsigned)
+moved_word down (Stack o) (Num y) = map_word (λ p. Stack p) (λ p. tt) (moved_place 512 down o y.unsigned)
+moved_word down (Sector x) (Num y) = map_word (λ z. Sector z) (λ z. tt) (moved_offsets down x y.unsigned)
+moved_word down k l = tt
+
+result_word : (w : Width) (o : Operator) (dst : ℕ) (from : Source) (k l : Kind) → IsWord l → Holds IsWord (result_kind (instr.Arithmetic w o dst from) k l)
+unfolding result_kind
+result_word width.W64 op.Mov dst from k l h = h
+result_word width.W64 op.Add dst from k l h =
+    holds_or IsWord (moved_pointer false k l) (number_result (instr.Arithmetic width.W64 op.Add dst from) k l) (moved_word false k l) (number_word (instr.Arithmetic width.W64 op.Add dst from) k l)
+result_word width.W64 op.Sub dst from k l h =
+    holds_or IsWord (moved_pointer true k l) (number_result (instr.Arithmetic width.W64 op.Sub dst from) k l) (moved_word true k l) (number_word (instr.Arithmetic width.W64 op.Sub dst from) k l)
+result_word width.W64 o dst from k l h = number_word (instr.Arithmetic width.W64 o dst from) k l
+result_word width.W32 o dst from k l h = number_word (instr.Arithmetic width.W32 o dst from) k l
+
+-- a word in dst is under any
+word_under : (s t : Abstract) (dst : ℕ) (m : Option Kind) → Holds IsWord m → StateUnder s t → EdgeUnder (option_map (with_value s dst) m) (Some (with_value t dst Word))
+word_under s t dst None h u = tt
+word_under s t dst (Some k) h u = with_value_under s t dst k Word h u
+
+source_word : (t : Abstract) (o : Operator) (dst : ℕ) (from : Source) → are_words t (operands o dst from) ≡ true → not (is_unset (second t from)) ≡ true
+source_word t o dst (source.Immediate n) e = refl
+source_word t op.Mov dst (source.Register r) e = and_left (not (is_unset (value t r))) true e
+source_word t o dst (source.Register r) e = and_left (not (is_unset (value t r))) true (and_right (not (is_unset (value t dst))) (not (is_unset (value t r)) && true) e)
+
+-- loads
+
+spilled_word : (g : GroupKind) → IsGroup g → IsWord (group_value g)
+spilled_word (Marked marks) h = tt
+spilled_word (Spilled k) h = known_word k h.0
+
+group_word : (gs : List GroupKind) (i : ℕ) → Each IsGroup gs → IsWord (group_value (get_or gs i (Marked [])))
+group_word [] i a = tt
+group_word (g ∷ gs) zero a = spilled_word g a.0
+group_word (g ∷ gs) (suc i) a = group_word gs i a.1
+
+one_of_three : (b c : Bool) (x y z : Limits) → IsWord (if b then Num x else if c then Num y else Num z)
+one_of_three true c x y z = tt
+one_of_three false true x y z = tt
+one_of_three false false x y z = tt
+
+context_is_word : (sectors at : ℕ) → IsWord (context_word sectors at)
+context_is_word sectors at = one_of_three (at == 0) (at == 8 || at == 16) (any_sign (only sectors)) (any_sign (span 0 65536)) (any_sign (only 0))
+
+loaded_word : (sectors : ℕ) (gs : List GroupKind) (p : Place) (n : ℕ) → Each IsGroup gs → IsWord (loaded_kind sectors gs p n)
+unfolding loaded_kind
+loaded_word sectors gs (place.Context at) n a = by_test (is_group at n)
+  where
+    by_test : (b : Bool) → IsWord (if b then context_word sectors at else any_of n)
+    by_test true = context_is_word sectors at
+    by_test false = tt
+loaded_word sectors gs (place.Stack at) n a = by_test (is_group at n)
+  where
+    by_test : (b : Bool) → IsWord (if b then group_value (get_or gs (at / 8) (Marked [])) else any_of n)
+    by_test true = group_word gs (at / 8) a
+    by_test false = tt
+loaded_word sectors gs place.Outside n a = tt
+loaded_word sectors gs place.Sector n a = tt
+
+loaded_below : (sectors : ℕ) (gs : List GroupKind) (p : Place) (n : Size) → Each IsGroup gs → Under (loaded_kind sectors gs p (byte_count n)) (loosely_loaded n)
+unfolding loaded_kind
+loaded_below sectors gs p size.Double a = loaded_word sectors gs p 8 a
+loaded_below sectors gs (place.Context at) size.Byte a = under_self (any_of 1)
+loaded_below sectors gs (place.Stack at) size.Byte a = under_self (any_of 1)
+loaded_below sectors gs place.Outside size.Byte a = under_self (any_of 1)
+loaded_below sectors gs place.Sector size.Byte a = under_self (any_of 1)
+loaded_below sectors gs (place.Context at) size.Half a = under_self (any_of 2)
+loaded_below sectors gs (place.Stack at) size.Half a = under_self (any_of 2)
+loaded_below sectors gs place.Outside size.Half a = under_self (any_of 2)
+loaded_below sectors gs place.Sector size.Half a = under_self (any_of 2)
+loaded_below sectors gs (place.Context at) size.Word a = under_self (any_of 4)
+loaded_below sectors gs (place.Stack at) size.Word a = under_self (any_of 4)
+loaded_below sectors gs place.Outside size.Word a = under_self (any_of 4)
+loaded_below sectors gs place.Sector size.Word a = under_self (any_of 4)
+
+loose_load : (n : Size) → Under (loosely_loaded n) (loosely_loaded n)
+loose_load n = under_self (loosely_loaded n)
+
+-- stores and copies
+
+same_place : (s t : Abstract) (base : ℕ) (d : ℤ) (n : ℕ) → IsState s → StateUnder s t → is_inside (place_of (value t base) d n) ≡ true
+    → place_of (value s base) d n ≡ place_of (value t base) d n
+same_place s t base d n a u inside = place_under (value s base) (value t base) d n (value_fits s base a) (value_under s t base u) inside
+
+kept_store : (s t : Abstract) (k : Kind) (n base : ℕ) (d : ℤ) → IsState s → StateUnder s t → IsState (with_groups s (stored_groups k s.groups (place_of (value s base) d n) n))
+    → StateUnder (with_groups s (stored_groups k s.groups (place_of (value s base) d n) n)) (loosely_stored t base d n)
+kept_store s t k n base d a u fits =
+    let p = place_of (value s base) d n in
+    let q = place_of (value t base) d n in
+    let stored : (at : ℕ) → p ≡ place.Stack at → EachUnder GroupUnder (stored_groups k s.groups p n) (map_places (group_forgotten at n) 0 t.groups) =
+    λ at e. rw e (stored_below k s.groups t.groups at n a.groups u.groups) in
+    with_groups_under s t (stored_groups k s.groups p n) (groups_forgotten t.groups q n)
+    (forgotten_place (stored_groups k s.groups p n) s.groups t.groups p q n fits.groups fits.stack (same_place s t base d n a u) stored) u
+
+copied_below : (s t : Abstract) (p q : Place) (n : ℕ) → IsState (with_groups s (written_at s.groups p n)) → StateUnder s t → (is_inside q ≡ true → p ≡ q)
+    → EachUnder GroupUnder (written_at s.groups p n) (groups_forgotten t.groups q n)
+unfolding groups_after_write
+copied_below s t p q n fits u same =
+    forgotten_place (written_at s.groups p n) s.groups t.groups p q n fits.groups fits.stack same
+    (λ at e. rw e (written_below at n 0 s.groups t.groups u.groups))
+
+forgotten_same : (at n : ℕ) (gs hs : List GroupKind) → EachUnder GroupUnder gs hs → EachUnder GroupUnder (groups_forgotten gs (place.Stack at) n) (map_places (group_forgotten at n) 0 hs)
+unfolding groups_forgotten
+forgotten_same at n gs hs u = forgotten_both at n 0 gs hs u
+
+loose_store : (s t : Abstract) (base : ℕ) (d : ℤ) (n : ℕ) → IsState s → StateUnder s t → IsState (loosely_stored s base d n) → StateUnder (loosely_stored s base d n) (loosely_stored t base d n)
+loose_store s t base d n a u fits =
+    let p = place_of (value s base) d n in
+    let q = place_of (value t base) d n in
+    let stored : (at : ℕ) → p ≡ place.Stack at → EachUnder GroupUnder (groups_forgotten s.groups p n) (map_places (group_forgotten at n) 0 t.groups) =
+    λ at e. rw e (forgotten_same at n s.groups t.groups u.groups) in
+    with_groups_under s t (groups_forgotten s.groups p n) (groups_forgotten t.groups q n)
+    (forgotten_place (groups_forgotten s.groups p n) s.groups t.groups p q n fits.groups fits.stack (same_place s t base d n a u) stored) u
+
+-- what is left fits
+
+forget_fits : (at n g : ℕ) (x : GroupKind) → IsGroup x → IsGroup (group_forgotten at n g x)
+forget_fits at n g x h = by_test (is_touched at n g)
+  where
+    by_test : (b : Bool) → IsGroup (if b then Marked unset_marks else x)
+    by_test true = refl
+    by_test false = h
+
+forgotten_fits : (at n g : ℕ) (gs : List GroupKind) → Each IsGroup gs → Each IsGroup (map_places (group_forgotten at n) g gs)
+unfolding map_places
+forgotten_fits at n g [] a = tt
+forgotten_fits at n g (x ∷ xs) a = (forget_fits at n g x a.0, forgotten_fits at n (g + 1) xs a.1)
+
+forgotten_long : (at n g : ℕ) (gs : List GroupKind) → length (map_places (group_forgotten at n) g gs) ≡ length gs
+unfolding map_places
+forgotten_long at n g [] = refl
+forgotten_long at n g (x ∷ xs) = let rest = forgotten_long at n (g + 1) xs in omega (arith, rest)
+
+unset_fits : Each IsGroup unset_groups × (length unset_groups ≡ 64)
+unfolding start
+unset_fits = (start_fits.groups, start_fits.stack)
+
+loose_fits : (s : Abstract) (p : Place) (n : ℕ) → IsState s → IsState (with_groups s (groups_forgotten s.groups p n))
+unfolding groups_forgotten
+loose_fits s (place.Stack at) n a = with_groups_fits s (map_places (group_forgotten at n) 0 s.groups) a (forgotten_fits at n 0 s.groups a.groups) (forgotten_long at n 0 s.groups)
+loose_fits s place.Outside n a = with_groups_fits s unset_groups a unset_fits.0 (unset_fits.1 ∙ sym a.stack)
+loose_fits s (place.Context at) n a = with_groups_fits s unset_groups a unset_fits.0 (unset_fits.1 ∙ sym a.stack)
+loose_fits s place.Sector n a = with_groups_fits s unset_groups a unset_fits.0 (unset_fits.1 ∙ sym a.stack)
+
+loose_load_fits : (s : Abstract) (dst : ℕ) (n : Size) → IsState s → IsState (with_value s dst (loosely_loaded n))
+loose_load_fits s dst size.Double a = with_value_fits s dst Word tt a
+loose_load_fits s dst size.Byte a = with_value_fits s dst (any_of 1) (any_of_fits size.Byte) a
+loose_load_fits s dst size.Half a = with_value_fits s dst (any_of 2) (any_of_fits size.Half) a
+loose_load_fits s dst size.Word a = with_value_fits s dst (any_of 4) (any_of_fits size.Word) a
+
+loose_call_fits : (s : Abstract) (h : Helper) → IsState s → IsState (loosely_called s h)
+unfolding loosely_called
+loose_call_fits s helper.Copy a =
+    answered_fits (loosely_stored s 2 (pos 0) (length_of (value s 3))) (answer_kind helper.Copy) (answer_fits helper.Copy)
+    (loose_fits s (place_of (value s 2) (pos 0) (length_of (value s 3))) (length_of (value s 3)) a)
+loose_call_fits s helper.Sector a = answered_fits s (answer_kind helper.Sector) (answer_fits helper.Sector) a
+loose_call_fits s helper.Again a = answered_fits s (answer_kind helper.Again) (answer_fits helper.Again) a
+loose_call_fits s helper.Report a = answered_fits s (answer_kind helper.Report) (answer_fits helper.Report) a
+loose_call_fits s helper.Zero a = answered_fits s (answer_kind helper.Zero) (answer_fits helper.Zero) a
+loose_call_fits s helper.Mix a = answered_fits s (answer_kind helper.Mix) (answer_fits helper.Mix) a
+loose_call_fits s helper.Same a = answered_fits s (answer_kind helper.Same) (answer_fits helper.Same) a
+
+loose_after_fits : (s : Abstract) (i : Instr) → IsState s → IsState (loose_after s i)
+unfolding loose_after
+loose_after_fits s (instr.Arithmetic w o dst from) a = with_value_fits s dst Word tt a
+loose_after_fits s (instr.Negate w dst) a = with_value_fits s dst Word tt a
+loose_after_fits s (instr.SignExtend x dst src) a = with_value_fits s dst Word tt a
+loose_after_fits s (instr.ByteOrder o n dst) a = with_value_fits s dst Word tt a
+loose_after_fits s (instr.Load n dst base distance) a = loose_load_fits s dst n a
+loose_after_fits s (instr.LoadSigned n dst base distance) a = with_value_fits s dst (Num any_word) any_word_fits a
+loose_after_fits s (instr.StoreImmediate n base distance x) a = loose_fits s (place_of (value s base) distance (byte_count n)) (byte_count n) a
+loose_after_fits s (instr.Store n base distance src) a = loose_fits s (place_of (value s base) distance (byte_count n)) (byte_count n) a
+loose_after_fits s (instr.CallHelper number) a = by_helper (helper_of (cast_unsigned w32 number))
+  where
+    by_helper : (m : Option Helper) → IsState (option_map_or (loosely_called s) m s)
+    by_helper None = a
+    by_helper (Some h) = loose_call_fits s h a
+loose_after_fits s (instr.Branch w c dst from distance) a = a
+loose_after_fits s (instr.Jump distance) a = a
+loose_after_fits s (instr.LongJump distance) a = a
+loose_after_fits s (instr.CallLocal distance) a = a
+loose_after_fits s (instr.LoadImmediate dst x) a = a
+loose_after_fits s instr.Exit a = a
+
+loosely_passed_fit : (s : Abstract) (slot : ℕ) (i : Instr) → IsState s → Each (λ p. IsState p.1) (loosely_passed s slot i)
+unfolding loosely_passed
+loosely_passed_fit s slot (instr.Branch w c dst from distance) a = (a, (a, tt))
+loosely_passed_fit s slot instr.Exit a = tt
+loosely_passed_fit s slot i a = (loose_after_fits s i a, tt)
+
+pub guarded_passes_fit : GuardedPassesFit
+unfolding passed_with_guards
+guarded_passes_fit sectors slot s i h r a = by_rule (is_some (first_failing (rules s i)))
+  where
+    by_rule : (b : Bool) → Each (λ p. IsState p.1) (if b then loosely_passed s slot i else passes sectors s slot i)
+    by_rule true = loosely_passed_fit s slot i a
+    by_rule false = passes_fit sectors slot s i h r a
+
+-- the edges of a conditional jump, where the larger state tests no numbers
+
+each_below : {X : Type 0} (R : X → X → Type 0) (xs ys : List X) (i : ℕ) (x d : X) → R x (get_or ys i d) → EachUnder R xs ys → EachUnder R (set xs i x) ys
+each_below R [] [] i x d r u = tt
+each_below R [] (y ∷ ys) i x d r u = absurd u
+each_below R (z ∷ zs) [] i x d r u = absurd u
+each_below R (z ∷ zs) (y ∷ ys) zero x d r u = (r, u.1)
+each_below R (z ∷ zs) (y ∷ ys) (suc i) x d r u = (u.0, each_below R zs ys i x d r u.1)
+
+value_below : (s t : Abstract) (r : ℕ) (k : Kind) → Under k (value t r) → StateUnder s t → StateUnder (with_value s r k) t
+value_below s t r k h u = record { values = each_below Under s.values t.values r k Unset h u.values; groups = u.groups }
+
+tested_is_word : (b : Bool) → IsWord (tested_kind b)
+tested_is_word true = tt
+tested_is_word false = tt
+
+tested_below : (k l : Kind) (b : Bool) → Under k l → may_be_null k ≡ true → may_be_null l ≡ false → Under (tested_kind b) l
+tested_below k Unset b u e f = tt
+tested_below k Word b u e f = tested_is_word b
+tested_below k SectorOrNull b u e f = absurd (let bad : true ≡ false = f in cc)
+tested_below SectorOrNull (Num x) b u e f = absurd u
+tested_below SectorOrNull (Ctx x) b u e f = absurd u
+tested_below SectorOrNull (Stack x) b u e f = absurd u
+tested_below SectorOrNull (Sector x) b u e f = absurd u
+tested_below k l b u e f = absurd (let bad : false ≡ true = e in cc)
+
+narrowed_below : (k l : Kind) (x : Limits) → is_number k ≡ true → LimitsWithin x (words k) → Under k l → Under (Num x) l
+narrowed_below (Num y) l x e w u = under_chain (Num x) (Num y) l w u
+narrowed_below k l x e w u = absurd (let bad : false ≡ true = e in cc)
+
+-- the test of the smaller state is one of the larger one, if its value may be null
+null_test_parts : (w : Width) (c : Condition) (from : Source) (k : Kind) → is_null_test w c from k ≡ true
+    → (is_wide w ≡ true) × (is_equality c ≡ true) × (is_zero from ≡ true) × (may_be_null k ≡ true)
+unfolding is_null_test
+null_test_parts w c from k e =
+    let e1 : (is_equality c && (is_zero from && may_be_null k)) ≡ true = and_right (is_wide w) (is_equality c && (is_zero from && may_be_null k)) e in
+    let e2 : (is_zero from && may_be_null k) ≡ true = and_right (is_equality c) (is_zero from && may_be_null k) e1 in (
+      and_left (is_wide w) (is_equality c && (is_zero from && may_be_null k)) e,
+      and_left (is_equality c) (is_zero from && may_be_null k) e1,
+      and_left (is_zero from) (may_be_null k) e2,
+      and_right (is_zero from) (may_be_null k) e2,
+    )
+
+no_null : (w : Width) (c : Condition) (from : Source) (k l : Kind) → is_null_test w c from k ≡ true → is_null_test w c from l ≡ false → may_be_null l ≡ false
+unfolding is_null_test
+no_null w c from k l e f =
+    let parts = null_test_parts w c from k e in
+    let same : (true && (true && (true && may_be_null l))) ≡ false = rw (parts.0, parts.1, parts.2) at f in
+    same
+
+edge_below : (s t : Abstract) (w : Width) (c : Condition) (dst : ℕ) (from : Source) (distance : ℤ) (taken : Bool) → IsSourceInRange from → IsState s → StateUnder s t
+    → compares s w c dst from ≡ true → compares t w c dst from ≡ false → EdgeUnder (edge_of s (instr.Branch w c dst from distance) taken) (Some t)
+unfolding edge_of compares
+edge_below s t w c dst from distance taken r a u ok broken = by_test (is_null_test w c from (value s dst)) refl ok
+  where
+    no_test : is_null_test w c from (value t dst) ≡ false
+    no_test = or_first (is_null_test w c from (value t dst)) (is_number (value t dst) && is_number (second t from)) broken
+      where
+        or_first : (x y : Bool) → (x || y) ≡ false → x ≡ false
+        or_first true y h = absurd (let bad : true ≡ false = h in cc)
+        or_first false y h = refl
+
+    narrowed : (q : Source) (p : Limits × Limits) → is_number (value s dst) ≡ true → is_number (second s q) ≡ true → LimitsWithin p.0 (words (value s dst)) → LimitsWithin p.1 (words (second s q))
+        → StateUnder (with_both s dst q p) t
+    narrowed (source.Immediate n) p first other v z = value_below s t dst (Num p.0) (narrowed_below (value s dst) (value t dst) p.0 first v (value_under s t dst u)) u
+    narrowed (source.Register q) p first other v z =
+        value_below (with_value s dst (Num p.0)) t q (Num p.1) (narrowed_below (value s q) (value t q) p.1 other z (value_under s t q u))
+        (value_below s t dst (Num p.0) (narrowed_below (value s dst) (value t dst) p.0 first v (value_under s t dst u)) u)
+
+    by_edge : (m : Option (Limits × Limits)) → is_number (value s dst) ≡ true → is_number (second s from) ≡ true
+        → limits_refined (instr.Branch w c dst from distance) taken (words (value s dst)) (words (second s from)) ≡ m → EdgeUnder (option_map (with_both s dst from) m) (Some t)
+    by_edge None first other e = tt
+    by_edge (Some p) first other e =
+        let within = refined_fits (instr.Branch w c dst from distance) taken (words (value s dst)) (words (second s from)) p
+        (words_fit (value s dst) (value_fits s dst a)) (words_fit (second s from) (second_fits s from r a)) e in
+        narrowed from p first other within.2 within.3
+
+    by_test : (x : Bool) → is_null_test w c from (value s dst) ≡ x → (x || (is_number (value s dst) && is_number (second s from))) ≡ true
+        → EdgeUnder
+        (if x then Some (with_value s dst (tested_kind (is_equal_edge c taken)))
+        else option_map (with_both s dst from) (limits_refined (instr.Branch w c dst from distance) taken (words (value s dst)) (words (second s from))))
+        (Some t)
+    by_test true e ok =
+        value_below s t dst (tested_kind (is_equal_edge c taken))
+        (tested_below (value s dst) (value t dst) (is_equal_edge c taken) (value_under s t dst u) (null_test_parts w c from (value s dst) e).3
+        (no_null w c from (value s dst) (value t dst) e no_test)) u
+    by_test false e ok =
+        by_edge (limits_refined (instr.Branch w c dst from distance) taken (words (value s dst)) (words (second s from)))
+        (and_left (is_number (value s dst)) (is_number (second s from)) ok) (and_right (is_number (value s dst)) (is_number (second s from)) ok) refl
+
+-- what a smaller state passes on by the rules without guards is under what a larger one does that breaks one of them
+
+sent_one : (slot : ℕ) (m : Option Abstract) (t : Abstract) → EdgeUnder m (Some t) → SentUnder (passed_state slot m) ((slot, t) ∷ [])
+sent_one slot m t h = sent_under slot m (Some t) h
+
+copied_state_below : (s t : Abstract) → IsState s → StateUnder s t → has_length (value t 3) ≡ true → IsState (copied_state s) → StateUnder (copied_state s) (loosely_stored t 2 (pos 0) (length_of (value t 3)))
+copied_state_below s t a u long fits =
+    let same : length_of (value s 3) ≡ length_of (value t 3) = (length_under (value s 3) (value t 3) (value_fits s 3 a) (value_under s t 3 u) long).1 in
+    by_length (length_of (value s 3)) same fits
+  where
+    by_length : (n : ℕ) → n ≡ length_of (value t 3) → IsState (with_groups s (written_at s.groups (place_of (value s 2) (pos 0) n) n))
+        → StateUnder (with_groups s (written_at s.groups (place_of (value s 2) (pos 0) n) n)) (loosely_stored t 2 (pos 0) (length_of (value t 3)))
+    by_length n e fits =
+        rw (sym e)
+        (with_groups_under s t (written_at s.groups (place_of (value s 2) (pos 0) n) n) (groups_forgotten t.groups (place_of (value t 2) (pos 0) n) n)
+        (copied_below s t (place_of (value s 2) (pos 0) n) (place_of (value t 2) (pos 0) n) n fits u (same_place s t 2 (pos 0) n a u)) u)
+
+kept_call : (s t : Abstract) (h : Helper) → IsState s → StateUnder s t → first_failing (guarded_call_rules t h) ≡ None → IsState (copied_state s)
+    → StateUnder (call_after s h) (loosely_called t h)
+unfolding guarded_call_rules call_after loosely_called
+kept_call s t helper.Copy a u g fits =
+    let long : has_length (value t 3) ≡ true = (two_tell cause.UnsetRegister cause.HelperArgument (are_words t (1 ∷ 2 ∷ 3 ∷ [])) (has_length (value t 3)) g).1 in
+    answered_under (copied_state s) (loosely_stored t 2 (pos 0) (length_of (value t 3))) (answer_kind helper.Copy) (copied_state_below s t a u long fits)
+kept_call s t helper.Sector a u g fits = answered_under s t (answer_kind helper.Sector) u
+kept_call s t helper.Again a u g fits = answered_under s t (answer_kind helper.Again) u
+kept_call s t helper.Report a u g fits = answered_under s t (answer_kind helper.Report) u
+kept_call s t helper.Zero a u g fits = answered_under s t (answer_kind helper.Zero) u
+kept_call s t helper.Mix a u g fits = answered_under s t (answer_kind helper.Mix) u
+kept_call s t helper.Same a u g fits = answered_under s t (answer_kind helper.Same) u
+
+number_known : (k : Kind) → is_number k ≡ true → not (is_unknown k) ≡ true
+number_known (Num x) e = refl
+number_known k e = absurd (let bad : false ≡ true = e in cc)
+
+null_known : (k : Kind) → may_be_null k ≡ true → not (is_unknown k) ≡ true
+null_known SectorOrNull e = refl
+null_known k e = absurd (let bad : false ≡ true = e in cc)
+
+numbers_set : (t : Abstract) (dst : ℕ) (from : Source) → is_number (value t dst) ≡ true → is_number (second t from) ≡ true → are_set t (dst ∷ source_registers from) ≡ true
+numbers_set t dst (source.Immediate n) e f = rw (number_known (value t dst) e) refl
+numbers_set t dst (source.Register r) e f = rw (number_known (value t dst) e, number_known (value t r) f) refl
+
+null_set : (t : Abstract) (dst : ℕ) (from : Source) → may_be_null (value t dst) ≡ true → is_zero from ≡ true → are_set t (dst ∷ source_registers from) ≡ true
+null_set t dst (source.Immediate n) e f = rw (null_known (value t dst) e) refl
+null_set t dst (source.Register r) e f = absurd (let bad : false ≡ true = f in cc)
+
+-- the registers of a test of numbers, or of an answer of helper 1, are set
+compared_set : (t : Abstract) (w : Width) (c : Condition) (dst : ℕ) (from : Source) → compares t w c dst from ≡ true → are_set t (dst ∷ source_registers from) ≡ true
+unfolding compares
+compared_set t w c dst from e = by_test (is_null_test w c from (value t dst)) refl e
+  where
+    by_test : (x : Bool) → is_null_test w c from (value t dst) ≡ x → (x || (is_number (value t dst) && is_number (second t from))) ≡ true → are_set t (dst ∷ source_registers from) ≡ true
+    by_test true f e = let parts = null_test_parts w c from (value t dst) f in null_set t dst from parts.3 parts.2
+    by_test false f e = numbers_set t dst from (and_left (is_number (value t dst)) (is_number (second t from)) e) (and_right (is_number (value t dst)) (is_number (second t from)) e)
+
+-- so a jump whose rules are broken tests neither
+broken_test : (t : Abstract) (w : Width) (c : Condition) (dst : ℕ) (from : Source) (why : VerifierCause)
+    → first_failing (check cause.UnsetRegister (are_set t (dst ∷ source_registers from)) ∷ check cause.PointerAsNumber (compares t w c dst from) ∷ []) ≡ Some why
+    → compares t w c dst from ≡ false
+broken_test t w c dst from why e = by_test (compares t w c dst from) refl
+  where
+    by_test : (x : Bool) → compares t w c dst from ≡ x → x ≡ false
+    by_test false f = refl
+    by_test true f = absurd (let bad : None ≡ Some why = rw (compared_set t w c dst from f, f) at e in cc)
+
+no_rule : (why : VerifierCause) → None ≡ Some why → ⊥
+no_rule why e = cc
+
+kept_below : (sectors slot : ℕ) (s t : Abstract) (i : Instr) (why : VerifierCause) → IsInRange i → IsState s → StateUnder s t → first_failing (guarded_rules t i) ≡ None
+    → first_failing (rules s i) ≡ None → first_failing (rules t i) ≡ Some why → SentUnder (passes sectors s slot i) (loosely_passed t slot i)
+unfolding passes loosely_passed after_of loose_after rules guarded_rules IsInRange
+kept_below sectors slot s t (instr.Arithmetic w o dst from) why r a u g e f =
+    let told : are_words t (operands o dst from) ≡ true = (first_check cause.UnsetRegister (are_words t (operands o dst from)) [] g).0 in
+    let there : IsWord (second s from) = unset_word (second s from) (set_under (second s from) (second t from) (second_under s t from u) (source_word t o dst from told)) in
+    sent_one (slot + 1) (option_map (with_value s dst) (result_kind (instr.Arithmetic w o dst from) (value s dst) (second s from))) (with_value t dst Word)
+    (word_under s t dst (result_kind (instr.Arithmetic w o dst from) (value s dst) (second s from)) (result_word w o dst from (value s dst) (second s from) there) u)
+kept_below sectors slot s t (instr.Negate w dst) why r a u g e f =
+    sent_one (slot + 1) (option_map (with_value s dst) (number_result (instr.Negate w dst) (value s dst) Unset)) (with_value t dst Word)
+    (word_under s t dst (number_result (instr.Negate w dst) (value s dst) Unset) (number_word (instr.Negate w dst) (value s dst) Unset) u)
+kept_below sectors slot s t (instr.SignExtend x dst src) why r a u g e f =
+    sent_one (slot + 1) (option_map (with_value s dst) (number_result (instr.SignExtend x dst src) Unset (value s src))) (with_value t dst Word)
+    (word_under s t dst (number_result (instr.SignExtend x dst src) Unset (value s src)) (number_word (instr.SignExtend x dst src) Unset (value s src)) u)
+kept_below sectors slot s t (instr.ByteOrder o n dst) why r a u g e f =
+    sent_one (slot + 1) (option_map (with_value s dst) (number_result (instr.ByteOrder o n dst) (value s dst) Unset)) (with_value t dst Word)
+    (word_under s t dst (number_result (instr.ByteOrder o n dst) (value s dst) Unset) (number_word (instr.ByteOrder o n dst) (value s dst) Unset) u)
+kept_below sectors slot s t (instr.Jump distance) why r a u g e f = absurd (no_rule why f)
+kept_below sectors slot s t (instr.LongJump distance) why r a u g e f = absurd (no_rule why f)
+kept_below sectors slot s t (instr.Branch w c dst from distance) why r a u g e f =
+    let ok : compares s w c dst from ≡ true = (two_tell cause.UnsetRegister cause.PointerAsNumber (are_set s (dst ∷ source_registers from)) (compares s w c dst from) e).1 in
+    let broken : compares t w c dst from ≡ false = broken_test t w c dst from why f in
+    both_under (passed_state (slot + 1) (edge_of s (instr.Branch w c dst from distance) false)) ((slot + 1, t) ∷ [])
+    (passed_state (target_slot slot distance) (edge_of s (instr.Branch w c dst from distance) true)) ((target_slot slot distance, t) ∷ [])
+    (sent_one (slot + 1) (edge_of s (instr.Branch w c dst from distance) false) t (edge_below s t w c dst from distance false r.1 a u ok broken))
+    (sent_one (target_slot slot distance) (edge_of s (instr.Branch w c dst from distance) true) t (edge_below s t w c dst from distance true r.1 a u ok broken))
+kept_below sectors slot s t (instr.CallHelper number) why r a u g e f = by_helper (helper_of (cast_unsigned w32 number)) g f
+  where
+    by_helper : (m : Option Helper) → first_failing (option_map_or (guarded_call_rules t) m []) ≡ None → first_failing (option_map_or (call_rules t) m []) ≡ Some why
+        → SentUnder (passed_state (slot + 1) (Some (option_map_or (call_after s) m (after_answer s (Num any_word))))) ((slot + 1, option_map_or (loosely_called t) m t) ∷ [])
+    by_helper None g f = absurd (no_rule why f)
+    by_helper (Some h) g f =
+        sent_one (slot + 1) (Some (call_after s h)) (loosely_called t h)
+        (kept_call s t h a u g (written_fits s (place_of (value s 2) (pos 0) (length_of (value s 3))) (length_of (value s 3)) a))
+kept_below sectors slot s t (instr.CallLocal distance) why r a u g e f = absurd (no_rule why f)
+kept_below sectors slot s t instr.Exit why r a u g e f = tt
+kept_below sectors slot s t (instr.Load n dst base distance) why r a u g e f =
+    sent_one (slot + 1) (Some (load_after sectors s dst n base distance)) (with_value t dst (loosely_loaded n))
+    (with_value_under s t dst (loaded_kind sectors s.groups (place_of (value s base) distance (byte_count n)) (byte_count n)) (loosely_loaded n)
+    (loaded_below sectors s.groups (place_of (value s base) distance (byte_count n)) n a.groups) u)
+kept_below sectors slot s t (instr.LoadSigned n dst base distance) why r a u g e f =
+    sent_one (slot + 1) (Some (with_value s dst (Num any_word))) (with_value t dst (Num any_word)) (with_value_under s t dst (Num any_word) (Num any_word) (under_self (Num any_word)) u)
+kept_below sectors slot s t (instr.StoreImmediate n base distance x) why r a u g e f =
+    let k = second s (source.Immediate x) in
+    sent_one (slot + 1) (Some (store_after s k n base distance)) (loosely_stored t base distance (byte_count n))
+    (kept_store s t k (byte_count n) base distance a u (stored_fits s k (place_of (value s base) distance (byte_count n)) (byte_count n) (second_fits s (source.Immediate x) r.2 a) a))
+kept_below sectors slot s t (instr.Store n base distance src) why r a u g e f =
+    sent_one (slot + 1) (Some (store_after s (value s src) n base distance)) (loosely_stored t base distance (byte_count n))
+    (kept_store s t (value s src) (byte_count n) base distance a u (stored_fits s (value s src) (place_of (value s base) distance (byte_count n)) (byte_count n) (value_fits s src a) a))
+kept_below sectors slot s t (instr.LoadImmediate dst x) why r a u g e f = absurd (no_rule why f)
+
+-- where both break a rule
+
+loose_call : (s t : Abstract) (h : Helper) → IsState s → StateUnder s t → first_failing (guarded_call_rules t h) ≡ None → StateUnder (loosely_called s h) (loosely_called t h)
+unfolding guarded_call_rules loosely_called
+loose_call s t helper.Copy a u g =
+    let long : has_length (value t 3) ≡ true = (two_tell cause.UnsetRegister cause.HelperArgument (are_words t (1 ∷ 2 ∷ 3 ∷ [])) (has_length (value t 3)) g).1 in
+    let same : length_of (value s 3) ≡ length_of (value t 3) = (length_under (value s 3) (value t 3) (value_fits s 3 a) (value_under s t 3 u) long).1 in
+    answered_under (loosely_stored s 2 (pos 0) (length_of (value s 3))) (loosely_stored t 2 (pos 0) (length_of (value t 3))) (answer_kind helper.Copy)
+    (by_length (length_of (value s 3)) (length_of (value t 3)) same)
+  where
+    by_length : (n m : ℕ) → n ≡ m → StateUnder (loosely_stored s 2 (pos 0) n) (loosely_stored t 2 (pos 0) m)
+    by_length n m e = rw (sym e) (loose_store s t 2 (pos 0) n a u (loose_fits s (place_of (value s 2) (pos 0) n) n a))
+loose_call s t helper.Sector a u g = answered_under s t (answer_kind helper.Sector) u
+loose_call s t helper.Again a u g = answered_under s t (answer_kind helper.Again) u
+loose_call s t helper.Report a u g = answered_under s t (answer_kind helper.Report) u
+loose_call s t helper.Zero a u g = answered_under s t (answer_kind helper.Zero) u
+loose_call s t helper.Mix a u g = answered_under s t (answer_kind helper.Mix) u
+loose_call s t helper.Same a u g = answered_under s t (answer_kind helper.Same) u
+
+loose_after_under : (s t : Abstract) (i : Instr) → IsState s → StateUnder s t → first_failing (guarded_rules t i) ≡ None → StateUnder (loose_after s i) (loose_after t i)
+unfolding loose_after guarded_rules
+loose_after_under s t (instr.Arithmetic w o dst from) a u g = with_value_under s t dst Word Word tt u
+loose_after_under s t (instr.Negate w dst) a u g = with_value_under s t dst Word Word tt u
+loose_after_under s t (instr.SignExtend x dst src) a u g = with_value_under s t dst Word Word tt u
+loose_after_under s t (instr.ByteOrder o n dst) a u g = with_value_under s t dst Word Word tt u
+loose_after_under s t (instr.Load n dst base distance) a u g = with_value_under s t dst (loosely_loaded n) (loosely_loaded n) (loose_load n) u
+loose_after_under s t (instr.LoadSigned n dst base distance) a u g = with_value_under s t dst (Num any_word) (Num any_word) (under_self (Num any_word)) u
+loose_after_under s t (instr.StoreImmediate n base distance x) a u g =
+    loose_store s t base distance (byte_count n) a u (loose_fits s (place_of (value s base) distance (byte_count n)) (byte_count n) a)
+loose_after_under s t (instr.Store n base distance src) a u g =
+    loose_store s t base distance (byte_count n) a u (loose_fits s (place_of (value s base) distance (byte_count n)) (byte_count n) a)
+loose_after_under s t (instr.CallHelper number) a u g = by_helper (helper_of (cast_unsigned w32 number)) g
+  where
+    by_helper : (m : Option Helper) → first_failing (option_map_or (guarded_call_rules t) m []) ≡ None → StateUnder (option_map_or (loosely_called s) m s) (option_map_or (loosely_called t) m t)
+    by_helper None g = u
+    by_helper (Some h) g = loose_call s t h a u g
+loose_after_under s t (instr.Branch w c dst from distance) a u g = u
+loose_after_under s t (instr.Jump distance) a u g = u
+loose_after_under s t (instr.LongJump distance) a u g = u
+loose_after_under s t (instr.CallLocal distance) a u g = u
+loose_after_under s t (instr.LoadImmediate dst x) a u g = u
+loose_after_under s t instr.Exit a u g = u
+
+loose_below : (slot : ℕ) (s t : Abstract) (i : Instr) → IsState s → StateUnder s t → first_failing (guarded_rules t i) ≡ None → SentUnder (loosely_passed s slot i) (loosely_passed t slot i)
+unfolding loosely_passed
+loose_below slot s t (instr.Branch w c dst from distance) a u g = inl (refl, u, inl (refl, u, tt))
+loose_below slot s t instr.Exit a u g = tt
+loose_below slot s t i a u g = inl (refl, loose_after_under s t i a u g, tt)
+
+pub guarded_passes_mono : GuardedPassesAreMonotone
+unfolding passed_with_guards
+guarded_passes_mono sectors slot s t i r a b u g = by_rule (first_failing (rules t i)) refl
+  where
+    by_smaller : (why : VerifierCause) (m : Option VerifierCause) → first_failing (rules t i) ≡ Some why → first_failing (rules s i) ≡ m
+        → SentUnder (if is_some m then loosely_passed s slot i else passes sectors s slot i) (loosely_passed t slot i)
+    by_smaller why None f e = kept_below sectors slot s t i why r a u g e f
+    by_smaller why (Some other) f e = loose_below slot s t i a u g
+
+    by_rule : (m : Option VerifierCause) → first_failing (rules t i) ≡ m
+        → SentUnder (if is_some (first_failing (rules s i)) then loosely_passed s slot i else passes sectors s slot i) (if is_some m then loosely_passed t slot i else passes sectors t slot i)
+    by_rule None e = rw (rules_mono s t i r a b u e) (passes_mono sectors slot s t i r a b u e)
+    by_rule (Some why) e = by_smaller why (first_failing (rules s i)) e refl
