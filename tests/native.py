@@ -1,7 +1,7 @@
 #!/usr/bin/env python3
 """Compares checkers in C with their native builds (examples/native/checker.h). The gate doesn't run it: it needs compilers.
 
-    python3 tests/native.py [--compiler NAME].. [--images N] [--only WORD] [PROGRAM]
+    python3 tests/native.py [--compiler NAME].. [--guards] [--images N] [--only WORD] [PROGRAM]
 
 PROGRAM is as in run.py. Each checker of examples/, as its stored bytes, and with --compiler each of tests/plain/ that
 examples/cc/crashbpf-cc makes with that compiler and the verifier accepts, judges N images (1,000), and so does what `cc`
@@ -13,6 +13,9 @@ texts of the source are put where fields stand mostly, and one that gave another
 the turns of a plain loop are spent (answer 1000000), the native build, whose loops have no bound, is asked nothing. Where
 a read has ended the run (answer 1000001), the native build has to read outside of a sector too: AddressSanitizer says so,
 for the first 25 such images of a checker.
+
+With --guards the tool takes what `verify --guards` accepts of tests/plain. Where such a program strays, the native build has
+to read or write outside too, on the first 25 such images.
 
 Prints for each compiler which of tests/plain are accepted, a line for each that failed, and last `N passed, M failed`.
 """
@@ -35,7 +38,7 @@ from rows import checkers
 CC = TOP / "examples/cc/crashbpf-cc"
 NATIVE = TOP / "examples/native/checker.h"
 SECTORS = checkers.SECTORS
-SPENT, OUTSIDE = "1000000", "1000001"
+SPENT, OUTSIDE, STRAY = "1000000", "1000001", "stray"
 # What a native build answers that was ended by a signal or a sanitizer.
 STRAYED = ("strayed", "")
 STRAYS = 25
@@ -54,6 +57,7 @@ class Checker:
     function: str = "check"
     stored: object = None
     devices: list = field(default_factory=list)
+    options: list = field(default_factory=list)
 
     def name(self):
         return f"{self.source.parent.name}/{self.source.stem}" + (f" {self.function}" if self.function != "check" else "")
@@ -70,9 +74,9 @@ def stored():
         yield Checker(refused, f"{name}_cured", path, checkers.CURED_DEVICES.get(name, []))
 
 
-def plain():
+def plain(options):
     for path in sorted((TOP / "tests/plain").glob("*/*.c")):
-        yield Checker(path)
+        yield Checker(path, options=options)
 
 
 class Images:
@@ -173,17 +177,16 @@ def native(checker, folder, *options):
     return judge
 
 
-def judged(program, code, entries, cuts, folder):
-    """What the program answers on the images of a log at those cuts."""
+def judged(program, options, entries, cuts, folder):
+    """What the program `p` of the folder answers on the images of a log at those cuts, run with these options."""
     (folder / "log").write_bytes(log(entries))
-    (folder / "p").write_bytes(code)
-    words = [program, "explore", "log", "p", "--sectors", str(SECTORS), "--cuts", "flush", "--bound", "0"]
+    words = [program, "explore", "log", "p", "--sectors", str(SECTORS), "--cuts", "flush", "--bound", "0", *options]
     done = subprocess.run(words, capture_output=True, text=True, cwd=folder)
     if done.returncode == 2:
         return [(done.stderr.split("\n")[0], "")] * len(cuts)
     found = {}
-    for it in re.finditer(r"^image \d+ cut (\d+) program 0 (answer|fault|out) (\S+)(?: codes (\S+))?", done.stdout, re.M):
-        found[int(it[1])] = (it[3], it[4])
+    for it in re.finditer(r"^image \d+ cut (\d+) program 0 (answer|fault|out|stray) (\S+)(?: codes (\S+))?", done.stdout, re.M):
+        found[int(it[1])] = (it[2] if it[2] == STRAY else it[3], it[4])
     return [found.get(it.cut, ("0", None)) for it in cuts]
 
 
@@ -205,7 +208,7 @@ def logged(images, rng):
 
 def differing(found, wanted):
     """Whether a program answers otherwise than its native build; codes aren't told of a good image."""
-    if found[0] in (SPENT, OUTSIDE):
+    if found[0] in (SPENT, OUTSIDE, STRAY):
         return False
     return found[0] != wanted[0] or (found[1] is not None and found[1] != wanted[1])
 
@@ -217,6 +220,7 @@ def compare(program, checker, code, count, folder):
     strays = native(checker, folder, "-fsanitize=address", "-fno-omit-frame-pointer")
     images = Images(checker.source.read_text(), [checkers.device(it[0]) for it in checker.devices], rng)
     answers, wrong = Counter(), []
+    (folder / "p").write_bytes(code)
     for start in range(0, count, LOG):
         drawn = []
         for _ in range(start, min(count, start + LOG), ROUND):
@@ -224,9 +228,9 @@ def compare(program, checker, code, count, folder):
             images.keep(some, judge([Cut(it, 0, 0, 0) for it in some]))
             drawn += some
         entries, cuts = logged(drawn, rng)
-        for cut, found, wanted in zip(cuts, judged(program, code, entries, cuts, folder), judge(cuts)):
+        for cut, found, wanted in zip(cuts, judged(program, checker.options, entries, cuts, folder), judge(cuts)):
             answers[found[0]] += 1
-            if found[0] == OUTSIDE and answers[OUTSIDE] <= STRAYS and strays([cut]) != [STRAYED]:
+            if found[0] in (OUTSIDE, STRAY) and answers[found[0]] <= STRAYS and strays([cut]) != [STRAYED]:
                 wrong.append(f"{checker.name()}: the program answers {found}, and the native build reads nothing outside")
             if differing(found, wanted):
                 wrong.append(f"{checker.name()}: the program answers {found}, the native build {wanted} ({cut.marks} marks)")
@@ -244,10 +248,10 @@ def known(checker, folder):
 
 
 def compiled(checker, compiler, folder, program):
-    """The program that crashbpf-cc makes, or what it says in its place."""
+    """The program that crashbpf-cc makes with the checker's options, or what it says in its place."""
     out = folder / "compiled.bpf"
     path = os.pathsep.join([str(program.parent), os.environ["PATH"]])
-    words = [CC, checker.source, checker.function, out, "--sectors", str(SECTORS), "--compiler", compiler]
+    words = [CC, checker.source, checker.function, out, "--sectors", str(SECTORS), "--compiler", compiler, *checker.options]
     done = subprocess.run(words, capture_output=True, text=True, env={**os.environ, "PATH": path})
     if done.returncode == 0:
         return out.read_bytes(), done.stdout.split("\n")[0]
@@ -263,7 +267,7 @@ def jobs(asked, program, folder):
             yield checker, checker.stored.read_bytes()
     for compiler in asked.compiler:
         count = Counter()
-        for checker in plain():
+        for checker in plain(["--guards"] * asked.guards):
             if asked.only not in checker.name():
                 continue
             code, said = compiled(checker, compiler, folder, program)
@@ -280,6 +284,7 @@ def jobs(asked, program, folder):
 def main():
     parser = argparse.ArgumentParser()
     parser.add_argument("--compiler", action="append", default=[])
+    parser.add_argument("--guards", action="store_true")
     parser.add_argument("--images", type=int, default=1000)
     parser.add_argument("--only", default="")
     parser.add_argument("program", nargs="?", default=TOP / "crates/crashbpf/out/crashbpf", type=Path)
