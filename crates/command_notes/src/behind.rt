@@ -274,11 +274,7 @@ fn is_weakened(cause: VerifierCause) -> bool {
 
 /// What is said of guards where these words ask for none.
 fn unasked_note(words: OptionWords) -> Option<&'static str> {
-    if words.guards {
-        None
-    } else {
-        Some(GUARDS_MAY)
-    }
+    if words.guards { None } else { Some(GUARDS_MAY) }
 }
 
 /// What a command that verifies programs says of guards, where it was asked for none.

@@ -20,6 +20,6 @@ returns-in-Answer c =
     let long : length values ≡ 11 = length-map s.values kind_of ∙ s.registers in
     c.answer_behind.ensures
     ∙ elim c.in-Answer.is as (λ v. (if k == 0 then answer else (if nat_le k 5 then Unset else other)) ≡ value (after_change (state_of s) c.args.self.now) k) [
-      inl e ↦ rw e (answered_at values groups answer k other long c.at-in-Answer.ensures)
-    | inr p ↦ rw p.1 (answered_at values (groups_after_write p.0.at p.0.n groups) answer k other long c.at-in-Answer.ensures)
+      | inl e ↦ rw e (answered_at values groups answer k other long c.at-in-Answer.ensures)
+      | inr p ↦ rw p.1 (answered_at values (groups_after_write p.0.at p.0.n groups) answer k other long c.at-in-Answer.ensures)
     ]
