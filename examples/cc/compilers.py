@@ -119,7 +119,12 @@ class Gcc:
         # A switch stays code, and doesn't become a table.
         whole += ["-fno-jump-tables", "-fno-tree-switch-conversion"]
         # Without -malu32 gcc 12 takes `and r, -1` for a cut to 32 bits, which cuts nothing off.
-        self.target = [name, "-mcpu=v2", "-malu32", "-O2", *whole, *HEADERS]
+        self.target = [name, "-mcpu=v2", "-malu32", "-O2", *whole, *self.dialect(), *HEADERS]
+
+    def dialect(self):
+        """What makes gcc 14 and newer take assembly as gcc 12 does: without it, that is written as for clang."""
+        version = run([self.name, "-dumpversion"]).stdout if shutil.which(self.name) else ""
+        return ["-masm=normal"] if int(version.partition(".")[0] or 0) >= 14 else []
 
     def tools(self):
         return [self.name, self.objdump, self.readelf]
@@ -131,7 +136,7 @@ class Gcc:
         return run([*self.target, *definitions, "-Wall", "-fsyntax-only", source])
 
     def compile(self, text, options, out):
-        words = [*self.target, "-g", "-w", "-ffunction-sections"]
+        words = [*self.target, "-gdwarf", "-w", "-ffunction-sections"]
         words += ["-fno-tree-loop-distribute-patterns", "-fno-ipa-cp", "-fno-ipa-sra"]
         return run([*words, *options, "-c", "-x", "cpp-output", "-", "-o", out], input=text)
 
