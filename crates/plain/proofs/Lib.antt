@@ -1,3 +1,4 @@
+pub mod Clean
 pub mod Counts
 pub mod Records
 pub mod Reaching

@@ -1,6 +1,7 @@
 -- The plain machine, how it agrees with the machine, and its runs.
 pub mod Operations
 pub mod Machine
+pub mod Clean
 pub mod Callers
 pub mod Blocks
 pub mod Steps
