@@ -444,14 +444,18 @@ INSIDE = "; an access of size 8 at +508 has to lie within its 512"
 NO_ADDRESS = "; an address is wanted"
 TOLD = {error: told for _, error, *told in RULES}
 
-# Of the rules that there aren't with guards: what may accept the program.
+# Where what is known at the slot breaks no rule with guards: what may accept the program.
 GUARDS = "--guards may accept the program as it is: its runs then test the places that aren't proved, and an image on which one is outside fails (docs/CHECKERS.md, With guards)"
 GUARDS_ELSEWHERE = "'crashbpf explore --guards' may accept the program as it is (docs/CHECKERS.md, With guards); here --checked N runs it without the verifier"
 
 
+# Refusals by rules that there are with guards, which don't break them there.
+WEAKENED = ["50 at 3", "50 at 4", "56 at 0", "56 at 1"]
+
+
 def of_guards(error, note=GUARDS):
     """The note of guards, where there is one behind a refusal."""
-    return [note] if 51 <= int(error.split()[0]) <= 55 else []
+    return [note] if 51 <= int(error.split()[0]) <= 55 or error in WEAKENED else []
 
 
 KNOWN = [
@@ -479,6 +483,13 @@ KNOWN = [
         "r2: the stack, 8 below r10",
         "r3: the number 600",
     ),
+    (
+        "mov64 r6, r10; ldxdw r2, [r1+8]; jeq r2, 0, +1; mov64 r6, r1; ldxdw r0, [r6-8]; exit",
+        "50 at 4",
+        "ldxdw r0, [r6-8]",
+        "r6: unset, or not of one kind on all paths",
+    ),
+    ("mov64 r1, r10; callf +1; exit; ldxb r0, [r1-1]; exit", "50 at 3", "ldxb r0, [r1-1]", "r1: unset, or not of one kind on all paths"),
     ("mov64 r2, 0; call 7; exit", "56 at 1", "call 7", "r1: the context, offset 0", "r2: the number 0"),
 ]
 
@@ -487,7 +498,7 @@ def known(text, error, instruction, *registers):
     """A row of a program that breaks the rule of an instruction."""
     number, slot = error.split(" at ")
     rule, cure = next(told[-2:] for of, told in TOLD.items() if of.startswith(number))
-    return noted(f"known at {instruction}", "verify p --sectors 4", {"p": program(text)}, f"refused {error}", f"slot {slot}: {instruction}", *registers, rule, cure, *of_guards(number))
+    return noted(f"known at {instruction}", "verify p --sectors 4", {"p": program(text)}, f"refused {error}", f"slot {slot}: {instruction}", *registers, rule, cure, *of_guards(error))
 
 
 VERIFIER = [known(*row) for row in KNOWN] + [

@@ -6,13 +6,14 @@ use base::causes::{CodeCause, JoinCause, LogCause, RequestCause, VerifierCause};
 use base::refusal::{Cause, Refusal};
 use command_line::Words;
 use epochs::{By, CutKind};
-use facts::{Facts, Fewer, Smaller};
+use facts::{Breach, Facts, Fewer, Smaller};
 use limits::Limits;
 use logfmt::read;
 use notes::{
     asm_cure, code_cure, log_cure, put_entry, put_escaped, put_least, put_note, put_refused,
     verifier_cure,
 };
+use ranges::check_with_guards;
 use request::{Extent, OptionWords, Request};
 use std::alloc::{AllocError, Global};
 use std::fmt::Display;
@@ -260,16 +261,17 @@ fn run_options(request: Request) -> Option<OptionWords> {
     }
 }
 
-/// Whether there is no such rule with guards.
-fn is_weakened(cause: VerifierCause) -> bool {
-    matches!(
-        cause,
-        VerifierCause::UnsetByte
-            | VerifierCause::OutsideRegion
-            | VerifierCause::ReadOnly
-            | VerifierCause::PointerArithmetic
-            | VerifierCause::PointerAsNumber
-    )
+/// Whether what is known where a program is refused breaks no rule with guards.
+fn is_weakened(breach: &Option<Breach>) -> bool {
+    match breach {
+        Some(
+            Breach {
+                instr: Some(instr),
+                state: Some(state),
+            },
+        ) => check_with_guards(instr, state).is_ok(),
+        _ => false,
+    }
 }
 
 /// What is said of guards where these words ask for none.
@@ -288,10 +290,14 @@ fn guards_note(request: Request) -> Option<&'static str> {
     }
 }
 
-/// Appends that guards may help, where a rule is broken that there isn't with them.
-fn put_guards(out: &mut String, request: Request, cause: VerifierCause) -> Result<(), AllocError> {
+/// Appends that guards may help, where none of their rules is broken.
+fn put_guards(
+    out: &mut String,
+    request: Request,
+    breach: &Option<Breach>,
+) -> Result<(), AllocError> {
     match guards_note(request) {
-        Some(text) if is_weakened(cause) => put_note(out, text),
+        Some(text) if is_weakened(breach) => put_note(out, text),
         _ => Ok(()),
     }
 }
@@ -309,7 +315,7 @@ fn put_verifier_notes(
         put_breach(out, slot, &facts.breach)?;
     }
     put_cause(alloc, out, &cause, verifier_cure(cause))?;
-    put_guards(out, request, cause)
+    put_guards(out, request, &facts.breach)
 }
 
 /// Appends how many images a log has with other cuts, where it has some, and not too many.
