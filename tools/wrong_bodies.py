@@ -38,23 +38,33 @@ IN_SOURCE = re.compile(r"(?:note: )?(?:\./)?(src/\S+\.rt):(\d+):\d+: (?:error: )
 IN_PROOF = re.compile(r"(?:\./)?proofs/(\S+)\.antt:(\d+):\d+: error: (.*)")
 VERDICT = re.compile(r"fn (\S+): (?:no proof|not proved)(.*)")
 LOST_NAME = re.compile(r"has no field|is not in scope|has no `|was not admitted")
+TYPE = re.compile(r"\b(?:struct|enum)\s+(\w+)")
+
+
+def module_of(path):
+    """Returns the names of the module that a source file has."""
+    return [it for it in path[len("src/") : -len(".rt")].split("/") if it not in ("lib", "main", "mod")]
 
 
 class Function:
-    """A function of a source file: its name, the type whose impl it stands in, and its lines from the first to the last."""
+    """A function of a source file: its name, the type whose impl it stands in, and its lines from the first to the last.
+
+    Its proof stands below one of its modules: the file's, or for a method that of the type.
+    """
 
     def __init__(self, path, name, of, first, last):
         self.path, self.name, self.of, self.first, self.last = path, name, of, first, last
-        self.module = [it for it in path[len("src/") : -len(".rt")].split("/") if it not in ("lib", "main", "mod")]
+        self.modules = [module_of(path)]
 
     def holds(self, path, line):
         return path == self.path and self.first <= line <= self.last
 
     def is_in(self, parts, words):
         """Returns whether the parts of a path are those of this function, or of what stands inside it."""
-        if parts[: len(self.module)] != self.module:
-            return False
-        parts = parts[len(self.module) :]
+        return any(parts[: len(it)] == it and self.is_below(parts[len(it) :], words) for it in self.modules)
+
+    def is_below(self, parts, words):
+        """The same of the parts behind those of a module."""
         if self.of and not (parts and parts[0].startswith(self.of)):
             return False
         inner = parts[1:] if self.of else parts
@@ -102,6 +112,11 @@ class Sources:
         read = rt.rtlib.blanked(crate.folder)
         self.texts = {os.path.relpath(file, crate.folder): text for file, text in read.items() if file.endswith(".rt")}
         self.functions = [it for path, text in self.texts.items() for it in functions_of(path, text)]
+        for path, text in self.texts.items():
+            named = set(TYPE.findall(text))
+            for it in self.functions:
+                if it.of in named and module_of(path) not in it.modules:
+                    it.modules.append(module_of(path))
 
     def at(self, path, line):
         """Returns the innermost function at a line, or None."""

@@ -219,8 +219,21 @@ FAULTY = [
     "list p0 --guards",
 ]
 
-# A refusal with guards has no note of guards
+# A refusal with guards has no note of guards, and names what helps against the rules that are left
 NOTED = [
+    Row(
+        told("notes of an unset register"),
+        "verify p --sectors 4 --guards",
+        {"p": program("mov64 r0, r2; exit")},
+        status=2,
+        error="refused 50 at 0",
+        notes=[
+            "slot 0: mov64 r0, r2",
+            "r2: unset, or not of one kind on all paths",
+            "a register that is read may be unset (docs/VERIFIER.md, Rules at a slot)",
+            "give each variable a value, in C on each path; a checker has one parameter, the context",
+        ],
+    ),
     Row(
         told("notes of a refusal"),
         "verify p --sectors 4 --guards",
@@ -233,7 +246,7 @@ NOTED = [
             "r2: the stack, 0 below r10",
             "r3: unset, or not of one kind on all paths",
             "an argument of the helper isn't of its kind (docs/VERIFIER.md, Rules at a slot)",
-            "copy takes a local and a constant length from 1 to 512; the others take numbers, a sector by its number",
+            "copy takes a constant length from 1 to 512",
         ],
     ),
 ]

@@ -10,8 +10,8 @@ use facts::{Breach, Facts, Fewer, Smaller};
 use limits::Limits;
 use logfmt::read;
 use notes::{
-    asm_cure, code_cure, log_cure, put_entry, put_escaped, put_least, put_note, put_refused,
-    verifier_cure,
+    asm_cure, code_cure, guarded_cure, log_cure, put_entry, put_escaped, put_least, put_note,
+    put_refused, verifier_cure,
 };
 use ranges::check_with_guards;
 use request::{Extent, OptionWords, Request};
@@ -274,17 +274,21 @@ fn is_weakened(breach: &Option<Breach>) -> bool {
     }
 }
 
-/// What is said of guards where these words ask for none.
-fn unasked_note(words: OptionWords) -> Option<&'static str> {
-    if words.guards { None } else { Some(GUARDS_MAY) }
+/// Whether a command that verifies programs was asked for guards.
+fn asks_for_guards(request: &Request) -> bool {
+    match request {
+        Request::Verify { words, .. } => words.guards,
+        Request::Explore(words) | Request::Why(words) => words.guards,
+        Request::Cure(words) | Request::Page(words) => words.guards,
+        _ => false,
+    }
 }
 
 /// What a command that verifies programs says of guards, where it was asked for none.
 fn guards_note(request: Request) -> Option<&'static str> {
     match request {
-        Request::Verify { words, .. } => unasked_note(words),
-        Request::Explore(words) | Request::Why(words) => unasked_note(words),
-        Request::Cure(words) | Request::Page(words) => unasked_note(words),
+        Request::Verify { .. } | Request::Explore(_) | Request::Why(_) => Some(GUARDS_MAY),
+        Request::Cure(_) | Request::Page(_) => Some(GUARDS_MAY),
         Request::Check(_) => Some(GUARDS_ELSEWHERE),
         _ => None,
     }
@@ -302,6 +306,15 @@ fn put_guards(
     }
 }
 
+/// What most likely helps a command whose program is refused.
+fn program_cure(request: &Request, cause: VerifierCause) -> &'static str {
+    if asks_for_guards(request) {
+        guarded_cure(cause)
+    } else {
+        verifier_cure(cause)
+    }
+}
+
 /// Appends which rule a program breaks, the instruction that does, and what is known there.
 fn put_verifier_notes(
     alloc: Global,
@@ -314,7 +327,8 @@ fn put_verifier_notes(
     if names_instruction(cause) {
         put_breach(out, slot, &facts.breach)?;
     }
-    put_cause(alloc, out, &cause, verifier_cure(cause))?;
+    let cure = program_cure(&request, cause);
+    put_cause(alloc, out, &cause, cure)?;
     put_guards(out, request, &facts.breach)
 }
 

@@ -76,3 +76,14 @@ pub fn verifier_cure(cause: VerifierCause) -> &'static str {
         _ => "",
     }
 }
+
+/// The same for a program that is to be accepted with guards, whose rules are fewer (docs/VERIFIER.md, Guards).
+pub fn guarded_cure(cause: VerifierCause) -> &'static str {
+    match cause {
+        VerifierCause::UnsetRegister => {
+            "give each variable a value, in C on each path; a checker has one parameter, the context"
+        }
+        VerifierCause::HelperArgument => "copy takes a constant length from 1 to 512",
+        _ => verifier_cure(cause),
+    }
+}

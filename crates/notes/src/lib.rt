@@ -18,7 +18,7 @@
 //! | `put_entry_line(out, number, epoch, entry)` | a line of the table |
 //! | `put_least(out, log)` | the size of the least device that holds a log |
 //! | `put_escaped(out, bytes)` | bytes of a foreign text, so that they stay on their line |
-//! | `log_cure`, `code_cure`, `asm_cure`, `verifier_cure` | what most likely helps against a refusal; what it means is the text of its cause |
+//! | `log_cure`, `code_cure`, `asm_cure`, `verifier_cure`, `guarded_cure` | what most likely helps against a refusal; what it means is the text of its cause |
 //!
 //! # What is proved
 //!
@@ -46,7 +46,7 @@ mod line;
 mod listing;
 mod table;
 
-pub use cures::{asm_cure, code_cure, log_cure, verifier_cure};
+pub use cures::{asm_cure, code_cure, guarded_cure, log_cure, verifier_cure};
 pub use device::put_least;
 pub use escaped::put_escaped;
 pub use known::put_known;
