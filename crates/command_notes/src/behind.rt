@@ -284,7 +284,7 @@ fn asks_for_guards(request: &Request) -> bool {
     }
 }
 
-/// What a command that verifies programs says of guards, where it was asked for none.
+/// What a command that verifies programs says where guards may help.
 fn guards_note(request: Request) -> Option<&'static str> {
     match request {
         Request::Verify { .. } | Request::Explore(_) | Request::Why(_) => Some(GUARDS_MAY),
@@ -294,7 +294,7 @@ fn guards_note(request: Request) -> Option<&'static str> {
     }
 }
 
-/// Appends that guards may help, where none of their rules is broken.
+/// Appends that guards may help, where none of their rules is broken. With guards a refusal breaks one of them.
 fn put_guards(
     out: &mut String,
     request: Request,
