@@ -20,6 +20,7 @@ import subprocess
 import sys
 import tempfile
 import time
+from concurrent.futures import ThreadPoolExecutor
 from pathlib import Path
 
 sys.dont_write_bytecode = True
@@ -97,15 +98,69 @@ def refuses(folder):
         "disk.log report --": "each: usage: ",
         "disk.log absent -- true": "each: the file absent can't be read",
         "disk.log one.s -- true": "each: one.s is no report of explore or why",
-        "one.s report -- true": "each: image 0 can't be made",
+        "disk.log . -- true": "each: the report . is cut off",
+        "one.s report -- true": "each: the log one.s can't be explored with the options of the report",
+        "disk.log report -- -true": "each: usage: ",
+        """disk.log report --base 'a\nb' -- true""": "each: an option has a newline in it",
+        "absent report -- true": "each: the log absent can't be explored",
+        "longer.log report -- true": "each: the report is of 3 images, and the log has others",
+        "flush.log report -- true": "each: the report is of another log or other options: sectors 4 entries 1 cuts all",
+        "disk.log report --by write -- true": "each: the report is of another log or other options",
+        "disk.log report --base one.s -- true": "each: the report is of another log or other options",
+        "disk.log report --tears -- true": "each: the report is of 3 images, and the log has others",
         "disk.log later -- true": "each: the report was made with base: give its option --base",
     }
+    Path(folder, "longer.log").write_bytes(log([W(0, 1, 1), W(0, 1, 1)]))
+    Path(folder, "flush.log").write_bytes(log([F, F]))
     Path(folder, "later").write_text(Path(folder, "report").read_text().replace("first no", "first no base 77", 1))
     for words, line in cases.items():
         done = sh(folder, f'"$1" {words}', EACH)
         found += differs(f"the status of {words!r}", done.returncode, 2)
         found += [] if line in done.stderr else [f"{words!r} says {done.stderr!r}"]
     return found
+
+
+def cut_off(text):
+    """A report that is cut off in many ways, without one of its failing lines, or with one twice."""
+    lines = text.splitlines(keepends=True)
+    ends = [sum(map(len, lines[:it])) for it in range(len(lines) + 1)]
+    yield from (text[: end + it] for end in ends for it in (-2, -1, 0, 1) if 0 <= end + it < len(text))
+    failing = [at for at, line in enumerate(lines) if line.startswith(("image ", "group "))]
+    yield from ("".join(lines[:at] + [lines[at]] * times + lines[at + 1 :]) for at in failing for times in (0, 2))
+    yield from (text + it for it in ("\n", lines[-1], lines[-2], text))
+
+
+def refuses_cut_reports(folder):
+    """What is wrong with reports that aren't whole: none is taken for the report of fewer failures."""
+    run = Run([W(0, 1, 1), W(1, 1, 2), F, W(0, 1, 3)], bound=2)
+    found, reports = [], []
+    for command, options in (("explore", ""), ("explore", "--first"), ("why", "")):
+        found += explored(folder, run, command, options)
+        reports += [(f"{command} {options}", it) for it in cut_off(Path(folder, "report").read_text())]
+
+    def judged(number):
+        Path(folder, f"report.{number}").write_text(reports[number][1])
+        done = sh(folder, f'"$1" disk.log report.{number} -- true', EACH)
+        right = done.returncode == 2 and not done.stdout and re.fullmatch("each: .*\n", done.stderr)
+        return [] if right else [f"a report of {reports[number][0]} ends with {done.returncode}: {reports[number][1]!r}"]
+
+    with ThreadPoolExecutor(8) as pool:
+        return found + [line for lines in pool.map(judged, range(len(reports))) for line in lines]
+
+
+def takes_any_name(folder):
+    """What is wrong where files and words have odd names."""
+    run = Run([W(0, 1, 1)])
+    found = explored(folder, run)
+    wanted = "\n".join([*(told(it, 0) for it in run.images()), "images 3 failing 0", ""])
+    for name in ("x=y", "-n", "a b", "*", "two\nlines", "$(touch stolen)", "NR=7"):
+        for file, words in (("report", ["./disk.log", name]), ("disk.log", [name, "report"])):
+            shutil.copy(Path(folder, file), Path(folder, name))
+            done = sh(folder, '"$@"', EACH, *words, "--", "sh", "-c", '[ "$2" = "$3" ]', "{}", "{}", name, name)
+            found += differs(f"the output of {words!r}", (done.returncode, done.stdout, done.stderr), (0, wanted, ""))
+            Path(folder, name).unlink()
+    piped = sh(folder, 'cat report | "$1" disk.log /dev/stdin -- true', EACH)
+    return found + differs("the output of a report from a pipe", (piped.returncode, piped.stdout), (0, wanted))
 
 
 def image_blocks(path):
@@ -457,6 +512,8 @@ def rows():
     yield "images of a large device", gives_large
     yield "groups of why", gives_groups
     yield "refusals", refuses
+    yield "reports that are cut off", refuses_cut_reports
+    yield "odd names", takes_any_name
     if all(map(shutil.which, TOOLS)):
         yield "images of ext2", gives_ext2
     else:
