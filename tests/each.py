@@ -80,6 +80,17 @@ def gives_large(folder):
     return found
 
 
+def gives_many(folder):
+    """What is wrong with an image of a run that one process doesn't judge, of which the report was joined."""
+    Path(folder, "disk.log").write_bytes(log([W(0, 40, 1)]))
+    head = "sectors 40 entries 1 cuts flush bound 3 tears yes first no\nprogram 0 slots 2 budget 2\n"
+    failing = "image 33521100 cut 1 program 0 answer 1 codes - choice 0.37:tail7,0.38:tail7,0.39:tail7\n"
+    Path(folder, "report").write_text(f"crash report 2\n{head}{failing}images 33521101 failing 1 lines 1\n")
+    done = sh(folder, '"$1" disk.log report -- sh -c \'[ "$(wc -c < "$1")" = 20480 ]\' name {}', EACH)
+    wanted = "image 33521100 cut 1 choice 0.37:tail7,0.38:tail7,0.39:tail7 status 0\nimages 1 failing 0\n"
+    return differs("the output", (done.returncode, done.stdout, done.stderr), (0, wanted, ""))
+
+
 def gives_groups(folder):
     """What is wrong with the images of groups: where each image fails, the one of each cut in which nothing departs."""
     run = Run([W(0, 1, 1), W(1, 1, 2), F, W(0, 1, 3)], bound=2)
@@ -510,6 +521,7 @@ def rows():
         folder, Run(small, bound=2, by="write", flush=(1, 5), first=2, last=5)
     )
     yield "images of a large device", gives_large
+    yield "an image of a run in parts", gives_many
     yield "groups of why", gives_groups
     yield "refusals", refuses
     yield "reports that are cut off", refuses_cut_reports

@@ -372,6 +372,8 @@ def fuzzed(folder, seed, count):
             pass
         except Exception as error:
             return f"{bytes(trace)!r} ends in {error!r}"
+        for file in made.sources.values():
+            file.close()
     return None
 
 
