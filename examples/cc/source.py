@@ -90,7 +90,10 @@ class Source:
         self.text = text
         self.tokens = tokens_of(text)
         self.functions, self.loops = [], []
-        self.outside()
+        try:
+            self.outside()
+        except RecursionError:
+            raise Unread("its brackets stand too deep within each other") from None
 
     def word(self, at):
         return self.tokens[at].text if at < len(self.tokens) else ""
@@ -218,8 +221,10 @@ class Source:
         """Whether it stays a function: LOCAL gives it a section."""
         return any(it.text in ("section", "__section__") for it in self.tokens[function.declared : function.body])
 
-    def local_names(self):
-        return {it.name for it in self.functions if self.is_local(it)}
+    def is_hidden(self, function):
+        """Whether the compiler leaves it out where nobody calls it."""
+        words = {it.text for it in self.tokens[function.declared : function.body]}
+        return bool(words & {"static", "inline", "__inline", "__inline__"})
 
     def inlined(self, checker):
         """Edits that inline each function but the checker and the LOCAL ones: a place, how much goes, what comes."""
