@@ -10,6 +10,7 @@ line for each that failed, and last `N passed, M failed`. What needs no compiler
 """
 import argparse
 import os
+import random
 import re
 import subprocess
 import sys
@@ -18,10 +19,18 @@ from pathlib import Path
 
 sys.dont_write_bytecode = True
 
+from cc_faults import changed, looked_at
 from notation import SECTOR, TOP, S, log
+
+from compilers import compiler as compiler_of
+from program import NoProgram, Object
+from work import Work
 
 CC = TOP / "examples/cc/crashbpf-cc"
 STORED_BY = "14.0.6"
+# How many object files are cut off, and how many are changed; and of how many the listing is read.
+CUT, CHANGED, LISTED = 300, 1000, 50
+SECONDS = 60
 
 
 def cc(compiler, *words, program=None):
@@ -281,6 +290,30 @@ def large(compiler, folder, program):
         yield None if good else f"{compiler} with {sectors} sectors {words}: status {done.returncode} {done.stderr}"
 
 
+def odd_objects(compiler, folder):
+    """What isn't read or refused, of a real object file that is cut off or changed."""
+    found, path, rng = compiler_of(compiler, Work(SECONDS).run), folder / "odd.o", random.Random(compiler)
+    text = found.preprocess(TOP / "examples/tree/checker.c", []).stdout
+    found.compile(text, [], path)
+    whole = path.read_bytes()
+    some = [whole[: rng.randrange(len(whole))] for _ in range(CUT)] + [changed(whole, rng) for _ in range(CHANGED)]
+    for number, it in enumerate(some):
+        try:
+            looked_at(it)
+            if number % (len(some) // LISTED) == 0:
+                path.write_bytes(it)
+                object_ = Object(it)
+                function = object_.function("check")
+                found.lines(path, object_, function.section if function else 1)
+        except NoProgram:
+            pass
+        except Exception as error:
+            (folder / "odd.bad").write_bytes(it)
+            yield f"{compiler} odd object {number}: {error!r}"
+            return
+    yield None
+
+
 def version(compiler):
     return subprocess.run([compiler, "--version"], capture_output=True, text=True).stdout.split("\n")[0]
 
@@ -291,6 +324,7 @@ def found_by(compiler, folder, program):
     else:
         print(f"{compiler} isn't clang {STORED_BY}, so the stored bytes aren't compared")
     yield from refusals(compiler, folder)
+    yield from odd_objects(compiler, folder)
     if program.exists():
         yield from runs(compiler, folder, program)
         yield from large(compiler, folder, program)

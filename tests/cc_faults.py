@@ -296,7 +296,7 @@ ACCEPTED = [
     (NULL_POINTER, "--guards", 0, "accepted budget 4 guards 1\n", GUARDED, LINES),
     (NULL_POINTER, "--no-guards", 2, "", REFUSED, None),
     ("mov64 r0, r1; exit", "", 0, "accepted budget 2 guards 0\n", "cc: accepted with guards: explore needs --guards\n", "0 source.c 10\n1 source.c 11\n"),
-    ("ldxb r0, [r3+0]; mov64 r0, 0; jne r0, 1, -2; exit", "", 2, "", "refused 42 at 2\n", None),
+    ("ldxb r0, [r3+0]; mov64 r0, 0; jne r0, 1, -2; exit", "", 2, "", "refused 42 at 1\n", None),
     ("mov64 r1, 1; mov64 r2, r10; ldxdw r3, [r10-8]; call 2; exit", "", 2, "", "refused 56 at 3\n", None),
     ("mov64 r0, 0; exit; exit", "", 0, "accepted budget 2\n", "note: instructions that no run reaches: 1", "0 source.c 10\n1 source.c 11\n2 source.c 12\n"),
 ]

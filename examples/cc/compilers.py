@@ -40,19 +40,9 @@ def hints_for(said):
 class Clang:
     """clang 14 or newer, and llvm-objdump of the same version."""
 
-    # The ways in which a checker is compiled, one after the other until a program is accepted: what is done to its
-    # text (source.py), and more options.
-    WAYS = [
-        ("", []),
-        ("", LOOPS_STAY),
-        ("kept", LOOPS_STAY),
-        ("kept tested", LOOPS_STAY),
-        ("", [*LOOPS_STAY, *AS_WRITTEN]),
-        ("kept", [*LOOPS_STAY, *AS_WRITTEN]),
-        ("kept tested", [*LOOPS_STAY, *AS_WRITTEN]),
-        ("pinned kept tested", LOOPS_STAY),
-        ("pinned kept tested", [*LOOPS_STAY, *AS_WRITTEN]),
-    ]
+    # The ways in which a checker is compiled: whether the compiler knows nothing of the variables of a loop's condition where
+    # that is tested (source.py), and more options.
+    WAYS = [(False, []), (True, LOOPS_STAY), (True, [*LOOPS_STAY, *AS_WRITTEN])]
 
     def __init__(self, name, run):
         self.name, self.run = name, run
@@ -103,7 +93,7 @@ class Clang:
 class Gcc:
     """gcc 12 or newer as it is built for BPF, with binutils of the same target."""
 
-    WAYS = [("", []), ("kept", []), ("tested", []), ("kept tested", []), ("kept tested", ["-O1"]), ("pinned kept tested", [])]
+    WAYS = [(False, []), (True, []), (True, ["-O1"])]
 
     def __init__(self, name, run):
         self.name, self.run = name, run
