@@ -473,7 +473,7 @@ def leaves_nothing(folder):
             surroundings = {**os.environ, "CRASHBPF": str(Path(folder, "slow")), "SLOW": command}
             call = subprocess.Popen(words.split(), cwd=folder, env=surroundings, stdout=subprocess.PIPE, stderr=subprocess.PIPE, start_new_session=True)
             while not Path(folder, "going").exists() and call.poll() is None:
-                time.sleep(0.01)
+                time.sleep(0.02)
             call.send_signal(number)
             try:
                 printed = call.communicate(timeout=20)[0]

@@ -12,6 +12,7 @@ import io
 import itertools
 import os
 import random
+import re
 import resource
 import signal
 import stat
@@ -19,6 +20,7 @@ import struct
 import subprocess
 import sys
 import tempfile
+import time
 from concurrent.futures import ThreadPoolExecutor
 from pathlib import Path
 
@@ -299,8 +301,11 @@ def streams(folder):
         yield None if done.stderr.decode() == f"trace_log: -:{said}\n" else f"an endless trace: '{done.stderr.decode()}'"
     # On a signal nothing is left, and nothing said.
     call = subprocess.Popen([sys.executable, "-S", TOOL, "-", "made.log"], cwd=folder, stdin=subprocess.PIPE, stdout=subprocess.PIPE, stderr=subprocess.PIPE)
-    while not int(next(it for it in Path(f"/proc/{call.pid}/status").read_text().splitlines() if it.startswith("SigCgt")).split()[1], 16) >> signal.SIGTERM - 1 & 1:
-        pass
+    catches = lambda: int(re.search(r"^SigCgt:\s*(\w+)", Path(f"/proc/{call.pid}/status").read_text(), re.M)[1], 16)
+    for _ in range(1000):
+        if catches() >> signal.SIGTERM - 1 & 1:
+            break
+        time.sleep(0.01)
     call.send_signal(signal.SIGINT)
     printed = call.communicate()
     yield None if (call.returncode, *printed) == (2, b"", b"") else f"a signal: status {call.returncode}, {printed}"
