@@ -277,6 +277,8 @@ def stopped(place, code):
     crashbpf = os.readlink(place.folder / "bin/crashbpf")
     place.tool("crashbpf", HANGS)
     yield "a verifier that takes too long", refused(place, "cc: crashbpf took more than 1 seconds", "source.c", "check", "out.bpf", "--sectors", "4", "--timeout", "1")
+    place.tool("crashbpf", "#!/bin/sh\nexit 101\n")
+    yield "a verifier that breaks off", refused(place, "cc: crashbpf verify ended with status 101", "source.c", "check", "out.bpf", "--sectors", "4")
     (place.folder / "bin/crashbpf").unlink()
     (place.folder / "bin/crashbpf").symlink_to(crashbpf)
     for word in ("0", "-1", "x", "1e3", "86401"):

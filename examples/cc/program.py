@@ -15,12 +15,16 @@ JEQ, JNE = 0x15, 0x55
 AGAIN = 3
 
 
-class NoProgram(Exception):
+class Refusal(Exception):
     """Why there is no program, with lines of what helps."""
 
     def __init__(self, text, *hints):
         super().__init__(text)
         self.hints = hints
+
+
+class NoProgram(Refusal):
+    """The checker can't be made a program, in one way of compiling it at least."""
 
 
 @dataclass

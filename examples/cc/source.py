@@ -6,6 +6,8 @@ Nothing is known of types: a function is told by its shape, a loop by its word. 
 import re
 from dataclasses import dataclass
 
+from program import Refusal
+
 TOKEN = re.compile(
     r"""(?P<marker>^\#[^\n]*)|(?P<space>\s+)|(?P<word>[A-Za-z_$][\w$]*)|(?P<number>\.?\d(?:[eEpP][+-]|[\w.])*)"""
     r"""|(?P<text>"(?:\\.|[^"\\\n])*"|'(?:\\.|[^'\\\n])*')|(?P<sign>.)""",
@@ -25,7 +27,7 @@ KEEP = (
 )
 
 
-class Unread(Exception):
+class Unread(Refusal):
     """A place that the parser makes nothing of."""
 
 

@@ -6,13 +6,13 @@ import subprocess
 import tempfile
 from contextlib import contextmanager
 
-from program import NoProgram
+from program import Refusal
 
 SIGNALS = (signal.SIGHUP, signal.SIGINT, signal.SIGTERM)
 
 
-class NotRun(NoProgram):
-    """A program that can't be run, or takes too long: no other way of compiling helps."""
+class NotRun(Refusal):
+    """A program can't be run, or takes too long: no other way of compiling helps."""
 
 
 class Stopped(BaseException):
