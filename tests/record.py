@@ -67,6 +67,8 @@ RECORDED = [
     ("writes", 64, ["python3", "-c", WRITES], 0, WRITTEN),
     ("nothing", 8, ["true"], 0, []),
     ("a mark alone", 8, ["mark", "a mark"], 0, [M("a mark")]),
+    # no command asks for a flush here, and the log has one before the mark
+    ("a file that was closed", 8, ["sh", "-c", "yes | head -c 512 | dd of=$DEVICE conv=notrunc; mark closed"], 0, [S(0, b"y\n" * 256), F, M("closed")]),
     ("a command that fails", 8, ["sh", "-c", "exit 7"], 7, []),
     ("mkfs", 16384, ["sh", "-c", 'mkfs.ext4 -q "$DEVICE" && sync "$DEVICE" && mark formatted'], 0, None),
 ]
