@@ -98,6 +98,31 @@ def recorded(folder, name, sectors, command, status, entries):
     return None if "device" in {it.name for it in out.iterdir()} else f"{name}: no device"
 
 
+def at(process):
+    """The folder in which a process is."""
+    try:
+        return os.readlink(f"/proc/{process}/cwd")
+    except OSError:
+        return None
+
+
+def hung_up(folder):
+    """What is wrong with `record` where its terminal goes: it ends its daemon."""
+    out = Path(folder, "hung_up")
+    running = subprocess.Popen([RECORD, "8", out, "sleep", "2"])
+    while running.poll() is None and not (out / "pid").exists():
+        time.sleep(0.1)
+    time.sleep(0.5)
+    running.send_signal(signal.SIGHUP)
+    running.wait(timeout=60)
+    daemon = int((out / "pid").read_text()) if (out / "pid").exists() else None
+    left = daemon and at(daemon) is not None
+    if left:
+        os.kill(daemon, signal.SIGTERM)
+        time.sleep(1)
+    return None if running.returncode == 2 and not left else f"record, hung up: status {running.returncode}, the daemon is {'there' if left else 'gone'}"
+
+
 def in_flight():
     """Where the QEMU at hand puts a write that is in flight: docs/RECORDING.md says before the flush."""
     done = subprocess.run([sys.executable, FOLDER / "in_flight.py"], capture_output=True, text=True)
@@ -195,14 +220,6 @@ class Guests:
         return files + [it for it in os.listdir("/proc") if it.isdigit() and at(it) == str(out)]
 
 
-def at(process):
-    """The folder in which a process is."""
-    try:
-        return os.readlink(f"/proc/{process}/cwd")
-    except OSError:
-        return None
-
-
 def between(entries, first, last):
     """The entries between two marks, and the last of them."""
     texts = [it.text.decode() if it.flags & MARK else None for it in entries]
@@ -291,7 +308,7 @@ def guests_of(folder, kernel):
 
 def main():
     with tempfile.TemporaryDirectory() as folder:
-        found = [*(recorded(folder, *it) for it in RECORDED), in_flight(), *(cut(folder, *it) for it in DEVICES)]
+        found = [*(recorded(folder, *it) for it in RECORDED), in_flight(), hung_up(folder), *(cut(folder, *it) for it in DEVICES)]
         if sys.argv[1:]:
             found += guests_of(Path(folder).resolve(), sys.argv[1])
     wrong = [it for it in found if it]
