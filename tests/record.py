@@ -67,6 +67,8 @@ RECORDED = [
     ("writes", 64, ["python3", "-c", WRITES], 0, WRITTEN),
     ("nothing", 8, ["true"], 0, []),
     ("a mark alone", 8, ["mark", "a mark"], 0, [M("a mark")]),
+    # no command asks for a flush here, and the log has one before the mark
+    ("a file that was closed", 8, ["sh", "-c", "yes | head -c 512 | dd of=$DEVICE conv=notrunc; mark closed"], 0, [S(0, b"y\n" * 256), F, M("closed")]),
     ("a command that fails", 8, ["sh", "-c", "exit 7"], 7, []),
     ("mkfs", 16384, ["sh", "-c", 'mkfs.ext4 -q "$DEVICE" && sync "$DEVICE" && mark formatted'], 0, None),
 ]
@@ -94,6 +96,31 @@ def recorded(folder, name, sectors, command, status, entries):
     if entries is not None and content != log(entries):
         return f"{name}: another log"
     return None if "device" in {it.name for it in out.iterdir()} else f"{name}: no device"
+
+
+def at(process):
+    """The folder in which a process is."""
+    try:
+        return os.readlink(f"/proc/{process}/cwd")
+    except OSError:
+        return None
+
+
+def hung_up(folder):
+    """What is wrong with `record` where its terminal goes: it ends its daemon."""
+    out = Path(folder, "hung_up")
+    running = subprocess.Popen([RECORD, "8", out, "sleep", "2"])
+    while running.poll() is None and not (out / "pid").exists():
+        time.sleep(0.1)
+    time.sleep(0.5)
+    running.send_signal(signal.SIGHUP)
+    running.wait(timeout=60)
+    daemon = int((out / "pid").read_text()) if (out / "pid").exists() else None
+    left = daemon and at(daemon) is not None
+    if left:
+        os.kill(daemon, signal.SIGTERM)
+        time.sleep(1)
+    return None if running.returncode == 2 and not left else f"record, hung up: status {running.returncode}, the daemon is {'there' if left else 'gone'}"
 
 
 def in_flight():
@@ -193,14 +220,6 @@ class Guests:
         return files + [it for it in os.listdir("/proc") if it.isdigit() and at(it) == str(out)]
 
 
-def at(process):
-    """The folder in which a process is."""
-    try:
-        return os.readlink(f"/proc/{process}/cwd")
-    except OSError:
-        return None
-
-
 def between(entries, first, last):
     """The entries between two marks, and the last of them."""
     texts = [it.text.decode() if it.flags & MARK else None for it in entries]
@@ -289,7 +308,7 @@ def guests_of(folder, kernel):
 
 def main():
     with tempfile.TemporaryDirectory() as folder:
-        found = [*(recorded(folder, *it) for it in RECORDED), in_flight(), *(cut(folder, *it) for it in DEVICES)]
+        found = [*(recorded(folder, *it) for it in RECORDED), in_flight(), hung_up(folder), *(cut(folder, *it) for it in DEVICES)]
         if sys.argv[1:]:
             found += guests_of(Path(folder).resolve(), sys.argv[1])
     wrong = [it for it in found if it]
