@@ -92,7 +92,7 @@ INCBIN = '#include "checker.h"\nu64 check(const struct context *c) { __asm__ vol
 COMMON = '#include "checker.h"\n__attribute__((common)) int counter;\nu64 check(const struct context *c) { return counter; }\n'
 OUTSIDE = "which lies outside of the function"
 
-# What stands in the file, the function that is asked for, and the first line on standard error, where slots are `N`.
+# What stands in the file, the function that is asked for, and how the first line on standard error begins, where slots are `N`.
 REFUSALS = [
     (SOURCE, "counts", f"cc: source.c:8 (slot N) needs counter, {OUTSIDE} counts"),
     (SOURCE, "tabled", f"cc: source.c:7 (slot N) needs .rodata"),
@@ -104,7 +104,7 @@ REFUSALS = [
     (SOURCE, "nobody", "cc: source.c has no function nobody; it has: calls tabled counts absent first second looped deep text good"),
     (SOURCE, "more", "cc: the function more of source.c isn't compiled by itself: it is static or inline"),
     ("", "check", "cc: source.c has no function check, and no other"),
-    (INCBIN, "check", "cc: the object file can't be read: its section .text.check isn't whole instructions"),
+    (INCBIN, "check", ("cc: the object file can't be read: its section .text.check isn't whole", "cc: the section .text.check of check holds more")),
     (COMMON, "check", "cc: source.c:3 (slot N) needs counter, which lies outside"),
     (SOURCE + "u64 good(void) { return 0; }\n", "good", "source.c:28:5: error: "),
     (TABLE + "u64 check(const struct context *c) { return *(&bits[c->marks & 3] + 1); }\n", "check", "cc: source.c:3 (slot N) needs "),

@@ -42,6 +42,7 @@ esac
 """
 LISTING = '#!/bin/sh\ncat listing\n'
 HANGS = "#!/bin/sh\nsleep 1000\n"
+NOTES = "#!/bin/sh\necho accepted budget 9\necho 'note: instructions that no run reaches: 1' >&2\n"
 
 # Object files
 
@@ -277,6 +278,12 @@ def stopped(place, code):
     crashbpf = os.readlink(place.folder / "bin/crashbpf")
     place.tool("crashbpf", HANGS)
     yield "a verifier that takes too long", refused(place, "cc: crashbpf took more than 1 seconds", "source.c", "check", "out.bpf", "--sectors", "4", "--timeout", "1")
+    looped = bytes.fromhex("b700000000000000" "5500ffff01000000" "9500000000000000")
+    place.holds("u64 check(void)\n{" + "\n" * 8 + "for (;;)\n;\n}\n", elf([("check", looped, False)]), listing_of(looped))
+    place.tool("crashbpf", NOTES)
+    found = place.run("source.c", "check", "out.bpf", "--sectors", "4")
+    bound = "cc: source.c:10: at most 65536 turns in a run; then answer 1000000, code 10\n"
+    yield "a note on what the tool made", [] if found == (0, "accepted budget 9\n", bound) else [str(found)]
     place.tool("crashbpf", "#!/bin/sh\nexit 101\n")
     yield "a verifier that breaks off", refused(place, "cc: crashbpf verify ended with status 101", "source.c", "check", "out.bpf", "--sectors", "4")
     (place.folder / "bin/crashbpf").unlink()
