@@ -210,23 +210,26 @@ BOTH_EMPTY = program(
 )
 BOTH_EMPTY_ABOUT = "slots 13 budget 13"
 TWO_WRITES = [W(0, 1, 0xAA), W(1, 1, 0xBB)]
+AT_CUT_2, ALL = dict(bound=2, first=2), dict(bound=2)
 NO_WINDOW = [
-    ("bound 2 from 2", Run(TWO_WRITES, 4, bound=2, first=2), ["program 0 failing 1 uncured 1", "images 4 failing 1 lines 1"]),
-    ("bound 2 from 2, with a flush", Run(TWO_WRITES, 4, bound=2, flush=(1,), first=2), ["program 0 failing 0 uncured 0", "images 2 failing 0 lines 0"]),
-    ("bound 2, with a flush", Run(TWO_WRITES, 4, bound=2, flush=(1,)), ["program 0 failing 2 uncured 2", "images 5 failing 2 lines 2"]),
-    ("bound 2", Run(TWO_WRITES, 4, bound=2), ["program 0 failing 3 uncured 3", "images 7 failing 3 lines 3"]),
+    ("bound 2 from 2", AT_CUT_2, ["program 0 failing 1 uncured 1", "images 4 failing 1 lines 1"]),
+    ("bound 2 from 2, with a flush", dict(AT_CUT_2, flush=(1,)), ["program 0 failing 0 uncured 0", "images 2 failing 0 lines 0"]),
+    ("bound 2, with a flush", dict(ALL, flush=(1,)), ["program 0 failing 2 uncured 2", "images 5 failing 2 lines 2"]),
+    ("bound 2", ALL, ["program 0 failing 3 uncured 3", "images 7 failing 3 lines 3"]),
 ]
 
 
-def without_window(name, run, lines):
+def without_window(name, options, lines):
     """What is said of it; `lines` are those that docs/CRASH-MODEL.md tells."""
+    run = Run(TWO_WRITES, 4, **options)
     wanted = cure(run, [Checker(BOTH_EMPTY_ABOUT, both_empty)])
     assert set(lines) <= set(wanted.splitlines()) and "round " not in wanted, wanted
     return cured(f"no window, {name}", run.options(), TWO_WRITES, BOTH_EMPTY, wanted, 1 if "no flush cures " in wanted else 0)
 
 
 # The laws of windows and added flushes, of all images of some logs.
-assert all(windows_hold(Run(entries, 2, bound=2, by=by)) for entries in [TWO_WRITES, *list(ENDS.values())[:4]] for by in ["sector", "write"])
+LAWFUL = [TWO_WRITES, *list(ENDS.values())[:4]]
+assert all(windows_hold(Run(entries, 2, bound=2, by=by)) for entries in LAWFUL for by in ["sector", "write"])
 
 # Refusals, in their order: those of `explore`
 LOG = files([W(0, 1, 1), M("kept")], program("mov64 r0, 0; exit"))
