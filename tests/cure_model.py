@@ -157,10 +157,10 @@ def cure(run, checkers):
 # The laws
 
 
-def is_left(image, cut, departures, place):
-    """Whether these departures are still a choice at a cut when a flush stands at a place."""
-    volatile = {part.name for part in with_flushes(image.run, [place]).volatile(cut)}
-    return all(part.name in volatile for part, _fate in departures)
+def is_choice(run, cut, departures):
+    """Whether these departures are a choice at a cut."""
+    volatile = {part.name for part in run.volatile(cut)}
+    return len(departures) <= run.bound and all(part.name in volatile for part, _fate in departures)
 
 
 def up_to(image, entry):
@@ -168,35 +168,68 @@ def up_to(image, entry):
     return tuple((part, fate) for part, fate in image.departures if part.entry <= entry)
 
 
+def only_of(image, entry):
+    """What departs of that entry alone."""
+    return tuple((part, fate) for part, fate in image.departures if part.entry == entry)
+
+
 def same(image, other):
-    """Whether two images have the same device, behind as many marks."""
+    """Whether two images have the same device, after as many marks."""
     return (image.content(), image.marks()) == (other.content(), other.marks())
 
 
+def is_left(image, cut, departures, places):
+    """Whether these departures are a choice at a cut when flushes stand at these places, and leave the device of the image there,
+    after as many marks; where none of the places is before the cut, in the epoch in which they leave it without flushes."""
+    run = with_flushes(image.run, places)
+    late = all(place >= cut for place in places)
+    there = Image(0, cut, departures, run)
+    return is_choice(run, cut, departures) and same(image, there) and (not late or there.epoch() == image.run.epoch(cut))
+
+
+def cuts_stay(run, places):
+    """Whether the cuts that are explored are explored with these flushes too."""
+    return set(run.wanted_cuts()) <= set(with_flushes(run, places).wanted_cuts())
+
+
+def some_places(run):
+    """Sets of places: each alone, all together, and all but one."""
+    every = range(len(run.entries))
+    return [(), *((place,) for place in every), tuple(every), *(tuple(it for it in every if it != place) for place in every)]
+
+
 def is_left_before(image):
-    """Whether an image without a window is left by the cut right behind the first entry of which something departs, or with no
-    departure by its own cut. Where nothing of that entry arrived, it is left by the cut before it, and nothing departs there."""
+    """Whether an image without a window is left as the documents say, whatever flushes are added. Where nothing departs it stays.
+    Else it is that of the cut right after the first entry of which something departs, where nothing else does. Where nothing of
+    that entry arrived, it is that of the cut before it too, where nothing departs."""
+    run, epoch = image.run, image.epoch()
     if not image.departures:
-        return True
+        return all(is_left(image, image.cut, (), places) for places in some_places(run))
     first = image.departures[0][0].entry
-    lost = not may_end(image, first)
-    before = Image(0, first, (), image.run)
-    return same(image, Image(0, first + 1, up_to(image, first), image.run)) and (not lost or same(image, before))
+    own, lost = only_of(image, first), not may_end(image, first)
+    if first >= image.cut or run.epoch(first + 1) != epoch or run.epoch(first) + bool(run.entries[first].flags & FLUSH) != epoch:
+        return False
+    return all(
+        is_left(image, first + 1, own, places) and (not lost or is_left(image, first, (), places)) and cuts_stay(run, places)
+        for places in some_places(run)
+    )
 
 
 def window_holds(image, window):
-    """Whether a flush in the window of an image takes it away, what departs up to its end too, and one elsewhere doesn't."""
-    end, some = window.end + 1, up_to(image, window.end)
-    if not same(image, Image(0, end, some, image.run)):
+    """Whether a flush in the window of an image takes it away, what departs up to its end too, and flushes elsewhere don't."""
+    run, end, some = image.run, window.end + 1, up_to(image, window.end)
+    if run.epoch(end) != image.epoch():
         return False
-    for place in range(len(image.run.entries)):
-        left = is_left(image, image.cut, image.departures, place)
-        left_before = is_left(image, end, some, place)
-        if window.holds(place) and (left or left_before):
+    for places in some_places(run):
+        flushed = with_flushes(run, places)
+        left, left_before = is_choice(flushed, image.cut, image.departures), is_choice(flushed, end, some)
+        if any(window.holds(place) for place in places):
+            if left or left_before:
+                return False
+        elif not is_left(image, end, some, places) or all(place < window.start for place in places) and not left:
             return False
-        if not window.holds(place) and not left_before or place < window.start and not left:
-            return False
-    return True
+    outside = tuple(place for place in range(len(run.entries)) if not window.holds(place))
+    return is_left(image, end, some, outside)
 
 
 def windows_hold(run):

@@ -87,10 +87,11 @@ def advice(program, flushes, uncured):
         named = named[:NAMED] + ([f"{len(named) - NAMED} more"] if len(named) > NAMED else [])
         listed = ", ".join(named[:-1]) + " and " + named[-1] if len(named) > 1 else named[0]
         entries = "each of the entries" if len(named) > 1 else "entry"
-        text += f"<p class='cure'>A flush right before {entries} {listed} takes every failing image away that a flush can."
+        text += f"<p class='cure'>A flush right before {entries} {listed} takes every failing image away against which a flush helps."
         text += " This isn't tried here: crashbpf cure tries it.</p>\n"
     if uncured:
-        text += f"<p class='order'>No flush takes {uncured} of the failing images away: there the order of the writes is wrong.</p>\n"
+        text += f"<p class='order'>Against {uncured} of the failing images no flush helps: the order of the writes is wrong there,"
+        text += " or a write that may arrive in part is taken for whole.</p>\n"
     return text
 
 

@@ -3,7 +3,7 @@ writes and discards, several programs, runs that are refused; compared with cure
 alone."""
 from dataclasses import replace
 
-from cure_model import MOST, cure, images_at, too_many_at
+from cure_model import MOST, cure, images_at, too_many_at, windows_hold
 from designs import DESIGNS, EXAMPLES, FORGOTTEN, checker_of, data, folder_of
 from model import Checker, Run
 from notation import DISCARD, FLUSH, FUA, D, Entry, F, Long, M, S, Something, W, explore, files, named, program, refused
@@ -195,6 +195,42 @@ REFUSED_LATER = [
     ),
 ]
 
+# docs/CRASH-MODEL.md, no_window: an image without a window that a flush takes out of a run which begins behind the cut that
+# leaves its like. With all cuts that one fails.
+
+
+def both_empty(image):
+    """By BOTH_EMPTY: sectors 0 and 1 both begin with 0."""
+    return (1 if image.sector(0)[0] == image.sector(1)[0] == 0 else 0), ()
+
+
+BOTH_EMPTY = program(
+    "mov64 r1, 0; call 1; jeq r0, 0, +9; ldxb r6, [r0+0]; mov64 r1, 1; call 1; jeq r0, 0, +5; ldxb r1, [r0+0]; mov64 r0, 0; "
+    "jne r6, 0, +2; jne r1, 0, +1; mov64 r0, 1; exit"
+)
+BOTH_EMPTY_ABOUT = "slots 13 budget 13"
+TWO_WRITES = [W(0, 1, 0xAA), W(1, 1, 0xBB)]
+AT_CUT_2, ALL = dict(bound=2, first=2), dict(bound=2)
+NO_WINDOW = [
+    ("bound 2 from 2", AT_CUT_2, ["program 0 failing 1 uncured 1", "images 4 failing 1 lines 1"]),
+    ("bound 2 from 2, with a flush", dict(AT_CUT_2, flush=(1,)), ["program 0 failing 0 uncured 0", "images 2 failing 0 lines 0"]),
+    ("bound 2, with a flush", dict(ALL, flush=(1,)), ["program 0 failing 2 uncured 2", "images 5 failing 2 lines 2"]),
+    ("bound 2", ALL, ["program 0 failing 3 uncured 3", "images 7 failing 3 lines 3"]),
+]
+
+
+def without_window(name, options, lines):
+    """What is said of it; `lines` are those that docs/CRASH-MODEL.md tells."""
+    run = Run(TWO_WRITES, 4, **options)
+    wanted = cure(run, [Checker(BOTH_EMPTY_ABOUT, both_empty)])
+    assert set(lines) <= set(wanted.splitlines()) and "round " not in wanted, wanted
+    return cured(f"no window, {name}", run.options(), TWO_WRITES, BOTH_EMPTY, wanted, 1 if "no flush cures " in wanted else 0)
+
+
+# The laws of windows and added flushes, of all images of some logs.
+LAWFUL = [TWO_WRITES, *list(ENDS.values())[:4]]
+assert all(windows_hold(Run(entries, 2, bound=2, by=by)) for entries in LAWFUL for by in ["sector", "write"])
+
 # Refusals, in their order: those of `explore`
 LOG = files([W(0, 1, 1), M("kept")], program("mov64 r0, 0; exit"))
 
@@ -233,6 +269,7 @@ ROWS = [
     *WORKERS,
     *UNCHECKED,
     *REFUSED_LATER,
+    *(without_window(*it) for it in NO_WINDOW),
     *REFUSED,
     *(modelled(name, run) for name, run in list(runs())[::STEP] if sum(1 for _image in run.images()) <= FEW),
     *(modelled(name, run) for name, run in list(narrowed())[::STEP_NARROWED] if sum(1 for _image in run.images()) <= FEW),

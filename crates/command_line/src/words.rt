@@ -69,9 +69,9 @@ Exit status: 0 where no image fails, 1 where one does, 2 for a refusal.";
 /// What stands behind the help of `cure`.
 const AFTER_CURE: &str =
     "Goes as if a flush stood at each place that is picked for the failing images, runs again, and so on, until
-no flush takes a failing image away. Each line 'round N flush before E from A failing G' is a place: right
-before entry E, or before an entry from A on. A failure that no flush takes away wants another order of
-the writes.
+no flush helps against a failing image. Each line 'round N flush before E from A failing G' is a place:
+right before entry E, or before an entry from A on. Where no flush helps, the order of the writes is wrong,
+or a write that may arrive in part is taken for whole.
 
 Example: crashbpf cure disk.log check.bpf --sectors 64 --cuts flush --bound 2 --tears
 

@@ -56,7 +56,7 @@ more_text n = if n == 0 then [] else codes " and " ++ decimal n ++ codes " more"
 abbrev pub entries_word : ℕ → List ℕ
 entries_word count = if count == 1 then piece_text piece.CureEntry else piece_text piece.CureEntries
 
--- the flushes that take every failing image away that a flush can
+-- the flushes that take every failing image away against which a flush helps
 unfoldable pub flushes_text : ℕ → List MissingFlush → List ℕ
 flushes_text program ms =
     entries_word (length ms) ++ named_from program (length ms) 0 (take most_named ms) ++ more_text (length ms - length (take most_named ms)) ++ piece_text piece.CureClose
@@ -64,7 +64,7 @@ flushes_text program ms =
 abbrev pub cure_text : ℕ → List MissingFlush → List ℕ
 cure_text program ms = if length ms == 0 then [] else flushes_text program ms
 
--- and how many of the failing images no flush takes away
+-- and against how many of the failing images no flush helps
 unfoldable pub uncured_text : ℕ → List ℕ
 uncured_text count = if count == 0 then [] else piece_text piece.UncuredOpen ++ decimal count ++ piece_text piece.UncuredClose
 

@@ -167,7 +167,7 @@ fn put_entries_word(out: &mut String, count: usize) -> Result<(), AllocError>
     }
 }
 
-/// Appends the flushes that take every failing image away that a flush can.
+/// Appends the flushes that take every failing image away against which a flush helps.
 #[tactic(auto, unfolding(crate::specs::Lacking::flushes_text))]
 fn put_flushes(out: &mut String, lacking: &Lacking<'_>) -> Result<(), AllocError>
     ensures { OnOk result (string_bytes out.new ≡ string_bytes out.old ++ flushes_text lacking.now.program lacking.now.flushes.now) }
@@ -190,7 +190,7 @@ fn put_cure(out: &mut String, lacking: &Lacking<'_>) -> Result<(), AllocError>
     put_flushes(out, lacking)
 }
 
-/// Appends how many failing images no flush takes away, if there are any.
+/// Appends against how many failing images no flush helps, if there are any.
 #[tactic(auto, unfolding(crate::specs::Lacking::uncured_text))]
 fn put_uncured(out: &mut String, count: usize) -> Result<(), AllocError>
     ensures { OnOk result (string_bytes out.new ≡ string_bytes out.old ++ uncured_text count) }

@@ -128,13 +128,13 @@ fn text_of(piece: Piece) -> &'static str
         Piece::CureEntry => "<p class='cure'>A flush right before entry ",
         Piece::CureEntries => "<p class='cure'>A flush right before each of the entries ",
         Piece::CureClose => {
-            " takes every failing image away that a flush can. This isn't tried here: crashbpf cure tries it.</p>\n"
+            " takes every failing image away against which a flush helps. This isn't tried here: crashbpf cure tries it.</p>\n"
         }
         Piece::NamedOpen => "<a href='#",
         Piece::NamedClose => "</a>",
-        Piece::UncuredOpen => "<p class='order'>No flush takes ",
+        Piece::UncuredOpen => "<p class='order'>Against ",
         Piece::UncuredClose => {
-            " of the failing images away: there the order of the writes is wrong.</p>\n"
+            " of the failing images no flush helps: the order of the writes is wrong there, or a write that may arrive in part is taken for whole.</p>\n"
         }
         Piece::StripOpen => {
             "<div tabindex='0' role='group' aria-label='The log: arrow keys move' class='log"

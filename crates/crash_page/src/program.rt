@@ -38,7 +38,7 @@ pub struct ProgramFailures<'a> {
     pub cuts: Vec<CutFailures>,
     /// The flushes that are missing for these images.
     pub missing: Vec<MissingFlush>,
-    /// How many of these images no flush takes away.
+    /// How many of these images have no window.
     pub uncured: usize,
 }
 

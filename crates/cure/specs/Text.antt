@@ -13,7 +13,7 @@ use Rattle.cure.specs.declared.failure.Failure.{Failure}
 abbrev pub is_of : ℕ → Failure → Bool
 is_of program f = f.program == program
 
--- and no flush takes it away
+-- and it has no window: no flush helps
 abbrev pub is_uncured : ℕ → Failure → Bool
 is_uncured program f = is_of program f && is_none f.window
 
@@ -30,7 +30,7 @@ programs_text programs fs = flat_map (program_line fs) (range_with_len 0 program
 unfoldable pub begin_text : HeadValue → List Failure → List ℕ
 begin_text h fs = codes "crash cure 1\n" ++ options_text h ++ programs_text (length h.programs) fs
 
--- the number of the first failure that no flush takes away
+-- the number of the first failure without a window
 abbrev pub uncured_at : List Failure → Option ℕ
 uncured_at fs = position (λ (f : Failure). is_none f.window) fs
 

@@ -9,10 +9,10 @@
 //! | `failures_of(alloc, by, starts, log, marks)` | of each failing line its program, and its window where it has one |
 //! | `windows_of(alloc, failures)` | the windows that there are |
 //! | `add_missing(alloc, log, windows)` | the flushes that are missing for these windows, and the log with them |
-//! | `put_begin(out, head, failures)` | appends title, options, and of each program how many of its failures no flush takes away |
+//! | `put_begin(out, head, failures)` | appends title, options, and of each program how many of its failures have no window |
 //! | `uncured_line(alloc, lines, failures)` | the line that names the first failure without a window |
 //! | `put_round(out, number, flushes)` | appends a line for each flush of a round |
-//! | `put_programs(out, programs, failures)` | appends of each program how many of its failures no flush takes away |
+//! | `put_programs(out, programs, failures)` | appends of each program how many of its failures have no window |
 //! | `put_missing(out, flushes)` | appends a line for each flush, without a round |
 //! | `put_refused(out, at)` | appends that a run has too many images |
 //!

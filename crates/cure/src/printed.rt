@@ -50,7 +50,7 @@ fn first_uncured(failures: &[Failure]) -> Option<usize>
     failures.iter().position(|failure| failure.window.is_none())
 }
 
-/// The line that names the first failure which no flush takes away, or nothing where there is none.
+/// The line that names the first failure without a window, or nothing where there is none.
 ///
 /// It takes room for the lines of the report, where there is one.
 ///

@@ -1,5 +1,5 @@
 -- What a flush in the window of an image takes away, and what one elsewhere leaves.
-use Rattle.std.proofs.Common.{ℕ, zero, suc, ◌≡◌, ◌==◌, ◌||◌, ◌+◌, ◌<◌, ◌≤◌, nat_le, Bool, true, false, not, if◌then◌else◌, List, [], ◌∷◌, length, filter, slice_get, Some, None, refl, sym, ◌∙◌, ap, arith, inl, inr}
+use Rattle.std.proofs.Common.{ℕ, zero, suc, ◌≡◌, ◌≢◌, ◌==◌, ◌||◌, ◌+◌, ◌<◌, ◌≤◌, nat_le, Bool, true, false, not, if◌then◌else◌, List, [], ◌∷◌, length, filter, slice_get, Some, None, refl, sym, ◌∙◌, ap, arith, inl, inr}
 use Rattle.std.specs.Option.{option_map_or}
 use Rattle.std.proofs.lemmas.Bool.Decides.{eqb_tells, nat_tests}
 use Rattle.std.proofs.lemmas.List.Filters.{length-filter_both}
@@ -16,7 +16,8 @@ use Rattle.choices.specs.declared.choice.Departure.{Departure}
 use Rattle.choices.specs.CrashModel.{IsAdmissible}
 use Rattle.flushes.specs.declared.window.Window.{Window}
 use Rattle.flushes.specs.Windows.{IsWindow, entry_arrives}
-use Rattle.flushes.specs.Laws.{up_to, FlushTakesAway, FlushElsewhereLeaves}
+use Rattle.flushes.specs.Places.{HoldsNone}
+use Rattle.flushes.specs.Laws.{up_to, FlushTakesAway}
 
 -- with a flush between its entry and the cut a part isn't volatile
 flushed_part : (way : By) (es : List Entry) (cut : ℕ) (chosen : ℕ → Bool) (part : Part) (p : ℕ) (e : Entry) → slice_get es p ≡ Some e → chosen p ≡ true
@@ -149,7 +150,7 @@ shorter : (p : Departure → Bool) (xs : List Departure) → length (filter p xs
 shorter p xs = let both = length-filter_both p (λ x. not (p x)) (λ x. refl) xs in omega (arith, both)
 
 -- the first departure has the first entry
-first_entry : (way : By) (es : List Entry) (cut bound : ℕ) (tears : Bool) (ds : List Departure) (first d : Departure) (k : ℕ)
+pub first_entry : (way : By) (es : List Entry) (cut bound : ℕ) (tears : Bool) (ds : List Departure) (first d : Departure) (k : ℕ)
     → IsAdmissible way es cut bound tears ds → slice_get ds 0 ≡ Some first → slice_get ds k ≡ Some d → first.part.entry ≤ d.part.entry
 first_entry way es cut bound tears ds first d zero is here there =
     let same : first ≡ d = cc in
@@ -161,47 +162,77 @@ first_entry way es cut bound tears ds first d (suc k) is here there =
       | inr same ↦ let own = same.0 in omega (arith, own)
     ]
 
--- what departs up to an entry, right behind it
-leaves : (way : By) (es : List Entry) (cut bound e : ℕ) (tears : Bool) (ds : List Departure) (chosen : ℕ → Bool) → IsAdmissible way es cut bound tears ds
-    → e + 1 ≤ cut → ((d : Departure) (k f : ℕ) → slice_get ds k ≡ Some d → d.part.entry < f → f < e + 1 → chosen f ≡ false)
-    → IsAdmissible way (flushed_at chosen es) (e + 1) bound tears (up_to e ds)
-leaves way es cut bound e tears ds chosen is order calm = record {
-  few = let most = is.few in let less = shorter (λ (d : Departure). nat_le d.part.entry e) ds in omega (arith, most, less);
+-- some of what departs, at a cut behind it, where no flush is added between
+pub leaves : (way : By) (es : List Entry) (cut bound right : ℕ) (tears : Bool) (ds : List Departure) (p : Departure → Bool) (chosen : ℕ → Bool)
+    → IsAdmissible way es cut bound tears ds → right ≤ cut
+    → ((d : Departure) (k : ℕ) → slice_get ds k ≡ Some d → p d ≡ true → d.part.entry < right)
+    → ((d : Departure) (k f : ℕ) → slice_get ds k ≡ Some d → p d ≡ true → d.part.entry < f → f < right → chosen f ≡ false)
+    → IsAdmissible way (flushed_at chosen es) right bound tears (filter p ds)
+leaves way es cut bound right tears ds p chosen is order before calm = record {
+  few = let most = is.few in let less = shorter p ds in omega (arith, most, less);
   volatile = λ i d there.
-      let was = kept_from (λ (d : Departure). nat_le d.part.entry e) ds i d there in
-      let low : d.part.entry ≤ e = let test = was.2 in grind (arith, nat_tests, test) in
-      stays_volatile way es cut (e + 1) chosen d.part (is.volatile was.0 d was.1) (omega (arith, low)) order (λ f behind early. calm d was.0 f was.1 behind early);
-  fates = λ i d there. let was = kept_from (λ (d : Departure). nat_le d.part.entry e) ds i d there in is.fates was.0 d was.1;
-  rising = λ i j c d less here there. let was = kept_two (λ (d : Departure). nat_le d.part.entry e) ds i j c d less here there in is.rising was.0 was.1 c d was.2 was.3 was.4;
+      let was = kept_from p ds i d there in
+      stays_volatile way es cut right chosen d.part (is.volatile was.0 d was.1) (before d was.0 was.1 was.2) order (λ f behind early. calm d was.0 f was.1 was.2 behind early);
+  fates = λ i d there. let was = kept_from p ds i d there in is.fates was.0 d was.1;
+  rising = λ i j c d less here there. let was = kept_two p ds i j c d less here there in is.rising was.0 was.1 c d was.2 was.3 was.4;
 }
 
-pub flush_elsewhere_leaves : FlushElsewhereLeaves
-flush_elsewhere_leaves way es cut bound tears ds w p is admissible =
+-- what a test of two numbers says
+pub same_number : (a b : ℕ) → (a == b) ≡ true → a ≡ b
+same_number a b test =
+    elim (eqb_tells a b) [
+      | inl same ↦ same.1
+      | inr other ↦ absurd (let bad : false ≡ true = sym other.0 ∙ test in cc)
+    ]
+
+pub other_number : (a b : ℕ) → (a == b) ≡ false → a ≢ b
+other_number a b test =
+    elim (eqb_tells a b) [
+      | inl same ↦ absurd (let bad : true ≡ false = sym same.0 ∙ test in cc)
+      | inr other ↦ other.1
+    ]
+
+-- a number that is none of some places
+pub not_place : (places : List ℕ) (n : ℕ) → ((i p : ℕ) → slice_get places i ≡ Some p → p ≡ n → ⊥) → is_place places n ≡ false
+not_place [] n none = refl
+not_place (x ∷ places) n none =
+    let rest = not_place places n (λ i p there. none (suc i) p there) in
+    elim (eqb_tells x n) [
+      | inl same ↦ absurd (none 0 x refl same.1)
+      | inr other ↦ rw other.0 rest
+    ]
+
+-- flushes outside of a window, at the cut behind it
+pub elsewhere : (way : By) (es : List Entry) (cut bound : ℕ) (tears : Bool) (ds : List Departure) (w : Window) (places : List ℕ)
+    → IsWindow way es cut ds w → IsAdmissible way es cut bound tears ds → HoldsNone w places
+    → IsAdmissible way (flushed_at (is_place places) es) (w.end + 1) bound tears (up_to w.end ds)
+elsewhere way es cut bound tears ds w places is admissible none =
     let start = is.start in
-    let before = is.before in (
-      λ outside.
-          leaves way es cut bound w.end tears ds (λ n. p == n) admissible (omega (arith, before)) (λ d k f there behind early.
-          elim (eqb_tells p f) [
-            | inl same ↦
-                let first = first_entry way es cut bound tears ds is.first d k admissible is.departs there in
-                let at = same.1 in
-                absurd (outside (record { from = omega (arith, start, first, behind, at); to = omega (arith, early, at) }))
-            | inr other ↦ other.0
-          ]),
-      λ low. record {
-        few = admissible.few;
-        volatile = λ k d there.
-            let whole = admissible.volatile k d there in
-            let cut_is = whole.before in
-            stays_volatile way es cut cut (λ n. p == n) d.part whole cut_is (omega arith) (λ f behind early.
-            elim (eqb_tells p f) [
-              | inl same ↦
-                  let first = first_entry way es cut bound tears ds is.first d k admissible is.departs there in
-                  let at = same.1 in
-                  absurd (omega (arith, start, first, behind, at, low))
-              | inr other ↦ other.0
-            ]);
-        fates = admissible.fates;
-        rising = admissible.rising;
-      },
-    )
+    let before = is.before in
+    leaves way es cut bound (w.end + 1) tears ds (λ (d : Departure). nat_le d.part.entry w.end) (is_place places) admissible (omega (arith, before))
+    (λ d k there passes.
+    let test : nat_le d.part.entry w.end ≡ true = passes in
+    let low : d.part.entry ≤ w.end = grind (arith, nat_tests, test) in
+    omega (arith, low))
+    (λ d k f there passes behind early.
+    not_place places f (λ i p at same.
+    let first = first_entry way es cut bound tears ds is.first d k admissible is.departs there in
+    none i p at (record { from = omega (arith, start, first, behind, same); to = omega (arith, early, same) })))
+
+-- flushes before a window, at the cut itself
+pub before_all : (way : By) (es : List Entry) (cut bound : ℕ) (tears : Bool) (ds : List Departure) (w : Window) (places : List ℕ)
+    → IsWindow way es cut ds w → IsAdmissible way es cut bound tears ds → ((i p : ℕ) → slice_get places i ≡ Some p → p < w.start)
+    → IsAdmissible way (flushed_at (is_place places) es) cut bound tears ds
+before_all way es cut bound tears ds w places is admissible low = record {
+  few = admissible.few;
+  volatile = λ k d there.
+      let whole = admissible.volatile k d there in
+      stays_volatile way es cut cut (is_place places) d.part whole whole.before (omega arith) (λ f behind early.
+      not_place places f (λ i p at same.
+      let start = is.start in
+      let first = first_entry way es cut bound tears ds is.first d k admissible is.departs there in
+      let less = low i p at in
+      omega (arith, start, first, behind, same, less)));
+  fates = admissible.fates;
+  rising = admissible.rising;
+}

@@ -5,3 +5,5 @@ pub mod Fewest
 pub mod Summed
 pub mod Away
 pub mod Same
+pub mod Added
+pub mod Elsewhere

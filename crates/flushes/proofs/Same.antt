@@ -1,19 +1,21 @@
 -- What departs up to the end of a window leaves, right behind it, what all departures leave at the cut.
-use Rattle.std.proofs.Common.{ℕ, zero, suc, ◌≡◌, ◌==◌, ◌+◌, ◌-◌, ◌<◌, ◌≤◌, nat_le, nat_lt, Bool, true, false, not, ◌&&◌, ◌||◌, if◌then◌else◌, List, [], ◌∷◌, ◌++◌, length, map, filter, count_by, take, slice_get, slice_index, Some, None, refl, sym, ◌∙◌, ap, arith, inl, inr}
+use Rattle.std.proofs.Common.{ℕ, zero, suc, ◌≡◌, ◌==◌, ◌+◌, ◌-◌, ◌<◌, ◌≤◌, nat_le, nat_lt, Bool, true, false, not, ◌&&◌, ◌||◌, if◌then◌else◌, List, [], ◌∷◌, ◌++◌, length, map, filter, count_by, take, slice_get, slice_index, Some, None, refl, sym, ◌∙◌, ap, subst, arith, add-one, inl, inr}
 use Rattle.std.specs.List.{list_all, range_with_len, last_or}
 use Rattle.std.specs.Option.{option_map_or}
 use Rattle.std.proofs.lemmas.Bool.Decides.{eqb_tells, nat_tests}
 use Rattle.std.proofs.lemmas.List.{append-nil}
 use Rattle.std.proofs.lemmas.List.Elements.{filter-append}
 use Rattle.std.proofs.lemmas.Option.{slice_get_cases, slice_get_within}
-use Rattle.base.proofs.Lists.{filter-map_alike, take-suc_place, count_by-push}
+use Rattle.base.proofs.Lists.{filter-map_alike, filter_none, take-suc_place, count_by-push}
 use Rattle.logfmt.specs.declared.entry.Entry.{Entry}
-use Rattle.logfmt.specs.Bounds.{LogValue}
+use Rattle.logfmt.specs.Bounds.{LogValue, IsLog}
 use Rattle.logfmt.specs.Initial.{initial_byte}
+use Rattle.logfmt.proofs.Flushed.{flushed-none}
 use Rattle.epochs.specs.declared.part.By.{By}
 use Rattle.epochs.specs.declared.part.By.TheVariants as by
 use Rattle.epochs.specs.declared.unit.Unit.{Unit as LogUnit}
-use Rattle.epochs.specs.Units.{unit_of, units_of_entry, units_before, unit_content, marks_at}
+use Rattle.epochs.specs.Units.{unit_of, units_of_entry, units_before, unit_content, marks_at, epoch_at}
+use Rattle.epochs.specs.Cuts.{is_flush_at}
 use Rattle.epochs.specs.Parts.{part_size, part_count}
 use Rattle.epochs.specs.Laws.{IsVolatile}
 use Rattle.epochs.proofs.Growth.{units_before-next}
@@ -21,11 +23,10 @@ use Rattle.choices.specs.declared.fate.Fate.{Fate}
 use Rattle.choices.specs.declared.fate.Fate.TheVariants as fate
 use Rattle.choices.specs.declared.choice.Departure.{Departure}
 use Rattle.choices.specs.CrashModel.{IsAdmissible}
-use Rattle.images.specs.Images.{keeps, is_in, byte_in, survives, writes, byte_after, sector_after, device_after}
-use Rattle.flushes.specs.declared.window.Window.{Window}
-use Rattle.flushes.specs.Windows.{is_drop, drops, entry_arrives, is_end, IsWindow}
-use Rattle.flushes.specs.Laws.{up_to, SameIsLeft}
-use Rattle.flushes.proofs.Away.{kept_from, kept_two}
+use Rattle.images.specs.Images.{keeps, is_in, byte_in, survives, writes, byte_after, sector_after, device_after, crash_image}
+use Rattle.flushes.specs.Windows.{is_drop, drops, entry_arrives, is_end, HasNoWindow}
+use Rattle.flushes.specs.Laws.{only_of, SameIsLeft, IsOfCutAfter, IsOfCutBefore, NothingElseIsLost}
+use Rattle.flushes.proofs.Away.{kept_from, kept_two, first_entry, leaves, same_number, other_number}
 
 -- of a test of all
 and_false : (b : Bool) → (b && false) ≡ false
@@ -48,13 +49,14 @@ one_fails test (x ∷ ds) zero d there fails =
     rw own refl
 one_fails test (x ∷ ds) (suc k) d there fails = rw (one_fails test ds k d there fails) (and_false (test x))
 
-all_alike : (test p : Departure → Bool) (ds : List Departure) → ((d : Departure) → p d ≡ false → test d ≡ true) → list_all test ds ≡ list_all test (filter p ds)
+all_alike : (test p : Departure → Bool) (ds : List Departure) → ((d : Departure) (k : ℕ) → slice_get ds k ≡ Some d → p d ≡ false → test d ≡ true)
+    → list_all test ds ≡ list_all test (filter p ds)
 all_alike test p [] passes = refl
-all_alike test p (x ∷ ds) passes = by_test (all_alike test p ds passes) (p x) refl
+all_alike test p (x ∷ ds) passes = by_test (all_alike test p ds (λ d k there fails. passes d (suc k) there fails)) (p x) refl
   where
     by_test : list_all test ds ≡ list_all test (filter p ds) → (b : Bool) → p x ≡ b → (test x && list_all test ds) ≡ list_all test (if b then x ∷ filter p ds else filter p ds)
     by_test rest true is = ap (λ v. test x && v) rest
-    by_test rest false is = let own = passes x is in rw own rest
+    by_test rest false is = let own = passes x 0 refl is in rw own rest
 
 -- a unit of a part that is lost
 lost : (ds : List Departure) (s i k : ℕ) (u : LogUnit) (d : Departure) → slice_get ds k ≡ Some d → is_drop d.fate ≡ true → is_in d.part u ≡ true → writes ds s i u ≡ false
@@ -198,18 +200,26 @@ none_written way es cut bound tears ds e s i x is here none =
     let own = found way es cut bound tears ds e j x is here many (omega (arith, to)) in
     lost ds s i own.0 (unit_of e x j) own.1 own.2 own.3 own.4)
 
--- behind the window
-behind : (way : By) (es : List Entry) (cut bound : ℕ) (tears : Bool) (ds : List Departure) (w : Window) (s i n : ℕ)
-    → cut ≤ length es → IsWindow way es cut ds w → IsAdmissible way es cut bound tears ds → w.end + 1 + n ≤ cut
-    → filter (writes ds s i) (units_before es (w.end + 1 + n)) ≡ filter (writes ds s i) (units_before es (w.end + 1))
-behind way es cut bound tears ds w s i zero inside is admissible within = let same : w.end + 1 + 0 ≡ w.end + 1 = omega arith in ap (λ k. filter (writes ds s i) (units_before es k)) same
-behind way es cut bound tears ds w s i (suc n) inside is admissible within =
-    let k : ℕ = w.end + 1 + n in
-    let next : w.end + 1 + suc n ≡ suc k = omega arith in
-    let rest = behind way es cut bound tears ds w s i n inside is admissible (omega (arith, within)) in
+-- from a cut on no entry before another may end a window
+abbrev pub Calm : By → List Entry → ℕ → List Departure → ℕ → Type 0
+Calm way es cut ds at = (e : ℕ) → at ≤ e → e < cut → is_end way es ds e ≡ false
+
+-- those of some departures that a test leaves out are of entries from a cut on
+abbrev pub Late : List Departure → (Departure → Bool) → ℕ → Type 0
+Late ds p at = (d : Departure) (k : ℕ) → slice_get ds k ≡ Some d → p d ≡ false → at ≤ d.part.entry
+
+-- behind that cut nothing arrived
+behind : (way : By) (es : List Entry) (cut bound at : ℕ) (tears : Bool) (ds : List Departure) (s i n : ℕ)
+    → cut ≤ length es → Calm way es cut ds at → IsAdmissible way es cut bound tears ds → at + n ≤ cut
+    → filter (writes ds s i) (units_before es (at + n)) ≡ filter (writes ds s i) (units_before es at)
+behind way es cut bound at tears ds s i zero inside calm admissible within = let same : at + 0 ≡ at = omega arith in ap (λ k. filter (writes ds s i) (units_before es k)) same
+behind way es cut bound at tears ds s i (suc n) inside calm admissible within =
+    let k : ℕ = at + n in
+    let next : at + suc n ≡ suc k = omega arith in
+    let rest = behind way es cut bound at tears ds s i n inside calm admissible (omega (arith, within)) in
     elim (slice_get_cases es k).1 [
       | inl a ↦
-          let none = none_written way es cut bound tears ds k s i a.0 admissible a.2 (is.last k (omega arith) (omega (arith, within))) in
+          let none = none_written way es cut bound tears ds k s i a.0 admissible a.2 (calm k (omega arith) (omega (arith, within))) in
           ap (λ m. filter (writes ds s i) (units_before es m)) next
           ∙ ap (filter (writes ds s i)) (units_before-next es k a.0 a.2)
           ∙ filter-append (writes ds s i) (units_before es k) (units_of_entry k a.0)
@@ -217,25 +227,26 @@ behind way es cut bound tears ds w s i (suc n) inside is admissible within =
       | inr past ↦ let end = past.0 in absurd (omega (arith, end, within, inside))
     ]
 
--- up to the end of the window the later departures make no difference
-alike : (es : List Entry) (ds : List Departure) (last s i : ℕ) (k : ℕ) → k ≤ last + 1 → k ≤ length es
-    → filter (writes (up_to last ds) s i) (units_before es k) ≡ filter (writes ds s i) (units_before es k)
+-- up to it the later departures make no difference
+alike : (es : List Entry) (ds : List Departure) (p : Departure → Bool) (at s i : ℕ) (k : ℕ) → k ≤ at → k ≤ length es → Late ds p at
+    → filter (writes (filter p ds) s i) (units_before es k) ≡ filter (writes ds s i) (units_before es k)
 unfolding writes survives
-alike es ds last s i zero within inside = refl
-alike es ds last s i (suc k) within inside =
-    let rest = alike es ds last s i k (omega (arith, within)) (omega (arith, inside)) in
+alike es ds p at s i zero within inside late = refl
+alike es ds p at s i (suc k) within inside late =
+    let rest = alike es ds p at s i k (omega (arith, within)) (omega (arith, inside)) late in
     elim (slice_get_cases es k).1 [
       | inl a ↦
-          let one : (j : ℕ) → writes (up_to last ds) s i (unit_of k a.0 j) ≡ writes ds s i (unit_of k a.0 j) =
+          let one : (j : ℕ) → writes (filter p ds) s i (unit_of k a.0 j) ≡ writes ds s i (unit_of k a.0 j) =
           λ j. ap (λ v. ((unit_of k a.0 j).sector == s) && v)
-          (sym (all_alike (λ (d : Departure). not (is_in d.part (unit_of k a.0 j)) || keeps d.fate d.part.count (byte_in d.part (unit_of k a.0 j) i)) (λ (d : Departure). nat_le d.part.entry last) ds
-          (λ d later.
-          let other : (d.part.entry == k) ≡ false = grind (arith, nat_tests, later, within) in
+          (sym (all_alike (λ (d : Departure). not (is_in d.part (unit_of k a.0 j)) || keeps d.fate d.part.count (byte_in d.part (unit_of k a.0 j) i)) p ds
+          (λ d number there fails.
+          let from = late d number there fails in
+          let other : (d.part.entry == k) ≡ false = grind (arith, nat_tests, from, within) in
           rw other refl))) in
-          let own = filter-map_alike (writes (up_to last ds) s i) (writes ds s i) (unit_of k a.0) (range_with_len 0 a.0.count) one in
-          ap (filter (writes (up_to last ds) s i)) (units_before-next es k a.0 a.2)
-          ∙ filter-append (writes (up_to last ds) s i) (units_before es k) (units_of_entry k a.0)
-          ∙ ap (λ us. us ++ filter (writes (up_to last ds) s i) (units_of_entry k a.0)) rest
+          let own = filter-map_alike (writes (filter p ds) s i) (writes ds s i) (unit_of k a.0) (range_with_len 0 a.0.count) one in
+          ap (filter (writes (filter p ds) s i)) (units_before-next es k a.0 a.2)
+          ∙ filter-append (writes (filter p ds) s i) (units_before es k) (units_of_entry k a.0)
+          ∙ ap (λ us. us ++ filter (writes (filter p ds) s i) (units_of_entry k a.0)) rest
           ∙ ap (λ us. filter (writes ds s i) (units_before es k) ++ us) own
           ∙ sym (ap (filter (writes ds s i)) (units_before-next es k a.0 a.2) ∙ filter-append (writes ds s i) (units_before es k) (units_of_entry k a.0))
       | inr past ↦ let end = past.0 in absurd (omega (arith, end, inside))
@@ -245,56 +256,168 @@ or_left : (a b : Bool) → (a || b) ≡ false → a ≡ false
 or_left true b h = let bad : true ≡ false = h in cc
 or_left false b h = refl
 
--- no mark stands behind the window
-marks : (way : By) (es : List Entry) (cut : ℕ) (ds : List Departure) (w : Window) (n : ℕ) → cut ≤ length es → IsWindow way es cut ds w → w.end + 1 + n ≤ cut
-    → marks_at es (w.end + 1 + n) ≡ marks_at es (w.end + 1)
-marks way es cut ds w zero inside is within = let same : w.end + 1 + 0 ≡ w.end + 1 = omega arith in ap (marks_at es) same
-marks way es cut ds w (suc n) inside is within =
-    let k : ℕ = w.end + 1 + n in
-    let next : w.end + 1 + suc n ≡ suc k = omega arith in
-    let rest = marks way es cut ds w n inside is (omega (arith, within)) in
+-- a count of entries of which none stands behind a cut
+still : (test : Entry → Bool) (es : List Entry) (at n : ℕ) → at + n ≤ length es
+    → ((e : ℕ) (x : Entry) → at ≤ e → e < at + n → slice_get es e ≡ Some x → test x ≡ false) → count_by test (take (at + n) es) ≡ count_by test (take at es)
+still test es at zero inside none = let same : at + 0 ≡ at = omega arith in ap (λ k. count_by test (take k es)) same
+still test es at (suc n) inside none =
+    let k : ℕ = at + n in
+    let next : at + suc n ≡ suc k = omega arith in
+    let rest = still test es at n (omega (arith, inside)) (λ e x from to there. none e x from (omega (arith, to)) there) in
     elim (slice_get_cases es k).1 [
       | inl a ↦
-          let none = is.last k (omega arith) (omega (arith, within)) in
-          let test : (a.0.flags.mark || entry_arrives way ds k a.0) ≡ false = sym (ap (λ o. option_map_or (λ (entry : Entry). entry.flags.mark || entry_arrives way ds k entry) o false) a.2) ∙ none in
-          let mark : a.0.flags.mark ≡ false = or_left a.0.flags.mark (entry_arrives way ds k a.0) test in
+          let fails : test a.0 ≡ false = none k a.0 (omega arith) (omega arith) a.2 in
           let own : Bool → ℕ = λ b. if b then 1 else 0 in
-          let more : marks_at es (suc k) ≡ marks_at es k + own a.0.flags.mark =
-          ap (count_by (λ (entry : Entry). entry.flags.mark)) (take-suc_place es k a.0 a.2) ∙ count_by-push (λ (entry : Entry). entry.flags.mark) (take k es) a.0 in
-          let still : own a.0.flags.mark ≡ own false = ap own mark in
-          ap (marks_at es) next ∙ more ∙ omega (arith, still) ∙ rest
-      | inr past ↦ let end = past.0 in absurd (omega (arith, end, within, inside))
+          let more : count_by test (take (suc k) es) ≡ count_by test (take k es) + own (test a.0) = ap (count_by test) (take-suc_place es k a.0 a.2) ∙ count_by-push test (take k es) a.0 in
+          let nothing : own (test a.0) ≡ own false = ap own fails in
+          ap (λ m. count_by test (take m es)) next ∙ more ∙ omega (arith, nothing) ∙ rest
+      | inr past ↦ let end = past.0 in absurd (omega (arith, end, inside))
     ]
 
-map_same : {A B : Type 0} (f g : A → B) (xs : List A) → ((x : A) → f x ≡ g x) → map f xs ≡ map g xs
+-- from a cut to a later one
+still_to : (test : Entry → Bool) (es : List Entry) (at cut : ℕ) → at ≤ cut → cut ≤ length es
+    → ((e : ℕ) (x : Entry) → at ≤ e → e < cut → slice_get es e ≡ Some x → test x ≡ false) → count_by test (take at es) ≡ count_by test (take cut es)
+still_to test es at cut order inside none =
+    let n : ℕ = cut - at in
+    let end : at + n ≡ cut = omega (arith, order) in
+    sym (still test es at n (omega (arith, end, inside)) (λ e x from to there. none e x from (omega (arith, to, end)) there)) ∙ ap (λ k. count_by test (take k es)) end
+
+-- no mark stands behind the cut
+marks : (way : By) (es : List Entry) (cut at : ℕ) (ds : List Departure) → at ≤ cut → cut ≤ length es → Calm way es cut ds at → marks_at es at ≡ marks_at es cut
+marks way es cut at ds order inside calm =
+    still_to (λ (entry : Entry). entry.flags.mark) es at cut order inside (λ e x from to there.
+    let test : (x.flags.mark || entry_arrives way ds e x) ≡ false = sym (ap (λ o. option_map_or (λ (entry : Entry). entry.flags.mark || entry_arrives way ds e entry) o false) there) ∙ calm e from to in
+    or_left x.flags.mark (entry_arrives way ds e x) test)
+
+-- and no flush entry, behind an entry of which something departs
+same_epoch : (way : By) (es : List Entry) (cut at bound : ℕ) (tears : Bool) (ds : List Departure) (first : Departure) → at ≤ cut → cut ≤ length es
+    → IsAdmissible way es cut bound tears ds → slice_get ds 0 ≡ Some first → first.part.entry < at → epoch_at es at ≡ epoch_at es cut
+same_epoch way es cut at bound tears ds first order inside admissible there behind =
+    still_to (λ (entry : Entry). entry.flags.flush) es at cut order inside (λ e x from to here.
+    (admissible.volatile 0 first there).flushed e x (omega (arith, behind, from)) to here)
+
+pub map_same : {A B : Type 0} (f g : A → B) (xs : List A) → ((x : A) → f x ≡ g x) → map f xs ≡ map g xs
 map_same f g [] same = refl
 map_same f g (x ∷ xs) same = rw (same x, map_same f g xs same) refl
 
 -- byte for byte
-byte : (way : By) (log : LogValue) (cut bound : ℕ) (tears : Bool) (ds : List Departure) (w : Window) (s i : ℕ)
-    → cut ≤ length log.entries → IsWindow way log.entries cut ds w → IsAdmissible way log.entries cut bound tears ds
-    → byte_after log (units_before log.entries (w.end + 1)) (up_to w.end ds) s i ≡ byte_after log (units_before log.entries cut) ds s i
+byte : (way : By) (log : LogValue) (cut bound at : ℕ) (tears : Bool) (ds : List Departure) (p : Departure → Bool) (s i : ℕ)
+    → cut ≤ length log.entries → at ≤ cut → Calm way log.entries cut ds at → Late ds p at → IsAdmissible way log.entries cut bound tears ds
+    → byte_after log (units_before log.entries at) (filter p ds) s i ≡ byte_after log (units_before log.entries cut) ds s i
 unfolding byte_after
-byte way log cut bound tears ds w s i inside is admissible =
+byte way log cut bound at tears ds p s i inside order calm late admissible =
     let es = log.entries in
-    let before = is.before in
-    let n : ℕ = cut - (w.end + 1) in
-    let end : w.end + 1 + n ≡ cut = omega (arith, before) in
-    let up = alike es ds w.end s i (w.end + 1) (omega arith) (omega (arith, before, inside)) in
-    let rest = behind way es cut bound tears ds w s i n inside is admissible (omega (arith, end)) in
-    let all : filter (writes (up_to w.end ds) s i) (units_before es (w.end + 1)) ≡ filter (writes ds s i) (units_before es cut) =
+    let n : ℕ = cut - at in
+    let end : at + n ≡ cut = omega (arith, order) in
+    let up = alike es ds p at s i at (omega arith) (omega (arith, order, inside)) late in
+    let rest = behind way es cut bound at tears ds s i n inside calm admissible (omega (arith, end)) in
+    let all : filter (writes (filter p ds) s i) (units_before es at) ≡ filter (writes ds s i) (units_before es cut) =
     up ∙ sym rest ∙ ap (λ k. filter (writes ds s i) (units_before es k)) end in
     ap (λ us. option_map_or (λ (u : LogUnit). slice_index (unit_content es u) i) (last_or None us) (initial_byte log.initial s i)) all
 
-pub same_is_left : SameIsLeft
+device : (way : By) (log : LogValue) (cut bound at : ℕ) (tears : Bool) (ds : List Departure) (p : Departure → Bool)
+    → cut ≤ length log.entries → at ≤ cut → Calm way log.entries cut ds at → Late ds p at → IsAdmissible way log.entries cut bound tears ds
+    → crash_image log at (filter p ds) ≡ crash_image log cut ds
 unfolding device_after sector_after
+device way log cut bound at tears ds p inside order calm late admissible =
+    let es = log.entries in
+    map_same (sector_after log (units_before es at) (filter p ds)) (sector_after log (units_before es cut) ds) (range_with_len 0 log.sectors)
+    (λ s. map_same (byte_after log (units_before es at) (filter p ds) s) (byte_after log (units_before es cut) ds s) (range_with_len 0 512)
+    (λ i. byte way log cut bound at tears ds p s i inside order calm late admissible))
+
+pub same_is_left : SameIsLeft
 same_is_left way log cut bound tears ds w inside is admissible =
     let es = log.entries in
     let before = is.before in
-    let n : ℕ = cut - (w.end + 1) in
-    let end : w.end + 1 + n ≡ cut = omega (arith, before) in (
-      map_same (sector_after log (units_before es (w.end + 1)) (up_to w.end ds)) (sector_after log (units_before es cut) ds) (range_with_len 0 log.sectors)
-          (λ s. map_same (byte_after log (units_before es (w.end + 1)) (up_to w.end ds) s) (byte_after log (units_before es cut) ds s) (range_with_len 0 512)
-          (λ i. byte way log cut bound tears ds w s i inside is admissible)),
-      sym (marks way es cut ds w n inside is (omega (arith, end))) ∙ ap (marks_at es) end,
+    let start = is.start in
+    let order = is.order in
+    let early : w.end + 1 ≤ cut = omega (arith, before) in
+    let calm : Calm way es cut ds (w.end + 1) = λ e from to. is.last e (omega (arith, from)) to in
+    let late : Late ds (λ (d : Departure). nat_le d.part.entry w.end) (w.end + 1) =
+    λ d k there fails.
+    let test : nat_le d.part.entry w.end ≡ false = fails in
+    grind (arith, nat_tests, test) in (
+      device way log cut bound (w.end + 1) tears ds (λ (d : Departure). nat_le d.part.entry w.end) inside early calm late admissible,
+      marks way es cut (w.end + 1) ds early inside calm,
+      same_epoch way es cut (w.end + 1) bound tears ds is.first early inside admissible is.departs (omega (arith, start, order)),
     )
+
+-- no window: the cut right behind the first entry of which something departs
+behind_first : (way : By) (log : LogValue) (cut bound : ℕ) (tears : Bool) (ds : List Departure) (first : Departure) (f : ℕ)
+    → first.part.entry ≡ f → cut ≤ length log.entries → HasNoWindow way log.entries cut ds → IsAdmissible way log.entries cut bound tears ds
+    → slice_get ds 0 ≡ Some first → IsOfCutAfter way log cut bound tears ds f
+behind_first way log cut bound tears ds first f own inside none admissible there =
+    let es = log.entries in
+    let before = (admissible.volatile 0 first there).before in
+    let early : f + 1 ≤ cut = omega (arith, before, own) in
+    let calm : Calm way es cut ds (f + 1) = λ e from to. none first e there (omega (arith, from, own)) to in
+    let late : Late ds (λ (d : Departure). d.part.entry == f) (f + 1) =
+    λ d k here fails.
+    let least = first_entry way es cut bound tears ds first d k admissible there here in
+    let apart = other_number d.part.entry f fails in
+    omega (arith, least, own, apart) in
+    record {
+      order = early;
+      choice = subst (λ (xs : List Entry). IsAdmissible way xs (f + 1) bound tears (only_of f ds)) (flushed-none es)
+          (leaves way es cut bound (f + 1) tears ds (λ (d : Departure). d.part.entry == f) (λ n. false) admissible early
+          (λ d k here passes. let same = same_number d.part.entry f passes in omega (arith, same))
+          (λ d k g here passes later sooner. refl));
+      device = device way log cut bound (f + 1) tears ds (λ (d : Departure). d.part.entry == f) inside early calm late admissible;
+      marks = marks way es cut (f + 1) ds early inside calm;
+      epoch = same_epoch way es cut (f + 1) bound tears ds first early inside admissible there (omega (arith, own));
+    }
+
+-- and the cut before that entry, where nothing of it arrived
+before_first : (way : By) (log : LogValue) (cut bound : ℕ) (tears : Bool) (ds : List Departure) (first : Departure) (entry : Entry) (f : ℕ)
+    → first.part.entry ≡ f → IsLog log → cut ≤ length log.entries → HasNoWindow way log.entries cut ds → IsAdmissible way log.entries cut bound tears ds
+    → slice_get ds 0 ≡ Some first → slice_get log.entries f ≡ Some entry → entry_arrives way ds f entry ≡ false → IsOfCutBefore log cut ds f
+before_first way log cut bound tears ds first entry f own bounds inside none admissible there here none_arrived =
+    let es = log.entries in
+    let volatile = admissible.volatile 0 first there in
+    let before = volatile.before in
+    let early : f + 1 ≤ cut = omega (arith, before, own) in
+    let at : slice_get es first.part.entry ≡ Some entry = ap (slice_get es) own ∙ here in
+    let same : volatile.entry ≡ entry = let both : Some volatile.entry ≡ Some entry = sym volatile.there ∙ at in cc in
+    let unmarked : entry.flags.mark ≡ false =
+    by_mark entry.flags.mark refl (λ m.
+    let empty : entry.count ≡ 0 = ((bounds.entries f entry here).mark m).count in
+    let some = volatile.some in
+    let within = volatile.inside in
+    let count = ap (λ (x : Entry). x.count) same in
+    absurd (omega (arith, empty, some, within, count))) in
+    let calm : Calm way es cut ds f =
+    λ e from to.
+    elim (eqb_tells e f) [
+      | inl is ↦
+          let there_too : slice_get es e ≡ Some entry = ap (slice_get es) is.1 ∙ here in
+          let test : (entry.flags.mark || entry_arrives way ds f entry) ≡ false = ap (λ b. b || entry_arrives way ds f entry) unmarked ∙ none_arrived in
+          ap (λ o. option_map_or (λ (x : Entry). x.flags.mark || entry_arrives way ds e x) o false) there_too
+          ∙ ap (λ n. entry.flags.mark || entry_arrives way ds n entry) is.1 ∙ test
+      | inr other ↦ let apart = other.1 in none first e there (omega (arith, from, own, apart)) to
+    ] in
+    let late : Late ds (λ (d : Departure). false) f =
+    λ d k at_k fails.
+    let least = first_entry way es cut bound tears ds first d k admissible there at_k in
+    omega (arith, least, own) in
+    let order : f ≤ cut = omega (arith, early) in
+    let nothing : filter (λ (d : Departure). false) ds ≡ [] = filter_none (λ (d : Departure). false) ds (λ d. refl) in
+    let count : Bool → ℕ = λ b. if b then 1 else 0 in
+    let flush : is_flush_at es f ≡ entry.flags.flush = ap (λ o. option_map_or (λ (x : Entry). x.flags.flush) o false) here in
+    let more : epoch_at es (suc f) ≡ epoch_at es f + count entry.flags.flush =
+    ap (count_by (λ (x : Entry). x.flags.flush)) (take-suc_place es f entry here) ∙ count_by-push (λ (x : Entry). x.flags.flush) (take f es) entry in
+    record {
+      device = ap (λ xs. crash_image log f xs) (sym nothing) ∙ device way log cut bound f tears ds (λ (d : Departure). false) inside order calm late admissible;
+      marks = marks way es cut f ds order inside calm;
+      epoch = sym (same_epoch way es cut (f + 1) bound tears ds first early inside admissible there (omega (arith, own))) ∙ ap (epoch_at es) (add-one f) ∙ more
+          ∙ ap (λ b. epoch_at es f + count b) (sym flush);
+    }
+  where
+    by_mark : (b : Bool) → entry.flags.mark ≡ b → (entry.flags.mark ≡ true → entry.flags.mark ≡ false) → entry.flags.mark ≡ false
+    by_mark true is never = never is
+    by_mark false is never = is
+
+pub nothing_else_is_lost : NothingElseIsLost
+nothing_else_is_lost way log cut bound tears ds first bounds inside none admissible there = (
+  behind_first way log cut bound tears ds first first.part.entry refl inside none admissible there,
+  λ entry here none_arrived. before_first way log cut bound tears ds first entry first.part.entry refl bounds inside none admissible there here none_arrived,
+)

@@ -1,21 +1,42 @@
 //! Laws of windows and of the flushes that are picked for them. The functions do nothing; each contract is a theorem.
 
-ghost use Rattle.flushes.specs.Laws.{FlushTakesAway, FlushElsewhereLeaves, SameIsLeft, PlacesAreFewest, EachIsCountedOnce};
+ghost use Rattle.flushes.specs.Laws.{FlushTakesAway, SameIsLeft, NothingElseIsLost, FlushesWriteNothing, CutsStay, FlushesElsewhereLeave, NoFlushHelps, PlacesAreFewest, EachIsCountedOnce};
 
 /// A flush in the window of an image takes it away, and with it the image right behind the window where the same departs.
 pub fn flush_takes_away()
     ensures { FlushTakesAway }
 {}
 
-/// A flush outside of the window leaves what departs up to its end.
-pub fn flush_elsewhere_leaves()
-    ensures { FlushElsewhereLeaves }
-{}
-
-/// Right behind the window the departures up to its end leave the same device as all departures do at the cut, behind as many
-/// marks.
+/// Right after the window the departures up to its end leave the same device as all departures do at the cut, after as many
+/// marks and in the same epoch.
 pub fn same_is_left()
     ensures { SameIsLeft }
+{}
+
+/// An image without a window is that of the cut right after the first entry of which something departs, where nothing else
+/// departs.
+pub fn nothing_else_is_lost()
+    ensures { NothingElseIsLost }
+{}
+
+/// Added flushes change no device and no number of marks.
+pub fn flushes_write_nothing()
+    ensures { FlushesWriteNothing }
+{}
+
+/// A cut that is explored is explored with added flushes too.
+pub fn cuts_stay()
+    ensures { CutsStay }
+{}
+
+/// Flushes outside of the window, however many, leave what departs up to its end.
+pub fn flushes_elsewhere_leave()
+    ensures { FlushesElsewhereLeave }
+{}
+
+/// No flushes, however many, take away an image without a window and its like at an earlier cut.
+pub fn no_flush_helps()
+    ensures { NoFlushHelps }
 {}
 
 /// No fewer places have one in each window.

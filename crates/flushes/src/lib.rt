@@ -1,8 +1,9 @@
-//! Where a flush would take failing images away, and the fewest flushes that would take away all that a flush can.
+//! Where a flush would take failing images away, and the fewest flushes that would take away all against which a flush helps.
 //!
 //! A failing image is a cut and a choice. A flush between the first entry of which something departs and the last entry of
-//! which something arrived forbids it: these places are its window. Where nothing arrived behind the first departure the
-//! image is that of an earlier cut, and no flush helps.
+//! which something arrived forbids it: these places are its window. Where nothing departs, or nothing arrived after that first
+//! entry, there is no window and no flush helps. The same device is left, whatever flushes are added, by the cut right after
+//! the entry, where nothing else departs. Where nothing of the entry arrived, the cut before it leaves it too.
 //!
 //! | Call | Answer |
 //! |---|---|
@@ -17,8 +18,10 @@
 //!
 //! `specs/Windows.antt` says what a window is (`IsWindow`), and where there is none. `specs/Places.antt` says which places are
 //! answered (`AreMissing`): each is the end of the first window that holds none of those before it, so each window holds one,
-//! and each window is counted at its first place. Two laws stand above (`specs/Laws.antt`): no fewer places have one in each
-//! window (`places_are_fewest`), and the counts add up to the number of windows (`each_is_counted_once`).
+//! and each window is counted at its first place. Laws stand above (`specs/Laws.antt`). No fewer places have one in each window
+//! (`places_are_fewest`), and the counts add up to the number of windows (`each_is_counted_once`). A flush in a window takes the
+//! image away (`flush_takes_away`), and flushes elsewhere leave it or its like (`flushes_elsewhere_leave`, `same_is_left`). What
+//! leaves the same as an image without a window (`nothing_else_is_lost`), no flushes take away (`no_flush_helps`).
 //!
 //! # How it is written
 //!
@@ -48,6 +51,7 @@ mod window;
 
 pub use counted::{MissingFlush, missing_flushes};
 pub use laws::{
-    each_is_counted_once, flush_elsewhere_leaves, flush_takes_away, places_are_fewest, same_is_left,
+    cuts_stay, each_is_counted_once, flush_takes_away, flushes_elsewhere_leave,
+    flushes_write_nothing, no_flush_helps, nothing_else_is_lost, places_are_fewest, same_is_left,
 };
 pub use window::{Window, window_of};
