@@ -45,6 +45,9 @@ docs/MAP.md has a row for each crate of crates.txt in its table of layers, and f
 new opcode and a new helper name each file of code, definitions and lemmas that tells all forms of the enum in TOLD_APART
 apart, in a row of its crate. Tests are left out.
 
+tests/gate_edits.txt names edits of crates/*/wrong/. These and those of must-fail/ are at most EDITS, and no crate has more than
+OF_CRATE in must-fail/.
+
 docs/PROVED.md lists each definition to which those of ROOTS lead by their `use` lines.
 
 The files in docs/completions/ are what tools/completions.py writes of docs/crashbpf.1, which tests/run.py compares with what
@@ -65,6 +68,8 @@ import ledger
 
 # The most lines of README.md, the most characters of each, and its most words.
 LINES, CHARACTERS, WORDS = 130, 100, 1300
+# The most edits that the gate tries, and the most of them in one crate's must-fail/.
+EDITS, OF_CRATE = 104, 8
 # How many sentences have more words than the number before it.
 LONG = {40: 0, 60: 0}
 # What stands for a space and a bar of a piece of code, so that it is one word of one cell.
@@ -290,6 +295,18 @@ def unlisted(repository, page):
                     yield f"'{title}' lacks {path}"
 
 
+def wrong_edits(top):
+    """Returns what is wrong with the edits that the gate tries."""
+    lines = [line.partition("#")[0].strip() for line in (top / "tests/gate_edits.txt").read_text().splitlines()]
+    listed = [line for line in lines if line]
+    yield from (f"no edit {it} in wrong/" for it in listed if not (top / "crates" / it.replace("/", "/wrong/")).with_suffix(".edit").exists())
+    own = {crate: len(list((top / "crates" / crate / "must-fail").glob("*.edit"))) for crate in ledger.crates(top)}
+    yield from (f"{crate} has {count} edits in must-fail/, and at most {OF_CRATE} are allowed" for crate, count in own.items() if count > OF_CRATE)
+    count = len(listed) + sum(own.values())
+    if count > EDITS:
+        yield f"the gate tries {count} edits, and at most {EDITS} are allowed"
+
+
 def clauses_by_function(texts):
     """Returns the names of the clauses of the functions of each name."""
     clauses = {}
@@ -373,6 +390,7 @@ def findings(top):
     for file, text in zip(files, texts):
         for number, line in enumerate(text.splitlines(), 1):
             yield from ((file, number, it) for it in unknown_documents(top, line))
+    yield from ((top / "tests/gate_edits.txt", 1, it) for it in wrong_edits(top))
     repository = Repository(top)
     yield from ((top / "docs/MAP.md", 1, it) for it in unlisted(repository, (top / "docs/MAP.md").read_text()))
     for limit, allowed in LONG.items():
