@@ -18,16 +18,35 @@ folders.
 
 README.md names the kit that the program names by --version.
 
-In README.md and docs/PROVED.md, moreover, for what stands in backticks and has no space in it:
+For what stands in backticks and has no space in it, in each document:
 
-- A path (with a slash, not in front) exists, seen from the top. A folder out/ is made by a build, and isn't looked into.
+- A path (with a slash, not in front) exists, seen from the top, from the document's folder, from crates/ or from one of the
+  crates at hand; or in examples/, where it may lack the ending. A folder out/ is made by a build, and isn't looked into.
+- A file *.rt or *.antt that is named alone is one of the crates at hand.
+- A name with _, :: or ( in it has words of the crates' sources, definitions, proofs and file names, of the scripts, the
+  examples, the man page or the documents' blocks of code.
+- Of `NAME` in `PLACE`, or of, where PLACE is such a path or file or a crate, the words of NAME stand there, or NAME is a
+  file there.
+
+The crates at hand are those of the section, where its heading names crates and nothing else; in a row of a table whose
+first cell is crates alone, these; and those that the line names. Elsewhere they are all. OTHERS has what other programs
+are made of, and NAME stands for any name.
+
+In README.md and docs/PROVED.md, moreover:
+
+- A path exists, seen from the top.
 - A name (identifiers joined by :: or a dot, with -- before it for an option) is known: each of its identifiers is a
   word of the crates' sources or definitions, of their file names, or of crates.txt.
-- Names in parentheses behind a name of a function, as in `read` (`found`, `clean`), are clauses of that function.
+- Names in parentheses after a name of a function, as in `read` (`found`, `clean`), are clauses of that function.
 
 In docs/PROVED.md each call and clause that a table names is one of the sources, as tools/ledger.py says it.
 
-docs/MAP.md has a row for each crate of crates.txt in its table of layers, and for no other.
+docs/MAP.md has a row for each crate of crates.txt in its table of layers, and for no other. Its lists of what to touch for a
+new opcode and a new helper name each file of code, definitions and lemmas that tells all forms of the enum in TOLD_APART
+apart, in a row of its crate. Tests are left out.
+
+tests/gate_edits.txt names edits of crates/*/wrong/. These and those of must-fail/ are at most EDITS, and no crate has more than
+OF_CRATE in must-fail/.
 
 docs/PROVED.md lists each definition to which those of ROOTS lead by their `use` lines.
 
@@ -39,6 +58,7 @@ Blocks of code, fenced or indented by four spaces, aren't looked at.
 import os
 import re
 import sys
+from functools import cached_property
 from pathlib import Path
 
 sys.dont_write_bytecode = True
@@ -48,6 +68,8 @@ import ledger
 
 # The most lines of README.md, the most characters of each, and its most words.
 LINES, CHARACTERS, WORDS = 130, 100, 1300
+# The most edits that the gate tries, and the most of them in one crate's must-fail/.
+EDITS, OF_CRATE = 104, 8
 # How many sentences have more words than the number before it.
 LONG = {40: 0, 60: 0}
 # What stands for a space and a bar of a piece of code, so that it is one word of one cell.
@@ -57,6 +79,20 @@ NAME = re.compile(r"(--)?[A-Za-z_]\w*((::|\.)[A-Za-z_]\w*)*(\(\))?")
 ROOTS = ("commands", "command_line")
 USE = re.compile(r"(?m)^\s*(?:pub )?use Rattle\.(\w+)\.specs\.(\w+)")
 CLAUSES = re.compile(r"`([\w:]+)` \((`\w+`(?:, `\w+`)*)\)")
+CODE = re.compile(r"`([^`\s]+)`")
+PATH = re.compile(r"[\w.+-]+(?:/[\w.+-]+)*/?")
+FILE = re.compile(r"[\w-]+\.(?:rt|antt)")
+WORD = re.compile(r"[A-Za-z_][\w'-]*")
+NAMES = re.compile(r"[A-Za-z_][\w':.-]*(\(.*\))?")
+PLACED = re.compile(r"`([^`\s]+)` (?:in|of) `([^`\s]+)`")
+# The lists of docs/MAP.md, and the enum of which each is, with its file.
+TOLD_APART = {"For a new opcode": ("Instr", "bpf_isa/src/instr.rt"), "For a new helper": ("Helper", "helpers/src/helper.rt")}
+# What the documents name of Linux, QEMU and compilers, of a reader's own, and of arithmetic.
+OTHERS = set(
+    """drivers/md/dm-log-writes.c log_writes_map normal_end_io fuse_fsync sched_autogroup_enabled fuse_flush bdrv_co_flush
+    bdrv_driver_pwritev blk_log_writes_co_log blk_log_writes_co_do_file blk_log_writes_co_do_log librustc-nightly_rt.tsan.a
+    __bpf_trap ci/explore.sh ci/record A_j""".split()
+)
 
 
 def sources(top):
@@ -137,6 +173,138 @@ def long_sentences(lines, limit):
 def documents(top):
     """Returns the documents that people read: those at the top and in docs/, and the pages of the examples."""
     return [it for pattern in ("*.md", "docs/*.md", "examples/*.md", "examples/*/*.md") for it in sorted(top.glob(pattern))]
+
+
+class Repository:
+    """What there is to be named: the files of the crates, and the words of all that people write but prose."""
+
+    def __init__(self, top):
+        self.top, self.crates = top, ledger.crates(top)
+        # The texts of the files by their paths, the paths below each folder and of each name, and the words of some files.
+        self.texts, self.below, self.named, self.spoken = {}, {}, {}, {}
+        for crate in self.crates:
+            for folder, folders, names in os.walk(top / "crates" / crate):
+                folders[:] = sorted(set(folders) - {"out"})
+                for path in (Path(folder, name) for name in names):
+                    self.add(path.relative_to(top / "crates"), path.read_text() if FILE.fullmatch(path.name) else "")
+
+    def add(self, path, text):
+        """Adds a file of the crates."""
+        self.texts[str(path)] = text
+        self.named.setdefault(path.name, []).append(str(path))
+        for place in (path, *path.parents):
+            self.below.setdefault(str(place), []).append(str(path))
+
+    @cached_property
+    def words(self):
+        """The words of code, proofs, scripts, examples, file names and blocks of code."""
+        texts = [*self.texts, *self.texts.values(), (self.top / "crates.txt").read_text(), (self.top / "docs/crashbpf.1").read_text()]
+        for folder in ("tools", "tests", "bench", "examples"):
+            for path in (self.top / folder).rglob("*"):
+                texts.append(path.name)
+                if path.suffix in (".py", ".sh", ".c", ".h", ".rs", ".s", ".txt") and "out" not in path.parts:
+                    texts.append(path.read_text(errors="replace"))
+        for path in [*documents(self.top), *self.top.glob("bench/*.md")]:
+            text = path.read_text()
+            texts += [line for line, is_prose in zip(text.splitlines(), prose(text)) if line != is_prose]
+        return words_of(" ".join(texts))
+
+    def words_in(self, files):
+        """Returns the words of these files."""
+        key = tuple(files)
+        if key not in self.spoken:
+            self.spoken[key] = words_of(" ".join([*files, *(self.texts[it] for it in files)]))
+        return self.spoken[key]
+
+    def at_hand(self, line, section):
+        """Returns the crates of which a line of a section speaks."""
+        cell = line.split("|")[1] if line.startswith("|") else ""
+        first = CODE.findall(cell) if not re.search(r"[^\s,]", CODE.sub("", cell)) else []
+        own = section or [it for it in first if set(first) <= set(self.crates)]
+        named = [it.split("/")[0] for it in CODE.findall(line)]
+        return list(dict.fromkeys([*own, *(it for it in named if it in self.crates)])) if own else self.crates
+
+    def found(self, place, crates):
+        """Returns the files of the crates that a path, the name of a file or that of a crate leads to."""
+        place = place.rstrip("/")
+        if FILE.fullmatch(place):
+            return [it for it in self.named.get(place, []) if it.split("/")[0] in crates]
+        return [it for root in (place, *(f"{crate}/{place}" for crate in crates)) for it in self.below.get(root, [])]
+
+    def is_path(self, path, document, crates):
+        example = self.top / "examples" / path.rstrip("/")
+        is_there = (self.top / path).exists() or (document.parent / path).exists() or example.exists()
+        return is_there or bool(self.found(path, crates)) or any(example.parent.glob(f"{example.name}.*"))
+
+    def lacks(self, document, line, section):
+        """Returns what a line of a document names that isn't there."""
+        crates = self.at_hand(line, section)
+        for span in CODE.findall(line):
+            if span in OTHERS or re.search(r"\bNAME\b", span) or span.startswith("/") or "/out/" in f"/{span}/":
+                continue
+            if "/" in span and PATH.fullmatch(span):
+                if not self.is_path(span, document, crates):
+                    yield f"no file {span}"
+            elif FILE.fullmatch(span):
+                if not self.found(span, crates):
+                    yield f"no file {span}" + (f" in {', '.join(crates)}" if crates is not self.crates else "")
+            elif NAMES.fullmatch(span) and re.search(r"_|::|\(", span):
+                yield from (f"nothing has the name {it} of {span}" for it in WORD.findall(span) if it not in self.words)
+        for span, place in PLACED.findall(line):
+            files = self.found(place, crates) if PATH.fullmatch(place) else []
+            if files and FILE.fullmatch(span):
+                if not set(files) & set(self.named.get(span, [])):
+                    yield f"no file {span} in {place}"
+            elif files and NAMES.fullmatch(span):
+                yield from (f"{place} doesn't have {it} of {span}" for it in WORD.findall(span) if it not in self.words_in(files))
+
+    def section(self, heading):
+        """Returns the crates of a section, where its heading names crates and nothing else, but for a word and a colon."""
+        names = re.split(r", | and ", heading.rpartition(": ")[2])
+        return names if set(names) <= set(self.crates) else []
+
+
+def words_of(text):
+    """Returns the words of a text, as it has them and without what a hyphen joins."""
+    joined = set(WORD.findall(" ".join(set(text.split()))))
+    return joined | {part for it in joined for part in re.split(r"['-]", it)}
+
+
+def strays(repository, document, lines):
+    """Returns what a document names that isn't there, each with the number of its line."""
+    section = []
+    for number, line in enumerate(lines, 1):
+        heading = re.match(r"#+ (.*)", line)
+        if heading:
+            section = repository.section(heading[1])
+        else:
+            yield from ((number, it) for it in repository.lacks(document, line, section))
+
+
+def unlisted(repository, page):
+    """Returns the files that docs/MAP.md lacks in the lists of TOLD_APART."""
+    for title, (enum, file) in TOLD_APART.items():
+        rows = page.partition(f"**{title}**")[2].partition("\n**For a ")[0].split("\n")
+        body = re.search(rf"pub enum {enum} \{{(.*?)\n\}}", repository.texts[file], re.S)[1]
+        forms = set(re.findall(r"(?m)^    ([A-Z]\w*)", body))
+        told = re.compile(rf"\b(?:{enum}::|{enum.lower()}\.)(\w+)")
+        for path, text in repository.texts.items():
+            crate, name = path.split("/")[0], path.rpartition("/")[2]
+            if enum in text and forms <= set(told.findall(text)) and path != file and not crate.endswith("_tests"):
+                if not any(re.match(rf"\|[^|]*`{crate}`[^|]*\|", row) and re.search(rf"[`/]{name}`", row) for row in rows):
+                    yield f"'{title}' lacks {path}"
+
+
+def wrong_edits(top):
+    """Returns what is wrong with the edits that the gate tries."""
+    lines = [line.partition("#")[0].strip() for line in (top / "tests/gate_edits.txt").read_text().splitlines()]
+    listed = [line for line in lines if line]
+    yield from (f"no edit {it} in wrong/" for it in listed if not (top / "crates" / it.replace("/", "/wrong/")).with_suffix(".edit").exists())
+    own = {crate: len(list((top / "crates" / crate / "must-fail").glob("*.edit"))) for crate in ledger.crates(top)}
+    yield from (f"{crate} has {count} edits in must-fail/, and at most {OF_CRATE} are allowed" for crate, count in own.items() if count > OF_CRATE)
+    count = len(listed) + sum(own.values())
+    if count > EDITS:
+        yield f"the gate tries {count} edits, and at most {EDITS} are allowed"
 
 
 def clauses_by_function(texts):
@@ -222,6 +390,9 @@ def findings(top):
     for file, text in zip(files, texts):
         for number, line in enumerate(text.splitlines(), 1):
             yield from ((file, number, it) for it in unknown_documents(top, line))
+    yield from ((top / "tests/gate_edits.txt", 1, it) for it in wrong_edits(top))
+    repository = Repository(top)
+    yield from ((top / "docs/MAP.md", 1, it) for it in unlisted(repository, (top / "docs/MAP.md").read_text()))
     for limit, allowed in LONG.items():
         count = sum(1 for path in documents(top) for _ in long_sentences(prose(path.read_text()), limit))
         if count > allowed:
@@ -236,6 +407,7 @@ def findings(top):
             text = "\n".join(lines)
             names = sorted(str(it.relative_to(top)) for it in believed(top))
             yield from ((path, 1, f"{it} isn't listed, and what is promised rests on it") for it in names if f"`{it}`" not in text)
+        yield from ((path, number, it) for number, it in strays(repository, path, lines))
         strict = path in (top / "README.md", top / "docs" / "PROVED.md")
         for number, line in enumerate(lines, 1):
             yield from ((path, number, it) for it in bad_links(path, line))

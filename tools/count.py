@@ -3,15 +3,15 @@
 
     tools/count.py COMMAND .. -- COMMAND ..
 
-passes on what each command prints, but for its last line `N passed, M failed`; the last line here has the sums. A command
-that fails or has no such line ends the run: the commands behind it aren't started, and it counts as one more failure where
-it counted none. The status is 0 where nothing failed.
+passes on what each command prints, but for its last line `N passed, M failed`, or `N refused, M not` of wrong bodies, each of
+which is to be refused. The last line here has the sums. A command that fails or has no such line ends the run: the commands
+after it aren't started, and it counts as one more failure where it counted none. The status is 0 where nothing failed.
 """
 import re
 import subprocess
 import sys
 
-COUNTS = re.compile(r"(\d+) passed, (\d+) failed")
+COUNTS = re.compile(r"(\d+) (?:passed|refused), (\d+) (?:failed|not)")
 
 
 def run(command):

@@ -3,7 +3,6 @@ import contextlib
 import importlib.machinery
 import importlib.util
 import os
-import re
 import shutil
 import sys
 import tempfile
@@ -43,7 +42,6 @@ def stand_ins(rt):
         "adopt": lambda crate, is_alone: None,
         "seeded": seeded,
         "linked": shutil.copytree,
-        "LIMITS": re.compile(r"\b(limit|gave up|out of memory)\b"),
     }
 
 

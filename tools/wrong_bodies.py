@@ -2,43 +2,67 @@
 """Tries wrong bodies of functions, and says which of them the contracts refuse.
 
     tools/wrong_bodies.py [--gate] [--lanes N] [NAME | NAME/EDIT ..]
+    tools/wrong_bodies.py --listed FILE [--lanes N]
 
-tries the edits crates/NAME/wrong/EDIT.edit, of all crates where none is named, and with --gate those of must-fail/ too. The
-gate tries must-fail/ alone, so this is run by hand for each crate whose contracts change. It runs at the top of the
-repository, changes nothing of it but the crates' out/, and checks a copy of each crate, begun with what `rt check` kept. N
-crates are tried side by side (one where N isn't given), each by one check at a time.
+tries the edits crates/NAME/wrong/EDIT.edit, of all crates where none is named, and with --gate those of must-fail/ too. So it
+is run by hand for each crate whose contracts change. It runs at the top of the repository, changes nothing of it but the
+crates' out/, and checks a copy of each crate, begun with what `rt check` kept. N crates are tried side by side (one where N
+isn't given), each by one check at a time.
 
-Edits that change different functions are tried in one check. An edit is refused where an error of the proof lies in a
-function that it changes; where it changes a constant, in one that names the constant. That a caller or a law isn't proved
-doesn't count, nor that a proof names what the edit took away. What isn't refused so is tried once more with what else is
-left, and then by itself.
+With --listed it tries the edits that FILE names, NAME/EDIT in a line, as the gate does after `rt ci`. It works on a copy of
+the crates, over the libraries that `rt ci` kept or left; what isn't there is proved. A check then asks for the functions that
+its edits change, and for no other. Where the crate itself was proved of the same text, it isn't proved once more; else these
+functions are, without an edit. RT_JOBS is N where none is given.
 
-It prints a line for each edit: refused and where, refused elsewhere, not refused, bad edit (it can't be applied or compiled),
-or not tried. The last line is `N refused, M not`. The status is 0 where M is 0.
+An edit has the form that `rt must-fail` reads; it may name several files. Edits that change different functions are tried in
+one check. An edit is refused where an error of the proof lies in a function that it changes; where it changes a constant, in
+one that names the constant. An edit of a definition names the law above it, in a line `# law: proofs/FILE` or
+`# law: src/FILE`, and is refused where an error lies there, in a check of the whole crate that tries nothing else. None of
+these counts:
+
+- that another function or law isn't proved;
+- that a proof names what the edit took away, or that a cast or an overflow alone isn't proved;
+- that the prover came to a limit of memory or steps;
+- that the text can't be read, or doesn't compile: that is a bad edit, and so is one of a contract or a proof.
+
+What isn't refused so is tried once more with what else is left, and then by itself. What is still proved where its functions
+alone are asked for is tried with the whole crate, to tell whether that is refused elsewhere.
+
+It prints a line for each edit: refused and where, refused elsewhere, not refused, bad edit, or not tried. The last line is
+`N refused, M not`. The status is 0 where M is 0. tests/wrong_bodies.py tests it.
 """
+import contextlib
 import os
 import re
 import resource
 import shutil
 import signal
 import sys
+import tempfile
 import threading
 from concurrent.futures import ThreadPoolExecutor
 
 sys.dont_write_bytecode = True
 
 import kit
+import take_kept
 
 FUNCTION = re.compile(r"\bfn\s+(\w+)")
 CONSTANT = re.compile(r"\b(?:const|static)\s+([A-Z]\w*)\s*:")
 IMPL = re.compile(r"(?m)^[ \t]*(?:unsafe\s+)?impl\b")
 # What may follow the closing brace of a clause, before the function's body.
 CLAUSES = re.compile(r"\s*(?:\{|(?:requires|ensures|decreases|where|by)\b)")
-IN_SOURCE = re.compile(r"(?:note: )?(?:\./)?(src/\S+\.rt):(\d+):\d+: (?:error: )?(.*)")
-IN_PROOF = re.compile(r"(?:\./)?proofs/(\S+)\.antt:(\d+):\d+: error: (.*)")
+CLAUSE = re.compile(r"\s*(requires|ensures|decreases)\b")
+PLACE = re.compile(r"(?:note: )?(?:\./)?((?:src|specs|proofs)/\S+):(\d+):\d+: (error: .*|it is not proved .*|it says .*)")
 VERDICT = re.compile(r"fn (\S+): (?:no proof|not proved)(.*)")
+# The last line of a check that had a verdict, though the crate isn't proved.
+NOT_PROVED = re.compile(r"logic=not-proved|only=\d+ proved=\d+|rattle: no verdict")
+# Errors that say nothing of a contract.
+LOST = "a proof names what the edit took away"
 LOST_NAME = re.compile(r"has no field|is not in scope|has no `|was not admitted")
+LIMIT = re.compile(r"ran out of (stack|the (steps|memory))|outgrew the memory limit|stopped at the step limit")
 TYPE = re.compile(r"\b(?:struct|enum)\s+(\w+)")
+LAW = re.compile(r"(?m)^# law: ((?:src|proofs)/\S+)$")
 
 
 def module_of(path):
@@ -47,17 +71,26 @@ def module_of(path):
 
 
 class Function:
-    """A function of a source file: its name, the type whose impl it stands in, and its lines from the first to the last.
+    """A function of a source file: its name, the type and the trait whose impl it stands in, and its lines from the first to the last.
 
     Its proof stands below one of its modules: the file's, or for a method that of the type.
     """
 
-    def __init__(self, path, name, of, first, last):
-        self.path, self.name, self.of, self.first, self.last = path, name, of, first, last
+    def __init__(self, path, name, of, trait, first, last):
+        self.path, self.name, self.of, self.trait, self.first, self.last = path, name, of, trait, first, last
         self.modules = [module_of(path)]
+
+    def called(self):
+        """Returns the name by which a check asks for it."""
+        return "::".join([*self.modules[-1], *[self.of + self.trait] * bool(self.of), self.name])
 
     def holds(self, path, line):
         return path == self.path and self.first <= line <= self.last
+
+    def is_at(self, path, line):
+        """Returns whether a place is in the function or in its proof."""
+        inside = path[len("proofs/") :].split("/")[:-1] if path.startswith("proofs/") else None
+        return self.holds(path, line) or inside is not None and self.is_in(inside, [])
 
     def is_in(self, parts, words):
         """Returns whether the parts of a path are those of this function, or of what stands inside it."""
@@ -93,15 +126,16 @@ def functions_of(path, text):
         end = end_of(text, found.end(), lambda at: True)
         head = text[found.end() : text.find("{", found.end())]
         head = re.sub(r"^\s*<[^{]*?>\s+(?=\w)", "", head)
-        name = re.search(r"(\w+)\s*(?:<|$|\s)", re.split(r"\bfor\b", head)[-1].strip().split("::")[-1])
-        impls.append((found.start(), end, name[1] if name else ""))
+        trait, _, last = re.split(r"\bwhere\b", head)[0].rpartition(" for ")
+        name = re.search(r"(\w+)\s*(?:<|$|\s)", last.strip().split("::")[-1])
+        impls.append((found.start(), end, name[1] if name else "", re.sub(r"\w+::|'\w+|<\w>|\W", "", trait)))
     functions = []
     for found in FUNCTION.finditer(text):
         end = end_of(text, found.end(), lambda at: not CLAUSES.match(text, at))
-        of = [name for start, stop, name in impls if start < found.start() < stop]
+        of = [names for start, stop, *names in impls if start < found.start() < stop]
         begin = max(text.rfind(it, 0, found.start()) for it in ";{}") + 1
         begin += len(text[begin:]) - len(text[begin:].lstrip())
-        functions.append(Function(path, found[1], of[-1] if of else "", line(begin), line(end)))
+        functions.append(Function(path, found[1], *(of[-1] if of else ("", "")), line(begin), line(end)))
     return functions
 
 
@@ -123,13 +157,15 @@ class Sources:
         found = [it for it in self.functions if it.holds(path, line)]
         return max(found, key=lambda it: it.first, default=None)
 
-    def naming(self, constant, of):
-        """Returns the functions that name a constant of a file."""
+    def naming(self, constant, of, seen=()):
+        """Returns the functions that name a constant of a file, or a constant that names it."""
         word, found = re.compile(rf"\b{constant}\b"), []
         for path, text in self.texts.items():
             for number, line in enumerate(text.split("\n"), 1):
                 if word.search(line) and (path == of or constant not in CONSTANT.findall(text)):
                     found.append(self.at(path, number))
+                    others = [it for it in self.constants_at(path, number) if it not in (constant, *seen)]
+                    found += [it for name in others for it in self.naming(name, path, (constant, *seen))]
         return found
 
     def constants_at(self, path, number):
@@ -146,38 +182,89 @@ class Sources:
         return list(dict.fromkeys(it for it in found if it))
 
 
+def goals_of(line):
+    """Returns the goals that a line of a check says aren't proved."""
+    if VERDICT.match(line):
+        return re.findall(r"`([^`]+)`", line.partition("did not prove")[2])
+    return re.findall(r"(?:error: |it is not proved .*\()`([^`]+)`", line)[:1]
+
+
+def emptiness(line):
+    """Returns why a line of a check that names an error says nothing of a contract, or None."""
+    goals = goals_of(line)
+    if LOST_NAME.search(line):
+        return LOST
+    if LIMIT.search(line):
+        return "a limit of the prover was met"
+    if goals and all(it.startswith("overflow_") for it in goals):
+        return "a cast or an overflow isn't proved"
+    return None
+
+
 class Edit:
-    """An edit, the lines that it changes, and the functions in which it has to be refused."""
+    """An edit, the lines that it changes, and where it has to be refused: in the functions that it changes, or in a law."""
 
     def __init__(self, rt, crate, sources, file):
         self.label = f"{crate.name}/{os.path.basename(file)[: -len('.edit')]}"
         texts, self.bad = rt.read_edit(file, crate.folder)
-        self.lines, self.functions = {}, []
+        self.lines, self.functions, self.law, self.is_of_clauses = {}, [], None, False
         for path, text in (texts or {}).items():
             with open(f"{crate.folder}/{path}", encoding="utf-8") as it:
                 was = it.read().split("\n")
-            pairs = enumerate(zip(was, text.split("\n")), 1)
-            self.lines.update({(path, number): new for number, (old, new) in pairs if old != new})
+            pairs = [(number, old, new) for number, (old, new) in enumerate(zip(was, text.split("\n")), 1) if old != new]
+            self.lines.update({(path, number): new for number, _, new in pairs})
+            self.is_of_clauses |= path.startswith("src/") and any(CLAUSE.match(it) for _, *both in pairs for it in both)
         if not self.bad:
             self.functions = sources.changed(self.lines)
-            self.bad = None if self.functions else "it changes no function, and no constant that a function names"
+            self.bad = self.place(file, crate.folder)
+
+    def place(self, file, folder):
+        """Notes the law of an edit of a definition, and returns what is bad in the edit, or None."""
+        parts = {path.split("/")[0] for path, _ in self.lines}
+        if "proofs" in parts or self.is_of_clauses:
+            return "it changes a proof or a contract"
+        if not self.functions:
+            return "it changes no function, and no constant that a function names"
+        if "specs" in parts:
+            with open(file, encoding="utf-8") as it:
+                named = LAW.search(it.read())
+            if not named or not os.path.isfile(f"{folder}/{named[1]}"):
+                return "it changes a definition, and has no line '# law: FILE' with a file of proofs/ or src/"
+            self.law = named[1]
+        return None
 
     def meets(self, other):
-        """Returns whether both change one function or one line."""
-        return bool({*self.functions} & {*other.functions} or self.lines.keys() & other.lines.keys())
+        """Returns whether both change one function or one line, or one of them is tried by itself."""
+        return bool(self.law or other.law or {*self.functions} & {*other.functions} or self.lines.keys() & other.lines.keys())
+
+    def errors(self, said):
+        """Returns the lines of a check's output that say where the edit has to be refused that something isn't proved.
+
+        Each stands with its function, or the law, and its place.
+        """
+        for line in said:
+            place, verdict = PLACE.match(line), VERDICT.match(line)
+            if place and self.law and place[1] == self.law:
+                yield self.law, line, f"{place[1]}:{place[2]}: {place[3]}"
+            for it in self.functions if not self.law else ():
+                if place and it.is_at(place[1], int(place[2])):
+                    yield it, line, f"{place[1]}:{place[2]}: {place[3]}"
+                elif verdict and "did not prove" in verdict[2] and it.is_in(verdict[1].split("::")[1:], ["fn"]):
+                    yield it, line, f"{it.path}:{it.first}: {verdict[1]}{verdict[2]}"
 
     def refusal(self, said):
-        """Returns the first line of a check's output that says that a function of the edit isn't proved, or None."""
-        for line in said:
-            source, proof, verdict = IN_SOURCE.match(line), IN_PROOF.match(line), VERDICT.match(line)
-            for it in self.functions:
-                if source and it.holds(source[1], int(source[2])):
-                    return f"{source[1]}:{source[2]}: {source[3]}"
-                if proof and not LOST_NAME.search(line) and it.is_in(proof[1].split("/")[:-1], []):
-                    return f"proofs/{proof[1]}.antt:{proof[2]}: {proof[3]}"
-                if verdict and "did not prove" in verdict[2] and it.is_in(verdict[1].split("::")[1:], ["fn"]):
-                    return f"{it.path}:{it.first}: {verdict[1]}{verdict[2]}"
-        return None
+        """Returns the first error that refuses the edit, or None, and why the errors that there are don't, or None.
+
+        Where an answer names what the edit took away, its goal is open for that alone.
+        """
+        errors, empty = list(self.errors(said)), None
+        lost = {it for it, line, _ in errors if LOST_NAME.search(line)}
+        for it, line, place in errors:
+            why = LOST if it in lost and not place.startswith("proofs/") else emptiness(line)
+            if not why:
+                return place, None
+            empty = empty or f"{why}, and nothing else: {place}"
+        return None, empty
 
 
 def rounds_of(edits):
@@ -190,13 +277,41 @@ def rounds_of(edits):
 
 
 class Trials:
-    """The trials of one crate's edits."""
+    """The trials of one crate's edits. Those that are quick ask a check for the functions alone that the edits change."""
 
-    def __init__(self, rt, crate, tell):
-        self.rt, self.crate, self.tell = rt, crate, tell
+    def __init__(self, rt, crate, tell, is_quick):
+        self.rt, self.crate, self.tell, self.is_quick, self.room = rt, crate, tell, is_quick, None
 
-    def checked(self, edits):
-        """Returns the output and the status of a check with these edits."""
+    def begin(self, edits):
+        """Returns whether the crate, or of it what the edits change, is proved as it stands, and makes a room with what that left."""
+        if not self.is_quick:
+            kept = f"{self.crate.folder}/out/incremental"
+            self.room = self.rt.seeded(self.crate, ["--jobs", "1"], kept if os.path.isdir(kept) else None)
+            return self.room is not None
+        self.room = tempfile.mkdtemp(prefix=f"rt-edits-{os.getpid()}-")
+        os.mkdir(f"{self.room}/seed")
+        return self.crate.is_built() or self.ran({}, self.asked(edits)).returncode == 0
+
+    def asked(self, edits):
+        """Returns the flags by which a check asks for the functions that the edits change, and for nothing else."""
+        names = dict.fromkeys(it.called() for edit in edits for it in edit.functions)
+        return [word for name in names for word in ("--only", name)]
+
+    def ran(self, texts, flags):
+        """Checks the crate with these texts in place of its own, by a quick trial over what the trials before it left."""
+        for _ in range(2):
+            over = f"{self.room}/{'seed' if self.is_quick else 'over'}"
+            if not self.is_quick:
+                self.rt.linked(f"{self.room}/seed", over)
+            ran = self.rt.checked(self.crate, texts, ["--jobs", "1", *flags], over)
+            if not self.is_quick:
+                shutil.rmtree(over, ignore_errors=True)
+            if ran.returncode != -signal.SIGKILL:
+                break
+        return ran
+
+    def checked(self, edits, is_whole):
+        """Returns the output of a check with these edits, and what it came to."""
         texts = {}
         for path in {path for edit in edits for path, _ in edit.lines}:
             with open(f"{self.crate.folder}/{path}", encoding="utf-8") as it:
@@ -204,42 +319,47 @@ class Trials:
             for number, new in [(at[1], new) for edit in edits for at, new in edit.lines.items() if at[0] == path]:
                 text[number - 1] = new
             texts[path] = "\n".join(text)
-        for _ in range(2):
-            over = f"{self.room}/over"
-            self.rt.linked(f"{self.room}/seed", over)
-            ran = self.rt.checked(self.crate, texts, ["--jobs", "1"], over)
-            shutil.rmtree(over, ignore_errors=True)
-            if ran.returncode != -signal.SIGKILL:
-                break
+        ran = self.ran(texts, [] if is_whole else self.asked(edits))
+        if ran.returncode == 2 and not is_whole:
+            # (it knows one of the functions by another name)
+            ran = self.ran(texts, [])
         said = ran.stdout.rstrip("\n").split("\n")
-        is_unread = ran.returncode == 1 and any(self.rt.unread(it, texts) for it in said)
-        return said, "unread" if is_unread else ran.returncode
+        if ran.returncode == 0:
+            return said, "proved"
+        if ran.returncode == 1 and any(self.rt.unread(it, texts) for it in said):
+            return said, "unread"
+        if ran.returncode in (1, 3) and NOT_PROVED.match(said[-1]):
+            return said, "not proved"
+        return said, "unread" if ran.returncode == 1 else f"ended with status {ran.returncode}"
 
-    def alone(self, edit, said, status):
-        """Tells what the check of an edit by itself came to."""
-        errors = [it for it in said if re.match(r"(note: )?\S+:\d+:\d+: ", it)]
+    def alone(self, edit, said, status, empty):
+        """Tells what the check of an edit by itself came to, where it doesn't refuse the edit."""
+        errors = [it for it in said if PLACE.match(it) or re.search(r"\berror\b", it)]
         first = (errors or said)[0][:160]
-        if status == 0:
+        if status == "proved":
             self.tell(edit, "not refused", "the crate is still proved")
-        elif status == 1 and said[-1].startswith("logic=not-proved"):
-            self.tell(edit, "refused elsewhere", first)
-        elif status == "unread" or status == 1 and any(re.search(r"\berror\[[\w-]+\]", it) for it in said):
-            self.tell(edit, "bad edit", next((it for it in said if "error" in it), first)[:160])
-        elif any(self.rt.LIMITS.search(it) for it in said):
-            self.tell(edit, "not refused", "only a limit of the prover was met")
+        elif status == "unread":
+            self.tell(edit, "bad edit", first)
+        elif status != "not proved":
+            self.tell(edit, "not tried", f"the check {status}")
+        elif empty or any(LIMIT.search(it) for it in said):
+            self.tell(edit, "not refused", (empty or "a limit of the prover was met")[:160])
         else:
-            self.tell(edit, "not tried", f"the check ended with status {status}")
+            self.tell(edit, "refused elsewhere", first)
 
     def round(self, edits):
         """Tries edits in one check, and returns those of which it says nothing."""
-        said, status = self.checked(edits)
+        is_whole = not self.is_quick or any(it.law for it in edits)
+        said, status = self.checked(edits, is_whole)
+        if len(edits) == 1 and status == "proved" and not is_whole:
+            said, status = self.checked(edits, True)
         left = []
         for edit in edits:
-            why = edit.refusal(said) if status in (1, 3) else None
+            why, empty = edit.refusal(said) if status == "not proved" else (None, None)
             if why:
                 self.tell(edit, "refused", why[:160])
             elif len(edits) == 1:
-                self.alone(edit, said, status)
+                self.alone(edit, said, status, empty)
             else:
                 left.append(edit)
         return left
@@ -248,18 +368,19 @@ class Trials:
         """Tries the edits in rounds: those left of one with what else is left, until that settles none, and then each by itself."""
         for edit in [it for it in edits if it.bad]:
             self.tell(edit, "bad edit", edit.bad)
-        left, kept = [it for it in edits if not it.bad], f"{self.crate.folder}/out/incremental"
-        self.room = self.rt.seeded(self.crate, ["--jobs", "1"], kept if os.path.isdir(kept) else None) if left else None
-        if left and not self.room:
-            for edit in left:
-                self.tell(edit, "not tried", "the crate isn't proved as it stands")
-            return
-        while left:
-            again = [it for edits in rounds_of(left) for it in self.round(edits)]
-            if len(again) == len(left):
-                again = [it for edit in left for it in self.round([edit])]
-            left = again
-        shutil.rmtree(self.room or "", ignore_errors=True)
+        left = [it for it in edits if not it.bad]
+        try:
+            if left and not self.begin(left):
+                for edit in left:
+                    self.tell(edit, "not tried", "the crate isn't proved as it stands")
+                return
+            while left:
+                again = [it for edits in rounds_of(left) for it in self.round(edits)]
+                if len(again) == len(left):
+                    again = [it for edit in left for it in self.round([edit])]
+                left = again
+        finally:
+            shutil.rmtree(self.room or "", ignore_errors=True)
 
 
 def edits_in(crate, parts, named):
@@ -269,33 +390,89 @@ def edits_in(crate, parts, named):
         folder = f"{crate.folder}/{part}"
         names = sorted(os.listdir(folder)) if os.path.isdir(folder) else []
         found += [f"{folder}/{it}" for it in names if it.endswith(".edit")]
-    is_named = lambda file: f"{crate.name}/{os.path.basename(file)[: -len('.edit')]}" in named
-    return [it for it in found if not named or crate.name in named or is_named(it)]
+    return [it for it in found if not named or crate.name in named or label_of(crate, it) in named]
+
+
+def label_of(crate, file):
+    return f"{crate.name}/{os.path.basename(file)[: -len('.edit')]}"
+
+
+def listed_in(file):
+    """Returns the edits that a file names, NAME/EDIT in a line; # begins a comment."""
+    with open(file, encoding="utf-8") as it:
+        lines = [line.partition("#")[0].strip() for line in it]
+    return list(dict.fromkeys(it for it in lines if it))
 
 
 def options_in(words):
-    parts, lanes, named = ["wrong"], 1, []
+    parts, lanes, named, listed = ["wrong"], None, [], None
     words = iter(words)
     for word in words:
         if word == "--gate":
             parts = ["wrong", "must-fail"]
         elif word == "--lanes":
             lanes = int(next(words, "1"))
+        elif word == "--listed":
+            listed = next(words, "")
         elif word.startswith("-"):
             sys.exit(__doc__)
         else:
             named.append(word)
-    return parts, lanes, named
+    if listed is not None and (named or not os.path.isfile(listed)):
+        sys.exit(__doc__)
+    return parts, lanes or (int(os.environ.get("RT_JOBS", "1")) if listed else 1), named, listed
+
+
+@contextlib.contextmanager
+def copy_of_crates():
+    """Goes to a copy of the crates without what was built of them, and gives the folder that it came from."""
+    top = os.getcwd()
+    with tempfile.TemporaryDirectory(prefix="wrong-bodies-") as room:
+        shutil.copytree("crates", f"{room}/crates", ignore=lambda at, names: ["out"] if os.path.dirname(at) == "crates" else [])
+        for name in ("crates.txt", "HANDLES"):
+            if os.path.isfile(name):
+                shutil.copyfile(name, f"{room}/{name}")
+        # It is the top of a repository.
+        os.mkdir(f"{room}/.git")
+        os.chdir(room)
+        try:
+            yield top
+        finally:
+            os.chdir(top)
+
+
+def build(rt, crates, left):
+    """Builds the libraries that crates stand on, by what `rt ci` kept or left in a folder, if there is one."""
+    lacking = {it.name for crate in crates for it in [crate, *crate.below()]}
+    if left and hasattr(rt, "Kept"):
+        lacking = set(take_kept.take_all(rt, lacking, left))
+    for crate in crates:
+        if not left:
+            rt.adopt(crate, is_alone=False)
+        if any(it.name in lacking for it in crate.below()):
+            kit.build_below(crate)
 
 
 def main(words):
-    parts, lanes, named = options_in(words)
+    parts, lanes, named, listed = options_in(words)
     rt = kit.load()
+    if not listed:
+        return tried(rt, parts, lanes, named, None)
+    named = listed_in(listed)
+    with copy_of_crates() as top:
+        return tried(rt, parts, lanes, named, top)
+
+
+def tried(rt, parts, lanes, named, left):
+    """Tries the edits and prints what they come to; `left` is the folder where `rt ci` ran, where they are listed."""
     crates = {it: edits_in(it, parts, named) for it in kit.crates(rt)}
     crates = {crate: files for crate, files in crates.items() if files}
-    lacking = [it for it in named if not any(it in (crate.name, f"{crate.name}/{os.path.basename(file)[:-5]}") for crate, files in crates.items() for file in files)]
-    if lacking:
-        sys.exit(f"there is no edit to try of {' '.join(lacking)}")
+    known = {name for crate, files in crates.items() for name in (*[crate.name] * (not left), *(label_of(crate, it) for it in files))}
+    lacking = [it for it in named if it not in known]
+    if lacking or not crates:
+        print(f"there is no edit to try of {' '.join(lacking) or 'any crate'}")
+        print(f"0 refused, {len(lacking) or 1} not")
+        return 1
     results, printing = {}, threading.Lock()
 
     def tell(edit, result, why):
@@ -305,15 +482,12 @@ def main(words):
 
     def work(crate):
         sources = Sources(rt, crate)
-        Trials(rt, crate, tell).run([Edit(rt, crate, sources, it) for it in crates[crate]])
+        Trials(rt, crate, tell, bool(left)).run([Edit(rt, crate, sources, it) for it in crates[crate]])
 
     with rt.ending(), ThreadPoolExecutor(lanes) as pool:
-        running = []
-        for crate in crates:
-            rt.adopt(crate, is_alone=False)
-            kit.build_below(crate)
-            running.append(pool.submit(work, crate))
-        for it in running:
+        build(rt, crates, left)
+        # The largest first, so that none is left alone at the end.
+        for it in [pool.submit(work, crate) for crate in sorted(crates, key=lambda it: -it.count(rb"\n"))]:
             it.result()
     used = resource.getrusage(resource.RUSAGE_CHILDREN)
     refused = sum(it == "refused" for it in results.values())

@@ -1,0 +1,59 @@
+#!/usr/bin/env python3
+"""Tests tools/check_documents.py: what it finds of names that aren't there, and what it lets pass.
+
+    python3 tests/documents.py
+
+It needs Python alone. Prints a line for each test that failed, and last `N passed, M failed`.
+"""
+import sys
+from pathlib import Path
+
+sys.dont_write_bytecode = True
+TOP = Path(__file__).resolve().parent.parent
+sys.path.insert(0, str(TOP / "tools"))
+
+from check_documents import Repository, strays, unlisted
+
+# A word that no file has: not even this one, in one piece.
+LOST = "never_" + "heard"
+
+# A document, its lines, and what is to be found in them.
+ROWS = [
+    ("docs/MAP.md", ["`tools/kit.py`, `plain/src/state.rt`, `specs/Step.antt`, `two_slots/wrong`, `/dev/sda`, `crates/NAME/wrong/`"], []),
+    ("docs/MAP.md", ["`tools/kit.rs`"], ["no file tools/kit.rs"]),
+    ("docs/MAP.md", ["`plain/src/staying.rt` and `specs/Stepping.antt`"], ["no file plain/src/staying.rt", "no file specs/Stepping.antt"]),
+    ("docs/CRATES.md", ["## shares", "`proofs/Moves.antt`"], []),
+    ("docs/CRATES.md", ["## workers", "`proofs/Moves.antt`"], ["no file proofs/Moves.antt"]),
+    ("docs/CRATES.md", ["## Texts: why and shares", "`proofs/Moves.antt`"], []),
+    ("docs/CRATES.md", ["## workers", "what `shares` has in `proofs/Moves.antt`"], []),
+    ("docs/MAP.md", ["`frames.rt` stands in some crate"], []),
+    ("docs/MAP.md", ["`framing.rt`"], ["no file framing.rt"]),
+    ("docs/MAP.md", ["| `interp` | `frames.rt` |", "| `interp`, `plain` | `frames.rt` |"], []),
+    ("docs/MAP.md", ["| `plain` | `frames.rt` |"], ["no file frames.rt in plain"]),
+    ("docs/MAP.md", ["`put_known`, `Board::draw`, `slice_get-append_left`, `put(..)`, `--option_x`, `F-requires-clause-NAME`"], []),
+    ("docs/MAP.md", [f"`{LOST}`"], [f"nothing has the name {LOST} of {LOST}"]),
+    ("docs/MAP.md", [f"`Board::{LOST}`"], [f"nothing has the name {LOST} of Board::{LOST}"]),
+    ("docs/MAP.md", [f"`{LOST}(..)`"], [f"nothing has the name {LOST} of {LOST}(..)"]),
+    ("docs/MAP.md", ["`put_known` in `known.rt`, `put_known` of `notes`, `known.rt` of `notes`"], []),
+    ("docs/MAP.md", ["`put_known` in `listing.rt`"], ["listing.rt doesn't have put_known of put_known"]),
+    ("docs/MAP.md", ["`known.rt` of `interp`"], ["no file known.rt in interp"]),
+    ("docs/CRATES.md", ["## commands", "`decode_all` in `commands/proofs`"], ["commands/proofs doesn't have decode_all of decode_all"]),
+]
+
+
+def main():
+    repository, failed, page = Repository(TOP), 0, (TOP / "docs/MAP.md").read_text()
+    tests = [(lines, [it for _, it in strays(repository, TOP / document, lines)], wanted) for document, lines, wanted in ROWS]
+    tests.append((["the lists of MAP.md"], list(unlisted(repository, page)), []))
+    lost = page.replace("`proofs/LooseSteps.antt`", "it")
+    tests.append((["the lists without a file"], list(unlisted(repository, lost)), ["'For a new opcode' lacks soundness/proofs/LooseSteps.antt"]))
+    for lines, found, wanted in tests:
+        if found != wanted:
+            failed += 1
+            print(f"{' / '.join(lines)}: {found}, and not {wanted}")
+    print(f"{len(tests) - failed} passed, {failed} failed")
+    return 1 if failed else 0
+
+
+if __name__ == "__main__":
+    sys.exit(main())
