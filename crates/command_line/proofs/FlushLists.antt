@@ -3,7 +3,8 @@ use Rattle.std.proofs.Common.{◌≡◌, ℕ, ◌-◌, List, [], ◌∷◌, ◌+
 use Rattle.std.proofs.lemmas.Str.Pattern.{IsSplitOnceResult, split_once_first}
 use Rattle.epochs.specs.declared.flushes.Flushes.{Flushes}
 use Rattle.epochs.specs.Flushes.{places_of}
-use Rattle.command_line.specs.FlushList.{HasComma, IsCut, IsEntry, IsFlushList, NoFlushList}
+use Rattle.command_line.specs.FlushList.{HasComma, IsCut, IsFlushList, NoFlushList}
+use Rattle.command_line.specs.Number.{IsNumber, NoNumber}
 
 pub cut_is : (text : List ℕ) (r : Option (Bor (List ℕ) × Bor (List ℕ))) → IsSplitOnceResult 44 text r
     → MatchOption r (HasComma text → ⊥) (λ parts. IsCut text parts.0.now parts.1.now)
@@ -15,16 +16,16 @@ cut_is text (Some x) split =
     record { comma = inside; before = front; behind = back }
 
 -- a text without a comma that is no entry
-pub bad_word : (left : ℕ) (text : List ℕ) → (HasComma text → ⊥) → ((entry : ℕ) → IsEntry text entry → ⊥) → NoFlushList left text
+pub bad_word : (left : ℕ) (text : List ℕ) → (HasComma text → ⊥) → NoNumber 32 text → NoFlushList left text
 bad_word left text whole none [] l h = h
 bad_word left text whole none (e ∷ []) l h = none e h.1
 bad_word left text whole none (e ∷ f ∷ es) l h = whole h.0
 
 -- what stands before the comma is no entry
-pub bad_first : (left : ℕ) (text word rest : List ℕ) → IsCut text word rest → ((entry : ℕ) → IsEntry word entry → ⊥) → NoFlushList left text
+pub bad_first : (left : ℕ) (text word rest : List ℕ) → IsCut text word rest → NoNumber 32 word → NoFlushList left text
 bad_first left text word rest cut none [] l h = h
 bad_first left text word rest cut none (e ∷ []) l h = h.0 cut.comma
-bad_first left text word rest cut none (e ∷ f ∷ es) l h = none e (subst (λ w. IsEntry w e) (sym cut.before) h.1)
+bad_first left text word rest cut none (e ∷ f ∷ es) l h = none e (subst (λ w. IsNumber 32 w e) (sym cut.before) h.1)
 
 -- what stands behind the comma is no list
 pub bad_rest : (left : ℕ) (text word rest : List ℕ) → IsCut text word rest → NoFlushList (left - 1) rest → NoFlushList left text
@@ -33,14 +34,14 @@ bad_rest left text word rest cut none (e ∷ []) l h = h.0 cut.comma
 bad_rest left text word rest cut none (e ∷ f ∷ es) l h = none (f ∷ es) (omega arith) (subst (λ w. IsFlushList w (f ∷ es)) (sym cut.behind) h.2)
 
 -- one before the comma, and others behind it
-more : (text word rest : List ℕ) (e : ℕ) (es : List ℕ) → IsCut text word rest → IsEntry word e → IsFlushList rest es → IsFlushList text (e ∷ es)
+more : (text word rest : List ℕ) (e : ℕ) (es : List ℕ) → IsCut text word rest → IsNumber 32 word e → IsFlushList rest es → IsFlushList text (e ∷ es)
 more text word rest e [] cut first others = absurd others
 more text word rest e (f ∷ es) cut first others =
-    (cut.comma, subst (λ w. IsEntry w e) cut.before first, subst (λ w. IsFlushList w (f ∷ es)) cut.behind others)
+    (cut.comma, subst (λ w. IsNumber 32 w e) cut.before first, subst (λ w. IsFlushList w (f ∷ es)) cut.behind others)
 
 -- the flushes that are read behind the comma, behind one before it and those of before
 pub go_on : (left : ℕ) (text word rest before with_one : List ℕ) (e : ℕ) (r : Option Flushes)
-    → IsCut text word rest → IsEntry word e → with_one ≡ before ++ e ∷ []
+    → IsCut text word rest → IsNumber 32 word e → with_one ≡ before ++ e ∷ []
     → MatchOption r (NoFlushList (left - 1) rest) (λ all. (es : List ℕ) × IsFlushList rest es × (places_of all ≡ with_one ++ es))
     → MatchOption r (NoFlushList left text) (λ all. (es : List ℕ) × IsFlushList text es × (places_of all ≡ before ++ es))
 go_on left text word rest before with_one e None cut first one none = bad_rest left text word rest cut none

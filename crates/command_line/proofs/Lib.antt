@@ -1,2 +1,3 @@
+mod Numbers
 mod FlushLists
 mod ImageRanges

@@ -1,13 +1,7 @@
 -- Images, as they stand behind --images (docs/REPORT.md, Options): two numbers with two points between.
-use Rattle.std.specs.Prelude.{ℕ, ◌≡◌, ◌<◌, ◌^◌, ◌==◌, Bool, List, ◌∷◌, length}
+use Rattle.std.specs.Prelude.{ℕ, ◌≡◌, ◌<◌, ◌==◌, Bool, List, ◌∷◌, length}
 use Rattle.std.specs.List.{position_or_len, before_first, after_first}
-use Rattle.std.specs.Str.Parse.{IsNumeral, digits_value, without_leading_plus}
-
--- a word is that number, in decimal digits
-pub record IsNumber (word : List ℕ) (number : ℕ) : Type 0 where
-  pub digits : IsNumeral 10 (without_leading_plus word)
-  pub value : number ≡ digits_value 10 (without_leading_plus word)
-  pub small : number < 2 ^ 64
+use Rattle.command_line.specs.Number.{IsNumber}
 
 abbrev pub is_point : ℕ → Bool
 is_point byte = byte == 46
@@ -25,10 +19,10 @@ pub record IsCutAtPoint (text word rest : List ℕ) : Type 0 where
 -- a text is the images from one number to below another
 pub record IsRange (text : List ℕ) (from to : ℕ) : Type 0 where
   pub point : HasPoint text
-  pub first : IsNumber (before_first is_point text) from
+  pub first : IsNumber 64 (before_first is_point text) from
   pub rest : List ℕ
   pub second : after_first is_point text ≡ 46 ∷ rest
-  pub last : IsNumber rest to
+  pub last : IsNumber 64 rest to
 
 abbrev pub NoRange : List ℕ → Type 0
 NoRange text = (from to : ℕ) → IsRange text from to → ⊥

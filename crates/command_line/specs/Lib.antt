@@ -1,4 +1,5 @@
 -- What the words of a command line ask for.
+pub mod Number
 pub mod FlushList
 pub mod Extents
 pub mod Parsed

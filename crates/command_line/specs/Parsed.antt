@@ -1,7 +1,6 @@
 -- What the words of a command ask for (docs/REPORT.md, Commands and Options).
-use Rattle.std.specs.Prelude.{ℕ, ◌≡◌, ◌<◌, ◌^◌, ◌++◌, Bool, true, false, List, [], ◌∷◌, length, map, Option, None, Some, option_map, unwrap_or, MatchOption, IsSomeAnd, codes, bytes_eq, if◌then◌else◌}
+use Rattle.std.specs.Prelude.{ℕ, ◌≡◌, ◌<◌, ◌++◌, Bool, true, false, List, [], ◌∷◌, length, map, Option, None, Some, option_map, unwrap_or, MatchOption, IsSomeAnd, codes, bytes_eq, if◌then◌else◌}
 use Rattle.std.specs.Borrow.{Bor}
-use Rattle.std.specs.Str.Parse.{IsNumeral, digits_value, without_leading_plus}
 use Rattle.limits.specs.Sizes.{sector_limit}
 use Rattle.limits.specs.declared.Limits.{Limits}
 use Rattle.limits.specs.declared.Limits.TheVariants as limits
@@ -24,6 +23,7 @@ use Rattle.command_line.specs.declared.parsed.Verb.{Verb}
 use Rattle.command_line.specs.declared.parsed.Verb.TheVariants as verb
 use Rattle.request.specs.declared.extent.Extent.{Extent}
 use Rattle.request.specs.declared.extent.Extent.TheVariants as extent
+use Rattle.command_line.specs.Number.{IsNumber}
 use Rattle.command_line.specs.FlushList.{IsFlushList, NoFlushList}
 use Rattle.command_line.specs.Extents.{IsRange, NoRange}
 
@@ -155,10 +155,15 @@ program_files (Some programs) = map (λ w. w.now) programs.now
 abbrev pub files_named : Parsed → List (List ℕ)
 files_named p = first_file (word_bytes p.file) ++ first_file (word_bytes p.image) ++ program_files p.programs ++ program_files p.texts
 
--- the number behind an option: none where nothing stands there, and else that of its decimal digits, if 64 bits hold it
-pub record IsNumberOf (found : Found) (option : List ℕ) (number : Option ℕ) : Type 0 where
-  pub absent : one_text found option ≡ None → number ≡ None
-  pub given : (text : List ℕ) → one_text found option ≡ Some text → IsNumeral 10 (without_leading_plus text) → digits_value 10 (without_leading_plus text) < 2 ^ 64 → number ≡ Some (digits_value 10 (without_leading_plus text))
+-- the number that the text behind an option is
+pub record IsWritten (found : Found) (option : List ℕ) (number : ℕ) : Type 0 where
+  pub text : List ℕ
+  pub there : first_value found option ≡ Some text
+  pub is : IsNumber 64 text number
+
+-- the number behind an option: none where nothing stands there, and else the one that the text there is
+abbrev pub IsNumberOf : Found → List ℕ → Option ℕ → Type 0
+IsNumberOf found option number = MatchOption number (first_value found option ≡ None) (IsWritten found option)
 
 -- whether a flag was found
 pub record IsFlagOf (found : Found) (option : List ℕ) (flag : Bool) : Type 0 where

@@ -2,8 +2,9 @@
 
 ghost use Rattle.std.specs.Prelude.{ℕ, ◌≡◌, MatchOption};
 ghost use Rattle.request.specs.declared.extent.Extent.TheVariants as extent;
-ghost use Rattle.command_line.specs.Extents.{HasPoint, IsCutAtPoint, IsNumber, IsRange, NoRange};
+ghost use Rattle.command_line.specs.Extents.{HasPoint, IsCutAtPoint, IsRange, NoRange};
 
+use crate::number::number_in;
 use request::Extent;
 
 /// What stands before and behind the first point of a text.
@@ -11,16 +12,6 @@ fn cut(text: &str) -> Option<(&str, &str)>
     ensures { MatchOption result (HasPoint text.now → ⊥) (λ parts. IsCutAtPoint text.now parts.0.now parts.1.now) }
 {
     text.split_once('.')
-}
-
-/// The number that a word says.
-fn number_in(word: &str) -> Option<u64>
-    ensures { MatchOption result ((number : ℕ) → IsNumber word.now number → ⊥) (IsNumber word.now) }
-{
-    match word.parse() {
-        Ok(number) => Some(number),
-        Err(_) => None,
-    }
 }
 
 /// The images that a text says: two numbers with two points between, that of the first and that of the one behind the last.

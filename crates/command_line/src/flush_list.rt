@@ -1,9 +1,10 @@
 //! The entries behind `--flush`.
 
-ghost use Rattle.std.specs.Prelude.{ℕ, ◌≡◌, ◌+◌, ◌≤◌, ◌<◌, ◌++◌, List, MatchOption};
+ghost use Rattle.std.specs.Prelude.{ℕ, ◌≡◌, ◌+◌, ◌≤◌, ◌++◌, List, MatchOption};
 ghost use Rattle.epochs.specs.Flushes.{places_of};
-ghost use Rattle.command_line.specs.FlushList.{HasComma, IsCut, IsEntry, IsFlushList, NoFlushList};
+ghost use Rattle.command_line.specs.FlushList.{HasComma, IsCut, IsFlushList, NoFlushList};
 
+use crate::number::small_number_in;
 use epochs::Flushes;
 
 /// How many flushes can be added.
@@ -16,16 +17,6 @@ fn cut(text: &str) -> Option<(&str, &str)>
     text.split_once(',')
 }
 
-/// The entry that a word says.
-fn entry_in(word: &str) -> Option<u32>
-    ensures { MatchOption result ((entry : ℕ) → IsEntry word.now entry → ⊥) (IsEntry word.now) }
-{
-    match word.parse() {
-        Ok(entry) => Some(entry),
-        Err(_) => None,
-    }
-}
-
 /// These flushes, and behind them those of the list that a text is, at most `left`.
 fn read_on(found: &Flushes, left: u8, text: &str) -> Option<Flushes>
     requires { found.now.count + left ≤ 64 }
@@ -36,9 +27,9 @@ fn read_on(found: &Flushes, left: u8, text: &str) -> Option<Flushes>
         return None;
     }
     let Some((first, behind)) = cut(text) else {
-        return Some(found.with(entry_in(text)?));
+        return Some(found.with(small_number_in(text)?));
     };
-    read_on(&found.with(entry_in(first)?), left - 1, behind)
+    read_on(&found.with(small_number_in(first)?), left - 1, behind)
 }
 
 /// The flushes of the list that a text is: 1 to 64 numbers with commas between.

@@ -16,7 +16,8 @@
 //!
 //! Without a word, the run that the program holds itself is asked for. A word that names no kind of cut or part, or that is no
 //! list of entries or no range of images, is kept as none, and the text of a choice that is longer than any choice's likewise:
-//! these are refusals of the command, with a number and notes, and no faults of the command line.
+//! these are refusals of the command, with a number and notes, and no faults of the command line. A word in the place of a number
+//! that has a sign or a zero in front is such a fault: `clap` takes it, and `Words::of` doesn't.
 //!
 //! The texts of the help stand in `words.rt`. `tools/man_page.py` makes `docs/crashbpf.1` of what the built program prints of
 //! them.
@@ -24,7 +25,8 @@
 //! # What is proved
 //!
 //! That no word asks for the stored run (`stored` of `Words::of`). Of any others `clap` finds a command and texts behind its
-//! options; each of these is read under its own name, with its default where it is absent, and what is asked for is what
+//! options; each of these is read under its own name, with its default where it is absent, a number by the digits that are
+//! printed of it, and what is asked for is what
 //! docs/REPORT.md says of them: the command, its options, the image that is meant, the files, and whether `--progress` stands
 //! there (`asked`; `specs/Parsed.antt`, `specs/Words.antt`). What `clap` takes, and what it finds, is `clap`'s: runs of the
 //! built program show it.
@@ -43,6 +45,7 @@
 
 mod extents;
 mod flush_list;
+mod number;
 mod parsed;
 mod words;
 

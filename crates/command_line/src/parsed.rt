@@ -1,12 +1,14 @@
 //! What `clap` read of the words, and what that asks for.
 
-ghost use Rattle.std.specs.Prelude.{◌≡◌, ◌<◌, ◌++◌, length, map, option_map, unwrap_or, string_bytes, IfOk, MatchOption, OnOk};
+ghost use Rattle.std.specs.Prelude.{◌≡◌, ◌<◌, ◌++◌, length, map, option_map, unwrap_or, string_bytes, Some, IfOk, MatchOption, MatchResult, OnOk};
 ghost use Rattle.limits.specs.Sizes.{sector_limit};
-ghost use Rattle.clap.specs.Words.{found_of};
+ghost use Rattle.clap.specs.Words.{first_value, found_of};
+ghost use Rattle.command_line.specs.Number.{NoNumber as NoNumberText};
 ghost use Rattle.command_line.specs.Parsed.{Asks, AreFlushes, AreOptions, IsExtent, command_named, cuts_named, files_named, limits_named, options_with, parts_named, trial_asked, word_bytes, IsFlagOf, IsNumberOf, IsRead, IsWhich};
 
 use crate::extents::extent_in;
 use crate::flush_list::flushes_in;
+use crate::number::number_in;
 use arrayvec::ArrayString;
 use clap::ArgMatches;
 use epochs::{By, CutKind, Flushes};
@@ -204,11 +206,29 @@ fn put_names(alloc: Global, files: &mut Vec<String>, names: &[&str]) -> Result<(
     Ok(())
 }
 
+/// A word that stands in the place of a number and is none, and which option or word it is.
+#[derive(Clone, Copy)]
+pub(crate) struct NoNumber<'a> {
+    pub(crate) option: &'a str,
+    pub(crate) word: &'a str,
+}
+
 /// The number behind an option, if there is one.
-fn number_of(matches: &ArgMatches<'_>, option: &str) -> Option<u64>
-    ensures { IsNumberOf (found_of matches.now) option.now result }
+///
+/// # Errors
+///
+/// What stands there is no number.
+fn number_of<'a>(matches: &'a ArgMatches<'_>, option: &'a str) -> Result<Option<u64>, NoNumber<'a>>
+    ensures { MatchResult result (IsNumberOf (found_of matches.entry.now) option.entry.now)
+        (λ no. (no.option ≡ option.entry) × (first_value (found_of matches.entry.now) option.entry.now ≡ Some no.word.now) × NoNumberText 64 no.word.now) }
 {
-    matches.get_one::<u64>(option)
+    let Some(word) = matches.get_str(option) else {
+        return Ok(None);
+    };
+    match number_in(word) {
+        Some(number) => Ok(Some(number)),
+        None => Err(NoNumber { option, word }),
+    }
 }
 
 /// Whether a flag stands there.
@@ -220,44 +240,51 @@ fn flag_of(matches: &ArgMatches<'_>, option: &str) -> bool
 
 impl<'a> Parsed<'a> {
     /// What `clap` read of the command of that name.
-    pub(crate) fn of(command: &'a str, matches: &'a ArgMatches<'_>) -> Parsed<'a>
-        ensures command { result.command ≡ command.entry }
-        ensures read { IsRead (found_of matches.now) result }
+    ///
+    /// # Errors
+    ///
+    /// The first word in the place of a number that is none.
+    pub(crate) fn of(
+        command: &'a str,
+        matches: &'a ArgMatches<'_>,
+    ) -> Result<Parsed<'a>, NoNumber<'a>>
+        ensures command { IfOk result (λ parsed. parsed.command ≡ command.entry) }
+        ensures read { IfOk result (IsRead (found_of matches.now)) }
     {
-        Parsed {
+        Ok(Parsed {
             command,
             file: matches.get_str("file"),
             image: matches.get_str("image"),
             programs: matches.get_strs("programs"),
-            sectors: number_of(matches, "sectors"),
+            sectors: number_of(matches, "sectors")?,
             large: flag_of(matches, "large"),
             flush: matches.get_str("flush"),
             base: matches.get_str("base"),
             cuts: matches.get_str("cuts"),
-            from: number_of(matches, "from"),
-            to: number_of(matches, "to"),
-            bound: number_of(matches, "bound"),
+            from: number_of(matches, "from")?,
+            to: number_of(matches, "to")?,
+            bound: number_of(matches, "bound")?,
             tears: flag_of(matches, "tears"),
             by: matches.get_str("by"),
-            workers: number_of(matches, "workers"),
-            cache: number_of(matches, "cache"),
-            checked: number_of(matches, "checked"),
+            workers: number_of(matches, "workers")?,
+            cache: number_of(matches, "cache")?,
+            checked: number_of(matches, "checked")?,
             guards: flag_of(matches, "guards"),
             first: flag_of(matches, "first"),
             progress: flag_of(matches, "progress"),
-            number: number_of(matches, "number"),
-            cut: number_of(matches, "cut"),
+            number: number_of(matches, "number")?,
+            cut: number_of(matches, "cut")?,
             choice: matches.get_str("choice"),
             slots: flag_of(matches, "slots"),
             list: flag_of(matches, "list"),
-            epoch: number_of(matches, "epoch"),
-            marks: number_of(matches, "marks"),
-            trace: number_of(matches, "trace"),
+            epoch: number_of(matches, "epoch")?,
+            marks: number_of(matches, "marks")?,
+            trace: number_of(matches, "trace")?,
             images: matches.get_str("images"),
             wide: flag_of(matches, "wide"),
-            parts: number_of(matches, "parts"),
+            parts: number_of(matches, "parts")?,
             texts: matches.get_strs("texts"),
-        }
+        })
     }
 
     /// The options that were written, each that wasn't by its default, with these flushes and images.

@@ -3,7 +3,8 @@
 ghost use Rattle.std.specs.Prelude.{◌≡◌, ◌≢◌, [], IfOk, IsOkAnd, map, option_map, string_bytes};
 ghost use Rattle.command_line.specs.Words.{limits_asked, sectors_asked, stored_run, AreAsked, AreFound, AreTaken};
 
-use crate::parsed::Parsed;
+use crate::parsed::{NoNumber, Parsed};
+use clap::error::ErrorKind;
 use clap::{Arg, ArgAction, ArgMatches, Command, Error};
 use limits::Limits;
 use request::Request;
@@ -633,6 +634,19 @@ fn commands<'a>(alloc: Global) -> Result<Command<'a>, AllocError> {
     with_command(command, join_command(alloc))
 }
 
+/// The fault of a word in the place of a number that is none, in the form of `clap`'s. `clap` takes it as a number, so it has a sign
+/// or a zero in front.
+fn number_fault(alloc: Global, no: &NoNumber<'_>) -> Result<Error, AllocError> {
+    let (option, word) = (no.option, no.word);
+    let mut message = String::new(alloc);
+    write!(
+        message,
+        "invalid value '{word}' for '{option}': a number has no sign and no zero in front"
+    )?;
+    let mut command = commands(alloc)?;
+    command.error(ErrorKind::ValueValidation, message.as_str())
+}
+
 impl Words {
     /// The stored run.
     fn of_stored_run(alloc: Global) -> Words
@@ -659,12 +673,19 @@ impl Words {
     }
 
     /// What `clap` found, as what is asked for.
-    fn of_matches(alloc: Global, matches: &ArgMatches<'_>) -> Result<Words, AllocError>
+    ///
+    /// # Errors
+    ///
+    /// A word in the place of a number is none, or want of memory.
+    fn of_matches(alloc: Global, matches: &ArgMatches<'_>) -> Result<Words, Error>
         ensures { IfOk result (AreFound matches.now) }
     {
-        match matches.subcommand() {
-            Some((name, behind)) => Words::of_parsed(alloc, &Parsed::of(name, behind)),
-            None => Ok(Words::of_stored_run(alloc)),
+        let Some((name, behind)) = matches.subcommand() else {
+            return Ok(Words::of_stored_run(alloc));
+        };
+        match Parsed::of(name, behind) {
+            Ok(parsed) => Ok(Words::of_parsed(alloc, &parsed)?),
+            Err(word) => Err(number_fault(alloc, &word)?),
         }
     }
 

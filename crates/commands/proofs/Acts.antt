@@ -9,7 +9,9 @@ use Rattle.base.specs.Refusals.{memory_refusal}
 use Rattle.request.specs.declared.settings.Settings.{Settings}
 use Rattle.request.specs.Refusals.{file_refusal}
 use Rattle.request.specs.Source.{Recording}
+use Rattle.request.specs.declared.trials.Trial.{Trial}
 use Rattle.request.specs.declared.trials.TrialWords.{TrialWords}
+use Rattle.request.specs.Trials.{AskForTrial}
 use Rattle.runs.specs.declared.explore_command.Wanted.{Wanted}
 use Rattle.base.specs.declared.causes.JoinCause.TheVariants as joining
 use Rattle.commands.specs.Acting.{join_refusal, most_texts, RefusesTexts, RefusesParts, for_no_part, for_many_parts, for_unread_part, for_parts, for_part_memory}
@@ -21,23 +23,25 @@ pub unread_file : (files : Files) (Rest : List ℕ → Refusal → Type 0) (r : 
 unread_file files Rest r h = rw h.1 (for_file h.0)
 
 -- the program of a run on one image can't be read, and the image can't be
-pub no_program_file : (w : TrialWords) (files : Files) (r : Refusal) → (first_held files ≡ None) × (r ≡ file_refusal 0) → RefusesCheck w files r
-no_program_file w files r h = rw h.1 (for_program_file h.0)
+pub no_program_file : (w : TrialWords) (files : Files) (r : Refusal) (t : Trial) → AskForTrial w t → (first_held files ≡ None) × (r ≡ file_refusal 0) → RefusesCheck w files r
+no_program_file w files r t asked h = rw h.1 (for_program_file t asked h.0)
 
-pub no_image_file : (w : TrialWords) (files : Files) (r : Refusal) → (second_held files ≡ None) × (r ≡ file_refusal 1) → RefusesCheck w files r
-no_image_file w files r h = rw h.1 (for_image_file h.0)
+pub no_image_file : (w : TrialWords) (files : Files) (r : Refusal) (t : Trial) (program : List ℕ) → AskForTrial w t → first_held files ≡ Some program
+    → (second_held files ≡ None) × (r ≡ file_refusal 1) → RefusesCheck w files r
+no_image_file w files r t program asked read h = rw h.1 (for_image_file t program asked read h.0)
 
 -- the log of a recording can't be read, and what the device held before it can't be
 pub no_log_file : (files : Files) (Rest : Recording → Refusal → Type 0) (r : Refusal) → (first_held files ≡ None) × (r ≡ file_refusal 0) → RefusesRecording files Rest r
 no_log_file files Rest r h = rw h.1 (for_log_file h.0)
 
-pub no_base_file : (files : Files) (Rest : Recording → Refusal → Type 0) (r : Refusal) → (initial_of files.base ≡ None) × (r ≡ file_refusal (length files.named)) → RefusesRecording files Rest r
-no_base_file files Rest r h = rw h.1 (for_base_file h.0)
+pub no_base_file : (files : Files) (Rest : Recording → Refusal → Type 0) (r : Refusal) (held : List ℕ) → first_held files ≡ Some held
+    → (initial_of files.base ≡ None) × (r ≡ file_refusal (length files.named)) → RefusesRecording files Rest r
+no_base_file files Rest r held read h = rw h.1 (for_base_file held read h.0)
 
 -- the recording can't be read
 pub unread_recording : (files : Files) (Rest : Recording → Refusal → Type 0) (r : Refusal) → RefusesRecording files (λ text q. ⊥) r → RefusesRecording files Rest r
 unread_recording files Rest _ (for_log_file h) = for_log_file h
-unread_recording files Rest _ (for_base_file h) = for_base_file h
+unread_recording files Rest _ (for_base_file held read h) = for_base_file held read h
 unread_recording files Rest _ (for_recording held initial r there from why) = absurd why
 
 -- no file passes the test where the place of the first is the end

@@ -101,7 +101,7 @@ of_with w Is Rest one files bytes status r h why =
 of_recording : (files : Files) (held initial : List ℕ) (Rest : Recording → Refusal → Type 0) (r : Refusal) → first_held files ≡ Some held → initial_of files.base ≡ Some initial
     → ((q : Refusal) → Rest (recording held initial) q → IsOfMemory q.code) → RefusesRecording files Rest r → IsOfMemory r.code
 of_recording files held initial Rest _ read based rest (for_log_file none) = absurd (let bad : None ≡ Some held = sym none ∙ read in cc)
-of_recording files held initial Rest _ read based rest (for_base_file none) = absurd (let bad : None ≡ Some initial = sym none ∙ based in cc)
+of_recording files held initial Rest _ read based rest (for_base_file other there none) = absurd (let bad : None ≡ Some initial = sym none ∙ based in cc)
 of_recording files held initial Rest _ read based rest (for_recording other first r there from why) =
     let both : Some other ≡ Some held = sym there ∙ read in
     let text : other ≡ held = cc in
@@ -236,16 +236,16 @@ of_limit below program image t bytes failing slots _ h same (trials.no_verifier_
 of_tried : Below → (program image : List ℕ) (t : Trial) (bytes : List ℕ) (failing : Bool) (r : Refusal) → IsTried program image t bytes failing → RefusesTrial program image t r
     → IsOfMemory r.code
 of_tried below program image t bytes failing _ h (trials.for_size small) = absurd (let bad : false ≡ true = sym small ∙ h.whole in cc)
-of_tried below program image t bytes failing _ h (trials.with_code_fault cause slot fault) = absurd (below.spelled program h.slots h.spelled cause slot fault)
-of_tried below program image t bytes failing _ h trials.no_code_memory = refl
-of_tried below program image t bytes failing _ h (trials.for_limit slots r spelled why) =
+of_tried below program image t bytes failing _ h (trials.with_code_fault cause slot whole fault) = absurd (below.spelled program h.slots h.spelled cause slot fault)
+of_tried below program image t bytes failing _ h (trials.no_code_memory whole) = refl
+of_tried below program image t bytes failing _ h (trials.for_limit slots r whole spelled why) =
     of_limit below program image t bytes failing slots r h (below.programs program slots h.slots spelled h.spelled) why
-of_tried below program image t bytes failing _ h trials.no_memory = refl
+of_tried below program image t bytes failing _ h (trials.no_memory whole) = refl
 
 of_trial : Below → (w : TrialWords) (files : Files) (bytes : List ℕ) (status : ℕ) (r : Refusal) → AnswersTrial w files bytes status → RefusesCheck w files r → IsOfMemory r.code
 of_trial below w files bytes status _ h (for_trial_words r bad) = absurd (let none : None ≡ Some r = sym h.asked.good ∙ bad in cc)
-of_trial below w files bytes status _ h (for_program_file none) = absurd (let bad : None ≡ Some h.program = sym none ∙ h.read in cc)
-of_trial below w files bytes status _ h (for_image_file none) = absurd (let bad : None ≡ Some h.image = sym none ∙ h.shown in cc)
+of_trial below w files bytes status _ h (for_program_file t asked none) = absurd (let bad : None ≡ Some h.program = sym none ∙ h.read in cc)
+of_trial below w files bytes status _ h (for_image_file t program asked read none) = absurd (let bad : None ≡ Some h.image = sym none ∙ h.shown in cc)
 of_trial below w files bytes status _ h (for_trial t program image r asked read shown why) =
     let tried = tried_alike h.program program h.image image h.trial t (same_held _ _ _ h.read read) (same_held _ _ _ h.shown shown) (h.asked.asked ∙ sym asked.asked) h.tried in
     of_tried below program image t bytes h.failing r tried why

@@ -36,7 +36,7 @@ use Rattle.commands.specs.Acting.{Files, recording, AnswersExplore, AnswersOf, A
 use Rattle.commands.specs.OneAnswer.{OneAnswer, alone, asked_alone, WorkChangesNothing}
 
 -- the same settings for one worker without a cache
-abbrev set_alone : Settings → Settings
+abbrev pub set_alone : Settings → Settings
 set_alone s = record {
   sectors = s.sectors;
   limits = s.limits;
@@ -82,10 +82,10 @@ good_alone s h =
     (check place.Checked (option_map_or (λ limit. nat_le limit 1000000000) s.checked true) ∷ check place.Range (is_ordered s.cuts) ∷ check place.Images (is_extent s.extent)
     ∷ check place.Guards (is_one_kind s.guards s.checked) ∷ []) h
 
-ask_alone : (w : OptionWords) (s : Settings) → AskFor w s → AskFor (alone w) (set_alone s)
+pub ask_alone : (w : OptionWords) (s : Settings) → AskFor w s → AskFor (alone w) (set_alone s)
 ask_alone w s h = record { asked = alone_of w w.cuts w.by w.flushes w.images s h.asked; good = good_alone s h.good }
 
-log_alone : {text : Recording} {s : Settings} {v : LogValue} → IsLogOf text s v → IsLogOf text (set_alone s) v
+pub log_alone : {text : Recording} {s : Settings} {v : LogValue} → IsLogOf text s v → IsLogOf text (set_alone s) v
 log_alone h = record { read = h.read; recorded = record { device = h.recorded.device; size = h.recorded.size; of_log = h.recorded.of_log; initial = h.recorded.initial }; has = h.has; added = h.added }
 
 images_alone : {text : Recording} {s : Settings} {v : LogValue} → HasImages text s v → HasImages text (set_alone s) v

@@ -205,11 +205,11 @@ pub data RefusesFile (files : Files) (Rest : List ℕ → Refusal → Type 0) : 
   for_file : first_held files ≡ None → RefusesFile files Rest (file_refusal 0)
   for_held : (held : List ℕ) (r : Refusal) → first_held files ≡ Some held → Rest held r → RefusesFile files Rest r
 
--- the refusals of a command on a log: that it can't be read, then that the file of its initial content can't be, then those of
--- what they hold
+-- the refusals of a command on a log: that it can't be read; that it can be, and the file of its initial content can't be; then those
+-- of what they hold
 pub data RefusesRecording (files : Files) (Rest : Recording → Refusal → Type 0) : Refusal → Type 0 where
   for_log_file : first_held files ≡ None → RefusesRecording files Rest (file_refusal 0)
-  for_base_file : initial_of files.base ≡ None → RefusesRecording files Rest (file_refusal (length files.named))
+  for_base_file : (held : List ℕ) → first_held files ≡ Some held → initial_of files.base ≡ None → RefusesRecording files Rest (file_refusal (length files.named))
   for_recording : (held initial : List ℕ) (r : Refusal) → first_held files ≡ Some held → initial_of files.base ≡ Some initial
       → Rest (recording held initial) r → RefusesRecording files Rest r
 
@@ -222,12 +222,13 @@ pub data RefusesFiles (t : Wanted) (files : Files) (s : Settings) : Refusal → 
       → initial_of files.base ≡ Some initial → RefusesWanted t (recording log initial) programs s r → RefusesFiles t files s r
   for_memory : unread files.named ≡ None → RefusesFiles t files s memory_refusal
 
--- the refusals of a program on an image: of the words, of the program's file and of the image's that can't be read, then those of
--- what they hold
+-- the refusals of a program on an image: of the words; of good words, that the program's file can't be read; that it can be, and the
+-- image's can't be; then those of what they hold
 pub data RefusesCheck (w : TrialWords) (files : Files) : Refusal → Type 0 where
   for_trial_words : (r : Refusal) → trial_refusal w ≡ Some r → RefusesCheck w files r
-  for_program_file : first_held files ≡ None → RefusesCheck w files (file_refusal 0)
-  for_image_file : second_held files ≡ None → RefusesCheck w files (file_refusal 1)
+  for_program_file : (t : Trial) → AskForTrial w t → first_held files ≡ None → RefusesCheck w files (file_refusal 0)
+  for_image_file : (t : Trial) (program : List ℕ) → AskForTrial w t → first_held files ≡ Some program → second_held files ≡ None
+      → RefusesCheck w files (file_refusal 1)
   for_trial : (t : Trial) (program image : List ℕ) (r : Refusal) → AskForTrial w t → first_held files ≡ Some program → second_held files ≡ Some image
       → RefusesTrial program image t r → RefusesCheck w files r
 

@@ -6,6 +6,7 @@ ghost use Rattle.commands.specs.Differences.{ShowNamesDifferences};
 ghost use Rattle.commands.specs.Laws.{OneReport, ReportOrRefusal};
 ghost use Rattle.commands.specs.OneAnswer.{OneAnswer, AnswerOrRefusal, WorkChangesNothing};
 ghost use Rattle.commands.specs.Once.{EachImageStandsOnce};
+ghost use Rattle.commands.specs.OtherWork.{JoinIsExploreByOwn};
 ghost use Rattle.commands.specs.Parts.{JoinIsExplore, JoinedPartsAreRun, PartsOfRunAreJoined};
 
 use bpf_isa::laws::{no_fault_in_spelled, one_program};
@@ -119,4 +120,11 @@ pub fn join_is_explore()
     text_of_one_log();
     one_program();
     one_verdict();
+}
+
+/// The same of parts that were made by other numbers of workers, and with caches of other sizes, than the whole run.
+pub fn join_is_explore_by_own()
+    ensures { JoinIsExploreByOwn }
+{
+    join_is_explore();
 }

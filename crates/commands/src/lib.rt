@@ -46,7 +46,8 @@
 //! on which a program fails, by the lines of the report, stands once in what `why` says (`each_image_stands_once`). The texts
 //! that a run answers for its parts, which have each image of a range once, come to what it answers for that range
 //! (`joined_parts_are_run`), and are refused for their length or want of memory alone (`parts_of_run_are_joined`). So `join`
-//! prints of such files what `explore` prints of the whole run, with the same status (`join_is_explore`). `emit` writes all
+//! prints of such files what `explore` prints of the whole run, with the same status (`join_is_explore`), whatever workers and
+//! caches the parts were made by (`join_is_explore_by_own`). `emit` writes all
 //! bytes, or says how many were written before the writer failed. What a run reports, and what the other commands show, stands
 //! on the pages of `runs` and `looks`.
 //!
@@ -77,9 +78,9 @@ pub use epochs::{By, CutKind, Cuts, Flushes};
 pub use exit::{Exit, perform};
 pub use facts::{Facts, Recording};
 pub use laws::{
-    answer_or_refusal, each_image_stands_once, join_is_explore, joined_parts_are_run, one_answer,
-    one_report, parts_of_run_are_joined, report_or_refusal, show_names_differences,
-    work_changes_nothing,
+    answer_or_refusal, each_image_stands_once, join_is_explore, join_is_explore_by_own,
+    joined_parts_are_run, one_answer, one_report, parts_of_run_are_joined, report_or_refusal,
+    show_names_differences, work_changes_nothing,
 };
 pub use looks::{choices_are_short, image, report_prints_choices, show, survey};
 pub use progress::Progress;

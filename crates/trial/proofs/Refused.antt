@@ -1,5 +1,5 @@
 -- How a run on one image is refused.
-use Rattle.std.proofs.Common.{ℕ, ◌≡◌, ◌⊎◌, inl, inr, List, Option, None, subst}
+use Rattle.std.proofs.Common.{ℕ, ◌≡◌, ◌⊎◌, inl, inr, true, List, Option, None, subst}
 use Rattle.base.specs.declared.refusal.Cause.TheVariants.{Verifier}
 use Rattle.bpf_isa.specs.declared.program.CodeFault.{CodeFault}
 use Rattle.bpf_isa.specs.declared.instr.Instr.{Instr}
@@ -10,13 +10,13 @@ use Rattle.bpf_shape.specs.Fault as shape
 use Rattle.verifier.specs.Verdicts.{Refused}
 use Rattle.request.specs.declared.trials.Trial.{Trial}
 use Rattle.request.specs.Refusals.{bytes_refusal}
-use Rattle.trial.specs.Image.{sectors_of}
+use Rattle.trial.specs.Image.{sectors_of, is_image}
 use Rattle.trial.specs.Trial.{RefusesTrial, with_code_fault, no_code_memory, RefusesLimit, with_verifier_fault, no_verifier_memory}
 
-pub undecoded : (program image : List ℕ) (t : Trial) (f : CodeFault) → (f ≡ code.memory_fault) ⊎ FirstFault program f.code f.slot
+pub undecoded : (program image : List ℕ) (t : Trial) (f : CodeFault) → is_image t.limits image ≡ true → (f ≡ code.memory_fault) ⊎ FirstFault program f.code f.slot
     → RefusesTrial program image t (bytes_refusal f.code f.slot)
-undecoded program image t f (inl e) = rw e no_code_memory
-undecoded program image t f (inr h) = with_code_fault f.code f.slot h
+undecoded program image t f whole (inl e) = rw e (no_code_memory whole)
+undecoded program image t f whole (inr h) = with_code_fault f.code f.slot whole h
 
 pub unaccepted : (slots : List (Option Instr)) (image : List ℕ) (t : Trial) (sectors : ℕ) (f : Fault) → sectors ≡ sectors_of image → t.checked ≡ None
     → (f ≡ shape.memory_fault) ⊎ Refused slots sectors f.code f.slot → RefusesLimit slots image t (record { code = Verifier f.code; at = f.slot; program = None })

@@ -88,11 +88,13 @@ pub data RefusesLimit (slots : List (Option Instr)) (image : List ℕ) (t : Tria
       → RefusesLimit slots image t (record { code = Verifier cause; at = slot; program = None })
   no_verifier_memory : t.checked ≡ None → RefusesLimit slots image t (record { code = Verifier verifier.Memory; at = 0; program = None })
 
--- refused for the size of the image, the second file, then for the first fault of the program's bytes, then for what the verifier says of it; or
--- for want of memory
+-- refused for the size of the image, the second file; of one of a good size for the first fault of the program's bytes; of a program that
+-- they spell for what the verifier says of it; or for want of memory
 pub data RefusesTrial (program image : List ℕ) (t : Trial) : Refusal → Type 0 where
   for_size : is_image t.limits image ≡ false → RefusesTrial program image t (file_refusal 1)
-  with_code_fault : (cause : CodeCause) (slot : ℕ) → FirstFault program cause slot → RefusesTrial program image t (bytes_refusal cause slot)
-  no_code_memory : RefusesTrial program image t (bytes_refusal code.Memory 0)
-  for_limit : (slots : List (Option Instr)) (r : Refusal) → IsSpelledBy program slots → RefusesLimit slots image t r → RefusesTrial program image t r
-  no_memory : RefusesTrial program image t memory_refusal
+  with_code_fault : (cause : CodeCause) (slot : ℕ) → is_image t.limits image ≡ true → FirstFault program cause slot
+      → RefusesTrial program image t (bytes_refusal cause slot)
+  no_code_memory : is_image t.limits image ≡ true → RefusesTrial program image t (bytes_refusal code.Memory 0)
+  for_limit : (slots : List (Option Instr)) (r : Refusal) → is_image t.limits image ≡ true → IsSpelledBy program slots → RefusesLimit slots image t r
+      → RefusesTrial program image t r
+  no_memory : is_image t.limits image ≡ true → RefusesTrial program image t memory_refusal

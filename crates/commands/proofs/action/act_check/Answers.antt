@@ -11,12 +11,12 @@ returns-in_err-trial-clause-refused c =
 pub returns-in_err-code-clause-refused : goal.returns-in_err-code-clause-refused
 returns-in_err-code-clause-refused c =
     let p = err_from_is_err_and c.from_residual-in_err-code.result c.from_residual-in_err-code.ensures.1 in
-    rw (p.1, p.2) (no_program_file _ _ c.in_err-code.field-0.0 c.in_err-code.ensures)
+    rw (p.1, p.2) (no_program_file _ _ c.in_err-code.field-0.0 c.in_ok-trial.trial c.in_ok-trial.ensures c.in_err-code.ensures)
 
 pub returns-in_err-image-clause-refused : goal.returns-in_err-image-clause-refused
 returns-in_err-image-clause-refused c =
     let p = err_from_is_err_and c.from_residual-in_err-image.result c.from_residual-in_err-image.ensures.1 in
-    rw (p.1, p.2) (no_image_file _ _ c.in_err-image.field-0.0 c.in_err-image.ensures)
+    rw (p.1, p.2) (no_image_file _ _ c.in_err-image.field-0.0 c.in_ok-trial.trial c.in_ok-code.code.now c.in_ok-trial.ensures c.in_ok-code.ensures c.in_err-image.ensures)
 
 pub returns-in_err-report-clause-refused : goal.returns-in_err-report-clause-refused
 returns-in_err-report-clause-refused c =

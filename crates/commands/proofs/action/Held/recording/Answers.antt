@@ -10,4 +10,4 @@ returns-in_err-log c =
 pub returns-in_err-initial : goal.returns-in_err-initial
 returns-in_err-initial c =
     let p = err_from_is_err_and c.from_residual-in_err-initial.result c.from_residual-in_err-initial.ensures.1 in
-    rw (p.1, p.2) (no_base_file _ _ _ c.in_err-initial.ensures)
+    rw (p.1, p.2) (no_base_file _ _ _ c.in_ok-log.log.now c.in_ok-log.ensures c.in_err-initial.ensures)
