@@ -280,6 +280,38 @@ def blind_notes(run, checkers):
     return [f"program {number}: {words}" for number, checker in enumerate(checkers) if is_blind(run, checker)]
 
 
+def is_lost_at(run, number, mark):
+    """Whether a write may still lose a sector at a mark: it isn't FUA, there is no flush behind it, and no FUA entry covers the sector
+    again."""
+    entry = run.entries[number]
+    if entry.flags & (FUA | DISCARD | MARK) or run.flushes(number + 1, mark + 1):
+        return False
+    again = [it for it in run.entries[number + 1 : mark] if it.flags & FUA]
+    return any(not any(it.sector <= sector < it.sector + it.count for it in again) for sector in range(entry.sector, entry.sector + entry.count))
+
+
+def promise_notes(run):
+    """What is noted of marks that promise what nothing made durable: since the mark before there is a write that may be lost."""
+    marks = [number for number, entry in enumerate(run.entries) if entry.flags & MARK]
+    found = [mark for before, mark in zip([-1, *marks], marks) if any(is_lost_at(run, number, mark) for number in range(before + 1, mark))]
+    if not found:
+        return []
+    more = f" and {len(found) - 8} more" if len(found) > 8 else ""
+    return [
+        f"marks that promise what nothing made durable: entries {', '.join(str(it) for it in found[:8])}{more}",
+        "a write before each of them may still be lost there: it has no flush behind it, and isn't FUA",
+    ]
+
+
+def forced_notes(run):
+    """What is noted of entries with FUA where parts are torn."""
+    forced = sum(1 for it in run.entries if it.flags & FUA and it.count)
+    if not (run.tears and run.bound and forced):
+        return []
+    words = "no image loses or tears one, though a crash may while it is in flight (docs/CRASH-MODEL.md, What a clean report doesn't say)"
+    return [f"entries with FUA: {forced}; {words}"]
+
+
 def departures_of(image):
     return {(part.name, fate) for part, fate in image.departures}
 

@@ -39,6 +39,7 @@ Where the rows stand
     rows/refusals.py    what the verifier accepts and refuses
     rows/notes.py       the notes behind each refusal, and beside answers
     rows/blind.py       the note of checkers that look at nothing of what the log writes, against the model
+    rows/promises.py    the notes of marks that promise what nothing made durable, and of FUA, against the model
     rows/tables.py      logs as tables, and listings with slots
     rows/guards.py      programs that `--guards` accepts: their guarded slots, and where their runs stray
     rows/trials.py      programs on one image: what they come to, their steps and the last ones in words
@@ -111,6 +112,7 @@ from rows import (
     notes,
     options,
     process,
+    promises,
     ranges,
     raw_logs,
     recording,
@@ -154,6 +156,7 @@ TABLES = [
     ranges,
     based,
     blind,
+    promises,
     flushes,
     workers,
     footprints,

@@ -3,3 +3,5 @@ pub mod Unreached
 pub mod Large
 pub mod Breach
 pub mod Blind
+pub mod Promises
+pub mod Forced

@@ -1,7 +1,9 @@
 //! The notes beside an answer.
 
 use crate::blind::put_blind;
+use crate::forced::put_forced;
 use crate::large::put_large;
+use crate::promises::put_promises;
 use crate::unreached::put_unreached;
 use command_line::Words;
 use epochs::By;
@@ -19,8 +21,16 @@ fn put_explored_notes(out: &mut String, facts: &Facts) -> Result<(), AllocError>
     put_blind(out, facts.blind.as_slice())
 }
 
+/// Appends which marks of a log promise what nothing made durable, where some do.
+fn put_mark_notes(out: &mut String, facts: &Facts) -> Result<(), AllocError> {
+    match &facts.promises {
+        Some(found) => put_promises(out, found),
+        None => Ok(()),
+    }
+}
+
 /// Appends how many writes of a log have more sectors than may depart, where sectors depart.
-fn put_survey_notes(
+fn put_large_notes(
     out: &mut String,
     options: OptionWords,
     facts: &Facts,
@@ -33,9 +43,32 @@ fn put_survey_notes(
     put_note(out, "with --by write each may be dropped as a whole")
 }
 
+/// Appends how many entries of a log have FUA, where parts of others are torn.
+fn put_forced_notes(
+    out: &mut String,
+    options: OptionWords,
+    facts: &Facts,
+) -> Result<(), AllocError> {
+    if !options.tears || options.bound == 0 || facts.forced == 0 {
+        return Ok(());
+    }
+    put_forced(out, facts.forced)
+}
+
+/// Appends what no image of a log has, by the options.
+fn put_survey_notes(
+    out: &mut String,
+    options: OptionWords,
+    facts: &Facts,
+) -> Result<(), AllocError> {
+    put_large_notes(out, options, facts)?;
+    put_forced_notes(out, options, facts)
+}
+
 /// The notes beside the answer of a command that succeeded, by what it found: what no run of a program reaches (`verify`, `check`
-/// and the commands of a run), which programs pass without looking at what the log writes (`explore`, `why` and `page`), and how many
-/// writes never depart as a whole (`images` and the commands of a run, by sector). Each line begins with `note: `; mostly there is none.
+/// and the commands of a run), which programs pass without looking at what the log writes (`explore`, `why` and `page`), which marks
+/// promise what nothing made durable (`log` and the commands of a run), how many writes never depart as a whole, and how many entries
+/// with FUA aren't torn (`images` and the commands of a run). Each line begins with `note: `; mostly there is none.
 pub fn notes_beside(alloc: Global, words: &Words, facts: &Facts) -> Result<String, AllocError> {
     let mut out = String::new(alloc);
     match words.request() {
@@ -47,11 +80,13 @@ pub fn notes_beside(alloc: Global, words: &Words, facts: &Facts) -> Result<Strin
         Request::Explore(options)
         | Request::Why(options)
         | Request::Cure(options)
-        | Request::Page(options)
-        | Request::Images(options, _) => {
+        | Request::Page(options) => {
             put_explored_notes(&mut out, facts)?;
+            put_mark_notes(&mut out, facts)?;
             put_survey_notes(&mut out, options, facts)?
         }
+        Request::Images(options, _) => put_survey_notes(&mut out, options, facts)?,
+        Request::Log(_) => put_mark_notes(&mut out, facts)?,
         _ => (),
     }
     Ok(out)

@@ -10,18 +10,21 @@
 //! | Call | Answers |
 //! |---|---|
 //! | `notes_behind(alloc, words, files, refusal, facts)` | what the number of a refusal means there, the instruction, entry, option or file that is meant, and what most likely helps |
-//! | `notes_beside(alloc, words, facts)` | beside an answer: what no run of a program reaches, which programs pass without looking at what the log writes, and how many writes never depart as a whole |
+//! | `notes_beside(alloc, words, facts)` | beside an answer: what no run of a program reaches, which programs pass without looking at what the log writes, which marks promise what nothing made durable, how many writes never depart as a whole, and how many entries with FUA aren't torn |
 //!
 //! `behind.rt` and `beside.rt` have the two, `headers.rt` the header of an entry that is refused for it, `breach.rt` the
 //! instruction at which a program is refused, `unreached.rt` the instructions that no path reaches, `blind.rt` the programs that look
-//! at nothing of what a log writes, and `large.rt` the entries that no image loses as a whole.
+//! at nothing of what a log writes, `promises.rt` the marks that promise what nothing made durable, `large.rt` the entries that no
+//! image loses as a whole, and `forced.rt` those with FUA.
 //!
 //! # What is proved
 //!
 //! Which notes are said is no part of a contract; their parts are those of `notes`, whose texts are proved. The note of what no
 //! run reaches is exactly that of `specs/Unreached.antt`: how many instructions of an accepted program no run reaches, and
 //! the slot of the first, as `unreached_of` of `verifier` answers them. That of programs that look at nothing of what a log writes is
-//! that of `specs/Blind.antt`, with the numbers of those of which `runs` found it. Runs of the built program have a row for each note.
+//! that of `specs/Blind.antt`, with the numbers of those of which `runs` found it. Those of marks and of FUA are those of
+//! `specs/Promises.antt` and `specs/Forced.antt`, with what `facts` found of the log. Runs of the built program have a row for each
+//! note.
 //!
 //! # Example
 //!
@@ -40,8 +43,10 @@ mod behind;
 mod beside;
 mod blind;
 mod breach;
+mod forced;
 mod headers;
 mod large;
+mod promises;
 mod unreached;
 
 pub use behind::notes_behind;

@@ -1,5 +1,5 @@
 -- Bounds with which there are too many images.
-use Rattle.std.proofs.Common.{ℕ, zero, suc, ◌≡◌, ◌∙◌, ◌+◌, ◌<◌, ◌≤◌, ◌⊎◌, inl, inr, Bool, Option, None, MatchOption, refl, ap, subst, sym, arith}
+use Rattle.std.proofs.Common.{ℕ, ◌≡◌, ◌∙◌, ◌+◌, ◌<◌, ◌≤◌, ◌⊎◌, inl, inr, Bool, Option, None, MatchOption, refl, subst, sym}
 use Rattle.logfmt.specs.Bounds.{LogValue}
 use Rattle.epochs.specs.declared.cuts.Cuts.{Cuts}
 use Rattle.epochs.specs.declared.part.By.{By}
@@ -9,16 +9,7 @@ use Rattle.request.specs.Extents.{most_images}
 use Rattle.request.specs.Source.{plan_of}
 use Rattle.facts.specs.declared.fewer.Smaller.{Smaller}
 use Rattle.facts.specs.Fewer.{CountsImages, TooManyFrom, NoneIsSmaller, IsGreatest}
-
-at_or_above : (n b : ℕ) → n ≤ b → (b ≡ n) ⊎ (n + 1 ≤ b)
-at_or_above zero zero h = inl refl
-at_or_above zero (suc b) h = inr (omega arith)
-at_or_above (suc n) zero h = absurd (omega (arith, h))
-at_or_above (suc n) (suc b) h = next (at_or_above n b (omega (arith, h)))
-  where
-    next : (b ≡ n) ⊎ (n + 1 ≤ b) → (suc b ≡ suc n) ⊎ (suc n + 1 ≤ suc b)
-    next (inl e) = inl (ap suc e)
-    next (inr more) = inr (omega (arith, more))
+use Rattle.facts.proofs.Between.{at_or_above}
 
 -- one bound less
 pub too_many_more : (most : ℕ) (plan : PlanValue) (tears : Bool) (n below : ℕ) → TooManyFrom most plan tears (n + 1) below → CountsImages most plan n tears None

@@ -8,6 +8,7 @@ ghost use Rattle.facts.specs.Fewer.{AreFewer};
 ghost use Rattle.facts.specs.Found.{IsEmpty, AddsUnreached, HasBreach, KeepsLog, KeepsPrograms};
 
 use crate::fewer::{Fewer, fewer_of};
+use crate::promises::Promises;
 use arrayvec::ArrayVec;
 use base::causes::RequestCause;
 use base::refusal::{Cause, Refusal};
@@ -34,6 +35,10 @@ pub struct Breach {
 pub struct Facts {
     /// How many entries of its log have more sectors than may be lost together, and aren't forced.
     pub large: usize,
+    /// How many entries of its log have FUA, and write or discard something.
+    pub forced: usize,
+    /// Which marks of its log promise what nothing made durable; none where there was no memory to find them.
+    pub promises: Option<Promises>,
     /// With what its log has fewer images, where it has too many.
     pub fewer: Option<Fewer>,
     /// What no run reaches of each program that the verifier accepts, one after the other.
@@ -51,6 +56,8 @@ impl Facts {
     {
         Facts {
             large: 0,
+            forced: 0,
+            promises: None,
             fewer: None,
             unreached: ArrayVec::new(),
             breach: None,
@@ -77,6 +84,8 @@ impl Facts {
         ensures refused { IfErr result (RefusesPlan options.now log.now) }
         ensures fewer { IfSome self.new.fewer (AreFewer options.now log.now) }
         ensures large { self.new.large ≡ self.old.large }
+        ensures forced { self.new.forced ≡ self.old.forced }
+        ensures promises { self.new.promises ≡ self.old.promises }
         ensures others { KeepsPrograms self.old self.new }
     {
         self.fewer = None;

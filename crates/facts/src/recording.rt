@@ -1,12 +1,16 @@
 //! A recording: the bytes of a log, and of what the device held before entry 0.
 
-ghost use Rattle.std.specs.Prelude.{◌≡◌, IfOk, IfErr, count_by};
+ghost use Rattle.std.specs.Prelude.{◌≡◌, IfOk, IfErr, IfSome, count_by};
 ghost use Rattle.facts.specs.Large.{is_large};
+ghost use Rattle.facts.specs.Forced.{is_forced_entry};
+ghost use Rattle.facts.specs.Promises.{ArePromises};
 ghost use Rattle.request.specs.Source.{IsLogOf, RefusesLog};
 ghost use Rattle.facts.specs.Found.{KeepsPrograms};
 
 use crate::found::Facts;
+use crate::forced::count_forced;
 use crate::large::count_large;
+use crate::promises::promises_of;
 use base::refusal::Refusal;
 use logfmt::Log;
 use request::{Options, read_log};
@@ -45,7 +49,7 @@ impl<'x> Recording<'x> {
     }
 
     /// The log that is asked for of it, as `read_log` answers it. It is found how many of its entries are too large to be lost as
-    /// a whole.
+    /// a whole, how many have FUA, and which marks promise what nothing made durable.
     ///
     /// # Errors
     ///
@@ -53,12 +57,16 @@ impl<'x> Recording<'x> {
     pub fn read(&self, alloc: Global, options: &Options, facts: &mut Facts) -> Result<Log, Refusal>
         ensures log { IfOk result (IsLogOf self.now options.now) }
         ensures large { IfOk result (λ log. facts.new.large ≡ count_by (is_large options.now.bound) log.entries) }
+        ensures forced { IfOk result (λ log. facts.new.forced ≡ count_by is_forced_entry log.entries) }
+        ensures promises { IfOk result (λ log. IfSome facts.new.promises (ArePromises log.entries)) }
         ensures refused { IfErr result (RefusesLog self.now options.now) }
         ensures fewer { facts.new.fewer ≡ facts.old.fewer }
         ensures others { KeepsPrograms facts.old facts.new }
     {
         let log = read_log(alloc, self.log, self.initial, options)?;
         facts.large = count_large(log.entries(), options.bound());
+        facts.forced = count_forced(log.entries());
+        facts.promises = promises_of(alloc, &log).ok();
         Ok(log)
     }
 }

@@ -47,7 +47,7 @@ rest_short way (n ∷ ns) is =
     let whole : length (flat_map (next_name_text way) (n ∷ ns)) ≡ length (next_name_text way n) + length (flat_map (next_name_text way) ns) = length-append (next_name_text way n) (flat_map (next_name_text way) ns) in
     omega (arith, whole, length-append (codes ",") (name_text way n), name_short way n (is 0 n (omega arith)), rest_short way ns (λ k d l. is (suc k) d (omega (arith, l))))
 
-names_short : (way : By) (ns : List Name) → AreNames way ns → length (names_text way ns) ≤ 96
+pub names_short : (way : By) (ns : List Name) → AreNames way ns → length (names_text way ns) ≤ 96
 unfolding names_text
 names_short way [] are = let whole : length (names_text way []) ≡ 1 = refl in omega (arith, whole)
 names_short way (n ∷ ns) are =

@@ -6,6 +6,7 @@ ghost use Rattle.std.specs.List.{flat_map};
 ghost use Rattle.epochs.specs.Cuts.{cuts_of};
 ghost use Rattle.choices.specs.Choices.{ranked_choices, ranked_at, wide_limit};
 ghost use Rattle.facts.specs.Fewer.{FindsLarge, FindsFewer};
+ghost use Rattle.facts.specs.Forced.{FindsForced};
 ghost use Rattle.looks.specs.Layout.{is_layout};
 ghost use Rattle.looks.specs.Survey.{parts_text, cut_text, open_text, cut_line, survey_text, IsSurvey, RefusesSurvey};
 
@@ -143,6 +144,7 @@ pub fn survey(
     ensures told { IfOk result (λ bytes. IsSurvey parts recording.now options.now bytes.items) }
     ensures refused { IfErr result (RefusesSurvey parts recording.now options.now) }
     ensures large { IfOk result (λ _. FindsLarge recording.now options.now facts.new.large) }
+    ensures forced { IfOk result (λ _. FindsForced recording.now options.now facts.new.forced) }
     ensures fewer { IfSome facts.new.fewer (FindsFewer recording.now options.now) }
 {
     *facts = Facts::new();

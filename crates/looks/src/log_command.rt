@@ -1,6 +1,7 @@
 //! Logs as tables.
 
-ghost use Rattle.std.specs.Prelude.{IfOk, IfErr};
+ghost use Rattle.std.specs.Prelude.{IfOk, IfErr, IfSome};
+ghost use Rattle.facts.specs.Promises.{FindsPromises};
 ghost use Rattle.looks.specs.Table.{IsTable, RefusesTable};
 
 use base::refusal::Refusal;
@@ -15,6 +16,7 @@ use std::alloc::Global;
 /// # Errors
 ///
 /// The first fault of the log; or want of memory.
+#[tactic(auto, using(facts::proofs::Recorded::promises_of_log))]
 pub fn shown_log(
     alloc: Global,
     recording: &Recording<'_>,
@@ -23,6 +25,7 @@ pub fn shown_log(
 ) -> Result<Vec<u8>, Refusal>
     ensures shown { IfOk result (λ text. IsTable recording.now options.now text.items) }
     ensures refused { IfErr result (RefusesTable recording.now options.now) }
+    ensures promises { IfOk result (λ _. IfSome facts.new.promises (FindsPromises recording.now options.now)) }
 {
     let log = recording.read(alloc, options, facts)?;
     match log_table(alloc, &log) {

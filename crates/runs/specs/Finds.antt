@@ -8,6 +8,7 @@ use Rattle.verifier.specs.declared.unreached.Unreached.{Unreached}
 use Rattle.facts.specs.declared.found.Breach.{Breach}
 use Rattle.facts.specs.declared.found.Facts.{Facts}
 use Rattle.facts.specs.Fewer.{FindsLarge}
+use Rattle.facts.specs.Forced.{FindsForced}
 use Rattle.facts.specs.Found.{AddsUnreached, AreUnreached, IsBreach}
 use Rattle.request.specs.declared.settings.Settings.{Settings}
 use Rattle.request.specs.Source.{Recording}
@@ -45,9 +46,10 @@ pub record FindsBreach (s : Settings) (files : List (List ℕ)) (r : Refusal) (b
   pub spelled : IsSpelledBy bytes program
   pub is : IsBreachOf s number program r b
 
--- of the log how many entries no image loses as a whole, and of all programs what no run reaches
+-- of the log how many entries no image loses as a whole and how many have FUA, and of all programs what no run reaches
 pub record FindsAll (text : Recording) (files : List (List ℕ)) (s : Settings) (facts : Facts) : Type 0 where
   pub large : FindsLarge text s facts.large
+  pub forced : FindsForced text s facts.forced
   pub programs : List (List (Option Instr))
   pub decoded : AreFirstOf files programs
   pub all : length programs ≡ length files

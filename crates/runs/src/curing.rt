@@ -20,6 +20,7 @@ ghost use Rattle.runs.specs.Tasks.{lines_of};
 ghost use Rattle.runs.specs.Why.{starts_of};
 ghost use Rattle.runs.specs.Cured.{IsCured, TellsCure, run_lines};
 ghost use Rattle.facts.specs.Fewer.{FindsFewer};
+ghost use Rattle.facts.specs.Promises.{FindsPromises};
 ghost use Rattle.runs.specs.Finds.{FindsBreach, FindsAll};
 ghost use Rattle.runs.specs.Trials.{HasFailures, IsFound, TellsOn};
 
@@ -355,6 +356,7 @@ pub fn cure_run<G: Gate + Sync, R: Threads + Wait + Sync>(
     ensures cured { IfOk result (λ e. IsCured question.now.recording.now (map (λ f. f.items) question.now.programs.now) question.now.options.now e.bytes.items e.failing) }
     ensures refused { IfErr result (RefusesWanted wants.Cured question.now.recording.now (map (λ f. f.items) question.now.programs.now) question.now.options.now) }
     ensures found { IfOk result (λ _. FindsAll question.now.recording.now (map (λ f. f.items) question.now.programs.now) question.now.options.now facts.new) }
+    ensures promises { IfOk result (λ _. IfSome facts.new.promises (FindsPromises question.now.recording.now question.now.options.now)) }
     ensures breach { IfErr result (λ r. IfSome facts.new.breach (FindsBreach question.now.options.now (map (λ f. f.items) question.now.programs.now) r)) }
     ensures fewer { IfSome facts.new.fewer (FindsFewer question.now.recording.now question.now.options.now) }
 {

@@ -19,6 +19,7 @@ ghost use Rattle.runs.specs.Cured.{IsAnswered};
 ghost use Rattle.runs.specs.Tasks.{lines_of, telling_in, TellsTask};
 ghost use Rattle.runs.specs.Found.{AreFound};
 ghost use Rattle.facts.specs.Fewer.{FindsFewer};
+ghost use Rattle.facts.specs.Promises.{FindsPromises};
 ghost use Rattle.runs.specs.Finds.{FindsNext, FindsUnreached, IsBreachOf, IsBreachIn, FindsBreach, FindsAll};
 ghost use Rattle.facts.specs.Found.{AddsUnreached, KeepsLog};
 ghost use Rattle.runs.specs.Programs.{IsRunWithin, IsCodeFault, IsUnaccepted, code_refusal, verifier_refusal, AreDecoded, AreFirstMade, RefusesOneOf};
@@ -488,6 +489,7 @@ fn make_run<G: Gate + Sync, R: Threads + Wait + Sync>(
     ensures told { IfOk result (λ e. IsAnswered question.now.wanted question.now.recording.now (map (λ f. f.items) question.now.programs.now) question.now.options.now e.bytes.items e.failing) }
     ensures refused { IfErr result (Refuses question.now.recording.now (map (λ f. f.items) question.now.programs.now) question.now.options.now) }
     ensures found { IfOk result (λ _. FindsAll question.now.recording.now (map (λ f. f.items) question.now.programs.now) question.now.options.now facts.new) }
+    ensures promises { IfOk result (λ _. IfSome facts.new.promises (FindsPromises question.now.recording.now question.now.options.now)) }
     ensures blind { IfOk result (λ _. FindsBlind question.now.wanted question.now.recording.now (map (λ f. f.items) question.now.programs.now) question.now.options.now facts.new.blind.items) }
     ensures breach { IfErr result (λ r. IfSome facts.new.breach (FindsBreach question.now.options.now (map (λ f. f.items) question.now.programs.now) r)) }
     ensures fewer { IfSome facts.new.fewer (FindsFewer question.now.recording.now question.now.options.now) }
@@ -547,6 +549,7 @@ pub fn run_with<G: Gate + Sync, R: Threads + Wait + Sync>(
     ensures told { IfOk result (λ e. IsAnswered question.now.wanted question.now.recording.now (map (λ f. f.items) question.now.programs.now) question.now.options.now e.bytes.items e.failing) }
     ensures refused { IfErr result (RefusesWanted question.now.wanted question.now.recording.now (map (λ f. f.items) question.now.programs.now) question.now.options.now) }
     ensures found { IfOk result (λ _. FindsAll question.now.recording.now (map (λ f. f.items) question.now.programs.now) question.now.options.now facts.new) }
+    ensures promises { IfOk result (λ _. IfSome facts.new.promises (FindsPromises question.now.recording.now question.now.options.now)) }
     ensures blind { IfOk result (λ _. FindsBlind question.now.wanted question.now.recording.now (map (λ f. f.items) question.now.programs.now) question.now.options.now facts.new.blind.items) }
     ensures breach { IfErr result (λ r. IfSome facts.new.breach (FindsBreach question.now.options.now (map (λ f. f.items) question.now.programs.now) r)) }
     ensures fewer { IfSome facts.new.fewer (FindsFewer question.now.recording.now question.now.options.now) }

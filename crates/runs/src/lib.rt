@@ -39,7 +39,9 @@
 //! ran out.
 //!
 //! What `run_with` and `cure_run` find for the notes is that of `specs/Finds.antt`: of the log how many entries no image loses as a
-//! whole, of each program that is verified what no run reaches, and of a refused one the instruction and what is known there.
+//! whole and how many have FUA, of each program that is verified what no run reaches, and of a refused one the instruction and what is
+//! known there. Which marks of the log promise what nothing made durable is that of `specs/Promises.antt` of `facts`, where there was
+//! memory to find them.
 //!
 //! Where failing images are told, `run_with` also finds which programs are blind (`specs/Blind.antt`): at each wanted cut, run on the
 //! image in which nothing is lost or torn, they answer 0 and look at no sector that an entry covers. A flag of each program says it,

@@ -40,6 +40,8 @@ loop-number-preserved c =
       c.in_ok-checker.ensures.calm ∙ before.2,
       record {
         large = c.in_ok-checker.ensures.others.large ∙ before.3.large;
+        forced = c.in_ok-checker.ensures.others.forced ∙ before.3.forced;
+        promises = c.in_ok-checker.ensures.others.promises ∙ before.3.promises;
         fewer = c.in_ok-checker.ensures.others.fewer ∙ before.3.fewer;
         blind = c.in_ok-checker.ensures.others.blind ∙ before.3.blind;
       },

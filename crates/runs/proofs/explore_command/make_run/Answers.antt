@@ -15,6 +15,7 @@ use Rattle.runs.proofs.Findings.{told_by_number}
 use Rattle.runs.proofs.RefusalLemmas.{counted, uncounted, few_decoded, unaccepted_of, undecoded_of, checkers_decoded}
 use Rattle.runs.proofs.Finding.{breach_of, fewer_of_log}
 use Rattle.runs.proofs.Fitting.{made_fit}
+use Rattle.facts.proofs.Recorded.{promises_of_log, of_any_ok}
 use Rattle.request.proofs.Logs.{bounds_of, device_of, has_images}
 use Rattle.request.proofs.Results.{both_ok, one_err}
 use Rattle.runs.proofs.Runs.{of_log, run_of}
@@ -170,3 +171,13 @@ returns-in-Cured-clause-refused g c =
 pub returns-in-Cured-clause-fewer : goal.returns-in-Cured-clause-fewer
 returns-in-Cured-clause-fewer g c =
     fewer_of_log _ _ c.in_ok-log.log _ _ c.in_ok-log.ensures.log c.in_ok-checkers.ensures.others.fewer c.in_ok-plan.ensures.fewer
+
+pub returns-in-Told-clause-promises : goal.returns-in-Told-clause-promises
+returns-in-Told-clause-promises g c =
+    of_any_ok c.judge_task.result _
+    (promises_of_log _ _ c.in_ok-log.log _ _ c.in_ok-log.ensures.log (c.in_ok-checkers.ensures.others.promises ∙ c.in_ok-plan.ensures.promises) c.in_ok-log.ensures.promises)
+
+pub returns-in-Cured-clause-promises : goal.returns-in-Cured-clause-promises
+returns-in-Cured-clause-promises g c =
+    of_any_ok c.cured_log.result _
+    (promises_of_log _ _ c.in_ok-log.log _ _ c.in_ok-log.ensures.log (c.in_ok-checkers.ensures.others.promises ∙ c.in_ok-plan.ensures.promises) c.in_ok-log.ensures.promises)
