@@ -178,6 +178,7 @@ REFUSED = [
     ("a log that is full", "mark begin; dd if=/dev/zero of=$DEVICE bs=64k count=9", {"LOG_SIZE": "256K"}, 2, "isn't the mark dm-log-writes-end"),
     ("too little time", "true", {"TIMEOUT": "1"}, 2, "didn't end within 1 seconds"),
     ("a number that is none", "true", {"TIMEOUT": "1m"}, 2, "TIMEOUT is no number"),
+    ("a base that isn't there", "true", {"BASE": "/no/base"}, 2, "/no/base"),
     ("a command that isn't there", "true", {"COMMANDS": "no_such_command"}, 2, "there is no command no_such_command"),
 ]
 
@@ -275,7 +276,7 @@ def refused(guests, name, text, environment, status, says):
     """What is wrong with a guest that doesn't end well."""
     script, out = guests.folder / "script", guests.folder / name.replace(" ", "_")
     script.write_text(text + "\n")
-    done = guests.run(out, script, BASE=str(guests.base), **environment)
+    done = guests.run(out, script, **{"BASE": str(guests.base), **environment})
     left = guests.left(out) if status == 2 else []
     good = done.returncode == status and says in done.stderr and not left
     return None if good else f"{name}: status {done.returncode}, {done.stderr} left {left}"
