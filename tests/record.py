@@ -9,7 +9,7 @@ KERNEL is a folder as `guest` takes it. With it scripts are recorded in virtual 
 kind, whether a file is there at its mark though all that is in flight is lost, and how `guest` ends where something is wrong.
 
 Prints a line for each that failed, and last `N passed, M failed`. It wants what record and guest want, and e2fsprogs. It
-takes half a minute, and with KERNEL two minutes more.
+takes half a minute, and with KERNEL a minute of processor time more; on a busy machine that was seven minutes.
 """
 import os
 import signal
