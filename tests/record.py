@@ -9,7 +9,7 @@ KERNEL is a folder as `guest` takes it. With it scripts are recorded in virtual 
 kind, whether a file is there at its mark though all that is in flight is lost, and how `guest` ends where something is wrong.
 
 Prints a line for each that failed, and last `N passed, M failed`. It wants what record and guest want, and e2fsprogs. It
-takes half a minute, and with KERNEL two minutes more.
+takes half a minute, and with KERNEL a minute of processor time more; on a busy machine that was seven minutes.
 """
 import os
 import signal
@@ -75,7 +75,7 @@ RECORDED = [
 
 
 def image_of(entries, device):
-    """What a device holds behind entries of which nothing is lost."""
+    """What a device holds after entries of which nothing is lost."""
     image = bytearray(device)
     for it in entries:
         if not it.flags & MARK:
@@ -136,7 +136,7 @@ REST = bytes(range(256)) * 10
 WHOLE = log([W(1, 2, 0x11), D(1, 3), F, END])
 DEVICES = [
     ("a log", WHOLE + REST, len(WHOLE)),
-    ("a log with nothing behind", WHOLE, len(WHOLE)),
+    ("a log with nothing after it", WHOLE, len(WHOLE)),
     ("a log that ends within its last entry", WHOLE[:-100], None),
     ("a log without its end", log([W(1, 2, 0x11), F, M("end")]) + REST, None),
     ("a log whose last entry has the text, and is no mark", log([S(0, b"dm-log-writes-end".ljust(SECTOR))]) + REST, None),
@@ -178,6 +178,7 @@ REFUSED = [
     ("a log that is full", "mark begin; dd if=/dev/zero of=$DEVICE bs=64k count=9", {"LOG_SIZE": "256K"}, 2, "isn't the mark dm-log-writes-end"),
     ("too little time", "true", {"TIMEOUT": "1"}, 2, "didn't end within 1 seconds"),
     ("a number that is none", "true", {"TIMEOUT": "1m"}, 2, "TIMEOUT is no number"),
+    ("a base that isn't there", "true", {"BASE": "/no/base"}, 2, "/no/base"),
     ("a command that isn't there", "true", {"COMMANDS": "no_such_command"}, 2, "there is no command no_such_command"),
 ]
 
@@ -207,7 +208,7 @@ class Guests:
         entries, before = entries_of(content), self.base.read_bytes() if base else bytes(SECTOR * SECTORS)
         fault = None
         if content != log(entries) or entries[-1] != END:
-            fault = "the log isn't cut behind its end"
+            fault = "the log isn't cut after its end"
         elif image_of(entries, before) != (out / "disk.img").read_bytes():
             fault = "the last image isn't the disk"
         elif {it.name for it in out.iterdir()} != {"console", "disk.img", "qemu.log", "writes.log"}:
@@ -244,7 +245,7 @@ def marks(guests):
 
 
 def durable(entries):
-    """The entries of which nothing can be lost behind them all: FUA ones, and those before the last flush."""
+    """Those of these entries of which nothing can be lost after them all: FUA ones, and those before the last flush."""
     last = max((number for number, it in enumerate(entries) if it.flags & FLUSH), default=0)
     return [it for number, it in enumerate(entries) if number < last or it.flags & FUA]
 
@@ -258,7 +259,7 @@ def read(image, folder):
 
 
 def versions(guests, name, base):
-    """Whether each version of the file is there behind its mark, though all that is in flight is lost."""
+    """Whether each version of the file is there after its mark, though all that is in flight is lost."""
     entries, before, fault = guests.recorded(name, FOLDER / f"{name}.sh", base)
     if fault:
         return [fault]
@@ -267,7 +268,7 @@ def versions(guests, name, base):
         mark = entries.index(M(f"version-{number}"))
         wanted = (b"version %d\n" % number * 1000)[: 1000 * number]
         content = read(image_of(durable(entries[:mark]), before), guests.folder)
-        found.append(None if content == wanted else f"{name}: version {number} isn't there behind its mark")
+        found.append(None if content == wanted else f"{name}: version {number} isn't there after its mark")
     return found
 
 
@@ -275,7 +276,7 @@ def refused(guests, name, text, environment, status, says):
     """What is wrong with a guest that doesn't end well."""
     script, out = guests.folder / "script", guests.folder / name.replace(" ", "_")
     script.write_text(text + "\n")
-    done = guests.run(out, script, BASE=str(guests.base), **environment)
+    done = guests.run(out, script, **{"BASE": str(guests.base), **environment})
     left = guests.left(out) if status == 2 else []
     good = done.returncode == status and says in done.stderr and not left
     return None if good else f"{name}: status {done.returncode}, {done.stderr} left {left}"

@@ -1,9 +1,9 @@
 #!/usr/bin/env python3
-"""Cuts a log of dm-log-writes behind the last entry that its super block counts (docs/LOG-FORMAT.md, 'Layout').
+"""Cuts a log of dm-log-writes after the last entry that its super block counts (docs/LOG-FORMAT.md, 'Layout').
 
     python3 examples/recording/cut_log.py LOG
 
-What stands behind that entry is the rest of the log device, and no part of the log. Where the last entry isn't the mark that
+What stands after that entry is the rest of the log device, and no part of the log. Where the last entry isn't the mark that
 dm-log-writes makes when its target is removed, the log isn't whole: the log device was full, or the target wasn't removed.
 Then LOG stays as it is, a line says so, and the status is 2.
 """
