@@ -197,16 +197,6 @@ HELPER_(7, u64, same, u64 a, u64 b);
 		sector_;					\
 	})
 
-/* What crashbpf-cc puts for sector(n) where the compiler moves a plain call's null test. */
-INLINED const void *tested_sector_(u64 n)
-{
-	const void *p = SECTOR(n, return 0);
-
-	if (!p)
-		__builtin_unreachable();
-	return p;
-}
-
 /*
  * From here on the compiler knows nothing of the value of the variable x, a number or
  * a pointer: it can't turn a test of it into another one, merge two, or make its way

@@ -6,10 +6,11 @@
 PROGRAM is as in run.py, and NAME is clang where none is given. With clang 14.0.6 each file of examples/ that was made of C
 is compiled again, and its bytes are compared with the stored ones. Then each refusal of the tool is seen: its status, and
 its first line. Then programs with plain loops run, and answer where their turns are spent and where they aren't. Prints a
-line for each that failed, and last `N passed, M failed`.
+line for each that failed, and last `N passed, M failed`. What needs no compiler is in cc_faults.py.
 """
 import argparse
 import os
+import random
 import re
 import subprocess
 import sys
@@ -18,10 +19,18 @@ from pathlib import Path
 
 sys.dont_write_bytecode = True
 
+from cc_faults import changed, looked_at
 from notation import SECTOR, TOP, S, log
+
+from compilers import compiler as compiler_of
+from program import NoProgram, Object
+from work import Work
 
 CC = TOP / "examples/cc/crashbpf-cc"
 STORED_BY = "14.0.6"
+# How many object files are cut off, and how many are changed; and of how many the listing is read.
+CUT, CHANGED, LISTED = 300, 1000, 50
+SECONDS = 60
 
 
 def cc(compiler, *words, program=None):
@@ -79,6 +88,8 @@ u64 good(const struct context *c)
 TABLE = '#include "checker.h"\nstatic const u16 bits[] = { 7, 40000, 3, 900, 5 };\n'
 CALLED = "u64 check(const struct context *c) { return at(c->marks) + at(c->epoch); }\n"
 
+INCBIN = '#include "checker.h"\nu64 check(const struct context *c) { __asm__ volatile(".byte 1, 2, 3"); return 0; }\n'
+COMMON = '#include "checker.h"\n__attribute__((common)) int counter;\nu64 check(const struct context *c) { return counter; }\n'
 OUTSIDE = "which lies outside of the function"
 
 # What stands in the file, the function that is asked for, and the first line on standard error, where slots are `N`.
@@ -90,8 +101,11 @@ REFUSALS = [
     (SOURCE, "first", "cc: the section mine of first holds more than this function and what is LOCAL to it"),
     (SOURCE, "looped", "cc: the loop source.c:12 is in a function that is LOCAL, and has no TURN"),
     (SOURCE, "deep", "cc: the loop source.c:14 is in a function that is LOCAL, and has no TURN"),
-    (SOURCE, "nobody", "cc: there is no function nobody that is compiled by itself; there are: "),
-    ("", "check", "cc: there is no function check that is compiled by itself; there are: none"),
+    (SOURCE, "nobody", "cc: source.c has no function nobody; it has: calls tabled counts absent first second looped deep text good"),
+    (SOURCE, "more", "cc: the function more of source.c isn't compiled by itself: it is static or inline"),
+    ("", "check", "cc: source.c has no function check, and no other"),
+    (INCBIN, "check", "cc: the object file can't be read: its section .text.check isn't whole instructions"),
+    (COMMON, "check", "cc: source.c:3 (slot N) needs counter, which lies outside"),
     (SOURCE + "u64 good(void) { return 0; }\n", "good", "source.c:28:5: error: "),
     (TABLE + "u64 check(const struct context *c) { return *(&bits[c->marks & 3] + 1); }\n", "check", "cc: source.c:3 (slot N) needs "),
     (TABLE + "LOCAL(check) u64 at(u64 n) { return bits[n]; }\n" + CALLED, "check", "cc: the table bits is indexed in a function that is LOCAL"),
@@ -176,16 +190,6 @@ u64 check(const struct context *context)
 	return *(bytes + 8 + u16_at(0)) == 9;
 }
 """
-BACK = """\
-#include "checker.h"
-u64 check(const struct context *context)
-{
-	const u8 *bytes = SECTOR(1, return 1);
-	long long i = u16_at(0);
-
-	return (bytes + 200)[i - u8_at(2)] == 9;
-}
-"""
 EMPTY = NESTED.replace("3 + (u64_at(8) & 1)", "u64_at(8)")
 HEADER = """\
 #include "checker.h"
@@ -202,7 +206,8 @@ HEADER_CODE = 1000000 + next(
     number + 2 for number, it in enumerate((TOP / "examples/checker.h").read_text().split("\n")) if "int memcmp_loop_" in it
 ) + 1
 
-# A source, words of the tool, and for values of word 0 what is answered, with the codes; or how it is refused.
+# A source, words of the tool, and for values of word 0 what is answered, with the codes, or the line of a stray; or how it is
+# refused.
 RUNS = [
     (LOOPS, [], {0: "0", 5: "0", 65536: "0", 65537: "1000000 codes 6"}),
     (LOOPS, ["--turns", "5"], {5: "0", 6: "1000000 codes 6"}),
@@ -213,10 +218,10 @@ RUNS = [
     (NESTED, ["--turns", "7"], {2: "0", 3: "1000000 codes 7"}),
     (HEADER, ["--turns", "5"], {0: "0", 5: "0", 6: f"1000000 codes {HEADER_CODE}"}),
     (TABLES, [], {0: "0", 1: "1 codes -", 2: "1 codes -", 3: "1000001 codes 3", 1 << 63: "1000001 codes 3"}),
-    (NULLS, [], {0: "1 codes -", 63: "1 codes -", 64: "1000001 codes 4"}),
-    (INDEX, [], {0: "0", 503: "0", 504: "1000001 codes 6", 65535: "1000001 codes 6"}),
-    (INDEX, ["--no-tests"], "refused 52 at "),
-    (BACK, [], "refused 54 at "),
+    (NULLS, [], {0: "1 codes -", 63: "1 codes -", 64: "stray at 6"}),
+    (INDEX, [], {0: "0", 503: "0", 504: "stray at 6", 65535: "stray at 6"}),
+    (INDEX, ["--guards"], {504: "stray at 6"}),
+    (INDEX, ["--no-guards"], "refused 52 at "),
     (EMPTY, ["--turns", "100", "--turns", "6:5"], {5: "0", 6: "1000000 codes 6"}),
 ]
 
@@ -240,18 +245,22 @@ def refusals(compiler, folder):
         done = cc(compiler, source, function, folder / "out.bpf")
         said = re.sub(r"slot \d+", "slot N", done.stderr.replace(f"{folder}/", "").split("\n")[0])
         written = (folder / "out.bpf").exists()
-        good = said.startswith(wanted) and done.returncode == (1 if wanted else 0) and written != bool(wanted)
+        good = said.startswith(wanted) and done.returncode == (2 if wanted else 0) and written != bool(wanted)
         yield None if good else f"{compiler} {function}: status {done.returncode}, '{said}', wanted '{wanted}'"
 
 
-def answer(program, folder, value):
-    """What the program of the folder answers on a device of 64 sectors that begins with this word."""
+def answer(program, folder, value, options):
+    """What the program of the folder, run with these options, answers on a device of 64 sectors that begins with this word."""
     (folder / "log").write_bytes(log([S(0, value.to_bytes(8, "little").ljust(64 * SECTOR, b"\0"))]))
-    words = [program, "explore", "log", "out.bpf", "--sectors", "64", "--bound", "0", "--from", "1"]
+    words = [program, "explore", "log", "out.bpf", "--sectors", "64", "--bound", "0", "--from", "1", *options]
     done = subprocess.run(words, capture_output=True, text=True, cwd=folder)
-    found = re.search(r"answer (\d+) codes (\S+) choice", done.stdout)
     if done.returncode == 2:
         return done.stderr.split("\n")[0]
+    stray = re.search(r"stray at slot (\d+)", done.stdout)
+    if stray:
+        lines = dict(re.findall(r"(?m)^(\d+) source.c (\d+)$", (folder / "out.lines").read_text()))
+        return f"stray at {lines.get(stray[1])}"
+    found = re.search(r"answer (\d+) codes (\S+) choice", done.stdout)
     return f"{found[1]} codes {found[2]}" if found else "0"
 
 
@@ -265,7 +274,9 @@ def runs(compiler, folder, program):
             refused = isinstance(wanted, str) and done.stderr.startswith(wanted)
             yield None if refused else f"{compiler} run {number}: wanted {wanted}, status {done.returncode} {done.stderr}"
             continue
-        found = {value: answer(program, folder, value) for value in wanted}
+        options = ["--guards"] * ("cc: accepted with guards" in done.stderr)
+        found = {value: answer(program, folder, value, options) for value in wanted}
+        found |= {"note": done.stderr} if "no run reaches" in done.stderr + done.stdout else {}
         yield None if found == wanted else f"{compiler} run {number}: {found}, wanted {wanted}"
 
 
@@ -279,6 +290,30 @@ def large(compiler, folder, program):
         yield None if good else f"{compiler} with {sectors} sectors {words}: status {done.returncode} {done.stderr}"
 
 
+def odd_objects(compiler, folder):
+    """What isn't read or refused, of a real object file that is cut off or changed."""
+    found, path, rng = compiler_of(compiler, Work(SECONDS).run), folder / "odd.o", random.Random(compiler)
+    text = found.preprocess(TOP / "examples/tree/checker.c", []).stdout
+    found.compile(text, [], path)
+    whole = path.read_bytes()
+    some = [whole[: rng.randrange(len(whole))] for _ in range(CUT)] + [changed(whole, rng) for _ in range(CHANGED)]
+    for number, it in enumerate(some):
+        try:
+            looked_at(it)
+            if number % (len(some) // LISTED) == 0:
+                path.write_bytes(it)
+                object_ = Object(it)
+                function = object_.function("check")
+                found.lines(path, object_, function.section if function else 1)
+        except NoProgram:
+            pass
+        except Exception as error:
+            (folder / "odd.bad").write_bytes(it)
+            yield f"{compiler} odd object {number}: {error!r}"
+            return
+    yield None
+
+
 def version(compiler):
     return subprocess.run([compiler, "--version"], capture_output=True, text=True).stdout.split("\n")[0]
 
@@ -289,6 +324,7 @@ def found_by(compiler, folder, program):
     else:
         print(f"{compiler} isn't clang {STORED_BY}, so the stored bytes aren't compared")
     yield from refusals(compiler, folder)
+    yield from odd_objects(compiler, folder)
     if program.exists():
         yield from runs(compiler, folder, program)
         yield from large(compiler, folder, program)

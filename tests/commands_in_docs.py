@@ -35,7 +35,7 @@ NOT_RUN = {
     r"\brt (ci|run|try)\b|\.ci/run": "it needs the kit",
     r"\$DATA|dmsetup": "it needs root and a device",
     r"qemu|examples/recording/(record|guest|in_flight)\b|formatting/": "it needs QEMU; tests/record.py runs record and in_flight.py",
-    r"log writes\.log 58 134": "it needs a log that QEMU recorded",
+    r"log writes\.log 55 120": "it needs a log that QEMU recorded",
     r"sbatch|parallel|try_slurm|join_all run >": "it needs Slurm or several machines; tests/each.py runs parts as processes",
     r"e2fsck|disk\.log all\.bpf": "tests/each.py runs it on an ext2",
 }

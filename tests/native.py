@@ -1,21 +1,18 @@
 #!/usr/bin/env python3
 """Compares checkers in C with their native builds (examples/native/checker.h). The gate doesn't run it: it needs compilers.
 
-    python3 tests/native.py [--compiler NAME].. [--guards] [--images N] [--only WORD] [PROGRAM]
+    python3 tests/native.py [--compiler NAME].. [--no-guards] [--images N] [--only WORD] [PROGRAM]
 
-PROGRAM is as in run.py. Each checker of examples/, as its stored bytes, and with --compiler each of tests/plain/ that
-examples/cc/crashbpf-cc makes with that compiler and the verifier accepts, judges N images (1,000), and so does what `cc`
-makes of the same source with the native header. Answers and codes have to be the same. Those of tests/rows/checkers.py
-judge the devices of that table too, and have to answer as it says.
+PROGRAM is as in run.py. Each checker of examples/, as its stored bytes, and with --compiler each of tests/plain/ as
+examples/cc/crashbpf-cc makes it with that compiler, judges N images (1,000), and so does what `cc` makes of the same source
+with the native header. Answers and codes have to be the same. Those of tests/rows/checkers.py judge the devices of that table
+too, and have to answer as it says. With --no-guards the tool takes of tests/plain only what is accepted without guards.
 
 The images are drawn at random, but not blindly: each is one that stands already with some changes, in which numbers and
 texts of the source are put where fields stand mostly, and one that gave another answer is kept to draw more from. Where
 the turns of a plain loop are spent (answer 1000000), the native build, whose loops have no bound, is asked nothing. Where
-a read has ended the run (answer 1000001), the native build has to read outside of a sector too: AddressSanitizer says so,
-for the first 25 such images of a checker.
-
-With --guards the tool takes what `verify --guards` accepts of tests/plain. Where such a program strays, the native build has
-to read or write outside too, on the first 25 such images.
+a run strays, or indexes past the end of a table (answer 1000001), the native build has to read or write outside too:
+AddressSanitizer says so, for the first 25 such images of a checker.
 
 Prints for each compiler which of tests/plain are accepted, a line for each that failed, and last `N passed, M failed`.
 """
@@ -74,9 +71,9 @@ def stored():
         yield Checker(refused, f"{name}_cured", path, checkers.CURED_DEVICES.get(name, []))
 
 
-def plain(options):
+def plain():
     for path in sorted((TOP / "tests/plain").glob("*/*.c")):
-        yield Checker(path, options=options)
+        yield Checker(path)
 
 
 class Images:
@@ -247,13 +244,14 @@ def known(checker, folder):
             yield f"{checker.name()} on device {number}: native {found}, wanted {wanted}"
 
 
-def compiled(checker, compiler, folder, program):
-    """The program that crashbpf-cc makes with the checker's options, or what it says in its place."""
+def compiled(checker, compiler, folder, program, words):
+    """The program that crashbpf-cc makes with these words, or what it says in its place; the checker learns how it is run."""
     out = folder / "compiled.bpf"
     path = os.pathsep.join([str(program.parent), os.environ["PATH"]])
-    words = [CC, checker.source, checker.function, out, "--sectors", str(SECTORS), "--compiler", compiler, *checker.options]
+    words = [CC, checker.source, checker.function, out, "--sectors", str(SECTORS), "--compiler", compiler, "--timeout", "600", *words]
     done = subprocess.run(words, capture_output=True, text=True, env={**os.environ, "PATH": path})
     if done.returncode == 0:
+        checker.options = ["--guards"] * ("accepted with guards" in done.stderr)
         return out.read_bytes(), done.stdout.split("\n")[0]
     refused = re.search(r"^refused .*|^cc: .*", done.stderr, re.M)
     place = re.search(r"slot \d+, (\S+):", done.stderr)
@@ -267,10 +265,10 @@ def jobs(asked, program, folder):
             yield checker, checker.stored.read_bytes()
     for compiler in asked.compiler:
         count = Counter()
-        for checker in plain(["--guards"] * asked.guards):
+        for checker in plain():
             if asked.only not in checker.name():
                 continue
-            code, said = compiled(checker, compiler, folder, program)
+            code, said = compiled(checker, compiler, folder, program, ["--no-guards"] * asked.no_guards)
             group = checker.source.parent.name
             count[group] += code is not None
             count[f"{group} of"] += 1
@@ -284,7 +282,7 @@ def jobs(asked, program, folder):
 def main():
     parser = argparse.ArgumentParser()
     parser.add_argument("--compiler", action="append", default=[])
-    parser.add_argument("--guards", action="store_true")
+    parser.add_argument("--no-guards", action="store_true")
     parser.add_argument("--images", type=int, default=1000)
     parser.add_argument("--only", default="")
     parser.add_argument("program", nargs="?", default=TOP / "crates/crashbpf/out/crashbpf", type=Path)

@@ -1,22 +1,32 @@
 #!/usr/bin/env python3
-"""Tests examples/recording/record and in_flight.py with the QEMU at hand. The gate doesn't run it, since it needs QEMU.
+"""Tests examples/recording/record, in_flight.py and cut_log.py with the QEMU at hand, and with a kernel guest too. The gate
+doesn't run it, since it needs QEMU.
 
-    python3 tests/record.py
+    python3 tests/record.py [KERNEL]
 
 A few commands are recorded, and their logs are compared with what they did; of each the last image has to be the disk.
-Prints a line for each that failed, and last `N passed, M failed`. It wants what record wants, and e2fsprogs.
+KERNEL is a folder as `guest` takes it. With it scripts are recorded in virtual machines: what stands before a mark of each
+kind, whether a file is there at its mark though all that is in flight is lost, and how `guest` ends where something is wrong.
+
+Prints a line for each that failed, and last `N passed, M failed`. It wants what record and guest want, and e2fsprogs. It
+takes half a minute, and with KERNEL two minutes more.
 """
+import os
+import signal
 import struct
 import subprocess
 import sys
 import tempfile
+import time
 from pathlib import Path
 
 sys.dont_write_bytecode = True
 
-from notation import DISCARD, MARK, SECTOR, TOP, D, F, M, S, W, log
+from notation import DISCARD, FLUSH, FUA, MARK, SECTOR, TOP, D, F, M, S, W, log
+from rows.recording import entries_of
 
-RECORD = TOP / "examples/recording/record"
+FOLDER = TOP / "examples/recording"
+RECORD = FOLDER / "record"
 
 WRITES = """\
 import os
@@ -57,21 +67,20 @@ RECORDED = [
     ("writes", 64, ["python3", "-c", WRITES], 0, WRITTEN),
     ("nothing", 8, ["true"], 0, []),
     ("a mark alone", 8, ["mark", "a mark"], 0, [M("a mark")]),
+    # no command asks for a flush here, and the log has one before the mark
+    ("a file that was closed", 8, ["sh", "-c", "yes | head -c 512 | dd of=$DEVICE conv=notrunc; mark closed"], 0, [S(0, b"y\n" * 256), F, M("closed")]),
     ("a command that fails", 8, ["sh", "-c", "exit 7"], 7, []),
     ("mkfs", 16384, ["sh", "-c", 'mkfs.ext4 -q "$DEVICE" && sync "$DEVICE" && mark formatted'], 0, None),
 ]
 
 
-def last_image(content, size):
-    """The image behind all entries of a log, in which nothing is lost."""
-    image, at = bytearray(size), SECTOR
-    for _ in range(struct.unpack_from("<Q", content, 16)[0]):
-        sector, count, flags = struct.unpack_from("<3Q", content, at)
-        data = 0 if flags & (DISCARD | MARK) else SECTOR * count
-        if not flags & MARK:
-            written = bytes(SECTOR * count) if flags & DISCARD else content[at + SECTOR : at + SECTOR + data]
-            image[SECTOR * sector : SECTOR * (sector + count)] = written
-        at += SECTOR + data
+def image_of(entries, device):
+    """What a device holds behind entries of which nothing is lost."""
+    image = bytearray(device)
+    for it in entries:
+        if not it.flags & MARK:
+            written = bytes(SECTOR * it.count) if it.flags & DISCARD else it.data
+            image[SECTOR * it.sector : SECTOR * (it.sector + it.count)] = written
     return bytes(image)
 
 
@@ -82,23 +91,226 @@ def recorded(folder, name, sectors, command, status, entries):
     if done.returncode != status or not (out / "marked.log").exists():
         return f"{name}: status {done.returncode}, {done.stdout}{done.stderr}"
     content = (out / "marked.log").read_bytes()
-    if last_image(content, SECTOR * sectors) != (out / "disk.img").read_bytes():
+    if image_of(entries_of(content), bytes(SECTOR * sectors)) != (out / "disk.img").read_bytes():
         return f"{name}: the last image isn't the disk"
     if entries is not None and content != log(entries):
         return f"{name}: another log"
     return None if "device" in {it.name for it in out.iterdir()} else f"{name}: no device"
 
 
+def at(process):
+    """The folder in which a process is."""
+    try:
+        return os.readlink(f"/proc/{process}/cwd")
+    except OSError:
+        return None
+
+
+def hung_up(folder):
+    """What is wrong with `record` where its terminal goes: it ends its daemon."""
+    out = Path(folder, "hung_up")
+    running = subprocess.Popen([RECORD, "8", out, "sleep", "2"])
+    while running.poll() is None and not (out / "pid").exists():
+        time.sleep(0.1)
+    time.sleep(0.5)
+    running.send_signal(signal.SIGHUP)
+    running.wait(timeout=60)
+    daemon = int((out / "pid").read_text()) if (out / "pid").exists() else None
+    left = daemon and at(daemon) is not None
+    if left:
+        os.kill(daemon, signal.SIGTERM)
+        time.sleep(1)
+    return None if running.returncode == 2 and not left else f"record, hung up: status {running.returncode}, the daemon is {'there' if left else 'gone'}"
+
+
 def in_flight():
     """Where the QEMU at hand puts a write that is in flight: docs/RECORDING.md says before the flush."""
-    done = subprocess.run([sys.executable, TOP / "examples/recording/in_flight.py"], capture_output=True, text=True)
+    done = subprocess.run([sys.executable, FOLDER / "in_flight.py"], capture_output=True, text=True)
     good = done.returncode == 1 and done.stdout.endswith("sector 1 before the flush\n")
     return None if good else f"in_flight.py: status {done.returncode}, {done.stdout}{done.stderr}"
 
 
+# What cut_log.py makes of a log device: what the device holds, and how many bytes of it are the log, if it is whole.
+END = M("dm-log-writes-end")
+REST = bytes(range(256)) * 10
+WHOLE = log([W(1, 2, 0x11), D(1, 3), F, END])
+DEVICES = [
+    ("a log", WHOLE + REST, len(WHOLE)),
+    ("a log with nothing behind", WHOLE, len(WHOLE)),
+    ("a log that ends within its last entry", WHOLE[:-100], None),
+    ("a log without its end", log([W(1, 2, 0x11), F, M("end")]) + REST, None),
+    ("a log whose last entry has the text, and is no mark", log([S(0, b"dm-log-writes-end".ljust(SECTOR))]) + REST, None),
+    ("no entry", log([]) + REST, None),
+    ("no log", REST, None),
+]
+
+
+def cut(folder, name, content, length):
+    """What is wrong with how a log is cut."""
+    device = Path(folder, "device.log")
+    device.write_bytes(content)
+    done = subprocess.run([sys.executable, FOLDER / "cut_log.py", device], capture_output=True, text=True)
+    wanted = (2, content) if length is None else (0, content[:length])
+    return None if (done.returncode, device.read_bytes()) == wanted else f"cut_log.py, {name}: status {done.returncode}, {done.stderr}"
+
+
+# Virtual machines
+
+SECTORS = 16384
+
+# Of three files one is flushed by the script, one by sync_mark, one by nobody.
+MARKS = """\
+mount -o commit=300 $DEVICE /mnt || exit 1
+sync && mark begin
+echo forgotten >/mnt/forgotten
+mark bare
+echo synced >/mnt/synced
+sync_mark synced
+echo flushed >/mnt/flushed
+sync /mnt/flushed && mark flushed
+umount /mnt
+"""
+
+# The name, the script, what its environment has besides, the status, and what standard error says.
+REFUSED = [
+    ("a script that fails", "exit 7", {}, 1, "the script ended with status 7"),
+    ("a device that is left in use", "mkdir /other && mount $DEVICE /other", {}, 2, "isn't the mark dm-log-writes-end"),
+    ("a log that is full", "mark begin; dd if=/dev/zero of=$DEVICE bs=64k count=9", {"LOG_SIZE": "256K"}, 2, "isn't the mark dm-log-writes-end"),
+    ("too little time", "true", {"TIMEOUT": "1"}, 2, "didn't end within 1 seconds"),
+    ("a number that is none", "true", {"TIMEOUT": "1m"}, 2, "TIMEOUT is no number"),
+    ("a command that isn't there", "true", {"COMMANDS": "no_such_command"}, 2, "there is no command no_such_command"),
+]
+
+
+class Guests:
+    """The virtual machines of a folder, with a kernel. The device of each holds a new ext4, or zeros."""
+
+    def __init__(self, folder, kernel):
+        self.folder, self.kernel = Path(folder), kernel
+        self.base = self.folder / "base.img"
+        self.base.write_bytes(bytes(SECTOR * SECTORS))
+        subprocess.run(["mkfs.ext4", "-q", "-E", "nodiscard", self.base], check=True)
+
+    def command(self, out, script):
+        return [FOLDER / "guest", self.kernel, str(SECTORS), out, script]
+
+    def run(self, out, script, **environment):
+        return subprocess.run(self.command(out, script), capture_output=True, text=True, env=os.environ | environment)
+
+    def recorded(self, name, script, base):
+        """The entries of a recording, what stood on the device before, and what is wrong with it."""
+        out = self.folder / name
+        done = self.run(out, script, **({"BASE": str(self.base)} if base else {}))
+        if done.returncode:
+            return [], b"", f"{name}: status {done.returncode}, {done.stderr}"
+        content = (out / "writes.log").read_bytes()
+        entries, before = entries_of(content), self.base.read_bytes() if base else bytes(SECTOR * SECTORS)
+        fault = None
+        if content != log(entries) or entries[-1] != END:
+            fault = "the log isn't cut behind its end"
+        elif image_of(entries, before) != (out / "disk.img").read_bytes():
+            fault = "the last image isn't the disk"
+        elif {it.name for it in out.iterdir()} != {"console", "disk.img", "qemu.log", "writes.log"}:
+            fault = "something is left"
+        return entries, before, fault and f"{name}: {fault}"
+
+    def left(self, out):
+        """What a guest left that wasn't to be: a file, or a process."""
+        files = [it.name for it in out.iterdir() if it.name != "console"] if out.exists() else []
+        return files + [it for it in os.listdir("/proc") if it.isdigit() and at(it) == str(out)]
+
+
+def between(entries, first, last):
+    """The entries between two marks, and the last of them."""
+    texts = [it.text.decode() if it.flags & MARK else None for it in entries]
+    return entries[texts.index(first) : texts.index(last)]
+
+
+def marks(guests):
+    """What stands before marks: before that of `mark` nothing that the script didn't flush itself."""
+    script = guests.folder / "marks.sh"
+    script.write_text(MARKS)
+    entries, _, fault = guests.recorded("marks", script, True)
+    if fault:
+        return [fault]
+    found = []
+    for first, last, wanted in [("begin", "bare", False), ("bare", "synced", True), ("synced", "flushed", True)]:
+        these = between(entries, first, last)
+        flushed = any(it.flags & FLUSH for it in these)
+        written = any((last if wanted else "forgotten").encode() + b"\n" in it.data for it in these)
+        good = flushed == written == wanted
+        found.append(None if good else f"marks: before the mark {last} the file is {'there' if written else 'missing'}")
+    return found
+
+
+def durable(entries):
+    """The entries of which nothing can be lost behind them all: FUA ones, and those before the last flush."""
+    last = max((number for number, it in enumerate(entries) if it.flags & FLUSH), default=0)
+    return [it for number, it in enumerate(entries) if number < last or it.flags & FUA]
+
+
+def read(image, folder):
+    """What /file holds on an image, once the journal is replayed."""
+    path = Path(folder, "image")
+    path.write_bytes(image)
+    subprocess.run(["e2fsck", "-fy", path], capture_output=True)
+    return subprocess.run(["debugfs", "-R", "cat /file", path], capture_output=True).stdout
+
+
+def versions(guests, name, base):
+    """Whether each version of the file is there behind its mark, though all that is in flight is lost."""
+    entries, before, fault = guests.recorded(name, FOLDER / f"{name}.sh", base)
+    if fault:
+        return [fault]
+    found = []
+    for number in (1, 2, 3):
+        mark = entries.index(M(f"version-{number}"))
+        wanted = (b"version %d\n" % number * 1000)[: 1000 * number]
+        content = read(image_of(durable(entries[:mark]), before), guests.folder)
+        found.append(None if content == wanted else f"{name}: version {number} isn't there behind its mark")
+    return found
+
+
+def refused(guests, name, text, environment, status, says):
+    """What is wrong with a guest that doesn't end well."""
+    script, out = guests.folder / "script", guests.folder / name.replace(" ", "_")
+    script.write_text(text + "\n")
+    done = guests.run(out, script, BASE=str(guests.base), **environment)
+    left = guests.left(out) if status == 2 else []
+    good = done.returncode == status and says in done.stderr and not left
+    return None if good else f"{name}: status {done.returncode}, {done.stderr} left {left}"
+
+
+def interrupted(guests, number):
+    """What is wrong with a guest that is interrupted while its machine runs."""
+    script, out = guests.folder / "script", guests.folder / f"signal_{number}"
+    script.write_text("sleep 1000\n")
+    running = subprocess.Popen(guests.command(out, script), stderr=subprocess.PIPE, text=True)
+    while running.poll() is None and not (out / "console").exists():
+        time.sleep(0.1)
+    running.send_signal(number)
+    said = running.communicate(timeout=60)[1]
+    left = guests.left(out)
+    return None if running.returncode == 2 and not left else f"signal {number}: status {running.returncode}, {said} left {left}"
+
+
+def guests_of(folder, kernel):
+    """What is wrong with virtual machines of this kernel."""
+    guests = Guests(folder, kernel)
+    return [
+        *marks(guests),
+        *versions(guests, "use", True),
+        *versions(guests, "files", False),
+        *(refused(guests, *it) for it in REFUSED),
+        *(interrupted(guests, it) for it in (signal.SIGHUP, signal.SIGTERM)),
+    ]
+
+
 def main():
     with tempfile.TemporaryDirectory() as folder:
-        found = [*(recorded(folder, *it) for it in RECORDED), in_flight()]
+        found = [*(recorded(folder, *it) for it in RECORDED), in_flight(), hung_up(folder), *(cut(folder, *it) for it in DEVICES)]
+        if sys.argv[1:]:
+            found += guests_of(Path(folder).resolve(), sys.argv[1])
     wrong = [it for it in found if it]
     for line in wrong:
         print("FAILED", line)

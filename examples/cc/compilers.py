@@ -2,7 +2,6 @@
 import os
 import re
 import shutil
-import subprocess
 from pathlib import Path
 
 from program import SLOT, NoProgram
@@ -19,11 +18,6 @@ AS_WRITTEN = ["-mllvm", "-disable-lsr"]
 
 # What a call of a helper leaves nothing of.
 CLOBBERED = '"r0", "r1", "r2", "r3", "r4", "r5", "memory"'
-
-
-def run(words, **how):
-    how["env"] = {**os.environ, "LC_ALL": "C"}
-    return subprocess.run([str(it) for it in words], capture_output=True, text=True, errors="replace", **how)
 
 
 def hints_for(said):
@@ -46,22 +40,12 @@ def hints_for(said):
 class Clang:
     """clang 14 or newer, and llvm-objdump of the same version."""
 
-    # The ways in which a checker is compiled, one after the other until a program is accepted: what is done to its
-    # text (source.py), and more options.
-    WAYS = [
-        ("", []),
-        ("", LOOPS_STAY),
-        ("kept", LOOPS_STAY),
-        ("kept tested", LOOPS_STAY),
-        ("", [*LOOPS_STAY, *AS_WRITTEN]),
-        ("kept", [*LOOPS_STAY, *AS_WRITTEN]),
-        ("kept tested", [*LOOPS_STAY, *AS_WRITTEN]),
-        ("pinned kept tested", LOOPS_STAY),
-        ("pinned kept tested", [*LOOPS_STAY, *AS_WRITTEN]),
-    ]
+    # The ways in which a checker is compiled: whether the compiler knows nothing of the variables of a loop's condition where
+    # that is tested (source.py), and more options.
+    WAYS = [(False, []), (True, LOOPS_STAY), (True, [*LOOPS_STAY, *AS_WRITTEN])]
 
-    def __init__(self, name):
-        self.name = name
+    def __init__(self, name, run):
+        self.name, self.run = name, run
         suffix = re.search(r"(-\d+)?$", name)[0]
         self.objdump = str(Path(name).parent / f"llvm-objdump{suffix}") if "/" in name else f"llvm-objdump{suffix}"
         self.target = [name, "-target", "bpfel", "-mcpu=v2", "-O2", *HEADERS]
@@ -70,15 +54,15 @@ class Clang:
         return [self.name, self.objdump]
 
     def preprocess(self, source, definitions):
-        return run([*self.target, *definitions, "-E", source])
+        return self.run([*self.target, *definitions, "-E", source])
 
     def check(self, source, definitions):
-        return run([*self.target, *definitions, "-Wall", "-Wno-pass-failed", "-fsyntax-only", source])
+        return self.run([*self.target, *definitions, "-Wall", "-Wno-pass-failed", "-fsyntax-only", source])
 
     def compile(self, text, options, out):
         """Compiles the preprocessed text to the file `out`; each function gets a section of its own, .text.NAME."""
         words = [*self.target, "-g", "-w", "-ffunction-sections", "-fno-jump-tables", "-fno-crash-diagnostics"]
-        return run([*words, *options, "-c", "-x", "cpp-output", "-", "-o", out], input=text)
+        return self.run([*words, *options, "-c", "-x", "cpp-output", "-", "-o", out], text)
 
     def turn(self, times, code, answer):
         """A statement that ends the run when this place has been passed `times` times."""
@@ -94,7 +78,7 @@ class Clang:
 
     def lines(self, path, object_, section):
         """For each slot of a section, given by its number, the file, the line and the instruction."""
-        done = run([self.objdump, "-d", "-l", "--no-show-raw-insn", "-j", object_.sections[section].name, path])
+        done = self.run([self.objdump, "-d", "-l", "--no-show-raw-insn", "-j", object_.sections[section].name, path])
         found, file, line = {}, "", 0
         for it in done.stdout.split("\n"):
             place = re.match(r"; (.*):(\d+)$", it)
@@ -109,10 +93,10 @@ class Clang:
 class Gcc:
     """gcc 12 or newer as it is built for BPF, with binutils of the same target."""
 
-    WAYS = [("", []), ("kept", []), ("tested", []), ("kept tested", []), ("kept tested", ["-O1"]), ("pinned kept tested", [])]
+    WAYS = [(False, []), (True, []), (True, ["-O1"])]
 
-    def __init__(self, name):
-        self.name = name
+    def __init__(self, name, run):
+        self.name, self.run = name, run
         self.objdump, self.readelf = (re.sub(r"gcc(-[\d.]+)?$", it, name) for it in ("objdump", "readelf"))
         # Loops aren't written out: a turn would be counted at each copy by itself.
         whole = ["-fno-unroll-loops", "-fno-unroll-all-loops", "-fno-peel-loops"]
@@ -123,22 +107,23 @@ class Gcc:
 
     def dialect(self):
         """What makes gcc 14 and newer take assembly as gcc 12 does: without it, that is written as for clang."""
-        version = run([self.name, "-dumpversion"]).stdout if shutil.which(self.name) else ""
-        return ["-masm=normal"] if int(version.partition(".")[0] or 0) >= 14 else []
+        version = self.run([self.name, "-dumpversion"]).stdout if shutil.which(self.name) else ""
+        major = re.match(r"\d+", version)
+        return ["-masm=normal"] if major and int(major[0]) >= 14 else []
 
     def tools(self):
         return [self.name, self.objdump, self.readelf]
 
     def preprocess(self, source, definitions):
-        return run([*self.target, *definitions, "-E", source])
+        return self.run([*self.target, *definitions, "-E", source])
 
     def check(self, source, definitions):
-        return run([*self.target, *definitions, "-Wall", "-fsyntax-only", source])
+        return self.run([*self.target, *definitions, "-Wall", "-fsyntax-only", source])
 
     def compile(self, text, options, out):
         words = [*self.target, "-gdwarf", "-w", "-ffunction-sections"]
         words += ["-fno-tree-loop-distribute-patterns", "-fno-ipa-cp", "-fno-ipa-sra"]
-        return run([*words, *options, "-c", "-x", "cpp-output", "-", "-o", out], input=text)
+        return self.run([*words, *options, "-c", "-x", "cpp-output", "-", "-o", out], text)
 
     def turn(self, times, code, answer):
         return (
@@ -152,10 +137,10 @@ class Gcc:
 
     def lines(self, path, object_, section):
         """As of clang."""
-        listing = run([self.readelf, "-W", "--debug-dump=decodedline", path]).stdout
+        listing = self.run([self.readelf, "-W", "--debug-dump=decodedline", path]).stdout
         places = places_of(object_, section, runs_of_rows(listing))
         found, place = {}, ("", 0)
-        listing = run([self.objdump, "-d", "--no-show-raw-insn", "-j", object_.sections[section].name, path]).stdout
+        listing = self.run([self.objdump, "-d", "--no-show-raw-insn", "-j", object_.sections[section].name, path]).stdout
         for it in listing.split("\n"):
             instruction = re.match(r"\s*([0-9a-f]+):\s+(.*)", it)
             if instruction:
@@ -169,7 +154,7 @@ def runs_of_rows(listing):
     """The runs of rows of a line table, one for each function: the places at their slots, and where it ends."""
     found, rows = [], {}
     for it in listing.split("\n"):
-        row = re.match(r"(\S+)\s+(\d+|-)\s+(0x[0-9a-f]+|0)\b", it)
+        row = re.match(r"(.+?)\s+(\d+|-)\s+(0x[0-9a-f]+|0)\b", it)
         if row and row[2] != "-":
             rows[int(row[3], 16) // SLOT] = (row[1], int(row[2]))
         elif row and rows:
@@ -199,9 +184,9 @@ def same_file(one, other):
     return os.path.realpath(one) == os.path.realpath(other)
 
 
-def compiler(name):
-    """The compiler of that name, or NoProgram where a tool isn't there."""
-    found = Gcc(name) if "gcc" in Path(name).name else Clang(name)
+def compiler(name, run):
+    """The compiler of that name, whose programs `run` runs; NoProgram where a tool isn't there."""
+    found = (Gcc if "gcc" in Path(name).name else Clang)(name, run)
     for tool in found.tools():
         if not shutil.which(tool):
             raise NoProgram(

@@ -3,21 +3,28 @@ import struct
 from dataclasses import dataclass
 
 SLOT = 8
-# The parts of an ELF file that are looked at.
-UNDEFINED, TABLE_OF_SYMBOLS, RELOCATIONS = 0, 2, 9
-FUNCTION, SECTION, LOCAL = 2, 3, 0
+MOST_SLOTS = 4096
+# The parts of an ELF file that are looked at, and the rows of its two kinds of relocations.
+BPF = 247
+UNDEFINED, TABLE_OF_SYMBOLS = 0, 2
+RELOCATIONS = {4: "<QQq", 9: "<QQ"}
+FUNCTION, LOCAL = 2, 0
 # Opcodes.
 LDDW, CALL, EXIT, JA, JA32 = 0x18, 0x85, 0x95, 0x05, 0x06
 JEQ, JNE = 0x15, 0x55
 AGAIN = 3
 
 
-class NoProgram(Exception):
+class Refusal(Exception):
     """Why there is no program, with lines of what helps."""
 
     def __init__(self, text, *hints):
         super().__init__(text)
         self.hints = hints
+
+
+class NoProgram(Refusal):
+    """The checker can't be made a program, in one way of compiling it at least."""
 
 
 @dataclass
@@ -49,71 +56,114 @@ class Need:
     kind: str
 
 
-def text_at(bytes_, offset):
-    return bytes_[offset : bytes_.index(b"\0", offset)].decode()
+def broken(why):
+    """The refusal of an object file that isn't read."""
+    return NoProgram(
+        f"the object file can't be read: {why}",
+        "no asm outside of functions, and none with .incbin or sections of its own; clang 14 or newer, or gcc 12 or newer for BPF",
+    )
 
 
 class Object:
-    """A little-endian ELF file of 64 bits, as both compilers make it."""
+    """A little-endian ELF file of 64 bits, as both compilers make it. NoProgram is raised where it is any other."""
 
     def __init__(self, bytes_):
         self.bytes = bytes_
-        (start,) = struct.unpack_from("<Q", bytes_, 0x28)
-        size, count, names = struct.unpack_from("<HHH", bytes_, 0x3A)
-        heads = [struct.unpack_from("<IIQQQQIIQQ", bytes_, start + size * i) for i in range(count)]
+        if bytes_[:6] != b"\x7fELF\2\1" or self.fields("<H", 0x12) != (BPF,):
+            raise broken("it is no little-endian ELF file of 64 bits for BPF")
+        (start,) = self.fields("<Q", 0x28)
+        size, count, names = self.fields("<HHH", 0x3A)
+        heads = [self.fields("<IIQQQQIIQQ", start + size * i) for i in range(count)]
+        if names >= count:
+            raise broken("its sections have no names")
         at = heads[names][4]
-        self.sections = [
-            Section(text_at(bytes_, at + it[0]), it[1], it[4], it[5], it[6], it[7]) for it in heads
-        ]
+        self.sections = [Section(self.text(at + it[0]), it[1], it[4], it[5], it[6], it[7]) for it in heads]
         self.symbols = [it for section in self.sections if section.kind == TABLE_OF_SYMBOLS for it in self.table(section)]
 
+    def fields(self, form, at):
+        if at + struct.calcsize(form) > len(self.bytes):
+            raise broken(f"it ends before byte {at}")
+        return struct.unpack_from(form, self.bytes, at)
+
+    def text(self, at):
+        end = self.bytes.find(b"\0", at)
+        if end < 0:
+            raise broken("a name has no end")
+        return self.bytes[at:end].decode(errors="replace")
+
+    def content(self, section):
+        if section.offset + section.size > len(self.bytes):
+            raise broken(f"it ends before its section {section.name}")
+        return self.bytes[section.offset : section.offset + section.size]
+
+    def rows(self, section, form):
+        """The rows of a table that a section holds."""
+        content = self.content(section)
+        return struct.iter_unpack(form, content[: len(content) // struct.calcsize(form) * struct.calcsize(form)])
+
+    def section_at(self, number):
+        """The section of that number, or none: a symbol may have a number that means none."""
+        return self.sections[number] if UNDEFINED < number < len(self.sections) else None
+
     def table(self, section):
-        names = self.sections[section.link].offset
-        for at in range(section.offset, section.offset + section.size, 24):
-            name, info, _, index, value, size = struct.unpack_from("<IBBHQQ", self.bytes, at)
-            yield Symbol(text_at(self.bytes, names + name), info & 15, info >> 4, index, value, size)
+        names = self.section_at(section.link)
+        if names is None:
+            raise broken("its symbols have no names")
+        for name, info, _, index, value, size in self.rows(section, "<IBBHQQ"):
+            yield Symbol(self.text(names.offset + name), info & 15, info >> 4, index, value, size)
 
     def functions(self):
-        return [it for it in self.symbols if it.kind == FUNCTION and it.section != UNDEFINED]
+        return [it for it in self.symbols if it.kind == FUNCTION and self.section_at(it.section)]
 
     def function(self, name):
-        """The function of that name, which has a section for itself and what is LOCAL to it."""
+        """The function of that name, which has a section for itself and what is LOCAL to it; none where there is none."""
         found = [it for it in self.functions() if it.name == name]
         if not found:
-            others = " ".join(it.name for it in self.functions()) or "none"
-            raise NoProgram(
-                f"there is no function {name} that is compiled by itself; there are: {others}",
-                "give the name of one of these; the checker isn't static, since the compiler leaves out what nobody calls",
-            )
-        (it,) = found
+            return None
+        (it, *more) = found
         section = self.sections[it.section]
-        local = sum(s.size for s in self.functions() if s.section == it.section and s.binding == LOCAL)
-        if section.size != local + it.size:
+        if section.size % SLOT:
+            raise broken(f"its section {section.name} isn't whole instructions")
+        local = sum(s.size for s in self.functions() if s.section == it.section and s.binding == LOCAL and s is not it)
+        if more or section.size != local + it.size:
             raise NoProgram(
                 f"the section {section.name} of {name} holds more than this function and what is LOCAL to it",
                 "take the attribute section(..) away, and all asm outside of functions",
+            )
+        if section.size > SLOT * MOST_SLOTS:
+            raise NoProgram(
+                f"the function {name} has {section.size // SLOT} slots, and a program has at most {MOST_SLOTS}",
+                "loops with few turns, tables and inlined functions are written out: give them TURN, or make them LOCAL",
             )
         return it
 
     def moved(self, function):
         """Where each slot of the function's section goes: the function comes first, whatever the compiler's order."""
         found, at = {}, 0
+        section = self.sections[function.section]
         others = [it for it in self.functions() if it.section == function.section and it is not function]
         for it in [function, *sorted(others, key=lambda other: other.value)]:
+            if it.value % SLOT or it.size % SLOT or it.value + it.size > section.size:
+                raise broken(f"the function {it.name} isn't whole instructions")
             for slot in range(it.value // SLOT, (it.value + it.size) // SLOT):
                 found[slot] = at
                 at += 1
+        if not at or len(found) != at:
+            raise broken(f"the functions of its section {section.name} overlap, or are empty")
         return found
 
     def code(self, function, moved):
         """The instructions, with calls between functions as these have moved."""
-        section = self.sections[function.section]
-        code = self.bytes[section.offset : section.offset + section.size]
+        code = self.content(self.sections[function.section])
         out = bytearray(code)
         for at, it in slots_of(code).items():
-            size = SLOT * (2 if it.opcode == LDDW else 1)
-            out[SLOT * moved[at] : SLOT * moved[at] + size] = code[SLOT * at : SLOT * at + size]
+            size = 2 if it.opcode == LDDW else 1
+            if moved.get(at + size - 1) != moved[at] + size - 1:
+                raise broken(f"an instruction of {function.name} isn't whole")
+            out[SLOT * moved[at] : SLOT * (moved[at] + size)] = code[SLOT * at : SLOT * (at + size)]
             if it.opcode == CALL and it.source == 1:
+                if at + 1 + it.immediate not in moved:
+                    raise broken(f"a call of {function.name} leads out of its section")
                 distance = moved[at + 1 + it.immediate] - moved[at] - 1
                 struct.pack_into("<i", out, SLOT * moved[at] + 4, distance)
         return bytes(out)
@@ -121,17 +171,19 @@ class Object:
     def needs(self, function):
         """The places of the function's section that the linker would have to fill."""
         for section in self.sections:
-            if section.kind != RELOCATIONS or section.info != function.section:
+            if section.kind not in RELOCATIONS or section.info != function.section:
                 continue
-            for at in range(section.offset, section.offset + section.size, 16):
-                offset, info = struct.unpack_from("<QQ", self.bytes, at)
+            for offset, info, *_ in self.rows(section, RELOCATIONS[section.kind]):
+                if info >> 32 >= len(self.symbols):
+                    raise broken("a place that the linker fills has no symbol")
                 yield self.need(offset // SLOT, self.symbols[info >> 32])
 
     def need(self, slot, symbol):
-        name = symbol.name or self.sections[symbol.section].name
+        section = self.section_at(symbol.section)
+        name = symbol.name or (section.name if section else "a number")
         if symbol.section == UNDEFINED:
             return Need(slot, name, "absent")
-        if symbol.kind == FUNCTION or self.sections[symbol.section].name.startswith(".text"):
+        if symbol.kind == FUNCTION or section and section.name.startswith(".text"):
             return Need(slot, name.removeprefix(".text."), "function")
         return Need(slot, name, "data")
 

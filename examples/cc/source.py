@@ -6,6 +6,8 @@ Nothing is known of types: a function is told by its shape, a loop by its word. 
 import re
 from dataclasses import dataclass
 
+from program import Refusal
+
 TOKEN = re.compile(
     r"""(?P<marker>^\#[^\n]*)|(?P<space>\s+)|(?P<word>[A-Za-z_$][\w$]*)|(?P<number>\.?\d(?:[eEpP][+-]|[\w.])*)"""
     r"""|(?P<text>"(?:\\.|[^"\\\n])*"|'(?:\\.|[^'\\\n])*')|(?P<sign>.)""",
@@ -16,9 +18,6 @@ CLOSES = {"(": ")", "[": "]", "{": "}"}
 # Words in front of parentheses that are no parameters.
 NO_NAMES = {"__attribute__", "__attribute", "asm", "__asm__", "__asm", "_Alignas", "typeof", "__typeof__", "__typeof", "_Static_assert"}
 LOOPS = {"for", "while", "do"}
-WORD = re.compile(r"[A-Za-z_$]")
-# Words with which no declaration begins.
-NO_TYPES = {"return", "else", "case", "goto", "sizeof", "break", "continue", "if", "switch", "default", *LOOPS}
 # From here on a compiler knows of a number only what its type says, and has it in a whole register where it is unsigned.
 KEEP = (
     "if (sizeof(NAME) < 8 && (__typeof__(NAME))-1 > 0) { "
@@ -26,11 +25,9 @@ KEEP = (
     "if (kept_ > (__typeof__(NAME))-1) __builtin_unreachable(); NAME = (__typeof__(NAME))kept_; "
     "} else __asm__ volatile(\"\" : \"+r\"(NAME));"
 )
-# The function of checker.h that tests what sector(n) answers.
-TESTED = "tested_sector_"
 
 
-class Unread(Exception):
+class Unread(Refusal):
     """A place that the parser makes nothing of."""
 
 
@@ -90,7 +87,10 @@ class Source:
         self.text = text
         self.tokens = tokens_of(text)
         self.functions, self.loops = [], []
-        self.outside()
+        try:
+            self.outside()
+        except RecursionError:
+            raise Unread("its brackets stand too deep within each other") from None
 
     def word(self, at):
         return self.tokens[at].text if at < len(self.tokens) else ""
@@ -218,8 +218,10 @@ class Source:
         """Whether it stays a function: LOCAL gives it a section."""
         return any(it.text in ("section", "__section__") for it in self.tokens[function.declared : function.body])
 
-    def local_names(self):
-        return {it.name for it in self.functions if self.is_local(it)}
+    def is_hidden(self, function):
+        """Whether the compiler leaves it out where nobody calls it."""
+        words = {it.text for it in self.tokens[function.declared : function.body]}
+        return bool(words & {"static", "inline", "__inline", "__inline__"})
 
     def inlined(self, checker):
         """Edits that inline each function but the checker and the LOCAL ones: a place, how much goes, what comes."""
@@ -252,24 +254,6 @@ class Source:
         yield self.tokens[first].start, self.tokens[first].start, f"(({{ {keep} 1; }}) && ("
         yield self.tokens[end].start, self.tokens[end].start, "))"
 
-    def pinned(self, loop):
-        """An edit after which the compiler finds the pointers that a loop uses anew in each turn."""
-        names = self.pointers(loop)
-        if names:
-            keep = " ".join(f'__asm__ volatile("" : "+r"({it}));' for it in names)
-            yield from [self.turned(loop, keep)]
-
-    def tested(self):
-        """Edits after which the null test of sector(n) stands right behind the call."""
-        if not any(it.name == TESTED for it in self.functions):
-            return
-        for function in self.functions:
-            if function.name == TESTED:
-                continue
-            for at in range(function.body, function.end):
-                if self.word(at) == "sector" and self.word(at + 1) == "(" and self.word(at - 1) not in (".", ">", "*"):
-                    yield self.tokens[at].start, self.tokens[at].end, TESTED
-
     def variables(self, loop):
         """The names in the condition that the loop changes."""
         inside = [it.text for it in self.tokens[loop.tokens[0] : loop.tokens[1]]]
@@ -281,39 +265,6 @@ class Source:
             if re.match(r"[A-Za-z_]", name) and alone and not arrow and name not in found and is_changed(inside, name):
                 found.append(name)
         return found
-
-    def pointers(self, loop):
-        """The names of pointers that are known in front of a loop, and used in it."""
-        function = next(it for it in self.functions if it.body < loop.tokens[0] < it.end)
-        known, depth = [(it, 0) for it in self.parameters(function)], 0
-        for at in range(function.body, loop.tokens[0]):
-            word = self.word(at)
-            if word == "}":
-                depth -= 1
-                known = [it for it in known if it[1] <= depth]
-            depth += word == "{"
-            if word in ("{", "}", ";"):
-                known += [(name, depth) for name in self.declared(at + 1)]
-        used = {self.word(at) for at in range(*loop.tokens)}
-        return list(dict.fromkeys(name for name, _ in known if name in used))
-
-    def parameters(self, function):
-        """The parameters that are pointers."""
-        for at in range(function.declared, function.body):
-            if self.word(at) == "*" and self.word(at + 2) in (",", ")") and WORD.match(self.word(at + 1)):
-                yield self.word(at + 1)
-
-    def declared(self, at):
-        """The pointers that a declaration at this token declares, if it is one."""
-        first = at
-        while WORD.match(self.word(at)) and self.word(at) not in NO_TYPES:
-            at += 1
-        star = at
-        while at > first and self.word(at) not in ("", ";", "{", "}"):
-            pointer = self.word(at) == "*" and (at == star or self.word(at - 1) == ",")
-            if pointer and WORD.match(self.word(at + 1)) and self.word(at + 2) in ("=", ",", ";"):
-                yield self.word(at + 1)
-            at = self.closed(at) if self.word(at) in CLOSES else at + 1
 
     def edited(self, edits):
         """The text after edits, which don't overlap."""

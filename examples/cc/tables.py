@@ -1,7 +1,8 @@
 """Tables of constants as code: what `name[i]` is becomes a call of a function with a switch over all elements."""
 import re
-import struct
 from dataclasses import dataclass
+
+from program import broken
 
 # More elements would be a program of thousands of slots.
 MOST_ELEMENTS = 1024
@@ -166,11 +167,12 @@ def sizes_text(tables):
 
 def sizes_in(object_, tables):
     """Gives each table its dimensions, and answers those that aren't too large."""
-    section = next(it for it in object_.sections if it.name == SIZES)
-    at, found = section.offset, []
+    numbers = [row[0] for section in object_.sections if section.name == SIZES for row in object_.rows(section, "<Q")]
+    if len(numbers) != sum(it.dimensions for it in tables):
+        raise broken(f"its section {SIZES} isn't that of the tables")
+    found = []
     for table in tables:
-        table.sizes = struct.unpack_from(f"<{table.dimensions}Q", object_.bytes, at)
-        at += 8 * table.dimensions
+        table.sizes, numbers = tuple(numbers[: table.dimensions]), numbers[table.dimensions :]
         total = 1
         for size in table.sizes:
             total *= size

@@ -1,6 +1,9 @@
 /* A checker for a device that mkfs.ext4 makes: once it was told that the file system is there, its super block, the
  * descriptor of its first group and the inode of its root directory have to be. docs/RECORDING.md records such a device.
- * For one group, blocks of 1,024 bytes and checksums (metadata_csum), as mkfs.ext4 takes them for 8 MiB. */
+ * For one group, blocks of 1,024 bytes and checksums (metadata_csum), as mkfs.ext4 takes them for 8 MiB.
+ *
+ * It shows how a recording is judged, and is no checker to trust: it replays no journal, looks at nothing else, and misses what
+ * e2fsck finds. Of an ext4 without barriers it failed on none of the 596 images that e2fsck called broken. */
 #include "checker.h"
 
 enum { GOOD, NO_MAGIC, OTHER_SIZES, BROKEN_SUPER, BROKEN_GROUP, NO_ROOT };

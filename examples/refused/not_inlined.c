@@ -3,7 +3,7 @@
  * entry, so the first read of it is refused 50. It is cured by INLINED, or by a position in place of the
  * pointer: u64 number_at(u64 position).
  *
- *     examples/cc not_inlined.c not_inlined not_inlined.bpf
+ *     examples/cc/crashbpf-cc examples/refused/not_inlined.c not_inlined not_inlined.bpf
  */
 #include "../checker.h"
 

@@ -8,8 +8,9 @@ import sys
 
 import model
 from model import Checker, Run, explored
-from notation import DISCARD, MARK, SECTOR, TOP, D, Entry, F, Long, M, Row, S, W, log
+from notation import DISCARD, MARK, SECTOR, TOP, D, Entry, F, Long, M, Row, S, W, log, named, report
 from rows.checkers import accepted, crc32c, judged, u16, u32
+from rows.worked import torn
 
 sys.path.insert(0, str(TOP / "tools"))
 import trace_log
@@ -61,6 +62,28 @@ entry 4 epoch 1 mark text "commit-1"
 TRACES = [
     Row("the table of a trace", "log log --sectors 4", {"log": trace_log.made(COMMIT)}, COMMIT_TABLE),
     Row("the trace of mkfs, its last entries", "images log --sectors 16384 --cuts mark", {"log": MKFS}, "cut 98 epoch 2 marks 1 volatile 0 images 1\ntotal 1\n"),
+]
+
+
+# A write with O_DSYNC, once and twice: docs/CRASH-MODEL.md, forced_in_flight
+
+FORCED = "write 0 1 fill 0xaa fua\n"
+TWICE = "write 0 1 fill 0xaa\n" + FORCED
+
+
+def forced(name, trace, entries, failing, total):
+    """What becomes of a write in flight, by a checker that fails where it is torn. The images at cut 1 are those of torn_sector."""
+    head = f"""
+        sectors 4 entries {entries} cuts all bound 1 tears yes first no
+        program 0 slots 11 budget 9
+        """
+    out = report(head) + torn(failing) + f"images {total} failing {len(failing)} lines {len(failing)}\n"
+    return Row(name, "explore log p0 --sectors 4 --tears", {"log": trace_log.made(trace), "p0": named("ends_agree")}, out, int(bool(failing)))
+
+
+IN_FLIGHT = [
+    forced("O_DSYNC as FUA alone is never torn", FORCED, 1, [], 2),
+    forced("O_DSYNC as a write and its FUA copy is torn in flight", TWICE, 2, range(3, 17), 33),
 ]
 
 
@@ -160,4 +183,4 @@ REPORTS = [
     recorded("each cut, nothing lost", ENTRIES, 0, bound=0),
 ]
 
-ROWS = [*TRACES, *BASES, *CHECKED, *REPORTS]
+ROWS = [*TRACES, *IN_FLIGHT, *BASES, *CHECKED, *REPORTS]

@@ -1,0 +1,18 @@
+//! Laws of cases. The functions do nothing; each contract is a theorem.
+
+ghost use Rattle.cases.specs.Laws.{EachIsInOne, LeavesEndAlike, LastCutsHaveAll};
+
+/// Each choice is in exactly one case.
+pub fn each_is_in_one()
+    ensures { EachIsInOne }
+{}
+
+/// The program ends on the image of each choice of a leaf as on that of its representative.
+pub fn leaves_end_alike()
+    ensures { LeavesEndAlike }
+{}
+
+/// Each image of a cut is one of a last cut.
+pub fn last_cuts_have_all()
+    ensures { LastCutsHaveAll }
+{}

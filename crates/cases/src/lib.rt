@@ -1,0 +1,45 @@
+//! Cases: sets of crash images that a program can't tell apart, of which any number of parts may be lost.
+//!
+//! A run with a bound makes each image in which at most three parts are lost or torn. Without a bound there are too many images to
+//! make: of 60 parts that may be lost, 2^60. But a checker that looks at few sectors can't tell most of them apart. A *case* says of
+//! some parts what may become of them, and of the others nothing. All choices of losses and tears in it leave the same bytes where the
+//! program looks, so one run judges them all (docs/CRASH-MODEL.md, Any number of losses).
+//!
+//! # Place
+//!
+//! On `epochs`, `choices` and `images`, whose parts, fates and crash images it speaks of, and on `machine` for the footprint of a run.
+//! It has definitions and laws, and no code that runs; no other crate stands on it yet.
+//!
+//! # The definitions
+//!
+//! - `Risk`: `is_at_risk` says of which entries a crash may take something at a cut. These are the volatile ones, and a write with FUA
+//!   that is the last before the cut: it is in flight. `is_last_cut` says which cuts have the images of all.
+//! - `Choices`: a `Choice` says what becomes of each part, and `image_at` is its crash image. No bound stands in it.
+//! - `Rows`: `row` has the units of a sector, the last one first, and `candidates` what the sector may hold below one of them, and
+//!   `shows` which pieces of 64 bytes a part shows with a fate.
+//! - `Cases`: a `Case` says for each part what may become of it, `representative` is its first choice, and `first_split` is the first
+//!   part of some sectors whose fates in the case show something different there.
+//! - `Trees`: `AreLeaves` says which leaves some cases have: a case that no part splits is one, and in the place of any other stand
+//!   those of its groups.
+//!
+//! # What is proved
+//!
+//! - `each_is_in_one`: each choice is in exactly one of the leaves and of the cases that were left out. One with as few torn parts, and
+//!   as few lost ones, as is asked is in none that was left out.
+//! - `leaves_end_alike`: on the image of each choice in a leaf the program ends as on that of its representative, if its footprint
+//!   tells what it ends in. `footprint_tells` of `machine` says that of each program.
+//! - `last_cuts_have_all`: each image of a cut is one of a last cut, in the same epoch, after as many marks, with as many torn parts.
+//!
+//! So an image of any cut, with any number of losses, fails exactly where the representative of its leaf does.
+//!
+//! # Example
+//!
+//! A log of two writes, of sectors 0 and 1, without a flush. A program reads a byte of sector 1, and reads sector 0 only where it is
+//! set. At cut 2 the root is split by entry 1: with the first group, where it is whole, the program reads sector 0 too, and entry 0
+//! splits that case again. With the second, where entry 1 is lost, the program reads no other sector. So there are three leaves: both
+//! whole; entry 0 lost and entry 1 whole; and entry 1 lost, whatever became of entry 0.
+#![tactic(auto)]
+
+mod laws;
+
+pub use laws::{each_is_in_one, last_cuts_have_all, leaves_end_alike};
