@@ -135,6 +135,19 @@ class Something:
     """Stands for an output that is there and isn't compared."""
 
 
+class Printable:
+    """Stands for an output that has these texts, and nothing but lines of printable ASCII characters."""
+
+    def __init__(self, *texts):
+        self.texts = [it.encode() for it in texts]
+
+    def lacks(self, found):
+        """What the output hasn't, as a list of sentences."""
+        strange = sorted({it for it in found if it != 10 and not 32 <= it <= 126})
+        lacking = [f"{it} isn't there" for it in self.texts if it not in found]
+        return lacking + ([f"it has the bytes {strange}"] if strange else [])
+
+
 class Long:
     """Stands for a content or an output that is made only when its row is run."""
 
@@ -142,17 +155,22 @@ class Long:
         self.make = make
 
 
+# What stands for a character that separates words, or that no text shows.
+PICTURED = {**{0x2400 + it: it for it in range(32)}, ord("␡"): 0x7F, ord("␣"): 0x20}
+
+
 @dataclass(frozen=True)
 class Row:
     """One run of the program.
 
     name    what the row is about; no two rows have the same
-    words   the words behind the program's name, separated by spaces; `␣` stands for a space within a word
+    words   the words behind the program's name, separated by spaces; within a word the pictures of control characters stand
+            for these (`␛`, `␊`, `␡`), and `␣` for a space
     files   the files that lie in the folder of the run, by name: bytes, a text, an Assembly, a Folder, a Hole, a Long
     out     standard output, as bytes, text or Long, or Something
     status  the status
-    error   standard error without its notes: its one line without the newline; "" for nothing; Something; None where
-            nothing is asked of it
+    error   standard error without its notes: its one line without the newline; "" for nothing; Something; Printable;
+            None where nothing is asked of it
     to      where standard output goes: "pipe", "closed", "full" (a full disk), "unread" (a pipe that nobody reads),
             "limited" (a file that may have LIMITED bytes; `out` is then what the file holds), or "silent" (a pipe, but
             standard error is closed). Or a pipe with other surroundings: "narrow" (a second of processor time and 200 MB),
@@ -176,7 +194,7 @@ class Row:
     images: object = None
 
     def word_list(self):
-        return [it.replace("␣", " ") for it in self.words.split()]
+        return [it.translate(PICTURED) for it in self.words.split()]
 
 
 def files(entries, *programs):

@@ -89,7 +89,7 @@ from pathlib import Path
 sys.dont_write_bytecode = True
 
 import contrast
-from notation import SECONDS, TOP, Assembly, Folder, Hole, Long, Something
+from notation import SECONDS, TOP, Assembly, Folder, Hole, Long, Printable, Something
 from rows import (
     answers,
     arithmetic,
@@ -256,6 +256,8 @@ def output_differs(what, found, wanted):
     """What is wrong with an output: a list of one sentence, or of none."""
     if isinstance(wanted, Something):
         return [] if found else [f"nothing on {what}"]
+    if isinstance(wanted, Printable):
+        return [f"{what}: {it}" for it in wanted.lacks(found)]
     wanted = made(wanted)
     return [] if found == wanted else [f"{what} {first_difference(found, wanted)}"]
 

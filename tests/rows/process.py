@@ -1,6 +1,6 @@
 """The process itself: files that can't be read, and a standard output that can't be written."""
 from model import Checker, Run, explored, one, zero
-from notation import LIMITED, F, Folder, Long, Row, W, code, files, program, refused, report
+from notation import LIMITED, F, Folder, Long, Printable, Row, W, code, files, program, refused, report
 
 GOOD = program("mov64 r0, 0; exit")
 BAD = program("mov64 r0, 1; exit")
@@ -140,4 +140,33 @@ SILENT = [
     Row("no standard error: a report", "", {}, STORED_RUN, to="silent"),
 ]
 
-ROWS = [*MISSING, *FOLDERS, *EMPTY, *NO_TEXTS, *WRITTEN, *UNWRITTEN, *PARTLY_WRITTEN, *REFUSED, *SILENT]
+
+
+def escaped(name, words, *texts):
+    """A fault of the command line, whose text shows a word as `log` shows the text of a mark."""
+    return Row(f"a word in a fault: {name}", words, files(LOG, GOOD), status=2, error=Printable(*texts))
+
+
+# Words that would write to a terminal, or end a line of the fault, each where `clap` puts a word into its text.
+ESCAPED = [
+    escaped("a colour", "fr␛[31mob", r"error: unrecognized subcommand 'fr\x{1b}[31mob'"),
+    escaped("a line of its own", "frob␊images␣1␣failing␣0␣lines␣0", r"'frob\x{a}images 1 failing 0 lines 0'"),
+    escaped("a carriage return", "frob␍error:", r"'frob\x{d}error:'"),
+    escaped("a backspace", "frob␈", r"'frob\x{8}'"),
+    escaped("DEL", "frob␡", r"'frob\x{7f}'"),
+    escaped("a control character of Latin 1", "frob\x9b31m", r"'frob\x{c2}\x{9b}31m'"),
+    escaped("a direction of writing", "frob\u202ebo", r"'frob\x{e2}\x{80}\x{ae}bo'"),
+    escaped("an escape as it is written", r"frob\x{1b}", r"'frob\x{5c}x{1b}'"),
+    escaped("an option", "explore log p0 --se␛ctors 4", r"error: unexpected argument '--se\x{1b}ctors' found"),
+    escaped("an option with a value", "explore log p0 --fi␊rst=4", r"'--fi\x{a}rst'"),
+    escaped("a short option", "explore log p0 -␛", "error: unexpected argument '-"),
+    escaped("a number", "explore log p0 --sectors 4␊", r"error: invalid value '4\x{a}' for '--sectors <N>'"),
+    escaped("a number behind a sign", "explore log p0 --sectors=4␛", r"error: invalid value '4\x{1b}' for '--sectors <N>'"),
+    escaped("a file too many", "images log p␊0 --sectors 4", r"'p\x{a}0'"),
+    escaped("a value of a flag", "explore log p0 --sectors 4 --first=␛", "error: "),
+    escaped("nothing to escape", "frob", "error: unrecognized subcommand 'frob'"),
+    Row("a word that isn't UTF-8", "fr\udcffob", {}, status=2, error="error: the command line is not UTF-8"),
+    Row("help, beside a word with a control character", "explore --help fr␛ob", {}, Printable("Usage: crashbpf explore")),
+]
+
+ROWS = [*MISSING, *FOLDERS, *EMPTY, *NO_TEXTS, *WRITTEN, *UNWRITTEN, *PARTLY_WRITTEN, *REFUSED, *SILENT, *ESCAPED]

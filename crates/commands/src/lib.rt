@@ -23,6 +23,7 @@
 //! - `action`: `act`, what a command answers on what its files hold, and with which status.
 //! - `exit`: `perform`, which does the same and says how the process ends: its standard output, its refusal and its status,
 //!   with what was found for the notes.
+//! - `escaping`: the words of the command line, as a fault of it shows them.
 //! - `stored`: the run that the program holds itself.
 //! - `laws`: that there is one answer at most to what is asked, and no refusal beside it but for memory; that workers, cache
 //!   and progress change nothing of it; that `show` names each sector that differs; that each failing image stands once in what
@@ -65,6 +66,7 @@
 #![tactic(auto)]
 
 mod action;
+mod escaping;
 mod exit;
 mod laws;
 mod progress;
@@ -75,6 +77,7 @@ pub use action::act;
 pub use command_line::Words;
 pub use command_notes::{notes_behind, notes_beside};
 pub use epochs::{By, CutKind, Cuts, Flushes};
+pub use escaping::escaped_words;
 pub use exit::{Exit, perform};
 pub use facts::{Facts, Recording};
 pub use laws::{

@@ -23,7 +23,8 @@
 use base::refusal::Refusal;
 use clap::error::ErrorKind as WordsFault;
 use commands::{
-    Facts, Output, Progress, Words, emit, fault_line, notes_behind, notes_beside, perform,
+    Facts, Output, Progress, Words, emit, escaped_words, fault_line, notes_behind, notes_beside,
+    perform,
 };
 use input_files::{DeviceSize, Inputs};
 use std::alloc::AllocError;
@@ -43,6 +44,9 @@ const UNWRITTEN: &str = "crashbpf: standard output can't be written\n";
 
 /// The line of words that are no text.
 const NO_TEXT: &str = "error: the command line is not UTF-8\n";
+
+/// The line of words that are taken as they are shown, and not as they are.
+const NOT_TAKEN: &str = "error: the command line has a word that is not taken\n";
 
 /// Prints a line on standard error, if it takes it, and answers the status.
 fn print_line<R: Eprint>(rt: &R, line: &str) -> u8 {
@@ -135,8 +139,20 @@ fn words_of<R: Env + AllocGlobal>(rt: &R) -> io::Result<Vec<String>> {
     Ok(words)
 }
 
-/// Prints what is wrong with the words, or the help that they ask for.
-fn print_fault<R: AllocGlobal + Print + Eprint>(rt: &R, fault: &clap::Error) -> u8 {
+/// Prints what is wrong with the words, or the help that they ask for. The text is that of the words as they are shown: `clap` puts
+/// words into it as they stand.
+fn print_fault<R: AllocGlobal + Print + Eprint>(rt: &R, words: &[String]) -> u8 {
+    let Ok(shown) = escaped_words(rt.alloc(), words) else {
+        return print_refusal(rt, &Refusal::of_memory());
+    };
+    match Words::of(rt.alloc(), shown.as_slice()) {
+        Ok(_words) => print_line(rt, NOT_TAKEN),
+        Err(fault) => print_text(rt, &fault),
+    }
+}
+
+/// Prints the text of a fault of the words, or of the help that they ask for.
+fn print_text<R: AllocGlobal + Print + Eprint>(rt: &R, fault: &clap::Error) -> u8 {
     if fault.kind() == WordsFault::OutOfMemory {
         return print_refusal(rt, &Refusal::of_memory());
     }
@@ -158,7 +174,8 @@ fn start<R: Env + Files + AllocGlobal + Print + Eprint + Clock + Threads + Wait 
     let command = words.first().map(|word| word.as_str()).unwrap_or("");
     match Words::of(rt.alloc(), words.as_slice()) {
         Ok(words) => read_and_run(rt, command, &words),
-        Err(fault) => print_fault(rt, &fault),
+        Err(fault) if fault.kind() == WordsFault::OutOfMemory => print_text(rt, &fault),
+        Err(_fault) => print_fault(rt, words.as_slice()),
     }
 }
 
