@@ -18,7 +18,9 @@ fn put_count(out: &mut String, count: usize) -> Result<(), AllocError>
 fn put_words(out: &mut String) -> Result<(), AllocError>
     ensures { OnOk result (string_bytes out.new ≡ string_bytes out.old ++ forced_words) }
 {
-    out.push_str("; no image loses or tears one, though a crash may while it is in flight (docs/CRASH-MODEL.md, What a clean report doesn't say)\n")
+    out.push_str(
+        "; no image loses or tears one, though a crash may while it is in flight (docs/CRASH-MODEL.md, What a clean report doesn't say)\n",
+    )
 }
 
 /// Appends a note with the number of entries with FUA.

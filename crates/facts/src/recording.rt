@@ -7,8 +7,8 @@ ghost use Rattle.facts.specs.Promises.{ArePromises};
 ghost use Rattle.request.specs.Source.{IsLogOf, RefusesLog};
 ghost use Rattle.facts.specs.Found.{KeepsPrograms};
 
-use crate::found::Facts;
 use crate::forced::count_forced;
+use crate::found::Facts;
 use crate::large::count_large;
 use crate::promises::promises_of;
 use base::refusal::Refusal;
