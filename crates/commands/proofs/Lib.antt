@@ -22,3 +22,4 @@ pub mod HeadLines
 pub mod RunOf
 pub mod PartsJoined
 pub mod Printed
+pub mod Lengths

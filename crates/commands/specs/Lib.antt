@@ -7,3 +7,4 @@ pub mod Laws
 pub mod OneAnswer
 pub mod Differences
 pub mod Parts
+pub mod Largest

@@ -28,7 +28,8 @@
 //!   and progress change nothing of it; that `show` names each sector that differs; that each failing image stands once in what
 //!   `why` says; that the parts of a run, joined, are what the run answers.
 //! - `writing`: `emit`, which writes all of an answer to an `Output`, a writer that is asked no more once a write has failed.
-//! - `progress`: the gate that says on standard error how far an exploration is.
+//! - `progress`: the gate that says on standard error how far an exploration is, and before it begins how large its report may get.
+//! - `largest`: how large a report may get.
 //!
 //! # What is proved
 //!
@@ -46,7 +47,8 @@
 //! on which a program fails, by the lines of the report, stands once in what `why` says (`each_image_stands_once`). The texts
 //! that a run answers for its parts, which have each image of a range once, come to what it answers for that range
 //! (`joined_parts_are_run`), and are refused for their length or want of memory alone (`parts_of_run_are_joined`). So `join`
-//! prints of such files what `explore` prints of the whole run, with the same status (`join_is_explore`). `emit` writes all
+//! prints of such files what `explore` prints of the whole run, with the same status (`join_is_explore`). The failing lines of a
+//! report have no more bytes than are said before the run (`reports_are_bounded`). `emit` writes all
 //! bytes, or says how many were written before the writer failed. What a run reports, and what the other commands show, stands
 //! on the pages of `runs` and `looks`.
 //!
@@ -65,6 +67,7 @@
 
 mod action;
 mod exit;
+mod largest;
 mod laws;
 mod progress;
 mod stored;
@@ -76,10 +79,11 @@ pub use command_notes::{notes_behind, notes_beside};
 pub use epochs::{By, CutKind, Cuts, Flushes};
 pub use exit::{Exit, perform};
 pub use facts::{Facts, Recording};
+pub use largest::lines_of_image;
 pub use laws::{
     answer_or_refusal, each_image_stands_once, join_is_explore, joined_parts_are_run, one_answer,
-    one_report, parts_of_run_are_joined, report_or_refusal, show_names_differences,
-    work_changes_nothing,
+    one_report, parts_of_run_are_joined, report_or_refusal, reports_are_bounded,
+    show_names_differences, work_changes_nothing,
 };
 pub use looks::{choices_are_short, image, report_prints_choices, show, survey};
 pub use progress::Progress;
