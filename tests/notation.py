@@ -178,6 +178,7 @@ class Row:
             file `pipe` is a pipe of what `whole` holds)
     seconds how long the run may take
     notes   the notes on standard error, each without `note: ` and the newline; None where nothing is asked of them
+    before  the notes with which standard error begins, before the run and what `--progress` says; `notes` and `error` are the rest
     images  how many images the line of `--progress` ends with, judged and in all, or a list of them where there are
             several runs; standard error begins with these lines, and `error` is the rest. None where there is no such line
     """
@@ -191,6 +192,7 @@ class Row:
     to: str = "pipe"
     seconds: int = SECONDS
     notes: object = None
+    before: tuple = ()
     images: object = None
 
     def word_list(self):

@@ -287,19 +287,27 @@ def split_notes(error):
     return parts[False], parts[True]
 
 
+def noted(notes):
+    """The lines of notes."""
+    return "".join(f"note: {it}\n" for it in notes)
+
+
 def differences(row, done, out):
     """What a run did otherwise than its row says."""
     found = [] if done.returncode == row.status else [f"status {done.returncode}, wanted {row.status}"]
     found += output_differs("standard output", out, row.out)
     if row.error is not None:
         line = f"{row.error}\n" if row.error and isinstance(row.error, str) else row.error
-        last, error = split_progress(done.stderr) if row.images is not None else (b"", done.stderr)
+        before = noted(row.before).encode()
+        found += output_differs("before the run", done.stderr[: len(before)], before)
+        error = done.stderr[len(before) :]
+        last, error = split_progress(error) if row.images is not None else (b"", error)
         found += output_differs("the progress", last, progress_of(row.images or 0))
         rest, notes = split_notes(error)
         found += output_differs("standard error", rest, line)
         found += [] if rest + notes == error else ["a note stands before the line of the refusal"]
         if row.notes is not None:
-            found += output_differs("the notes", notes, "".join(f"note: {it}\n" for it in row.notes))
+            found += output_differs("the notes", notes, noted(row.notes))
     return found
 
 

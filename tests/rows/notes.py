@@ -1,5 +1,7 @@
 """The notes: what stands on standard error behind each refusal, and beside an answer (docs/REPORT.md, Notes)."""
-from notation import FUA, MARK, D, Entry, F, Folder, M, Row, W, code, files, lines, log, program, report, super_block
+from math import comb
+
+from notation import FUA, MARK, D, Entry, F, Folder, M, Row, Something, W, code, files, lines, log, program, report, super_block
 
 GOOD = program("mov64 r0, 0; exit")
 GOOD_BYTES = code("b700000000000000 9500000000000000")
@@ -644,4 +646,38 @@ ANSWERS = [
     answered("nothing beside the stored run", "", {}, STORED_RUN),
 ]
 
-ROWS = [*LOGS, *IMAGES, *OPTIONS, *BYTES, *TEXTS, *VERIFIER, *ANSWERS]
+# Before a run: how large its report may get, at 528 bytes for each image and each program
+
+WIDE = [W(0, 24, 0xAA)]
+WIDE_OPTIONS = "--sectors 24 --cuts flush --bound 3 --tears"
+WIDE_IMAGES = sum(comb(24, lost) * 15**lost for lost in range(4))
+WIDE_NOTES = [f"entries with more than 3 sectors: 1; {NOT_AMONG}", BY_WRITE]
+GIB = 2**30
+
+
+def lengthy(name, command, images, programs=1, more=""):
+    """A row of a run of so many images, none of which fails, with what is said of its report before the line of progress."""
+    names = " ".join(f"p{number}" for number in range(programs))
+    most = images * programs * 528 if command == "explore" and "--first" not in more else 0
+    said = [f"the report may have up to {-(-most // GIB)} GiB; 'crashbpf why' says why images fail in few lines, and --first reports the first alone"] if most > GIB else []
+    blind = [f"program {number}: {LOOKS_AT_NOTHING}" for number in range(programs)]
+    words = f"{command} log {names} {WIDE_OPTIONS}{more} --progress"
+    content = files(WIDE, *[GOOD] * programs)
+    return Row(f"notes: before a run: {name}", words, content, Something(), notes=[*blind, *WIDE_NOTES], before=tuple(said), images=images)
+
+
+def lengthy_part(images, programs=1):
+    return lengthy(f"a part of {images} images, {programs} programs", "explore", images, programs, f" --images 7..{7 + images}")
+
+
+BEFORE = [
+    lengthy("a large report", "explore", WIDE_IMAGES),
+    lengthy("a large report of three programs", "explore", WIDE_IMAGES, 3),
+    lengthy("the first failing image alone", "explore", WIDE_IMAGES, more=" --first"),
+    lengthy("why", "why", WIDE_IMAGES),
+    lengthy("page", "page", WIDE_IMAGES),
+    *(lengthy_part(images, programs) for programs in (1, 2, 8) for images in (GIB // 528 // programs, GIB // 528 // programs + 1)),
+    lengthy("a few images", "explore", 100, more=" --images 0..100"),
+]
+
+ROWS = [*LOGS, *IMAGES, *OPTIONS, *BYTES, *TEXTS, *VERIFIER, *ANSWERS, *BEFORE]

@@ -23,3 +23,4 @@ pub mod RunOf
 pub mod PartsJoined
 pub mod Printed
 pub mod OtherWork
+pub mod Lengths

@@ -122,7 +122,7 @@ image_in_order s image =
 
 -- what is known of the checkers
 
-made_long : (s : Settings) (files : List (List ℕ)) (checkers : List CheckerValue) → AreCheckersOf s files checkers → length checkers ≡ length files
+pub made_long : (s : Settings) (files : List (List ℕ)) (checkers : List CheckerValue) → AreCheckersOf s files checkers → length checkers ≡ length files
 made_long s [] [] made = refl
 made_long s [] (c ∷ checkers) made = absurd made
 made_long s (bytes ∷ files) [] made = absurd made

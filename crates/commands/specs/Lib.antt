@@ -8,3 +8,4 @@ pub mod OneAnswer
 pub mod Differences
 pub mod Parts
 pub mod OtherWork
+pub mod Largest

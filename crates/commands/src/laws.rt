@@ -3,6 +3,7 @@
 
 ghost use Rattle.bpf_asm.specs.Laws as asm;
 ghost use Rattle.commands.specs.Differences.{ShowNamesDifferences};
+ghost use Rattle.commands.specs.Largest.{ReportsAreBounded};
 ghost use Rattle.commands.specs.Laws.{OneReport, ReportOrRefusal};
 ghost use Rattle.commands.specs.OneAnswer.{OneAnswer, AnswerOrRefusal, WorkChangesNothing};
 ghost use Rattle.commands.specs.Once.{EachImageStandsOnce};
@@ -128,3 +129,9 @@ pub fn join_is_explore_by_own()
 {
     join_is_explore();
 }
+
+/// The failing lines of a report have no more bytes than are said beforehand: as many as the longest line, for each image that is judged
+/// and each program.
+pub fn reports_are_bounded()
+    ensures { ReportsAreBounded }
+{}

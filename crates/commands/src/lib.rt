@@ -29,7 +29,8 @@
 //!   and progress change nothing of it; that `show` names each sector that differs; that each failing image stands once in what
 //!   `why` says; that the parts of a run, joined, are what the run answers.
 //! - `writing`: `emit`, which writes all of an answer to an `Output`, a writer that is asked no more once a write has failed.
-//! - `progress`: the gate that says on standard error how far an exploration is.
+//! - `progress`: the gate that says on standard error how far an exploration is, and before it begins how large its report may get.
+//! - `largest`: how large a report may get.
 //!
 //! # What is proved
 //!
@@ -48,7 +49,8 @@
 //! that a run answers for its parts, which have each image of a range once, come to what it answers for that range
 //! (`joined_parts_are_run`), and are refused for their length or want of memory alone (`parts_of_run_are_joined`). So `join`
 //! prints of such files what `explore` prints of the whole run, with the same status (`join_is_explore`), whatever workers and
-//! caches the parts were made by (`join_is_explore_by_own`). `emit` writes all
+//! caches the parts were made by (`join_is_explore_by_own`). The failing lines of a report have no more bytes than are said before
+//! the run (`reports_are_bounded`). `emit` writes all
 //! bytes, or says how many were written before the writer failed. What a run reports, and what the other commands show, stands
 //! on the pages of `runs` and `looks`.
 //!
@@ -68,6 +70,7 @@
 mod action;
 mod escaping;
 mod exit;
+mod largest;
 mod laws;
 mod progress;
 mod stored;
@@ -80,10 +83,11 @@ pub use epochs::{By, CutKind, Cuts, Flushes};
 pub use escaping::escaped_words;
 pub use exit::{Exit, perform};
 pub use facts::{Facts, Recording};
+pub use largest::lines_of_image;
 pub use laws::{
     answer_or_refusal, each_image_stands_once, join_is_explore, join_is_explore_by_own,
     joined_parts_are_run, one_answer, one_report, parts_of_run_are_joined, report_or_refusal,
-    show_names_differences, work_changes_nothing,
+    reports_are_bounded, show_names_differences, work_changes_nothing,
 };
 pub use looks::{choices_are_short, image, report_prints_choices, show, survey};
 pub use progress::Progress;

@@ -1,15 +1,19 @@
-//! How far an exploration is, said on standard error.
+//! How far an exploration is, and before it begins how large its report may get, said on standard error.
 
+use crate::largest::{LARGE, most_bytes};
 use std::sync::atomic::{AtomicU64, Ordering};
 use std::time::{Clock, Instant};
 use workers::{BLOCK, Gate};
 
 /// A gate that says on standard error how many images are judged, of how many. Of each exploration it is one
 /// line, which is written again once a second at most, with a carriage return behind it. It is ended where the
-/// next exploration begins, and by `end`. Where that isn't asked for, or the clock can't be read, nothing is said.
+/// next exploration begins, and by `end`. Where that isn't asked for, or the clock can't be read, nothing is said. Before the first
+/// image is judged it says how large the report may get, where that is much.
 #[derive(Drop)]
 pub struct Progress<'r, R> {
     rt: &'r R,
+    /// How many lines the report may have for each image; 0 where no report is printed.
+    lines: u64,
     /// When it was made, where progress is asked for.
     start: Option<Instant>,
     /// How many images there are; 0 until the exploration begins.
@@ -21,10 +25,11 @@ pub struct Progress<'r, R> {
 }
 
 impl<'r, R: Clock + Eprint> Progress<'r, R> {
-    /// The progress of an exploration that hasn't begun.
-    pub fn new(rt: &'r R, wanted: bool) -> Progress<'r, R> {
+    /// The progress of an exploration that hasn't begun, whose report may have so many lines for each image.
+    pub fn new(rt: &'r R, wanted: bool, lines: u64) -> Progress<'r, R> {
         Progress {
             rt,
+            lines,
             start: if wanted { Instant::now(rt).ok() } else { None },
             images: AtomicU64::new(0),
             judged: AtomicU64::new(0),
@@ -36,6 +41,21 @@ impl<'r, R: Clock + Eprint> Progress<'r, R> {
     pub fn end(&self) {
         if self.start.is_some() && self.images.load(Ordering::SeqCst) > 0 {
             self.say("\n");
+        }
+    }
+
+    /// Says how large the report of so many images may get, where that is more than a GiB.
+    fn warn(&self, images: u64) {
+        let most = most_bytes(images, self.lines);
+        if most > LARGE {
+            eprint!(self.rt;
+                "note: the report may have up to {} GiB",
+                most.div_ceil(LARGE)
+            )
+            .ok();
+            eprint!(self.rt;
+                "; 'crashbpf why' says why images fail in few lines, and --first reports the first alone\n"
+            ).ok();
         }
     }
 
@@ -66,6 +86,7 @@ fn images_in(block: u32, images: u64) -> u64 {
 impl<R: Clock + Eprint> Gate for Progress<'_, R> {
     fn begin(&self, images: u64) {
         self.end();
+        self.warn(images);
         self.judged.store(0, Ordering::SeqCst);
         self.images.store(images, Ordering::SeqCst);
     }

@@ -12,9 +12,9 @@
 //! `commands`, whose `perform` takes what the files hold and tells how the process ends. `input_files` reads
 //! them. Here that is carried out: the answer is written to standard output, or a refusal's line to standard
 //! error, and the status is the one that `perform` tells, or 2 where standard output takes no more. Notes stand
-//! on standard error in both cases, and change neither the status nor standard output; nor does the line that
-//! says how far an exploration is, which comes before them. Want of memory is a refusal wherever it is met, and
-//! its line is written also where there is no memory for a text.
+//! on standard error in both cases, and change neither the status nor standard output; nor do the line that
+//! says how far an exploration is, and the note of how large its report may get, which come before them. Want
+//! of memory is a refusal wherever it is met, and its line is written also where there is no memory for a text.
 //!
 //! No contract can say what a file holds or what standard output takes: this crate is kept as short as
 //! it can be, and its behaviour is shown by runs of the built program.
@@ -23,8 +23,8 @@
 use base::refusal::Refusal;
 use clap::error::ErrorKind as WordsFault;
 use commands::{
-    Facts, Output, Progress, Words, emit, escaped_words, fault_line, notes_behind, notes_beside,
-    perform,
+    Facts, Output, Progress, Words, emit, escaped_words, fault_line, lines_of_image, notes_behind,
+    notes_beside, perform,
 };
 use input_files::{DeviceSize, Inputs};
 use std::alloc::AllocError;
@@ -83,7 +83,7 @@ fn run<R: AllocGlobal + Print + Eprint + Clock + Threads + Wait + Sync>(
     inputs: &Inputs,
 ) -> u8 {
     let files = inputs.contents();
-    let progress = Progress::new(rt, words.progress());
+    let progress = Progress::new(rt, words.progress(), lines_of_image(words));
     let exit = perform(rt, rt.alloc(), &progress, words, files, inputs.base());
     progress.end();
     match exit.refusal {

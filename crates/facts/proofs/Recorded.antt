@@ -1,5 +1,5 @@
 -- What is found of the log of a recording.
-use Rattle.std.proofs.Common.{ℕ, ◌≡◌, Option, None, Some, IfSome, Result, Ok, Err, IfOk}
+use Rattle.std.proofs.Common.{◌≡◌, Option, None, Some, IfSome, Result, Ok, Err, IfOk}
 use Rattle.logfmt.specs.Bounds.{LogValue}
 use Rattle.request.specs.declared.settings.Settings.{Settings}
 use Rattle.request.specs.Source.{Recording, IsLogOf}
