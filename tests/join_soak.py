@@ -5,7 +5,7 @@
 
 PROGRAM is as in run.py; N is 300 where it isn't given, S is 1. A run has a log, one to three checkers and options picked at random,
 as those of footprint_soak.py. It is cut at random places. Each part is judged by some number of workers, with or without a cache.
-The parts are joined in a random order, some of them first and these joins with the others. That has to print the bytes of the run as a
+The parts are joined in a random order, some of them first by `join --part` and these joins with the others. That has to print the bytes of the run as a
 whole and end with its status.
 
 Then texts are damaged, several times for each run: a byte is changed, a line is dropped, doubled or moved, the end is cut off, a number
@@ -130,11 +130,12 @@ class JoinSoak(Soak):
         done = subprocess.run([self.program, *words], cwd=self.folder, capture_output=True, timeout=LIMIT)
         return done.returncode, done.stdout, split_notes(done.stderr)[0].decode()
 
-    def join(self, texts):
+    def join(self, texts, some=False):
+        """What `join` says of texts, with `some` what `join --part` does."""
         for number, text in enumerate(texts):
             Path(self.folder, f"t{number}").write_bytes(text)
         self.joins += 1
-        return self.called(["join", *(f"t{number}" for number in range(len(texts)))])
+        return self.called(["join", *["--part"] * some, *(f"t{number}" for number in range(len(texts)))])
 
     def make(self, chance):
         """Writes a log and programs, and returns the words of the run behind `explore`, and those of `images`."""
@@ -177,7 +178,7 @@ class JoinSoak(Soak):
             end = chance.randrange(start + 1, len(texts)) + 1
             some = texts[start:end]
             chance.shuffle(some)
-            status, out, error = self.join(some)
+            status, out, error = self.join(some, True)
             if status > 1:
                 return texts, [f"a join of {end - start} parts is refused: {error}"]
             if end - start < len(texts):
@@ -186,8 +187,9 @@ class JoinSoak(Soak):
 
     def judge(self, chance, texts, whole):
         """What is wrong with the join of texts, by the model."""
-        status, out, error = self.join(texts)
-        wanted, said = joined(texts)
+        some = chance.random() < 0.4
+        status, out, error = self.join(texts, some)
+        wanted, said = joined(texts, some)
         right = (status, out, error) == (2, b"", "refused {} at {}\n".format(*said)) if wanted == 2 else (status, out, error) == (wanted, said, "")
         if right and status < 2 and out != whole:
             self.taken += 1
@@ -207,7 +209,7 @@ class JoinSoak(Soak):
             return wrong
         steps, wrong = self.in_steps(chance, texts)
         chance.shuffle(steps)
-        found = self.join(steps)
+        found = self.join(steps, chance.random() < 0.3)
         wrong += [] if found[:2] == whole[:2] else [f"joined of {len(texts)} parts: status {found[0]}, {found[2] or 'other bytes'}"]
         for _ in range(DAMAGES):
             wrong += self.judge(chance, damaged(chance, texts, whole[1]), whole[1])

@@ -125,10 +125,11 @@ class Folder:
 
 @dataclass(frozen=True)
 class Hole:
-    """Stands for a file of so many zeros that take no room on a disk, and `end` behind them."""
+    """Stands for a file of so many zeros that take no room on a disk, `end` after them, and `begun` before them."""
 
     zeros: int
     end: bytes = b""
+    begun: bytes = b""
 
 
 class Something:

@@ -292,11 +292,17 @@ MOST_JOINED = 4096
 MOST_BYTES = 1 << 30
 
 
-def joined(texts):
-    """What `join` makes of texts: its status and the bytes, or 2 and the number and the place of the refusal."""
+def size_of(text):
+    """How many bytes count of a text: of one that doesn't begin as a part no more than its first ones."""
+    return len(text) if text.startswith(PART_LINE.encode()) else min(len(text), len(PART_LINE))
+
+
+def joined(texts, some=False):
+    """What `join` makes of texts, with `some` what `join --part` does: its status and the bytes, or 2 and the number and the place of the
+    refusal."""
     if len(texts) > MOST_JOINED:
         return 2, (65, MOST_JOINED)
-    sizes = list(accumulate(map(len, texts)))
+    sizes = list(accumulate(map(size_of, texts)))
     if sizes[-1] > MOST_BYTES:
         return 2, (65, next(number for number, size in enumerate(sizes) if size > MOST_BYTES))
     parts = [read_part(it) for it in texts]
@@ -309,6 +315,10 @@ def joined(texts):
     for (_file, one), (file, other) in zip(row, row[1:]):
         if one.end != other.start:
             return 2, (63 if one.end < other.start else 64, file)
+    if not some and row[0][1].start > 0:
+        return 2, (63, row[0][0])
+    if not some and row[-1][1].end < row[-1][1].images:
+        return 2, (63, len(texts))
     return joined_row([it for _file, it in row])
 
 

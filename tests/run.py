@@ -212,7 +212,8 @@ def put(folder, name, content, assembler):
         path.mkdir()
     elif isinstance(content, Hole):
         with open(path, "wb") as file:
-            file.seek(content.zeros)
+            file.write(content.begun)
+            file.seek(content.zeros, os.SEEK_CUR)
             file.write(content.end)
             file.truncate()
     elif isinstance(content, Assembly):

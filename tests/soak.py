@@ -142,7 +142,7 @@ FLAGS = {
     "verify": {"large": 0.1, "guards": 0.5, "list": 0.3},
     "check": {"large": 0.1},
     "import": {"large": 0.5},
-    "join": {},
+    "join": {"part": 0.5},
     "asm": {},
     "list": {"slots": 0.5},
 }

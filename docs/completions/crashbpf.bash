@@ -52,7 +52,7 @@ _crashbpf() {
     *\ check\ *) [[ $word != -* ]] || words='--large --epoch --marks --checked --trace -h --help' ;;
     *\ asm\ *) [[ $word != -* ]] || words='-h --help' ;;
     *\ list\ *) [[ $word != -* ]] || words='--slots -h --help' ;;
-    *\ join\ *) [[ $word != -* ]] || words='-h --help' ;;
+    *\ join\ *) [[ $word != -* ]] || words='--part -h --help' ;;
     esac
     if [ -n "$words" ]; then
         mapfile -t COMPREPLY < <(compgen -W "$words" -- "$word")

@@ -159,4 +159,5 @@ complete -c crashbpf -n '__fish_seen_subcommand_from asm' -F
 complete -c crashbpf -n '__fish_seen_subcommand_from list' -l slots -d 'Begin each line with the slot of its instruction'
 complete -c crashbpf -n '__fish_seen_subcommand_from list' -s h -l help -d 'Print help'
 complete -c crashbpf -n '__fish_seen_subcommand_from list' -F
+complete -c crashbpf -n '__fish_seen_subcommand_from join' -l part -d 'Take some parts in a row too, and print the text of the part that they are'
 complete -c crashbpf -n '__fish_seen_subcommand_from join' -s h -l help -d 'Print help'

@@ -11,6 +11,7 @@ from parts_model import (
     MOST_JOINED,
     MOST_JUDGED,
     MOST_PARTS,
+    PART_LINE,
     WideRun,
     count,
     first_beyond,
@@ -46,10 +47,10 @@ def said(status, bytes_or_refusal):
     return dict(status=2, error="refused {} at {}".format(*bytes_or_refusal))
 
 
-def row_of(name, texts, more=None):
-    """A row of `join` of these texts, which says what the model makes of them."""
+def row_of(name, texts, some=False):
+    """A row of `join` of these texts, with `some` of `join --part`, which says what the model makes of them."""
     content = {f"t{number}": text for number, text in enumerate(texts)}
-    return Row(name, f"join {' '.join(content)}", content, **said(*joined(texts)), **(more or {}))
+    return Row(name, f"join {'--part ' if some else ''}{' '.join(content)}", content, **said(*joined(texts, some)))
 
 
 def encoded(texts):
@@ -93,12 +94,12 @@ def in_steps(name, run, first):
     """Parts in the midst of a run are a part, and this with the others is the report."""
     total = count(run)
     start, end = total // 4, total - total // 5
-    middle = row_of(f"joined in the midst: {name}", texts(run, first, [((start + end) // 2, end), (start, (start + end) // 2)]))
+    middle = row_of(f"joined in the midst: {name}", texts(run, first, [((start + end) // 2, end), (start, (start + end) // 2)]), True)
     assert middle.out == part(run, CHECKERS, start, end, 5, first).encode(), name
     rest = texts(run, first, [(0, start), (end, total)])
     last = row_of(f"joined in steps: {name}", [rest[1], middle.out, rest[0]])
     assert last.out == report(run, CHECKERS, first).encode(), name
-    return [middle, last]
+    return [middle, last, row_of(f"joined in steps, as a part too: {name}", [rest[1], middle.out, rest[0]], True)]
 
 
 # A run without images has one part, which may come any number of times.
@@ -116,7 +117,10 @@ JOINS = [
     *(row for name, run, first in ALL[::5] if count(run) >= 5 for row in in_steps(name, run, first)),
     row_of("joined: the part of no images", [NOTHING]),
     row_of("joined: the part of no images, three times", [NOTHING] * 3),
-    row_of("joined: one part alone, in the midst", texts(*ALL[0][1:], [(3, 5)])),
+    row_of("joined: the part of no images, as a part too", [NOTHING], True),
+    row_of("joined: one part alone, in the midst", texts(*ALL[0][1:], [(3, 5)]), True),
+    row_of("joined: all parts but the last, as a part", texts(*ALL[0][1:], layout(count(ALL[0][1]), 5)[:-1]), True),
+    row_of("joined: all parts but the first, as a part", texts(*ALL[0][1:], layout(count(ALL[0][1]), 5)[1:]), True),
     row_of("joined: as many parts as can be", shuffled("many", SINGLE)),
 ]
 
@@ -133,9 +137,9 @@ def middle_of(run):
     return texts(run, False, layout(count(run), 3))[1]
 
 
-def misused(name, some, number, place):
-    """A row of texts that aren't joined. The model says the same."""
-    row = row_of(f"not joined: {name}", encoded(some))
+def misused(name, parts, number, place, some=False):
+    """A row of texts that aren't joined, with `some` by `join --part`. The model says the same."""
+    row = row_of(f"not joined: {name}", encoded(parts), some)
     assert row.error == f"refused {number} at {place}", (name, row.error, row.status)
     return row
 
@@ -277,6 +281,9 @@ STRANGE = {
     "a program more": changed(MIDDLE, LINES[5] + "\n", LINES[5] + "\nprogram 3 slots 2 budget 2\n"),
 }
 
+GAP = "images are missing between the file and the part before it (docs/REPORT.md, Joining parts)"
+PAST_ALL = "the images after those of all parts are missing; with --part the answer is the text of a part"
+
 MISUSES = [
     misused("the middle is missing", [THIRDS[0], THIRDS[2]], 63, 1),
     misused("the middle is missing, in another order", [THIRDS[2], THIRDS[0]], 63, 0),
@@ -284,6 +291,19 @@ MISUSES = [
     misused("two gaps: the first by images", texts(RUN, False, [(12, 14), (8, 10), (0, 5)]), 63, 1),
     misused("a gap before an overlap", texts(RUN, False, [(7, 9), (0, 5), (6, 8)]), 63, 2),
     misused("an overlap before a gap", texts(RUN, False, [(9, 12), (0, 5), (4, 8)]), 64, 2),
+    misused("the first is missing", THIRDS[1:], 63, 0),
+    misused("the first is missing, in another order", [THIRDS[2], MIDDLE], 63, 1),
+    misused("the last is missing", THIRDS[:-1], 63, 2),
+    misused("the last is missing, in another order", [MIDDLE, THIRDS[0]], 63, 2),
+    misused("the first and the last are missing", [MIDDLE], 63, 0),
+    misused("the middle and the last are missing", [THIRDS[0]], 63, 1),
+    misused("the first image is missing", texts(RUN, False, [(1, count(RUN))]), 63, 0),
+    misused("the last image is missing", texts(RUN, False, [(0, count(RUN) - 1)]), 63, 1),
+    misused("a gap before the last is missing", texts(RUN, False, [(6, 9), (0, 5)]), 63, 0),
+    misused("the first of first is missing", FIRSTS[1:], 63, 0),
+    misused("of first, those after its failing image are missing", FIRSTS[:-1], 63, 2),
+    misused("the middle is missing, as a part", [THIRDS[0], THIRDS[2]], 63, 1, True),
+    misused("one twice, as a part", [THIRDS[0], MIDDLE, MIDDLE], 64, 2, True),
     misused("one twice", [THIRDS[0], MIDDLE, MIDDLE, THIRDS[2]], 64, 2),
     misused("the first twice", [THIRDS[0], THIRDS[0]], 64, 1),
     misused("all twice", [*THIRDS, *THIRDS], 64, 3),
@@ -301,6 +321,8 @@ MISUSES = [
     misused("other words before a gap", [THIRDS[0], STRANGE["other inputs"], THIRDS[2][:-1]], 61, 2),
     misused("another run before a gap", [THIRDS[0], THIRDS[2], changed(THIRDS[2], "inputs 5", "inputs 6")], 62, 2),
     misused("a file more than can be", [THIRDS[0]] * (MOST_JOINED + 1), 65, MOST_JOINED),
+    replace(misused("the first is missing, with notes", THIRDS[1:], 63, 0), notes=[GAP, "t0 is the file that is meant"]),
+    replace(misused("the last is missing, with notes", THIRDS[:-1], 63, 2), notes=[GAP, PAST_ALL]),
 ]
 
 
@@ -308,6 +330,9 @@ def unread(name, present, files_named, error, **more):
     """A row of `join` of these files, of which some aren't there or are no texts."""
     return Row(f"not joined: {name}", f"join {files_named}", present, status=2, error=error, **more)
 
+
+# A file that begins as a part, of a byte more than can be.
+LONG = Hole((1 << 30) - len(PART_LINE), b"x", PART_LINE.encode())
 
 FILES = [
     unread("a file that isn't there", {"t0": THIRDS[0]}, "t0 t1", "refused 14 at 1"),
@@ -318,8 +343,12 @@ FILES = [
     unread("one file under two names", {"t": MIDDLE}, "t ./t", "refused 64 at 1"),
     unread("no files", {}, "", Something()),
     unread("an option that it doesn't take", {"t": WHOLE}, "t --first", Something()),
-    unread("a byte more than can be", {"t": Hole(1 << 30, b"x"), "u": MIDDLE}, "u t", "refused 65 at 1", seconds=60),
-    unread("no memory for a file", {"t": Hole(1 << 30)}, "t", "refused 66 at 0", to="narrow"),
+    unread("a byte more than can be", {"t": LONG, "u": MIDDLE}, "u t", "refused 65 at 1", seconds=60),
+    unread("no memory for a file", {"t": LONG}, "t", "refused 66 at 0", to="narrow"),
+    unread("no part, of more bytes than can be", {"t": Hole(1 << 34), "u": MIDDLE}, "u t", "refused 61 at 1", to="narrow"),
+    unread("no part, without end", {"u": MIDDLE}, "u /dev/zero", "refused 61 at 1", to="narrow"),
+    unread("a byte more than can be before a file that is no part", {"t": LONG, "u": b"x"}, "u t", "refused 65 at 1", seconds=60),
+    unread("a file that isn't there before a byte more than can be", {"t": LONG}, "u t", "refused 14 at 0"),
 ]
 
 

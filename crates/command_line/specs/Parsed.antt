@@ -139,7 +139,7 @@ Asks p (Some verb.Import) r = r ≡ asks.Import (limits_named p.large)
 Asks p (Some verb.Check) r = r ≡ asks.Check (trial_asked p)
 Asks p (Some verb.Asm) r = r ≡ asks.Asm
 Asks p (Some verb.List) r = r ≡ asks.List p.slots
-Asks p (Some verb.Join) r = r ≡ asks.Join
+Asks p (Some verb.Join) r = r ≡ asks.Join p.part
 Asks p None r = r ≡ asks.StoredRun
 
 -- the files that are named: a log, a source text or a program, then the image of a program, then the programs of a run, or the
@@ -203,4 +203,5 @@ pub record IsRead (found : Found) (p : Parsed) : Type 0 where
   pub images : word_bytes p.images ≡ first_value found (codes "images")
   pub wide : IsFlagOf found (codes "wide") p.wide
   pub parts_number : IsNumberOf found (codes "parts") p.parts
+  pub part : IsFlagOf found (codes "part") p.part
   pub texts : option_map (λ ws. map (λ w. w.now) ws.now) p.texts ≡ option_map raw_values (matched_of found (codes "texts"))

@@ -34,7 +34,7 @@ sectors_asked (asks.Import limits) = 0
 sectors_asked (asks.Check w) = 0
 sectors_asked asks.Asm = 0
 sectors_asked (asks.List numbered) = 0
-sectors_asked asks.Join = 0
+sectors_asked (asks.Join part) = 0
 
 -- how large the log and its device may be that a command asks for
 abbrev pub limits_asked : Request → Limits
@@ -52,7 +52,7 @@ limits_asked (asks.Import large) = large
 limits_asked (asks.Check w) = w.limits
 limits_asked asks.Asm = limits.Usual
 limits_asked (asks.List numbered) = limits.Usual
-limits_asked asks.Join = limits.Usual
+limits_asked (asks.Join part) = limits.Usual
 
 -- without a command the stored run is asked for
 abbrev pub stored_run : WordsValue

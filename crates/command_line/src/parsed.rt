@@ -82,6 +82,8 @@ pub struct Parsed<'a> {
     pub wide: bool,
     /// The number behind `--parts`.
     pub parts: Option<u64>,
+    /// Whether `--part` stands there.
+    pub part: bool,
     /// The texts of parts.
     pub texts: Option<&'a [&'a str]>,
 }
@@ -283,6 +285,7 @@ impl<'a> Parsed<'a> {
             images: matches.get_str("images"),
             wide: flag_of(matches, "wide"),
             parts: number_of(matches, "parts")?,
+            part: flag_of(matches, "part"),
             texts: matches.get_strs("texts"),
         })
     }
@@ -368,7 +371,7 @@ impl<'a> Parsed<'a> {
             Some(Verb::List) => Request::List {
                 numbered: self.slots,
             },
-            Some(Verb::Join) => Request::Join,
+            Some(Verb::Join) => Request::Join { part: self.part },
             None => Request::StoredRun,
         }
     }

@@ -170,8 +170,8 @@ Exit status: 0, or 2 for a refusal: 20 to 26 at the slot.";
 
 /// What stands behind the help of `join`.
 const AFTER_JOIN: &str =
-    "The parts have each image of the run once, or are in a row. Where images are missing at the ends, the answer is
-the text of a part again, which can be joined with others.
+    "The parts have each image of the run once. With --part they may be some in a row: the answer is then the text of
+a part again, which can be joined with others.
 
 Example: crashbpf explore disk.log check.bpf --sectors 64 --tears --images 0..600 > a.part
          crashbpf explore disk.log check.bpf --sectors 64 --tears --images 600..1216 > b.part
@@ -606,6 +606,11 @@ fn join_command<'a>(alloc: Global) -> Result<Command<'a>, AllocError> {
     Command::new(alloc, "join")
         .about("Joins what 'explore --images' printed of parts of a run to the report of the run")
         .after_help(AFTER_JOIN)
+        .arg(flag_option(
+            alloc,
+            "part",
+            "Take some parts in a row too, and print the text of the part that they are",
+        ))?
         .arg(texts)
 }
 
@@ -734,7 +739,8 @@ impl Words {
             Request::Verify { words, .. } => words.sectors,
             Request::Check(_) => 0,
             Request::StoredRun | Request::Import(_) => 0,
-            Request::Asm | Request::List { .. } | Request::Join => 0,
+            Request::Asm | Request::List { .. } => 0,
+            Request::Join { .. } => 0,
         }
     }
 
@@ -750,7 +756,7 @@ impl Words {
             Request::Verify { words, .. } => words.limits,
             Request::Check(words) => words.limits,
             Request::Import(limits) => limits,
-            Request::StoredRun | Request::Join => Limits::Usual,
+            Request::StoredRun | Request::Join { .. } => Limits::Usual,
             Request::Asm | Request::List { .. } => Limits::Usual,
         }
     }

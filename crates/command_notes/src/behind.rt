@@ -471,7 +471,11 @@ fn put_file_notes(
     }
 }
 
-/// Appends why texts of parts aren't joined, and the name of the file that is at fault.
+/// What is said of images that are missing after all parts.
+const LACKS_LAST: &str =
+    "the images after those of all parts are missing; with --part the answer is the text of a part";
+
+/// Appends why texts of parts aren't joined, and the name of the file that is at fault, or that it would be one more.
 fn put_join_notes(
     alloc: Global,
     out: &mut String,
@@ -482,6 +486,7 @@ fn put_join_notes(
     put_cause(alloc, out, &cause, "")?;
     match cause {
         JoinCause::Memory => Ok(()),
+        JoinCause::Gap if place >= words.files().len() => put_note(out, LACKS_LAST),
         _ => put_name(out, words, place, "is the file that is meant"),
     }
 }

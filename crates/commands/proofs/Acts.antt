@@ -160,13 +160,13 @@ no_base items files first others v base s r split is readable h =
     rw h.1 (for_base all h.0)
 
 -- why `join` is refused by its files
-pub no_part_file : {V : Type 0} (items : V → List ℕ) (files : List (Option V)) (base : Option (Option (List ℕ))) (r : Refusal) → length files ≡ 0 → r ≡ file_refusal 0
-    → RefusesParts (record { named = map (option_map items) files; base = base }) r
+pub no_part_file : {V : Type 0} {part : Bool} (items : V → List ℕ) (files : List (Option V)) (base : Option (Option (List ℕ))) (r : Refusal) → length files ≡ 0 → r ≡ file_refusal 0
+    → RefusesParts part (record { named = map (option_map items) files; base = base }) r
 no_part_file items [] base r none same = rw same (for_no_part refl)
 no_part_file items (file ∷ files) base r none same = absurd (let bad : suc (length files) ≡ 0 = none in omega (arith, bad))
 
-pub many_part_files : {V : Type 0} (items : V → List ℕ) (files : List (Option V)) (base : Option (Option (List ℕ))) (r : Refusal) → most_texts < length files
-    → r ≡ join_refusal (record { cause = joining.TooLong; file = most_texts }) → RefusesParts (record { named = map (option_map items) files; base = base }) r
+pub many_part_files : {V : Type 0} {part : Bool} (items : V → List ℕ) (files : List (Option V)) (base : Option (Option (List ℕ))) (r : Refusal) → most_texts < length files
+    → r ≡ join_refusal (record { cause = joining.TooLong; file = most_texts }) → RefusesParts part (record { named = map (option_map items) files; base = base }) r
 many_part_files items files base r many same = let long = same_length items files in rw same (for_many_parts (omega (arith, long, many)))
 
 same_position : {V : Type 0} (items : V → List ℕ) (files : List (Option V)) → position is_none (map (option_map items) files) ≡ position is_none files
@@ -176,13 +176,13 @@ unread_parts : {V : Type 0} (items : V → List ℕ) (files : List (Option V)) (
 unread_parts items [] found some there = absurd (omega (arith, some))
 unread_parts items (file ∷ files) found some there = same_position items (file ∷ files) ∙ there
 
-pub unread_part : {V : Type 0} (items : V → List ℕ) (files : List (Option V)) (place : ℕ) (base : Option (Option (List ℕ))) (r : Refusal) → 0 < length files → length files ≤ most_texts
-    → position is_none files ≡ Some place → r ≡ file_refusal place → RefusesParts (record { named = map (option_map items) files; base = base }) r
+pub unread_part : {V : Type 0} {part : Bool} (items : V → List ℕ) (files : List (Option V)) (place : ℕ) (base : Option (Option (List ℕ))) (r : Refusal) → 0 < length files → length files ≤ most_texts
+    → position is_none files ≡ Some place → r ≡ file_refusal place → RefusesParts part (record { named = map (option_map items) files; base = base }) r
 unread_part items files place base r some few there same =
     let long = same_length items files in rw same (for_unread_part place (omega (arith, long, few)) (unread_parts items files (Some place) some there))
 
-pub part_memory : {V : Type 0} (items : V → List ℕ) (files : List (Option V)) (base : Option (Option (List ℕ))) (r : Refusal) → 0 < length files → position is_none files ≡ None
-    → r ≡ join_refusal (record { cause = joining.Memory; file = 0 }) → RefusesParts (record { named = map (option_map items) files; base = base }) r
+pub part_memory : {V : Type 0} {part : Bool} (items : V → List ℕ) (files : List (Option V)) (base : Option (Option (List ℕ))) (r : Refusal) → 0 < length files → position is_none files ≡ None
+    → r ≡ join_refusal (record { cause = joining.Memory; file = 0 }) → RefusesParts part (record { named = map (option_map items) files; base = base }) r
 part_memory items files base r some readable same = rw same (for_part_memory (unread_parts items files None some readable))
 
 -- the texts that were read are those of all files
@@ -203,7 +203,7 @@ pub copies_long : {V : Type 0} (items : V → List ℕ) (files : List (Option V)
     → length copies ≡ length files
 copies_long items files copies readable all = sym (map_long items copies) ∙ texts_long items files (map items copies) readable all
 
-pub parts_refused : {V : Type 0} (items : V → List ℕ) (files : List (Option V)) (texts : List (List ℕ)) (base : Option (Option (List ℕ))) (r : Refusal) → length files ≤ most_texts
-    → position is_none files ≡ None → texts ≡ filter_map (option_map items) files → RefusesTexts texts r → RefusesParts (record { named = map (option_map items) files; base = base }) r
+pub parts_refused : {V : Type 0} {part : Bool} (items : V → List ℕ) (files : List (Option V)) (texts : List (List ℕ)) (base : Option (Option (List ℕ))) (r : Refusal) → length files ≤ most_texts
+    → position is_none files ≡ None → texts ≡ filter_map (option_map items) files → RefusesTexts part texts r → RefusesParts part (record { named = map (option_map items) files; base = base }) r
 parts_refused items files texts base r few readable all why =
     let long = texts_long items files texts readable all in for_parts texts r (texts_read items files texts readable all) (omega (arith, long, few)) why

@@ -222,11 +222,11 @@ trial_once laws w files bytes others status ended a b =
     let same = one_trial laws a.program a.image a.trial bytes others a.failing b.failing a.tried tried in
     (same.0, a.ends ∙ ap status_of same.1 ∙ sym b.ends)
 
-join_once : (files : Files) (bytes others : List ℕ) (status ended : ℕ) → AnswersJoin files bytes status → AnswersJoin files others ended → Same bytes others status ended
-join_once files bytes others status ended a b =
+join_once : (part : Bool) (files : Files) (bytes others : List ℕ) (status ended : ℕ) → AnswersJoin part files bytes status → AnswersJoin part files others ended → Same bytes others status ended
+join_once part files bytes others status ended a b =
     let texts : b.texts ≡ a.texts = same_files files.named b.texts a.texts b.read a.read in
-    let joined = subst (λ (ts : List (List ℕ)). IsJoined ts others b.joins.failing) texts b.joins.joined in
-    let same = one_join a.texts bytes others a.joins.failing b.joins.failing a.joins.joined joined in
+    let joined = subst (λ (ts : List (List ℕ)). IsJoined ts others b.joins.failing) texts b.joins.joined.joined in
+    let same = one_join a.texts bytes others a.joins.failing b.joins.failing a.joins.joined.joined joined in
     (same.0, a.joins.ends ∙ ap status_of same.1 ∙ sym b.joins.ends)
 
 pub one_answer : Laws → (r : Request) (files : Files) (bytes others : List ℕ) (status ended : ℕ)
@@ -247,4 +247,4 @@ one_answer laws (request.Import limits) files bytes others status ended a b =
 one_answer laws (request.Check w) files bytes others status ended a b = trial_once laws w files bytes others status ended a b
 one_answer laws request.Asm files bytes others status ended a b = file_once IsAssembled (one_assembled laws) files bytes others status ended a b
 one_answer laws (request.List numbered) files bytes others status ended a b = file_once (IsListed numbered) (one_listed laws numbered) files bytes others status ended a b
-one_answer laws request.Join files bytes others status ended a b = join_once files bytes others status ended a b
+one_answer laws (request.Join part) files bytes others status ended a b = join_once part files bytes others status ended a b

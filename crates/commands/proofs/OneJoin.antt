@@ -14,7 +14,7 @@ use Rattle.join.specs.declared.fault.JoinFault.{JoinFault}
 use Rattle.join.specs.Order.{in_order}
 use Rattle.join.specs.Text.{IsSpan}
 use Rattle.join.specs.Reading.{PartRead, IsPartText, NoPartText, none_read, last_text}
-use Rattle.join.specs.Joining.{ArePartTexts, IsOfRun, AreOfRun, AreInRow, IsJoined, joined_text, opening_text, span_between, size_of, IsFirstLong, IsFirstStrange, IsFirstApart, RefusesJoin, too_long, no_part, of_other_run, with_gap, with_overlap, no_memory, totalled, shown_bytes}
+use Rattle.join.specs.Joining.{ArePartTexts, IsOfRun, AreOfRun, AreInRow, IsJoined, joined_text, opening_text, span_between, size_of, IsFirstLong, IsFirstStrange, IsFirstApart, IsShortOfRun, IsJoin, RefusesJoin, too_long, no_part, of_other_run, with_gap, with_overlap, short_of_run, no_memory, totalled, shown_bytes}
 use Rattle.join.proofs.Counts.{next_is}
 use Rattle.join.proofs.Rows.{Any, all_told, AreRowLines, any_lines, row_lines, row_text}
 use Rattle.join.proofs.Runs.{one_part}
@@ -439,11 +439,49 @@ not_apart {texts} left right h a =
           both.1.0.0 ∙ sym both.0.1
     ]
 
-pub joined_or_refused : (texts : List (List ℕ)) (bytes : List ℕ) (failing : Bool) (fault : JoinFault) → size_of texts ≤ 2 ^ 30 → IsJoined texts bytes failing → RefusesJoin texts fault
+-- and all images of the run are in them
+not_short : {texts : List (List ℕ)} {bytes : List ℕ} {failing : Bool} (file : ℕ) (h : IsJoined texts bytes failing) → h.from ≡ 0 → h.to ≡ h.run.span.images → IsShortOfRun texts file → ⊥
+not_short {texts} file h start end s = elim (cases_lt 0 h.run.span.images) [
+  | inl images ↦
+      let some = each_of HasImages row (All-permutation HasImages h.reads row order (have_images texts h.reads h.run h.each own images)) in
+      let rise = rising_up row (row_rising s.first.span.from s.to row some s.in_row) in
+      let rows = rows_alike texts h.reads h.row row h.run h.from h.to h.each own images h.order order h.in_row rise in
+      let ends = ends_once h.from h.to s.first.span.from s.to h.row h.some h.in_row (subst (λ (rs : List PartRead). AreInRow s.first.span.from rs s.to) (sym rows) s.in_row) in
+      lacks_none (sym ends.0 ∙ start) (sym ends.1 ∙ end)
+  | inr none ↦
+      let all = All-permutation HasNone h.reads row order (have_none texts h.reads h.run h.each own none) in
+      let ends = none_ends s.first.span.from s.to row (omega arith) (each_of HasNone row all) s.in_row in
+      let last = ends.1 in
+      lacks_none ends.0 (omega (arith, last, none))
+]
+  where
+    row : List PartRead
+    row = s.first ∷ s.others
+
+    reads : s.reads ≡ h.reads
+    reads = same_reads 0 texts s.reads h.reads s.each h.each
+
+    order : IsPermutation h.reads row
+    order = subst (λ (rs : List PartRead). IsPermutation rs row) reads s.order
+
+    own : AreOfRun h.run h.reads
+    own = runs_in h.run h.reads h.row h.order h.one
+
+    of : IsOfRun h.run s.first
+    of = All-permutation (IsOfRun h.run) h.reads row order own 0 s.first (omega arith)
+
+    lacks_none : s.first.span.from ≡ 0 → s.to ≡ h.run.span.images → ⊥
+    lacks_none begins ends = elim s.lacking [
+      | inl (late, file_is) ↦ omega (arith, late, begins)
+      | inr (first, early, file_is) ↦ early (ends ∙ sym of.images)
+    ]
+
+pub joined_or_refused : (part : Bool) (texts : List (List ℕ)) (bytes : List ℕ) (failing : Bool) (fault : JoinFault) → size_of texts ≤ 2 ^ 30 → IsJoin part texts bytes failing → RefusesJoin part texts fault
     → fault.cause ≡ cause.Memory
-joined_or_refused texts bytes failing _ short h (too_long file long) = absurd (not_long texts file short long)
-joined_or_refused texts bytes failing _ short h (no_part file other) = absurd (not_other 0 texts h.reads file other.text h.each other.there other.other)
-joined_or_refused texts bytes failing _ short h (of_other_run file strange) = absurd (not_strange file h strange)
-joined_or_refused texts bytes failing _ short h (with_gap left right apart gap) = absurd (let same = not_apart left right h apart in omega (arith, same, gap))
-joined_or_refused texts bytes failing _ short h (with_overlap left right apart over) = absurd (let same = not_apart left right h apart in omega (arith, same, over))
-joined_or_refused texts bytes failing _ short h no_memory = refl
+joined_or_refused part texts bytes failing _ short h (too_long file long) = absurd (not_long texts file short long)
+joined_or_refused part texts bytes failing _ short h (no_part file other) = absurd (not_other 0 texts h.joined.reads file other.text h.joined.each other.there other.other)
+joined_or_refused part texts bytes failing _ short h (of_other_run file strange) = absurd (not_strange file h.joined strange)
+joined_or_refused part texts bytes failing _ short h (with_gap left right apart gap) = absurd (let same = not_apart left right h.joined apart in omega (arith, same, gap))
+joined_or_refused part texts bytes failing _ short h (with_overlap left right apart over) = absurd (let same = not_apart left right h.joined apart in omega (arith, same, over))
+joined_or_refused part texts bytes failing _ short h (short_of_run file all lacking) = absurd (let ends = h.whole all in not_short file h.joined ends.0 ends.1 lacking)
+joined_or_refused part texts bytes failing _ short h no_memory = refl

@@ -250,24 +250,24 @@ of_trial below w files bytes status _ h (for_trial t program image r asked read 
     let tried = tried_alike h.program program h.image image h.trial t (same_held _ _ _ h.read read) (same_held _ _ _ h.shown shown) (h.asked.asked ∙ sym asked.asked) h.tried in
     of_tried below program image t bytes h.failing r tried why
 
-of_texts : (texts : List (List ℕ)) (bytes : List ℕ) (status : ℕ) (r : Refusal) → JoinsTexts texts bytes status → RefusesTexts texts r → IsOfMemory r.code
-of_texts texts bytes status _ h (for_texts fault why first) = joined_or_refused texts bytes h.failing fault h.short h.joined why
+of_texts : (part : Bool) (texts : List (List ℕ)) (bytes : List ℕ) (status : ℕ) (r : Refusal) → JoinsTexts part texts bytes status → RefusesTexts part texts r → IsOfMemory r.code
+of_texts part texts bytes status _ h (for_texts fault why first) = joined_or_refused part texts bytes h.failing fault h.short h.joined why
 
 -- of some texts each can be read
 texts_unread : (texts : List (List ℕ)) (place : ℕ) → 0 < length texts → unread (map Some texts) ≡ Some place → ⊥
 texts_unread [] place some h = omega (arith, some)
 texts_unread (x ∷ xs) place some h = none_unread x xs place h
 
-of_join : (files : Files) (bytes : List ℕ) (status : ℕ) (r : Refusal) → AnswersJoin files bytes status → RefusesParts files r → IsOfMemory r.code
-of_join files bytes status _ h (for_no_part none) =
+of_join : (part : Bool) (files : Files) (bytes : List ℕ) (status : ℕ) (r : Refusal) → AnswersJoin part files bytes status → RefusesParts part files r → IsOfMemory r.code
+of_join part files bytes status _ h (for_no_part none) =
     absurd (let long = ap length h.read in let all = length_some h.texts in let lack = ap length none in let some = h.some in omega (arith, long, all, lack, some))
-of_join files bytes status _ h (for_many_parts many) =
+of_join part files bytes status _ h (for_many_parts many) =
     absurd (let long = ap length h.read in let all = length_some h.texts in let few = h.few in omega (arith, long, all, many, few))
-of_join files bytes status _ h (for_unread_part place few unreadable) =
+of_join part files bytes status _ h (for_unread_part place few unreadable) =
     absurd (texts_unread h.texts place h.some (subst (λ (fs : List (Option (List ℕ))). unread fs ≡ Some place) h.read unreadable))
-of_join files bytes status _ h (for_parts texts r read few why) =
-    of_texts h.texts bytes status r h.joins (subst (λ (ts : List (List ℕ)). RefusesTexts ts r) (same_files files.named texts h.texts read h.read) why)
-of_join files bytes status _ h (for_part_memory readable) = refl
+of_join part files bytes status _ h (for_parts texts r read few why) =
+    of_texts part h.texts bytes status r h.joins (subst (λ (ts : List (List ℕ)). RefusesTexts part ts r) (same_files files.named texts h.texts read h.read) why)
+of_join part files bytes status _ h (for_part_memory readable) = refl
 
 pub answer_or_refusal : Below → (r : Request) (files : Files) (bytes : List ℕ) (status : ℕ) (refusal : Refusal) → Answers r files bytes status → RefusesToAct r files refusal
     → IsOfMemory refusal.code
@@ -294,4 +294,4 @@ answer_or_refusal below (request.Check w) files bytes status refusal h why = of_
 answer_or_refusal below request.Asm files bytes status refusal h why = of_alone IsAssembled RefusesText of_assembled files bytes status refusal h why
 answer_or_refusal below (request.List numbered) files bytes status refusal h why =
     of_alone (IsListed numbered) RefusesBytes (of_listed below numbered) files bytes status refusal h why
-answer_or_refusal below request.Join files bytes status refusal h why = of_join files bytes status refusal h why
+answer_or_refusal below (request.Join part) files bytes status refusal h why = of_join part files bytes status refusal h why

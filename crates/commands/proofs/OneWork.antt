@@ -231,7 +231,7 @@ answers_alone (request.Import limits) files bytes status h = h
 answers_alone (request.Check w) files bytes status h = h
 answers_alone request.Asm files bytes status h = h
 answers_alone (request.List numbered) files bytes status h = h
-answers_alone request.Join files bytes status h = h
+answers_alone (request.Join part) files bytes status h = h
 
 pub work_changes_nothing : OneAnswer → WorkChangesNothing
 work_changes_nothing one v w files bytes others status ended same a b =

@@ -22,7 +22,7 @@ use Rattle.report.specs.Report.{shown_lines, report_bytes}
 use Rattle.join.specs.declared.fault.JoinFault.{JoinFault}
 use Rattle.join.specs.Text.{RunValue, IsSpan, span_of, lines_between, part_bytes}
 use Rattle.join.specs.Reading.{PartRead, IsPartText}
-use Rattle.join.specs.Joining.{ArePartTexts, AreLinesOf, IsJoined, RefusesJoin, too_long, no_part, of_other_run, with_gap, with_overlap, no_memory, IsFirstApart}
+use Rattle.join.specs.Joining.{ArePartTexts, AreLinesOf, IsJoined, RefusesJoin, too_long, no_part, of_other_run, with_gap, with_overlap, short_of_run, no_memory, IsFirstApart, IsShortOfRun}
 use Rattle.join.specs.Laws.{IsRun, Range, has, CoverOnce, texts_of, AreRanges, run_bytes, ArePartsOf}
 use Rattle.join.proofs.Rows.{texts_long}
 use Rattle.join.proofs.Runs.{part_value, is_part, part_is, one_part}
@@ -701,22 +701,31 @@ none_apart left right apart =
     let two = length-append apart.front (left ∷ right ∷ apart.back) in
     omega (arith, long, same, parted, two)
 
-none_refused : (fault : JoinFault) → RefusesJoin [] fault → (fault.cause ≡ cause.TooLong) ⊎ (fault.cause ≡ cause.Memory)
-none_refused _ (too_long file long) = inl refl
-none_refused _ (no_part file other) = absurd (let bad : None ≡ Some other.text = other.there in cc)
-none_refused _ (of_other_run file strange) =
+none_short : (file : ℕ) → IsShortOfRun [] file → ⊥
+none_short file short =
+    let long = texts_long 0 [] short.reads short.each in
+    let same = length_permutation short.reads (short.first ∷ short.others) short.order in
+    omega (arith, long, same)
+
+none_refused : (part : Bool) (fault : JoinFault) → RefusesJoin part [] fault → (fault.cause ≡ cause.TooLong) ⊎ (fault.cause ≡ cause.Memory)
+none_refused part _ (too_long file long) = inl refl
+none_refused part _ (no_part file other) = absurd (let bad : None ≡ Some other.text = other.there in cc)
+none_refused part _ (of_other_run file strange) =
     let long = texts_long 0 [] strange.reads strange.each in
     let there = slice_get_within strange.reads 0 strange.run strange.run_there in
     absurd (omega (arith, long, there))
-none_refused _ (with_gap left right apart gap) = absurd (none_apart left right apart)
-none_refused _ (with_overlap left right apart over) = absurd (none_apart left right apart)
-none_refused _ no_memory = inr refl
+none_refused part _ (with_gap left right apart gap) = absurd (none_apart left right apart)
+none_refused part _ (with_overlap left right apart over) = absurd (none_apart left right apart)
+none_refused part _ (short_of_run file all short) = absurd (none_short file short)
+none_refused part _ no_memory = inr refl
 
 pub parts_of_run_are_joined : AreOne → PartsOfRunAreJoined
-parts_of_run_are_joined one text files s texts x images fault h refused = by_texts texts h refused
+parts_of_run_are_joined one part text files s texts x images fault h whole refused = by_texts texts h refused
   where
-    by_texts : (ts : List (List ℕ)) → AreTextsOf text files s ts x images → RefusesJoin ts fault → (fault.cause ≡ cause.TooLong) ⊎ (fault.cause ≡ cause.Memory)
-    by_texts [] are refused = none_refused fault refused
+    by_texts : (ts : List (List ℕ)) → AreTextsOf text files s ts x images → RefusesJoin part ts fault → (fault.cause ≡ cause.TooLong) ⊎ (fault.cause ≡ cause.Memory)
+    by_texts [] are refused = none_refused part fault refused
     by_texts (t ∷ ts) are refused =
         let j = joins one text files s (t ∷ ts) x images are (omega arith) in
-        parts_are_joined (run_of s j.value j.checkers (inputs_number text.text files)) j.ranges x.from x.to fault j.parts (subst (λ (us : List (List ℕ)). RefusesJoin us fault) j.are refused)
+        let inputs : ℕ = inputs_number text.text files in
+        let all : part ≡ false → (x.from ≡ 0) × (x.to ≡ (run_of s j.value j.checkers inputs).head.images) = λ some. ((whole some).0, (whole some).1 ∙ j.count ∙ sym (run_images s j.value j.checkers inputs)) in
+        parts_are_joined part (run_of s j.value j.checkers inputs) j.ranges x.from x.to fault j.parts all (subst (λ (us : List (List ℕ)). RefusesJoin part us fault) j.are refused)

@@ -190,11 +190,11 @@ files_answer w files s log programs bytes failing status asked held ends report 
     }
 
 pub join_is_explore : AreOne → JoinIsExplore
-join_is_explore one w files parts images bytes status h few joined =
+join_is_explore one part w files parts images bytes status h few joined =
     let count = h.count in
     let s : Settings = count.settings in
     let texts : joined.texts ≡ h.texts = same_files parts.named joined.texts h.texts joined.read h.held in
-    let own : IsJoined h.texts bytes joined.joins.failing = subst (λ (ts : List (List ℕ)). IsJoined ts bytes joined.joins.failing) texts joined.joins.joined in
+    let own : IsJoined h.texts bytes joined.joins.failing = subst (λ (ts : List (List ℕ)). IsJoined ts bytes joined.joins.failing) texts joined.joins.joined.joined in
     let some : 0 < length h.texts = subst (λ (ts : List (List ℕ)). 0 < length ts) texts joined.some in
     let run = run_there w files count.log h.ranges h.texts count.held some h.prints in
     let all : images ≤ images = omega arith in

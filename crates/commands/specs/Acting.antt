@@ -27,7 +27,7 @@ use Rattle.runs.specs.Explore.{RefusesWanted}
 use Rattle.runs.specs.Judged.{takes}
 use Rattle.runs.specs.Cured.{IsAnswered}
 use Rattle.join.specs.declared.fault.JoinFault.{JoinFault}
-use Rattle.join.specs.Joining.{IsJoined, RefusesJoin, size_of}
+use Rattle.join.specs.Joining.{IsJoin, RefusesJoin, size_of}
 use Rattle.limits.specs.Sizes.{sector_limit}
 use Rattle.raw_log.specs.Imported.{IsImported}
 use Rattle.looks.specs.Import.{RefusesImport}
@@ -155,20 +155,21 @@ pub record AnswersTrial (w : TrialWords) (files : Files) (bytes : List ℕ) (sta
 abbrev pub most_texts : ℕ
 most_texts = 4096
 
--- what texts of parts come to, which aren't too long, and the status: 1 exactly where they have a failing line
-pub record JoinsTexts (texts : List (List ℕ)) (bytes : List ℕ) (status : ℕ) : Type 0 where
+-- what texts of parts come to, which aren't too long, and the status: 1 exactly where they have a failing line; `part` says whether they
+-- may be some of the parts of their run
+pub record JoinsTexts (part : Bool) (texts : List (List ℕ)) (bytes : List ℕ) (status : ℕ) : Type 0 where
   pub short : size_of texts ≤ 2 ^ 30
   pub failing : Bool
-  pub joined : IsJoined texts bytes failing
+  pub joined : IsJoin part texts bytes failing
   pub ends : status ≡ status_of failing
 
 -- the same of what the command's files hold
-pub record AnswersJoin (files : Files) (bytes : List ℕ) (status : ℕ) : Type 0 where
+pub record AnswersJoin (part : Bool) (files : Files) (bytes : List ℕ) (status : ℕ) : Type 0 where
   pub texts : List (List ℕ)
   pub read : files.named ≡ map Some texts
   pub some : 0 < length texts
   pub few : length texts ≤ most_texts
-  pub joins : JoinsTexts texts bytes status
+  pub joins : JoinsTexts part texts bytes status
 
 -- what is shown of a log
 abbrev pub Shows : Look → Settings → Recording → List ℕ → Type 0
@@ -193,7 +194,7 @@ Answers (request.Import limits) files bytes status = AnswersFile (λ raw. IsImpo
 Answers (request.Check w) files bytes status = AnswersTrial w files bytes status
 Answers request.Asm files bytes status = AnswersFile IsAssembled files bytes status
 Answers (request.List numbered) files bytes status = AnswersFile (IsListed numbered) files bytes status
-Answers request.Join files bytes status = AnswersJoin files bytes status
+Answers (request.Join part) files bytes status = AnswersJoin part files bytes status
 
 -- the refusals of a command with options: of its words first
 pub data RefusesWith (w : OptionWords) (Rest : Settings → Refusal → Type 0) : Refusal → Type 0 where
@@ -236,17 +237,17 @@ pub data RefusesCheck (w : TrialWords) (files : Files) : Refusal → Type 0 wher
 abbrev pub join_refusal : JoinFault → Refusal
 join_refusal fault = record { code = Join fault.cause; at = fault.file; program = None }
 
-pub data RefusesTexts (texts : List (List ℕ)) : Refusal → Type 0 where
-  for_texts : (fault : JoinFault) → RefusesJoin texts fault → (fault.cause ≡ joining.TooLong) ⊎ (size_of texts ≤ 2 ^ 30) → RefusesTexts texts (join_refusal fault)
+pub data RefusesTexts (part : Bool) (texts : List (List ℕ)) : Refusal → Type 0 where
+  for_texts : (fault : JoinFault) → RefusesJoin part texts fault → (fault.cause ≡ joining.TooLong) ⊎ (size_of texts ≤ 2 ^ 30) → RefusesTexts part texts (join_refusal fault)
 
 -- the refusals of the files of parts: that there is none, or too many; the first that can't be read; then those of what they hold; or
 -- want of memory
-pub data RefusesParts (files : Files) : Refusal → Type 0 where
-  for_no_part : files.named ≡ [] → RefusesParts files (file_refusal 0)
-  for_many_parts : most_texts < length files.named → RefusesParts files (join_refusal (record { cause = joining.TooLong; file = most_texts }))
-  for_unread_part : (place : ℕ) → length files.named ≤ most_texts → unread files.named ≡ Some place → RefusesParts files (file_refusal place)
-  for_parts : (texts : List (List ℕ)) (r : Refusal) → files.named ≡ map Some texts → length texts ≤ most_texts → RefusesTexts texts r → RefusesParts files r
-  for_part_memory : unread files.named ≡ None → RefusesParts files (join_refusal (record { cause = joining.Memory; file = 0 }))
+pub data RefusesParts (part : Bool) (files : Files) : Refusal → Type 0 where
+  for_no_part : files.named ≡ [] → RefusesParts part files (file_refusal 0)
+  for_many_parts : most_texts < length files.named → RefusesParts part files (join_refusal (record { cause = joining.TooLong; file = most_texts }))
+  for_unread_part : (place : ℕ) → length files.named ≤ most_texts → unread files.named ≡ Some place → RefusesParts part files (file_refusal place)
+  for_parts : (texts : List (List ℕ)) (r : Refusal) → files.named ≡ map Some texts → length texts ≤ most_texts → RefusesTexts part texts r → RefusesParts part files r
+  for_part_memory : unread files.named ≡ None → RefusesParts part files (join_refusal (record { cause = joining.Memory; file = 0 }))
 
 -- when it is refused to show that of a log
 abbrev pub RefusesLook : Look → Settings → Recording → Refusal → Type 0
@@ -271,4 +272,4 @@ RefusesToAct (request.Import limits) files r = RefusesFile files (RefusesImport 
 RefusesToAct (request.Check w) files r = RefusesCheck w files r
 RefusesToAct request.Asm files r = RefusesFile files RefusesText r
 RefusesToAct (request.List numbered) files r = RefusesFile files RefusesBytes r
-RefusesToAct request.Join files r = RefusesParts files r
+RefusesToAct (request.Join part) files r = RefusesParts part files r

@@ -54,7 +54,7 @@ asked_alone (request.Import limits) = request.Import limits
 asked_alone (request.Check w) = request.Check w
 asked_alone request.Asm = request.Asm
 asked_alone (request.List numbered) = request.List numbered
-asked_alone request.Join = request.Join
+asked_alone (request.Join part) = request.Join part
 
 -- two command lines that ask for the same but for the number of workers, the size of the cache and the line of progress
 -- have the same answer

@@ -1,5 +1,5 @@
 -- The texts of the parts of a run, joined, are what the run answers for these images (docs/REPORT.md, Joining parts).
-use Rattle.std.specs.Prelude.{ℕ, ◌≡◌, ◌-◌, ◌≤◌, ◌⊎◌, ◌==◌, ◌&&◌, Bool, if◌then◌else◌, List, [], ◌∷◌, length, map, Some}
+use Rattle.std.specs.Prelude.{ℕ, ◌≡◌, ◌-◌, ◌≤◌, ◌⊎◌, ◌==◌, ◌&&◌, Bool, false, if◌then◌else◌, List, [], ◌∷◌, length, map, Some}
 use Rattle.logfmt.specs.Bounds.{LogValue}
 use Rattle.choices.specs.Choices.{limit}
 use Rattle.base.specs.declared.causes.JoinCause.TheVariants as cause
@@ -69,10 +69,10 @@ pub record JoinedPartsAreRun : Type 0 where
       → AreTextsOf text files s texts x images → IsJoined texts bytes failing → extent_of images x ≡ extent.Part x.from x.to → x.to - x.from ≤ limit
       → IsAnswer text files (part_of s x) bytes failing
 
--- such texts are refused for their length or for want of memory alone
+-- such texts are refused for their length or for want of memory alone, where they are all parts of the run, or may be some
 abbrev pub PartsOfRunAreJoined : Type 0
-PartsOfRunAreJoined = (text : Recording) (files : List (List ℕ)) (s : Settings) (texts : List (List ℕ)) (x : Range) (images : ℕ) (fault : JoinFault)
-    → AreTextsOf text files s texts x images → RefusesJoin texts fault → (fault.cause ≡ cause.TooLong) ⊎ (fault.cause ≡ cause.Memory)
+PartsOfRunAreJoined = (part : Bool) (text : Recording) (files : List (List ℕ)) (s : Settings) (texts : List (List ℕ)) (x : Range) (images : ℕ) (fault : JoinFault)
+    → AreTextsOf text files s texts x images → (part ≡ false → (x.from ≡ 0) × (x.to ≡ images)) → RefusesJoin part texts fault → (fault.cause ≡ cause.TooLong) ⊎ (fault.cause ≡ cause.Memory)
 
 -- On the command line.
 
@@ -107,7 +107,8 @@ pub record HoldParts (w : OptionWords) (files parts : Files) (images : ℕ) : Ty
   pub cover : CoverOnce ranges 0 images
   pub count : CountsImages w files images
 
--- Of such files `join` prints what `explore` prints of the whole run, where that may be explored at once, with the same status.
+-- Of such files `join` prints what `explore` prints of the whole run, where that may be explored at once, with the same status; so it does
+-- with --part.
 abbrev pub JoinIsExplore : Type 0
-JoinIsExplore = (w : OptionWords) (files parts : Files) (images : ℕ) (bytes : List ℕ) (status : ℕ) → HoldParts w files parts images → images ≤ limit
-    → Answers request.Join parts bytes status → Answers (request.Explore (asking extent.Whole w)) files bytes status
+JoinIsExplore = (part : Bool) (w : OptionWords) (files parts : Files) (images : ℕ) (bytes : List ℕ) (status : ℕ) → HoldParts w files parts images → images ≤ limit
+    → Answers (request.Join part) parts bytes status → Answers (request.Explore (asking extent.Whole w)) files bytes status

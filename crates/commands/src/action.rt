@@ -358,22 +358,22 @@ fn not_joined(cause: JoinCause, file: u32) -> Refusal
 }
 
 /// What the texts of parts come to, with the status 1 where there is a failing line.
-fn join_texts(alloc: Global, texts: &[Vec<u8>]) -> Result<(Vec<u8>, u8), Refusal>
+fn join_texts(alloc: Global, part: bool, texts: &[Vec<u8>]) -> Result<(Vec<u8>, u8), Refusal>
     requires some { 0 < length texts.now }
     requires few { length texts.now ≤ most_texts }
-    ensures answers { IfOk result (λ answer. JoinsTexts (map (λ f. f.items) texts.now) answer.0.items answer.1) }
-    ensures refused { IfErr result (RefusesTexts (map (λ f. f.items) texts.now)) }
+    ensures answers { IfOk result (λ answer. JoinsTexts part (map (λ f. f.items) texts.now) answer.0.items answer.1) }
+    ensures refused { IfErr result (RefusesTexts part (map (λ f. f.items) texts.now)) }
 {
-    match join(alloc, texts) {
+    match join(alloc, part, texts) {
         Ok(joined) => Ok((joined.bytes, status_of(joined.failing))),
         Err(fault) => Err(join_refusal_of(fault)),
     }
 }
 
 /// What the parts that the files hold come to.
-fn act_join(alloc: Global, files: &Held<'_>) -> Result<(Vec<u8>, u8), Refusal>
-    ensures answers { IfOk result (λ answer. Answers asks.Join (held_by files.now) answer.0.items answer.1) }
-    ensures refused { IfErr result (RefusesToAct asks.Join (held_by files.now)) }
+fn act_join(alloc: Global, part: bool, files: &Held<'_>) -> Result<(Vec<u8>, u8), Refusal>
+    ensures answers { IfOk result (λ answer. Answers (asks.Join part) (held_by files.now) answer.0.items answer.1) }
+    ensures refused { IfErr result (RefusesToAct (asks.Join part) (held_by files.now)) }
 {
     if files.named.is_empty() {
         return Err(unreadable(0));
@@ -385,7 +385,7 @@ fn act_join(alloc: Global, files: &Held<'_>) -> Result<(Vec<u8>, u8), Refusal>
         return Err(unreadable(place));
     }
     match programs_of(alloc, files.named) {
-        Ok(texts) => join_texts(alloc, texts.as_slice()),
+        Ok(texts) => join_texts(alloc, part, texts.as_slice()),
         Err(_error) => Err(not_joined(JoinCause::Memory, 0)),
     }
 }
@@ -429,7 +429,7 @@ pub(crate) fn act_known<G: Gate + Sync, R: Threads + Wait + Sync>(
         Request::Check(words) => act_check(alloc, words, files, facts),
         Request::Asm => act_asm(alloc, files),
         Request::List { numbered } => act_list(alloc, numbered, files),
-        Request::Join => act_join(alloc, files),
+        Request::Join { part } => act_join(alloc, part, files),
     }
 }
 

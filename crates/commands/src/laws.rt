@@ -104,7 +104,7 @@ pub fn joined_parts_are_run()
     one_verdict();
 }
 
-/// `join` refuses such texts for their length or for want of memory alone.
+/// `join` refuses such texts for their length or for want of memory alone, where they are all parts of the run, or with `--part`.
 pub fn parts_of_run_are_joined()
     ensures { PartsOfRunAreJoined }
 {
@@ -114,7 +114,7 @@ pub fn parts_of_run_are_joined()
 }
 
 /// Of files with what `explore --images` prints for parts of a run, which have each of its images once, `join` prints what `explore`
-/// prints of the whole run, with the same status.
+/// prints of the whole run, with the same status, and so does `join --part`.
 pub fn join_is_explore()
     ensures { JoinIsExplore }
 {

@@ -1,5 +1,5 @@
 -- What a command takes a file for, and how much of it is read (docs/REPORT.md, Files).
-use Rattle.std.specs.Prelude.{ℕ, ◌==◌, ◌+◌, ◌-◌, ◌*◌, Bool, min, nat_le, nat_lt, ◌&&◌, ◌||◌, if◌then◌else◌, List, bytes_eq, codes, Option, None, Some}
+use Rattle.std.specs.Prelude.{ℕ, ◌==◌, ◌+◌, ◌-◌, ◌*◌, Bool, true, false, min, nat_le, nat_lt, ◌&&◌, ◌||◌, if◌then◌else◌, List, bytes_eq, codes, Option, None, Some}
 use Rattle.limits.specs.Sizes.{byte_limit, sector_limit}
 use Rattle.limits.specs.declared.Limits.{Limits}
 use Rattle.base.specs.declared.causes.AsmCause.TheVariants as asm
@@ -7,7 +7,8 @@ use Rattle.base.specs.declared.causes.CodeCause.TheVariants as code
 use Rattle.base.specs.declared.causes.LogCause.TheVariants as log
 use Rattle.base.specs.declared.refusal.Refusal.{Refusal}
 use Rattle.base.specs.declared.causes.JoinCause.TheVariants as joining
-use Rattle.base.specs.declared.refusal.Cause.TheVariants.{Asm, Code, Join, Log}
+use Rattle.base.specs.declared.causes.RequestCause.TheVariants as asked
+use Rattle.base.specs.declared.refusal.Cause.TheVariants.{Asm, Code, Join, Log, Request}
 use Rattle.base.specs.Refusals.{memory_refusal}
 use Rattle.input_files.specs.declared.kind.FileKind.{FileKind}
 use Rattle.input_files.specs.declared.kind.FileKind.TheVariants as kind
@@ -75,6 +76,15 @@ left_behind k length = Some most_of_parts
 -- whether so many files are more than the command of that name takes
 abbrev pub are_too_many : List ℕ → ℕ → Bool
 are_too_many command count = bytes_eq command (codes "join") && nat_lt most_parts count
+
+-- whether a file is the text of a part
+abbrev pub is_part : FileKind → Bool
+is_part (kind.Part left) = true
+is_part k = false
+
+-- the file at that place, which can't be read
+abbrev pub unreadable_at : ℕ → Refusal
+unreadable_at place = record { code = Request asked.File; at = place; program = None }
 
 -- parts that are too many, or too long together, from the file at that place on
 abbrev pub too_long_at : ℕ → Refusal

@@ -1,4 +1,5 @@
 pub mod Kinds
 pub mod Logs
+pub mod PartTexts
 pub mod RawLogs
 pub mod Standing

@@ -35,7 +35,13 @@ LongIsRefusedAlike = (bytes : List ℕ) → 32768 < length bytes → (c : CodeCa
 abbrev pub LongIsRefused : Type 0
 LongIsRefused = (bytes : List ℕ) → 32768 < length bytes → HasNoFault (stand_in bytes) → ⊥
 
--- how many bytes are kept of a file of that kind and length
+-- a file of that kind is kept by its first bytes, whatever they are
+abbrev pub IsKeptFirst : FileKind → Type 0
+IsKeptFirst kind.Raw = ⊥
+IsKeptFirst (kind.Part left) = ⊥
+IsKeptFirst k = Unit {0}
+
+-- how many bytes are kept of such a file of that kind and length
 abbrev pub kept_of : FileKind → ℕ → ℕ
 kept_of kind.Program n = standing n
 kept_of k n = read_of k

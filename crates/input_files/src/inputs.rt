@@ -1,7 +1,7 @@
 //! The files of a command, as far as they were read.
 
 use crate::cut::refusal_of_whole;
-use crate::kind::{FileKind, MOST_OF_PARTS, MOST_PARTS, are_too_many, too_long_at};
+use crate::kind::{FileKind, MOST_OF_PARTS, MOST_PARTS, are_too_many, too_long_at, unreadable_at};
 use crate::reading::{Piece, read_base, read_file};
 use base::causes::RequestCause;
 use base::refusal::{Cause, Refusal};
@@ -76,7 +76,7 @@ impl Inputs {
     /// # Errors
     ///
     /// There is no memory for one of them: 11, 26, 35, 66 or 72 at 0; or for the list of them: 72 at 0. They are more parts than can
-    /// be joined, or have more than 1 GiB together: 65 at the file with which they pass that.
+    /// be joined: 65 at 4096. Of parts the first that can't be read, 14, or with which they have more than 1 GiB together, 65.
     pub fn read<R: Files + AllocGlobal>(
         rt: &R,
         command: &str,
@@ -98,6 +98,9 @@ impl Inputs {
             let Ok(piece) = read_one(rt, name.as_str(), kind) else {
                 return Err(kind.of_memory(place));
             };
+            if kind.is_part() && piece.bytes.is_none() {
+                return Err(unreadable_at(place));
+            }
             let Some(rest) = kind.left_behind(piece.length) else {
                 return Err(too_long_at(place));
             };

@@ -1,9 +1,9 @@
 //! What a command takes a file for, and how much of it is read.
 
 ghost use Rattle.std.specs.Prelude.{◌≡◌};
-ghost use Rattle.input_files.specs.Kinds.{are_too_many, checked_kind, kind_of, left_behind, most_of, read_of, number_of, memory_of, too_long_at};
+ghost use Rattle.input_files.specs.Kinds.{are_too_many, checked_kind, kind_of, left_behind, most_of, read_of, number_of, memory_of, is_part, too_long_at, unreadable_at};
 
-use base::causes::{AsmCause, CodeCause, JoinCause, LogCause};
+use base::causes::{AsmCause, CodeCause, JoinCause, LogCause, RequestCause};
 use base::refusal::{Cause, Refusal};
 use limits::Limits;
 
@@ -89,6 +89,16 @@ impl FileKind {
         }
     }
 
+    /// Whether it is the text of a part.
+    pub fn is_part(self) -> bool
+        ensures { result ≡ is_part self }
+    {
+        match self {
+            FileKind::Part(_) => true,
+            _ => false,
+        }
+    }
+
     /// How many bytes are left for parts behind this file, which has so many; none where it is a part that has more than were left.
     pub fn left_behind(self, length: u64) -> Option<u32>
         ensures { result ≡ left_behind self length }
@@ -98,6 +108,17 @@ impl FileKind {
             FileKind::Part(_) => None,
             _ => Some(MOST_OF_PARTS),
         }
+    }
+}
+
+/// The refusal of the file at that place, which can't be read.
+pub(crate) fn unreadable_at(place: usize) -> Refusal
+    ensures { result ≡ unreadable_at place }
+{
+    Refusal {
+        code: Cause::Request(RequestCause::File),
+        at: place as u64,
+        program: None,
     }
 }
 

@@ -2,6 +2,7 @@
 //! each contract is a theorem.
 
 ghost use Rattle.input_files.specs.Logs.{ShortLogIsRead, LongLogIsRefusedAlike};
+ghost use Rattle.input_files.specs.PartTexts.{PartIsReadAlike};
 ghost use Rattle.input_files.specs.RawLogs.{RawIsImportedAlike, RawIsRefusedAlike, NoMoreIsRead, ReadRawIsShort};
 ghost use Rattle.input_files.specs.Standing.{ShortStandsForItself, LongIsRefusedAlike, LongIsRefused};
 
@@ -13,6 +14,11 @@ pub fn short_log_is_read()
 /// A longer one is refused for its length, and so is what is read of it.
 pub fn long_log_is_refused_alike()
     ensures { LongLogIsRefusedAlike }
+{}
+
+/// Where not all is read of the text of a part that may be, it isn't the text of a part, and neither is what is read.
+pub fn part_is_read_alike()
+    ensures { PartIsReadAlike }
 {}
 
 /// What is imported of the bytes that are read of a raw log is imported of the raw log.

@@ -5,7 +5,7 @@
 //!
 //! # Place
 //!
-//! On `base` and `limits`, and on the definitions of `logfmt`, `raw_log` and `bpf_isa`, below the program. `commands` says what a command
+//! On `base` and `limits`, and on the definitions of `logfmt`, `raw_log`, `bpf_isa` and `join`, below the program. `commands` says what a command
 //! answers on what its files hold; this crate reads them.
 //!
 //! # What is read
@@ -18,11 +18,11 @@
 //! | an assembly text | 16 MiB and a byte | can't be read |
 //! | what a device held before | the device's size and a byte | is refused, 13 at 14 |
 //! | an image | 8 MiB and a byte; with `--large` 512 MiB and a byte | is refused, 14 at 1 |
-//! | parts | 1 GiB and a byte of all together | are refused, 65 at the part with which they pass it |
+//! | parts | 1 GiB and a byte of all together; one that doesn't begin as the text of a part to its first 13 bytes | are refused, 65 at the part with which they pass it; is refused, 61 |
 //!
 //! How long a program is tells a regular file's length; of any other file what is behind the first 32,776 bytes is read and
 //! counted, but not kept, and one that doesn't end within 64 MiB counts as one of too many whole slots. Of more than 4,096 parts
-//! none is read.
+//! none is read, and behind a part that can't be read no other.
 //!
 //! # What is proved
 //!
@@ -33,7 +33,8 @@
 //! what is read of it. A program that isn't too long stands for itself; what stands for a longer one has a fault; and that is
 //! the first fault of the longer one, at the place that `refusal_of_whole` makes of it. What is imported of the bytes that are
 //! read of a raw log is imported of all of it, and their first fault is its first fault; of one that can be imported no more
-//! is read than its entries need, and of none more than 192 MiB.
+//! is read than its entries need, and of none more than 192 MiB. A file that is read no further than its first bytes as a part isn't the
+//! text of one, and neither are these bytes (`part_is_read_alike`).
 //!
 //! Of a reader whose bytes are known, what is kept are its first bytes, as many as that, and the length of one that isn't
 //! too long is told (`read_piece`). How far a raw log is to be read is worked out header by header (`reach`). What a file of
@@ -65,6 +66,6 @@ pub use inputs::{DeviceSize, Inputs};
 pub use kind::FileKind;
 pub use laws::{
     long_is_refused, long_is_refused_alike, long_log_is_refused_alike, no_more_is_read,
-    raw_is_imported_alike, raw_is_refused_alike, read_raw_is_short, short_log_is_read,
-    short_stands_for_itself,
+    part_is_read_alike, raw_is_imported_alike, raw_is_refused_alike, read_raw_is_short,
+    short_log_is_read, short_stands_for_itself,
 };

@@ -1,11 +1,12 @@
 //! Reading a file: no more than can be used.
 
-ghost use Rattle.std.specs.Prelude.{ℕ, List, Option, true, false, ◌+◌, ◌≡◌, ◌≢◌, ◌≤◌, ◌<◌, length, take, IfOk, OnOk, IfSome, IsSome};
+ghost use Rattle.std.specs.Prelude.{ℕ, List, Option, true, false, ◌+◌, ◌≡◌, ◌≢◌, ◌≤◌, ◌<◌, ◌++◌, length, take, ◌↔◌, IfOk, IsTrue, OnOk, IfSome, IsSome};
 ghost use Rattle.std.specs.Io.KnownBytes.{Consumes, IsAtEnd};
 ghost use Rattle.input_files.specs.declared.kind.FileKind.TheVariants as kinds;
 ghost use Rattle.input_files.specs.Kinds.{base_read, read_of};
+ghost use Rattle.input_files.specs.PartTexts.{part_line, part_read};
 ghost use Rattle.input_files.specs.RawLogs.{read_raw};
-ghost use Rattle.input_files.specs.Standing.{kept_of};
+ghost use Rattle.input_files.specs.Standing.{IsKeptFirst, kept_of};
 
 use crate::cut::standing_length;
 use crate::kind::FileKind;
@@ -41,6 +42,24 @@ pub(crate) struct Piece {
     pub length: u64,
 }
 
+/// The line with which the text of a part begins.
+const PART_LINE: &[u8] = b"crash part 1\n";
+
+/// Reads on, up to `most` bytes; room is made once, where they are no more than `expected`.
+fn read_more<F: Read>(
+    file: &mut F,
+    bytes: &mut Vec<u8>,
+    most: usize,
+    expected: usize,
+) -> io::Result<()>
+    ensures { OnOk result (IfSome (F.remaining file.old) (λ xs. bytes.new.items ≡ bytes.old.items ++ take most xs)) }
+{
+    bytes.reserve_exact(expected.saturating_add(1))?;
+    let mut first = file.take(most as u64);
+    first.read_to_end(bytes)?;
+    Ok(())
+}
+
 /// The first bytes of a file, up to `most`; room is made once, where it is no longer than `expected`.
 fn read_first<F: Read>(
     alloc: Global,
@@ -50,9 +69,8 @@ fn read_first<F: Read>(
 ) -> io::Result<Vec<u8>>
     ensures bytes { IfOk result (λ bytes. IfSome (F.remaining file.old) (λ xs. bytes.items ≡ take most xs)) }
 {
-    let mut bytes = Vec::with_capacity(alloc, expected.saturating_add(1))?;
-    let mut first = file.take(most as u64);
-    first.read_to_end(&mut bytes)?;
+    let mut bytes = Vec::new(alloc);
+    read_more(file, &mut bytes, most, expected)?;
     Ok(bytes)
 }
 
@@ -124,6 +142,51 @@ fn read_raw<F: Read>(alloc: Global, file: &mut F) -> io::Result<Vec<u8>>
         }
         reach = reach.behind(bytes.as_slice());
     }
+}
+
+/// Whether the first bytes of a file are the line with which the text of a part begins.
+fn is_part_line(bytes: &[u8]) -> bool
+    ensures { IsTrue result ↔ (bytes.now ≡ part_line) }
+{
+    bytes == PART_LINE
+}
+
+/// The first bytes of the text of a part, up to `most`; of a file that doesn't begin as one no more than as many as tell that.
+fn read_part_text<F: Read>(
+    alloc: Global,
+    file: &mut F,
+    most: usize,
+    expected: usize,
+) -> io::Result<Vec<u8>>
+    ensures { IfOk result (λ bytes. IfSome (F.remaining file.old) (λ xs. bytes.items ≡ part_read most xs)) }
+{
+    let mut bytes = Vec::new(alloc);
+    read_on(alloc, file, &mut bytes, most.min(PART_LINE.len()))?;
+    if !is_part_line(bytes.as_slice()) {
+        return Ok(bytes);
+    }
+    let rest = most.saturating_sub(PART_LINE.len());
+    read_more(file, &mut bytes, rest, expected.min(rest))?;
+    Ok(bytes)
+}
+
+/// Reads the text of a part.
+fn read_part_piece<F: Read>(
+    alloc: Global,
+    file: &mut F,
+    most: usize,
+    expected: usize,
+) -> io::Result<Piece>
+    ensures kept { IfOk result (λ piece. IfSome piece.bytes (λ bytes. IfSome (F.remaining file.old) (λ xs. bytes.items ≡ part_read most xs))) }
+    ensures length { IfOk result (λ piece. IfSome piece.bytes (λ bytes. piece.length ≡ length bytes.items)) }
+    ensures some { IfOk result (λ piece. IsSome piece.bytes) }
+{
+    let bytes = read_part_text(alloc, file, most, expected)?;
+    let length = bytes.len() as u64;
+    Ok(Piece {
+        bytes: Some(bytes),
+        length,
+    })
 }
 
 /// Reads a raw log.
@@ -217,15 +280,19 @@ fn read_piece<F: Read>(
     kind: FileKind,
     said: Option<u64>,
 ) -> io::Result<Piece>
-    ensures kept { IfOk result (λ piece. kind ≢ kinds.Raw → IfSome piece.bytes (λ bytes. IfSome (F.remaining file.old) (λ xs. bytes.items ≡ take (kept_of kind piece.length) xs))) }
+    ensures kept { IfOk result (λ piece. IsKeptFirst kind → IfSome piece.bytes (λ bytes. IfSome (F.remaining file.old) (λ xs. bytes.items ≡ take (kept_of kind piece.length) xs))) }
     ensures raw { IfOk result (λ piece. kind ≡ kinds.Raw → IfSome piece.bytes (λ bytes. IfSome (F.remaining file.old) (λ xs. bytes.items ≡ read_raw xs))) }
-    ensures whole { IfOk result (λ piece. IfSome (F.remaining file.old) (λ xs. kind ≢ kinds.Raw → length xs < read_of kind → piece.length ≡ length xs)) }
+    ensures part { (left : ℕ) → kind ≡ kinds.Part left → IfOk result (λ piece. IfSome piece.bytes (λ bytes. IfSome (F.remaining file.old) (λ xs. bytes.items ≡ part_read (left + 1) xs × (piece.length ≡ length bytes.items)))) }
+    ensures whole { IfOk result (λ piece. IfSome (F.remaining file.old) (λ xs. IsKeptFirst kind → length xs < read_of kind → piece.length ≡ length xs)) }
     ensures some { IfOk result (λ piece. kind ≢ kinds.Text → IsSome piece.bytes) }
 {
+    let most = kind.most_read();
     if let FileKind::Raw = kind {
         return read_raw_piece(alloc, file);
     }
-    let most = kind.most_read();
+    if let FileKind::Part(_) = kind {
+        return read_part_piece(alloc, file, most, expected_of(kind, said));
+    }
     let mut bytes = read_first(alloc, file, most, expected_of(kind, said))?;
     let read = bytes.len();
     match kind {

@@ -1,5 +1,5 @@
 -- From the steps of a join to its contract.
-use Rattle.std.proofs.Common.{ℕ, zero, suc, ◌≡◌, ◌↔◌, IsTrue, Bool, ◌+◌, ◌-◌, ◌<◌, ◌≤◌, ◌^◌, ◌⊎◌, inl, inr, List, [], ◌∷◌, ◌++◌, length, map, take, drop, get_or, slice_get, ◌==◌, true, false, append_assoc, All, Some, None, Result, Ok, Err, IfOk, IfErr, refl, sym, ◌∙◌, ap, subst, arith}
+use Rattle.std.proofs.Common.{ℕ, zero, suc, ◌≡◌, ◌↔◌, IsTrue, Bool, ◌+◌, ◌-◌, ◌≢◌, ◌<◌, ◌≤◌, ◌^◌, ◌⊎◌, inl, inr, List, [], ◌∷◌, ◌++◌, length, map, take, drop, get_or, slice_get, ◌==◌, true, false, append_assoc, All, Option, MatchOption, Some, None, Result, Ok, Err, IfOk, IfErr, refl, sym, ◌∙◌, ap, subst, arith}
 use Rattle.std.proofs.lemmas.Bool.{cases_lt}
 use Rattle.std.specs.List.Sorted.{IsPermutation, IsNonDecreasingBy, IsSortedByKey, IsStableByKey}
 use Rattle.std.specs.Ordering.{nat_cmp, is_lt}
@@ -15,8 +15,8 @@ use Rattle.report.specs.declared.span.Span.{Span}
 use Rattle.join.specs.declared.tally.Tally.{Tally}
 use Rattle.join.specs.declared.joining.JoinedText.{JoinedText}
 use Rattle.join.specs.Reading.{PartRead, IsPartText, NoPartText, none_read, last_text}
-use Rattle.join.specs.Joining.{ArePartTexts, IsOfRun, AreOfRun, AreInRow, IsJoined, size_of, IsFirstLong, IsFirstOther, IsFirstStrange, IsFirstApart, RefusesJoin, no_part, of_other_run, with_gap, with_overlap, no_memory, span_between, opening_text, shown_bytes, first_some, added, totalled}
-use Rattle.join.specs.Rows.{AreAlikeTo, NoneIsStrange, IsStrangeAt, AreJoinedTo, NoneIsApart, IsApart, IsApartAt, IsWritten, IsRowText, IsSortedText, IsSortedApart, WhyNotJoined, for_memory, for_run, for_images}
+use Rattle.join.specs.Joining.{ArePartTexts, LacksImages, IsOfRun, AreOfRun, AreInRow, IsJoined, size_of, IsFirstLong, IsFirstOther, IsFirstStrange, IsFirstApart, IsJoin, RefusesJoin, no_part, of_other_run, with_gap, with_overlap, short_of_run, no_memory, span_between, opening_text, shown_bytes, first_some, added, totalled}
+use Rattle.join.specs.Rows.{AreAlikeTo, NoneIsStrange, IsStrangeAt, AreJoinedTo, NoneIsApart, IsApart, IsApartAt, IsWritten, IsRow, IsRowWhole, IsRowShort, WhyNoRow, for_break, for_ends, IsRowText, IsSortedText, IsSortedApart, WhyNotJoined, for_memory, for_run, for_images}
 use Rattle.join.proofs.Rows.{texts_push, texts_long, IsTold, Any, all_told, made_lines, lines_of, row_lines, row_text}
 
 -- one more element of a mapped list
@@ -208,6 +208,50 @@ strange_at rs place run r small first at all other = record {
   strange = other;
 }
 
+-- a row that isn't whole
+pub starts_late : (rs : List PartRead) (first last : PartRead) (fault : JoinFault) → slice_get rs 0 ≡ Some first → slice_get rs (length rs - 1) ≡ Some last → 0 < first.span.from
+    → fault ≡ record { cause = cause.Gap; file = first.file } → IsRowShort rs fault
+starts_late rs first last fault at end late is = record {
+  first = first;
+  first_there = at;
+  last = last;
+  last_there = end;
+  kind = ap (λ (f : JoinFault). f.cause) is;
+  lacking = inl (late, ap (λ (f : JoinFault). f.file) is);
+}
+
+pub ends_early : (rs : List PartRead) (first last : PartRead) (fault : JoinFault) → slice_get rs 0 ≡ Some first → slice_get rs (length rs - 1) ≡ Some last → first.span.from ≤ 0
+    → last.span.to ≢ first.span.images → fault ≡ record { cause = cause.Gap; file = length rs } → IsRowShort rs fault
+ends_early rs first last fault at end start early is = record {
+  first = first;
+  first_there = at;
+  last = last;
+  last_there = end;
+  kind = ap (λ (f : JoinFault). f.cause) is;
+  lacking = inr (omega (arith, start), early, ap (λ (f : JoinFault). f.file) is);
+}
+
+pub row_whole : (rs : List PartRead) (first last : PartRead) → slice_get rs 0 ≡ Some first → slice_get rs (length rs - 1) ≡ Some last → first.span.from ≤ 0 → last.span.to ≡ first.span.images → IsRowWhole rs
+row_whole rs first last at end start is = record {
+  ends = λ one other here there_it.
+      let same = one_there rs 0 first one at here in
+      let also = one_there rs (length rs - 1) last other end there_it in
+      let begins : one.span.from ≡ 0 = rw (← same) (omega (arith, start)) in
+      (begins, rw (← same, ← also) is);
+}
+
+-- what a test of a row tells
+pub row_breaks : (part : Bool) (rs : List PartRead) (fault : JoinFault) → IsApartAt rs fault → WhyNoRow part rs fault
+row_breaks part rs fault apart = for_break apart
+
+pub row_joined : (part : Bool) (rs : List PartRead) → NoneIsApart rs → part ≡ true → IsRow part rs
+row_joined part rs joined some = record { joined = joined; whole = λ all. absurd (let lack : true ≡ false = sym some ∙ all in cc) }
+
+pub row_lacks : (part : Bool) (rs : List PartRead) → NoneIsApart rs → part ≡ false → (found : Option JoinFault) → MatchOption found (IsRowWhole rs) (λ fault. IsRowShort rs fault)
+    → MatchOption found (IsRow part rs) (λ fault. WhyNoRow part rs fault)
+row_lacks part rs joined all None whole = record { joined = joined; whole = λ _all. whole }
+row_lacks part rs joined all (Some fault) short = for_ends all joined short
+
 -- a place behind one more element
 shifted : (x : PartRead) (xs : List PartRead) (k : ℕ) (r : PartRead) → slice_get xs (k + 1) ≡ Some r → slice_get (x ∷ xs) (suc k + 1) ≡ Some r
 shifted x xs k r there_it = let e : suc k + 1 ≡ suc (k + 1) = omega arith in rw e there_it
@@ -233,11 +277,11 @@ of_first run r x own also = record {
 }
 
 -- what was written of parts in a row is what the texts come to
-pub joined_found : (texts : List (List ℕ)) (reads row : List PartRead) (bytes : List ℕ) (failing : Bool) → ArePartTexts 0 texts reads → NoneIsStrange reads → 0 < length reads → IsPermutation reads row → IsRowText row bytes failing
-    → IsJoined texts bytes failing
-joined_found texts reads row bytes failing each alike some order text = by_first reads each alike some order
+pub joined_found : (part : Bool) (texts : List (List ℕ)) (reads row : List PartRead) (bytes : List ℕ) (failing : Bool) → ArePartTexts 0 texts reads → NoneIsStrange reads → 0 < length reads → IsPermutation reads row
+    → IsRowText part row bytes failing → IsJoin part texts bytes failing
+joined_found part texts reads row bytes failing each alike some order text = by_first reads each alike some order
   where
-    by_row : (rs : List PartRead) (run : PartRead) → All (IsTold Any) rs → AreOfRun run rs → ArePartTexts 0 texts reads → IsPermutation reads rs → IsRowText rs bytes failing → 0 < length rs → IsJoined texts bytes failing
+    by_row : (rs : List PartRead) (run : PartRead) → All (IsTold Any) rs → AreOfRun run rs → ArePartTexts 0 texts reads → IsPermutation reads rs → IsRowText part rs bytes failing → 0 < length rs → IsJoin part texts bytes failing
     by_row [] run told one all moved found more = absurd (omega (arith, more))
     by_row (r ∷ rs) run told one all moved found more =
         let first = one_there (r ∷ rs) 0 r found.of_row.run refl found.of_row.there in
@@ -245,7 +289,7 @@ joined_found texts reads row bytes failing each alike some order text = by_first
         let last = found.of_row.last in
         let end : slice_get (r ∷ rs) (length rs) ≡ Some last = let stood = found.of_row.last_there in let e : length (r ∷ rs) - 1 ≡ length rs = omega arith in rw e at stood in
         let of_run : AreOfRun r (r ∷ rs) = λ k d small. of_first run r (get_or (r ∷ rs) k d) (one 0 r (omega arith)) (one k d small) in
-        let stand = in_row r rs last found.joined.joined end in
+        let stand = in_row r rs last found.stands.joined.joined end in
         let made = made_lines Any (r ∷ rs) told in
         let lines = row_lines Any (r ∷ rs) made.0 r.span.from last.span.to made.1 stand in
         let span : found.span ≡ span_between r r.span.from last.span.to = found.of_row.is ∙ ap (λ (x : PartRead). record { from = x.span.from; to = last.span.to; images = x.span.images; inputs = x.span.inputs }) (sym first) in
@@ -253,23 +297,26 @@ joined_found texts reads row bytes failing each alike some order text = by_first
         let counted : (totalled none_read (r ∷ rs)).lines ≡ length made.0 = omega (arith, long) in
         let back = sym also in
         record {
-          reads = reads;
-          each = all;
-          row = r ∷ rs;
-          order = moved;
-          some = more;
-          run = r;
-          one = of_run;
-          from = r.span.from;
-          to = last.span.to;
-          in_row = stand;
-          lines = made.0;
-          of_parts = lines_of Any (r ∷ rs) made.0 made.1;
-          is = found.written.is ∙ rw (back, span) (sym (row_text r r.span.from last.span.to (r ∷ rs) made.0 lines of_run));
-          fails = subst (λ (n : ℕ). IsTrue failing ↔ (0 < n)) counted found.fails;
+          joined = record {
+            reads = reads;
+            each = all;
+            row = r ∷ rs;
+            order = moved;
+            some = more;
+            run = r;
+            one = of_run;
+            from = r.span.from;
+            to = last.span.to;
+            in_row = stand;
+            lines = made.0;
+            of_parts = lines_of Any (r ∷ rs) made.0 made.1;
+            is = found.written.is ∙ rw (back, span) (sym (row_text r r.span.from last.span.to (r ∷ rs) made.0 lines of_run));
+            fails = subst (λ (n : ℕ). IsTrue failing ↔ (0 < n)) counted found.fails;
+          };
+          whole = λ all_wanted. (found.stands.whole all_wanted).ends r last refl found.of_row.last_there;
         }
 
-    by_first : (rs : List PartRead) → ArePartTexts 0 texts rs → NoneIsStrange rs → 0 < length rs → IsPermutation rs row → IsJoined texts bytes failing
+    by_first : (rs : List PartRead) → ArePartTexts 0 texts rs → NoneIsStrange rs → 0 < length rs → IsPermutation rs row → IsJoin part texts bytes failing
     by_first [] all one more moved = absurd (omega (arith, more))
     by_first (x ∷ xs) all one more moved =
         let told = All-permutation (IsTold Any) (x ∷ xs) row moved (all_told 0 texts (x ∷ xs) all) in
@@ -328,9 +375,9 @@ files_sorted n ts rs all = λ k d low high.
     let two = file_at n ts rs (k + 1) d all high in
     not_less (get_or rs (k + 1) d).file (get_or rs k d).file (omega (arith, one, two))
 
-pub apart_found : (texts : List (List ℕ)) (reads row : List PartRead) (fault : JoinFault) → ArePartTexts 0 texts reads → NoneIsStrange reads → 0 < length reads → IsPermutation reads row
-    → IsNonDecreasingBy (λ (r : PartRead). r.span.from) row → IsStableByKey (λ (r : PartRead). r.span.from) nat_cmp reads row → IsApartAt row fault → RefusesJoin texts fault
-apart_found texts reads row fault each alike some order rising stable apart = by_kind apart.kind
+apart_found : (part : Bool) (texts : List (List ℕ)) (reads row : List PartRead) (fault : JoinFault) → ArePartTexts 0 texts reads → NoneIsStrange reads → 0 < length reads → IsPermutation reads row
+    → IsNonDecreasingBy (λ (r : PartRead). r.span.from) row → IsStableByKey (λ (r : PartRead). r.span.from) nat_cmp reads row → IsApartAt row fault → RefusesJoin part texts fault
+apart_found part texts reads row fault each alike some order rising stable apart = by_kind apart.kind
   where
     broken : BeforeBreak row apart.left apart.right
     broken = before_break row apart.place apart.left apart.right apart.left_there apart.right_there apart.joined
@@ -357,9 +404,48 @@ apart_found texts reads row fault each alike some order rising stable apart = by
           before = broken.stand;
         }
 
-    by_kind : ((fault.cause ≡ cause.Gap) × (apart.left.span.to < apart.right.span.from)) ⊎ ((fault.cause ≡ cause.Overlap) × (apart.right.span.from < apart.left.span.to)) → RefusesJoin texts fault
-    by_kind (inl gap) = subst (λ (f : JoinFault). RefusesJoin texts f) (same_fault fault cause.Gap apart.right.file gap.0 apart.file) (with_gap apart.left apart.right first gap.1)
-    by_kind (inr over) = subst (λ (f : JoinFault). RefusesJoin texts f) (same_fault fault cause.Overlap apart.right.file over.0 apart.file) (with_overlap apart.left apart.right first over.1)
+    by_kind : ((fault.cause ≡ cause.Gap) × (apart.left.span.to < apart.right.span.from)) ⊎ ((fault.cause ≡ cause.Overlap) × (apart.right.span.from < apart.left.span.to)) → RefusesJoin part texts fault
+    by_kind (inl gap) = subst (λ (f : JoinFault). RefusesJoin part texts f) (same_fault fault cause.Gap apart.right.file gap.0 apart.file) (with_gap apart.left apart.right first gap.1)
+    by_kind (inr over) = subst (λ (f : JoinFault). RefusesJoin part texts f) (same_fault fault cause.Overlap apart.right.file over.0 apart.file) (with_overlap apart.left apart.right first over.1)
+
+-- a row that isn't whole, where that is asked for
+short_found : (part : Bool) (texts : List (List ℕ)) (reads row : List PartRead) (fault : JoinFault) → ArePartTexts 0 texts reads → NoneIsStrange reads → IsPermutation reads row → part ≡ false → NoneIsApart row
+    → IsRowShort row fault → RefusesJoin part texts fault
+short_found part texts reads row fault each alike order all joined short = by_row row order joined short.first_there short.last_there (length_permutation reads row order) short.lacking
+  where
+    of_run : (rs : List PartRead) → NoneIsStrange rs → 0 < length rs → (run : PartRead) × AreOfRun run rs
+    of_run [] one more = absurd (omega (arith, more))
+    of_run (x ∷ xs) one more = (x, alike_of (x ∷ xs) x refl one)
+
+    by_row : (rs : List PartRead) → IsPermutation reads rs → NoneIsApart rs → slice_get rs 0 ≡ Some short.first → slice_get rs (length rs - 1) ≡ Some short.last → length rs ≡ length reads
+        → LacksImages short.first short.last.span.to (length row) fault.file → RefusesJoin part texts fault
+    by_row [] moved stands at end long lacking = absurd (let bad : None ≡ Some short.first = at in cc)
+    by_row (r ∷ rs) moved stands at end long lacking =
+        let first = one_there (r ∷ rs) 0 r short.first refl at in
+        let last : slice_get (r ∷ rs) (length rs) ≡ Some short.last = let e : length (r ∷ rs) - 1 ≡ length rs = omega arith in rw e at end in
+        let in_it = in_row r rs short.last stands.joined last in
+        let run = of_run reads alike (omega (arith, long)) in
+        let own = All-permutation (IsOfRun run.0) reads (r ∷ rs) moved run.1 in
+        let count : length row ≡ length texts = length_permutation reads row order ∙ texts_long 0 texts reads each in
+        let is_file : LacksImages r short.last.span.to (length texts) fault.file =
+        subst (λ (x : PartRead). LacksImages x short.last.span.to (length texts) fault.file) (sym first) (subst (λ (n : ℕ). LacksImages short.first short.last.span.to n fault.file) count lacking) in
+        subst (λ (f : JoinFault). RefusesJoin part texts f) (same_fault fault cause.Gap fault.file short.kind refl)
+        (short_of_run fault.file all (record {
+          reads = reads;
+          each = each;
+          first = r;
+          others = rs;
+          order = moved;
+          one = λ k d small. of_first run.0 r (get_or (r ∷ rs) k d) (own 0 r (omega arith)) (own k d small);
+          to = short.last.span.to;
+          in_row = in_it;
+          lacking = is_file;
+        }))
+
+no_row_found : (part : Bool) (texts : List (List ℕ)) (reads row : List PartRead) (fault : JoinFault) → ArePartTexts 0 texts reads → NoneIsStrange reads → 0 < length reads → IsPermutation reads row
+    → IsNonDecreasingBy (λ (r : PartRead). r.span.from) row → IsStableByKey (λ (r : PartRead). r.span.from) nat_cmp reads row → WhyNoRow part row fault → RefusesJoin part texts fault
+no_row_found part texts reads row fault each alike some order rising stable (for_break apart) = apart_found part texts reads row fault each alike some order rising stable apart
+no_row_found part texts reads row fault each alike some order rising stable (for_ends all joined short) = short_found part texts reads row fault each alike order all joined short
 
 pub strange_found : (texts : List (List ℕ)) (reads : List PartRead) (place : ℕ) → ArePartTexts 0 texts reads → IsStrangeAt reads place → IsFirstStrange texts place
 strange_found texts reads place each at = record {
@@ -454,12 +540,12 @@ written_found span rs x opening shown last out at a b c e = record {
 }
 
 -- the refusals of a join, in their order
-pub parts_wanting : (texts : List (List ℕ)) (fault : JoinFault) → (fault ≡ record { cause = cause.Memory; file = 0 }) ⊎ ((fault.cause ≡ cause.NotPart) × IsFirstOther texts fault.file) → RefusesJoin texts fault
-parts_wanting texts fault (inl memory) = subst (λ (f : JoinFault). RefusesJoin texts f) (sym memory) no_memory
-parts_wanting texts fault (inr (kind, other)) = subst (λ (f : JoinFault). RefusesJoin texts f) (same_fault fault cause.NotPart fault.file kind refl) (no_part fault.file other)
+pub parts_wanting : (part : Bool) (texts : List (List ℕ)) (fault : JoinFault) → (fault ≡ record { cause = cause.Memory; file = 0 }) ⊎ ((fault.cause ≡ cause.NotPart) × IsFirstOther texts fault.file) → RefusesJoin part texts fault
+parts_wanting part texts fault (inl memory) = subst (λ (f : JoinFault). RefusesJoin part texts f) (sym memory) no_memory
+parts_wanting part texts fault (inr (kind, other)) = subst (λ (f : JoinFault). RefusesJoin part texts f) (same_fault fault cause.NotPart fault.file kind refl) (no_part fault.file other)
 
-pub strange_refused : (texts : List (List ℕ)) (reads : List PartRead) (place : ℕ) → ArePartTexts 0 texts reads → IsStrangeAt reads place → RefusesJoin texts (record { cause = cause.OtherRun; file = place })
-strange_refused texts reads place each at = of_other_run place (strange_found texts reads place each at)
+strange_refused : (part : Bool) (texts : List (List ℕ)) (reads : List PartRead) (place : ℕ) → ArePartTexts 0 texts reads → IsStrangeAt reads place → RefusesJoin part texts (record { cause = cause.OtherRun; file = place })
+strange_refused part texts reads place each at = of_other_run place (strange_found texts reads place each at)
 
 -- parts in the order of their images
 module _ (reads row slice : List PartRead) (order : IsPermutation reads row) (is : slice ≡ row) where
@@ -472,30 +558,30 @@ module _ (reads row slice : List PartRead) (order : IsPermutation reads row) (is
   pub slice_all : (f : PartRead → ℕ) (most : ℕ) → All (λ r. f r ≤ most) reads → All (λ r. f r ≤ most) slice
   slice_all f most all = subst (λ (rs : List PartRead). All (λ (r : PartRead). f r ≤ most) rs) (sym is) (All-permutation (λ (r : PartRead). f r ≤ most) reads row order all)
 
-  pub sorted_text : (r : Result JoinedText JoinFault) → IfOk r (λ j. IsRowText slice j.bytes.items j.failing) → IfOk r (λ j. IsSortedText reads j.bytes.items j.failing)
-  sorted_text (Ok j) text = record { row = row; order = order; text = subst (λ (rs : List PartRead). IsRowText rs j.bytes.items j.failing) is text }
-  sorted_text (Err fault) text = tt
+  pub sorted_text : (part : Bool) (r : Result JoinedText JoinFault) → IfOk r (λ j. IsRowText part slice j.bytes.items j.failing) → IfOk r (λ j. IsSortedText part reads j.bytes.items j.failing)
+  sorted_text part (Ok j) text = record { row = row; order = order; text = subst (λ (rs : List PartRead). IsRowText part rs j.bytes.items j.failing) is text }
+  sorted_text part (Err fault) text = tt
 
-  pub sorted_apart : (r : Result JoinedText JoinFault) → IsNonDecreasingBy (λ (x : PartRead). x.span.from) row
-      → IsStableByKey (λ (x : PartRead). x.span.from) nat_cmp reads row → IfErr r (λ f. (f ≡ record { cause = cause.Memory; file = 0 }) ⊎ IsApartAt slice f) → IfErr r (λ f. (f ≡ record { cause = cause.Memory; file = 0 }) ⊎ IsSortedApart reads f)
-  sorted_apart (Ok bytes) rising stable apart = tt
-  sorted_apart (Err fault) rising stable (inl memory) = inl memory
-  sorted_apart (Err fault) rising stable (inr apart) = inr (record { row = row; order = order; rising = rising; stable = stable; apart = subst (λ (rs : List PartRead). IsApartAt rs fault) is apart })
+  pub sorted_apart : (part : Bool) (r : Result JoinedText JoinFault) → IsNonDecreasingBy (λ (x : PartRead). x.span.from) row
+      → IsStableByKey (λ (x : PartRead). x.span.from) nat_cmp reads row → IfErr r (λ f. (f ≡ record { cause = cause.Memory; file = 0 }) ⊎ WhyNoRow part slice f) → IfErr r (λ f. (f ≡ record { cause = cause.Memory; file = 0 }) ⊎ IsSortedApart part reads f)
+  sorted_apart part (Ok bytes) rising stable apart = tt
+  sorted_apart part (Err fault) rising stable (inl memory) = inl memory
+  sorted_apart part (Err fault) rising stable (inr apart) = inr (record { row = row; order = order; rising = rising; stable = stable; apart = subst (λ (rs : List PartRead). WhyNoRow part rs fault) is apart })
 
 -- parts of one run
-pub run_text : (reads slice : List PartRead) → slice ≡ reads → NoneIsStrange slice → (r : Result JoinedText JoinFault) → IfOk r (λ j. IsSortedText reads j.bytes.items j.failing)
-    → IfOk r (λ j. NoneIsStrange reads × IsSortedText reads j.bytes.items j.failing)
-run_text reads slice is alike (Ok bytes) text = (subst (λ (rs : List PartRead). NoneIsStrange rs) is alike, text)
-run_text reads slice is alike (Err fault) text = tt
+pub run_text : (part : Bool) (reads slice : List PartRead) → slice ≡ reads → NoneIsStrange slice → (r : Result JoinedText JoinFault) → IfOk r (λ j. IsSortedText part reads j.bytes.items j.failing)
+    → IfOk r (λ j. NoneIsStrange reads × IsSortedText part reads j.bytes.items j.failing)
+run_text part reads slice is alike (Ok bytes) text = (subst (λ (rs : List PartRead). NoneIsStrange rs) is alike, text)
+run_text part reads slice is alike (Err fault) text = tt
 
-pub run_refused : (reads slice : List PartRead) → slice ≡ reads → NoneIsStrange slice → (r : Result JoinedText JoinFault)
-    → IfErr r (λ f. (f ≡ record { cause = cause.Memory; file = 0 }) ⊎ IsSortedApart reads f) → IfErr r (WhyNotJoined reads)
-run_refused reads slice is alike (Ok bytes) why = tt
-run_refused reads slice is alike (Err fault) (inl memory) = subst (λ (f : JoinFault). WhyNotJoined reads f) (sym memory) for_memory
-run_refused reads slice is alike (Err fault) (inr apart) = for_images fault (subst (λ (rs : List PartRead). NoneIsStrange rs) is alike) apart
+pub run_refused : (part : Bool) (reads slice : List PartRead) → slice ≡ reads → NoneIsStrange slice → (r : Result JoinedText JoinFault)
+    → IfErr r (λ f. (f ≡ record { cause = cause.Memory; file = 0 }) ⊎ IsSortedApart part reads f) → IfErr r (WhyNotJoined part reads)
+run_refused part reads slice is alike (Ok bytes) why = tt
+run_refused part reads slice is alike (Err fault) (inl memory) = subst (λ (f : JoinFault). WhyNotJoined part reads f) (sym memory) for_memory
+run_refused part reads slice is alike (Err fault) (inr apart) = for_images fault (subst (λ (rs : List PartRead). NoneIsStrange rs) is alike) apart
 
-pub other_refused : (reads slice : List PartRead) (place : ℕ) → slice ≡ reads → IsStrangeAt slice place → WhyNotJoined reads (record { cause = cause.OtherRun; file = place })
-other_refused reads slice place is at = for_run place (subst (λ (rs : List PartRead). IsStrangeAt rs place) is at)
+pub other_refused : (part : Bool) (reads slice : List PartRead) (place : ℕ) → slice ≡ reads → IsStrangeAt slice place → WhyNotJoined part reads (record { cause = cause.OtherRun; file = place })
+other_refused part reads slice place is at = for_run place (subst (λ (rs : List PartRead). IsStrangeAt rs place) is at)
 
 -- what is read of files
 long_map : {S : Type 0} (f : S → List ℕ) (xs : List S) → length (map f xs) ≡ length xs
@@ -505,20 +591,20 @@ long_map f (x ∷ xs) = ap suc (long_map f xs)
 pub reads_long : {S : Type 0} (f : S → List ℕ) (xs : List S) (reads : List PartRead) → ArePartTexts 0 (map f xs) reads → length reads ≡ length xs
 reads_long f xs reads all = texts_long 0 (map f xs) reads all ∙ long_map f xs
 
-pub files_joined : (texts : List (List ℕ)) (reads : List PartRead) → 0 < length reads → ArePartTexts 0 texts reads → (r : Result JoinedText JoinFault)
-    → IfOk r (λ j. NoneIsStrange reads × IsSortedText reads j.bytes.items j.failing) → IfOk r (λ j. IsJoined texts j.bytes.items j.failing)
-files_joined texts reads some each (Ok j) (alike, text) = joined_found texts reads text.row j.bytes.items j.failing each alike some text.order text.text
-files_joined texts reads some each (Err fault) text = tt
+pub files_joined : (part : Bool) (texts : List (List ℕ)) (reads : List PartRead) → 0 < length reads → ArePartTexts 0 texts reads → (r : Result JoinedText JoinFault)
+    → IfOk r (λ j. NoneIsStrange reads × IsSortedText part reads j.bytes.items j.failing) → IfOk r (λ j. IsJoin part texts j.bytes.items j.failing)
+files_joined part texts reads some each (Ok j) (alike, text) = joined_found part texts reads text.row j.bytes.items j.failing each alike some text.order text.text
+files_joined part texts reads some each (Err fault) text = tt
 
-why_refused : (texts : List (List ℕ)) (reads : List PartRead) → 0 < length reads → ArePartTexts 0 texts reads → (fault : JoinFault) → WhyNotJoined reads fault → RefusesJoin texts fault
-why_refused texts reads some each _ for_memory = no_memory
-why_refused texts reads some each _ (for_run place at) = strange_refused texts reads place each at
-why_refused texts reads some each _ (for_images fault alike apart) = apart_found texts reads apart.row fault each alike some apart.order apart.rising apart.stable apart.apart
+why_refused : (part : Bool) (texts : List (List ℕ)) (reads : List PartRead) → 0 < length reads → ArePartTexts 0 texts reads → (fault : JoinFault) → WhyNotJoined part reads fault → RefusesJoin part texts fault
+why_refused part texts reads some each _ for_memory = no_memory
+why_refused part texts reads some each _ (for_run place at) = strange_refused part texts reads place each at
+why_refused part texts reads some each _ (for_images fault alike apart) = no_row_found part texts reads apart.row fault each alike some apart.order apart.rising apart.stable apart.apart
 
-pub files_refused : (texts : List (List ℕ)) (reads : List PartRead) → 0 < length reads → ArePartTexts 0 texts reads → (r : Result JoinedText JoinFault) → IfErr r (WhyNotJoined reads)
-    → IfErr r (RefusesJoin texts)
-files_refused texts reads some each (Ok bytes) why = tt
-files_refused texts reads some each (Err fault) why = why_refused texts reads some each fault why
+pub files_refused : (part : Bool) (texts : List (List ℕ)) (reads : List PartRead) → 0 < length reads → ArePartTexts 0 texts reads → (r : Result JoinedText JoinFault) → IfErr r (WhyNotJoined part reads)
+    → IfErr r (RefusesJoin part texts)
+files_refused part texts reads some each (Ok bytes) why = tt
+files_refused part texts reads some each (Err fault) why = why_refused part texts reads some each fault why
 
 -- what is known before an answer
 pub known_ok : {A E : Type 0} (r : Result A E) (P : Type 0) → P → IfOk r (λ _x. P)

@@ -23,7 +23,7 @@ use Rattle.report.specs.Part.{span_text}
 use Rattle.join.specs.Text.{PartValue, IsSpan, RunValue, span_of, part_bytes, lines_between}
 use Rattle.join.specs.Printable.{ArePrintable}
 use Rattle.join.specs.Reading.{PartRead, IsPartText}
-use Rattle.join.specs.Joining.{ArePartTexts, IsOfRun, AreOfRun, AreInRow, RefusesJoin, too_long, no_part, of_other_run, with_gap, with_overlap, no_memory, IsFirstOther, IsFirstStrange, IsFirstApart, joined_text, opening_text}
+use Rattle.join.specs.Joining.{ArePartTexts, IsOfRun, AreOfRun, AreInRow, RefusesJoin, too_long, no_part, of_other_run, with_gap, with_overlap, short_of_run, no_memory, IsShortOfRun, IsFirstOther, IsFirstStrange, IsFirstApart, joined_text, opening_text}
 use Rattle.join.specs.Laws.{IsRun, Range, has, texts_of, AreRanges, ArePartsOf, run_bytes, JoinIsRun, PartsAreJoined}
 use Rattle.join.proofs.Counts.{next_is, rising}
 use Rattle.join.proofs.Order.{first-append, none_of, are_from}
@@ -528,14 +528,30 @@ no_gap r from to left right h gap =
     let back_split = sum_by-cons (read_has left.span.to) right h.back in
     omega (arith, has_it, all, split, alone, before_it, past, behind_it, back_split)
 
-of_refusal : (r : RunValue) (ranges : List Range) (from to : ℕ) (fault : JoinFault) → ArePartsOf r ranges from to → RefusesJoin (texts_of r ranges) fault
-    → (fault.cause ≡ cause.TooLong) ⊎ (fault.cause ≡ cause.Memory)
-of_refusal r ranges from to _ parts (too_long file long) = inl refl
-of_refusal r ranges from to _ parts (no_part file other) = absurd (not_other r parts.run ranges file parts.ranges_are other)
-of_refusal r ranges from to _ parts (of_other_run file strange) = absurd (not_strange r parts.run ranges file parts.ranges_are strange)
-of_refusal r ranges from to _ parts (with_gap left right apart gap) = absurd (no_gap r from to left right (breaks r ranges from to left right parts apart) gap)
-of_refusal r ranges from to _ parts (with_overlap left right apart over) = absurd (no_overlap r from to left right (breaks r ranges from to left right parts apart) over)
-of_refusal r ranges from to _ parts no_memory = inr refl
+-- all parts of a run lack none of its images
+not_short : (r : RunValue) (ranges : List Range) (from to file : ℕ) → ArePartsOf r ranges from to → from ≡ 0 → to ≡ r.head.images → IsShortOfRun (texts_of r ranges) file → ⊥
+not_short r ranges from to file parts start end h =
+    let told_reads = told_all r parts.run 0 ranges h.reads parts.ranges_are h.each in
+    let told = All-permutation (IsTold (OfRun r)) h.reads (h.first ∷ h.others) h.order told_reads in
+    let ends = ends_are r ranges from to parts h.reads (h.first ∷ h.others) h.first.span.from h.to h.each h.order (omega arith) told h.in_row in
+    let first = ends.0 in
+    let last = ends.1 in
+    let value = value_is r h.first (told 0 h.first (omega arith)) in
+    let images = ap (λ (s : Span). s.images) value.span in
+    elim h.lacking [
+      | inl (late, file_is) ↦ omega (arith, late, first, start)
+      | inr (begins, early, file_is) ↦ early (last ∙ end ∙ sym images)
+    ]
+
+of_refusal : (part : Bool) (r : RunValue) (ranges : List Range) (from to : ℕ) (fault : JoinFault) → ArePartsOf r ranges from to → (part ≡ false → (from ≡ 0) × (to ≡ r.head.images))
+    → RefusesJoin part (texts_of r ranges) fault → (fault.cause ≡ cause.TooLong) ⊎ (fault.cause ≡ cause.Memory)
+of_refusal part r ranges from to _ parts whole (too_long file long) = inl refl
+of_refusal part r ranges from to _ parts whole (no_part file other) = absurd (not_other r parts.run ranges file parts.ranges_are other)
+of_refusal part r ranges from to _ parts whole (of_other_run file strange) = absurd (not_strange r parts.run ranges file parts.ranges_are strange)
+of_refusal part r ranges from to _ parts whole (with_gap left right apart gap) = absurd (no_gap r from to left right (breaks r ranges from to left right parts apart) gap)
+of_refusal part r ranges from to _ parts whole (with_overlap left right apart over) = absurd (no_overlap r from to left right (breaks r ranges from to left right parts apart) over)
+of_refusal part r ranges from to _ parts whole (short_of_run file all short) = absurd (let ends = whole all in not_short r ranges from to file parts ends.0 ends.1 short)
+of_refusal part r ranges from to _ parts whole no_memory = inr refl
 
 pub parts_are_joined : PartsAreJoined
-parts_are_joined r ranges from to fault parts refused = of_refusal r ranges from to fault parts refused
+parts_are_joined part r ranges from to fault parts whole refused = of_refusal part r ranges from to fault parts whole refused

@@ -1,5 +1,5 @@
 -- What texts of parts come to together, and when they are not joined (docs/REPORT.md, Joining parts).
-use Rattle.std.specs.Prelude.{ℕ, ◌+◌, ◌-◌, ◌≡◌, ◌↔◌, IsTrue, ◌<◌, ◌≤◌, ◌^◌, ◌==◌, ◌&&◌, Bool, true, false, if◌then◌else◌, List, [], ◌∷◌, ◌++◌, length, codes, slice_get, slice_index_or, take, Option, None, Some}
+use Rattle.std.specs.Prelude.{ℕ, ◌+◌, ◌-◌, ◌≡◌, ◌≢◌, ◌↔◌, IsTrue, ◌<◌, ◌≤◌, ◌⊎◌, ◌^◌, ◌==◌, ◌&&◌, Bool, true, false, if◌then◌else◌, List, [], ◌∷◌, ◌++◌, length, codes, slice_get, slice_index_or, take, Option, None, Some}
 use Rattle.std.specs.List.{All, flat_map, sum_by}
 use Rattle.std.specs.List.Sorted.{IsPermutation, IsNonDecreasingBy}
 use Rattle.lines.specs.Line.{FailingLine}
@@ -68,6 +68,12 @@ pub record IsJoined (texts : List (List ℕ)) (bytes : List ℕ) (failing : Bool
   pub is : bytes ≡ joined_text run from to lines
   pub fails : IsTrue failing ↔ (0 < length lines)
 
+-- these bytes are what is asked of the texts: with `part` the text of the images that they have, and without it the report of a run, of
+-- which they have all images
+pub record IsJoin (part : Bool) (texts : List (List ℕ)) (bytes : List ℕ) (failing : Bool) : Type 0 where
+  pub joined : IsJoined texts bytes failing
+  pub whole : part ≡ false → (joined.from ≡ 0) × (joined.to ≡ joined.run.span.images)
+
 -- how many bytes texts have
 abbrev pub size_of : List (List ℕ) → ℕ
 size_of texts = sum_by (λ (t : List ℕ). length t) texts
@@ -118,14 +124,32 @@ pub record IsFirstApart (texts : List (List ℕ)) (left right : PartRead) : Type
   pub from : ℕ
   pub before : AreInRow from (front ++ left ∷ []) left.span.to
 
--- why texts are not joined
-pub data RefusesJoin (texts : List (List ℕ)) : JoinFault → Type 0 where
-  too_long : (file : ℕ) → IsFirstLong texts file → RefusesJoin texts (record { cause = cause.TooLong; file = file })
-  no_part : (file : ℕ) → IsFirstOther texts file → RefusesJoin texts (record { cause = cause.NotPart; file = file })
-  of_other_run : (file : ℕ) → IsFirstStrange texts file → RefusesJoin texts (record { cause = cause.OtherRun; file = file })
-  with_gap : (left right : PartRead) → IsFirstApart texts left right → left.span.to < right.span.from → RefusesJoin texts (record { cause = cause.Gap; file = right.file })
-  with_overlap : (left right : PartRead) → IsFirstApart texts left right → right.span.from < left.span.to → RefusesJoin texts (record { cause = cause.Overlap; file = right.file })
-  no_memory : RefusesJoin texts (record { cause = cause.Memory; file = 0 })
+-- a row that ends at `to` hasn't all images of its run: its first part, which is that file, doesn't begin at 0; or else its last one
+-- doesn't end at the last image, and the others would be in a file after all these
+abbrev pub LacksImages : PartRead → ℕ → ℕ → ℕ → Type 0
+LacksImages first to files file = ((0 < first.span.from) × (file ≡ first.file)) ⊎ ((first.span.from ≡ 0) × (to ≢ first.span.images) × (file ≡ files))
+
+-- parts of one run in a row, which haven't all of its images
+pub record IsShortOfRun (texts : List (List ℕ)) (file : ℕ) : Type 0 where
+  pub reads : List PartRead
+  pub each : ArePartTexts 0 texts reads
+  pub first : PartRead
+  pub others : List PartRead
+  pub order : IsPermutation reads (first ∷ others)
+  pub one : AreOfRun first (first ∷ others)
+  pub to : ℕ
+  pub in_row : AreInRow first.span.from (first ∷ others) to
+  pub lacking : LacksImages first to (length texts) file
+
+-- why texts are not joined; `part` says whether they may have a part of the images alone
+pub data RefusesJoin (part : Bool) (texts : List (List ℕ)) : JoinFault → Type 0 where
+  too_long : (file : ℕ) → IsFirstLong texts file → RefusesJoin part texts (record { cause = cause.TooLong; file = file })
+  no_part : (file : ℕ) → IsFirstOther texts file → RefusesJoin part texts (record { cause = cause.NotPart; file = file })
+  of_other_run : (file : ℕ) → IsFirstStrange texts file → RefusesJoin part texts (record { cause = cause.OtherRun; file = file })
+  with_gap : (left right : PartRead) → IsFirstApart texts left right → left.span.to < right.span.from → RefusesJoin part texts (record { cause = cause.Gap; file = right.file })
+  with_overlap : (left right : PartRead) → IsFirstApart texts left right → right.span.from < left.span.to → RefusesJoin part texts (record { cause = cause.Overlap; file = right.file })
+  short_of_run : (file : ℕ) → part ≡ false → IsShortOfRun texts file → RefusesJoin part texts (record { cause = cause.Gap; file = file })
+  no_memory : RefusesJoin part texts (record { cause = cause.Memory; file = 0 })
 
 -- what is counted of parts together
 abbrev pub earlier : Option ℕ → Option ℕ → Option ℕ

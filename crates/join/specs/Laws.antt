@@ -1,5 +1,5 @@
 -- Parts of one run that have each image once, joined, are the text of these images, and of all images the report.
-use Rattle.std.specs.Prelude.{ℕ, ◌+◌, ◌≡◌, ◌<◌, ◌≤◌, ◌⊎◌, ◌^◌, ◌==◌, ◌&&◌, nat_le, nat_lt, Bool, true, if◌then◌else◌, List, map, None}
+use Rattle.std.specs.Prelude.{ℕ, ◌+◌, ◌≡◌, ◌<◌, ◌≤◌, ◌⊎◌, ◌^◌, ◌==◌, ◌&&◌, nat_le, nat_lt, Bool, true, false, if◌then◌else◌, List, map, None}
 use Rattle.std.specs.List.{All, sum_by}
 use Rattle.lines.specs.Marks.{marks_of}
 use Rattle.report.specs.Report.{options_text, report_bytes}
@@ -57,7 +57,8 @@ abbrev pub JoinIsRun : Type 0
 JoinIsRun = (r : RunValue) (ranges : List Range) (from to : ℕ) (bytes : List ℕ) (failing : Bool) → ArePartsOf r ranges from to → IsJoined (texts_of r ranges) bytes failing
     → bytes ≡ run_bytes r from to
 
--- and they are refused for their length or for want of memory alone
+-- and they are refused for their length or for want of memory alone, where they are all parts of the run, or may be some
 abbrev pub PartsAreJoined : Type 0
-PartsAreJoined = (r : RunValue) (ranges : List Range) (from to : ℕ) (fault : JoinFault) → ArePartsOf r ranges from to → RefusesJoin (texts_of r ranges) fault
+PartsAreJoined = (part : Bool) (r : RunValue) (ranges : List Range) (from to : ℕ) (fault : JoinFault) → ArePartsOf r ranges from to
+    → (part ≡ false → (from ≡ 0) × (to ≡ r.head.images)) → RefusesJoin part (texts_of r ranges) fault
     → (fault.cause ≡ cause.TooLong) ⊎ (fault.cause ≡ cause.Memory)

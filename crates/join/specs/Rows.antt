@@ -1,5 +1,5 @@
 -- Parts in a row, as the code goes through them.
-use Rattle.std.specs.Prelude.{ℕ, ◌+◌, ◌-◌, ◌≡◌, ◌↔◌, IsTrue, Bool, ◌<◌, ◌⊎◌, List, ◌++◌, length, slice_get, Some}
+use Rattle.std.specs.Prelude.{ℕ, ◌+◌, ◌-◌, ◌≡◌, ◌↔◌, IsTrue, Bool, ◌<◌, ◌⊎◌, false, List, ◌++◌, length, slice_get, Some}
 use Rattle.std.specs.List.Sorted.{IsPermutation, IsNonDecreasingBy, IsStableByKey}
 use Rattle.std.specs.Ordering.{nat_cmp}
 use Rattle.base.specs.declared.causes.JoinCause.{JoinCause}
@@ -7,7 +7,7 @@ use Rattle.base.specs.declared.causes.JoinCause.TheVariants as cause
 use Rattle.join.specs.declared.fault.JoinFault.{JoinFault}
 use Rattle.report.specs.declared.span.Span.{Span}
 use Rattle.join.specs.Reading.{PartRead, none_read, last_text}
-use Rattle.join.specs.Joining.{IsOfRun, opening_text, shown_bytes, totalled}
+use Rattle.join.specs.Joining.{IsOfRun, LacksImages, opening_text, shown_bytes, totalled}
 
 -- the part at each place below n is of the run of the first
 abbrev pub AreAlikeTo : List PartRead → ℕ → Type 0
@@ -60,30 +60,54 @@ pub record IsSpanOfRow (rs : List PartRead) (span : Span) : Type 0 where
   pub last_there : slice_get rs (length rs - 1) ≡ Some last
   pub is : span ≡ record { from = run.span.from; to = last.span.to; images = run.span.images; inputs = run.span.inputs }
 
--- the bytes are the text of parts in a row, with a failing line or without
-pub record IsRowText (rs : List PartRead) (bytes : List ℕ) (failing : Bool) : Type 0 where
+-- parts in a row have all images of their run
+pub record IsRowWhole (rs : List PartRead) : Type 0 where
+  pub ends : (first last : PartRead) → slice_get rs 0 ≡ Some first → slice_get rs (length rs - 1) ≡ Some last → (first.span.from ≡ 0) × (last.span.to ≡ first.span.images)
+
+-- parts in a row, of so many files, haven't all images of their run
+pub record IsRowShort (rs : List PartRead) (fault : JoinFault) : Type 0 where
+  pub first : PartRead
+  pub first_there : slice_get rs 0 ≡ Some first
+  pub last : PartRead
+  pub last_there : slice_get rs (length rs - 1) ≡ Some last
+  pub kind : fault.cause ≡ cause.Gap
+  pub lacking : LacksImages first last.span.to (length rs) fault.file
+
+-- parts in the order of their images are joined: each begins where the one before it ends, and they are the whole run, unless they may
+-- be a part of it
+pub record IsRow (part : Bool) (rs : List PartRead) : Type 0 where
   pub joined : NoneIsApart rs
+  pub whole : part ≡ false → IsRowWhole rs
+
+-- why they aren't: the row breaks, or it has to be whole and isn't
+pub data WhyNoRow (part : Bool) (rs : List PartRead) (fault : JoinFault) : Type 0 where
+  for_break : IsApartAt rs fault → WhyNoRow part rs fault
+  for_ends : part ≡ false → NoneIsApart rs → IsRowShort rs fault → WhyNoRow part rs fault
+
+-- the bytes are the text of parts in a row, with a failing line or without
+pub record IsRowText (part : Bool) (rs : List PartRead) (bytes : List ℕ) (failing : Bool) : Type 0 where
+  pub stands : IsRow part rs
   pub span : Span
   pub of_row : IsSpanOfRow rs span
   pub written : IsWritten span rs bytes
   pub fails : IsTrue failing ↔ (0 < (totalled none_read rs).lines)
 
 -- the bytes are the text of parts, put into the order of their images
-pub record IsSortedText (reads : List PartRead) (bytes : List ℕ) (failing : Bool) : Type 0 where
+pub record IsSortedText (part : Bool) (reads : List PartRead) (bytes : List ℕ) (failing : Bool) : Type 0 where
   pub row : List PartRead
   pub order : IsPermutation reads row
-  pub text : IsRowText row bytes failing
+  pub text : IsRowText part row bytes failing
 
--- parts, put into the order of their images, break
-pub record IsSortedApart (reads : List PartRead) (fault : JoinFault) : Type 0 where
+-- parts, put into the order of their images, are no such row
+pub record IsSortedApart (part : Bool) (reads : List PartRead) (fault : JoinFault) : Type 0 where
   pub row : List PartRead
   pub order : IsPermutation reads row
   pub rising : IsNonDecreasingBy (λ (r : PartRead). r.span.from) row
   pub stable : IsStableByKey (λ (r : PartRead). r.span.from) nat_cmp reads row
-  pub apart : IsApartAt row fault
+  pub apart : WhyNoRow part row fault
 
 -- why parts that were read are not joined
-pub data WhyNotJoined (reads : List PartRead) : JoinFault → Type 0 where
-  for_memory : WhyNotJoined reads (record { cause = cause.Memory; file = 0 })
-  for_run : (place : ℕ) → IsStrangeAt reads place → WhyNotJoined reads (record { cause = cause.OtherRun; file = place })
-  for_images : (fault : JoinFault) → NoneIsStrange reads → IsSortedApart reads fault → WhyNotJoined reads fault
+pub data WhyNotJoined (part : Bool) (reads : List PartRead) : JoinFault → Type 0 where
+  for_memory : WhyNotJoined part reads (record { cause = cause.Memory; file = 0 })
+  for_run : (place : ℕ) → IsStrangeAt reads place → WhyNotJoined part reads (record { cause = cause.OtherRun; file = place })
+  for_images : (fault : JoinFault) → NoneIsStrange reads → IsSortedApart part reads fault → WhyNotJoined part reads fault

@@ -3,12 +3,12 @@
 ghost use Rattle.std.specs.Prelude.{ℕ, ◌≡◌, ◌<◌, ◌≤◌, ◌+◌, ◌^◌, ◌⊎◌, ◌++◌, ◌∷◌, [], All, false, IfErr, IfOk, MatchOption, OnOk, length, map, string_bytes};
 ghost use Rattle.base.specs.declared.causes.JoinCause.TheVariants as cause;
 ghost use Rattle.join.specs.Reading.{last_text, IsPartText, NoPartText, none_read};
-ghost use Rattle.join.specs.Joining.{ArePartTexts, IsFirstOther, IsFirstLong, IsJoined, RefusesJoin, opening_text, size_of, totalled, added, earlier, first_some, shown_bytes};
-ghost use Rattle.join.specs.Rows.{IsApartAt, IsRowText, IsSpanOfRow, IsWritten, NoneIsStrange, IsSortedText, IsSortedApart, WhyNotJoined};
+ghost use Rattle.join.specs.Joining.{ArePartTexts, IsFirstOther, IsFirstLong, IsJoin, RefusesJoin, opening_text, size_of, totalled, added, earlier, first_some, shown_bytes};
+ghost use Rattle.join.specs.Rows.{IsRowText, IsSpanOfRow, IsWritten, NoneIsStrange, IsSortedText, IsSortedApart, WhyNoRow, WhyNotJoined};
 
 use crate::fault::JoinFault;
 use crate::part::{Part, put_last, read_part};
-use crate::row::{first_apart, first_strange, put_in_order};
+use crate::row::{first_strange, put_in_order, row_fault};
 use crate::tally::Tally;
 use base::causes::JoinCause;
 use report::{Span, put_span};
@@ -231,16 +231,16 @@ fn span_of(parts: &[Part<'_>]) -> Span
     }
 }
 
-/// The text of parts of one run, in the order of their images, if they stand in a row.
-fn join_row(alloc: Global, parts: &[Part<'_>]) -> Result<JoinedText, JoinFault>
+/// The text of parts of one run, in the order of their images, if they stand in a row and are the whole run, or may be a part of it.
+fn join_row(alloc: Global, part: bool, parts: &[Part<'_>]) -> Result<JoinedText, JoinFault>
     requires some { 0 < length parts.now }
     requires few { length parts.now ≤ 4096 }
     requires lines { All (λ r. r.tally.lines ≤ 2 ^ 30) parts.now }
     requires images { All (λ r. r.tally.images ≤ 2 ^ 30) parts.now }
-    ensures joined { IfOk result (λ j. IsRowText parts.now j.bytes.items j.failing) }
-    ensures refused { IfErr result (λ f. (f ≡ record { cause = cause.Memory; file = 0 }) ⊎ IsApartAt parts.now f) }
+    ensures joined { IfOk result (λ j. IsRowText part parts.now j.bytes.items j.failing) }
+    ensures refused { IfErr result (λ f. (f ≡ record { cause = cause.Memory; file = 0 }) ⊎ WhyNoRow part parts.now f) }
 {
-    if let Some(fault) = first_apart(parts) {
+    if let Some(fault) = row_fault(part, parts) {
         return Err(fault);
     }
     let tally = total_of(parts);
@@ -253,66 +253,68 @@ fn join_row(alloc: Global, parts: &[Part<'_>]) -> Result<JoinedText, JoinFault>
     }
 }
 
-/// The text of parts of one run, if they stand in a row once they are in the order of their images.
-fn join_run(alloc: Global, parts: &mut Vec<Part<'_>>) -> Result<JoinedText, JoinFault>
+/// The text of parts of one run, if they stand in a row once they are in the order of their images, and are the whole run, or may be a
+/// part of it.
+fn join_run(alloc: Global, part: bool, parts: &mut Vec<Part<'_>>) -> Result<JoinedText, JoinFault>
     requires some { 0 < length parts.old.items }
     requires few { length parts.old.items ≤ 4096 }
     requires lines { All (λ r. r.tally.lines ≤ 2 ^ 30) parts.old.items }
     requires images { All (λ r. r.tally.images ≤ 2 ^ 30) parts.old.items }
-    ensures joined { IfOk result (λ j. IsSortedText parts.old.items j.bytes.items j.failing) }
-    ensures refused { IfErr result (λ f. (f ≡ record { cause = cause.Memory; file = 0 }) ⊎ IsSortedApart parts.old.items f) }
+    ensures joined { IfOk result (λ j. IsSortedText part parts.old.items j.bytes.items j.failing) }
+    ensures refused { IfErr result (λ f. (f ≡ record { cause = cause.Memory; file = 0 }) ⊎ IsSortedApart part parts.old.items f) }
 {
     match put_in_order(parts) {
-        Ok(()) => join_row(alloc, parts.as_slice()),
+        Ok(()) => join_row(alloc, part, parts.as_slice()),
         Err(_error) => Err(memory_fault()),
     }
 }
 
-/// The text of parts, if they are of one run and stand in a row.
-fn join_parts(alloc: Global, parts: &mut Vec<Part<'_>>) -> Result<JoinedText, JoinFault>
+/// The text of parts, if they are of one run and stand in a row, and are the whole run, or may be a part of it.
+fn join_parts(alloc: Global, part: bool, parts: &mut Vec<Part<'_>>) -> Result<JoinedText, JoinFault>
     requires some { 0 < length parts.old.items }
     requires few { length parts.old.items ≤ 4096 }
     requires lines { All (λ r. r.tally.lines ≤ 2 ^ 30) parts.old.items }
     requires images { All (λ r. r.tally.images ≤ 2 ^ 30) parts.old.items }
-    ensures joined { IfOk result (λ j. NoneIsStrange parts.old.items × IsSortedText parts.old.items j.bytes.items j.failing) }
-    ensures refused { IfErr result (WhyNotJoined parts.old.items) }
+    ensures joined { IfOk result (λ j. NoneIsStrange parts.old.items × IsSortedText part parts.old.items j.bytes.items j.failing) }
+    ensures refused { IfErr result (WhyNotJoined part parts.old.items) }
 {
     match first_strange(parts.as_slice()) {
         Some(place) => Err(JoinFault {
             cause: JoinCause::OtherRun,
             file: place as u32,
         }),
-        None => join_run(alloc, parts),
+        None => join_run(alloc, part, parts),
     }
 }
 
 /// The text of the images of the parts of files that aren't too long.
-fn join_short(alloc: Global, files: &[Vec<u8>]) -> Result<JoinedText, JoinFault>
+fn join_short(alloc: Global, part: bool, files: &[Vec<u8>]) -> Result<JoinedText, JoinFault>
     requires some { 0 < length files.now }
     requires few { length files.now ≤ 4096 }
     requires short { size_of (map (λ f. f.items) files.now) ≤ 2 ^ 30 }
-    ensures joined { IfOk result (λ j. IsJoined (map (λ f. f.items) files.now) j.bytes.items j.failing) }
-    ensures refused { IfErr result (RefusesJoin (map (λ f. f.items) files.now)) }
+    ensures joined { IfOk result (λ j. IsJoin part (map (λ f. f.items) files.now) j.bytes.items j.failing) }
+    ensures refused { IfErr result (RefusesJoin part (map (λ f. f.items) files.now)) }
 {
     match parts_of(alloc, files) {
-        Ok(mut parts) => join_parts(alloc, &mut parts),
+        Ok(mut parts) => join_parts(alloc, part, &mut parts),
         Err(fault) => Err(fault),
     }
 }
 
-/// The text of the images of parts of one run: the report, where these are all images of the run, else again the text of a part. The
-/// files come in any order; there are 1 to 4,096 of them.
+/// The report of a run, of the texts of all its parts. Where `part` says so they may be some of the parts, in a row: then it is again
+/// the text of a part, or the report where they are all. The files come in any order; there are 1 to 4,096 of them.
 ///
 /// # Errors
 ///
 /// In this order: the file with which they have more than 1 GiB; the first that isn't the text of a part, to the byte; the first that is
 /// a part of another run than the first file; of the parts by their images, and those that begin alike by their files, the first that
-/// begins behind the end of the one before it, or before that. Or want of memory.
-pub fn join(alloc: Global, files: &[Vec<u8>]) -> Result<JoinedText, JoinFault>
+/// begins after the end of the one before it, or before that; without `part`, the first of them where it doesn't begin at image 0, and
+/// else a file after all others, where the last one doesn't end at the number of all images. Or want of memory.
+pub fn join(alloc: Global, part: bool, files: &[Vec<u8>]) -> Result<JoinedText, JoinFault>
     requires some { 0 < length files.now }
     requires few { length files.now ≤ 4096 }
-    ensures joined { IfOk result (λ j. IsJoined (map (λ f. f.items) files.now) j.bytes.items j.failing) }
-    ensures refused { IfErr result (RefusesJoin (map (λ f. f.items) files.now)) }
+    ensures joined { IfOk result (λ j. IsJoin part (map (λ f. f.items) files.now) j.bytes.items j.failing) }
+    ensures refused { IfErr result (RefusesJoin part (map (λ f. f.items) files.now)) }
     ensures short { IfOk result (λ _joined. size_of (map (λ f. f.items) files.now) ≤ 2 ^ 30) }
     ensures first { IfErr result (λ f. (f.cause ≡ cause.TooLong) ⊎ (size_of (map (λ f. f.items) files.now) ≤ 2 ^ 30)) }
 {
@@ -321,6 +323,6 @@ pub fn join(alloc: Global, files: &[Vec<u8>]) -> Result<JoinedText, JoinFault>
             cause: JoinCause::TooLong,
             file: file as u32,
         }),
-        None => join_short(alloc, files),
+        None => join_short(alloc, part, files),
     }
 }

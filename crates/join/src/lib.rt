@@ -1,8 +1,8 @@
 //! The texts of parts of a run, and what they come to together.
 //!
 //! A run of billions of images is laid out in parts: each is judged by itself, on any machine, and makes a text
-//! (docs/REPORT.md, The text of a part). This crate reads such texts and joins them: to the report of the run, to the byte what one
-//! run of all images would print, or where images are missing at the ends, to the text of a greater part.
+//! (docs/REPORT.md, The text of a part). This crate reads such texts and joins them: all of a run to its report, to the byte what one
+//! run of all images would print, or where that is asked for, some in a row to the text of a greater part.
 //!
 //! ```text
 //! crash part 1
@@ -15,7 +15,7 @@
 //!
 //! | Type or call | What it is |
 //! |---|---|
-//! | `join(alloc, files)` | the text of all images of these parts, as a `JoinedText`; or why they aren't joined |
+//! | `join(alloc, part, files)` | the report of the run of which these are the parts, or with `part` the text of their images, as a `JoinedText`; or why they aren't joined |
 //! | `JoinedText` | the bytes of a text, and whether a failing line stands there |
 //! | `JoinFault` | the file that is at fault, and why |
 //! | `join_is_run`, `parts_are_joined` | laws, as functions that do nothing |
@@ -29,13 +29,15 @@
 //! # What is proved
 //!
 //! Where `join` answers `Ok`, each file is the text of a part to the byte (`IsPart`), all are of one run, in a row each begins where the
-//! one before it ends, and the bytes are those of all lines in that order, with their totals (`IsJoined` in `specs/Joining.antt`).
-//! Where it answers `Err`, the fault is the first in the order of docs/REPORT.md (`RefusesJoin`), or there was no memory. More than 1 GiB
-//! is never joined, and is refused before a text is read (the clauses `short` and `first`). Any bytes are taken.
+//! one before it ends, and the bytes are those of all lines in that order, with their totals. Without `part` the first begins at image 0
+//! and the last ends at the number of all images (`IsJoin` in `specs/Joining.antt`). Where it answers `Err`, the fault is the first in the
+//! order of docs/REPORT.md (`RefusesJoin`), or there was no memory. More than 1 GiB is never joined, and is refused before a text is read
+//! (the clauses `short` and `first`). Any bytes are taken.
 //!
 //! The laws are about whole runs (`specs/Laws.antt`). Where the texts are those of parts of one run by the definition of the report, and
 //! each image from A to below B is in one of them and no other image is in any, then what they come to is the text of the images from A
-//! to below B by that definition, and of all images the report. Such texts are refused for their length or for want of memory alone.
+//! to below B by that definition, and of all images the report. Such texts are refused for their length or for want of memory alone;
+//! without `part` where these are all images of the run.
 //!
 //! # How it is written
 //!
@@ -57,12 +59,15 @@
 //! // `bytes` is the text above
 //! let mut parts = Vec::new(alloc);
 //! parts.push(bytes.to_vec(alloc)?)?;
-//! if let Ok(joined) = join(alloc, parts.as_slice()) {
+//! if let Ok(joined) = join(alloc, true, parts.as_slice()) {
 //!     // one part alone is joined to its own text: `joined.bytes` is `bytes`, and `joined.failing` is true
 //!     let is_same = joined.failing && joined.bytes.as_slice() == bytes;
 //! }
+//! if let Err(JoinFault { cause: JoinCause::Gap, file }) = join(alloc, false, parts.as_slice()) {
+//!     // `file` is 0: images of the run are missing before it
+//! }
 //! parts.push(bytes.to_vec(alloc)?)?;
-//! if let Err(JoinFault { cause: JoinCause::Overlap, file }) = join(alloc, parts.as_slice()) {
+//! if let Err(JoinFault { cause: JoinCause::Overlap, file }) = join(alloc, true, parts.as_slice()) {
 //!     // `file` is 1: its images are in the file before it too
 //! }
 //! ```

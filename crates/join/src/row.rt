@@ -3,8 +3,9 @@
 ghost use Rattle.std.specs.Prelude.{◌≡◌, ◌≢◌, ◌<◌, ◌≤◌, ◌↔◌, ◌++◌, ◌∷◌, [], ℕ, IfOk, IsTrue, MatchOption, OnOk, OnErr, length, map};
 ghost use Rattle.std.specs.List.Sorted.{IsPermutation, IsNonDecreasingBy, IsStableByKey};
 ghost use Rattle.std.specs.Ordering.{nat_cmp};
+ghost use Rattle.base.specs.declared.causes.JoinCause.TheVariants as cause;
 ghost use Rattle.join.specs.Joining.{IsOfRun};
-ghost use Rattle.join.specs.Rows.{IsStrangeAt, NoneIsStrange, IsApart, IsApartAt, NoneIsApart};
+ghost use Rattle.join.specs.Rows.{IsStrangeAt, NoneIsStrange, IsApart, IsApartAt, NoneIsApart, IsRow, IsRowShort, IsRowWhole, WhyNoRow};
 
 use crate::fault::JoinFault;
 use crate::part::Part;
@@ -75,4 +76,50 @@ pub(crate) fn first_apart(parts: &[Part<'_>]) -> Option<JoinFault>
         }
     }
     None
+}
+
+/// The refusal of a part of a run as of a file of this number, between which and the part before it images are missing.
+fn gap_at(file: u32) -> JoinFault
+    ensures { result ≡ record { cause = cause.Gap; file = file } }
+{
+    JoinFault {
+        cause: JoinCause::Gap,
+        file,
+    }
+}
+
+/// Why parts in a row haven't all images of their run, as a refusal: of the first of them where images are missing before it, and else
+/// of a file after all others.
+#[tactic(auto, using(crate::proofs::Joins::starts_late, crate::proofs::Joins::ends_early, crate::proofs::Joins::row_whole, crate::proofs::Joins::there))]
+fn lacking(parts: &[Part<'_>]) -> Option<JoinFault>
+    requires some { 0 < length parts.now }
+    requires few { length parts.now ≤ 4096 }
+    ensures { MatchOption result (IsRowWhole parts.now) (λ fault. IsRowShort parts.now fault) }
+{
+    let first = &parts[0];
+    let last = &parts[parts.len() - 1];
+    if first.span.from > 0 {
+        return Some(gap_at(first.file));
+    }
+    if last.span.to != first.span.images {
+        return Some(gap_at(parts.len() as u32));
+    }
+    None
+}
+
+/// Why parts in the order of their images aren't joined, as a refusal: the first that doesn't begin where the one before it ends, or that
+/// they haven't all images of their run, unless they may be a part of it.
+#[tactic(auto, using(crate::proofs::Joins::row_breaks, crate::proofs::Joins::row_lacks, crate::proofs::Joins::row_joined))]
+pub(crate) fn row_fault(part: bool, parts: &[Part<'_>]) -> Option<JoinFault>
+    requires some { 0 < length parts.now }
+    requires few { length parts.now ≤ 4096 }
+    ensures { MatchOption result (IsRow part parts.now) (λ fault. WhyNoRow part parts.now fault) }
+{
+    if let Some(fault) = first_apart(parts) {
+        return Some(fault);
+    }
+    if part {
+        return None;
+    }
+    lacking(parts)
 }

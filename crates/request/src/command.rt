@@ -91,8 +91,8 @@ pub enum Request {
     Check(TrialWords),
     /// `asm SOURCE`
     Asm,
-    /// `join PART..`
-    Join,
+    /// `join PART..`, of all parts of a run, or of some of them.
+    Join { part: bool },
     /// `list PROGRAM`, with the slots or without.
     List { numbered: bool },
 }

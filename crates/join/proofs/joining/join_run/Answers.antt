@@ -18,8 +18,8 @@ join_row-requires-clause-images c =
 
 pub returns-in-Ok-clause-joined : goal.returns-in-Ok-clause-joined
 returns-in-Ok-clause-joined c =
-    sorted_text c.args.parts.now.items c.put_in_order.new.parts.items c.as_slice.result.now c.put_in_order.ensures.order c.as_slice.ensures.value c.join_row.result c.join_row.ensures.joined
+    sorted_text c.args.parts.now.items c.put_in_order.new.parts.items c.as_slice.result.now c.put_in_order.ensures.order c.as_slice.ensures.value c.args.part c.join_row.result c.join_row.ensures.joined
 
 pub returns-in-Ok-clause-refused : goal.returns-in-Ok-clause-refused
 returns-in-Ok-clause-refused c =
-    sorted_apart c.args.parts.now.items c.put_in_order.new.parts.items c.as_slice.result.now c.put_in_order.ensures.order c.as_slice.ensures.value c.join_row.result c.in-Ok.ensures.rising c.in-Ok.ensures.stable c.join_row.ensures.refused
+    sorted_apart c.args.parts.now.items c.put_in_order.new.parts.items c.as_slice.result.now c.put_in_order.ensures.order c.as_slice.ensures.value c.args.part c.join_row.result c.in-Ok.ensures.rising c.in-Ok.ensures.stable c.join_row.ensures.refused

@@ -31,14 +31,14 @@ returns-in-Ok-clause-joined c =
     let long = reads_long (λ (f : Vec ℕ Global). f.items) c.args.files.now c.in-Ok.parts.items c.in-Ok.ensures.parts in
     let some = c.requires.some in
     let there : 0 < length c.in-Ok.parts.items = omega (arith, long, some) in
-    files_joined (map (λ (f : Vec ℕ Global). f.items) c.args.files.now) c.in-Ok.parts.items there c.in-Ok.ensures.parts c.join_parts.result c.join_parts.ensures.joined
+    files_joined c.args.part (map (λ (f : Vec ℕ Global). f.items) c.args.files.now) c.in-Ok.parts.items there c.in-Ok.ensures.parts c.join_parts.result c.join_parts.ensures.joined
 
 pub returns-in-Ok-clause-refused : goal.returns-in-Ok-clause-refused
 returns-in-Ok-clause-refused c =
     let long = reads_long (λ (f : Vec ℕ Global). f.items) c.args.files.now c.in-Ok.parts.items c.in-Ok.ensures.parts in
     let some = c.requires.some in
     let there : 0 < length c.in-Ok.parts.items = omega (arith, long, some) in
-    files_refused (map (λ (f : Vec ℕ Global). f.items) c.args.files.now) c.in-Ok.parts.items there c.in-Ok.ensures.parts c.join_parts.result c.join_parts.ensures.refused
+    files_refused c.args.part (map (λ (f : Vec ℕ Global). f.items) c.args.files.now) c.in-Ok.parts.items there c.in-Ok.ensures.parts c.join_parts.result c.join_parts.ensures.refused
 
 pub returns-in-Err-clause-refused : goal.returns-in-Err-clause-refused
-returns-in-Err-clause-refused c = parts_wanting (map (λ (f : Vec ℕ Global). f.items) c.args.files.now) c.in-Err.fault c.in-Err.ensures.refused
+returns-in-Err-clause-refused c = parts_wanting c.args.part (map (λ (f : Vec ℕ Global). f.items) c.args.files.now) c.in-Err.fault c.in-Err.ensures.refused
