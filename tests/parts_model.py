@@ -182,10 +182,10 @@ NUMBER = "(?:0|[1-9][0-9]*)"
 NUMBERS = f"{NUMBER}(?:,{NUMBER})*"
 SPAN = re.compile(f"part ({NUMBER})[.][.]({NUMBER}) of ({NUMBER}) inputs ({NUMBER})")
 OPTIONS = re.compile(
-    f"sectors ({NUMBER}) entries ({NUMBER}) cuts (?:all|flush|mark) bound ({NUMBER}) tears (?:yes|no) first (?P<first>yes|no)(?: by write)?"
+    f"sectors ({NUMBER}) entries ({NUMBER}) cuts (?:all|flush|mark) bound ({NUMBER}) tears (?P<tears>yes|no) first (?P<first>yes|no)(?P<by> by write)?"
     f"(?: flush (?P<flush>{NUMBERS}))?(?: from (?P<from>{NUMBER}))?(?: to (?P<to>{NUMBER}))?(?: base (?P<base>{NUMBER}))?"
 )
-PROGRAM = re.compile(f"program ({NUMBER}) slots ({NUMBER}) (?:budget|limit) ({NUMBER})(?: guards ({NUMBER}))?")
+PROGRAM = re.compile(f"program ({NUMBER}) slots ({NUMBER}) (budget|limit) ({NUMBER})(?: guards ({NUMBER}))?")
 SECTOR_NAME = f"({NUMBER})[.]({NUMBER}):(?:drop|head[1-7]|tail[1-7])"
 WRITE_NAME = f"({NUMBER}):(?:drop|head[1-7]|tail[1-7])"
 CHOICE = "(?P<choice>[^ ]+)"
@@ -217,13 +217,30 @@ def below(bits, *numbers):
     return all(number is None or int(number) < 2**bits for number in numbers)
 
 
-def is_choice(text):
-    """Whether a text is that of at most three departures, all by sector or all by write."""
-    names = text.split(",")
-    if text == "-":
-        return True
-    ways = [[re.fullmatch(way, name) for name in names] for way in (SECTOR_NAME, WRITE_NAME)]
-    return len(names) <= 3 and any(all(way) and all(below(32, *it.groups()) for it in way) for way in ways)
+@dataclass(frozen=True)
+class ReadHead:
+    """What the head of a part says that its lines have to fit: entries, bound, tears, whether parts are writes, cuts, programs."""
+
+    lines: int
+    entries: int
+    bound: int
+    tears: bool
+    first: bool
+    by_write: bool
+    start: int
+    end: int
+    programs: int
+
+
+def is_choice(head, cut, text):
+    """Whether a text is that of lost and torn parts as a run with that head may have them at a cut."""
+    names = [] if text == "-" else text.split(",")
+    found = [re.fullmatch(WRITE_NAME if head.by_write else SECTOR_NAME, name) for name in names]
+    if not all(found) or not all(below(32, *it.groups()) for it in found) or len(names) > head.bound:
+        return False
+    parts = [tuple(map(int, it.groups())) for it in found]
+    rising = all(one < other for one, other in zip(parts, parts[1:]))
+    return rising and all(it[0] < cut for it in parts) and (head.tears or all(it.endswith("drop") for it in names))
 
 
 def read_span(line):
@@ -235,25 +252,40 @@ def read_span(line):
     return (start, end, images, inputs) if right else None
 
 
+def is_program(line, number):
+    """Whether a line says a program of a run: its number, slots, steps, and guarded slots of a verified one."""
+    found = PROGRAM.fullmatch(line)
+    if not found or int(found[1]) != number:
+        return False
+    slots, guards = int(found[2]), found[5]
+    return 1 <= slots <= 4096 and int(found[4]) <= 1_000_000_000 and (guards is None or (found[3] == "budget" and int(guards) <= slots))
+
+
 def read_head(lines):
-    """How many lines the options and programs are with which these begin, and whether the first failing image alone is shown."""
+    """What the options and programs say with which these lines begin."""
     options = OPTIONS.fullmatch(lines[0])
     if not options:
         return None
-    small = below(32, *options.group(1, 2)) and below(8, options[3]) and below(64, *options.group("from", "to", "base"))
-    flushes = options["flush"].split(",") if options["flush"] else []
-    programs = [PROGRAM.fullmatch(it) for it in takewhile(lambda line: line.startswith("program "), lines[1:])]
-    right = all(it and int(it[1]) == number and below(32, it[2], it[4]) and below(64, it[3]) for number, it in enumerate(programs))
-    if not (small and below(32, *flushes) and len(flushes) <= 64 and right and 1 <= len(programs) <= 8):
+    sectors, entries, bound = map(int, options.group(1, 2, 3))
+    flushes = list(map(int, options["flush"].split(","))) if options["flush"] else []
+    start, end = int(options["from"] or 0), int(options["to"] or entries)
+    right = 1 <= sectors <= 1 << 20 and entries <= 1 << 16 and bound <= 3 and below(64, options["base"])
+    cuts = start <= end <= entries and len(flushes) <= 64 and all(it < entries for it in flushes)
+    programs = list(takewhile(lambda line: line.startswith("program "), lines[1:]))
+    if not (right and cuts and 1 <= len(programs) <= 8 and all(is_program(it, number) for number, it in enumerate(programs))):
         return None
-    return 1 + len(programs), options["first"] == "yes"
+    tears, first = options["tears"] == "yes", options["first"] == "yes"
+    return ReadHead(1 + len(programs), entries, bound, tears, first, options["by"] is not None, start, end, len(programs))
 
 
 @lru_cache(100_000)
-def read_failing(line):
-    """The image and the program of a failing line."""
+def read_failing(head, line):
+    """The image and the program of a failing line of a run with that head."""
     found = FAILING.fullmatch(line)
-    if not found or not is_choice(found["choice"]):
+    if not found or found["answer"] == "0":
+        return None
+    cut = int(found[2])
+    if not (head.start <= cut <= head.end and int(found[3]) < head.programs and is_choice(head, cut, found["choice"])):
         return None
     codes = found["codes"].split(",") if found["codes"] not in (None, "-") else []
     small = below(32, found[2]) and below(8, found[3]) and below(64, found[1], found["answer"], found["slot"], found["stray"], *codes)
@@ -278,9 +310,9 @@ def read_part(text):
     head = read_head(lines[2:-2]) if span else None
     if not head:
         return None
-    length, first = head
+    length, first = head.lines, head.first
     failing = lines[2 + length : -2]
-    marks = [read_failing(it) for it in failing]
+    marks = [read_failing(head, it) for it in failing]
     ordered = None not in marks and all(one < other for one, other in zip(marks, marks[1:]))
     within = ordered and all(span[0] <= image < span[1] for image, _program in marks)
     alone = within and (not first or len({image for image, _program in marks}) <= 1)
@@ -329,5 +361,6 @@ def joined_row(row):
     lines = [line for it in (with_lines[:1] if of.first else with_lines) for line in it.lines]
     whole = (start, end) == (0, of.images)
     begun = FIRST_LINE if whole else PART_LINE + f"part {start}..{end} of {of.images} inputs {of.inputs}\n"
-    last = last_of(start, end, of.first, [read_failing(it) for it in lines])
+    head = read_head(of.head)
+    last = last_of(start, end, of.first, [read_failing(head, it) for it in lines])
     return (1 if lines else 0), (begun + "".join(f"{it}\n" for it in [*of.head, *lines, last])).encode()

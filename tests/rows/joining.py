@@ -247,6 +247,51 @@ BROKEN = {
     "with its last line twice": changed(MIDDLE, f"\n{LAST}\n", f"\n{LAST}\n{LAST}\n"),
 }
 
+def with_choice(choice, cut=4, program=0, text=MIDDLE, ending="answer 1 codes -"):
+    """The middle part of a run, the first line of which is another one of the same image."""
+    first = next(it for it in text.decode().split("\n") if it.startswith("image "))
+    return changed(text, f"\n{first}\n", f"\n{first.split(' cut ')[0]} cut {cut} program {program} {ending} choice {choice}\n")
+
+
+# And one whose lines or head no run prints.
+WITHOUT_TEARS = middle_of(Run(RUN.recorded, 4, "all", 2, False))
+BY_WRITES = middle_of(Run(RUN.recorded, 4, "all", 2, True, "write"))
+UNPRINTED = {
+    "with an answer of 0": with_choice("-", ending="answer 0 codes -"),
+    "with an answer of 0 and codes": with_choice("-", ending="answer 0 codes 7"),
+    "with parts that fall": with_choice("0.1:drop,0.0:drop"),
+    "with entries that fall": with_choice("2.0:drop,0.0:drop"),
+    "with a part twice": with_choice("0.0:drop,0.0:head1"),
+    "with a part of the entry after the cut": with_choice("2.0:drop", 2),
+    "with a part of a later entry": with_choice("0.0:drop,3.0:drop", 2),
+    "with more parts than the bound": with_choice("0.0:drop,0.1:drop,2.0:drop"),
+    "with a lost write in a run by sector": with_choice("0:drop"),
+    "with a lost sector in a run by write": with_choice("0.0:drop", text=BY_WRITES),
+    "with a torn part in a run without tears": with_choice("0.0:head1", text=WITHOUT_TEARS),
+    "with a lost and a torn part in a run without tears": with_choice("0.0:drop,0.1:tail7", text=WITHOUT_TEARS),
+    "with a program that its head doesn't have": with_choice("-", program=3),
+    "with a cut after the last entry": with_choice("-", 5),
+    "with a cut before the first that is asked for": changed(with_choice("-", 2), OPTIONS, OPTIONS + " from 3"),
+    "with a cut after the last that is asked for": changed(with_choice("-", 4), OPTIONS, OPTIONS + " to 3"),
+    "with bound 4": with_words(OPTIONS, "bound 2", "bound 4"),
+    "with bound 9": with_words(OPTIONS, "bound 2", "bound 9"),
+    "of a device without sectors": with_words(OPTIONS, "sectors 4", "sectors 0"),
+    "of more sectors than a device has": with_words(OPTIONS, "sectors 4", "sectors 1048577"),
+    "of more entries than a log has": with_words(OPTIONS, "entries 4", "entries 65537"),
+    "with 70,000 entries": with_words(OPTIONS, "entries 4", "entries 70000"),
+    "with a flush after the last entry": with_line(OPTIONS, OPTIONS + " flush 4"),
+    "with one of several flushes after the last entry": with_line(OPTIONS, OPTIONS + " flush 1,4,2"),
+    "with a first cut after the last entry": with_line(OPTIONS, OPTIONS + " from 5"),
+    "with a last cut after the last entry": with_line(OPTIONS, OPTIONS + " to 5"),
+    "with cuts that fall": with_line(OPTIONS, OPTIONS + " from 3 to 2"),
+    "with a program of no slots": with_words(LINES[3], "slots 15", "slots 0"),
+    "with a program of too many slots": with_words(LINES[3], "slots 15", "slots 4097"),
+    "with a budget of too many steps": with_words(LINES[3], "budget 780", "budget 1000000001"),
+    "with a limit of too many steps": with_words(LINES[3], "budget 780", "limit 1000000001"),
+    "with more guarded slots than slots": with_line(LINES[3], LINES[3] + " guards 16"),
+    "with guards beside a limit": with_line(LINES[3], LINES[3].replace("budget", "limit") + " guards 0"),
+}
+
 # The same of a part that has its first failing image alone.
 FIRST_LINES = FIRSTS[1].decode().split("\n")
 FIRST_FAILING = "".join(f"{it}\n" for it in FIRST_LINES if it.startswith("image "))
@@ -262,11 +307,11 @@ FIRST_BROKEN = {
 # The same run but for one option, its log and one program, of each the middle part.
 STRANGE = {
     "other tears": middle_of(Run(RUN.recorded, 4, "all", 2, False)),
-    "another bound": with_words(OPTIONS, "bound 2", "bound 1"),
+    "another bound": with_words(OPTIONS, "bound 2", "bound 3"),
     "other sectors": with_words(OPTIONS, "sectors 4", "sectors 5"),
     "other entries": with_words(OPTIONS, "entries 4", "entries 5"),
     "other cuts": with_words(OPTIONS, "cuts all", "cuts mark"),
-    "by write": with_line(OPTIONS, OPTIONS + " by write"),
+    "by write": BY_WRITES,
     "an added flush": with_line(OPTIONS, OPTIONS + " flush 1"),
     "cuts from one on": with_line(OPTIONS, OPTIONS + " from 0"),
     "cuts up to one": with_line(OPTIONS, OPTIONS + " to 4"),
@@ -276,8 +321,13 @@ STRANGE = {
     "another number of images": changed(MIDDLE, f"of {count(RUN)} ", f"of {count(RUN) + 1} "),
     "another budget": with_words(LINES[3], "budget 780", "budget 781"),
     "a limit": with_words(LINES[3], "budget 780", "limit 780"),
+    "guards": with_line(LINES[3], LINES[3] + " guards 15"),
+    "as many slots as can be": with_words(LINES[3], "slots 15", "slots 4096"),
+    "as many entries as can be": with_words(OPTIONS, "entries 4", "entries 65536"),
+    "as many sectors as can be": with_words(OPTIONS, "sectors 4", "sectors 1048576"),
+    "as large a budget as can be": with_words(LINES[3], "budget 780", "budget 1000000000"),
     "other slots": with_words(LINES[3], "slots 15", "slots 16"),
-    "a program less": changed(MIDDLE, LINES[5] + "\n", ""),
+    "a program less": part(RUN, CHECKERS[:2], *layout(count(RUN), 3)[1], 5).encode(),
     "a program more": changed(MIDDLE, LINES[5] + "\n", LINES[5] + "\nprogram 3 slots 2 budget 2\n"),
 }
 
@@ -313,6 +363,7 @@ MISUSES = [
     misused("two that begin alike", texts(RUN, False, [(0, 9), (0, 5)]), 64, 1),
     misused("one of no images with one of another run", [NOTHING, THIRDS[0]], 62, 1),
     *(misused(f"a text {name}", [THIRDS[0], it, THIRDS[2]], 61, 1) for name, it in BROKEN.items()),
+    *(misused(f"a text {name}", [THIRDS[0], it, THIRDS[2]], 61, 1) for name, it in UNPRINTED.items()),
     *(misused(f"a text {name}", [FIRSTS[0], it, FIRSTS[2]], 61, 1) for name, it in FIRST_BROKEN.items()),
     misused("a text alone that is cut off", [MIDDLE[:-1]], 61, 0),
     misused("two texts that aren't of parts", [THIRDS[0], THIRDS[1], MIDDLE[:-1], b""], 61, 2),

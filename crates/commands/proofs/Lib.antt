@@ -11,6 +11,7 @@ pub mod OneText
 pub mod OnePage
 pub mod OneCure
 pub mod OneJoin
+pub mod LinesOfRun
 pub mod OneAnswer
 pub mod OneWork
 pub mod OneRefusal

@@ -1,5 +1,5 @@
 -- A run as a value, of which the texts of its parts are.
-use Rattle.std.proofs.Common.{ℕ, zero, suc, ◌≡◌, ◌+◌, ◌-◌, ◌*◌, ◌<◌, ◌≤◌, ◌^◌, ◌%◌, ◌==◌, ◌&&◌, nat_le, nat_lt, Bool, true, false, if◌then◌else◌, inl, inr, List, [], ◌∷◌, ◌++◌, length, map, filter, get_or, append-nil, slice_get, All, Option, None, Some, is_some, refl, sym, ◌∙◌, ap, subst, arith}
+use Rattle.std.proofs.Common.{ℕ, zero, suc, ◌≡◌, ◌+◌, ◌-◌, ◌*◌, ◌<◌, ◌≤◌, ◌^◌, ◌%◌, ◌==◌, ◌&&◌, nat_le, nat_lt, Bool, true, false, if◌then◌else◌, inl, inr, List, [], ◌∷◌, ◌++◌, length, map, filter, get_or, append-nil, slice_get, All, Option, None, Some, is_some, unwrap_or, refl, sym, ◌∙◌, ap, subst, arith}
 use Rattle.std.specs.Option.{option_map_or}
 use Rattle.std.specs.List.{flat_map, fold, range_with_len}
 use Rattle.std.proofs.lemmas.Bool.Decides.{nat_tests}
@@ -9,6 +9,10 @@ use Rattle.base.specs.Check.{Check, check, first_failing}
 use Rattle.limits.specs.Sizes.{sector_limit}
 use Rattle.logfmt.specs.declared.entry.Entry.{Entry}
 use Rattle.logfmt.specs.Bounds.{LogValue}
+use Rattle.logfmt.specs.Flushed.{is_place}
+use Rattle.logfmt.proofs.Flushed.{length-flushed}
+use Rattle.epochs.specs.declared.cuts.Cuts.{Cuts}
+use Rattle.epochs.specs.Cuts.{is_behind_first, is_before_last}
 use Rattle.epochs.specs.declared.cuts.CutKind.{CutKind}
 use Rattle.epochs.specs.declared.cuts.CutKind.TheVariants as kind
 use Rattle.epochs.specs.Flushes.{places_of}
@@ -19,7 +23,9 @@ use Rattle.bpf_isa.specs.Program.{IsProgram}
 use Rattle.helpers.specs.declared.device.Context.{Context}
 use Rattle.machine.specs.Outcome.{Ending, outcome}
 use Rattle.machine.specs.Guards.{guarded_outcome}
-use Rattle.verifier.specs.Guards.{guarded_slots}
+use Rattle.verifier.specs.Guards.{is_guarded_at, guarded_slots}
+use Rattle.verifier.specs.Verdicts.{VerifiedValue}
+use Rattle.std.proofs.lemmas.List.FromFn.{length-range_with_len}
 use Rattle.soundness.specs.Accepted.{IsImage}
 use Rattle.lanes.specs.Sector.{horner}
 use Rattle.images.specs.Number.{initial_mix, initial_number}
@@ -30,9 +36,10 @@ use Rattle.lines.specs.declared.marks.Mark.{Mark}
 use Rattle.lines.specs.Line.{FailingLine}
 use Rattle.lines.specs.Marks.{mark_of, marks_of}
 use Rattle.report.specs.declared.head.ProgramHead.{ProgramHead}
-use Rattle.join.specs.Printable.{IsWithin, IsPrintable, ArePrintable}
+use Rattle.report.specs.Report.{HeadValue}
+use Rattle.join.specs.Printable.{IsWithin, IsPrintable, ArePrintable, IsLineOfRun, AreLinesOfRun}
 use Rattle.join.specs.Order.{follows, in_order}
-use Rattle.join.specs.Heads.{IsSmallOption, IsFewOption, IsProgramHead, IsPrintedHead}
+use Rattle.join.specs.Heads.{IsSmallOption, IsFewOption, IsProgramHead, IsPrintedHead, are_guards_of_run, is_program_of_run, are_programs_of_run, are_entries_of_run, are_cuts_of_run, are_options_of_run}
 use Rattle.join.specs.Text.{RunValue}
 use Rattle.join.specs.Laws.{IsRun}
 use Rattle.join.proofs.Order.{next_back}
@@ -54,6 +61,7 @@ use Rattle.runs.specs.Inputs.{with_byte, file_bytes, inputs_number}
 use Rattle.runs.specs.Programs.{IsRunWithin}
 use Rattle.runs.specs.Explore.{IsProgramCount, AreCheckersOf, subject_of, program_head, head_of}
 use Rattle.commands.proofs.HeadLines.{head_stands}
+use Rattle.commands.proofs.LinesOfRun.{both, names_of_run, from_first, to_last}
 use Rattle.commands.proofs.Ending.{ends_are_words, guarded_ends_are_words}
 
 -- the run of a log and of checkers
@@ -159,17 +167,48 @@ limit_passed s asked =
     (option_map_or (λ limit. nat_le limit 1000000000) s.checked true)
     (check place.Range (is_ordered s.cuts) ∷ check place.Images (is_extent s.extent) ∷ check place.Guards (is_one_kind s.guards s.checked) ∷ []) asked.passed
 
-limit_small : (checked : Option ℕ) (guards : Bool) (sectors : ℕ) (c : CheckerValue) → option_map_or (λ limit. nat_le limit 1000000000) checked true ≡ true
-    → IsRunWithin checked guards sectors c → c.limit < 2 ^ 64
-limit_small (Some limit) guards sectors c passed within =
+limit_few : (checked : Option ℕ) (guards : Bool) (sectors : ℕ) (c : CheckerValue) → option_map_or (λ limit. nat_le limit 1000000000) checked true ≡ true
+    → IsRunWithin checked guards sectors c → c.limit ≤ 1000000000
+limit_few (Some limit) guards sectors c passed within =
     let test : nat_le limit 1000000000 ≡ true = passed in
     let few : limit ≤ 1000000000 = grind (arith, nat_tests, test) in
     let same : c.limit ≡ limit = within.limit in
     omega (arith, few, same)
-limit_small None guards sectors c passed within =
+limit_few None guards sectors c passed within =
     let most : within.verified.budget ≤ 1000000000 = within.is.limit in
     let same : c.limit ≡ within.verified.budget = ap (λ (x : CheckerValue). x.limit) within.made in
     omega (arith, most, same)
+
+limit_small : (checked : Option ℕ) (guards : Bool) (sectors : ℕ) (c : CheckerValue) → option_map_or (λ limit. nat_le limit 1000000000) checked true ≡ true
+    → IsRunWithin checked guards sectors c → c.limit < 2 ^ 64
+limit_small checked guards sectors c passed within = let few = limit_few checked guards sectors c passed within in omega (arith, few)
+
+-- no more slots are guarded than a program has
+few_of : (p : ℕ → Bool) (xs : List ℕ) → length (filter p xs) ≤ length xs
+few_of p [] = omega arith
+few_of p (x ∷ xs) = by (p x) (few_of p xs)
+  where
+    by : (b : Bool) → length (filter p xs) ≤ length xs → length (if b then x ∷ filter p xs else filter p xs) ≤ suc (length xs)
+    by true rest = omega (arith, rest)
+    by false rest = omega (arith, rest)
+
+guarded_few : (v : VerifiedValue) → length (guarded_slots v.program v.table) ≤ length v.program
+unfolding guarded_slots
+guarded_few v =
+    let few = few_of (is_guarded_at v.program v.table) (range_with_len 0 (length v.program)) in
+    let long = length-range_with_len 0 (length v.program) in
+    omega (arith, few, long)
+
+guards_of_run : (checked : Option ℕ) (guards : Bool) (sectors : ℕ) (c : CheckerValue) → IsRunWithin checked guards sectors c → are_guards_of_run (program_head c) ≡ true
+guards_of_run (Some limit) guards sectors c within = let none = within.guards in rw none refl
+guards_of_run None guards sectors c within = subst (λ (x : CheckerValue). are_guards_of_run (program_head x) ≡ true) (sym within.made) (by within.verified.guards)
+  where
+    by : (b : Bool) → option_map_or (λ n. nat_le n (length within.verified.program) && true) (if b then Some (length (guarded_slots within.verified.program within.verified.table)) else None) true ≡ true
+    by true =
+        let few = guarded_few within.verified in
+        let test : nat_le (length (guarded_slots within.verified.program within.verified.table)) (length within.verified.program) ≡ true = grind (arith, nat_tests, few) in
+        rw test refl
+    by false = refl
 
 guards_small : (checked : Option ℕ) (guards : Bool) (sectors : ℕ) (c : CheckerValue) → IsRunWithin checked guards sectors c → IsFewOption c.guards
 guards_small (Some limit) guards sectors c within = subst (λ (o : Option ℕ). IsFewOption o) (sym within.guards) tt
@@ -246,6 +285,38 @@ line_printable text files s value checkers image l given is =
       names = rw (way, departures) names;
     }
 
+heads_long : (checkers : List CheckerValue) → length (map program_head checkers) ≡ length checkers
+heads_long [] = refl
+heads_long (c ∷ checkers) = let rest = heads_long checkers in omega (arith, rest)
+
+-- and it is one of a run with its head
+line_of_run : (text : Recording) (files : List (List ℕ)) (s : Settings) (value : LogValue) (checkers : List CheckerValue) (image : ℕ) (l : FailingLine)
+    → IsGiven text files s value checkers → IsFailing (at_image (subject_of s value checkers) image) l → IsLineOfRun (head_of s value checkers) l
+unfolding head_of
+line_of_run text files s value checkers image l given is =
+    let model = ranked_is_model (plan_of s value) s.bound s.tears in
+    let wanted = model.wanted l.image is.choice is.of_image in
+    let admissible = model.sound l.image is.choice is.of_image in
+    let cut = cut_within s.cuts.kind value.entries is.choice.cut wanted.of_kind in
+    let same = is.cut in
+    let program = slice_get_within checkers l.program is.checker is.of_program in
+    let heads = heads_long checkers in
+    let departures : l.departures ≡ is.choice.departures = is.departures in
+    let named : nat_lt l.program (length (map program_head checkers)) ≡ true = grind (arith, nat_tests, program, heads) in
+    let within : nat_le l.cut (length value.entries) ≡ true = grind (arith, nat_tests, cut, same) in
+    let first : is_behind_first s.cuts.from l.cut ≡ true = rw same (from_first s.cuts.from is.choice.cut wanted.behind) in
+    let last : is_before_last s.cuts.to l.cut ≡ true = rw same (to_last s.cuts.to is.choice.cut wanted.before) in
+    record {
+      there = rw (named, within, first, last) refl;
+      failing = is.fails;
+      way = is.by_is;
+      names = rw (same, departures) (names_of_run s.by value.entries is.choice.cut s.bound s.tears is.choice.departures admissible);
+    }
+
+all_of_run : (h : HeadValue) (ls : List FailingLine) → ((i : ℕ) (l : FailingLine) → slice_get ls i ≡ Some l → IsLineOfRun h l) → AreLinesOfRun h ls
+all_of_run h [] each = tt
+all_of_run h (l ∷ ls) each = (each 0 l refl, all_of_run h ls (λ i k there. each (suc i) k there))
+
 all_printable : (ls : List FailingLine) → ((i : ℕ) (l : FailingLine) → slice_get ls i ≡ Some l → IsPrintable l) → ArePrintable ls
 all_printable [] each = tt
 all_printable (l ∷ ls) each = (each 0 l refl, all_printable ls (λ i k there. each (suc i) k there))
@@ -297,9 +368,81 @@ programs_small s (bytes ∷ files) (c ∷ checkers) asked made = all (programs_s
         record { slots = omega (arith, slots); limit = limit_small s.checked s.guards s.sectors c (limit_passed s asked) made.0.within; guards = guards_small s.checked s.guards s.sectors c made.0.within }
     all rest (suc k) d small = rest k d (omega (arith, small))
 
-heads_long : (checkers : List CheckerValue) → length (map program_head checkers) ≡ length checkers
-heads_long [] = refl
-heads_long (c ∷ checkers) = let rest = heads_long checkers in omega (arith, rest)
+-- and they are as a run has them
+programs_of_run : (s : Settings) (files : List (List ℕ)) (checkers : List CheckerValue) → IsAsked s → AreCheckersOf s files checkers → are_programs_of_run (map program_head checkers) ≡ true
+programs_of_run s [] [] asked made = refl
+programs_of_run s [] (c ∷ checkers) asked made = absurd made
+programs_of_run s (bytes ∷ files) [] asked made = absurd made
+programs_of_run s (bytes ∷ files) (c ∷ checkers) asked made =
+    let count = made.0.spelled.program.count in
+    let some = count.some in
+    let few = count.limit in
+    let steps = limit_few s.checked s.guards s.sectors c (limit_passed s asked) made.0.within in
+    let one : nat_le 1 (length c.program) ≡ true = grind (arith, nat_tests, some) in
+    let two : nat_le (length c.program) 4096 ≡ true = grind (arith, nat_tests, few) in
+    let three : nat_le c.limit 1000000000 ≡ true = grind (arith, nat_tests, steps) in
+    let guards = guards_of_run s.checked s.guards s.sectors c made.0.within in
+    both (is_program_of_run (program_head c)) (are_programs_of_run (map program_head checkers)) (rw (one, two, three, guards) refl) (programs_of_run s files checkers asked made.1)
+
+-- what is named of the cuts is in the log
+entries_of_run : (n : ℕ) (es : List ℕ) → filter (λ entry. nat_le n entry) es ≡ [] → are_entries_of_run n es ≡ true
+entries_of_run n [] none = refl
+entries_of_run n (e ∷ es) none = by_test (nat_le n e) refl none (entries_of_run n es)
+  where
+    by_test : (b : Bool) → nat_le n e ≡ b → (if b then e ∷ filter (λ entry. nat_le n entry) es else filter (λ entry. nat_le n entry) es) ≡ []
+        → (filter (λ entry. nat_le n entry) es ≡ [] → are_entries_of_run n es ≡ true) → are_entries_of_run n (e ∷ es) ≡ true
+    by_test true past none rest = absurd (let bad : e ∷ filter (λ entry. nat_le n entry) es ≡ [] = none in cc)
+    by_test false before none rest = let less : nat_lt e n ≡ true = grind (arith, nat_tests, before) in both (nat_lt e n) (are_entries_of_run n es) less (rest none)
+
+cut_there : (n : ℕ) (o : Option ℕ) → cut_past n o ≡ [] → unwrap_or o 0 ≤ n
+cut_there n None none = omega arith
+cut_there n (Some cut) none = by_test (nat_lt n cut) refl none
+  where
+    by_test : (b : Bool) → nat_lt n cut ≡ b → (if b then cut ∷ [] else []) ≡ [] → cut ≤ n
+    by_test true past none = absurd (let bad : cut ∷ [] ≡ [] = none in cc)
+    by_test false within none = let low : cut ≤ n = grind (arith, nat_tests, within) in low
+
+last_there : (last : Option ℕ) → is_before_last last 0 ≡ true
+last_there None = refl
+last_there (Some n) = let low : 0 ≤ n = omega arith in let test : nat_le 0 n ≡ true = grind (arith, nat_tests, low) in test
+
+in_order_cuts : (cuts : Cuts) → is_ordered cuts ≡ true → is_before_last cuts.to (unwrap_or cuts.from 0) ≡ true
+in_order_cuts cuts ordered = by_first cuts.from refl ordered
+  where
+    by_first : (o : Option ℕ) → cuts.from ≡ o → option_map_or (λ first. is_before_last cuts.to first) o true ≡ true → is_before_last cuts.to (unwrap_or cuts.from 0) ≡ true
+    by_first None is passed = rw is (last_there cuts.to)
+    by_first (Some n) is passed = rw is passed
+
+sixth : (a b c d e f : Bool) (rest : List (Check OptionPlace))
+    → first_failing (check place.Sectors a ∷ check place.Bound b ∷ check place.Workers c ∷ check place.Cache d ∷ check place.Checked e ∷ check place.Range f ∷ rest) ≡ None → f ≡ true
+sixth true true true true true true rest passed = refl
+sixth true true true true true false rest passed = absurd (let bad : Some place.Range ≡ None = passed in cc)
+sixth true true true true false f rest passed = absurd (let bad : Some place.Checked ≡ None = passed in cc)
+sixth true true true false e f rest passed = absurd (let bad : Some place.Cache ≡ None = passed in cc)
+sixth true true false d e f rest passed = absurd (let bad : Some place.Workers ≡ None = passed in cc)
+sixth true false c d e f rest passed = absurd (let bad : Some place.Bound ≡ None = passed in cc)
+sixth false b c d e f rest passed = absurd (let bad : Some place.Sectors ≡ None = passed in cc)
+
+range_passed : (s : Settings) → IsAsked s → is_ordered s.cuts ≡ true
+unfolding option_checks
+range_passed s asked =
+    sixth (nat_le 1 s.sectors && nat_le s.sectors (sector_limit s.limits)) (nat_le s.bound 3) (nat_le 1 s.workers && nat_le s.workers 64) (nat_le s.cache 65536)
+    (option_map_or (λ limit. nat_le limit 1000000000) s.checked true) (is_ordered s.cuts)
+    (check place.Images (is_extent s.extent) ∷ check place.Guards (is_one_kind s.guards s.checked) ∷ []) asked.passed
+
+-- so what is asked of the cuts is as a run has it
+cuts_of_run : (n : ℕ) (cuts : Cuts) → lacking cuts n ≡ [] → is_ordered cuts ≡ true → are_cuts_of_run n cuts ≡ true
+unfolding lacking
+cuts_of_run n cuts has ordered =
+    let parts = either_none (filter (λ entry. nat_le n entry) (places_of cuts.flushes)) (cut_past n cuts.from ++ cut_past n cuts.to) has in
+    let named = either_none (cut_past n cuts.from) (cut_past n cuts.to) parts.1 in
+    let entries = entries_of_run n (places_of cuts.flushes) parts.0 in
+    let low = cut_there n cuts.from named.0 in
+    let high = cut_there n cuts.to named.1 in
+    let first : nat_le (unwrap_or cuts.from 0) n ≡ true = grind (arith, nat_tests, low) in
+    let last : nat_le (unwrap_or cuts.to 0) n ≡ true = grind (arith, nat_tests, high) in
+    let range = in_order_cuts cuts ordered in
+    rw (entries, first, last, range) refl
 
 head_printed : (text : Recording) (files : List (List ℕ)) (s : Settings) (value : LogValue) (checkers : List CheckerValue) → IsGiven text files s value checkers → IsPrintedHead (head_of s value checkers)
 unfolding head_of lacking
@@ -317,6 +460,13 @@ head_printed text files s value checkers given =
     let heads = heads_long checkers in
     let some = given.count.some in
     let few = given.count.few in
+    let some_sector = given.asked.some in
+    let one : nat_le 1 s.sectors ≡ true = grind (arith, nat_tests, some_sector) in
+    let two : nat_le s.sectors 1048576 ≡ true = grind (arith, nat_tests, sectors) in
+    let three : nat_le (length value.entries) 65536 ≡ true = grind (arith, nat_tests, entries) in
+    let four : nat_le s.bound 3 ≡ true = grind (arith, nat_tests, bound) in
+    let as_long : length value.entries ≡ length reads.read.entries = ap (λ (v : LogValue). length v.entries) reads.added ∙ length-flushed (is_place (places_of s.cuts.flushes)) reads.read.entries in
+    let cuts_are : are_cuts_of_run (length value.entries) s.cuts ≡ true = rw as_long (cuts_of_run (length reads.read.entries) s.cuts reads.has (range_passed s given.asked)) in
     record {
       numbers = record {
         sectors = omega (arith, sectors);
@@ -330,6 +480,8 @@ head_printed text files s value checkers given =
       };
       some = omega (arith, long, heads, some);
       few = omega (arith, long, heads, few);
+      options = rw (one, two, three, four, cuts_are) refl;
+      programs = programs_of_run s files checkers given.asked given.made;
     }
 
 -- the number of the inputs is one of 64 bits
@@ -356,6 +508,7 @@ is_run text files s value checkers given =
       printed = head_printed text files s value checkers given;
       lines = image_in_order subject;
       printable = λ image. all_printable (image_lines subject image) (λ i l there. line_printable text files s value checkers image l given (line_there subject image i l there));
+      of_run = λ image. all_of_run (head_of s value checkers) (image_lines subject image) (λ i l there. line_of_run text files s value checkers image l given (line_there subject image i l there));
       number = inputs_small text.text files;
       few = omega (arith, images, few);
     }

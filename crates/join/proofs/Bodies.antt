@@ -1,5 +1,5 @@
 -- Failing lines, read from a text to the byte.
-use Rattle.std.proofs.Common.{ℕ, ◌≡◌, ◌≢◌, ◌+◌, ◌<◌, ◌^◌, true, List, ◌∷◌, ◌++◌, length, length-append, append_assoc, codes, refl, sym, subst, ◌∙◌, ap, arith}
+use Rattle.std.proofs.Common.{ℕ, ◌≡◌, ◌≢◌, ◌+◌, ◌<◌, ◌^◌, true, false, List, map, ◌∷◌, ◌++◌, length, length-append, append_assoc, codes, refl, sym, subst, ◌∙◌, ap, arith}
 use Rattle.std.specs.Fmt.{decimal}
 use Rattle.lines.specs.declared.marks.Mark.{Mark}
 use Rattle.lines.specs.Line.{FailingLine}
@@ -7,7 +7,11 @@ use Rattle.lines.specs.Reading.{lacks, ReadsField}
 use Rattle.lines.specs.Text.{line_text}
 use Rattle.lines.proofs.Back.{lacks_both, end_lacks, words_of as line_words}
 use Rattle.join.specs.declared.line.Words.{Words}
-use Rattle.join.specs.Printable.{IsEnd, IsPrintable, end_text}
+use Rattle.epochs.specs.declared.part.By.{By}
+use Rattle.choices.specs.Named.{name_of}
+use Rattle.choice_text.specs.Text.{AreNames}
+use Rattle.report.specs.Report.{HeadValue}
+use Rattle.join.specs.Printable.{IsEnd, IsPrintable, IsLineOfRun, has_program_and_cut, are_names_of_run, end_text}
 use Rattle.join.specs.Reading.{words_text, words_of, body_text, ReadsWords, Fit, IsBody, NoBody, IsCut, NoCut, IsLine, NoLine}
 use Rattle.join.proofs.Texts.{one_cut, cancel, has_it}
 use Rattle.join.proofs.Spans.{line_lacks, blank_lacks, SaysNumber}
@@ -41,34 +45,52 @@ of_line line words reads l small e =
     let program = small.program in
     reads.read (words_of l) (end_text l.ending l.by l.departures) (omega (arith, image)) (omega (arith, at)) (omega (arith, program)) e
 
-pub too_large : (line : List ℕ) (words : Words) → ReadsWords line words → (Fit words → ⊥) → NoBody line
-too_large line words reads large = record {
-  none = λ l small e.
+pub too_large : (h : HeadValue) (line : List ℕ) (words : Words) → ReadsWords line words → (Fit words → ⊥) → NoBody h line
+too_large h line words reads large = record {
+  none = λ l small own e.
       let same = of_line line words reads l small e in
       large (record { cut = rw same small.cut; program = rw same small.program });
 }
 
-pub other_words : (line printed : List ℕ) (words : Words) → ReadsWords line words → printed ≡ words_text words → ((rest : List ℕ) → line ≢ printed ++ rest) → NoBody line
-other_words line printed words reads is none = record {
-  none = λ l small e.
+pub not_there : (h : HeadValue) (line : List ℕ) (words : Words) → ReadsWords line words → has_program_and_cut h words.cut words.program ≡ false → NoBody h line
+not_there h line words reads lack = record {
+  none = λ l small own e.
+      let same = of_line line words reads l small e in
+      let there : has_program_and_cut h words.cut words.program ≡ true = rw same own.there in
+      absurd (let bad : true ≡ false = sym there ∙ lack in cc);
+}
+
+pub other_words : (h : HeadValue) (line printed : List ℕ) (words : Words) → ReadsWords line words → printed ≡ words_text words → ((rest : List ℕ) → line ≢ printed ++ rest) → NoBody h line
+other_words h line printed words reads is none = record {
+  none = λ l small own e.
       let same = of_line line words reads l small e in
       none (end_text l.ending l.by l.departures) (e ∙ ap (λ (bs : List ℕ). bs ++ end_text l.ending l.by l.departures) (ap (λ (w : Words). words_text w) (sym same) ∙ sym is));
 }
 
-pub other_end : (line printed end : List ℕ) (words : Words) → ReadsWords line words → printed ≡ words_text words → line ≡ printed ++ end → (IsEnd end → ⊥) → NoBody line
-other_end line printed end words reads is parts none = record {
-  none = λ l small e.
+pub other_end : (h : HeadValue) (line printed end : List ℕ) (words : Words) → ReadsWords line words → printed ≡ words_text words → line ≡ printed ++ end → (IsEnd h words.cut end → ⊥) → NoBody h line
+other_end h line printed end words reads is parts none = record {
+  none = λ l small own e.
       let same = of_line line words reads l small e in
       let front : words_text (words_of l) ≡ printed = ap (λ (w : Words). words_text w) (sym same) ∙ sym is in
       let whole : printed ++ end ≡ printed ++ end_text l.ending l.by l.departures = sym parts ∙ e ∙ ap (λ (bs : List ℕ). bs ++ end_text l.ending l.by l.departures) front in
-      none (record { ending = l.ending; way = l.by; departures = l.departures; within = small.ending; names = small.names; is = cancel printed _ _ whole });
+      let way = own.way in
+      none (record {
+        ending = l.ending;
+        departures = l.departures;
+        within = small.ending;
+        failing = own.failing;
+        names = subst (λ (w : By). AreNames w (map name_of l.departures)) way small.names;
+        of_run = subst (λ (w : Words). are_names_of_run h w.cut (map name_of l.departures) ≡ true) (sym same) own.names;
+        is = cancel printed _ _ whole ∙ ap (λ (w : By). end_text l.ending w l.departures) way;
+      });
 }
 
-pub is_body : (line printed end : List ℕ) (words : Words) → words.image < 2 ^ 64 → Fit words → printed ≡ words_text words → line ≡ printed ++ end → IsEnd end
-    → IsBody line (record { image = words.image; program = words.program })
-is_body line printed end words small fit is parts e = record {
-  line = record { image = words.image; cut = words.cut; program = words.program; ending = e.ending; by = e.way; departures = e.departures };
+pub is_body : (h : HeadValue) (line printed end : List ℕ) (words : Words) → words.image < 2 ^ 64 → Fit words → has_program_and_cut h words.cut words.program ≡ true → printed ≡ words_text words → line ≡ printed ++ end
+    → IsEnd h words.cut end → IsBody h line (record { image = words.image; program = words.program })
+is_body h line printed end words small fit there is parts e = record {
+  line = record { image = words.image; cut = words.cut; program = words.program; ending = e.ending; by = h.by; departures = e.departures };
   printable = record { image = small; cut = fit.cut; program = fit.program; ending = e.within; names = e.names };
+  of_run = record { there = there; failing = e.failing; way = refl; names = e.of_run };
   is = rw (parts, is, e.is) refl;
   marked = refl;
 }
@@ -95,20 +117,21 @@ line_is l more =
     line_words l more ∙ sym (by_words (words_of l) (end_text l.ending l.by l.departures ++ 10 ∷ more))
     ∙ sym (append_assoc (words_text (words_of l)) (end_text l.ending l.by l.departures) (10 ∷ more))
 
-pub no_newline_no_line : (text : List ℕ) → NoCut 10 text → NoLine text
-no_newline_no_line text lack = record { none = λ l more small e. has_it 10 (body_text l) more (subst (λ (bs : List ℕ). lacks 10 bs ≡ true) (e ∙ line_is l more) lack.none) }
+pub no_newline_no_line : (h : HeadValue) (text : List ℕ) → NoCut 10 text → NoLine (IsLineOfRun h) text
+no_newline_no_line h text lack = record { none = λ l more small own e. has_it 10 (body_text l) more (subst (λ (bs : List ℕ). lacks 10 bs ≡ true) (e ∙ line_is l more) lack.none) }
 
-pub no_body_no_line : (text line more : List ℕ) → IsCut 10 text line more → NoBody line → NoLine text
-no_body_no_line text line more cut lack = record {
-  none = λ l rest small e.
+pub no_body_no_line : (h : HeadValue) (text line more : List ℕ) → IsCut 10 text line more → NoBody h line → NoLine (IsLineOfRun h) text
+no_body_no_line h text line more cut lack = record {
+  none = λ l rest small own e.
       let same : line ++ 10 ∷ more ≡ body_text l ++ 10 ∷ rest = sym cut.is ∙ e ∙ line_is l rest in
-      lack.none l small (one_cut 10 line (body_text l) more rest cut.first (body_lacks l small) same).0;
+      lack.none l small own (one_cut 10 line (body_text l) more rest cut.first (body_lacks l small) same).0;
 }
 
-pub body_is_line : (text line more : List ℕ) (mark : Mark) → IsCut 10 text line more → IsBody line mark → IsLine text mark more
-body_is_line text line more mark cut body = record {
+pub body_is_line : (h : HeadValue) (text line more : List ℕ) (mark : Mark) → IsCut 10 text line more → IsBody h line mark → IsLine h text mark more
+body_is_line h text line more mark cut body = record {
   line = body.line;
   printable = body.printable;
+  of_run = body.of_run;
   is = cut.is ∙ ap (λ (bs : List ℕ). bs ++ 10 ∷ more) body.is ∙ sym (line_is body.line more);
   marked = body.marked;
 }

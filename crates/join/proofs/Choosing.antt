@@ -14,9 +14,10 @@ use Rattle.lines.proofs.Back.{lacks_both}
 use Rattle.outcomes.proofs.Plain.{ending_lacks}
 use Rattle.join.specs.Printable.{IsEnd}
 use Rattle.join.specs.Reading.{IsCut, NoCut}
-use Rattle.join.specs.Endings.{IsEnding, AreNamesOf, IsChoiceBy, IsChoice, IsAtChoice, NoChoice}
+use Rattle.report.specs.Report.{HeadValue}
+use Rattle.join.specs.Endings.{IsEnding, AreNamesOf, AreNamesAt, IsChoiceBy, IsChoice, IsAtChoice, NoChoice}
 use Rattle.join.proofs.Texts.{one_cut, has_it, cancel}
-use Rattle.join.proofs.Endings.{fails, like}
+use Rattle.join.proofs.Endings.{like}
 
 -- a line prints a choice by its names
 one_printed : (way : By) (d : Departure) → departure_text way d ≡ name_text way (name_of d)
@@ -54,23 +55,29 @@ names_of : (way : By) (names : List Name) → All (IsName way) names → AreName
 names_of way [] all = tt
 names_of way (n ∷ names) all = (all 0 n (omega arith), names_of way names (λ k d small. all (suc k) d (omega (arith, small))))
 
-pub choice_found : (way : By) (text : List ℕ) (names : List Name) → text ≡ names_text way names → length names ≤ 3 → AreNamesOf way names → IsChoiceBy way text
-choice_found way text names is few within =
+pub choice_found : (h : HeadValue) (cut : ℕ) (way : By) (text : List ℕ) (names : List Name) → way ≡ h.by → text ≡ names_text way names → length names ≤ 3 → AreNamesAt h cut names → IsChoice h cut text
+choice_found h cut way text names same said few at =
+    let is : text ≡ names_text h.by names = said ∙ ap (λ (w : By). names_text w names) same in
     let back = named_back names in
     record {
-      departures = map departure_for names;
-      names = rw back (record { few = few; names = all_names way names within });
-      is = is ∙ ap (λ (ns : List Name). names_text way ns) (sym back) ∙ sym (prints_choices way (map departure_for names));
+      by = record {
+        departures = map departure_for names;
+        names = rw back (record { few = few; names = all_names h.by names at.within });
+        is = is ∙ ap (λ (ns : List Name). names_text h.by ns) (sym back) ∙ sym (prints_choices h.by (map departure_for names));
+      };
+      of_run = rw back at.of_run;
     }
 
 -- the names that are read of the text of a choice are within their ranges
-pub names_within : (way : By) (text : List ℕ) (names : List Name) → ReadsAs way text names → IsChoiceBy way text → AreNamesOf way names
-names_within way text names reads c =
-    let same : names ≡ map name_of c.departures = reads (map name_of c.departures) (record { names = c.names; printed = c.is ∙ prints_choices way c.departures }) in
-    subst (λ (ns : List Name). AreNamesOf way ns) (sym same) (names_of way (map name_of c.departures) c.names.names)
+pub names_within : (h : HeadValue) (cut : ℕ) (way : By) (text : List ℕ) (names : List Name) → way ≡ h.by → ReadsAs way text names → IsChoice h cut text → AreNamesAt h cut names
+names_within h cut way text names by_is read choice =
+    let reads : ReadsAs h.by text names = subst (λ (w : By). ReadsAs w text names) by_is read in
+    let c = choice.by in
+    let same : names ≡ map name_of c.departures = reads (map name_of c.departures) (record { names = c.names; printed = c.is ∙ prints_choices h.by c.departures }) in
+    subst (λ (ns : List Name). AreNamesAt h cut ns) (sym same) (record { within = names_of h.by (map name_of c.departures) c.names.names; of_run = choice.of_run })
 
-pub no_choice_by : (way : By) (text : List ℕ) → NoNames way text → IsChoiceBy way text → ⊥
-no_choice_by way text none c = none.none (map name_of c.departures) (record { names = c.names; printed = c.is ∙ prints_choices way c.departures })
+pub no_choice : (h : HeadValue) (cut : ℕ) (way : By) (text : List ℕ) → way ≡ h.by → NoNames way text → IsChoice h cut text → ⊥
+no_choice h cut way text by_is lack choice = let none = subst (λ (w : By). NoNames w text) by_is lack in let c = choice.by in none.none (map name_of c.departures) (record { names = c.names; printed = c.is ∙ prints_choices h.by c.departures })
 
 -- a text that is cut at ` choice `
 parted : (xs ys : List ℕ) → xs ++ codes " choice " ++ ys ≡ (xs ++ codes " c") ++ 104 ∷ (codes "oice " ++ ys)
@@ -117,43 +124,31 @@ choice_at text begun rest ending choice cut front back = record {
         (cancel_end ending xs (sym front ∙ parts.0), cancel (codes "oice ") choice ys (sym back ∙ parts.1))
 
 -- what a line has behind its program, by its two halves
-pub end_found : (text ending choice : List ℕ) → IsAtChoice text ending choice → IsEnding ending → IsChoice choice → IsEnd text
-end_found text ending choice at e c = record {
+pub end_found : (h : HeadValue) (cut : ℕ) (text ending choice : List ℕ) → IsAtChoice text ending choice → IsEnding ending → IsChoice h cut choice → IsEnd h cut text
+end_found h cut text ending choice at e c = record {
   ending = e.ending;
-  way = c.way;
   departures = c.by.departures;
   within = e.within;
+  failing = e.failing;
   names = c.by.names;
+  of_run = c.of_run;
   is = at.is ∙ (let a = e.is in let b = c.by.is in rw (a, b) refl);
 }
 
-halves : (text ending choice : List ℕ) → IsAtChoice text ending choice → (e : IsEnd text) → (ending ≡ ending_text e.ending) × (choice ≡ choice_text e.way e.departures)
-halves text ending choice at e = at.only (ending_text e.ending) (choice_text e.way e.departures) (ending_lacks e.ending) e.is
+halves : (h : HeadValue) (cut : ℕ) (text ending choice : List ℕ) → IsAtChoice text ending choice → (e : IsEnd h cut text) → (ending ≡ ending_text e.ending) × (choice ≡ choice_text h.by e.departures)
+halves h cut text ending choice at e = at.only (ending_text e.ending) (choice_text h.by e.departures) (ending_lacks e.ending) e.is
 
-pub end_has_ending : (text ending choice : List ℕ) → IsAtChoice text ending choice → IsEnd text → IsEnding ending
-end_has_ending text ending choice at e = record { ending = e.ending; within = e.within; is = (halves text ending choice at e).0 }
+pub end_has_ending : (h : HeadValue) (cut : ℕ) (text ending choice : List ℕ) → IsAtChoice text ending choice → IsEnd h cut text → IsEnding ending
+end_has_ending h cut text ending choice at e = record { ending = e.ending; within = e.within; failing = e.failing; is = (halves h cut text ending choice at e).0 }
 
-pub end_has_choice : (text ending choice : List ℕ) → IsAtChoice text ending choice → IsEnd text → IsChoice choice
-end_has_choice text ending choice at e = record { way = e.way; by = record { departures = e.departures; names = e.names; is = (halves text ending choice at e).1 } }
+pub end_has_choice : (h : HeadValue) (cut : ℕ) (text ending choice : List ℕ) → IsAtChoice text ending choice → IsEnd h cut text → IsChoice h cut choice
+end_has_choice h cut text ending choice at e = record { by = record { departures = e.departures; names = e.names; is = (halves h cut text ending choice at e).1 }; of_run = e.of_run }
 
-pub no_choice_no_end : (text : List ℕ) → NoChoice text → IsEnd text → ⊥
-no_choice_no_end text none e = none.none (ending_text e.ending) (choice_text e.way e.departures) (ending_lacks e.ending) e.is
-
--- the choice of a text where it is none by sector
-of_way : (text : List ℕ) (way : By) → IsChoiceBy way text → (IsChoiceBy by.Sector text) ⊎ (IsChoiceBy by.Write text)
-of_way text by.Sector c = inl c
-of_way text by.Write c = inr c
-
-write_left : (text : List ℕ) (b : Bool) → b ≡ false → IsTrue b ↔ IsChoiceBy by.Sector text → IsChoice text → IsChoiceBy by.Write text
-write_left text b lack sector c = elim (of_way text c.way c.by) [ inl bad ↦ absurd (fails b lack sector bad) | inr own ↦ own ]
-
-pub by_write : (E : Type 0) (text : List ℕ) (b : Bool) (r : Result Bool E) → b ≡ false → IsTrue b ↔ IsChoiceBy by.Sector text → IfOk r (λ is. IsTrue is ↔ IsChoiceBy by.Write text)
-    → IfOk r (λ is. IsTrue is ↔ IsChoice text)
-by_write E text b (Ok is) lack sector write = like is write (λ own. record { way = by.Write; by = own }) (write_left text b lack sector)
-by_write E text b (Err e) lack sector write = tt
+pub no_choice_no_end : (h : HeadValue) (cut : ℕ) (text : List ℕ) → NoChoice text → IsEnd h cut text → ⊥
+no_choice_no_end h cut text none e = none.none (ending_text e.ending) (choice_text h.by e.departures) (ending_lacks e.ending) e.is
 
 -- a text is an end where its two halves are an ending and a choice
-pub end_decided : (E : Type 0) (text ending choice : List ℕ) (r : Result Bool E) → IsAtChoice text ending choice → IsEnding ending → IfOk r (λ is. IsTrue is ↔ IsChoice choice)
-    → IfOk r (λ is. IsTrue is ↔ IsEnd text)
-end_decided E text ending choice (Ok is) at own test = like is test (end_found text ending choice at own) (end_has_choice text ending choice at)
-end_decided E text ending choice (Err e) at own test = tt
+pub end_decided : (E : Type 0) (h : HeadValue) (cut : ℕ) (text ending choice : List ℕ) (r : Result Bool E) → IsAtChoice text ending choice → IsEnding ending → IfOk r (λ is. IsTrue is ↔ IsChoice h cut choice)
+    → IfOk r (λ is. IsTrue is ↔ IsEnd h cut text)
+end_decided E h cut text ending choice (Ok is) at own test = like is test (end_found h cut text ending choice at own) (end_has_choice h cut text ending choice at)
+end_decided E h cut text ending choice (Err e) at own test = tt

@@ -1,5 +1,5 @@
 -- What a line has behind its program, read to the byte.
-use Rattle.std.proofs.Common.{ℕ, zero, suc, ◌≡◌, ◌≢◌, ◌+◌, ◌-◌, ◌<◌, ◌≤◌, ◌^◌, ◌==◌, ◌⊎◌, ◌↔◌, inl, inr, Bool, true, false, IsTrue, leb, List, [], ◌∷◌, ◌++◌, All, length, get_or, append_assoc, append-nil, codes, Result, Ok, Err, refl, sym, subst, ◌∙◌, ap, arith}
+use Rattle.std.proofs.Common.{ℕ, zero, suc, ◌≡◌, ◌≢◌, ◌+◌, ◌-◌, ◌<◌, ◌≤◌, ◌^◌, ◌==◌, nat_lt, ◌⊎◌, ◌↔◌, inl, inr, Bool, true, false, not, IsTrue, leb, List, [], ◌∷◌, ◌++◌, All, length, get_or, append_assoc, append-nil, codes, Result, Ok, Err, refl, sym, subst, ◌∙◌, ap, arith}
 use Rattle.std.specs.Fmt.{decimal}
 use Rattle.std.specs.List.{flat_map}
 use Rattle.std.specs.Str.Parse.{AllDigits, digits_value, ParsesUnsigned}
@@ -15,7 +15,8 @@ use Rattle.lines.specs.Reading.{lacks}
 use Rattle.lines.specs.Text.{codes_text, ending_text}
 use Rattle.join.specs.Printable.{IsWithin}
 use Rattle.join.specs.Reading.{IsCut, NoCut}
-use Rattle.join.specs.Endings.{IsPlain, IsNumber, IsFaultNumber, numbers_text, AreNumbers, AreCodes, IsVerdict, IsFault, IsEnding}
+use Rattle.lines.specs.Line.{fails as failing_end}
+use Rattle.join.specs.Endings.{IsPlain, IsNumber, IsAnswer, IsFaultNumber, numbers_text, AreNumbers, AreCodes, IsVerdict, IsFault, IsEnding}
 use Rattle.join.proofs.Texts.{one_cut, has_it, cancel}
 use Rattle.join.proofs.Spans.{number_lacks, blank_lacks}
 
@@ -173,6 +174,20 @@ fault_low word n (small, is) low = (λ t. absurd (let high = leb-true 80 n t in 
 pub no_fault : (word : List ℕ) → ((n : ℕ) → n < 2 ^ 64 → word ≢ decimal n) → IsFaultNumber word → ⊥
 no_fault word none f = let high = (fault_within f.fault).1 in none (fault_number f.fault) (omega (arith, high)) f.is
 
+-- an answer that isn't 0
+pub no_answer : (word : List ℕ) → ((n : ℕ) → n < 2 ^ 64 → word ≢ decimal n) → IsAnswer word → ⊥
+no_answer word none a = none a.number a.small a.is
+
+pub answer_said : (word : List ℕ) (n : ℕ) → (n < 2 ^ 64) × (word ≡ decimal n) → IsTrue (nat_lt 0 n) ↔ IsAnswer word
+answer_said word n (small, is) = (
+  λ test. let yes : nat_lt 0 n ≡ true = test in record { number = n; small = small; some = grind (arith, nat_tests, yes); is = is },
+  λ a.
+      let some = a.some in
+      let same : n ≡ a.number = decimal_injective n a.number small a.small (sym is ∙ a.is) in
+      let yes : nat_lt 0 n ≡ true = grind (arith, nat_tests, some, same) in
+      yes,
+)
+
 -- codes
 pub hyphen_codes : (text : List ℕ) → text ≡ codes "-" → AreCodes text
 unfolding codes_text
@@ -221,8 +236,8 @@ verdict_parts text answer more cut v =
 pub no_verdict : (text : List ℕ) → NoCut 32 text → IsVerdict text → ⊥
 no_verdict text none v = has_it 32 (decimal v.answer) (codes "codes " ++ v.codes_said) (subst (λ (bs : List ℕ). lacks 32 bs ≡ true) (v.is ∙ verdict_words v.answer v.codes_said) none.none)
 
-pub verdict_answer : (text answer more : List ℕ) → IsCut 32 text answer more → IsVerdict text → IsNumber answer
-verdict_answer text answer more cut v = record { number = v.answer; small = v.small; is = (verdict_parts text answer more cut v).0 }
+pub verdict_answer : (text answer more : List ℕ) → IsCut 32 text answer more → IsVerdict text → IsAnswer answer
+verdict_answer text answer more cut v = record { number = v.answer; small = v.small; some = v.some; is = (verdict_parts text answer more cut v).0 }
 
 pub verdict_codes : (text answer more said : List ℕ) → IsCut 32 text answer more → more ≡ codes "codes " ++ said → IsVerdict text → AreCodes said
 verdict_codes text answer more said cut parts v =
@@ -232,10 +247,11 @@ verdict_codes text answer more said cut parts v =
 pub no_codes : (text answer more : List ℕ) → IsCut 32 text answer more → ((rest : List ℕ) → more ≢ codes "codes " ++ rest) → IsVerdict text → ⊥
 no_codes text answer more cut none v = none v.codes_said (verdict_parts text answer more cut v).1
 
-pub verdict_found : (text answer more said : List ℕ) → IsCut 32 text answer more → more ≡ codes "codes " ++ said → IsNumber answer → AreCodes said → IsVerdict text
+pub verdict_found : (text answer more said : List ℕ) → IsCut 32 text answer more → more ≡ codes "codes " ++ said → IsAnswer answer → AreCodes said → IsVerdict text
 verdict_found text answer more said cut parts number are = record {
   answer = number.number;
   small = number.small;
+  some = number.some;
   codes_said = said;
   codes_are = are;
   is = cut.is ∙ (let a = number.is in rw (a, parts) (sym (verdict_words number.number said)));
@@ -282,20 +298,23 @@ fault_text_found text word more slot cut parts number at = record {
 pub verdict_is_ending : (text said : List ℕ) → text ≡ codes "answer " ++ said → IsVerdict said → IsEnding text
 verdict_is_ending text said parts v =
     let are = v.codes_are in
+    let some = v.some in
+    let other : (v.answer == 0) ≡ false = grind (arith, nat_tests, some) in
     record {
       ending = Verdict v.answer are.numbers;
       within = (v.small, are.few, are.within);
+      failing = rw other refl;
       is = parts ∙ (let a = v.is in let b = are.is in rw (a, b) (simp append_assoc));
     }
 
 pub fault_is_ending : (text said : List ℕ) → text ≡ codes "fault " ++ said → IsFault said → IsEnding text
-fault_is_ending text said parts f = record { ending = Stopped f.fault f.slot; within = f.small; is = parts ∙ (let a = f.is in rw a (simp append_assoc)) }
+fault_is_ending text said parts f = record { ending = Stopped f.fault f.slot; within = f.small; failing = refl; is = parts ∙ (let a = f.is in rw a (simp append_assoc)) }
 
 pub steps_are_ending : (text : List ℕ) → text ≡ codes "out of steps" → IsEnding text
-steps_are_ending text is = record { ending = OutOfSteps; within = tt; is = is }
+steps_are_ending text is = record { ending = OutOfSteps; within = tt; failing = refl; is = is }
 
 pub stray_is_ending : (text said : List ℕ) → text ≡ codes "stray at slot " ++ said → IsNumber said → IsEnding text
-stray_is_ending text said parts n = record { ending = Stray n.number; within = n.small; is = parts ∙ ap (λ (bs : List ℕ). codes "stray at slot " ++ bs) n.is }
+stray_is_ending text said parts n = record { ending = Stray n.number; within = n.small; failing = refl; is = parts ∙ ap (λ (bs : List ℕ). codes "stray at slot " ++ bs) n.is }
 
 -- which of the four an ending is
 pub data EndingOf (text : List ℕ) : Type 0 where
@@ -305,15 +324,19 @@ pub data EndingOf (text : List ℕ) : Type 0 where
   of_stray : (said : List ℕ) → text ≡ codes "stray at slot " ++ said → IsNumber said → EndingOf text
 
 pub ending_of : (text : List ℕ) → IsEnding text → EndingOf text
-ending_of text e = by_ending e.ending e.within e.is
+ending_of text e = by_ending e.ending e.within e.failing e.is
   where
-    by_ending : (x : Ending) → IsWithin x → text ≡ ending_text x → EndingOf text
-    by_ending (Verdict a ns) (small, few, within) is =
+    some_answer : (a : ℕ) → not (a == 0) ≡ true → 0 < a
+    some_answer zero failing = absurd (let bad : false ≡ true = failing in cc)
+    some_answer (suc a) failing = omega arith
+
+    by_ending : (x : Ending) → IsWithin x → failing_end x ≡ true → text ≡ ending_text x → EndingOf text
+    by_ending (Verdict a ns) (small, few, within) failing is =
         of_verdict (decimal a ++ codes " codes " ++ codes_text ns) (is ∙ simp append_assoc)
-        (record { answer = a; small = small; codes_said = codes_text ns; codes_are = record { numbers = ns; few = few; within = within; is = refl }; is = refl })
-    by_ending (Stopped f slot) small is = of_fault (decimal (fault_number f) ++ codes " slot " ++ decimal slot) (is ∙ simp append_assoc) (record { fault = f; slot = slot; small = small; is = refl })
-    by_ending OutOfSteps small is = of_steps is
-    by_ending (Stray slot) small is = of_stray (decimal slot) is (record { number = slot; small = small; is = refl })
+        (record { answer = a; small = small; some = some_answer a failing; codes_said = codes_text ns; codes_are = record { numbers = ns; few = few; within = within; is = refl }; is = refl })
+    by_ending (Stopped f slot) small failing is = of_fault (decimal (fault_number f) ++ codes " slot " ++ decimal slot) (is ∙ simp append_assoc) (record { fault = f; slot = slot; small = small; is = refl })
+    by_ending OutOfSteps small failing is = of_steps is
+    by_ending (Stray slot) small failing is = of_stray (decimal slot) is (record { number = slot; small = small; is = refl })
 
 first_byte : (text xs ys : List ℕ) → text ≡ xs → text ≡ ys → get_or xs 0 0 ≡ get_or ys 0 0
 first_byte text xs ys one two = ap (λ (bs : List ℕ). get_or bs 0 0) (sym one ∙ two)

@@ -10,6 +10,7 @@ use Rattle.report.specs.Report.{totals_line, first_line, image_text, findings_te
 use Rattle.report.specs.declared.span.Span.{Span}
 use Rattle.join.specs.declared.tally.Tally.{Tally}
 use Rattle.join.specs.Order.{in_order}
+use Rattle.join.proofs.LinesRead.{Any}
 use Rattle.join.specs.Reading.{none_read, tallied, last_text, body_text, words_of, BeginsImage, NoLine}
 use Rattle.machine.specs.Outcome.{Verdict}
 use Rattle.epochs.specs.declared.part.By.TheVariants as by
@@ -119,11 +120,11 @@ unfolding last_word line_word
 words_differ l false images t same = let bad : 115 ≡ 32 = ap (λ (bs : List ℕ). get_or bs 0 0) same in omega (arith, bad)
 words_differ l true images t same = let bad : 115 ≡ 32 = ap (λ (bs : List ℕ). get_or bs 0 0) same in omega (arith, bad)
 
-pub last_is_no_line : (first : Bool) (images : ℕ) (t : Tally) → NoLine (last_text first images t)
+pub last_is_no_line : (first : Bool) (images : ℕ) (t : Tally) → NoLine Any (last_text first images t)
 last_is_no_line first images t = record { none = none }
   where
-    none : (l : FailingLine) (more : List ℕ) → IsPrintable l → last_text first images t ≡ line_text l ++ more → ⊥
-    none l more small e =
+    none : (l : FailingLine) (more : List ℕ) → IsPrintable l → Any l → last_text first images t ≡ line_text l ++ more → ⊥
+    none l more small _any e =
         let same : (codes "image" ++ last_word first images t) ++ 10 ∷ [] ≡ body_text l ++ 10 ∷ more = sym (last_word_is first images t) ∙ e ∙ line_is l more in
         let own : lacks 10 (codes "image" ++ last_word first images t) ≡ true = lacks_both 10 (codes "image") (last_word first images t) refl (last_word_lacks first images t) in
         let parts = one_cut 10 (codes "image" ++ last_word first images t) (body_text l) [] more own (body_lacks l small) same in

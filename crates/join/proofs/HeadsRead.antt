@@ -15,7 +15,7 @@ use Rattle.report.specs.declared.head.ProgramHead.{ProgramHead}
 use Rattle.report.specs.Text.{yes_or_no, cuts_word, by_words}
 use Rattle.report.specs.Report.{HeadValue, base_words, device_text, choices_text, given_text, options_line, options_text, program_lines}
 use Rattle.join.specs.declared.options.GivenOptions.{GivenOptions}
-use Rattle.join.specs.Heads.{join_words, option_words, by_list, flush_list, device_words, choices_words, given_words, AreEntries, AreWords, IsWord, IsOtherFirst, IsSmallOption, IsSmallHead, IsPrintedHead, AreOptions, HaveSameOptions, HasLines, NoProgram, ReadsWord, ReadsOption, ReadsBy, ReadsFlushes, ReadsDevice, ReadsChoices, ReadsGiven, ReadsOptions, ReadsPrograms, ReadsHead}
+use Rattle.join.specs.Heads.{join_words, option_words, by_list, flush_list, device_words, choices_words, given_words, AreEntries, AreWords, IsWord, IsOtherFirst, IsSmallOption, IsSmallHead, IsPrintedHead, IsHeadRead, NoHeadRead, are_options_of_run, are_programs_of_run, HaveSameOptions, HasLines, NoProgram, ReadsWord, ReadsOption, ReadsBy, ReadsFlushes, ReadsDevice, ReadsChoices, ReadsGiven, ReadsOptions, ReadsPrograms, ReadsHead}
 use Rattle.join.proofs.Spans.{line_lacks}
 use Rattle.join.proofs.WordsRead.{spaced, spaced_both, words_spaced, number_word, less}
 use Rattle.join.proofs.FlushesRead.{SaysSmall, entries_word, first_of, rest_of}
@@ -322,25 +322,38 @@ pub same_text : (h v : HeadValue) → HaveSameOptions h v → h.programs ≡ v.p
 unfolding device_text choices_text given_text cuts_words
 same_text h v s programs = rw (s.sectors, s.entries, s.kind, s.from, s.to, s.flushes, s.bound, s.tears, s.way, s.first, s.base, programs) refl
 
--- what stands at the head of a text is no head
-pub not_of_run : (text head : List ℕ) (h : HeadValue) (first : Bool) → HasLines text head → ReadsHead text h → ((0 < length h.programs) × (length h.programs ≤ 8) → h.first ≡ first → ⊥) → AreOptions head first → ⊥
-not_of_run text head h first lines r lack are =
-    let p = r.read are.head lines.rest are.printed lines.other (lines.is ∙ ap (λ (bs : List ℕ). bs ++ lines.rest) are.is) in
-    let long : length h.programs ≡ length are.head.programs = ap length p.1 in
-    let some = are.printed.some in
-    let few = are.printed.few in
-    lack (omega (arith, some, long), omega (arith, few, long)) (p.0.first ∙ are.shown)
+-- a head that was read is one of a run where a head that has the same options and programs is
+same_options : (h v : HeadValue) → HaveSameOptions h v → are_options_of_run h ≡ are_options_of_run v
+same_options h v s = rw (s.sectors, s.entries, s.from, s.to, s.flushes, s.bound) refl
 
--- it is one where it is what is printed of what was read
-pub printed_are : (head : List ℕ) (h : HeadValue) (first : Bool) → IsSmallHead h → (0 < length h.programs) × (length h.programs ≤ 8) → h.first ≡ first → head ≡ options_text h → AreOptions head first
-printed_are head h first small count shown is = record { head = h; printed = record { numbers = small; some = count.0; few = count.1 }; shown = shown; is = is }
+pub is_of_run : (h : HeadValue) → IsSmallHead h → (0 < length h.programs) × (length h.programs ≤ 8) → are_options_of_run h ≡ true → are_programs_of_run h.programs ≡ true → IsPrintedHead h
+is_of_run h small count options programs = record { numbers = small; some = count.0; few = count.1; options = options; programs = programs }
 
-pub are_printed : (text head : List ℕ) (h : HeadValue) (first : Bool) → HasLines text head → ReadsHead text h → AreOptions head first → head ≡ options_text h
-are_printed text head h first lines r are =
-    let p = r.read are.head lines.rest are.printed lines.other (lines.is ∙ ap (λ (bs : List ℕ). bs ++ lines.rest) are.is) in
-    are.is ∙ sym (same_text h are.head p.0 p.1)
+pub has_count : (h : HeadValue) → IsPrintedHead h → (0 < length h.programs) × (length h.programs ≤ 8)
+has_count h printed = (printed.some, printed.few)
 
--- an answer that tells one thing tells what is the same
-pub told : {E : Type 0} (r : Result Bool E) (A B : Type 0) → (A → B) → (B → A) → IfOk r (λ is. IsTrue is ↔ A) → IfOk r (λ is. IsTrue is ↔ B)
-told (Ok is) A B to from own = (λ t. to (own.0 t), λ b. own.1 (from b))
-told (Err error) A B to from own = tt
+moved : (h v : HeadValue) → IsSmallHead h → HaveSameOptions h v → h.programs ≡ v.programs → IsPrintedHead v → IsPrintedHead h
+moved h v small s programs printed =
+    let long : length h.programs ≡ length v.programs = ap length programs in
+    let some = printed.some in
+    let few = printed.few in
+    record {
+      numbers = small;
+      some = omega (arith, some, long);
+      few = omega (arith, few, long);
+      options = same_options h v s ∙ printed.options;
+      programs = rw programs printed.programs;
+    }
+
+-- of a text that stands at the head of another, its head is read
+read_at : (text head : List ℕ) (h : HeadValue) → HasLines text head → ReadsHead text h → (v : HeadValue) → IsPrintedHead v → head ≡ options_text v → HaveSameOptions h v × (h.programs ≡ v.programs)
+read_at text head h lines r v printed is = r.read v lines.rest printed lines.other (lines.is ∙ ap (λ (bs : List ℕ). bs ++ lines.rest) is)
+
+pub not_of_run : (text head : List ℕ) (h : HeadValue) → HasLines text head → ReadsHead text h → IsSmallHead h → (IsPrintedHead h → ⊥) → NoHeadRead head
+not_of_run text head h lines r small lack = record { none = λ v printed is. let p = read_at text head h lines r v printed is in lack (moved h v small p.0 p.1 printed) }
+
+pub not_printed : (text head : List ℕ) (h : HeadValue) → HasLines text head → ReadsHead text h → (head ≡ options_text h → ⊥) → NoHeadRead head
+not_printed text head h lines r lack = record { none = λ v printed is. let p = read_at text head h lines r v printed is in lack (is ∙ sym (same_text h v p.0 p.1)) }
+
+pub is_head_read : (text head : List ℕ) (h : HeadValue) → HasLines text head → ReadsHead text h → IsPrintedHead h → head ≡ options_text h → IsHeadRead head h
+is_head_read text head h lines r printed is = record { printed = printed; is = is; only = λ v own also. read_at text head h lines r v own also }

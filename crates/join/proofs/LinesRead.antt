@@ -10,26 +10,28 @@ use Rattle.lines.specs.Marks.{mark_of, marks_of}
 use Rattle.lines.specs.Text.{line_text}
 use Rattle.report.specs.declared.span.Span.{Span}
 use Rattle.join.specs.declared.tally.Tally.{Tally}
-use Rattle.join.specs.Printable.{IsPrintable, ArePrintable, end_text}
+use Rattle.report.specs.Report.{HeadValue}
+use Rattle.join.specs.Printable.{IsPrintable, ArePrintable, EachLine, IsLineOfRun, end_text}
 use Rattle.join.specs.Reading.{none_read, one_more, is_new, AreRead, IsLine, NoLine, body_text, words_of}
 use Rattle.join.proofs.Texts.{one_cut}
 use Rattle.join.proofs.Spans.{blank_lacks}
 use Rattle.join.proofs.Bodies.{by_words, body_lacks, line_is}
 use Rattle.join.proofs.Counts.{tallied_push, tallied_none}
 
-pub none_are_read : (s : Span) (text : List ℕ) → AreRead s text none_read text
-none_are_read s text = record {
+pub none_are_read : (h : HeadValue) (s : Span) (text : List ℕ) → AreRead h s text none_read text
+none_are_read h s text = record {
   lines = [];
   printable = tt;
+  of_run = tt;
   is = refl;
   told = sym (tallied_none s none_read);
   few = omega arith;
   fewer = omega arith;
 }
 
-printable_push : (ls : List FailingLine) (l : FailingLine) → ArePrintable ls → IsPrintable l → ArePrintable (ls ++ l ∷ [])
-printable_push [] l all own = (own, tt)
-printable_push (k ∷ ls) l all own = (all.0, printable_push ls l all.1 own)
+each_push : (P : FailingLine → Type 0) (ls : List FailingLine) (l : FailingLine) → EachLine P ls → P l → EachLine P (ls ++ l ∷ [])
+each_push P [] l all own = (own, tt)
+each_push P (k ∷ ls) l all own = (all.0, each_push P ls l all.1 own)
 
 text_push : (ls : List FailingLine) (l : FailingLine) (more : List ℕ) → flat_map line_text (ls ++ l ∷ []) ++ more ≡ flat_map line_text ls ++ (line_text l ++ more)
 text_push [] l more = ap (λ (bs : List ℕ). bs ++ more) (append-nil (line_text l))
@@ -42,10 +44,11 @@ one_or_none : (b : Bool) → (if b then 1 else 0) ≤ 1
 one_or_none true = omega arith
 one_or_none false = omega arith
 
-pub one_is_read : (s : Span) (text rest more : List ℕ) (t : Tally) (m : Mark) → AreRead s text t rest → IsLine rest m more → length more < length rest → AreRead s text (one_more s t m) more
-one_is_read s text rest more t m h line less = record {
+pub one_is_read : (v : HeadValue) (s : Span) (text rest more : List ℕ) (t : Tally) (m : Mark) → AreRead v s text t rest → IsLine v rest m more → length more < length rest → AreRead v s text (one_more s t m) more
+one_is_read v s text rest more t m h line less = record {
   lines = h.lines ++ line.line ∷ [];
-  printable = printable_push h.lines line.line h.printable line.printable;
+  printable = each_push IsPrintable h.lines line.line h.printable line.printable;
+  of_run = each_push (IsLineOfRun v) h.lines line.line h.of_run line.of_run;
   is = h.is ∙ ap (λ (bs : List ℕ). flat_map line_text h.lines ++ bs) line.is ∙ sym (text_push h.lines line.line more);
   told =
       let pushed : marks_of (h.lines ++ line.line ∷ []) ≡ marks_of h.lines ++ mark_of line.line ∷ [] = map-append mark_of h.lines (line.line ∷ []) in
@@ -77,25 +80,33 @@ one_mark l q own also e =
     let same_program : l.program ≡ q.program = decimal_injective l.program q.program (omega (arith, f)) (omega (arith, g)) program.0 in
     rw (same_image, same_program) refl
 
+-- any line, and each of some
+abbrev pub Any : FailingLine → Type 0
+Any l = Unit {0}
+
+pub any_line : (ls : List FailingLine) → EachLine Any ls
+any_line [] = tt
+any_line (l ∷ ls) = (tt, any_line ls)
+
 -- two readings of one text
 pub record AreOneReading (ls qs : List FailingLine) (rest tail : List ℕ) : Type 0 where
   pub marks : marks_of ls ≡ marks_of qs
   pub texts : flat_map line_text ls ≡ flat_map line_text qs
   pub rests : rest ≡ tail
 
-pub one_reading : (ls qs : List FailingLine) (rest tail : List ℕ) → ArePrintable ls → ArePrintable qs → NoLine rest → NoLine tail
+pub one_reading : (P : FailingLine → Type 0) (ls qs : List FailingLine) (rest tail : List ℕ) → ArePrintable ls → ArePrintable qs → EachLine P qs → NoLine P rest → NoLine Any tail
     → flat_map line_text ls ++ rest ≡ flat_map line_text qs ++ tail → AreOneReading ls qs rest tail
-one_reading [] [] rest tail own also lack none e = record { marks = refl; texts = refl; rests = e }
-one_reading [] (q ∷ qs) rest tail own also lack none e =
-    absurd (lack.none q (flat_map line_text qs ++ tail) also.0 (e ∙ append_assoc (line_text q) (flat_map line_text qs) tail))
-one_reading (l ∷ ls) [] rest tail own also lack none e =
-    absurd (none.none l (flat_map line_text ls ++ rest) own.0 (sym e ∙ append_assoc (line_text l) (flat_map line_text ls) rest))
-one_reading (l ∷ ls) (q ∷ qs) rest tail own also lack none e =
+one_reading P [] [] rest tail own also each lack none e = record { marks = refl; texts = refl; rests = e }
+one_reading P [] (q ∷ qs) rest tail own also each lack none e =
+    absurd (lack.none q (flat_map line_text qs ++ tail) also.0 each.0 (e ∙ append_assoc (line_text q) (flat_map line_text qs) tail))
+one_reading P (l ∷ ls) [] rest tail own also each lack none e =
+    absurd (none.none l (flat_map line_text ls ++ rest) own.0 tt (sym e ∙ append_assoc (line_text l) (flat_map line_text ls) rest))
+one_reading P (l ∷ ls) (q ∷ qs) rest tail own also each lack none e =
     let same : body_text l ++ 10 ∷ (flat_map line_text ls ++ rest) ≡ body_text q ++ 10 ∷ (flat_map line_text qs ++ tail) =
     sym (line_is l (flat_map line_text ls ++ rest)) ∙ sym (append_assoc (line_text l) (flat_map line_text ls) rest) ∙ e
     ∙ append_assoc (line_text q) (flat_map line_text qs) tail ∙ line_is q (flat_map line_text qs ++ tail) in
     let parts = one_cut 10 (body_text l) (body_text q) _ _ (body_lacks l own.0) (body_lacks q also.0) same in
-    let more = one_reading ls qs rest tail own.1 also.1 lack none parts.1 in
+    let more = one_reading P ls qs rest tail own.1 also.1 each.1 lack none parts.1 in
     let mark = one_mark l q own.0 also.0 parts.0 in
     let marks = more.marks in
     let texts = more.texts in

@@ -1,5 +1,5 @@
 -- The text of a part, read to the byte and in one way alone.
-use Rattle.std.proofs.Common.{ℕ, ◌≡◌, ◌≢◌, ◌-◌, Bool, true, List, ◌++◌, get_or, None, refl, sym, ◌∙◌, ap, subst, arith}
+use Rattle.std.proofs.Common.{ℕ, ◌≡◌, ◌≢◌, ◌-◌, Bool, true, List, [], ◌∷◌, ◌++◌, get_or, None, refl, sym, ◌∙◌, ap, subst, arith}
 use Rattle.std.specs.List.{flat_map}
 use Rattle.lines.specs.Marks.{marks_of}
 use Rattle.lines.specs.Text.{line_text}
@@ -7,7 +7,10 @@ use Rattle.report.specs.declared.span.Span.{Span}
 use Rattle.join.specs.declared.tally.Tally.{Tally}
 use Rattle.join.specs.Order.{in_order}
 use Rattle.report.specs.Part.{span_text}
-use Rattle.join.specs.Heads.{AreOptions, HasLines}
+use Rattle.lines.specs.Line.{FailingLine}
+use Rattle.report.specs.Report.{HeadValue}
+use Rattle.join.specs.Printable.{IsLineOfRun, AreLinesOfRun}
+use Rattle.join.specs.Heads.{HasLines, HaveSameOptions, IsHeadRead, NoHeadRead}
 use Rattle.join.specs.Text.{PartValue, IsPart, part_text, lines_text}
 use Rattle.join.specs.Reading.{IsSmall, IsSpanOf, NoSpan, IsBehindHead, NoHead, AreRead, NoLine, IsWhole, HasFront, none_read, tallied, last_text, IsPartText, NoPartText}
 use Rattle.join.proofs.Texts.{cancel}
@@ -35,12 +38,18 @@ small_span p is =
     let small = is.span.small in
     record { from = omega (arith, rising, within, small); to = omega (arith, within, small); images = omega (arith, small); inputs = is.span.number }
 
+-- what stands before what was found
+abbrev pub IsFront : List ℕ → List ℕ → List ℕ → Type 0
+IsFront body found front = (bytes : List ℕ) → body ≡ bytes ++ found → front ≡ bytes
+
 -- what was read of a text, step by step
-pub record AreSteps (text body found last : List ℕ) (s : Span) (t : Tally) : Type 0 where
+pub record AreSteps (text body found front last : List ℕ) (h : HeadValue) (s : Span) (t : Tally) : Type 0 where
   pub span : IsSpanOf text s body
   pub head : IsBehindHead body found
-  pub lines : AreRead s found t last
-  pub none : NoLine last
+  pub front_is : IsFront body found front
+  pub read : IsHeadRead front h
+  pub lines : AreRead h s found t last
+  pub none : NoLine (IsLineOfRun h) last
 
 -- of a text of a part these steps read just that part
 pub record AreOf (p : PartValue) (body found last head lines : List ℕ) (s : Span) (t : Tally) : Type 0 where
@@ -69,10 +78,29 @@ head_step body found h p is e =
     let one = one_head h.is_head.lines is.head.lines found _ h.is_head.each is.head.each h.begins begins whole in
     (h.is_head.is ∙ one.0 ∙ sym is.head.is, one.1)
 
-pub lines_step : (s : Span) (found last : List ℕ) (t : Tally) (r : AreRead s found t last) → NoLine last → (p : PartValue) → IsPart p → s ≡ p.span → found ≡ flat_map line_text p.lines ++ last_of p
-    → (t ≡ tally_of p) × (flat_map line_text r.lines ≡ flat_map line_text p.lines) × (last ≡ last_of p)
-lines_step s found last t r none p is same e =
-    let one = one_reading r.lines p.lines last (last_of p) r.printable is.printable none (last_is_no_line p.first (p.span.to - p.span.from) (tally_of p)) (sym r.is ∙ e) in
+-- a line of a run is one of each head that has the same options and programs
+line_moved : (h v : HeadValue) → HaveSameOptions h v → h.programs ≡ v.programs → (l : FailingLine) → IsLineOfRun v l → IsLineOfRun h l
+line_moved h v s programs l own = record {
+  there = rw (programs, s.entries, s.from, s.to) own.there;
+  failing = own.failing;
+  way = own.way ∙ sym s.way;
+  names = rw (s.bound, s.tears) own.names;
+}
+
+lines_moved : (h v : HeadValue) → HaveSameOptions h v → h.programs ≡ v.programs → (ls : List FailingLine) → AreLinesOfRun v ls → AreLinesOfRun h ls
+lines_moved h v s programs [] own = tt
+lines_moved h v s programs (l ∷ ls) own = (line_moved h v s programs l own.0, lines_moved h v s programs ls own.1)
+
+-- the head of a part is the one that was read
+same_head : (front : List ℕ) (h : HeadValue) → IsHeadRead front h → (p : PartValue) (is : IsPart p) → front ≡ p.head → HaveSameOptions h is.options.head × (h.programs ≡ is.options.head.programs)
+same_head front h read p is same = read.only is.options.head is.options.printed (same ∙ is.options.is)
+
+pub lines_step : (front : List ℕ) (h : HeadValue) (s : Span) (found last : List ℕ) (t : Tally) (r : AreRead h s found t last) → NoLine (IsLineOfRun h) last → IsHeadRead front h → (p : PartValue) → IsPart p → front ≡ p.head
+    → s ≡ p.span → found ≡ flat_map line_text p.lines ++ last_of p → (t ≡ tally_of p) × (flat_map line_text r.lines ≡ flat_map line_text p.lines) × (last ≡ last_of p)
+lines_step front h s found last t r none read p is head same e =
+    let as_one = same_head front h read p is head in
+    let of_run = lines_moved h is.options.head as_one.0 as_one.1 p.lines is.of_run in
+    let one = one_reading (IsLineOfRun h) r.lines p.lines last (last_of p) r.printable is.printable of_run none (last_is_no_line p.first (p.span.to - p.span.from) (tally_of p)) (sym r.is ∙ e) in
     let told = r.told in
     let marks = one.marks in
     (rw (told, marks, same) refl, one.texts, one.rests)
@@ -87,72 +115,79 @@ no_head_no_part text body s of lack = record {
       lack.none p.head _ is.head (image_lines p.lines is.printable p.first (p.span.to - p.span.from) (tally_of p)) (span_step text body s of p is e).1;
 }
 
+-- nor where the head isn't that of a run
+pub other_head_no_part : (text body found front : List ℕ) (s : Span) → IsSpanOf text s body → IsBehindHead body found → IsFront body found front → NoHeadRead front → NoPartText text
+other_head_no_part text body found front s of h front_is lack = record {
+  none = λ p is e.
+      let one = span_step text body s of p is e in
+      let two = head_step body found h p is one.1 in
+      lack.none is.options.head is.options.printed (front_is h.head h.is ∙ two.0 ∙ is.options.is);
+}
+
 -- of a text of a part, what the steps found
-pub steps_of : (text body found last : List ℕ) (s : Span) (t : Tally) (steps : AreSteps text body found last s t) → (p : PartValue) → IsPart p → text ≡ part_text p
-    → AreOf p body found last steps.head.head (flat_map line_text steps.lines.lines) s t
-steps_of text body found last s t steps p is e =
+pub steps_of : (text body found front last : List ℕ) (h : HeadValue) (s : Span) (t : Tally) (steps : AreSteps text body found front last h s t) → (p : PartValue) → IsPart p → text ≡ part_text p
+    → AreOf p body found last front (flat_map line_text steps.lines.lines) s t
+steps_of text body found front last h s t steps p is e =
     let one = span_step text body s steps.span p is e in
     let two = head_step body found steps.head p is one.1 in
-    let three = lines_step s found last t steps.lines steps.none p is one.0 two.1 in
+    let head : front ≡ p.head = steps.front_is steps.head.head steps.head.is ∙ two.0 in
+    let three = lines_step front h s found last t steps.lines steps.none steps.read p is head one.0 two.1 in
     record {
       span = one.0;
       body_is = steps.head.is ∙ ap (λ (bs : List ℕ). bs ++ found) two.0;
       found_is = two.1;
       tally = three.0;
       last_is = three.2;
-      head_is = two.0;
+      head_is = head;
       lines_are = three.1;
     }
 
-pub no_last_no_part : (text body found last : List ℕ) (s : Span) (t : Tally) → IsSpanOf text s body → IsBehindHead body found → AreRead s found t last → NoLine last
-    → ((first : Bool) → last ≢ last_text first (s.to - s.from) t) → NoPartText text
-no_last_no_part text body found last s t span head lines none lack = record {
-  none = λ p is e.
-      let of = steps_of text body found last s t (record { span = span; head = head; lines = lines; none = none }) p is e in
+module _ (text body found front last : List ℕ) (h : HeadValue) (s : Span) (t : Tally) (span : IsSpanOf text s body) (head : IsBehindHead body found) (front_is : IsFront body found front) (read : IsHeadRead front h)
+    (lines : AreRead h s found t last) (none : NoLine (IsLineOfRun h) last) where
+  steps : AreSteps text body found front last h s t
+  steps = record { span = span; head = head; front_is = front_is; read = read; lines = lines; none = none }
+
+  pub no_last_no_part : ((first : Bool) → last ≢ last_text first (s.to - s.from) t) → NoPartText text
+  no_last_no_part lack = record {
+    none = λ p is e.
+        let of = steps_of text body found front last h s t steps p is e in
+        let same_span = of.span in
+        let same_tally = of.tally in
+        lack p.first (of.last_is ∙ rw (same_span, same_tally) refl);
+  }
+
+  -- the last line tells of which kind the part is
+  same_kind : (first : Bool) → last ≡ last_text first (s.to - s.from) t → (p : PartValue) → IsPart p → text ≡ part_text p → first ≡ p.first
+  same_kind first at p is e =
+      let of = steps_of text body found front last h s t steps p is e in
       let same_span = of.span in
       let same_tally = of.tally in
-      lack p.first (of.last_is ∙ rw (same_span, same_tally) refl);
-}
+      let said : last ≡ last_text first (p.span.to - p.span.from) (tally_of p) = at ∙ rw (same_span, same_tally) refl in
+      one_kind first p.first (p.span.to - p.span.from) (tally_of p) (sym said ∙ of.last_is)
 
-not_whole : (text body found last : List ℕ) (s : Span) (t : Tally) (first : Bool) → AreSteps text body found last s t → last ≡ last_text first (s.to - s.from) t → (IsWhole s first t → ⊥)
-    → (p : PartValue) → IsPart p → text ≡ part_text p → ⊥
-not_whole text body found last s t first steps at lack p is e =
-    let of = steps_of text body found last s t steps p is e in
-    let span = of.span in
-    let tally = of.tally in
-    let read : last ≡ last_text first (p.span.to - p.span.from) (tally_of p) = at ∙ rw (span, tally) refl in
-    let kind : first ≡ p.first = one_kind first p.first (p.span.to - p.span.from) (tally_of p) (sym read ∙ of.last_is) in
-    let whole : IsWhole p.span p.first (tally_of p) =
-    record {
-      span = is.span;
-      ordered = counted_order p.span (marks_of p.lines) ∙ is.ordered;
-      one = λ f. let count = counted_images p.span p.lines is.ordered in let one = is.one f in omega (arith, count, one);
-    } in
-    lack (rw (span, kind, tally) whole)
+  pub other_kind_no_part : (first : Bool) → last ≡ last_text first (s.to - s.from) t → h.first ≢ first → NoPartText text
+  other_kind_no_part first at other = record {
+    none = λ p is e.
+        let of = steps_of text body found front last h s t steps p is e in
+        let as_one = same_head front h read p is of.head_is in
+        other (as_one.0.first ∙ is.options.shown ∙ sym (same_kind first at p is e));
+  }
 
-pub not_whole_no_part : (text body found last : List ℕ) (s : Span) (t : Tally) (first : Bool) → IsSpanOf text s body → IsBehindHead body found → AreRead s found t last → NoLine last
-    → last ≡ last_text first (s.to - s.from) t → (IsWhole s first t → ⊥) → NoPartText text
-not_whole_no_part text body found last s t first span head lines none at lack = record {
-  none = not_whole text body found last s t first (record { span = span; head = head; lines = lines; none = none }) at lack;
-}
-
--- nor where the head isn't that of a report
-other_head : (text body found last head : List ℕ) (s : Span) (t : Tally) (first : Bool) (steps : AreSteps text body found last s t) → last ≡ last_text first (s.to - s.from) t
-    → head ≡ steps.head.head → (AreOptions head first → ⊥) → (p : PartValue) → IsPart p → text ≡ part_text p → ⊥
-other_head text body found last head s t first steps at front lack p is e =
-    let of = steps_of text body found last s t steps p is e in
-    let span = of.span in
-    let tally = of.tally in
-    let read : last ≡ last_text first (p.span.to - p.span.from) (tally_of p) = at ∙ rw (span, tally) refl in
-    let kind : first ≡ p.first = one_kind first p.first (p.span.to - p.span.from) (tally_of p) (sym read ∙ of.last_is) in
-    let same : head ≡ p.head = front ∙ of.head_is in
-    lack (rw (same, kind) is.options)
-
-pub other_head_no_part : (text body found last head : List ℕ) (s : Span) (t : Tally) (first : Bool) → IsSpanOf text s body → IsBehindHead body found → AreRead s found t last → NoLine last
-    → last ≡ last_text first (s.to - s.from) t → ((front : List ℕ) → body ≡ front ++ found → head ≡ front) → (AreOptions head first → ⊥) → NoPartText text
-other_head_no_part text body found last head s t first span h lines none at head_is lack = record {
-  none = other_head text body found last head s t first (record { span = span; head = h; lines = lines; none = none }) at (head_is h.head h.is) lack;
-}
+  pub not_whole_no_part : (first : Bool) → last ≡ last_text first (s.to - s.from) t → (IsWhole s first t → ⊥) → NoPartText text
+  not_whole_no_part first at lack = record {
+    none = λ p is e.
+        let of = steps_of text body found front last h s t steps p is e in
+        let same_span = of.span in
+        let same_tally = of.tally in
+        let kind = same_kind first at p is e in
+        let whole : IsWhole p.span p.first (tally_of p) =
+        record {
+          span = is.span;
+          ordered = counted_order p.span (marks_of p.lines) ∙ is.ordered;
+          one = λ f. let count = counted_images p.span p.lines is.ordered in let one = is.one f in omega (arith, count, one);
+        } in
+        lack (rw (same_span, kind, same_tally) whole);
+  }
 
 -- behind the head stands no line of a program
 pub lines_behind_head : (body found head : List ℕ) (h : IsBehindHead body found) → ((front : List ℕ) → body ≡ front ++ found → head ≡ front) → HasLines body head
@@ -168,23 +203,25 @@ lines_behind_head body found head h head_is = record {
 pub head_in_front : (body found : List ℕ) → IsBehindHead body found → HasFront body found
 head_in_front body found h = record { front = h.head; is = h.is }
 
-pub lines_in_front : (s : Span) (found last : List ℕ) (t : Tally) → AreRead s found t last → HasFront found last
-lines_in_front s found last t h = record { front = flat_map line_text h.lines; is = h.is }
+pub lines_in_front : (v : HeadValue) (s : Span) (found last : List ℕ) (t : Tally) → AreRead v s found t last → HasFront found last
+lines_in_front v s found last t h = record { front = flat_map line_text h.lines; is = h.is }
 
 -- where all steps found something, the text is of a part
-pub part_found : (text body found last head lines : List ℕ) (s : Span) (t : Tally) (first : Bool) (file : ℕ) → IsSpanOf text s body → IsBehindHead body found → AreRead s found t last
-    → last ≡ last_text first (s.to - s.from) t → IsWhole s first t → AreOptions head first → ((front : List ℕ) → body ≡ front ++ found → head ≡ front) → ((front : List ℕ) → found ≡ front ++ last → lines ≡ front)
-    → IsPartText text (record { span = s; head = head; first = first; lines = lines; tally = t; file = file })
-part_found text body found last head lines s t first file span h r at whole options head_is lines_are =
+pub part_found : (text body found last front lines : List ℕ) (v : HeadValue) (s : Span) (t : Tally) (first : Bool) (file : ℕ) → IsSpanOf text s body → IsBehindHead body found → AreRead v s found t last
+    → last ≡ last_text first (s.to - s.from) t → IsWhole s first t → IsFront body found front → IsHeadRead front v → v.first ≡ first → ((bytes : List ℕ) → found ≡ bytes ++ last → lines ≡ bytes)
+    → IsPartText text (record { span = s; head = front; first = first; lines = lines; tally = t; file = file })
+part_found text body found last front lines v s t first file span h r at whole front_is read shown lines_are =
     let told = r.told in
+    let head_is : front ≡ h.head = front_is h.head h.is in
     let ordered : in_order s.from s.to None (marks_of r.lines) ≡ true = sym (counted_order s (marks_of r.lines)) ∙ ap (λ (u : Tally). u.ordered) (sym told) ∙ whole.ordered in
     let part : PartValue = record { span = s; head = h.head; first = first; lines = r.lines } in
     let is : IsPart part =
     record {
       span = whole.span;
       head = h.is_head;
-      options = subst (λ (bs : List ℕ). AreOptions bs first) (head_is h.head h.is) options;
+      options = record { head = v; printed = read.printed; shown = shown; is = sym head_is ∙ read.is };
       printable = r.printable;
+      of_run = r.of_run;
       ordered = ordered;
       one = λ f.
           let count = counted_images s r.lines ordered in
@@ -199,5 +236,5 @@ part_found text body found last head lines s t first file span h r at whole opti
       part = part;
       is = is;
       text = span.is ∙ ap (λ (bs : List ℕ). span_text s ++ bs) body_said ∙ sym (pieces part is);
-      told = record { span = refl; head = head_is h.head h.is; first = refl; lines = lines_are (flat_map line_text r.lines) r.is; tally = told };
+      told = record { span = refl; head = head_is; first = refl; lines = lines_are (flat_map line_text r.lines) r.is; tally = told };
     }

@@ -13,7 +13,7 @@ use Rattle.lines.proofs.Order.{changes_are_images, first_are_leading}
 use Rattle.report.specs.Report.{options_text, shown_lines, findings_text}
 use Rattle.report.specs.declared.span.Span.{Span}
 use Rattle.join.specs.declared.tally.Tally.{Tally}
-use Rattle.join.specs.Printable.{ArePrintable}
+use Rattle.join.specs.Printable.{IsPrintable, ArePrintable, EachLine, IsLineOfRun, AreLinesOfRun}
 use Rattle.join.specs.Order.{in_order}
 use Rattle.report.specs.Part.{span_text}
 use Rattle.join.specs.Text.{PartValue, IsPart, IsSpan, RunValue, span_of, part_text, part_bytes, lines_between, lines_text}
@@ -23,7 +23,7 @@ use Rattle.join.proofs.Texts.{one_cut}
 use Rattle.join.proofs.Spans.{span_words, number_lacks, blank_lacks, line_lacks, no_point}
 use Rattle.join.proofs.Counts.{next_is, rising, all_of_first}
 use Rattle.join.proofs.Heads.{one_head}
-use Rattle.join.proofs.LinesRead.{one_reading}
+use Rattle.join.proofs.LinesRead.{Any, any_line, one_reading}
 use Rattle.join.proofs.Findings.{one_kind, image_lines, last_is_no_line}
 use Rattle.join.proofs.Parts.{pieces, small_span, tally_of, last_of}
 use Rattle.join.proofs.Order.{in_order-append, next_back}
@@ -39,16 +39,22 @@ row_order r run a (suc n) =
 pub lines_order : (r : RunValue) → IsRun r → (a b : ℕ) → a ≤ b → in_order a b None (marks_of (lines_between r a b)) ≡ true
 lines_order r run a b up = let e : a + (b - a) ≡ b = omega (arith, up) in rw e at (row_order r run a (b - a))
 
-printable_both : (ls ks : List FailingLine) → ArePrintable ls → ArePrintable ks → ArePrintable (ls ++ ks)
-printable_both [] ks own also = also
-printable_both (l ∷ ls) ks own also = (own.0, printable_both ls ks own.1 also)
+each_both : (P : FailingLine → Type 0) (ls ks : List FailingLine) → EachLine P ls → EachLine P ks → EachLine P (ls ++ ks)
+each_both P [] ks own also = also
+each_both P (l ∷ ls) ks own also = (own.0, each_both P ls ks own.1 also)
+
+row_each : (P : FailingLine → Type 0) (r : RunValue) → ((image : ℕ) → EachLine P (r.image_lines image)) → (a n : ℕ) → EachLine P (flat_map r.image_lines (range_with_len a n))
+row_each P r each a zero = tt
+row_each P r each a (suc n) = each_both P (r.image_lines a) (flat_map r.image_lines (range_with_len (a + 1) n)) (each a) (row_each P r each (a + 1) n)
 
 row_printable : (r : RunValue) → IsRun r → (a n : ℕ) → ArePrintable (flat_map r.image_lines (range_with_len a n))
-row_printable r run a zero = tt
-row_printable r run a (suc n) = printable_both (r.image_lines a) (flat_map r.image_lines (range_with_len (a + 1) n)) (run.printable a) (row_printable r run (a + 1) n)
+row_printable r run a n = row_each IsPrintable r run.printable a n
 
 pub between_printable : (r : RunValue) → IsRun r → (a b : ℕ) → ArePrintable (lines_between r a b)
 between_printable r run a b = row_printable r run a (b - a)
+
+between_of_run : (r : RunValue) → IsRun r → (a b : ℕ) → AreLinesOfRun r.head (lines_between r a b)
+between_of_run r run a b = row_each (IsLineOfRun r.head) r run.of_run a (b - a)
 
 -- the first lines are in their order too, and of one image
 leading_order : (v a b : ℕ) (last : Option Mark) (ls : List FailingLine) → in_order a b last (marks_of ls) ≡ true → in_order a b last (marks_of (leading_of v ls)) ≡ true
@@ -61,10 +67,10 @@ leading_order v a b last (l ∷ ls) e = elim (eqb_tells v l.image) [
   | inr other ↦ rw other.0 refl
 ]
 
-leading_printable : (v : ℕ) (ls : List FailingLine) → ArePrintable ls → ArePrintable (leading_of v ls)
-leading_printable v [] own = tt
-leading_printable v (l ∷ ls) own = elim (eqb_tells v l.image) [
-  | inl same ↦ rw same.0 (own.0, leading_printable v ls own.1)
+leading_each : (P : FailingLine → Type 0) (v : ℕ) (ls : List FailingLine) → EachLine P ls → EachLine P (leading_of v ls)
+leading_each P v [] own = tt
+leading_each P v (l ∷ ls) own = elim (eqb_tells v l.image) [
+  | inl same ↦ rw same.0 (own.0, leading_each P v ls own.1)
   | inr other ↦ rw other.0 tt
 ]
 
@@ -85,9 +91,14 @@ first_order a b (l ∷ ls) e =
     let next = next_is a b None (mark_of l) (marks_of ls) e in
     next_back a b None (mark_of l) (marks_of (leading_of l.image ls)) next.low next.high next.behind (leading_order l.image a b (Some (mark_of l)) ls next.rest)
 
-first_printable : (ls : List FailingLine) → ArePrintable ls → ArePrintable (leading ls)
-first_printable [] own = tt
-first_printable (l ∷ ls) own = (own.0, leading_printable l.image ls own.1)
+first_each : (P : FailingLine → Type 0) (ls : List FailingLine) → EachLine P ls → EachLine P (leading ls)
+first_each P [] own = tt
+first_each P (l ∷ ls) own = (own.0, leading_each P l.image ls own.1)
+
+-- of lines that are shown P is so, where it is of all
+shown_each : (P : FailingLine → Type 0) (a b : ℕ) (first : Bool) (ls : List FailingLine) → in_order a b None (marks_of ls) ≡ true → EachLine P ls → EachLine P (shown_lines first ls)
+shown_each P a b false ls e own = own
+shown_each P a b true ls e own = let same = first_are_leading ls (rising a b None ls e) in rw same (first_each P ls own)
 
 first_unchanged : (ls : List FailingLine) → changes_behind None (leading ls) ≤ 1
 first_unchanged [] = omega arith
@@ -106,7 +117,7 @@ shown_are a b true ls e own =
     let order = first_order a b ls e in
     let count = changes_are_images (leading ls) (rising a b None (leading ls) order) in
     let few = first_unchanged ls in
-    rw same (record { order = order; printable = first_printable ls own; one = λ f. omega (arith, count, few) })
+    rw same (record { order = order; printable = first_each IsPrintable ls own; one = λ f. omega (arith, count, few) })
 
 -- the part of a run as a value
 abbrev pub part_value : RunValue → ℕ → ℕ → PartValue
@@ -118,7 +129,15 @@ between_shown r run a b up = shown_are a b r.head.first (lines_between r a b) (l
 pub is_part : (r : RunValue) → IsRun r → (a b : ℕ) → IsSpan (span_of r a b) → IsPart (part_value r a b)
 is_part r run a b span =
     let shown = between_shown r run a b span.rising in
-    record { span = span; head = run.head; options = record { head = r.head; printed = run.printed; shown = refl; is = refl }; printable = shown.printable; ordered = shown.order; one = shown.one }
+    record {
+      span = span;
+      head = run.head;
+      options = record { head = r.head; printed = run.printed; shown = refl; is = refl };
+      printable = shown.printable;
+      of_run = shown_each (IsLineOfRun r.head) a b r.head.first (lines_between r a b) (lines_order r run a b span.rising) (between_of_run r run a b);
+      ordered = shown.order;
+      one = shown.one;
+    }
 
 -- what is shown of what is shown
 pub findings_shown : (a b : ℕ) (first : Bool) (images : ℕ) (ls : List FailingLine) → in_order a b None (marks_of ls) ≡ true → ArePrintable ls → findings_text first images (shown_lines first ls) ≡ findings_text first images ls
@@ -163,7 +182,7 @@ one_part p q own also e r told =
     let begins = image_lines p.lines own.printable p.first (p.span.to - p.span.from) (tally_of p) in
     let begins_too = image_lines q.lines also.printable q.first (q.span.to - q.span.from) (tally_of q) in
     let heads = one_head own.head.lines also.head.lines _ _ own.head.each also.head.each begins begins_too parted in
-    let lines = one_reading p.lines q.lines (last_of p) (last_of q) own.printable also.printable (last_is_no_line p.first (p.span.to - p.span.from) (tally_of p)) (last_is_no_line q.first (q.span.to - q.span.from) (tally_of q)) heads.1 in
+    let lines = one_reading Any p.lines q.lines (last_of p) (last_of q) own.printable also.printable (any_line q.lines) (last_is_no_line p.first (p.span.to - p.span.from) (tally_of p)) (last_is_no_line q.first (q.span.to - q.span.from) (tally_of q)) heads.1 in
     let span : p.span ≡ q.span = spans.0 in
     let marks = lines.marks in
     let tally : tally_of p ≡ tally_of q = rw (span, marks) refl in

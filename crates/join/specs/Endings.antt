@@ -11,7 +11,9 @@ use Rattle.choices.specs.Named.{name_of}
 use Rattle.choice_text.specs.Text.{AreNames, IsName}
 use Rattle.lines.specs.Reading.{lacks}
 use Rattle.lines.specs.Text.{codes_text, ending_text, choice_text}
-use Rattle.join.specs.Printable.{IsWithin}
+use Rattle.lines.specs.Line.{fails}
+use Rattle.report.specs.Report.{HeadValue}
+use Rattle.join.specs.Printable.{IsWithin, are_names_of_run}
 
 -- a word can be that of a number
 pub record IsPlain (word : List ℕ) : Type 0 where
@@ -47,10 +49,18 @@ pub record AreCodes (text : List ℕ) : Type 0 where
   pub within : All (λ n. n < 2 ^ 64) numbers
   pub is : text ≡ codes_text numbers
 
+-- a word says an answer that isn't 0
+pub record IsAnswer (word : List ℕ) : Type 0 where
+  pub number : ℕ
+  pub small : number < 2 ^ 64
+  pub some : 0 < number
+  pub is : word ≡ decimal number
+
 -- behind `answer `
 pub record IsVerdict (text : List ℕ) : Type 0 where
   pub answer : ℕ
   pub small : answer < 2 ^ 64
+  pub some : 0 < answer
   pub codes_said : List ℕ
   pub codes_are : AreCodes codes_said
   pub is : text ≡ decimal answer ++ codes " codes " ++ codes_said
@@ -65,6 +75,7 @@ pub record IsFault (text : List ℕ) : Type 0 where
 pub record IsEnding (text : List ℕ) : Type 0 where
   pub ending : Ending
   pub within : IsWithin ending
+  pub failing : fails ending ≡ true
   pub is : text ≡ ending_text ending
 
 -- the numbers of names are within their ranges
@@ -72,14 +83,20 @@ abbrev pub AreNamesOf : By → List Name → Type 0
 AreNamesOf way [] = Unit {0}
 AreNamesOf way (n ∷ ns) = IsName way n × AreNamesOf way ns
 
+-- and they are as a run with that head may have them at that cut
+pub record AreNamesAt (h : HeadValue) (cut : ℕ) (names : List Name) : Type 0 where
+  pub within : AreNamesOf h.by names
+  pub of_run : are_names_of_run h cut names ≡ true
+
 pub record IsChoiceBy (way : By) (text : List ℕ) : Type 0 where
   pub departures : List Departure
   pub names : AreNames way (map name_of departures)
   pub is : text ≡ choice_text way departures
 
-pub record IsChoice (text : List ℕ) : Type 0 where
-  pub way : By
-  pub by : IsChoiceBy way text
+-- a text is that of a choice at that cut of a run with that head
+pub record IsChoice (h : HeadValue) (cut : ℕ) (text : List ℕ) : Type 0 where
+  pub by : IsChoiceBy h.by text
+  pub of_run : are_names_of_run h cut (map name_of by.departures) ≡ true
 
 -- a text is cut at ` choice `, before which no h stands
 pub record IsAtChoice (text front back : List ℕ) : Type 0 where

@@ -1,11 +1,14 @@
 -- The options and the programs of a part, read (docs/REPORT.md, The report).
-use Rattle.std.specs.Prelude.{ℕ, ◌+◌, ◌≡◌, ◌≢◌, ◌<◌, ◌≤◌, ◌^◌, Bool, true, List, [], ◌∷◌, ◌++◌, length, codes, Option, None, Some}
+use Rattle.std.specs.Prelude.{ℕ, ◌+◌, ◌≡◌, ◌≢◌, ◌<◌, ◌≤◌, ◌^◌, ◌&&◌, nat_le, nat_lt, Bool, true, List, [], ◌∷◌, ◌++◌, length, codes, Option, None, Some, unwrap_or}
 use Rattle.std.specs.Fmt.{decimal}
 use Rattle.std.specs.List.{All, flat_map}
+use Rattle.std.specs.Option.{option_map_or}
 use Rattle.epochs.specs.declared.flushes.Flushes.{Flushes}
 use Rattle.epochs.specs.declared.cuts.CutKind.{CutKind}
 use Rattle.epochs.specs.declared.part.By.{By}
 use Rattle.epochs.specs.declared.part.By.TheVariants as by
+use Rattle.epochs.specs.declared.cuts.Cuts.{Cuts}
+use Rattle.epochs.specs.Cuts.{is_before_last}
 use Rattle.epochs.specs.Flushes.{places_of}
 use Rattle.choice_text.specs.Words.{next_flush}
 use Rattle.lines.specs.Reading.{lacks}
@@ -41,11 +44,41 @@ pub record IsSmallHead (h : HeadValue) : Type 0 where
   pub base : IsSmallOption h.base
   pub programs : All IsProgramHead h.programs
 
--- a head as a report can have it: each number within its range, and one program to eight
+-- of a program no more slots are guarded than it has, and none where it isn't verified
+abbrev pub are_guards_of_run : ProgramHead → Bool
+are_guards_of_run p = option_map_or (λ n. nat_le n p.slots && p.verified) p.guards true
+
+-- a program of a run: 1 to 4,096 slots, and at most 1,000,000,000 steps
+abbrev pub is_program_of_run : ProgramHead → Bool
+is_program_of_run p = nat_le 1 p.slots && nat_le p.slots 4096 && nat_le p.limit 1000000000 && are_guards_of_run p
+
+abbrev pub are_programs_of_run : List ProgramHead → Bool
+are_programs_of_run [] = true
+are_programs_of_run (p ∷ ps) = is_program_of_run p && are_programs_of_run ps
+
+-- flushes are added before entries of a log with so many
+abbrev pub are_entries_of_run : ℕ → List ℕ → Bool
+are_entries_of_run entries [] = true
+are_entries_of_run entries (e ∷ es) = nat_lt e entries && are_entries_of_run entries es
+
+-- the cuts of a run whose log has so many entries: flushes before some of these, a first and a last cut of the log, and the first isn't
+-- after the last
+abbrev pub are_cuts_of_run : ℕ → Cuts → Bool
+are_cuts_of_run entries cuts =
+    are_entries_of_run entries (places_of cuts.flushes) && nat_le (unwrap_or cuts.from 0) entries && nat_le (unwrap_or cuts.to 0) entries
+    && is_before_last cuts.to (unwrap_or cuts.from 0)
+
+-- the options of a run: 1 to 1,048,576 sectors, at most 65,536 entries, and at most 3 lost or torn parts
+abbrev pub are_options_of_run : HeadValue → Bool
+are_options_of_run h = nat_le 1 h.sectors && nat_le h.sectors 1048576 && nat_le h.entries 65536 && nat_le h.bound 3 && are_cuts_of_run h.entries h.cuts
+
+-- a head as a run can have it: each number within its range, and one program to eight
 pub record IsPrintedHead (h : HeadValue) : Type 0 where
   pub numbers : IsSmallHead h
   pub some : 0 < length h.programs
   pub few : length h.programs ≤ 8
+  pub options : are_options_of_run h ≡ true
+  pub programs : are_programs_of_run h.programs ≡ true
 
 -- a text is the options and the programs of such a head, which says whether the first failing image alone is shown
 pub record AreOptions (text : List ℕ) (first : Bool) : Type 0 where
@@ -202,6 +235,15 @@ pub record ReadsMore (before : List ProgramHead) (text : List ℕ) (found : List
 -- all lines of programs with which a text begins are read
 pub record ReadsPrograms (text : List ℕ) (found : List ProgramHead) : Type 0 where
   pub read : (qs : List ProgramHead) (rest : List ℕ) → length qs ≤ 8 → All IsProgramHead qs → NoProgram rest → text ≡ program_lines 0 qs ++ rest → found ≡ qs
+
+-- a text is the options and the programs of such a head, which are read
+pub record IsHeadRead (text : List ℕ) (h : HeadValue) : Type 0 where
+  pub printed : IsPrintedHead h
+  pub is : text ≡ options_text h
+  pub only : (v : HeadValue) → IsPrintedHead v → text ≡ options_text v → HaveSameOptions h v × (h.programs ≡ v.programs)
+
+pub record NoHeadRead (text : List ℕ) : Type 0 where
+  pub none : (v : HeadValue) → IsPrintedHead v → text ≡ options_text v → ⊥
 
 -- of a text that begins with the options and programs of such a head, these are read
 pub record ReadsHead (text : List ℕ) (h : HeadValue) : Type 0 where

@@ -6,7 +6,7 @@ use Rattle.report.specs.Report.{options_text, report_bytes}
 use Rattle.base.specs.declared.causes.JoinCause.TheVariants as cause
 use Rattle.join.specs.declared.fault.JoinFault.{JoinFault}
 use Rattle.join.specs.Heads.{IsPrintedHead}
-use Rattle.join.specs.Printable.{ArePrintable}
+use Rattle.join.specs.Printable.{ArePrintable, AreLinesOfRun}
 use Rattle.join.specs.Order.{in_order}
 use Rattle.join.specs.Text.{RunValue, IsSpan, IsHead, span_of, lines_between, part_bytes}
 use Rattle.join.specs.Joining.{IsJoined, RefusesJoin}
@@ -17,6 +17,7 @@ pub record IsRun (r : RunValue) : Type 0 where
   pub printed : IsPrintedHead r.head
   pub lines : (image : ℕ) → in_order image (image + 1) None (marks_of (r.image_lines image)) ≡ true
   pub printable : (image : ℕ) → ArePrintable (r.image_lines image)
+  pub of_run : (image : ℕ) → AreLinesOfRun r.head (r.image_lines image)
   pub number : r.inputs < 2 ^ 64
   pub few : r.head.images < 2 ^ 63
 

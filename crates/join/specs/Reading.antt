@@ -7,11 +7,11 @@ use Rattle.lines.specs.Line.{FailingLine}
 use Rattle.lines.specs.Marks.{mark_of, marks_of}
 use Rattle.lines.specs.Reading.{lacks}
 use Rattle.lines.specs.Text.{line_text}
-use Rattle.report.specs.Report.{image_text}
+use Rattle.report.specs.Report.{HeadValue, image_text}
 use Rattle.report.specs.declared.span.Span.{Span}
 use Rattle.join.specs.declared.line.Words.{Words}
 use Rattle.join.specs.declared.tally.Tally.{Tally}
-use Rattle.join.specs.Printable.{IsPrintable, ArePrintable, end_text}
+use Rattle.join.specs.Printable.{IsPrintable, ArePrintable, IsLineOfRun, AreLinesOfRun, end_text}
 use Rattle.join.specs.Order.{follows}
 use Rattle.report.specs.Part.{span_text}
 use Rattle.join.specs.Text.{PartValue, IsPart, IsHead, IsSpan, part_text}
@@ -67,25 +67,28 @@ pub record Fit (w : Words) : Type 0 where
   pub cut : w.cut < 2 ^ 32
   pub program : w.program < 2 ^ 8
 
--- a text is a line without its newline, and has that mark
-pub record IsBody (text : List ℕ) (mark : Mark) : Type 0 where
+-- a text is a line without its newline, of a run with that head, and has that mark
+pub record IsBody (h : HeadValue) (text : List ℕ) (mark : Mark) : Type 0 where
   pub line : FailingLine
   pub printable : IsPrintable line
+  pub of_run : IsLineOfRun h line
   pub is : text ≡ body_text line
   pub marked : mark ≡ mark_of line
 
-pub record NoBody (text : List ℕ) : Type 0 where
-  pub none : (l : FailingLine) → IsPrintable l → text ≡ body_text l → ⊥
+pub record NoBody (h : HeadValue) (text : List ℕ) : Type 0 where
+  pub none : (l : FailingLine) → IsPrintable l → IsLineOfRun h l → text ≡ body_text l → ⊥
 
--- a text begins with a line that has that mark
-pub record IsLine (text : List ℕ) (mark : Mark) (rest : List ℕ) : Type 0 where
+-- a text begins with a line of a run with that head, that has that mark
+pub record IsLine (h : HeadValue) (text : List ℕ) (mark : Mark) (rest : List ℕ) : Type 0 where
   pub line : FailingLine
   pub printable : IsPrintable line
+  pub of_run : IsLineOfRun h line
   pub is : text ≡ line_text line ++ rest
   pub marked : mark ≡ mark_of line
 
-pub record NoLine (text : List ℕ) : Type 0 where
-  pub none : (l : FailingLine) (more : List ℕ) → IsPrintable l → text ≡ line_text l ++ more → ⊥
+-- a text begins with no line of which P is so
+pub record NoLine (P : FailingLine → Type 0) (text : List ℕ) : Type 0 where
+  pub none : (l : FailingLine) (more : List ℕ) → IsPrintable l → P l → text ≡ line_text l ++ more → ⊥
 
 -- whether a line is of another image than the last
 abbrev pub is_new : Option Mark → ℕ → Bool
@@ -113,10 +116,11 @@ unfoldable pub tallied : Span → Tally → List Mark → Tally
 tallied s t [] = t
 tallied s t (m ∷ ms) = tallied s (one_more s t m) ms
 
--- a text begins with lines of which that was counted
-pub record AreRead (s : Span) (text : List ℕ) (tally : Tally) (rest : List ℕ) : Type 0 where
+-- a text begins with lines of a run with that head, of which that was counted
+pub record AreRead (h : HeadValue) (s : Span) (text : List ℕ) (tally : Tally) (rest : List ℕ) : Type 0 where
   pub lines : List FailingLine
   pub printable : ArePrintable lines
+  pub of_run : AreLinesOfRun h lines
   pub is : text ≡ flat_map line_text lines ++ rest
   pub told : tally ≡ tallied s none_read (marks_of lines)
   pub few : tally.lines + length rest ≤ length text

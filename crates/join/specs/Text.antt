@@ -10,7 +10,7 @@ use Rattle.report.specs.Report.{HeadValue, findings_text}
 use Rattle.report.specs.Part.{span_text, span_report}
 use Rattle.report.specs.declared.span.Span.{Span}
 use Rattle.join.specs.Heads.{AreOptions}
-use Rattle.join.specs.Printable.{ArePrintable}
+use Rattle.join.specs.Printable.{ArePrintable, AreLinesOfRun}
 use Rattle.join.specs.Order.{in_order}
 
 -- what a text of a part says: which images of which run it is of, the lines of its options and programs, whether it is of the first
@@ -52,12 +52,13 @@ pub record IsHead (head : List ℕ) : Type 0 where
   pub is : head ≡ lines_text lines
   pub text : IsUtf8 head
 
--- a part: its head is that of a report, and says whether it is of the first failing image alone; its lines are of its images, in their order, each once; and of one image where it is of the first alone
+-- a part: its head is that of a run, and says whether it is of the first failing image alone; its lines are lines of that run and of its images, in their order, each once; and of one image where it is of the first alone
 pub record IsPart (p : PartValue) : Type 0 where
   pub span : IsSpan p.span
   pub head : IsHead p.head
   pub options : AreOptions p.head p.first
   pub printable : ArePrintable p.lines
+  pub of_run : AreLinesOfRun options.head p.lines
   pub ordered : in_order p.span.from p.span.to None (marks_of p.lines) ≡ true
   pub one : p.first ≡ true → failing_images p.lines ≤ 1
 

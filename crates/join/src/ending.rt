@@ -4,13 +4,14 @@ ghost use Rattle.std.specs.Prelude.{ℕ, ◌≡◌, ◌≢◌, ◌<◌, ◌≤�
 ghost use Rattle.std.specs.Fmt.{decimal};
 ghost use Rattle.choices.specs.CrashModel.{IsFate};
 ghost use Rattle.choice_text.specs.Text.{IsPlace, IsName};
-ghost use Rattle.join.specs.Printable.{IsEnd};
-ghost use Rattle.join.specs.Endings.{IsPlain, IsNumber, IsFaultNumber, AreNumbers, AreCodes, IsEnding, IsChoiceBy, IsAtChoice, NoChoice, AreNamesOf, IsChoice, IsFault, IsVerdict};
+ghost use Rattle.join.specs.Printable.{IsEnd, all_rise, are_names_of_run, comes_before, each_of_run, is_drop, is_name_of_run, names_rise};
+ghost use Rattle.join.specs.Endings.{IsPlain, IsNumber, IsFaultNumber, AreNumbers, AreCodes, IsEnding, IsAtChoice, NoChoice, AreNamesAt, AreNamesOf, IsAnswer, IsChoice, IsFault, IsVerdict};
 
 use crate::words::{behind, parts};
 use choice_text::read_names;
 use choices::{Fate, Name};
 use epochs::By;
+use report::Head;
 use std::alloc::{AllocError, Global};
 
 /// Whether a word can be that of a number: it has a byte, no sign, and no zero in front of others.
@@ -43,6 +44,17 @@ fn is_number(word: &str) -> bool
     ensures { IsTrue result ↔ IsNumber word.now }
 {
     number_exactly(word).is_some()
+}
+
+/// Whether a word says an answer that isn't 0.
+#[tactic(auto, using(crate::proofs::Endings::no_answer))]
+fn is_answer(word: &str) -> bool
+    ensures { IsTrue result ↔ IsAnswer word.now }
+{
+    let Some(number) = number_exactly(word) else {
+        return false;
+    };
+    number > 0
 }
 
 /// Whether a word says the number of a fault of the machine.
@@ -86,7 +98,7 @@ fn is_verdict(text: &str) -> bool
         return false;
     };
     match behind("codes ", more) {
-        Some(codes) => is_number(answer) && are_codes(codes),
+        Some(codes) => is_answer(answer) && are_codes(codes),
         None => false,
     }
 }
@@ -165,25 +177,97 @@ fn are_names(by: By, names: &[Name]) -> bool
     }
 }
 
-/// Whether a text is that of a choice, where so much departs as one.
-#[tactic(auto, using(crate::proofs::Choosing::choice_found, crate::proofs::Choosing::names_within, crate::proofs::Choosing::no_choice_by))]
-fn is_choice_by(alloc: Global, by: By, text: &str) -> Result<bool, AllocError>
-    ensures { IfOk result (λ is. IsTrue is ↔ IsChoiceBy by text.now) }
+/// Whether a part comes before another: by entry, and then by its place there.
+fn comes_before(name: Name, other: Name) -> bool
+    ensures { result ≡ comes_before name other }
+{
+    name.entry < other.entry || (name.entry == other.entry && name.place < other.place)
+}
+
+/// Whether of parts each comes after the one before it, the first after `last`.
+fn names_rise(last: Name, names: &[Name]) -> bool
+    ensures { result ≡ names_rise last names.now }
+{
+    match names {
+        [] => true,
+        [first, rest @ ..] => comes_before(last, *first) && names_rise(*first, rest),
+    }
+}
+
+/// The same of all parts.
+fn all_rise(names: &[Name]) -> bool
+    ensures { result ≡ all_rise names.now }
+{
+    match names {
+        [] => true,
+        [first, rest @ ..] => names_rise(*first, rest),
+    }
+}
+
+/// Whether nothing of a part arrives.
+fn is_drop(fate: Fate) -> bool
+    ensures { result ≡ is_drop fate }
+{
+    match fate {
+        Fate::Drop => true,
+        _ => false,
+    }
+}
+
+/// Whether a part is of an entry before a cut, and torn only where there are tears.
+fn is_name_of_run(tears: bool, cut: u64, name: Name) -> bool
+    ensures { result ≡ is_name_of_run tears cut name }
+{
+    u64::from(name.entry) < cut && (tears || is_drop(name.fate))
+}
+
+/// The same of each part.
+fn each_of_run(tears: bool, cut: u64, names: &[Name]) -> bool
+    ensures { result ≡ each_of_run tears cut names.now }
+{
+    match names {
+        [] => true,
+        [first, rest @ ..] => is_name_of_run(tears, cut, *first) && each_of_run(tears, cut, rest),
+    }
+}
+
+/// Whether parts are no more than the bound allows, rising, each as a run with that head may have it at a cut.
+fn are_names_of_run(head: &Head, cut: u64, names: &[Name]) -> bool
+    ensures { result ≡ are_names_of_run head.now cut names.now }
+{
+    names.len() <= usize::from(head.bound) && each_of_run(head.tears, cut, names) && all_rise(names)
+}
+
+/// Whether names are within their ranges, and as a run with that head may have them at a cut.
+fn are_names_at(head: &Head, cut: u64, names: &[Name]) -> bool
+    ensures { IsTrue result ↔ AreNamesAt head.now cut names.now }
+{
+    are_names(head.by, names) && are_names_of_run(head, cut, names)
+}
+
+/// Whether a text is that of a choice at a cut of a run with that head, where so much departs as one.
+#[tactic(auto, using(crate::proofs::Choosing::choice_found, crate::proofs::Choosing::names_within, crate::proofs::Choosing::no_choice))]
+fn is_choice_by(
+    alloc: Global,
+    by: By,
+    head: &Head,
+    cut: u64,
+    text: &str,
+) -> Result<bool, AllocError>
+    requires { by ≡ head.now.by }
+    ensures { IfOk result (λ is. IsTrue is ↔ IsChoice head.now cut text.now) }
 {
     match read_names(alloc, by, text)? {
-        Some(names) => Ok(are_names(by, names.as_slice())),
+        Some(names) => Ok(are_names_at(head, cut, names.as_slice())),
         None => Ok(false),
     }
 }
 
-/// Whether a text is that of a choice.
-fn is_choice(alloc: Global, text: &str) -> Result<bool, AllocError>
-    ensures { IfOk result (λ is. IsTrue is ↔ IsChoice text.now) }
+/// Whether a text is that of a choice at a cut of a run with that head.
+fn is_choice(alloc: Global, head: &Head, cut: u64, text: &str) -> Result<bool, AllocError>
+    ensures { IfOk result (λ is. IsTrue is ↔ IsChoice head.now cut text.now) }
 {
-    if is_choice_by(alloc, By::Sector, text)? {
-        return Ok(true);
-    }
-    is_choice_by(alloc, By::Write, text)
+    is_choice_by(alloc, head.by, head, cut, text)
 }
 
 /// A text without these words at its end, if it ends with them.
@@ -204,10 +288,10 @@ fn at_choice(text: &str) -> Option<(&str, &str)>
     Some((ending, choice))
 }
 
-/// Whether a text is what a line has behind its program, to the byte.
+/// Whether a text is what a line of a cut of a run with that head has behind its program, to the byte.
 #[tactic(auto, using(crate::proofs::Choosing::end_found, crate::proofs::Choosing::end_has_ending, crate::proofs::Choosing::end_has_choice, crate::proofs::Choosing::no_choice_no_end))]
-pub(crate) fn is_end(alloc: Global, text: &str) -> Result<bool, AllocError>
-    ensures { IfOk result (λ is. IsTrue is ↔ IsEnd text.now) }
+pub(crate) fn is_end(alloc: Global, head: &Head, cut: u64, text: &str) -> Result<bool, AllocError>
+    ensures { IfOk result (λ is. IsTrue is ↔ IsEnd head.now cut text.now) }
 {
     let Some((ending, choice)) = at_choice(text) else {
         return Ok(false);
@@ -215,5 +299,5 @@ pub(crate) fn is_end(alloc: Global, text: &str) -> Result<bool, AllocError>
     if !is_ending(ending) {
         return Ok(false);
     }
-    is_choice(alloc, choice)
+    is_choice(alloc, head, cut, choice)
 }

@@ -2,13 +2,15 @@
 
 ghost use Rattle.std.specs.Prelude.{◌≡◌, ◌↔◌, ◌<◌, ◌≤◌, IfOk, IsTrue, MatchOption, length};
 ghost use Rattle.report.specs.Report.{options_text};
-ghost use Rattle.join.specs.Heads.{AreOptions, HasLines, IsSmallHead, ReadsHead};
+ghost use Rattle.join.specs.Heads.{HasLines, IsHeadRead, IsPrintedHead, IsSmallHead, NoHeadRead, ReadsHead, are_cuts_of_run, are_entries_of_run, are_guards_of_run, are_options_of_run, are_programs_of_run, is_program_of_run};
 ghost use Rattle.join.specs.Reading.{IsBehindHead, NoHead};
 
+use crate::line::is_before_last;
 use crate::options::options_said;
 use crate::programs::{MOST_PROGRAMS, programs_said};
 use crate::words::{behind, cut, parts};
-use report::{Head, put_options};
+use epochs::Cuts;
+use report::{Head, ProgramHead, put_options};
 use std::alloc::{AllocError, Global};
 
 /// What stands behind the head of a text, from the first line on that begins with `image`.
@@ -45,6 +47,78 @@ fn has_programs(head: &Head) -> bool
     count >= 1 && count <= MOST_PROGRAMS
 }
 
+/// Whether no more slots of a program are guarded than it has, and none where it isn't verified.
+fn are_guards_of_run(program: &ProgramHead) -> bool
+    ensures { result ≡ are_guards_of_run program.now }
+{
+    match program.guards {
+        Some(guards) => guards <= program.slots && program.verified,
+        None => true,
+    }
+}
+
+/// Whether a program is as a run may have it.
+fn is_program_of_run(program: &ProgramHead) -> bool
+    ensures { result ≡ is_program_of_run program.now }
+{
+    program.slots >= 1
+        && program.slots <= 4096
+        && program.limit <= 1_000_000_000
+        && are_guards_of_run(program)
+}
+
+/// The same of each program.
+fn are_programs_of_run(programs: &[ProgramHead]) -> bool
+    ensures { result ≡ are_programs_of_run programs.now }
+{
+    match programs {
+        [] => true,
+        [first, rest @ ..] => is_program_of_run(first) && are_programs_of_run(rest),
+    }
+}
+
+/// Whether each number is that of an entry of a log with so many.
+fn are_entries_of_run(count: u32, entries: &[u32]) -> bool
+    ensures { result ≡ are_entries_of_run count entries.now }
+{
+    match entries {
+        [] => true,
+        [first, rest @ ..] => *first < count && are_entries_of_run(count, rest),
+    }
+}
+
+/// Whether the cuts are as a run over a log with so many entries may have them.
+fn are_cuts_of_run(count: u32, cuts: &Cuts) -> bool
+    ensures { result ≡ are_cuts_of_run count cuts.now }
+{
+    let first = cuts.from.unwrap_or(0);
+    let last = cuts.to.unwrap_or(0);
+    are_entries_of_run(count, cuts.flushes.places())
+        && first <= u64::from(count)
+        && last <= u64::from(count)
+        && is_before_last(cuts.to, first)
+}
+
+/// Whether the options are as a run may have them.
+fn are_options_of_run(head: &Head) -> bool
+    ensures { result ≡ are_options_of_run head.now }
+{
+    head.sectors >= 1
+        && head.sectors <= 1_048_576
+        && head.entries <= 65_536
+        && head.bound <= 3
+        && are_cuts_of_run(head.entries, &head.cuts)
+}
+
+/// Whether a head whose numbers are within their ranges is one as a run may have it.
+#[tactic(auto, using(crate::proofs::HeadsRead::is_of_run, crate::proofs::HeadsRead::has_count))]
+fn is_of_run(head: &Head) -> bool
+    requires { IsSmallHead head.now }
+    ensures { IsTrue result ↔ IsPrintedHead head.now }
+{
+    has_programs(head) && are_options_of_run(head) && are_programs_of_run(head.programs.as_slice())
+}
+
 /// Whether a text is what is printed of a head.
 fn is_printed(alloc: Global, head: &Head, text: &[u8]) -> Result<bool, AllocError>
     ensures { IfOk result (λ is. IsTrue is ↔ (text.now ≡ options_text head.now)) }
@@ -54,21 +128,18 @@ fn is_printed(alloc: Global, head: &Head, text: &[u8]) -> Result<bool, AllocErro
     Ok(printed.as_bytes() == text)
 }
 
-/// Whether what stands at the head of a text is the options and the programs of a report, to the byte, and says whether the part is of
-/// the first failing image alone. `text` goes on behind the head.
-#[tactic(auto, using(crate::proofs::HeadsRead::not_of_run, crate::proofs::HeadsRead::printed_are, crate::proofs::HeadsRead::are_printed))]
-pub(crate) fn are_options(
-    alloc: Global,
-    text: &str,
-    head: &[u8],
-    first: bool,
-) -> Result<bool, AllocError>
+/// The options and the programs of a run that stand at the head of a text, to the byte, if they do. `text` goes on behind the head.
+#[tactic(auto, using(crate::proofs::HeadsRead::not_of_run, crate::proofs::HeadsRead::not_printed, crate::proofs::HeadsRead::is_head_read))]
+pub(crate) fn read_head(alloc: Global, text: &str, head: &[u8]) -> Result<Option<Head>, AllocError>
     requires { HasLines text.now head.now }
-    ensures { IfOk result (λ are. IsTrue are ↔ AreOptions head.now first) }
+    ensures { IfOk result (λ found. MatchOption found (NoHeadRead head.now) (λ h. IsHeadRead head.now h)) }
 {
     let said = head_said(alloc, text)?;
-    if !has_programs(&said) || said.first != first {
-        return Ok(false);
+    if !is_of_run(&said) {
+        return Ok(None);
     }
-    is_printed(alloc, &said, head)
+    if !is_printed(alloc, &said, head)? {
+        return Ok(None);
+    }
+    Ok(Some(said))
 }

@@ -1,12 +1,15 @@
 //! One failing line of a text.
 
-ghost use Rattle.std.specs.Prelude.{◌≡◌, ◌<◌, ◌^◌, ◌↔◌, ◌++◌, IfOk, IfSome, IsTrue, MatchOption, OnOk, string_bytes, length};
+ghost use Rattle.std.specs.Prelude.{◌≡◌, ◌<◌, ◌^◌, ◌↔◌, ◌++◌, ◌&&◌, IfOk, IfSome, IsTrue, MatchOption, OnOk, string_bytes, length};
 ghost use Rattle.lines.specs.Reading.{ReadsField};
+ghost use Rattle.epochs.specs.Cuts.{is_before_last, is_behind_first};
+ghost use Rattle.join.specs.Printable.{IsLineOfRun, has_program_and_cut};
 ghost use Rattle.join.specs.Reading.{words_text, ReadsWords, Fit, IsBody, NoBody, IsLine, NoLine, IsCut, NoCut};
 
 use crate::ending::is_end;
 use crate::words::{behind, cut, number, parts};
 use lines::Mark;
+use report::Head;
 use std::alloc::{AllocError, Global};
 
 /// What a line says before its outcome.
@@ -60,20 +63,53 @@ fn words_text(alloc: Global, words: Words) -> Result<String, AllocError>
     Ok(out)
 }
 
-/// The mark of a line without its newline, if it is one to the byte.
-#[tactic(auto, using(crate::proofs::Bodies::too_large, crate::proofs::Bodies::other_words, crate::proofs::Bodies::other_end, crate::proofs::Bodies::is_body))]
-fn mark_of(alloc: Global, line: &str) -> Result<Option<Mark>, AllocError>
-    ensures { IfOk result (λ found. MatchOption found (NoBody line.now) (λ mark. IsBody line.now mark)) }
+/// Whether a cut isn't before the first one that is asked for.
+fn is_behind_first(first: Option<u64>, cut: u64) -> bool
+    ensures { result ≡ is_behind_first first cut }
+{
+    match first {
+        Some(first) => first <= cut,
+        None => true,
+    }
+}
+
+/// Whether a cut isn't after the last one that is asked for.
+pub(crate) fn is_before_last(last: Option<u64>, cut: u64) -> bool
+    ensures { result ≡ is_before_last last cut }
+{
+    match last {
+        Some(last) => cut <= last,
+        None => true,
+    }
+}
+
+/// Whether a run with that head has that program and may have that cut.
+fn has_program_and_cut(head: &Head, words: Words) -> bool
+    ensures { result ≡ has_program_and_cut head.now words.cut words.program }
+{
+    words.program < head.programs.len() as u64
+        && words.cut <= u64::from(head.entries)
+        && is_behind_first(head.cuts.from, words.cut)
+        && is_before_last(head.cuts.to, words.cut)
+}
+
+/// The mark of a line without its newline, if it is one of a run with that head, to the byte.
+#[tactic(auto, using(crate::proofs::Bodies::too_large, crate::proofs::Bodies::not_there, crate::proofs::Bodies::other_words, crate::proofs::Bodies::other_end, crate::proofs::Bodies::is_body))]
+fn mark_of(alloc: Global, head: &Head, line: &str) -> Result<Option<Mark>, AllocError>
+    ensures { IfOk result (λ found. MatchOption found (NoBody head.now line.now) (λ mark. IsBody head.now line.now mark)) }
 {
     let words = words_said(line);
     if !is_fit(words) {
+        return Ok(None);
+    }
+    if !has_program_and_cut(head, words) {
         return Ok(None);
     }
     let printed = words_text(alloc, words)?;
     let Some(end) = behind(printed.as_str(), line) else {
         return Ok(None);
     };
-    if !is_end(alloc, end)? {
+    if !is_end(alloc, head, words.cut, end)? {
         return Ok(None);
     }
     Ok(Some(Mark {
@@ -82,19 +118,20 @@ fn mark_of(alloc: Global, line: &str) -> Result<Option<Mark>, AllocError>
     }))
 }
 
-/// The mark of the line with which a text begins, and what stands behind it, if it begins with one to the byte.
+/// The mark of the line with which a text begins, and what stands behind it, if it begins with one of a run with that head, to the byte.
 #[tactic(auto, using(crate::proofs::Bodies::no_newline_no_line, crate::proofs::Bodies::no_body_no_line, crate::proofs::Bodies::body_is_line, crate::proofs::Bodies::line_shorter))]
 pub(crate) fn read_line<'t>(
     alloc: Global,
+    head: &Head,
     text: &'t str,
 ) -> Result<Option<(Mark, &'t str)>, AllocError>
-    ensures line { IfOk result (λ found. MatchOption found (NoLine text.now) (λ x. IsLine text.now x.0 x.1.now)) }
+    ensures line { IfOk result (λ found. MatchOption found (NoLine (IsLineOfRun head.now) text.now) (λ x. IsLine head.now text.now x.0 x.1.now)) }
     ensures shorter { IfOk result (λ found. IfSome found (λ x. length x.1.now < length text.now)) }
 {
     let Some((line, more)) = parts(text, '\n') else {
         return Ok(None);
     };
-    match mark_of(alloc, line)? {
+    match mark_of(alloc, head, line)? {
         Some(mark) => Ok(Some((mark, more))),
         None => Ok(None),
     }

@@ -5,7 +5,7 @@ use Rattle.join.specs.Reading.{AreRead}
 use Rattle.join.proofs.reading.read_lines.Given as goal
 
 abbrev pub invariant-loop-mark : goal.invariant-loop-mark
-invariant-loop-mark l = AreRead l.span l.text l.tally l.rest × shadow (Utf8 l.rest)
+invariant-loop-mark l = AreRead l.head l.span l.text l.tally l.rest × shadow (Utf8 l.rest)
 
 abbrev pub decreases-loop-mark : goal.decreases-loop-mark
 decreases-loop-mark l = length l.rest
