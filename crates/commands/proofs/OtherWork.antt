@@ -1,5 +1,5 @@
 -- What parts were made by changes nothing of what they come to.
-use Rattle.std.proofs.Common.{ℕ, ◌≡◌, Bool, true, List, [], ◌∷◌, Some, sym, ◌∙◌, ap, subst}
+use Rattle.std.proofs.Common.{ℕ, ◌≡◌, Bool, true, List, [], ◌∷◌, Some, sym, ◌∙◌, subst}
 use Rattle.logfmt.specs.Bounds.{LogValue}
 use Rattle.checker.specs.Checker.{CheckerValue}
 use Rattle.request.specs.declared.settings.Settings.{Settings}
@@ -12,7 +12,6 @@ use Rattle.request.specs.Source.{Recording, IsLogOf, HasImages}
 use Rattle.runs.specs.declared.explore_command.Wanted.TheVariants as wanted
 use Rattle.runs.specs.Cured.{IsAnswered}
 use Rattle.runs.specs.Explore.{AreCheckersOf, head_of}
-use Rattle.runs.specs.Inputs.{inputs_number}
 use Rattle.runs.specs.Judged.{takes}
 use Rattle.join.specs.Laws.{Range}
 use Rattle.commands.specs.Acting.{Files, recording, Answers}
@@ -101,9 +100,9 @@ whole_back w files bytes status s asked h =
     }
 
 pub join_is_explore_by_own : JoinIsExplore → JoinIsExploreByOwn
-join_is_explore_by_own law w files parts images bytes status h few joined =
+join_is_explore_by_own law part w files parts images bytes status h few joined =
     whole_back w files bytes status h.count.settings h.count.asked
-    (law (alone w) files parts images bytes status
+    (law part (alone w) files parts images bytes status
     (record {
       ranges = h.ranges;
       texts = h.texts;

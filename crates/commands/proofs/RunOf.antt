@@ -39,7 +39,7 @@ use Rattle.report.specs.declared.head.ProgramHead.{ProgramHead}
 use Rattle.report.specs.Report.{HeadValue}
 use Rattle.join.specs.Printable.{IsWithin, IsPrintable, ArePrintable, IsLineOfRun, AreLinesOfRun}
 use Rattle.join.specs.Order.{follows, in_order}
-use Rattle.join.specs.Heads.{IsSmallOption, IsFewOption, IsProgramHead, IsPrintedHead, are_guards_of_run, is_program_of_run, are_programs_of_run, are_entries_of_run, are_cuts_of_run, are_options_of_run}
+use Rattle.join.specs.Heads.{IsSmallOption, IsFewOption, IsProgramHead, IsPrintedHead, are_guards_of_run, is_program_of_run, are_programs_of_run, are_entries_of_run, are_cuts_of_run}
 use Rattle.join.specs.Text.{RunValue}
 use Rattle.join.specs.Laws.{IsRun}
 use Rattle.join.proofs.Order.{next_back}

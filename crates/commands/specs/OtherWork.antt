@@ -1,6 +1,6 @@
 -- Parts of a run that were made by other numbers of workers, and with caches of other sizes, come to the same (docs/REPORT.md,
 -- Joining parts).
-use Rattle.std.specs.Prelude.{ℕ, ◌≡◌, ◌≤◌, List, [], ◌∷◌, map, Some}
+use Rattle.std.specs.Prelude.{Bool, ℕ, ◌≡◌, ◌≤◌, List, [], ◌∷◌, map, Some}
 use Rattle.choices.specs.Choices.{limit}
 use Rattle.request.specs.declared.command.OptionWords.{OptionWords}
 use Rattle.request.specs.declared.command.Request.TheVariants as request
@@ -36,5 +36,5 @@ pub record HoldPartsByOwn (w : OptionWords) (files parts : Files) (images : ℕ)
 -- of such files `join` prints what `explore` prints of the whole run with any number of workers and any cache, where the run may be
 -- explored at once
 abbrev pub JoinIsExploreByOwn : Type 0
-JoinIsExploreByOwn = (w : OptionWords) (files parts : Files) (images : ℕ) (bytes : List ℕ) (status : ℕ) → HoldPartsByOwn w files parts images → images ≤ limit
-    → Answers request.Join parts bytes status → Answers (request.Explore (asking extent.Whole w)) files bytes status
+JoinIsExploreByOwn = (part : Bool) (w : OptionWords) (files parts : Files) (images : ℕ) (bytes : List ℕ) (status : ℕ) → HoldPartsByOwn w files parts images → images ≤ limit
+    → Answers (request.Join part) parts bytes status → Answers (request.Explore (asking extent.Whole w)) files bytes status
