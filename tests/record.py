@@ -106,10 +106,15 @@ def at(process):
         return None
 
 
+def heeding():
+    """Has a new process heed a signal that this one ignores, as one that nohup started does: a shell can't take it otherwise."""
+    signal.signal(signal.SIGHUP, signal.SIG_DFL)
+
+
 def hung_up(folder):
     """What is wrong with `record` where its terminal goes: it ends its daemon."""
     out = Path(folder, "hung_up")
-    running = subprocess.Popen([RECORD, "8", out, "sleep", "2"])
+    running = subprocess.Popen([RECORD, "8", out, "sleep", "2"], preexec_fn=heeding)
     while running.poll() is None and not (out / "pid").exists():
         time.sleep(0.1)
     time.sleep(0.5)
@@ -286,7 +291,7 @@ def interrupted(guests, number):
     """What is wrong with a guest that is interrupted while its machine runs."""
     script, out = guests.folder / "script", guests.folder / f"signal_{number}"
     script.write_text("sleep 1000\n")
-    running = subprocess.Popen(guests.command(out, script), stderr=subprocess.PIPE, text=True)
+    running = subprocess.Popen(guests.command(out, script), stderr=subprocess.PIPE, text=True, preexec_fn=heeding)
     while running.poll() is None and not (out / "console").exists():
         time.sleep(0.1)
     running.send_signal(number)
