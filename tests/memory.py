@@ -122,8 +122,8 @@ ROWS = {
     "check: turns": (219, "72 . 72 26 72 26 72 ."),
     "every image of sixteen writes fails, 16 workers": (None, MANY),
     "a part: two_slots: --sectors 4 --cuts all --bound 2 --tears --images 236..354": (385, "72 . 72 11 72 26.0 72 11 . 72 26.0 72 60.0 72 . 72 . 72 . 72 ."),
-    "joined in the midst: torn_over_torn --sectors 4 --cuts all --bound 1 --tears": (755, "72 . 72 66 72 66 ."),
-    "joined in steps: torn_over_torn --sectors 4 --cuts all --bound 1 --tears": (1165, "72 . 72 66 72 66 ."),
+    "joined in the midst: torn_over_torn --sectors 4 --cuts all --bound 1 --tears": (762, "72 . 72 66 72 66 ."),
+    "joined in steps: torn_over_torn --sectors 4 --cuts all --bound 1 --tears": (1166, "72 . 72 66 72 66 ."),
 }
 
 # A run by sixteen workers, which all have blocks of images to judge: 3,213 images in 51 blocks.
