@@ -9,7 +9,7 @@ KERNEL is a folder as `guest` takes it. With it scripts are recorded in virtual 
 kind, whether a file is there at its mark though all that is in flight is lost, and how `guest` ends where something is wrong.
 
 Prints a line for each that failed, and last `N passed, M failed`. It wants what record and guest want, and e2fsprogs. It
-takes half a minute, and with KERNEL a minute of processor time more; on a busy machine that was seven minutes.
+takes half a minute, and with KERNEL a minute and a half of processor time more; on a busy machine that was twelve minutes.
 """
 import os
 import signal
