@@ -36,8 +36,14 @@
 //!
 //! A log of two writes, of sectors 0 and 1, without a flush. A program reads a byte of sector 1, and reads sector 0 only where it is
 //! set. At cut 2 the root is split by entry 1: with the first group, where it is whole, the program reads sector 0 too, and entry 0
-//! splits that case again. With the second, where entry 1 is lost, the program reads no other sector. So there are three leaves: both
-//! whole; entry 0 lost and entry 1 whole; and entry 1 lost, whatever became of entry 0.
+//! splits that case again. With the second, where entry 1 is lost, the program reads no other sector. So four choices have three leaves:
+//!
+//! ```text
+//! entry 0    entry 1
+//! whole      whole
+//! lost       whole
+//! either     lost
+//! ```
 #![tactic(auto)]
 
 mod laws;
