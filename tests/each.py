@@ -545,6 +545,9 @@ def rows():
 
 
 def main(words):
+    # A process that was started by nohup, or behind a shell's &, ignores some signals, and so would what it starts.
+    for number in (signal.SIGHUP, signal.SIGINT, signal.SIGTERM):
+        signal.signal(number, signal.SIG_DFL)
     program = Path(words[0] if words else TOP / "crates/crashbpf/out/crashbpf").resolve()
     if not os.access(program, os.X_OK):
         sys.exit(f"there is no program {program}: `rt run` in crates/crashbpf builds it")

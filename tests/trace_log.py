@@ -383,6 +383,9 @@ def fuzzed(folder, seed, count):
 
 
 def main(words):
+    # A process that was started by nohup, or behind a shell's &, ignores some signals, and so would what it starts.
+    for number in (signal.SIGHUP, signal.SIGINT, signal.SIGTERM):
+        signal.signal(number, signal.SIG_DFL)
     resource.setrlimit(resource.RLIMIT_AS, (MEMORY, MEMORY))
     with tempfile.TemporaryDirectory() as top:
         folder = Path(top, "at")
