@@ -1,6 +1,6 @@
 //! Lines in parts.
 
-ghost use Rattle.std.specs.Prelude.{◌≡◌, ◌≤◌, ◌↔◌, ◌++◌, [], if◌then◌else◌, length, take, IsTrue, IfOk, OnOk, string_bytes};
+ghost use Rattle.std.specs.Prelude.{◌≡◌, ◌≤◌, ◌↔◌, ◌-◌, ◌^◌, ◌++◌, [], if◌then◌else◌, length, min, take, IsTrue, IfOk, OnOk, string_bytes};
 ghost use Rattle.std.specs.List.{flat_map};
 ghost use Rattle.std.specs.List.Sorted.{IsNonDecreasing};
 ghost use Rattle.lines.specs.Line.{first_lines};
@@ -106,13 +106,19 @@ impl Lines {
         Ok(())
     }
 
-    /// How many bytes the lines take as they are printed, at most 2^64 - 1.
-    pub fn text_len(&self) -> usize {
-        let mut bytes = 0usize;
-        for text in self.texts.as_slice() {
-            bytes = bytes.saturating_add(text.len());
-        }
-        bytes
+    /// How many bytes `put` appends, at most 2^64 - 1.
+    pub fn text_len(&self) -> usize
+        ensures { result ≡ min (length (flat_map line_text self.now)) (2 ^ 64 - 1) }
+    {
+        length_of(self.texts.as_slice())
+    }
+
+    /// How many bytes `put_first` appends.
+    pub fn first_len(&self) -> usize
+        requires { IsNonDecreasing (images_of self.now) }
+        ensures { result ≡ length (flat_map line_text (first_lines self.now)) }
+    {
+        self.leading.len()
     }
 
     /// Of which image and which program each line is, read back from the text.
@@ -186,4 +192,15 @@ fn put_texts(out: &mut Vec<u8>, texts: &[String]) -> Result<(), AllocError>
         out.extend_from_slice(text.as_bytes())?;
     }
     Ok(())
+}
+
+/// How many bytes the texts take, at most 2^64 - 1.
+fn length_of(texts: &[String]) -> usize
+    ensures { result ≡ min (length (flat_map (λ t. string_bytes t) texts.now)) (2 ^ 64 - 1) }
+{
+    let mut bytes = 0usize;
+    for text in texts {
+        bytes = bytes.saturating_add(text.len());
+    }
+    bytes
 }

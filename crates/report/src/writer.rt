@@ -1,6 +1,6 @@
 //! The report of a run, line by line (docs/REPORT.md).
 
-ghost use Rattle.std.specs.Prelude.{◌≡◌, ◌≤◌, ◌-◌, ◌++◌, Bool, map, OnOk, IfOk, string_bytes};
+ghost use Rattle.std.specs.Prelude.{◌≡◌, ◌≤◌, ◌-◌, ◌^◌, ◌++◌, Bool, length, map, min, OnOk, IfOk, string_bytes};
 ghost use Rattle.std.specs.List.{flat_map};
 ghost use Rattle.std.specs.List.Sorted.{IsNonDecreasing};
 ghost use Rattle.lines.specs.Line.{first_lines};
@@ -207,6 +207,27 @@ fn put_lines(out: &mut Vec<u8>, first: bool, lines: &Lines) -> Result<(), AllocE
     }
 }
 
+/// How many bytes the failing lines take: all of them, or those of the first failing image where it alone was asked for. At most
+/// 2^64 - 1.
+fn lines_len(first: bool, lines: &Lines) -> usize
+    requires { IsNonDecreasing (map (λ l. l.image) lines.now) }
+    ensures { result ≡ min (length (flat_map line_text (shown_lines first lines.now))) (2 ^ 64 - 1) }
+{
+    if first {
+        lines.first_len()
+    } else {
+        lines.text_len()
+    }
+}
+
+/// How many bytes the failing lines and the last line take, at most 2^64 - 1.
+fn findings_len(first: bool, lines: &Lines, last: &str) -> usize
+    requires { IsNonDecreasing (map (λ l. l.image) lines.now) }
+    ensures { result ≡ min (length (flat_map line_text (shown_lines first lines.now)) + length (string_bytes last.now)) (2 ^ 64 - 1) }
+{
+    lines_len(first, lines).saturating_add(last.len())
+}
+
 /// Appends the options and the programs.
 pub fn put_options(out: &mut String, head: &Head) -> Result<(), AllocError>
     ensures { OnOk result (string_bytes out.new ≡ string_bytes out.old ++ options_text head.now) }
@@ -240,7 +261,7 @@ fn with_findings(
 {
     let last = last_line(alloc, first, images, lines)?;
     let mut out = begun.into_bytes();
-    out.reserve_exact(lines.text_len().saturating_add(last.len()))?;
+    out.reserve_exact(findings_len(first, lines, last.as_str()))?;
     put_lines(&mut out, first, lines)?;
     out.extend_from_slice(last.as_bytes())?;
     Ok(out)

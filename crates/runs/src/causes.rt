@@ -93,7 +93,7 @@ fn put_head(out: &mut String, head: &Head, lines: &Lines) -> Result<(), AllocErr
     put_totals(out, head.images, lines)
 }
 
-/// Appends of each program how many of its failing images no flush takes away, and the flushes that are missing.
+/// Appends of each program how many of its failing images have no window, and the flushes that are missing.
 #[tactic(auto, unfolding(crate::specs::Why::missing_text))]
 fn put_flushes(out: &mut String, programs: usize, missing: &Missing) -> Result<(), AllocError>
     ensures { OnOk result (string_bytes out.new ≡ string_bytes out.old ++ missing_text programs missing.now.failures.items missing.now.flushes.items) }

@@ -279,7 +279,7 @@ fn all_rounds<G: Gate + Sync, R: Threads + Wait + Sync>(
     Ok(hits)
 }
 
-/// What stands before the rounds: how the first run fails, and which failure no flush takes away.
+/// What stands before the rounds: how the first run fails, and the first failure without a window.
 fn begin_bytes(alloc: Global, found: &Found) -> Result<Vec<u8>, AllocError>
     requires { length found.now.failures.items ≡ length found.now.work.lines }
     ensures { IfOk result (λ bytes. bytes.items ≡ begin_text found.now.head found.now.failures.items ++ uncured_text found.now.work.lines found.now.failures.items) }
@@ -339,7 +339,7 @@ pub(crate) fn cured_log<G: Gate + Sync, R: Threads + Wait + Sync>(
 
 /// Tries where flushes would take failing images of a log away (docs/REPORT.md, The text of `cure`): judges its crash images as
 /// `explore_with` does, adds the flushes that are missing for the failing ones, judges those of the log with them, and so on,
-/// until a flush takes none of the failing images away that are left. `gate` is told of each run. What is to be told by the
+/// until no failing image that is left has a window. `gate` is told of each run. What is to be told by the
 /// question, and whether the first failing image alone is asked for, changes nothing. What is found on the
 /// way takes the place of what `facts` held.
 ///

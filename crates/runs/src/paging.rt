@@ -61,7 +61,7 @@ fn count_uncured(failure: Failure, program: usize) -> usize
     usize::from(usize::from(failure.program) == program && failure.window.is_none())
 }
 
-/// How many failures of a program no flush takes away.
+/// How many failures of a program have no window.
 #[tactic(auto, using(crate::proofs::Pages::uncured_more))]
 fn uncured_of(failures: &[Failure], program: usize) -> usize
     ensures value { result ≡ length (filter (is_uncured program) failures.now) }

@@ -68,8 +68,8 @@
 //! When all are back, `blocks_left` of `shares` takes their hands and answers what is left in them. Summed up
 //! over all workers (`AreBack` in `specs/Crew.antt`), the blocks of the pieces and the blocks left are, each as
 //! often, those that the seats drew. `gather` says that each block was drawn once, and that what was found was
-//! posted. So no block was lost and none was judged twice; the caller judges what is left (`with_left`), no
-//! piece is thrown away, and each block has one piece. In fact nothing is left, which is tested.
+//! posted. So no block was lost. The caller judges what is left (`with_left`), no piece is thrown away, and of
+//! each block one piece is collected. In fact nothing is left, which is tested.
 //!
 //! Only tests show that more than one thread works, that workers steal, and that the cache is asked.
 //!
