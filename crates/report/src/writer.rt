@@ -223,7 +223,7 @@ fn lines_len(first: bool, lines: &Lines) -> usize
 /// How many bytes the failing lines and the last line take, at most 2^64 - 1.
 fn findings_len(first: bool, lines: &Lines, last: &str) -> usize
     requires { IsNonDecreasing (map (λ l. l.image) lines.now) }
-    ensures { result ≡ min (length (flat_map line_text (shown_lines first lines.now)) + length (string_bytes last.now)) (2 ^ 64 - 1) }
+    ensures { result ≡ min (length (flat_map line_text (shown_lines first lines.now)) + length last.now) (2 ^ 64 - 1) }
 {
     lines_len(first, lines).saturating_add(last.len())
 }
