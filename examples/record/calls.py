@@ -20,7 +20,7 @@ TOLD = re.compile(r"--- .* ---|\[ Process PID=\d+ runs in \w+ mode\. \]")
 UNFINISHED = " <unfinished ...>"
 # A string, the path of a descriptor, a remark, a bracket, a comma, and what stands between these.
 TOKEN = re.compile(rf'"{HEX}"(?:\.\.\.)?|<{HEX}>(?:\(deleted\))?|/\*.*?\*/|[()\[\]{{}}]|,|[^"<>/()\[\]{{}},]+|[<>/]')
-RESULT = re.compile(rf"\) += (-?\d{{1,20}}|0x[0-9a-f]{{1,16}}|\?)(?:<({HEX})>(?:\(deleted\))?)?(?: ([A-Z]\w*) \(.*\))?(.*)", re.S)
+RESULT = re.compile(rf"\) += (0x[0-9a-f]{{1,16}}|-?\d{{1,20}}|\?)(?:<({HEX})>(?:\(deleted\))?)?(?: ([A-Z]\w*) \(.*\))?((?: .*)?)", re.S)
 NAMED = re.compile(rf"(?<![\w\\])(\d{{1,10}}|AT_FDCWD)<({HEX})>(\(deleted\))?")
 STRING = re.compile(rf'"({HEX})"(\.\.\.)?')
 # The most characters of a line, and of one that is shown.
@@ -49,10 +49,10 @@ class Call:
 
     def number(self, at):
         """The number that a word is."""
-        found = re.match(r"-?(?:0x[0-9a-f]{1,16}|\d{1,20})(?![\w.])", self.word(at))
+        found = re.match(r"0x[0-9a-f]{1,16}(?![\w.])|-?\d{1,20}(?![\w.])", self.word(at))
         if not found:
-            raise Refused(f"{self}: {self.word(at)[:40]} is no number")
-        return int(found[0], 0)
+            raise Refused(f"{self}: {shown(self.word(at))[:40]} is no number")
+        return number(found[0])
 
     def word(self, at):
         if at >= len(self.words):
@@ -79,6 +79,10 @@ class Call:
 
     def __str__(self):
         return f"calls:{self.line}: {shown(f'{self.process} {self.text}')}"
+
+
+def number(text):
+    return int(text, 16 if text.startswith("0x") else 10)
 
 
 def unhexed(text):
@@ -148,7 +152,7 @@ def read(call, begun):
     if not found:
         raise Refused(f"{call}: what it answered can't be read")
     value, path, call.error, call.rest = found.groups()
-    call.result = None if value == "?" else int(value, 0)
+    call.result = None if value == "?" else number(value)
     call.path = None if path is None else unhexed(path)
     call.whole = True
     if call.result == -1 and not call.error:
@@ -186,6 +190,7 @@ def happened(stream, wanted):
                 other = int(superseded[1])
                 if other in begun:
                     begun[process] = begun.pop(other)
+                    begun[process].process = process
                 yield "moved", (other, process)
             elif ENDED.fullmatch(text):
                 if process in begun:
