@@ -13,7 +13,8 @@ has to count as many. Equal images with as many marks are judged once. One image
 which has to say the same.
 
 It wants strace, sqlite3, liblmdb-dev, a C compiler, and the built program; with KERNEL what `guest` wants, and e2fsprogs.
-Prints a row for each, with the images by write that lose at most two writes, and then by sector those that lose or tear one.
+Prints a row for each: the entries of its log, how many writes are lost at most, by write, how many images that gives and how many
+of them differ, and how many are broken or lack a commit. At most two writes are lost, or one where two give more than 1,500 images.
 """
 import functools
 import hashlib
@@ -40,6 +41,8 @@ sys.path.insert(0, str(RECORD))
 import layout
 
 COMMITS = (1, 2, 3)
+# The most images of a row that loses two writes at once.
+MOST = 1500
 TABLES = "CREATE TABLE t (n, text); CREATE TABLE u (n); INSERT INTO t VALUES (0, hex(zeroblob(300))); INSERT INTO u VALUES (0);"
 ASKED = "PRAGMA integrity_check; SELECT (SELECT count(*) FROM t), (SELECT max(n) FROM t), (SELECT n FROM u)"
 PATH = f"{os.environ['PATH']}:/usr/sbin:/sbin"
@@ -117,7 +120,6 @@ class Row:
     command: str
     skip: str | None
     found: object
-    first: int = 1
 
 
 def rows():
@@ -162,7 +164,7 @@ class Judge:
                 for number, it in parts:
                     content[SECTOR * number : SECTOR * (number + 1)] = it
                 contents[key] = bytes(content)
-        with ThreadPoolExecutor(2) as pool:
+        with ThreadPoolExecutor(8) as pool:
             self.known.update(zip(contents, pool.map(self.verdict, contents.values())))
         verdicts = [(self.known[key], marks) for key, marks in keys]
         broken = [it for it, _ in verdicts if isinstance(it, str)]
@@ -179,22 +181,17 @@ def counted(log, run):
     return int(found[1] or found[2]) if found else done.stderr
 
 
-def judged(name, log, base, sectors, judge, from_first, kinds):
+def judged(name, log, base, sectors, judge):
     """Prints the row of a recording."""
     entries = entries_of(Path(log).read_bytes())
     before = Path(base).read_bytes() if base and Path(base).exists() else b""
-    first = next((at for at, it in enumerate(entries) if it.text == b"begin"), None) if from_first else None
-    cells = []
-    for kind in kinds:
-        run = Run(entries, sectors=sectors, base=before, first=first, **kind)
-        count, (images, *rest) = counted(log, run), judge.judge(run)
-        if count != images:
-            sys.exit(f"{name}: crashbpf counts {count} images, and the model {images}")
-        cells.append("{} ({}) | {} | {}".format(images, *rest))
-    print(f"| {name} | {len(entries)} | {' | '.join(cells)} |", flush=True)
-
-
-KINDS = [{"by": "write", "bound": 2}, {"by": "sector", "bound": 1, "tears": True}]
+    first = next((at for at, it in enumerate(entries) if it.text == b"begin"), None)
+    runs = [Run(entries, sectors=sectors, base=before, first=first, by="write", bound=it) for it in (1, 2)]
+    run = runs[counted(log, runs[1]) <= MOST]
+    count, (images, *rest) = counted(log, run), judge.judge(run)
+    if count != images:
+        sys.exit(f"{name}: crashbpf counts {count} images, and the model {images}")
+    print("| {} | {} | {} | {} ({}) | {} | {} |".format(name, len(entries), run.bound, images, *rest), flush=True)
 
 
 def traced(folder, row):
@@ -218,7 +215,7 @@ def traced(folder, row):
             Path(room, os.fsdecode(it.name)).write_bytes(content[SECTOR * it.first :][: it.length])
 
     judge = Judge(row.found, lay)
-    judged(row.name, out / "writes.log", out / "base.img", sectors, judge, True, KINDS)
+    judged(row.name, out / "writes.log", out / "base.img", sectors, judge)
     by_files(out, row, judge, sectors)
 
 
@@ -258,7 +255,7 @@ def in_guest(folder, kernel, journal, synchronous):
         Path(room, "image").write_bytes(content)
         sh("e2fsck -fy image; for it in db db-journal db-wal; do debugfs -R \"stat /$it\" image 2>&1 | grep -q Inode: && debugfs -R \"dump /$it $it\" image; done; rm image", room)
 
-    judged(f"guest: SQLite {journal} {synchronous}", out / "writes.log", base, 16384, Judge(sqlite_found, lay), True, [{"by": "write", "bound": 1}])
+    judged(f"guest: SQLite {journal} {synchronous}", out / "writes.log", base, 16384, Judge(sqlite_found, lay))
 
 
 def main(words):
