@@ -52,6 +52,14 @@ def sh(text, folder, **environment):
     return subprocess.run(["sh", "-c", text], cwd=folder, capture_output=True, text=True, errors="replace", env={**os.environ, "PATH": PATH, **environment})
 
 
+def ran(words, folder):
+    """Runs a program that judges, for at most twenty seconds."""
+    try:
+        return subprocess.run(words, cwd=folder, capture_output=True, text=True, errors="replace", timeout=20)
+    except subprocess.TimeoutExpired:
+        return subprocess.CompletedProcess(words, 124, "", "")
+
+
 def sqlite_words(journal, synchronous):
     """The words of sqlite3 that make three commits, each of two tables, in one connection."""
     words = ['".filectrl persist_wal 1"', f'"PRAGMA synchronous = {synchronous}; PRAGMA journal_mode = {journal};"', '".shell mark begin"']
@@ -71,7 +79,7 @@ def sqlite_base(folder, journal):
 
 def sqlite_found(folder):
     """How many commits a database has, or what is broken."""
-    done = sh(f"timeout 20 sqlite3 db '{ASKED}'", folder)
+    done = ran(["sqlite3", "db", ASKED], folder)
     lines = done.stdout.splitlines()
     found = re.fullmatch(r"(\d+)\|(\d+)\|(\d+)", lines[-1]) if lines else None
     if done.returncode or lines[0] != "ok" or not found:
@@ -81,7 +89,7 @@ def sqlite_found(folder):
 
 
 def lmdb_found(folder):
-    done = sh(f"timeout 20 {os.environ['LMDB']} read .", folder)
+    done = ran([os.environ["LMDB"], "read", "."], folder)
     return int(done.stdout) - 4 if done.returncode == 0 and done.stdout.strip().isdigit() else f"status {done.returncode}: {done.stdout.strip()}"[:100]
 
 
@@ -177,8 +185,10 @@ class Judge:
 def counted(log, run):
     """How many images crashbpf counts."""
     done = subprocess.run([PROGRAM, "images", log, *run.options().removesuffix(" --base base").split()], capture_output=True, text=True)
-    found = re.search(r"(?m)^images (\d+)$|(\d+)\s*$", done.stdout.strip())
-    return int(found[1] or found[2]) if found else done.stderr
+    found = re.search(r"(?m)^total (\d+)$", done.stdout)
+    if not found:
+        sys.exit(f"crashbpf images: {done.stderr}")
+    return int(found[1])
 
 
 def judged(name, log, base, sectors, judge):

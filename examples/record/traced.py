@@ -17,7 +17,8 @@ import layout
 from calls import Refused, makers, shown
 from disk import SECTOR, Disk
 from layout import trace_log
-from tracing import Tracing, skips
+from files import skips
+from tracing import Tracing
 
 # Calls that strace need not stop at: they write no file, move no place in one, and answer no descriptor of one.
 PASSED = (
