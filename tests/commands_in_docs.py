@@ -34,7 +34,8 @@ COPIED = ("examples", "tools", "crates/aside/data")
 NOT_RUN = {
     r"\brt (ci|run|try)\b|\.ci/run": "it needs the kit",
     r"\$DATA|dmsetup": "it needs root and a device",
-    r"qemu|examples/recording/(record|guest|in_flight)\b|formatting/": "it needs QEMU; tests/record.py runs record and in_flight.py",
+    r"qemu|examples/recording/(guest|in_flight)\b|formatting/|crashbpf-record --fuse": "it needs QEMU; tests/record.py runs what it can",
+    r"crashbpf-record|recorded/": "it needs strace and sqlite3; tests/record.py records other programs",
     r"log writes\.log 55 120": "it needs a log that QEMU recorded",
     r"sbatch|parallel|try_slurm|join_all run >": "it needs Slurm or several machines; tests/each.py runs parts as processes",
     r"e2fsck|disk\.log all\.bpf": "tests/each.py runs it on an ext2",

@@ -1,19 +1,19 @@
 #!/usr/bin/env python3
-"""Tests examples/recording/record, in_flight.py and cut_log.py with the QEMU at hand, and with a kernel guest too. The gate
-doesn't run it, since it needs QEMU.
+"""Tests crashbpf-record, in_flight.py and cut_log.py with the strace and the QEMU at hand, and with a kernel guest too. The gate
+doesn't run it, since it needs these; it runs tests/traced.py, which has strace's texts.
 
     python3 tests/record.py [KERNEL]
 
-A few commands are recorded, and their logs are compared with what they did; of each the last image has to be the disk.
-KERNEL is a folder as `guest` takes it. With it scripts are recorded in virtual machines: what stands before a mark of each
+By strace programs are recorded that write in each way that is followed, in threads and processes too, and those that have to be
+refused, with the call that shows why; of each the files are compared with those that the log has. By FUSE a few commands are
+recorded, and their logs are compared with what they did; of each the last image has to be the disk. KERNEL is a folder as `guest` takes it. With it scripts are recorded in virtual machines: what stands before a mark of each
 kind, whether a file is there at its mark though all that is in flight is lost, and how `guest` ends where something is wrong.
 
-Prints a line for each that failed, and last `N passed, M failed`. It wants what record and guest want, and e2fsprogs. It
+Prints a line for each that failed, and last `N passed, M failed`. It wants what these want, e2fsprogs, and a C compiler. It
 takes half a minute, and with KERNEL a minute and a half of processor time more; on a busy machine that was twelve minutes.
 """
 import os
 import signal
-import struct
 import subprocess
 import sys
 import tempfile
@@ -26,7 +26,7 @@ from notation import DISCARD, FLUSH, FUA, MARK, SECTOR, TOP, D, F, M, S, W, log
 from rows.recording import entries_of
 
 FOLDER = TOP / "examples/recording"
-RECORD = FOLDER / "record"
+RECORD = TOP / "examples/record/crashbpf-record"
 
 WRITES = """\
 import os
@@ -35,7 +35,7 @@ recording = os.environ["RECORDING"]
 
 
 def mark(name):
-    with open(recording + "/writes.log", "rb") as log, open(recording + "/marks", "a") as marks:
+    with open(recording + "/qemu.log", "rb") as log, open(recording + "/marks", "a") as marks:
         marks.write(f"{int.from_bytes(log.read(24)[16:], 'little')} {name}\\n")
 
 
@@ -85,12 +85,12 @@ def image_of(entries, device):
 
 
 def recorded(folder, name, sectors, command, status, entries):
-    """What is wrong with a recording."""
+    """What is wrong with a recording by FUSE."""
     out = Path(folder, name.replace(" ", "_"))
-    done = subprocess.run([RECORD, str(sectors), out, *command], capture_output=True, text=True)
-    if done.returncode != status or not (out / "marked.log").exists():
+    done = subprocess.run([RECORD, "--fuse", "--sectors", str(sectors), out, "--", *command], capture_output=True, text=True)
+    if done.returncode != status or not (out / "writes.log").exists():
         return f"{name}: status {done.returncode}, {done.stdout}{done.stderr}"
-    content = (out / "marked.log").read_bytes()
+    content = (out / "writes.log").read_bytes()
     if image_of(entries_of(content), bytes(SECTOR * sectors)) != (out / "disk.img").read_bytes():
         return f"{name}: the last image isn't the disk"
     if entries is not None and content != log(entries):
@@ -112,9 +112,9 @@ def heeding():
 
 
 def hung_up(folder):
-    """What is wrong with `record` where its terminal goes: it ends its daemon."""
+    """What is wrong with a recording by FUSE whose terminal goes: it ends its daemon."""
     out = Path(folder, "hung_up")
-    running = subprocess.Popen([RECORD, "8", out, "sleep", "2"], preexec_fn=heeding)
+    running = subprocess.Popen([RECORD, "--fuse", "--sectors", "8", out, "--", "sleep", "2"], preexec_fn=heeding)
     while running.poll() is None and not (out / "pid").exists():
         time.sleep(0.1)
     time.sleep(0.5)
@@ -125,7 +125,232 @@ def hung_up(folder):
     if left:
         os.kill(daemon, signal.SIGTERM)
         time.sleep(1)
-    return None if running.returncode == 2 and not left else f"record, hung up: status {running.returncode}, the daemon is {'there' if left else 'gone'}"
+    return None if running.returncode == 2 and not left else f"crashbpf-record, hung up: status {running.returncode}, the daemon is {'there' if left else 'gone'}"
+
+
+def based(folder):
+    """What is wrong with a device that begins with a base, and with one whose log isn't the disk."""
+    base, out = Path(folder, "base"), Path(folder, "based")
+    base.write_bytes(bytes(range(250)) * 4)
+    write = "printf XY | dd of=$DEVICE bs=2 seek=300 conv=notrunc 2>&1"
+    done = subprocess.run([RECORD, "--fuse", "--base", base, out, "--", "sh", "-c", write], capture_output=True, text=True)
+    before = base.read_bytes().ljust(1024, b"\0")
+    wanted = log([S(1, before[512:600] + b"XY" + before[602:]), F])
+    if done.returncode or (out / "writes.log").read_bytes() != wanted:
+        return [f"a device with a base: {done}"]
+    unseen = "printf Z | dd of=$RECORDING/disk.img bs=1 seek=10 conv=notrunc 2>&1"
+    done = subprocess.run([RECORD, "--fuse", "--base", base, f"{out}_unseen", "--", "sh", "-c", unseen], capture_output=True, text=True)
+    good = done.returncode == 2 and "the last image of the log isn't the disk" in done.stderr and not Path(f"{out}_unseen/writes.log").exists()
+    return [None, None if good else f"a write that the log doesn't have: {done}"]
+
+
+# By strace
+
+# A program that writes a file in all ways, at random, in a thread and a child too. The places of its writes are its own.
+WRITES_ALL = """\
+import os, random, sys, threading
+chance = random.Random(int(sys.argv[1]))
+files = os.environ["FILES"]
+names = [files + "/" + it for it in ("one", "two", "in/three")]
+os.makedirs(files + "/in", exist_ok=True)
+
+
+def data(most):
+    return bytes([chance.randrange(256)]) * chance.randrange(most)
+
+
+def work(seed, path, flags):
+    own = random.Random(seed)
+    fd = os.open(path, os.O_RDWR | os.O_CREAT | flags)
+    for _ in range(40):
+        kind = own.randrange(12)
+        if kind < 3:
+            os.pwrite(fd, data(900), own.randrange(6000))
+        elif kind < 5:
+            os.write(fd, data(1500))
+        elif kind == 5:
+            os.lseek(fd, own.randrange(4000), own.choice((0, 0, 2)))
+        elif kind == 6:
+            os.read(fd, own.randrange(600))
+        elif kind == 7:
+            own.choice((os.fsync, os.fdatasync, lambda _: os.sync()))(fd)
+        elif kind == 8:
+            os.writev(fd, [data(300), b"", data(300)])
+        elif kind == 9:
+            os.pwritev(fd, [data(300), data(700)], own.randrange(3000), own.choice((0, os.RWF_DSYNC, os.RWF_SYNC)))
+        elif kind == 10:
+            more = os.dup(fd)
+            os.write(more, data(100))
+            os.close(more)
+        elif os.fstat(fd).st_size < 9000:
+            os.posix_fallocate(fd, 0, os.fstat(fd).st_size + own.randrange(1, 900))
+    os.close(fd)
+
+
+threads = [threading.Thread(target=work, args=(chance.randrange(1000), name, chance.choice((0, os.O_APPEND, os.O_DSYNC)))) for name in names[:2]]
+for it in threads:
+    it.start()
+for it in threads:
+    it.join()
+shared = os.open(names[2], os.O_RDWR | os.O_CREAT)
+if os.fork() == 0:
+    os.write(shared, b"child" * 200)
+    os._exit(0)
+os.wait()
+os.write(shared, b"parent" * 100)
+"""
+
+ADDED = """\
+#define _GNU_SOURCE
+#include <fcntl.h>
+#include <linux/fs.h>
+#include <stdio.h>
+#include <stdlib.h>
+#include <string.h>
+#include <sys/ioctl.h>
+#include <sys/mman.h>
+#include <sys/sendfile.h>
+#include <sys/socket.h>
+#include <sys/syscall.h>
+#include <unistd.h>
+
+int main(int count, char **words)
+{
+	int fd, other = open(words[0], O_RDONLY);
+	char path[4096], params[256] = { 0 };
+
+	snprintf(path, sizeof path, "%s/db", getenv("FILES"));
+	fd = open(path, O_RDWR | O_CREAT, 0644);
+	if (write(fd, params, 256) != 256 || ftruncate(fd, 8192))
+		return 3;
+	switch (count > 1 ? atoi(words[1]) : 0) {
+	case 1: {
+		char *mapped = mmap(0, 4096, PROT_READ | PROT_WRITE, MAP_SHARED, fd, 0);
+		return mapped == MAP_FAILED;
+	}
+	case 2: {
+		char *mapped = mmap(0, 4096, PROT_READ, MAP_SHARED, fd, 0);
+		return mprotect(mapped, 4096, PROT_READ | PROT_WRITE);
+	}
+	case 3:
+		return copy_file_range(other, 0, fd, 0, 512, 0) != 512;
+	case 4:
+		return sendfile(fd, other, 0, 512) != 512;
+	case 5: {
+		int ends[2];
+		return pipe(ends) || write(ends[1], "x", 1) != 1 || splice(ends[0], 0, fd, 0, 1, 0) != 1;
+	}
+	case 6:
+		return syscall(SYS_io_uring_setup, 4, params) < 0 ? 77 : 0;
+	case 7:
+		snprintf(params, sizeof params, "%s/other", getenv("FILES"));
+		return rename(path, params);
+	case 8:
+		return unlink(path) || write(fd, "x", 1) != 1;
+	case 9:
+		return ftruncate(fd, 100) || write(fd, "x", 1) != 1;
+	case 10: {
+		int again;
+		snprintf(params, sizeof params, "/proc/self/fd/%d", fd);
+		again = open(params, O_WRONLY);
+		return write(again, "yyyy", 4) != 4;
+	}
+	case 11: {
+		unsigned long context = 0;
+		struct { unsigned long data; unsigned key, flags; unsigned short opcode; short priority; unsigned file; unsigned long buf, bytes; long offset; unsigned long more[2]; }
+			block = { 0, 0, 0, 1, 0, fd, (unsigned long)params, 256, 0, { 0 } }, *blocks = &block;
+		return syscall(SYS_io_setup, 1, &context) || syscall(SYS_io_submit, context, 1, &blocks) != 1;
+	}
+	}
+	return 0;
+}
+"""
+
+# The number of a case of ADDED, and what is said; none where it is recorded.
+SAID = {
+    0: None,
+    1: "mmap(NULL, 4096, PROT_READ|PROT_WRITE, MAP_SHARED, ",
+    2: "PROT_READ|PROT_WRITE) = 0: a shared mapping of a recorded file",
+    3: "copy_file_range(",
+    4: "sendfile(",
+    5: "splice(",
+    6: "io_uring_setup(",
+    7: "db is renamed, and names are left out",
+    8: "db is written after a name or a size was changed",
+    9: "db is written after a name or a size was changed",
+    10: None,
+    11: "io_submit(",
+}
+
+
+def files_of(out):
+    """The files of a recording, as the last image of its log has them."""
+    sys.path.insert(0, str(RECORD.parent))
+    import layout
+
+    found, sectors = layout.read_map((out / "files.txt").read_text())
+    base = (out / "base.img").read_bytes() if (out / "base.img").exists() else bytes(SECTOR * sectors)
+    image = image_of(entries_of((out / "writes.log").read_bytes()), base)
+    return {it.name.decode(): image[SECTOR * it.first :][: it.length] for it in found}
+
+
+def traced(folder, seed):
+    """What is wrong with a recording of files that are written at random, over what a first one left."""
+    out, base = Path(folder, f"traced_{seed}"), Path(folder, f"traced_{seed - 1}", "files")
+    options = ["--base", base] if base.exists() else []
+    done = subprocess.run([RECORD, *options, out, "--", sys.executable, "-c", WRITES_ALL, str(seed)], capture_output=True, text=True)
+    if done.returncode:
+        return f"written at random, {seed}: status {done.returncode}, {done.stderr}"
+    found = files_of(out)
+    wanted = {str(it.relative_to(out / "files")): it.read_bytes() for it in (out / "files").rglob("*") if it.is_file()}
+    return None if found == wanted else f"written at random, {seed}: the last image isn't the files"
+
+
+def refused_calls(folder):
+    """What is wrong with how calls are refused that could hide a write."""
+    source, program = Path(folder, "added.c"), Path(folder, "added")
+    source.write_text(ADDED)
+    subprocess.run(["cc", "-w", "-o", program, source], check=True)
+    found = []
+    for number, says in SAID.items():
+        out = Path(folder, f"added_{number}")
+        done = subprocess.run([RECORD, out, "--", program, str(number)], capture_output=True, text=True)
+        if done.returncode == 77:
+            print(f"not run: case {number}, since this kernel doesn't have its call")
+            continue
+        if says is None:
+            good = done.returncode == 0 and (out / "writes.log").exists()
+        else:
+            good = done.returncode == 2 and says in done.stderr and not (out / "writes.log").exists()
+        found.append(None if good else f"case {number}: status {done.returncode}, {done.stderr}")
+    return found
+
+
+def traced_ends(folder):
+    """What is wrong with how a recording by strace ends: by a signal, with a program that fails, with nothing to record."""
+    found = []
+    out = Path(folder, "interrupted")
+    running = subprocess.Popen([RECORD, out, "--", "sh", "-c", "echo $$ >$RECORDING/shell; sleep 1000; true"], stderr=subprocess.PIPE, text=True)
+    while running.poll() is None and not (out / "shell").exists():
+        time.sleep(0.1)
+    time.sleep(0.5)
+    running.send_signal(signal.SIGTERM)
+    running.communicate(timeout=60)
+    shell = int((out / "shell").read_text())
+    left = os.path.exists(f"/proc/{shell}")
+    found.append(None if running.returncode == 2 and not left else f"interrupted: status {running.returncode}, the program is {'there' if left else 'gone'}")
+    rows = {
+        "a program that fails": (["sh", "-c", "echo a >$FILES/a; exit 7"], 7, "a is taken to be there from the start"),
+        "a program that a signal ends": (["sh", "-c", "echo a >$FILES/a; kill -9 $$"], 137, "a is taken to be there from the start"),
+        "a program that writes elsewhere": (["sh", "-c", "echo a >$RECORDING/a"], 2, "so nothing was recorded"),
+        "no program": (["/no/program"], 2, "no process was seen"),
+        "a link": (["sh", "-c", "echo a >$FILES/a; ln -s a $FILES/b"], 2, "gets another name"),
+    }
+    for name, (words, status, says) in rows.items():
+        done = subprocess.run([RECORD, Path(folder, name.replace(" ", "_")), "--", *words], capture_output=True, text=True)
+        found.append(None if (done.returncode, says in done.stderr) == (status, True) else f"{name}: status {done.returncode}, {done.stderr}")
+    again = subprocess.run([RECORD, out, "--", "true"], capture_output=True, text=True)
+    return found + [None if again.returncode == 2 and "can't be made: File exists" in again.stderr else f"a folder that is there: {again}"]
 
 
 def in_flight():
@@ -314,7 +539,8 @@ def guests_of(folder, kernel):
 
 def main():
     with tempfile.TemporaryDirectory() as folder:
-        found = [*(recorded(folder, *it) for it in RECORDED), in_flight(), hung_up(folder), *(cut(folder, *it) for it in DEVICES)]
+        found = [*(traced(folder, it) for it in range(1, 6)), *refused_calls(folder), *traced_ends(folder)]
+        found += [*(recorded(folder, *it) for it in RECORDED), *based(folder), in_flight(), hung_up(folder), *(cut(folder, *it) for it in DEVICES)]
         if sys.argv[1:]:
             found += guests_of(Path(folder).resolve(), sys.argv[1])
     wrong = [it for it in found if it]

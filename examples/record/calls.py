@@ -1,0 +1,261 @@
+"""Reads what strace wrote: which process made which call, when it began, when it ended, and what it answered.
+
+strace is run with the options of `traced.py`: a line begins with the number of the process (-f), all strings are in hex and whole
+(-xx, -s), and descriptors have the path of their file (-y). So no byte of a string can be taken for a part of the line.
+
+A call is one line, or two where lines of others stand between its begin and its end: `write(.. <unfinished ...>` and
+`<... write resumed>) = 5`. Of a text that isn't such a line, or that is cut off, nothing is made: it is refused with its line.
+"""
+import re
+from collections import deque
+from dataclasses import dataclass, field
+
+HEX = r"(?:\\x[0-9a-f]{2})*"
+HEAD = re.compile(r"(\d{1,10}) +(.*)", re.S)
+CALL = re.compile(r"(\w+)\(")
+RESUMED = re.compile(r"<\.\.\. (\w+) resumed>")
+ENDED = re.compile(r"\+\+\+ (?:exited with \d+|killed by \w+(?: \(core dumped\))?) \+\+\+")
+SUPERSEDED = re.compile(r"\+\+\+ superseded by execve in pid (\d{1,10}) \+\+\+")
+TOLD = re.compile(r"--- .* ---|\[ Process PID=\d+ runs in \w+ mode\. \]")
+UNFINISHED = " <unfinished ...>"
+# A string, the path of a descriptor, a remark, a bracket, a comma, and what stands between these.
+TOKEN = re.compile(rf'"{HEX}"(?:\.\.\.)?|<{HEX}>(?:\(deleted\))?|/\*.*?\*/|[()\[\]{{}}]|,|[^"<>/()\[\]{{}},]+|[<>/]')
+RESULT = re.compile(rf"\) += (0x[0-9a-f]{{1,16}}|-?\d{{1,20}}|\?)(?:<({HEX})>(?:\(deleted\))?)?(?: ([A-Z]\w*) \(.*\))?((?: .*)?)", re.S)
+NAMED = re.compile(rf"(?<![\w\\])(\d{{1,10}}|AT_FDCWD)<({HEX})>(\(deleted\))?")
+STRING = re.compile(rf'"({HEX})"(\.\.\.)?')
+# The most characters of a line, and of one that is shown.
+LINE, SHOWN = 1 << 29, 300
+
+
+class Refused(Exception):
+    """Why there is no log."""
+
+
+@dataclass
+class Call:
+    """A call: its words as strace wrote them, and what it answered, once it has ended."""
+
+    process: int
+    name: str
+    text: str
+    line: int
+    words: list = field(default_factory=list)
+    # the answer, or nothing where it never came; the error; the path of the descriptor that was answered
+    result: int | None = None
+    error: str | None = None
+    path: bytes | None = None
+    rest: str = ""
+    whole: bool = False
+
+    def number(self, at):
+        """The number that a word is."""
+        found = re.match(r"0x[0-9a-f]{1,16}(?![\w.])|-?\d{1,20}(?![\w.])", self.word(at))
+        if not found:
+            raise Refused(f"{self}: {shown(self.word(at))[:40]} is no number")
+        return number(found[0])
+
+    def word(self, at):
+        if at >= len(self.words):
+            raise Refused(f"{self}: it has too few words")
+        return self.words[at]
+
+    def data(self, at):
+        """The bytes of the string that a word is, all of them."""
+        return string(self.word(at), self)
+
+    def pieces(self, at):
+        """The bytes of the vectors that a word lists."""
+        text = self.word(at)
+        if not re.fullmatch(rf'\[(?:\{{iov_base=(?:"{HEX}"|NULL|0x[0-9a-f]+), iov_len=\d+\}}(?:, )?)*\]', text):
+            raise Refused(f"{self}: its vectors aren't whole")
+        found = re.findall(rf'iov_base=("{HEX}"|NULL|0x[0-9a-f]+), iov_len=(\d+)', text)
+        if any(it[0] != '"' and length != "0" for it, length in found):
+            raise Refused(f"{self}: its vectors can't be read")
+        return b"".join(unhexed(it[1:-1]) for it, _ in found if it[0] == '"')
+
+    def failed(self):
+        """Whether it ended without having done anything."""
+        return self.error is not None
+
+    def __str__(self):
+        return f"calls:{self.line}: {shown(f'{self.process} {self.text}')}"
+
+
+def number(text):
+    return int(text, 16 if text.startswith("0x") else 10)
+
+
+def unhexed(text):
+    return bytes.fromhex(text.replace("\\x", ""))
+
+
+def hexed(data):
+    """Bytes as strace writes them."""
+    return "".join(f"\\x{it:02x}" for it in data)
+
+
+def string(text, call):
+    found = STRING.fullmatch(text)
+    if not found:
+        raise Refused(f"{call}: {text[:40]} is no string in hex")
+    if found[2]:
+        raise Refused(f"{call}: strace cut its string off")
+    return unhexed(found[1])
+
+
+def shown(text):
+    """A line of strace, short and with its strings as text."""
+    if len(text) > 40 * SHOWN:
+        text = re.sub(rf'("{HEX[:-1]}{{0,64}})[^"]*"', r'\1"..', text)
+
+    def plain(found):
+        read = unhexed(found[0]).decode("latin-1")
+        return "".join(it if it.isprintable() and it.isascii() else "." for it in read)
+
+    text = re.sub(r"(?:\\x[0-9a-f]{2})+", plain, text)
+    text = "".join(it if it.isprintable() else "?" for it in text)
+    return text if len(text) <= SHOWN else f"{text[:SHOWN]}.."
+
+
+def words_of(text, call, begun):
+    """The words between the brackets of a call, and what stands from the closing bracket on. `begun` is said of a call that
+    hasn't ended, in whose text there is no such bracket."""
+    at, depth, words, word = len(call.name) + 1, 1, [], []
+    while at < len(text):
+        found = TOKEN.match(text, at)
+        if not found:
+            raise Refused(f"{call}: it can't be read from {text[at : at + 20]!r} on")
+        token = found[0]
+        if token in ")]}":
+            depth -= 1
+            if depth == 0:
+                words.append("".join(word).strip())
+                return words, text[at:]
+        depth += token in "([{"
+        if token == "," and depth == 1:
+            words.append("".join(word).strip())
+            word = []
+        else:
+            word.append(token)
+        at = found.end()
+    if not begun:
+        raise Refused(f"{call}: it has no end")
+    return [*words, "".join(word).strip()], ""
+
+
+def read(call, begun):
+    """Reads the words of a call and what it answered."""
+    call.words, rest = words_of(call.text, call, begun)
+    if begun:
+        return call
+    found = RESULT.fullmatch(rest)
+    if not found:
+        raise Refused(f"{call}: what it answered can't be read")
+    value, path, call.error, call.rest = found.groups()
+    call.result = None if value == "?" else number(value)
+    call.path = None if path is None else unhexed(path)
+    call.whole = True
+    if call.result == -1 and not call.error:
+        raise Refused(f"{call}: it failed, and its error can't be read")
+    return call
+
+
+def lines_of(stream):
+    """The lines of strace's text with their numbers."""
+    number = 0
+    while line := stream.readline(LINE + 1):
+        number += 1
+        if not line.endswith(b"\n"):
+            raise Refused(f"calls:{number}: the line is cut off")
+        if not line.isascii():
+            raise Refused(f"calls:{number}: it isn't of strace -xx")
+        yield number, line[:-1].decode()
+
+
+def happened(stream, wanted):
+    """What happened, in its order: pairs of `begin` or `end` and a call; `over` and a call that its process never ended;
+    `gone` and the number of a process; `moved` and the numbers of two, of which the first goes on as the second.
+
+    Only calls with the names of `wanted` are read, the others have no words. A call that nothing came between begins and ends
+    at its line."""
+    begun = {}
+    for line, text in lines_of(stream):
+        head = HEAD.fullmatch(text)
+        if not head:
+            raise Refused(f"calls:{line}: no line of strace: {shown(text)}")
+        process, text = int(head[1]), head[2]
+        if text.startswith("+++"):
+            superseded = SUPERSEDED.fullmatch(text)
+            if superseded:
+                other = int(superseded[1])
+                if other in begun:
+                    begun[process] = begun.pop(other)
+                    begun[process].process = process
+                yield "moved", (other, process)
+            elif ENDED.fullmatch(text):
+                if process in begun:
+                    yield "over", begun.pop(process)
+                yield "gone", process
+            else:
+                raise Refused(f"calls:{line}: no line of strace: {shown(text)}")
+            continue
+        if TOLD.fullmatch(text):
+            continue
+        resumed = RESUMED.match(text)
+        if resumed:
+            call = begun.pop(process, None)
+            if call is None or call.name != resumed[1]:
+                raise Refused(f"calls:{line}: it ends a call that didn't begin: {shown(text)}")
+            call.text += text[resumed.end() :]
+        else:
+            found = CALL.match(text)
+            if not found:
+                raise Refused(f"calls:{line}: no line of strace: {shown(text)}")
+            if process in begun:
+                raise Refused(f"calls:{line}: process {process} begins a call within another: {shown(text)}")
+            call = Call(process, found[1], text, line)
+        unfinished = call.text.endswith(UNFINISHED)
+        if unfinished:
+            call.text = call.text[: -len(UNFINISHED)]
+            begun[process] = call
+        if call.name in wanted:
+            read(call, unfinished)
+        if not resumed:
+            yield "begin", call
+        if not unfinished:
+            yield "end", call
+    if begun:
+        raise Refused(f"{next(iter(begun.values()))}: the text ends within this call")
+
+
+@dataclass(frozen=True)
+class Made:
+    """How a process came to be."""
+
+    parent: int
+    flags: str
+    line: int
+
+
+MAKES = ("clone", "clone3", "fork", "vfork")
+
+
+def child_of(call):
+    """The number that strace has for the process that a call made."""
+    inside = re.search(r"/\* (\d+) in strace's PID NS \*/", call.rest)
+    return int(inside[1]) if inside else call.result
+
+
+def makers(stream):
+    """Which process made which: of each number of a process the calls that made one of it, in their order."""
+    found = {}
+    for kind, call in happened(stream, MAKES):
+        if kind == "end" and call.name in MAKES and call.result and not call.failed():
+            flags = call.text if call.name.startswith("clone") else call.name
+            found.setdefault(child_of(call), deque()).append(Made(call.process, flags, call.line))
+    return found
+
+
+def named(text):
+    """The descriptors that a line names: number, path, whether its file is unlinked."""
+    return [(it[0], unhexed(it[1]), bool(it[2])) for it in NAMED.findall(text)]

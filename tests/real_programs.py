@@ -1,0 +1,289 @@
+#!/usr/bin/env python3
+"""Records databases, gives each crash image to them, and says what was found: the table of docs/RECOVERY.md. By hand.
+
+    python3 tests/real_programs.py FOLDER [KERNEL]
+
+FOLDER is made, and keeps the recordings: what is there is taken as it is, so that a run may be gone on with. KERNEL is as in
+tests/record.py: with it the same databases are recorded in a guest too, on ext4.
+
+Of each row the program makes three commits, each acknowledged by a mark. Each image, with as many marks, is laid out, and opened
+by the program itself. It is `broken` where that fails, where its own check finds something, or where a commit is there in part.
+A commit is `lost` where fewer are there than marks before the cut. The images are those of tests/model.py, and `crashbpf images`
+has to count as many. Equal images with as many marks are judged once. One image of each row is judged by crashbpf-files too,
+which has to say the same.
+
+It wants strace, sqlite3, liblmdb-dev, a C compiler, and the built program; with KERNEL what `guest` wants, and e2fsprogs.
+Prints a row for each: the entries of its log, how many writes are lost at most, by write, how many images that gives and how many
+of them differ, and how many are broken or lack a commit. At most two writes are lost, or one where two give more than 1,500 images.
+"""
+import functools
+import hashlib
+import os
+import re
+import shutil
+import subprocess
+import sys
+import tempfile
+from concurrent.futures import ThreadPoolExecutor
+from dataclasses import dataclass
+from pathlib import Path
+
+sys.dont_write_bytecode = True
+
+from model import Run
+from notation import MARK, SECTOR, TOP
+from rows.recording import entries_of
+
+RECORD = TOP / "examples/record"
+GUEST = TOP / "examples/recording/guest"
+PROGRAM = TOP / "crates/crashbpf/out/crashbpf"
+sys.path.insert(0, str(RECORD))
+import layout
+
+COMMITS = (1, 2, 3)
+# The most images of a row that loses two writes at once.
+MOST = 1500
+TABLES = "CREATE TABLE t (n, text); CREATE TABLE u (n); INSERT INTO t VALUES (0, hex(zeroblob(300))); INSERT INTO u VALUES (0);"
+ASKED = "PRAGMA integrity_check; SELECT (SELECT count(*) FROM t), (SELECT max(n) FROM t), (SELECT n FROM u)"
+PATH = f"{os.environ['PATH']}:/usr/sbin:/sbin"
+
+
+def sh(text, folder, **environment):
+    return subprocess.run(["sh", "-c", text], cwd=folder, capture_output=True, text=True, errors="replace", env={**os.environ, "PATH": PATH, **environment})
+
+
+def ran(words, folder):
+    """Runs a program that judges, for at most twenty seconds."""
+    try:
+        return subprocess.run(words, cwd=folder, capture_output=True, text=True, errors="replace", timeout=20)
+    except subprocess.TimeoutExpired:
+        return subprocess.CompletedProcess(words, 124, "", "")
+
+
+def sqlite_words(journal, synchronous):
+    """The words of sqlite3 that make three commits, each of two tables, in one connection."""
+    words = ['".filectrl persist_wal 1"', f'"PRAGMA synchronous = {synchronous}; PRAGMA journal_mode = {journal};"', '".shell mark begin"']
+    for it in COMMITS:
+        words.append(f'"BEGIN; INSERT INTO t VALUES ({it}, hex(randomblob(300))); UPDATE u SET n = {it}; COMMIT;"')
+        words.append(f'".shell mark commit-{it}"')
+    return f"sqlite3 $FILES/db {' '.join(words)}"
+
+
+def sqlite_base(folder, journal):
+    """A database that was used with such a journal, with room for what is to come."""
+    more = "INSERT INTO t SELECT 9, hex(zeroblob(300)) FROM (VALUES (1), (2), (3)); DELETE FROM t WHERE n = 9;"
+    done = sh(f"sqlite3 db 'PRAGMA journal_mode = {journal}; {TABLES} {more}'", folder)
+    if done.returncode:
+        sys.exit(f"sqlite3: {done.stderr}")
+
+
+def sqlite_found(folder):
+    """How many commits a database has, or what is broken."""
+    done = ran(["sqlite3", "db", ASKED], folder)
+    lines = done.stdout.splitlines()
+    found = re.fullmatch(r"(\d+)\|(\d+)\|(\d+)", lines[-1]) if lines else None
+    if done.returncode or lines[0] != "ok" or not found:
+        return f"status {done.returncode}: {' '.join(lines[:2])} {done.stderr.strip()}"[:100]
+    count, most, told = (int(it) for it in found.groups())
+    return most if count == most + 1 and told == most else f"{count} rows up to {most}, and the other table says {told}"
+
+
+def lmdb_found(folder):
+    done = ran([os.environ["LMDB"], "read", "."], folder)
+    return int(done.stdout) - 4 if done.returncode == 0 and done.stdout.strip().isdigit() else f"status {done.returncode}: {done.stdout.strip()}"[:100]
+
+
+def lmdb_base(folder, _):
+    done = sh(f"{os.environ['LMDB']} write . safe 0 4 && rm lock.mdb", folder)
+    if done.returncode:
+        sys.exit(f"lmdb: {done.stdout}")
+
+
+# Two files: records, and how many of them there are. The five lines sync the records, or the other file in their place.
+LINES = """\
+import os
+data, index = (os.open(os.environ["FILES"] + it, os.O_RDWR | os.O_CREAT) for it in ("/data", "/index"))
+for number in (1, 2, 3):
+    os.pwrite(data, bytes([number]) * 512, 512 * number)
+    os.fsync({which})
+    os.pwrite(index, bytes([number]), 0)
+    os.fsync(index)
+    os.system("mark commit-%d" % number)
+"""
+
+
+def lines_found(folder):
+    data, index = (Path(folder, it).read_bytes() for it in ("data", "index"))
+    whole = all(data[512 * it : 512 * it + 512] == bytes([it]) * 512 for it in range(1, index[0] + 1))
+    return index[0] if whole else f"{index[0]} records, of which one isn't there"
+
+
+@dataclass(frozen=True)
+class Row:
+    """A program that is recorded: what it is called, its base, its command, what is skipped, how its files are judged."""
+
+    name: str
+    base: object
+    kind: str
+    command: str
+    skip: str | None
+    found: object
+
+
+def rows():
+    """What is recorded by strace."""
+    for journal in ("PERSIST", "WAL"):
+        for synchronous in ("OFF", "NORMAL", "FULL"):
+            command = sqlite_words(journal, synchronous)
+            yield Row(f"SQLite {journal} {synchronous}", sqlite_base, journal, command, "db-shm" if journal == "WAL" else None, sqlite_found)
+    for flags in ("safe", "NOMETASYNC", "NOSYNC", "WRITEMAP"):
+        yield Row(f"LMDB {flags}", lmdb_base, flags, f"exec $LMDB write $FILES {flags} 4 3", "lock.mdb", lmdb_found)
+    for name, which in (("five lines", "data"), ("five lines that sync the other file", "index")):
+        yield Row(name, None, "", f"exec {sys.executable} -c '{LINES.format(which=which)}'", None, lines_found)
+
+
+GUESTS = [("DELETE", "OFF"), ("DELETE", "FULL"), ("DELETE", "EXTRA"), ("PERSIST", "FULL"), ("WAL", "NORMAL"), ("WAL", "FULL"), ("PERSIST", "OFF")]
+
+
+class Judge:
+    """What a program says of images, each once."""
+
+    def __init__(self, found, lay):
+        self.found, self.lay, self.known = found, lay, {}
+
+    def verdict(self, content):
+        with tempfile.TemporaryDirectory() as folder:
+            self.lay(content, folder)
+            return self.found(folder)
+
+    def judge(self, run):
+        """How many images a run has, how many differ, how many are broken, and in how many a commit is lost."""
+        keys, contents = [], {}
+        written = sorted({number for it in run.recorded for number in range(it.sector, it.sector + it.count)})
+        run.parts_over = functools.cache(run.parts_over)
+        whole = run.base.ljust(SECTOR * run.sectors, b"\0")
+        for image in run.images():
+            parts = [(number, image.sector(number)) for number in written]
+            key = hashlib.sha256(b"".join(it for _, it in parts)).digest()
+            marks = sum(1 for it in run.recorded[: image.cut] if it.flags & MARK and it.text.startswith(b"commit-"))
+            keys.append((key, marks))
+            if key not in self.known and key not in contents:
+                content = bytearray(whole)
+                for number, it in parts:
+                    content[SECTOR * number : SECTOR * (number + 1)] = it
+                contents[key] = bytes(content)
+        with ThreadPoolExecutor(8) as pool:
+            self.known.update(zip(contents, pool.map(self.verdict, contents.values())))
+        verdicts = [(self.known[key], marks) for key, marks in keys]
+        broken = [it for it, _ in verdicts if isinstance(it, str)]
+        lost = [it for it, marks in verdicts if not isinstance(it, str) and it < marks]
+        for text in sorted(set(broken))[:3]:
+            print(f"    broken: {text}", file=sys.stderr)
+        return len(keys), len(set(keys)), len(broken), len(lost)
+
+
+def counted(log, run):
+    """How many images crashbpf counts."""
+    done = subprocess.run([PROGRAM, "images", log, *run.options().removesuffix(" --base base").split()], capture_output=True, text=True)
+    found = re.search(r"(?m)^total (\d+)$", done.stdout)
+    if not found:
+        sys.exit(f"crashbpf images: {done.stderr}")
+    return int(found[1])
+
+
+def judged(name, log, base, sectors, judge):
+    """Prints the row of a recording."""
+    entries = entries_of(Path(log).read_bytes())
+    before = Path(base).read_bytes() if base and Path(base).exists() else b""
+    first = next((at for at, it in enumerate(entries) if it.text == b"begin"), None)
+    runs = [Run(entries, sectors=sectors, base=before, first=first, by="write", bound=it) for it in (1, 2)]
+    run = runs[counted(log, runs[1]) <= MOST]
+    count, (images, *rest) = counted(log, run), judge.judge(run)
+    if count != images:
+        sys.exit(f"{name}: crashbpf counts {count} images, and the model {images}")
+    print("| {} | {} | {} | {} ({}) | {} | {} |".format(name, len(entries), run.bound, images, *rest), flush=True)
+
+
+def traced(folder, row):
+    """Records a row by strace, and judges it."""
+    out, base = folder / row.name.replace(" ", "_"), folder / f"{row.name.replace(' ', '_')}.base"
+    if not (out / "writes.log").exists():
+        shutil.rmtree(out, ignore_errors=True)
+        if row.base:
+            shutil.rmtree(base, ignore_errors=True)
+            base.mkdir()
+            row.base(base, row.kind)
+        options = [*(["--base", base] if row.base else []), *(["--skip", row.skip] if row.skip else [])]
+        done = subprocess.run([RECORD / "crashbpf-record", *options, out, "--", "sh", "-c", row.command], capture_output=True, text=True)
+        if done.returncode:
+            print(f"| {row.name} | refused: {done.stderr.strip().splitlines()[-1]} |", flush=True)
+            return
+    found, sectors = layout.read_map((out / "files.txt").read_text())
+
+    def lay(content, room):
+        for it in found:
+            Path(room, os.fsdecode(it.name)).write_bytes(content[SECTOR * it.first :][: it.length])
+
+    judge = Judge(row.found, lay)
+    judged(row.name, out / "writes.log", out / "base.img", sectors, judge)
+    by_files(out, row, judge, sectors)
+
+
+def by_files(out, row, judge, sectors):
+    """Wants crashbpf-files to run a program on the same files."""
+    entries = entries_of((out / "writes.log").read_bytes())
+    base = (out / "base.img").read_bytes() if (out / "base.img").exists() else b""
+    image = list(Run(entries, sectors=sectors, base=base, bound=0).images())[-1].content()
+    (out / "image").write_bytes(image)
+    done = subprocess.run([RECORD / "crashbpf-files", out / "files.txt", out / "image", "--", "sh", "-c", "cat *"], capture_output=True)
+    with tempfile.TemporaryDirectory() as room:
+        judge.lay(image, room)
+        wanted = b"".join(it.read_bytes() for it in sorted(Path(room).iterdir()))
+    if (done.returncode, done.stdout) != (0, wanted):
+        sys.exit(f"{row.name}: crashbpf-files lays out other files")
+
+
+def in_guest(folder, kernel, journal, synchronous):
+    """Records SQLite in a guest, and judges it."""
+    name = f"{journal}_{synchronous}"
+    out, base, script = folder / f"guest_{name}", folder / f"guest_{name}.img", folder / f"guest_{name}.sh"
+    if not (out / "writes.log").exists():
+        shutil.rmtree(out, ignore_errors=True)
+        with tempfile.TemporaryDirectory() as room:
+            sqlite_base(room, journal)
+            done = sh(f"truncate -s 8M {base} && mkfs.ext4 -q -F -E nodiscard -d {room} {base}", folder)
+        if done.returncode:
+            sys.exit(f"mkfs.ext4: {done.stderr}")
+        script.write_text(f"mount $DEVICE /mnt || exit 1\nexport FILES=/mnt\n{sqlite_words(journal, synchronous)} || exit 1\numount /mnt\n")
+        environment = {**os.environ, "PATH": PATH, "COMMANDS": "sqlite3", "BASE": str(base)}
+        done = subprocess.run([GUEST, kernel, "16384", out, script], env=environment, capture_output=True, text=True)
+        if done.returncode:
+            print(f"| guest: SQLite {journal} {synchronous} | {done.stderr.strip()} |", flush=True)
+            return
+
+    def lay(content, room):
+        Path(room, "image").write_bytes(content)
+        sh("e2fsck -fy image; for it in db db-journal db-wal; do debugfs -R \"stat /$it\" image 2>&1 | grep -q Inode: && debugfs -R \"dump /$it $it\" image; done; rm image", room)
+
+    judged(f"guest: SQLite {journal} {synchronous}", out / "writes.log", base, 16384, Judge(sqlite_found, lay))
+
+
+def main(words):
+    folder = Path(words[0]).resolve()
+    folder.mkdir(exist_ok=True)
+    os.environ["LMDB"] = str(folder / "lmdb")
+    done = sh(f"cc -O1 -w -o lmdb {TOP / 'tests/programs/lmdb.c'} -llmdb", folder)
+    if done.returncode:
+        sys.exit(f"cc: {done.stderr}")
+    chosen = words[2] if len(words) > 2 else ""
+    for row in rows():
+        if chosen in row.name:
+            traced(folder, row)
+    if words[1:] and words[1]:
+        for journal, synchronous in GUESTS:
+            if chosen in f"{journal} {synchronous}":
+                in_guest(folder, Path(words[1]).resolve(), journal, synchronous)
+
+
+if __name__ == "__main__":
+    sys.exit(main(sys.argv[1:]))
