@@ -23,7 +23,7 @@ What is printed is a line for each row that failed, with what differed, and last
     N passed, M failed
 
 alone on its line. The status is 1 if any row failed, or if the program isn't there, else 0. All rows together take
-about a minute of processor time.
+about a minute and a half of processor time.
 
 Where the rows stand
     rows/worked.py      the worked examples of the documents, and the reports of small logs
