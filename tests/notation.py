@@ -124,6 +124,20 @@ class Folder:
 
 
 @dataclass(frozen=True)
+class Link:
+    """Stands for a symbolic link to that name."""
+
+    to: str
+
+
+@dataclass(frozen=True)
+class Locked:
+    """Stands for a file of this content that nobody may read."""
+
+    content: bytes
+
+
+@dataclass(frozen=True)
 class Hole:
     """Stands for a file of so many zeros that take no room on a disk, `end` after them, and `begun` before them."""
 
@@ -167,7 +181,8 @@ class Row:
     name    what the row is about; no two rows have the same
     words   the words behind the program's name, separated by spaces; within a word the pictures of control characters stand
             for these (`␛`, `␊`, `␡`), and `␣` for a space
-    files   the files that lie in the folder of the run, by name: bytes, a text, an Assembly, a Folder, a Hole, a Long
+    files   the files that lie in the folder of the run, by name: bytes, a text, an Assembly, a Folder, a Link, a Locked, a Hole, a
+            Long
     out     standard output, as bytes, text or Long, or Something
     status  the status
     error   standard error without its notes: its one line without the newline; "" for nothing; Something; Printable;
@@ -198,6 +213,35 @@ class Row:
 
     def word_list(self):
         return [it.translate(PICTURED) for it in self.words.split()]
+
+
+@dataclass(frozen=True)
+class Pair:
+    """Two runs of the program that differ in one option, and where what they print differs.
+
+    name    as of a row
+    words   the words of the first run
+    other   the words of the second run
+    files   the files of both, as of a row
+    statuses    the statuses of the two runs
+    differ  where they differ: "out" or "error" for any byte of an output, "out 2" for its second line, "out -1" for its last
+            one. Outputs that aren't named are the same
+    holds   texts that the outputs of the second run hold, and those of the first don't
+    """
+
+    name: str
+    words: str
+    other: str
+    files: dict
+    statuses: tuple = (0, 0)
+    differ: tuple = ("out",)
+    holds: tuple = ()
+    to: str = "pipe"
+    seconds: int = SECONDS
+
+    def runs(self):
+        """The two runs as rows of which nothing is expected."""
+        return [Row(self.name, words, self.files, to=self.to, seconds=self.seconds) for words in (self.words, self.other)]
 
 
 def files(entries, *programs):

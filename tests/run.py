@@ -12,23 +12,28 @@ and what is expected: standard output byte by byte, the status, and standard err
 of a refusal, with notes behind it, and before it what `--progress` says. A row fails where one of these differs, or where
 the run takes too long (`seconds` of notation.py). Rows run side by side.
 
+A pair is two runs that differ in one option, and the places where what they print has to differ.
+
 Behind the rows it looks whether docs/crashbpf.1 is what the program's help says, whether the tables of docs/REPORT.md that
-tools/report_tables.py makes are those of the help and the sources, and whether text on a page has enough contrast.
+tools/report_tables.py makes are those of the help and the sources, and whether text on a page has enough contrast. It also looks
+whether each command and each option of the help is tried: by a pair, and by an output that can't be written.
 
 What is printed is a line for each row that failed, with what differed, and last
 
     N passed, M failed
 
 alone on its line. The status is 1 if any row failed, or if the program isn't there, else 0. All rows together take
-about a minute of processor time.
+about a minute and a half of processor time.
 
 Where the rows stand
     rows/worked.py      the worked examples of the documents, and the reports of small logs
     rows/examples.py    the designs of examples/: their logs, checkers and reports
     rows/options.py     which options find what: the table of docs/CRASH-MODEL.md, cell by cell
+    rows/each_option.py each option of each command: two runs that differ in it, and where what they print differs
     rows/checkers.py    the checkers in C of examples/: what the verifier says of them, and what they answer
     rows/commands.py    each command, faults of the command line, the order of refusals
-    rows/process.py     files that can't be read, a standard output that can't be written
+    rows/process.py     files that can't be read, a standard output that can't be written, by each command
+    rows/inputs.py      each file of each command: a byte too long, as long as may be, unreadable, of another kind
     rows/surroundings.py    files without end, and pipes
     rows/logs.py        logs that lie: cut ones, each cause of a refusal
     rows/raw_logs.py    raw logs, and what is imported of them
@@ -88,8 +93,13 @@ from pathlib import Path
 
 sys.dont_write_bytecode = True
 
+TOOLS = Path(__file__).resolve().parent.parent / "tools"
+sys.path.append(str(TOOLS))
+
+import completions
 import contrast
-from notation import SECONDS, TOP, Assembly, Folder, Hole, Long, Printable, Something
+import man_page
+from notation import SECONDS, TOP, Assembly, Folder, Hole, Link, Locked, Long, Pair, Printable, Something
 from rows import (
     answers,
     arithmetic,
@@ -99,11 +109,13 @@ from rows import (
     checkers,
     commands,
     cure,
+    each_option,
     encodings,
     examples,
     flushes,
     footprints,
     guards,
+    inputs,
     joining,
     large,
     limits,
@@ -132,9 +144,11 @@ TABLES = [
     worked,
     examples,
     options,
+    each_option,
     checkers,
     commands,
     process,
+    inputs,
     surroundings,
     logs,
     raw_logs,
@@ -210,6 +224,11 @@ def put(folder, name, content, assembler):
     path = Path(folder, name)
     if isinstance(content, Folder):
         path.mkdir()
+    elif isinstance(content, Link):
+        path.symlink_to(content.to)
+    elif isinstance(content, Locked):
+        path.write_bytes(content.content)
+        path.chmod(0)
     elif isinstance(content, Hole):
         with open(path, "wb") as file:
             file.write(content.begun)
@@ -312,12 +331,39 @@ def differences(row, done, out):
     return found
 
 
+def line_of(output, number):
+    """A line of an output, from 1, or from the end where the number is negative; None where there is none."""
+    lines = output.splitlines()
+    at = number - 1 if number > 0 else number
+    return lines[at] if -len(lines) <= at < len(lines) else None
+
+
+def pair_differences(pair, runs):
+    """What two runs did otherwise than their pair says."""
+    found = [f"status {run.returncode}, wanted {status}" for run, status in zip(runs, pair.statuses) if run.returncode != status]
+    outputs = {"out": [run.stdout for run in runs], "error": [run.stderr for run in runs]}
+    for place in pair.differ:
+        what, _, line = place.partition(" ")
+        first, second = [line_of(it, int(line)) if line else it for it in outputs[what]]
+        found += [f"{place} is the same: '{shortened(first or b'')}'"] if first == second else []
+    for what, (first, second) in outputs.items():
+        if first != second and what not in [it.partition(" ")[0] for it in pair.differ]:
+            found.append(f"{what} {first_difference(second, first)} of the first run")
+    first, second = [b"".join(both) for both in zip(*outputs.values())]
+    for text in map(str.encode, pair.holds):
+        found += [f"'{shortened(text)}' is in the first run"] if text in first else []
+        found += [] if text in second else [f"'{shortened(text)}' isn't in the second run"]
+    return found
+
+
 def run_row(program, row, assembler):
-    """The differences of one row."""
+    """The differences of one row, or of one pair."""
     with tempfile.TemporaryDirectory() as folder:
         try:
             for name, content in row.files.items():
                 put(folder, name, content, assembler)
+            if isinstance(row, Pair):
+                return pair_differences(row, [run_command(program, it, folder) for it in row.runs()])
             done = run_command(program, row, folder)
         except subprocess.TimeoutExpired as error:
             return [f"no end within {error.timeout} seconds"]
@@ -350,6 +396,15 @@ def tables_differ():
     return looked.stdout.splitlines() or looked.stderr.splitlines()[-1:]
 
 
+def help_lacks(program):
+    """Which commands and options of the program's own help no row tries that each is tried by."""
+    made = subprocess.run([sys.executable, TOP / "tools/man_page.py", program], capture_output=True, timeout=SECONDS, text=True)
+    commands = completions.commands_in(man_page.helps_in(made.stdout)) if made.returncode == 0 else []
+    if not commands:
+        return ["the program's help has no commands"]
+    return each_option.lacking(commands) + process.lacking(commands)
+
+
 def main(words):
     program = str(Path(words[0] if words else TOP / "crates/crashbpf/out/crashbpf").resolve())
     if not os.access(program, os.X_OK):
@@ -360,8 +415,8 @@ def main(words):
         results = list(pool.map(lambda row: run_row(program, row, assembler), rows))
     names = [row.name for row in rows]
     names += ["the man page is the program's help", "the tables of docs/REPORT.md are those of the help and the sources"]
-    names += ["text on a page has enough contrast"]
-    results += [manual_differs(program), tables_differ(), contrast.too_low()]
+    names += ["text on a page has enough contrast", "each option and each command of the help is tried"]
+    results += [manual_differs(program), tables_differ(), contrast.too_low(), help_lacks(program)]
     failed = 0
     for name, found in zip(names, results):
         if found:

@@ -24,7 +24,7 @@ FILES = {
 #![tactic(auto)]
 
 ghost use Rattle.std.specs.Prelude.{◌≡◌, ◌+◌, ◌<◌};
-ghost use Rattle.low.specs.Doubles.{double};
+ghost use Rattle.low.specs.Doubles.{double, triple};
 
 mod laws;
 
@@ -57,6 +57,14 @@ pub fn next(n: u32) -> u32
     n + MORE
 }
 
+/// A number three times.
+pub fn three_times(n: u32) -> u32
+    requires { n < 1000 }
+    ensures { result ≡ triple n }
+{
+    3 * n
+}
+
 /// Some number.
 pub fn some(n: u32) -> u32
 {
@@ -83,17 +91,25 @@ pub fn twice_three()
 }
 """,
     "crates/low/specs/Lib.antt": "pub mod Doubles\n",
-    "crates/low/specs/Doubles.antt": """use Rattle.std.specs.Prelude.{ℕ, ◌+◌}
+    "crates/low/specs/Doubles.antt": """use Rattle.std.specs.Prelude.{ℕ, ◌+◌, ◌*◌}
 
 -- a number twice
 abbrev pub double : ℕ → ℕ
 double n = n + n
+
+-- a number three times
+abbrev pub triple : ℕ → ℕ
+triple n = 3 * n
 """,
     "crates/high/src/lib.rt": """//! A number above.
 #![tactic(auto)]
 
 ghost use Rattle.std.specs.Prelude.{◌≡◌, ◌+◌};
 ghost use Rattle.low.specs.Doubles.{double};
+
+mod laws;
+
+pub use laws::three_times_three;
 
 /// Ten twice.
 pub fn twenty() -> u32
@@ -102,9 +118,25 @@ pub fn twenty() -> u32
     low::twice(10)
 }
 """,
+    "crates/high/src/laws.rt": """//! What holds of numbers three times.
+
+ghost use Rattle.std.specs.Prelude.{◌≡◌};
+ghost use Rattle.low.specs.Doubles.{triple};
+
+/// Three times three is nine. Does nothing.
+#[tactic(auto)]
+pub fn three_times_three()
+    ensures { triple 3 ≡ 9 }
+{
+}
+""",
 }
 
 LIB, DEFINED = "src/lib.rt", "specs/Doubles.antt"
+# An edit of code whose law stands in the crate above.
+ABOVE = "# law: crates/high/src/laws.rt"
+TRIPLED = [f"file: {LIB}", "old: 3 * n", "new: 3 * n + 1"]
+
 # The edits: what the tool is to say of each, the words that are to stand in the line, and its lines.
 EDITS = {
     "low/adds_one": ("refused", "src/lib.rt:15", [f"file: {LIB}", "old: n + n", "new: n + n + 1"]),
@@ -122,6 +154,13 @@ EDITS = {
     "low/both_alike": ("refused", "src/laws.rt:", ["# law: src/laws.rt", f"file: {LIB}", "old: n + n", "new: n + n + 1", f"file: {DEFINED}", "old: double n = n + n", "new: double n = n + n + 1"]),
     "low/another_law": ("refused elsewhere", "src/laws.rt:", ["# law: src/lib.rt", f"file: {LIB}", "old: n + n", "new: n + n + 1", f"file: {DEFINED}", "old: double n = n + n", "new: double n = n + n + 1"]),
     "low/both_without_law": ("bad edit", "law", [f"file: {LIB}", "old: n + n", "new: n + n + 1", f"file: {DEFINED}", "old: double n = n + n", "new: double n = n + n + 1"]),
+    "low/law_by_name": ("refused", "src/laws.rt:", ["# law: src/laws.rt laws::twice_three", f"file: {LIB}", "old: n + n", "new: n + n + 1", f"file: {DEFINED}", "old: double n = n + n", "new: double n = n + n + 1"]),
+    "low/law_above": ("refused", "crates/high/src/laws.rt:", [ABOVE, *TRIPLED, f"file: {DEFINED}", "old: triple n = 3 * n", "new: triple n = 3 * n + 1"]),
+    "low/law_above_holds": ("not refused", "crates/high is still proved", [ABOVE, f"file: {LIB}", "old: 3 * n", "new: n * 3", f"file: {DEFINED}", "old: triple n = 3 * n", "new: triple n = n * 3"]),
+    "low/lower_crate_refuses": ("refused elsewhere", "crates/low", [ABOVE, f"file: {LIB}", "old: 3 * n", "new: 3 * n + 2", f"file: {DEFINED}", "old: triple n = 3 * n", "new: triple n = 3 * n + 1"]),
+    "low/two_crates_below_none": ("bad edit", "stand on", [ABOVE, "file: crates/high/src/lib.rt", "old: low::twice(10)", "new: low::twice(11)", *TRIPLED]),
+    "low/no_such_law": ("bad edit", "# law: crates", ["# law: crates/high/src/none.rt", *TRIPLED, f"file: {DEFINED}", "old: triple n = 3 * n", "new: triple n = 3 * n + 1"]),
+    "low/law_above_of_code_alone": ("bad edit", "both code and a definition", [ABOVE, *TRIPLED]),
     "high/eleven": ("refused", "src/lib.rt:", [f"file: {LIB}", "old: low::twice(10)", "new: low::twice(11)"]),
 }
 

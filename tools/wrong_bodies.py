@@ -16,9 +16,17 @@ functions are, without an edit. RT_JOBS is N where none is given.
 
 An edit has the form that `rt must-fail` reads; it may name several files. Edits that change different functions are tried in
 one check. An edit is refused where an error of the proof lies in a function that it changes; where it changes a constant, in
-one that names the constant. An edit of a definition names the law above it, in a line `# law: proofs/FILE` or
-`# law: src/FILE`, and is refused where an error lies there, in a check of the whole crate that tries nothing else. None of
-these counts:
+one that names the constant.
+
+An edit of a definition names the law above it, in a line `# law: proofs/FILE` or `# law: src/FILE`, and is refused where an error
+lies there, in a check that tries nothing else. That is one of the whole crate, or where a function stands behind the file, as in
+`# law: proofs/Sets.antt laws::cuts_are_set`, of that function and of those that the edit changes. With a law an edit may also
+change proofs below it, in other files than the law's, so that what lies between is proved.
+
+The law may stand in another crate above, in a line `# law: crates/NAME/proofs/FILE`, and an edit with such a law may name files of
+several crates, as in `file: crates/NAME/src/FILE`. It is tried in a copy of the repository: each crate from those that it changes
+up to the law's is proved with it, and then the law's crate is checked. Where one of those below isn't proved, it is refused
+elsewhere. That takes as long as proving these crates from nothing, so such edits are tried by hand. None of these counts:
 
 - that another function or law isn't proved;
 - that a proof names what the edit took away, or that a cast or an overflow alone isn't proved;
@@ -62,7 +70,9 @@ LOST = "a proof names what the edit took away"
 LOST_NAME = re.compile(r"has no field|is not in scope|has no `|was not admitted")
 LIMIT = re.compile(r"ran out of (stack|the (steps|memory))|outgrew the memory limit|stopped at the step limit")
 TYPE = re.compile(r"\b(?:struct|enum)\s+(\w+)")
-LAW = re.compile(r"(?m)^# law: ((?:src|proofs)/\S+)$")
+LAW = re.compile(r"(?m)^# law: ((?:src|proofs)/\S+)(?: (\S+))?$")
+LAW_ABOVE = re.compile(r"(?m)^# law: crates/(\w+)/((?:src|proofs)/\S+)$")
+FILE_OF = re.compile(r"file: crates/(\w+)/(.*)")
 
 
 def module_of(path):
@@ -207,7 +217,7 @@ class Edit:
     def __init__(self, rt, crate, sources, file):
         self.label = f"{crate.name}/{os.path.basename(file)[: -len('.edit')]}"
         texts, self.bad = rt.read_edit(file, crate.folder)
-        self.lines, self.functions, self.law, self.is_of_clauses = {}, [], None, False
+        self.lines, self.functions, self.law, self.law_function, self.is_of_clauses = {}, [], None, None, False
         for path, text in (texts or {}).items():
             with open(f"{crate.folder}/{path}", encoding="utf-8") as it:
                 was = it.read().split("\n")
@@ -221,16 +231,17 @@ class Edit:
     def place(self, file, folder):
         """Notes the law of an edit of a definition, and returns what is bad in the edit, or None."""
         parts = {path.split("/")[0] for path, _ in self.lines}
-        if "proofs" in parts or self.is_of_clauses:
+        with open(file, encoding="utf-8") as it:
+            named = LAW.search(it.read()) if "specs" in parts else None
+        changes_law = named and any(path == named[1] for path, _ in self.lines)
+        if "proofs" in parts and (not named or changes_law) or self.is_of_clauses:
             return "it changes a proof or a contract"
         if not self.functions:
             return "it changes no function, and no constant that a function names"
         if "specs" in parts:
-            with open(file, encoding="utf-8") as it:
-                named = LAW.search(it.read())
             if not named or not os.path.isfile(f"{folder}/{named[1]}"):
                 return "it changes a definition, and has no line '# law: FILE' with a file of proofs/ or src/"
-            self.law = named[1]
+            self.law, self.law_function = named[1], named[2]
         return None
 
     def meets(self, other):
@@ -276,6 +287,107 @@ def rounds_of(edits):
     return rounds
 
 
+class EditAbove(Edit):
+    """An edit whose law stands in another crate, with the texts of the files that it changes, by crate."""
+
+    def __init__(self, rt, crates, crate, file):
+        self.label = label_of(crate, file)
+        self.functions, self.texts = [], {}
+        with open(file, encoding="utf-8") as it:
+            text = it.read()
+        named = LAW_ABOVE.search(text)
+        self.above, self.law = crates.get(named[1]) if named else None, named and named[2]
+        self.bad = self.read(rt, crates, crate, text) or self.placed(crates)
+
+    def read(self, rt, crates, crate, text):
+        """Reads what it changes, crate by crate, and returns what is bad in it, or None."""
+        for name, part in parts_of(crate.name, text).items():
+            if name not in crates:
+                return f"there is no crate {name}"
+            with tempfile.NamedTemporaryFile("w", encoding="utf-8", suffix=".edit") as it:
+                it.write(part)
+                it.flush()
+                self.texts[name], bad = rt.read_edit(it.name, crates[name].folder)
+            if bad:
+                return bad
+        return None
+
+    def placed(self, crates):
+        """Returns what is bad in its law and in the crates that it changes, or None."""
+        if not self.above or not os.path.isfile(f"{self.above.folder}/{self.law}"):
+            return "it has no line '# law: crates/NAME/FILE' with a file of proofs/ or src/"
+        below = {it.name for it in self.above.below()}
+        if not self.texts or not self.texts.keys() <= below:
+            return "its law's crate doesn't stand on all crates that it changes"
+        paths = [path for texts in self.texts.values() for path in texts]
+        if not any(it.startswith("src/") for it in paths) or not any(it.startswith("specs/") for it in paths):
+            return "it doesn't change both code and a definition"
+        return None
+
+    def write(self, crates):
+        """Writes what it changes into the crates at hand."""
+        for name, texts in self.texts.items():
+            for path, text in texts.items():
+                with open(f"{crates[name].folder}/{path}", "w", encoding="utf-8") as it:
+                    it.write(text)
+
+    def between(self, above):
+        """Returns the crates from those that it changes up to the one of its law, the lowest first."""
+        changed = lambda crate: crate.name in self.texts or any(it.name in self.texts for it in crate.below())
+        return sorted([it for it in above.below() if changed(it)], key=lambda it: len(it.below()))
+
+
+def parts_of(own, text):
+    """Returns the text of an edit of several crates by crate; a file of no named crate is one of its own."""
+    parts, name = {}, own
+    for line in text.split("\n"):
+        found = FILE_OF.fullmatch(line)
+        if line.startswith("file: "):
+            name, line = (found[1], f"file: {found[2]}") if found else (own, line)
+        if not line.startswith("#"):
+            parts[name] = parts.get(name, "") + line + "\n"
+    return {name: part for name, part in parts.items() if part.strip()}
+
+
+def is_above(file):
+    """Returns whether an edit has a law in another crate, or names files of several."""
+    with open(file, encoding="utf-8") as it:
+        text = it.read()
+    return bool(LAW_ABOVE.search(text) or any(FILE_OF.fullmatch(line) for line in text.split("\n")))
+
+
+def try_above(rt, edit, tell, left):
+    """Proves the crates below the law of an edit, and looks whether the law is still proved. `left` is the checkout at hand."""
+    if edit.bad:
+        return tell(edit, "bad edit", edit.bad)
+    with copy_of_crates():
+        crates = {it.name: it for it in kit.crates(rt)}
+        above, between = crates[edit.above.name], edit.between(crates[edit.above.name])
+        edit.write(crates)
+        others = {it.name for it in above.below()} - {it.name for it in between}
+        lacking = take_kept.take_all(rt, others, left) if hasattr(rt, "Kept") else others
+        for it in [crates[name] for name in lacking] + between:
+            it.out = sys.stderr
+            if it.build_rlib(["--jobs", "1"], anew=False):
+                return tell(edit, "refused elsewhere", f"crates/{it.name} isn't proved with it")
+        return told_above(rt, above, edit, tell)
+
+
+def told_above(rt, above, edit, tell):
+    """Tells what a check of the law's crate says of an edit."""
+    ran = rt.checked(above, {}, ["--jobs", "1"], None)
+    said = ran.stdout.rstrip("\n").split("\n")
+    why, empty = edit.refusal(said)
+    if ran.returncode == 0:
+        return tell(edit, "not refused", f"crates/{above.name} is still proved")
+    if not NOT_PROVED.match(said[-1]):
+        return tell(edit, "not tried", f"the check of crates/{above.name} ended with status {ran.returncode}")
+    if why:
+        return tell(edit, "refused", f"crates/{above.name}/{why}"[:160])
+    first = next((it for it in said if PLACE.match(it)), said[0])
+    return tell(edit, "not refused" if empty else "refused elsewhere", (empty or f"crates/{above.name}: {first}")[:160])
+
+
 class Trials:
     """The trials of one crate's edits. Those that are quick ask a check for the functions alone that the edits change."""
 
@@ -295,6 +407,7 @@ class Trials:
     def asked(self, edits):
         """Returns the flags by which a check asks for the functions that the edits change, and for nothing else."""
         names = dict.fromkeys(it.called() for edit in edits for it in edit.functions)
+        names.update(dict.fromkeys(edit.law_function for edit in edits if edit.law_function))
         return [word for name in names for word in ("--only", name)]
 
     def ran(self, texts, flags):
@@ -349,7 +462,7 @@ class Trials:
 
     def round(self, edits):
         """Tries edits in one check, and returns those of which it says nothing."""
-        is_whole = not self.is_quick or any(it.law for it in edits)
+        is_whole = not self.is_quick or any(it.law and not it.law_function for it in edits)
         said, status = self.checked(edits, is_whole)
         if len(edits) == 1 and status == "proved" and not is_whole:
             said, status = self.checked(edits, True)
@@ -480,6 +593,10 @@ def tried(rt, parts, lanes, named, left):
             results[edit.label] = result
             print(f"{edit.label}: {result}: {why}", flush=True)
 
+    above = [(crate, it) for crate, files in crates.items() for it in files if is_above(it)]
+    crates = {crate: [it for it in files if not is_above(it)] for crate, files in crates.items()}
+    crates = {crate: files for crate, files in crates.items() if files}
+
     def work(crate):
         sources = Sources(rt, crate)
         Trials(rt, crate, tell, bool(left)).run([Edit(rt, crate, sources, it) for it in crates[crate]])
@@ -489,6 +606,9 @@ def tried(rt, parts, lanes, named, left):
         # The largest first, so that none is left alone at the end.
         for it in [pool.submit(work, crate) for crate in sorted(crates, key=lambda it: -it.count(rb"\n"))]:
             it.result()
+        named = {it.name: it for it in kit.crates(rt)} if above else {}
+        for crate, file in above:
+            try_above(rt, EditAbove(rt, named, crate, file), tell, left or os.getcwd())
     used = resource.getrusage(resource.RUSAGE_CHILDREN)
     refused = sum(it == "refused" for it in results.values())
     print(f"{(used.ru_utime + used.ru_stime) / 60:.1f} minutes of processor time")

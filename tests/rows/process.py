@@ -1,6 +1,7 @@
 """The process itself: files that can't be read, and a standard output that can't be written."""
 from model import Checker, Run, explored, one, zero
 from notation import LIMITED, F, Folder, Long, Printable, Row, W, code, files, program, refused, report
+from parts_model import part
 
 GOOD = program("mov64 r0, 0; exit")
 BAD = program("mov64 r0, 1; exit")
@@ -93,6 +94,10 @@ WRITTEN = [
 
 UNWRITABLE = "crashbpf: standard output can't be written"
 
+# The text of a part that is a whole run.
+SMALL = Run(LOG, 4)
+WHOLE_PART = part(SMALL, [Checker("slots 2 budget 2", one)], 0, sum(1 for _image in SMALL.images()), 5).encode()
+
 
 def unwritten(what, words, content):
     """The same run with each kind of standard output that takes nothing."""
@@ -116,7 +121,24 @@ UNWRITTEN = [
     *unwritten("asm", "asm s", {"s": "exit\n"}),
     *unwritten("list", "list p", {"p": code("9500000000000000")}),
     *unwritten("help", "--help", {}),
+    *unwritten("the version", "--version", {}),
+    *unwritten("why", "why log p0 --sectors 4", files(LOG, BAD)),
+    *unwritten("a page", "page log p0 --sectors 4", files(LOG, BAD)),
+    *unwritten("log", "log log", files(LOG)),
+    *unwritten("show", "show log 0 --sectors 4", files(LOG)),
+    *unwritten("check", "check p image", {"p": GOOD, "image": bytes(512)}),
+    *unwritten("verify with guards", "verify p --sectors 4 --guards --list", {"p": GOOD}),
+    *unwritten("the first failing image", "explore log p0 --sectors 4 --first", files(LOG, BAD)),
+    *unwritten("a part", "explore log p0 --sectors 4 --images 0..1", files(LOG, BAD)),
+    *unwritten("join", "join t", {"t": WHOLE_PART}),
 ]
+
+
+def lacking(commands):
+    """Which commands of the program's help have no run here whose standard output takes nothing."""
+    run = {row.words.split(" ")[0] for row in UNWRITTEN}
+    return [f"{it.name} has no run in rows/process.py whose output can't be written" for it in commands if it.name not in {*run, "help"}]
+
 
 # A file that takes so many bytes and no more holds exactly the first bytes of the report.
 FIRST_BYTES = Long(lambda: LONG_REPORT.make()[:LIMITED])
