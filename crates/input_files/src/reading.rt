@@ -1,6 +1,7 @@
 //! Reading a file: no more than can be used.
 
 ghost use Rattle.std.specs.Prelude.{ℕ, List, Option, Some, None, true, false, ◌+◌, ◌≡◌, ◌≢◌, ◌≤◌, ◌<◌, ◌++◌, length, nat_le, take, ◌↔◌, option_map, IfOk, IsTrue, OnOk, IfSome, IsSome, if◌then◌else◌};
+ghost use Rattle.std.specs.Fs.{file_type, metadata_len, IsFile};
 ghost use Rattle.std.specs.Io.KnownBytes.{Consumes, IsAtEnd};
 ghost use Rattle.input_files.specs.declared.kind.FileKind.TheVariants as kinds;
 ghost use Rattle.input_files.specs.Contents.{counted_length, long_length, Holds};
@@ -15,7 +16,7 @@ use crate::reach::Reach;
 use crate::source::Source;
 use limits::Limits;
 use std::alloc::Global;
-use std::fs::OpenFile;
+use std::fs::{Metadata, OpenFile};
 use std::io;
 use std::io::{ErrorKind, Read};
 
@@ -365,11 +366,23 @@ fn read_piece<F: Read>(
     }
 }
 
+/// How many bytes a file is said to have by that: as many as it tells, where it is a regular one.
+fn regular_length(metadata: &Metadata) -> Option<u64>
+    ensures regular { IsFile (file_type metadata.now) → result ≡ Some (metadata_len metadata.now) }
+    ensures other { IsSome result → IsFile (file_type metadata.now) }
+{
+    if metadata.is_file() {
+        Some(metadata.len())
+    } else {
+        None
+    }
+}
+
 /// How many bytes a regular file is said to have.
 fn said_length<F: OpenFile>(file: &F) -> Option<u64> {
     match file.metadata() {
-        Ok(metadata) if metadata.is_file() => Some(metadata.len()),
-        _ => None,
+        Ok(metadata) => regular_length(&metadata),
+        Err(_error) => None,
     }
 }
 
