@@ -16,9 +16,21 @@
 //! says how far an exploration is, and the note of how large its report may get, which come before them. Want
 //! of memory is a refusal wherever it is met, and its line is written also where there is no memory for a text.
 //!
-//! No contract can say what a file holds or what standard output takes: this crate is kept as short as
-//! it can be, and its behaviour is shown by runs of the built program.
+//! # What is proved
+//!
+//! `run` performs the command on what was read of its files, and ends by that (`specs/Ending.antt`): with an answer of the command, all of
+//! it written, and its status; or with status 2, where only the first bytes of an answer were written, or where the command is refused
+//! and nothing was. `read_and_run` does so on what `Inputs::read` read for the words: of the files that they name, in their order, and
+//! of the one behind `--base`, within the limits that they ask for. What a file of the system holds and what standard output takes
+//! no contract can say. Nor does one say what stands on standard error. That is shown by runs of the built program.
 #![tactic(auto)]
+
+ghost use Rattle.std.specs.Prelude.{◌≡◌, ◌<◌, length, take, OnOk, OnErr, IfErr};
+ghost use Rattle.std.specs.Io.KnownBytes.{Appends};
+ghost use Rattle.command_line.specs.Words.{limits_asked, sectors_asked};
+ghost use Rattle.commands.specs.Acting.{Answers, RefusesToAct};
+ghost use Rattle.input_files.specs.Reads.{AreInputs};
+ghost use Rattle.crashbpf.specs.Ending.{held_in, Ends, EndsOn};
 
 use base::refusal::Refusal;
 use clap::error::ErrorKind as WordsFault;
@@ -26,11 +38,11 @@ use commands::{
     Facts, Output, Progress, Words, emit, escaped_words, fault_line, lines_of_image, notes_behind,
     notes_beside, perform,
 };
-use input_files::{DeviceSize, Inputs};
+use input_files::{DeviceSize, Inputs, Source};
 use std::alloc::AllocError;
-use std::io::ErrorKind;
+use std::io::{ErrorKind, Write};
 use std::process::ExitCode;
-use std::rt::{Env, Files};
+use std::rt::Env;
 use std::sync::Wait;
 use std::thread::Threads;
 use std::time::Clock;
@@ -48,14 +60,27 @@ const NO_TEXT: &str = "error: the command line is not UTF-8\n";
 /// The line of words that are taken as they are shown, and not as they are.
 const NOT_TAKEN: &str = "error: the command line has a word that is not taken\n";
 
+/// How a command ended.
+#[derive(Drop)]
+struct Ended<W> {
+    /// The status of the process.
+    status: u8,
+    /// Standard output, whatever became of its writes.
+    writer: W,
+}
+
 /// Prints a line on standard error, if it takes it, and answers the status.
-fn print_line<R: Eprint>(rt: &R, line: &str) -> u8 {
+fn print_line<R: Eprint>(rt: &R, line: &str) -> u8
+    ensures { result ≡ 2 }
+{
     rt.eprint(line).ok();
     REFUSED
 }
 
 /// Prints the line of a refusal on standard error, if it takes it, also where there is no memory for its text.
-fn print_refusal<R: AllocGlobal + Eprint>(rt: &R, refusal: &Refusal) -> u8 {
+fn print_refusal<R: AllocGlobal + Eprint>(rt: &R, refusal: &Refusal) -> u8
+    ensures { result ≡ 2 }
+{
     let (number, at) = (refusal.code.number(), refusal.at);
     let printed = match (fault_line(rt.alloc(), refusal), refusal.program) {
         (Ok(line), _) => rt.eprint(str::from_utf8(line.as_slice()).unwrap_or("")),
@@ -75,57 +100,80 @@ fn print_notes<R: Eprint>(rt: &R, notes: Result<String, AllocError>) {
     }
 }
 
+/// Writes an answer, and says whether all of it was written: else how many bytes were.
+fn put_answer<W: Write>(writer: W, answer: &[u8]) -> (Result<(), u64>, W)
+    ensures whole { OnOk result.0 (Appends (W.contents writer) (W.contents result.1) answer.now) }
+    ensures part { IfErr result.0 (λ n. (n < length answer.now) × Appends (W.contents writer) (W.contents result.1) (take n answer.now)) }
+{
+    let mut output = Output::new(writer);
+    let written = emit(&mut output, answer);
+    (written, output.into_writer())
+}
+
 /// Performs a command on the files that were read for it, and ends as it says: with its answer on standard output, or with
 /// the line of its refusal on standard error, and with the notes on it there.
-fn run<R: AllocGlobal + Print + Eprint + Clock + Threads + Wait + Sync>(
+fn run<R: AllocGlobal + Eprint + Clock + Threads + Wait + Sync, W: Write>(
     rt: &R,
     words: &Words,
     inputs: &Inputs,
-) -> u8 {
+    writer: W,
+) -> Ended<W>
+    ensures { Ends (Answers words.now.request (held_in inputs.now)) (RefusesToAct words.now.request (held_in inputs.now)) (W.contents writer) (W.contents result.writer) result.status }
+{
     let files = inputs.contents();
     let progress = Progress::new(rt, words.progress(), lines_of_image(words));
     let exit = perform(rt, rt.alloc(), &progress, words, files, inputs.base());
     progress.end();
     match exit.refusal {
         None => {
-            let mut output = Output::new(io::writer(rt));
-            if emit(&mut output, exit.output.as_slice()).is_err() {
-                return print_line(rt, UNWRITTEN);
+            let (written, writer) = put_answer(writer, exit.output.as_slice());
+            if written.is_err() {
+                let status = print_line(rt, UNWRITTEN);
+                return Ended { status, writer };
             }
             print_notes(rt, notes_beside(rt.alloc(), words, &exit.facts));
+            Ended {
+                status: exit.status,
+                writer,
+            }
         }
         Some(refusal) => {
             let refusal = inputs.refusal(refusal);
-            print_refusal(rt, &refusal);
+            let status = print_refusal(rt, &refusal);
             print_notes(
                 rt,
                 notes_behind(rt.alloc(), words, files, &refusal, &exit.facts),
             );
             rt.eprint(inputs.note(&refusal)).ok();
+            Ended { status, writer }
         }
     }
-    exit.status
 }
 
 /// Reads the files of a command, and performs it.
-fn read_and_run<R: Files + AllocGlobal + Print + Eprint + Clock + Threads + Wait + Sync>(
-    rt: &R,
+fn read_and_run<S: Source + AllocGlobal + Eprint + Clock + Threads + Wait + Sync, W: Write>(
+    rt: &S,
     command: &str,
     words: &Words,
-) -> u8 {
+    writer: W,
+) -> Ended<W>
+    ensures { EndsOn (AreInputs S.named S.File.remaining command.now (sectors_asked words.now.request) (limits_asked words.now.request) words.now.files words.now.base)
+        (λ i. Ends (Answers words.now.request (held_in i)) (RefusesToAct words.now.request (held_in i)) (W.contents writer) (W.contents result.writer) result.status)
+        (W.contents writer) (W.contents result.writer) result.status }
+{
     let size = DeviceSize {
         sectors: words.sectors(),
         limits: words.limits(),
     };
     match Inputs::read(rt, command, words.files(), words.base(), &size) {
-        Ok(inputs) => run(rt, words, &inputs),
+        Ok(inputs) => run(rt, words, &inputs, writer),
         Err(refusal) => {
             let status = print_refusal(rt, &refusal);
             print_notes(
                 rt,
                 notes_behind(rt.alloc(), words, &[], &refusal, &Facts::new()),
             );
-            status
+            Ended { status, writer }
         }
     }
 }
@@ -151,19 +199,27 @@ fn print_fault<R: AllocGlobal + Print + Eprint>(rt: &R, words: &[String]) -> u8 
     }
 }
 
+/// The status behind a text that was to be printed: that of the text, or 2 where it couldn't be.
+fn status_behind<R: Eprint>(rt: &R, printed: io::Result<()>, status: u8) -> u8
+    ensures printed { OnOk printed (result ≡ status) }
+    ensures unprinted { OnErr printed (result ≡ 2) }
+{
+    match printed {
+        Ok(()) => status,
+        Err(_error) => print_line(rt, UNWRITTEN),
+    }
+}
+
 /// Prints the text of a fault of the words, or of the help that they ask for.
 fn print_text<R: AllocGlobal + Print + Eprint>(rt: &R, fault: &clap::Error) -> u8 {
     if fault.kind() == WordsFault::OutOfMemory {
         return print_refusal(rt, &Refusal::of_memory());
     }
-    match fault.print(rt) {
-        Ok(()) => fault.exit_code() as u8,
-        Err(_error) => print_line(rt, UNWRITTEN),
-    }
+    status_behind(rt, fault.print(rt), fault.exit_code() as u8)
 }
 
 /// Performs what the command line asks for.
-fn start<R: Env + Files + AllocGlobal + Print + Eprint + Clock + Threads + Wait + Sync>(
+fn start<R: Env + Source + AllocGlobal + Print + Eprint + Clock + Threads + Wait + Sync>(
     rt: &R,
 ) -> u8 {
     let words = match words_of(rt) {
@@ -173,7 +229,7 @@ fn start<R: Env + Files + AllocGlobal + Print + Eprint + Clock + Threads + Wait 
     };
     let command = words.first().map(|word| word.as_str()).unwrap_or("");
     match Words::of(rt.alloc(), words.as_slice()) {
-        Ok(words) => read_and_run(rt, command, &words),
+        Ok(words) => read_and_run(rt, command, &words, io::writer(rt)).status,
         Err(fault) if fault.kind() == WordsFault::OutOfMemory => print_text(rt, &fault),
         Err(_fault) => print_fault(rt, words.as_slice()),
     }

@@ -1,3 +1,6 @@
+pub mod Contents
+pub mod Counting
+pub mod Files
 pub mod Kept
 pub mod Logs
 pub mod PartTexts

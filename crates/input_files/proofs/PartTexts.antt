@@ -1,11 +1,11 @@
 -- A file that doesn't begin as the text of a part isn't one, and neither are its first bytes; and how far such a file is read.
-use Rattle.std.proofs.Common.{ℕ, zero, suc, ◌≡◌, ◌↔◌, ◌+◌, ◌-◌, ◌++◌, ◌⊎◌, ◌<◌, ◌≤◌, Bool, true, false, min, inl, inr, List, [], ◌∷◌, Option, Some, None, IfSome, IsTrue, length, bytes_eq, codes, take, append-nil, refl, sym, ◌∙◌, ap, subst, arith}
+use Rattle.std.proofs.Common.{ℕ, zero, suc, ◌≡◌, ◌↔◌, ◌-◌, ◌++◌, ◌⊎◌, ◌<◌, ◌≤◌, Bool, true, false, min, inl, inr, List, [], ◌∷◌, Option, Some, None, IfSome, IsTrue, length, bytes_eq, take, append-nil, refl, sym, ◌∙◌, ap, subst, arith}
 use Rattle.std.specs.Io.KnownBytes.{Consumes, IsAtEnd}
 use Rattle.std.proofs.lemmas.Bool.{cases_lt}
 use Rattle.std.proofs.lemmas.Slice.Eq.{bytes_eq-Decides}
 use Rattle.std.proofs.lemmas.List.{take_all}
 use Rattle.report.specs.Part.{span_text}
-use Rattle.join.specs.Text.{PartValue, IsPart, part_text}
+use Rattle.join.specs.Text.{PartValue, part_text}
 use Rattle.join.specs.Reading.{NoPartText}
 use Rattle.input_files.specs.PartTexts.{part_line, beginning, part_read, PartIsReadAlike}
 

@@ -1,13 +1,11 @@
 -- The text that stands for a long program (docs/REPORT.md, How files are read).
-use Rattle.std.specs.Prelude.{ℕ, ◌≡◌, ◌==◌, ◌+◌, ◌/◌, ◌%◌, ◌<◌, ◌≤◌, nat_le, if◌then◌else◌, List, length, take}
+use Rattle.std.specs.Prelude.{ℕ, ◌≡◌, ◌==◌, ◌+◌, ◌/◌, ◌%◌, ◌<◌, ◌≤◌, nat_le, if◌then◌else◌, List, length, slice_get, take, Option, None, Some}
 use Rattle.base.specs.declared.causes.CodeCause.{CodeCause}
 use Rattle.base.specs.declared.causes.CodeCause.TheVariants as code
 use Rattle.base.specs.declared.refusal.Cause.{Cause}
 use Rattle.base.specs.declared.refusal.Cause.TheVariants.{Code}
+use Rattle.base.specs.declared.refusal.Refusal.{Refusal}
 use Rattle.bpf_isa.specs.Program.{FirstFault, HasNoFault}
-use Rattle.input_files.specs.declared.kind.FileKind.{FileKind}
-use Rattle.input_files.specs.declared.kind.FileKind.TheVariants as kind
-use Rattle.input_files.specs.Kinds.{read_of}
 
 -- how many bytes stand for a program of that many
 abbrev pub standing : ℕ → ℕ
@@ -35,13 +33,16 @@ LongIsRefusedAlike = (bytes : List ℕ) → 32768 < length bytes → (c : CodeCa
 abbrev pub LongIsRefused : Type 0
 LongIsRefused = (bytes : List ℕ) → 32768 < length bytes → HasNoFault (stand_in bytes) → ⊥
 
--- a file of that kind is kept by its first bytes, whatever they are
-abbrev pub IsKeptFirst : FileKind → Type 0
-IsKeptFirst kind.Raw = ⊥
-IsKeptFirst (kind.Part left) = ⊥
-IsKeptFirst k = Unit {0}
+-- the place among the files of the one that a refusal is of: the program of that number stands behind a log
+abbrev pub file_of : Option ℕ → ℕ
+file_of None = 0
+file_of (Some program) = program + 1
 
--- how many bytes are kept of such a file of that kind and length
-abbrev pub kept_of : FileKind → ℕ → ℕ
-kept_of kind.Program n = standing n
-kept_of k n = read_of k
+-- the refusal of the whole file of that length, of that of what stands for it
+abbrev pub refusal_of_length : Refusal → Option ℕ → Refusal
+refusal_of_length r None = r
+refusal_of_length r (Some n) = record { code = r.code; at = place_in_whole r.code r.at n; program = r.program }
+
+-- the refusal of the whole files of these lengths
+abbrev pub refusal_of_files : List ℕ → Refusal → Refusal
+refusal_of_files lengths r = refusal_of_length r (slice_get lengths (file_of r.program))

@@ -1,14 +1,23 @@
 //! The files of a command, as far as they were read.
 
+ghost use Rattle.std.specs.Prelude.{ℕ, ◌≡◌, ◌≢◌, ◌+◌, ◌++◌, List, [], ◌∷◌, length, map, option_map, string_bytes, Option, Some, None, Ok, false, IfOk, IfErr, OnOk, IfSome};
+ghost use Rattle.std.specs.IoError.{error_kind};
+ghost use Rattle.std.specs.declared.io.ErrorKind.TheVariants.{OutOfMemory};
+ghost use Rattle.input_files.specs.Kinds.{are_too_many};
+ghost use Rattle.input_files.specs.Reads.{AreInputs, AreRead, HoldsBase, IsBase, IsRead};
+ghost use Rattle.input_files.specs.Standing.{refusal_of_files};
+
 use crate::cut::refusal_of_whole;
 use crate::kind::{FileKind, MOST_OF_PARTS, MOST_PARTS, are_too_many, too_long_at, unreadable_at};
 use crate::reading::{Piece, read_base, read_file};
+use crate::source::Source;
 use base::causes::RequestCause;
 use base::refusal::{Cause, Refusal};
 use limits::Limits;
 use std::alloc::AllocError;
+use std::io;
 use std::io::ErrorKind;
-use std::rt::Files;
+use std::marker::Model;
 
 /// The size of the device that a command asks for.
 #[derive(Clone, Copy)]
@@ -31,20 +40,46 @@ pub struct Inputs {
     base: Option<Option<Vec<u8>>>,
 }
 
+impl Model for Inputs {
+    ghost use Rattle.std.specs.Prelude.{map, option_map};
+    ghost use Rattle.input_files.specs.Reads.{InputsValue};
+
+    ghost Value = { InputsValue };
+
+    ghost view = { λ i. record { files = map (option_map (λ f. f.items)) i.held.items; lengths = i.lengths.items; base = option_map (option_map (λ f. f.items)) i.base } };
+}
+
+/// What was read, or nothing where it couldn't be.
+///
+/// # Errors
+///
+/// There was no memory for it.
+fn readable<T>(read: io::Result<T>) -> Result<Option<T>, AllocError>
+    ensures read { IfOk read (λ x. result ≡ Ok (Some x)) }
+    ensures unread { IfErr read (λ e. IfOk result (λ found. (found ≡ None) × (error_kind e ≢ OutOfMemory))) }
+{
+    match read {
+        Ok(found) => Ok(Some(found)),
+        Err(error) if error.kind() == ErrorKind::OutOfMemory => Err(AllocError),
+        Err(_error) => Ok(None),
+    }
+}
+
 /// What a file holds; nothing, of no length, where it can't be read.
 ///
 /// # Errors
 ///
 /// There is no memory for it.
-fn read_one<R: Files + AllocGlobal>(
-    rt: &R,
+fn read_one<S: Source + AllocGlobal>(
+    rt: &S,
     name: &str,
     kind: FileKind,
-) -> Result<Piece, AllocError> {
-    match read_file(rt, name, kind) {
-        Ok(piece) => Ok(piece),
-        Err(error) if error.kind() == ErrorKind::OutOfMemory => Err(AllocError),
-        Err(_error) => Ok(Piece {
+) -> Result<Piece, AllocError>
+    ensures { IfOk result (λ piece. IsRead S.named S.File.remaining name.now kind (option_map (λ b. b.items) piece.bytes) piece.length) }
+{
+    match readable(read_file(rt, name, kind))? {
+        Some(piece) => Ok(piece),
+        None => Ok(Piece {
             bytes: None,
             length: 0,
         }),
@@ -56,16 +91,14 @@ fn read_one<R: Files + AllocGlobal>(
 /// # Errors
 ///
 /// There is no memory for it.
-fn base_of<R: Files + AllocGlobal>(
-    rt: &R,
+fn base_of<S: Source + AllocGlobal>(
+    rt: &S,
     name: &str,
     size: &DeviceSize,
-) -> Result<Option<Vec<u8>>, AllocError> {
-    match read_base(rt, name, size.sectors, size.limits) {
-        Ok(bytes) => Ok(Some(bytes)),
-        Err(error) if error.kind() == ErrorKind::OutOfMemory => Err(AllocError),
-        Err(_error) => Ok(None),
-    }
+) -> Result<Option<Vec<u8>>, AllocError>
+    ensures { IfOk result (λ held. IfSome held (λ bytes. IsBase S.named S.File.remaining size.now.sectors size.now.limits name.now bytes.items)) }
+{
+    readable(read_base(rt, name, size.sectors, size.limits))
 }
 
 impl Inputs {
@@ -77,66 +110,115 @@ impl Inputs {
     ///
     /// There is no memory for one of them: 11, 26, 35, 66 or 72 at 0; or for the list of them: 72 at 0. They are more parts than can
     /// be joined: 65 at 4096. Of parts the first that can't be read, 14, or with which they have more than 1 GiB together, 65.
-    pub fn read<R: Files + AllocGlobal>(
-        rt: &R,
+    pub fn read<S: Source + AllocGlobal>(
+        rt: &S,
         command: &str,
         names: &[String],
         base: Option<&str>,
         size: &DeviceSize,
-    ) -> Result<Inputs, Refusal> {
+    ) -> Result<Inputs, Refusal>
+        ensures count { OnOk result (are_too_many command.now (length names.now) ≡ false) }
+        ensures read { IfOk result (AreInputs S.named S.File.remaining command.now size.now.sectors size.now.limits (map string_bytes names.now) (option_map (λ name. name.now) base.entry)) }
+    {
+        if are_too_many(command, names.len()) {
+            return Err(too_long_at(MOST_PARTS));
+        }
         let mut inputs = Inputs {
             held: Vec::new(rt.alloc()),
             lengths: Vec::new(rt.alloc()),
             base: None,
         };
-        if are_too_many(command, names.len()) {
-            return Err(too_long_at(MOST_PARTS));
-        }
         let mut left = MOST_OF_PARTS;
-        for (place, name) in names.iter().enumerate() {
-            let kind = FileKind::of(command, place, size.limits, left);
-            let Ok(piece) = read_one(rt, name.as_str(), kind) else {
-                return Err(kind.of_memory(place));
-            };
-            if kind.is_part() && piece.bytes.is_none() {
-                return Err(unreadable_at(place));
-            }
-            let Some(rest) = kind.left_behind(piece.length) else {
-                return Err(too_long_at(place));
-            };
+        for name in names {
+            let rest = inputs.read_next(rt, command, name.as_str(), size.limits, left)?;
             left = rest;
-            if inputs.push(piece).is_err() {
-                return Err(Refusal::of_memory());
-            }
         }
-        if let Some(name) = base {
-            let Ok(held) = base_of(rt, name, size) else {
-                return Err(FileKind::Log(size.limits).of_memory(0));
-            };
-            inputs.base = Some(held);
-        }
+        inputs.read_base(rt, base, size)?;
         Ok(inputs)
     }
 
+    /// Reads one more file of the command of that name. So many bytes are left for parts; answers how many are left behind it.
+    fn read_next<S: Source + AllocGlobal>(
+        &mut self,
+        rt: &S,
+        command: &str,
+        name: &str,
+        limits: Limits,
+        left: u32,
+    ) -> Result<u32, Refusal>
+        ensures files { (names : List (List ℕ)) → length names ≡ length self.old.lengths → AreRead command.now limits (IsRead S.named S.File.remaining) left names self.old.files self.old.lengths
+            → IfOk result (λ rest. AreRead command.now limits (IsRead S.named S.File.remaining) rest (names ++ (name.now ∷ [])) self.new.files self.new.lengths) }
+        ensures count { OnOk result (length self.new.lengths ≡ length self.old.lengths + 1) }
+        ensures base { OnOk result (self.new.base ≡ self.old.base) }
+    {
+        let place = self.lengths.len();
+        let kind = FileKind::of(command, place, limits, left);
+        let Ok(piece) = read_one(rt, name, kind) else {
+            return Err(kind.of_memory(place));
+        };
+        if kind.is_part() && piece.bytes.is_none() {
+            return Err(unreadable_at(place));
+        }
+        let Some(rest) = kind.left_behind(piece.length) else {
+            return Err(too_long_at(place));
+        };
+        if self.push(piece).is_err() {
+            return Err(Refusal::of_memory());
+        }
+        Ok(rest)
+    }
+
+    /// Reads what a device of that size held before, where a file is named for it.
+    fn read_base<S: Source + AllocGlobal>(
+        &mut self,
+        rt: &S,
+        base: Option<&str>,
+        size: &DeviceSize,
+    ) -> Result<(), Refusal>
+        ensures base { OnOk result (HoldsBase (IsBase S.named S.File.remaining size.now.sectors size.now.limits) (option_map (λ name. name.now) base.entry) self.new.base) }
+        ensures files { OnOk result (self.new.files ≡ self.old.files) }
+        ensures lengths { OnOk result (self.new.lengths ≡ self.old.lengths) }
+    {
+        let Some(name) = base else {
+            self.base = None;
+            return Ok(());
+        };
+        let Ok(held) = base_of(rt, name, size) else {
+            return Err(FileKind::Log(size.limits).of_memory(0));
+        };
+        self.base = Some(held);
+        Ok(())
+    }
+
     /// Appends what was read of one more file.
-    fn push(&mut self, piece: Piece) -> Result<(), AllocError> {
+    fn push(&mut self, piece: Piece) -> Result<(), AllocError>
+        ensures files { OnOk result (self.new.files ≡ self.old.files ++ (option_map (λ b. b.items) piece.bytes ∷ [])) }
+        ensures lengths { OnOk result (self.new.lengths ≡ self.old.lengths ++ (piece.length ∷ [])) }
+        ensures base { OnOk result (self.new.base ≡ self.old.base) }
+    {
         self.lengths.push(piece.length)?;
         self.held.push(piece.bytes)?;
         Ok(())
     }
 
     /// What each file holds, or what stands for it; none where it can't be read.
-    pub fn contents(&self) -> &[Option<Vec<u8>>] {
+    pub fn contents(&self) -> &[Option<Vec<u8>>]
+        ensures { map (option_map (λ f. f.items)) result.now ≡ self.now.files }
+    {
         self.held.as_slice()
     }
 
     /// What the file holds that is named for what the device held before; none where it can't be read.
-    pub fn base(&self) -> &Option<Option<Vec<u8>>> {
+    pub fn base(&self) -> &Option<Option<Vec<u8>>>
+        ensures { option_map (option_map (λ f. f.items)) result.now ≡ self.now.base }
+    {
         &self.base
     }
 
     /// The refusal of the files, made of that of what stands for them.
-    pub fn refusal(&self, refusal: Refusal) -> Refusal {
+    pub fn refusal(&self, refusal: Refusal) -> Refusal
+        ensures { result ≡ refusal_of_files self.now.lengths refusal }
+    {
         let place = match refusal.program {
             Some(number) => usize::from(number) + 1,
             None => 0,

@@ -1,6 +1,7 @@
 //! What holds of the bytes that are read of a log or a raw log, and of those that stand for a long program. The functions do nothing;
 //! each contract is a theorem.
 
+ghost use Rattle.input_files.specs.Contents.{ShortIsKeptWhole, LongIsNeverRun};
 ghost use Rattle.input_files.specs.Logs.{ShortLogIsRead, LongLogIsRefusedAlike};
 ghost use Rattle.input_files.specs.PartTexts.{PartIsReadAlike};
 ghost use Rattle.input_files.specs.RawLogs.{RawIsImportedAlike, RawIsRefusedAlike, NoMoreIsRead, ReadRawIsShort};
@@ -55,4 +56,14 @@ pub fn long_is_refused_alike()
 /// What stands for a longer one has a fault.
 pub fn long_is_refused()
     ensures { LongIsRefused }
+{}
+
+/// A program of at most 4,096 slots is kept whole, whatever its file is said to have.
+pub fn short_is_kept_whole()
+    ensures { ShortIsKeptWhole }
+{}
+
+/// What is kept of a longer one has a fault, whatever its file is said to have.
+pub fn long_is_never_run()
+    ensures { LongIsNeverRun }
 {}

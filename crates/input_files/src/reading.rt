@@ -1,22 +1,24 @@
 //! Reading a file: no more than can be used.
 
-ghost use Rattle.std.specs.Prelude.{ℕ, List, Option, true, false, ◌+◌, ◌≡◌, ◌≢◌, ◌≤◌, ◌<◌, ◌++◌, length, take, ◌↔◌, IfOk, IsTrue, OnOk, IfSome, IsSome};
+ghost use Rattle.std.specs.Prelude.{ℕ, List, Option, Some, None, true, false, ◌+◌, ◌≡◌, ◌≢◌, ◌≤◌, ◌<◌, ◌++◌, length, nat_le, take, ◌↔◌, option_map, IfOk, IsTrue, OnOk, IfSome, IsSome, if◌then◌else◌};
+ghost use Rattle.std.specs.Fs.{file_type, metadata_len, IsFile};
 ghost use Rattle.std.specs.Io.KnownBytes.{Consumes, IsAtEnd};
 ghost use Rattle.input_files.specs.declared.kind.FileKind.TheVariants as kinds;
-ghost use Rattle.input_files.specs.Kinds.{base_read, read_of};
+ghost use Rattle.input_files.specs.Contents.{counted_length, long_length, Holds};
+ghost use Rattle.input_files.specs.Kinds.{base_read};
 ghost use Rattle.input_files.specs.PartTexts.{part_line, part_read};
 ghost use Rattle.input_files.specs.RawLogs.{read_raw};
-ghost use Rattle.input_files.specs.Standing.{IsKeptFirst, kept_of};
+ghost use Rattle.input_files.specs.Reads.{IsBase, IsRead};
 
 use crate::cut::standing_length;
 use crate::kind::FileKind;
 use crate::reach::Reach;
+use crate::source::Source;
 use limits::Limits;
 use std::alloc::Global;
-use std::fs::OpenFile;
+use std::fs::{Metadata, OpenFile};
+use std::io;
 use std::io::{ErrorKind, Read};
-use std::rt::Files;
-use std::{fs, io};
 
 /// How many bytes of a program are counted that isn't a regular file: 64 MiB.
 const MOST_COUNTED: u64 = 67_108_864;
@@ -170,6 +172,72 @@ fn read_part_text<F: Read>(
     Ok(bytes)
 }
 
+/// How many more bytes a file has, counted until they are more than `most`.
+fn count_rest<F: Read>(alloc: Global, file: &mut F, most: u64) -> io::Result<u64>
+    requires { most ≤ 67108864 }
+    ensures all { IfOk result (λ n. n ≤ most → IfSome (F.remaining file.old) (λ rest. n ≡ length rest)) }
+    ensures some { IfOk result (λ n. IfSome (F.remaining file.old) (λ rest. n ≤ length rest)) }
+    ensures bound { IfOk result (λ n. n ≤ most + 65536) }
+{
+    let mut counted = 0u64;
+    for _turn in 0..u64::MAX {
+        if counted > most {
+            return Ok(counted);
+        }
+        let mut part = Vec::new(alloc);
+        let is_end = read_part(alloc, file, &mut part, COUNTED_AT_ONCE)?;
+        counted += part.len() as u64;
+        if is_end {
+            return Ok(counted);
+        }
+    }
+    Err(io::Error::from(ErrorKind::Interrupted))
+}
+
+/// The length that is told of a program of which so many bytes are counted.
+fn counted_length(counted: u64) -> u64
+    ensures { result ≡ counted_length counted }
+{
+    if counted > MOST_COUNTED {
+        UNCOUNTED
+    } else {
+        counted
+    }
+}
+
+/// How many bytes a program has of which as many were read as there may be: those that are behind are counted.
+fn count_all<F: Read>(alloc: Global, file: &mut F, read: usize) -> io::Result<u64>
+    requires { read ≡ 32776 }
+    ensures no_fewer { IfOk result (λ n. read ≤ n) }
+    ensures told { IfOk result (λ n. IfSome (F.remaining file.old) (λ rest. n ≡ counted_length (read + length rest))) }
+{
+    let rest = count_rest(alloc, file, MOST_COUNTED - read as u64)?;
+    Ok(counted_length(read as u64 + rest))
+}
+
+/// How many bytes a program has of which `read` were read: those, if there may be no more; else what a regular file is
+/// said to have; else as many as are counted.
+fn program_length<F: Read>(
+    alloc: Global,
+    file: &mut F,
+    read: usize,
+    said: Option<u64>,
+) -> io::Result<u64>
+    requires { read ≤ 32776 }
+    ensures whole { IfOk result (λ n. read < 32776 → n ≡ read) }
+    ensures no_fewer { IfOk result (λ n. read ≤ n) }
+    ensures said { (m : ℕ) → said ≡ Some m → read ≤ m → 32776 ≤ read → IfOk result (λ n. n ≡ m) }
+    ensures told { IfOk result (λ n. 32776 ≤ read → IfSome (F.remaining file.old) (λ rest. n ≡ long_length said (read + length rest))) }
+{
+    if read < FileKind::Program.most_read() {
+        return Ok(read as u64);
+    }
+    match said {
+        Some(length) if length >= read as u64 => Ok(length),
+        _ => count_all(alloc, file, read),
+    }
+}
+
 /// Reads the text of a part.
 fn read_part_piece<F: Read>(
     alloc: Global,
@@ -177,8 +245,7 @@ fn read_part_piece<F: Read>(
     most: usize,
     expected: usize,
 ) -> io::Result<Piece>
-    ensures kept { IfOk result (λ piece. IfSome piece.bytes (λ bytes. IfSome (F.remaining file.old) (λ xs. bytes.items ≡ part_read most xs))) }
-    ensures length { IfOk result (λ piece. IfSome piece.bytes (λ bytes. piece.length ≡ length bytes.items)) }
+    ensures held { IfOk result (λ piece. IfSome (F.remaining file.old) (λ xs. (piece.length ≡ length (part_read most xs)) × (option_map (λ b. b.items) piece.bytes ≡ Some (part_read most xs)))) }
     ensures some { IfOk result (λ piece. IsSome piece.bytes) }
 {
     let bytes = read_part_text(alloc, file, most, expected)?;
@@ -191,7 +258,7 @@ fn read_part_piece<F: Read>(
 
 /// Reads a raw log.
 fn read_raw_piece<F: Read>(alloc: Global, file: &mut F) -> io::Result<Piece>
-    ensures kept { IfOk result (λ piece. IfSome piece.bytes (λ bytes. IfSome (F.remaining file.old) (λ xs. bytes.items ≡ read_raw xs))) }
+    ensures held { IfOk result (λ piece. IfSome (F.remaining file.old) (λ xs. (piece.length ≡ length (read_raw xs)) × (option_map (λ b. b.items) piece.bytes ≡ Some (read_raw xs)))) }
     ensures some { IfOk result (λ piece. IsSome piece.bytes) }
 {
     let bytes = read_raw(alloc, file)?;
@@ -199,56 +266,6 @@ fn read_raw_piece<F: Read>(alloc: Global, file: &mut F) -> io::Result<Piece>
     Ok(Piece {
         bytes: Some(bytes),
         length,
-    })
-}
-
-/// How many more bytes a file has, counted until they are more than `most`.
-fn count_rest<F: Read>(alloc: Global, file: &mut F, most: u64) -> io::Result<u64> {
-    let mut buffer = Vec::new(alloc);
-    buffer.resize(COUNTED_AT_ONCE, 0)?;
-    let mut counted = 0u64;
-    for _turn in 0..u64::MAX {
-        if counted > most {
-            break;
-        }
-        match file.read(buffer.as_mut_slice()) {
-            Ok(0) => break,
-            Ok(more) => counted = counted.saturating_add(more as u64),
-            Err(error) if error.kind() == ErrorKind::Interrupted => (),
-            Err(error) => return Err(error),
-        }
-    }
-    Ok(counted)
-}
-
-/// How many bytes a program has of which `read` were read: those, if there may be no more; else what a regular file is
-/// said to have; else as many as are counted.
-fn program_length<F: Read>(
-    alloc: Global,
-    file: &mut F,
-    read: usize,
-    said: Option<u64>,
-) -> io::Result<u64>
-    ensures whole { IfOk result (λ n. read < 32776 → n ≡ read) }
-{
-    if read < FileKind::Program.most_read() {
-        return Ok(read as u64);
-    }
-    if let Some(length) = said {
-        if length >= read as u64 {
-            return Ok(length);
-        }
-    }
-    let rest = count_rest(
-        alloc,
-        file,
-        MOST_COUNTED - FileKind::Program.most_read() as u64,
-    )?;
-    let length = (read as u64).saturating_add(rest);
-    Ok(if length > MOST_COUNTED {
-        UNCOUNTED
-    } else {
-        length
     })
 }
 
@@ -268,6 +285,62 @@ fn expected_of(kind: FileKind, said: Option<u64>) -> usize {
     }
 }
 
+/// Reads a program, which is said to have so many bytes.
+fn read_program<F: Read>(alloc: Global, file: &mut F, said: Option<u64>) -> io::Result<Piece>
+    ensures held { IfOk result (λ piece. IfSome (F.remaining file.old) (λ xs. Holds kinds.Program said xs (option_map (λ b. b.items) piece.bytes) piece.length)) }
+    ensures some { IfOk result (λ piece. IsSome piece.bytes) }
+{
+    let mut bytes = Vec::new(alloc);
+    read_on(alloc, file, &mut bytes, FileKind::Program.most_read())?;
+    let length = program_length(alloc, file, bytes.len(), said)?;
+    bytes.truncate(standing_length(length));
+    Ok(Piece {
+        bytes: Some(bytes),
+        length,
+    })
+}
+
+/// An assembly text, or nothing where it has too many bytes.
+fn short_text(bytes: Vec<u8>) -> Option<Vec<u8>>
+    ensures { option_map (λ b. b.items) result ≡ (if nat_le (length bytes.items) 16777216 then Some bytes.items else None) }
+{
+    if bytes.len() <= FileKind::Text.most() {
+        Some(bytes)
+    } else {
+        None
+    }
+}
+
+/// Reads an assembly text.
+fn read_text<F: Read>(alloc: Global, file: &mut F, expected: usize) -> io::Result<Piece>
+    ensures { IfOk result (λ piece. IfSome (F.remaining file.old) (λ xs. Holds kinds.Text None xs (option_map (λ b. b.items) piece.bytes) piece.length)) }
+{
+    let bytes = read_first(alloc, file, FileKind::Text.most_read(), expected)?;
+    let length = bytes.len() as u64;
+    Ok(Piece {
+        bytes: short_text(bytes),
+        length,
+    })
+}
+
+/// Reads the first bytes of a file, up to `most`.
+fn read_whole<F: Read>(
+    alloc: Global,
+    file: &mut F,
+    most: usize,
+    expected: usize,
+) -> io::Result<Piece>
+    ensures held { IfOk result (λ piece. IfSome (F.remaining file.old) (λ xs. (piece.length ≡ length (take most xs)) × (option_map (λ b. b.items) piece.bytes ≡ Some (take most xs)))) }
+    ensures some { IfOk result (λ piece. IsSome piece.bytes) }
+{
+    let bytes = read_first(alloc, file, most, expected)?;
+    let length = bytes.len() as u64;
+    Ok(Piece {
+        bytes: Some(bytes),
+        length,
+    })
+}
+
 /// Reads a file of that kind, which is said to have so many bytes, where it is a regular one. What is kept of it is its
 /// first bytes, all of them where it isn't too long; of a raw log those that its entries need.
 ///
@@ -280,50 +353,36 @@ fn read_piece<F: Read>(
     kind: FileKind,
     said: Option<u64>,
 ) -> io::Result<Piece>
-    ensures kept { IfOk result (λ piece. IsKeptFirst kind → IfSome piece.bytes (λ bytes. IfSome (F.remaining file.old) (λ xs. bytes.items ≡ take (kept_of kind piece.length) xs))) }
-    ensures raw { IfOk result (λ piece. kind ≡ kinds.Raw → IfSome piece.bytes (λ bytes. IfSome (F.remaining file.old) (λ xs. bytes.items ≡ read_raw xs))) }
-    ensures part { (left : ℕ) → kind ≡ kinds.Part left → IfOk result (λ piece. IfSome piece.bytes (λ bytes. IfSome (F.remaining file.old) (λ xs. bytes.items ≡ part_read (left + 1) xs × (piece.length ≡ length bytes.items)))) }
-    ensures whole { IfOk result (λ piece. IfSome (F.remaining file.old) (λ xs. IsKeptFirst kind → length xs < read_of kind → piece.length ≡ length xs)) }
+    ensures held { IfOk result (λ piece. IfSome (F.remaining file.old) (λ xs. Holds kind said xs (option_map (λ b. b.items) piece.bytes) piece.length)) }
     ensures some { IfOk result (λ piece. kind ≢ kinds.Text → IsSome piece.bytes) }
 {
-    let most = kind.most_read();
-    if let FileKind::Raw = kind {
-        return read_raw_piece(alloc, file);
-    }
-    if let FileKind::Part(_) = kind {
-        return read_part_piece(alloc, file, most, expected_of(kind, said));
-    }
-    let mut bytes = read_first(alloc, file, most, expected_of(kind, said))?;
-    let read = bytes.len();
+    let (most, expected) = (kind.most_read(), expected_of(kind, said));
     match kind {
-        FileKind::Log(_) | FileKind::Raw | FileKind::Image(_) | FileKind::Part(_) => Ok(Piece {
-            bytes: Some(bytes),
-            length: read as u64,
-        }),
-        FileKind::Program => {
-            let length = program_length(alloc, file, read, said)?;
-            bytes.truncate(standing_length(length));
-            Ok(Piece {
-                bytes: Some(bytes),
-                length,
-            })
-        }
-        FileKind::Text => Ok(Piece {
-            bytes: if read > kind.most() {
-                None
-            } else {
-                Some(bytes)
-            },
-            length: read as u64,
-        }),
+        FileKind::Raw => read_raw_piece(alloc, file),
+        FileKind::Part(_) => read_part_piece(alloc, file, most, expected),
+        FileKind::Program => read_program(alloc, file, said),
+        FileKind::Text => read_text(alloc, file, expected),
+        FileKind::Log(_) | FileKind::Image(_) => read_whole(alloc, file, most, expected),
+    }
+}
+
+/// How many bytes a file is said to have by that: as many as it tells, where it is a regular one.
+fn regular_length(metadata: &Metadata) -> Option<u64>
+    ensures regular { IsFile (file_type metadata.now) → result ≡ Some (metadata_len metadata.now) }
+    ensures other { IsSome result → IsFile (file_type metadata.now) }
+{
+    if metadata.is_file() {
+        Some(metadata.len())
+    } else {
+        None
     }
 }
 
 /// How many bytes a regular file is said to have.
 fn said_length<F: OpenFile>(file: &F) -> Option<u64> {
     match file.metadata() {
-        Ok(metadata) if metadata.is_file() => Some(metadata.len()),
-        _ => None,
+        Ok(metadata) => regular_length(&metadata),
+        Err(_error) => None,
     }
 }
 
@@ -339,13 +398,15 @@ fn most_of_base(sectors: u64, limits: Limits) -> usize
 /// # Errors
 ///
 /// It can't be read, or there is no memory for it.
-pub(crate) fn read_base<R: Files + AllocGlobal>(
-    rt: &R,
+pub(crate) fn read_base<S: Source + AllocGlobal>(
+    rt: &S,
     name: &str,
     sectors: u64,
     limits: Limits,
-) -> io::Result<Vec<u8>> {
-    let mut file = fs::open(rt, name)?;
+) -> io::Result<Vec<u8>>
+    ensures { IfOk result (λ bytes. IsBase S.named S.File.remaining sectors limits name.now bytes.items) }
+{
+    let mut file = rt.open_named(name)?;
     let said = said_length(&file);
     let most = most_of_base(sectors, limits);
     read_first(rt.alloc(), &mut file, most, expected_length(most, said))
@@ -356,12 +417,15 @@ pub(crate) fn read_base<R: Files + AllocGlobal>(
 /// # Errors
 ///
 /// It can't be read, or there is no memory for it.
-pub(crate) fn read_file<R: Files + AllocGlobal>(
-    rt: &R,
+pub(crate) fn read_file<S: Source + AllocGlobal>(
+    rt: &S,
     name: &str,
     kind: FileKind,
-) -> io::Result<Piece> {
-    let mut file = fs::open(rt, name)?;
+) -> io::Result<Piece>
+    ensures held { IfOk result (λ piece. IsRead S.named S.File.remaining name.now kind (option_map (λ b. b.items) piece.bytes) piece.length) }
+    ensures some { IfOk result (λ piece. kind ≢ kinds.Text → IsSome piece.bytes) }
+{
+    let mut file = rt.open_named(name)?;
     let said = said_length(&file);
     read_piece(rt.alloc(), &mut file, kind, said)
 }

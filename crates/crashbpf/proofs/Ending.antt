@@ -1,0 +1,51 @@
+-- How the process ends.
+use Rattle.std.proofs.Common.{ℕ, ◌≡◌, ◌<◌, Bool, true, false, List, length, take, map, Option, Some, None, Result, Ok, Err, OnOk, IfErr, is_err, refl, sym, subst, ◌∙◌, ap}
+use Rattle.std.specs.Option.{option_map}
+use Rattle.std.specs.Io.KnownBytes.{Appends, Keeps}
+use Rattle.base.specs.declared.refusal.Refusal.{Refusal}
+use Rattle.commands.specs.Acting.{Files, Answers, RefusesToAct, files_of}
+use Rattle.commands.specs.Exits.{Exits}
+use Rattle.input_files.specs.Reads.{InputsValue}
+use Rattle.crashbpf.specs.Ending.{held_in, Ends, answered, refused, unwritten}
+
+-- what the command is given is what was read
+pub given_as_read : {V : Type 0} → (items : V → List ℕ) (named : List (Option V)) (base : Option (Option V)) (inputs : InputsValue) → map (option_map items) named ≡ inputs.files
+    → option_map (option_map items) base ≡ inputs.base → files_of items named base ≡ held_in inputs
+given_as_read items named base inputs files based =
+    ap (λ (fs : List (Option (List ℕ))). record { named = fs; base = option_map (option_map items) base }) files ∙ ap (λ (b : Option (Option (List ℕ))). record { named = inputs.files; base = b }) based
+
+-- the answer, or the refusal, on that
+pub answered_on : (request : _) (given held : Files) (output : List ℕ) (refusal : Option Refusal) (status : ℕ) → Exits request given output refusal status → given ≡ held → refusal ≡ None
+    → Answers request held output status
+answered_on request given held output refusal status exits same none =
+    subst (λ f. Answers request f output status) same (subst (λ r. Exits request given output r status) none exits)
+
+pub refused_on : (request : _) (given held : Files) (output : List ℕ) (refusal : Option Refusal) (status : ℕ) (r : Refusal) → Exits request given output refusal status → given ≡ held → refusal ≡ Some r
+    → RefusesToAct request held r
+refused_on request given held output refusal status r exits same some =
+    subst (λ f. RefusesToAct request f r) same (subst (λ x. Exits request given output x status) some exits).0
+
+-- an answer of which all was written, with its status
+pub ends_answered : {T : Type 0} → (request : _) (held : Files) (before after : Option (List ℕ)) (answer text : List ℕ) (status : ℕ) (written : Result T ℕ) (failed : Bool) → Answers request held answer status → text ≡ answer
+    → failed ≡ is_err written → failed ≡ false → OnOk written (Appends before after text) → Ends (Answers request held) (RefusesToAct request held) before after status
+ends_answered request held before after answer text status (Ok done) failed answers same is none whole =
+    answered text status (subst (λ (a : List ℕ). Answers request held a status) (sym same) answers) whole
+ends_answered request held before after answer text status (Err n) failed answers same is none whole = absurd (let bad : true ≡ false = sym is ∙ none in cc)
+
+-- an answer of which the first bytes alone were written
+pub ends_unwritten : {T : Type 0} → (request : _) (held : Files) (before after : Option (List ℕ)) (answer text : List ℕ) (status last : ℕ) (written : Result T ℕ) (failed : Bool) → Answers request held answer status → text ≡ answer
+    → failed ≡ is_err written → failed ≡ true → IfErr written (λ n. (n < length text) × Appends before after (take n text)) → last ≡ 2
+    → Ends (Answers request held) (RefusesToAct request held) before after last
+ends_unwritten request held before after answer text status last (Ok done) failed answers same is some part two = absurd (let bad : false ≡ true = sym is ∙ some in cc)
+ends_unwritten request held before after answer text status last (Err n) failed answers same is some part two =
+    subst (λ (s : ℕ). Ends (Answers request held) (RefusesToAct request held) before after s) (sym two)
+    (unwritten text status n (subst (λ (a : List ℕ). Answers request held a status) (sym same) answers) part.0 part.1)
+
+-- a refusal, with nothing written
+pub nothing_written : (known : Option (List ℕ)) → Keeps known known
+nothing_written None = tt
+nothing_written (Some xs) = refl
+
+pub ends_refused : (request : _) (held : Files) (before : Option (List ℕ)) (r : Refusal) (last : ℕ) → RefusesToAct request held r → last ≡ 2 → Ends (Answers request held) (RefusesToAct request held) before before last
+ends_refused request held before r last refuses two =
+    subst (λ (s : ℕ). Ends (Answers request held) (RefusesToAct request held) before before s) (sym two) (refused r refuses (nothing_written before))

@@ -1,0 +1,22 @@
+-- How the process ends (docs/REPORT.md, Exit status).
+use Rattle.std.specs.Prelude.{ℕ, ◌≡◌, ◌⊎◌, ◌<◌, List, length, take, Option}
+use Rattle.std.specs.Io.KnownBytes.{Appends, Keeps}
+use Rattle.base.specs.declared.refusal.Refusal.{Refusal}
+use Rattle.commands.specs.Acting.{Files}
+use Rattle.input_files.specs.Reads.{InputsValue}
+
+-- what the files of a command hold, as they were read
+abbrev pub held_in : InputsValue → Files
+held_in inputs = record { named = inputs.files; base = inputs.base }
+
+-- By what a command answers and when it is refused, what standard output has before and after, where that is known, and the status: an
+-- answer that was written whole, with its status; an answer of which the first bytes alone were written, or a refusal with nothing on standard
+-- output, both with status 2.
+pub data Ends (Answers : List ℕ → ℕ → Type 0) (Refuses : Refusal → Type 0) (before after : Option (List ℕ)) : ℕ → Type 0 where
+  answered : (answer : List ℕ) (status : ℕ) → Answers answer status → Appends before after answer → Ends Answers Refuses before after status
+  unwritten : (answer : List ℕ) (status n : ℕ) → Answers answer status → n < length answer → Appends before after (take n answer) → Ends Answers Refuses before after 2
+  refused : (refusal : Refusal) → Refuses refusal → Keeps before after → Ends Answers Refuses before after 2
+
+-- it ended so on what was read of the files; or reading them was refused, with nothing on standard output and status 2
+abbrev pub EndsOn : (InputsValue → Type 0) → (InputsValue → Type 0) → Option (List ℕ) → Option (List ℕ) → ℕ → Type 0
+EndsOn AreRead EndsBy before after status = ((inputs : InputsValue) × AreRead inputs × EndsBy inputs) ⊎ (Keeps before after × (status ≡ 2))
