@@ -5,3 +5,4 @@ pub mod Rows
 pub mod Cases
 pub mod Trees
 pub mod Laws
+pub mod Sets

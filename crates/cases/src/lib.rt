@@ -8,7 +8,7 @@
 //! # Place
 //!
 //! On `epochs`, `choices` and `images`, whose parts, fates and crash images it speaks of, and on `machine` for the footprint of a run.
-//! It has definitions and laws, and no code that runs; no other crate stands on it yet.
+//! It has definitions and laws, and of the search for the leaves the first step, sets of fates; no other crate stands on it yet.
 //!
 //! # The definitions
 //!
@@ -21,6 +21,19 @@
 //!   part of some sectors whose fates in the case show something different there.
 //! - `Trees`: `AreLeaves` says which leaves some cases have: a case that no part splits is one, and in the place of any other stand
 //!   those of its groups.
+//! - `Sets`: what may become of a part, by number, 0 for whole up to 15 for the largest tail; a set of these in the bits of a word
+//!   (`fates_in`), and a set of the pieces of a sector in eight of them (`pieces_in`).
+//!
+//! # Sets of fates
+//!
+//! | Call | Answer |
+//! |---|---|
+//! | `fate_at(number)` | the fate of a number, `None` for whole |
+//! | `first_of(set)` | the first fate of a set |
+//! | `groups_of(part, unit, pieces, set)` | the fates of a set in groups, by what they show of some pieces of a unit |
+//! | `hidden(part, unit, pieces, set)` | those of the pieces that the part doesn't show with the first fate of the set |
+//!
+//! They take no memory. The groups are the `kinds` of the definition, in its order, none forgotten and none twice.
 //!
 //! # What is proved
 //!
@@ -46,6 +59,9 @@
 //! ```
 #![tactic(auto)]
 
+mod bits;
+mod fates;
 mod laws;
 
+pub use fates::{fate_at, first_of, groups_of, hidden};
 pub use laws::{each_is_in_one, last_cuts_have_all, leaves_end_alike};
