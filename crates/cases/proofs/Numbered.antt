@@ -8,9 +8,8 @@ use Rattle.std.proofs.lemmas.List.Folds.{list_all-append}
 use Rattle.base.proofs.Lists.{range_with_len-more}
 use Rattle.cases.specs.Laws.{IsAmong}
 use Rattle.cases.proofs.Cases.{kept_among}
-use Rattle.std.proofs.lemmas.Bool.{cases_lt}
 use Rattle.std.proofs.lemmas.Bool.Decides.{eqb_tells, nat_tests}
-use Rattle.std.proofs.lemmas.Nat.Bits.{bit_at_set_same, bit_at_set_other, bit_at_and, bit_at_not, bit_at-lt, bit_at-zero, bit_at-trailing_zeros, bit_at_above}
+use Rattle.std.proofs.lemmas.Nat.Bits.{bit_at_set_same, bit_at_set_other, bit_at_and, bit_at_not, bit_at-lt, bit_at-zero, bit_at-trailing_zeros}
 use Rattle.epochs.specs.declared.part.Part.{Part}
 use Rattle.epochs.specs.declared.unit.Unit.{Unit as LogUnit}
 use Rattle.choices.specs.declared.fate.Fate.TheVariants as fate

@@ -2,7 +2,7 @@ use Rattle.std.proofs.Common.{ℕ, ◌≡◌, List, sym, subst, arith}
 use Rattle.cases.specs.Cases.{show_alike}
 use Rattle.cases.specs.Sets.{pieces_in}
 use Rattle.cases.proofs.Cases.{shown_kinds}
-use Rattle.cases.proofs.Grouped.{Made, MadeMore, made_none, made_more, made_room, made_all}
+use Rattle.cases.proofs.Grouped.{Made, made_none, made_more, made_room, made_all}
 use Rattle.cases.proofs.fates.groups_of.Goals as goal
 
 pub left-init : goal.left-init
