@@ -73,11 +73,11 @@ first_is p a (suc n) j is =
       ]
       | false ↦ λ e. elim (cases_lt a j) [
         | inl past ↦ first_is p (a + 1) n j (record {
-            low = omega (arith, past);
-            high = omega (arith, high);
-            passes = is.passes;
-            before = λ k from lt. is.before k (omega (arith, from)) lt;
-          })
+          low = omega (arith, past);
+          high = omega (arith, high);
+          passes = is.passes;
+          before = λ k from lt. is.before k (omega (arith, from)) lt;
+        })
         | inr here ↦ absurd (let bad : true ≡ false = sym is.passes ∙ ap p (let same : j ≡ a = omega (arith, low, here) in same) ∙ e in cc)
       ]
     ] in
