@@ -152,7 +152,7 @@ class Whole:
         self.run, self.cut, self.commits = run, 0, 0
         run.parts_over = functools.cache(run.parts_over)
         self.bytes = bytearray(run.base.ljust(SECTOR * run.sectors, b"\0"))
-        self.sum = 0
+        self.sum, self.numbers = 0, set()
 
     def sector(self, number):
         return bytes(self.bytes[SECTOR * number : SECTOR * (number + 1)])
@@ -164,6 +164,7 @@ class Whole:
             for at in range(entry.count):
                 number, new = entry.sector + at, entry.data[SECTOR * at : SECTOR * (at + 1)] or bytes(SECTOR)
                 self.sum += changed_sum(number, self.sector(number), new)
+                self.numbers.add(number)
                 self.bytes[SECTOR * number : SECTOR * (number + 1)] = new
         self.cut = cut
 
@@ -173,11 +174,9 @@ class Whole:
         changed = {it: image.sector(it) for it in numbers}
         return self.sum + sum(changed_sum(number, self.sector(number), new) for number, new in changed.items()), changed
 
-    def content(self, changed):
-        content = bytearray(self.bytes)
-        for number, new in changed.items():
-            content[SECTOR * number : SECTOR * (number + 1)] = new
-        return bytes(content)
+    def written(self, changed):
+        """The sectors that were written before the cut, as the image has them."""
+        return {it: self.sector(it) for it in self.numbers} | changed
 
 
 @functools.cache
@@ -196,7 +195,10 @@ class Judge:
     def __init__(self, found, lay):
         self.found, self.lay, self.known = found, lay, {}
 
-    def verdict(self, content):
+    def verdict(self, before, written):
+        content = bytearray(before)
+        for number, it in written.items():
+            content[SECTOR * number : SECTOR * (number + 1)] = it
         with tempfile.TemporaryDirectory() as folder:
             self.lay(content, folder)
             return self.found(folder)
@@ -209,9 +211,10 @@ class Judge:
             key, changed = whole.change(image)
             keys.append((key, whole.commits))
             if key not in self.known and key not in contents:
-                contents[key] = whole.content(changed)
+                contents[key] = whole.written(changed)
         with ThreadPoolExecutor(8) as pool:
-            self.known.update(zip(contents, pool.map(self.verdict, contents.values())))
+            before = run.base.ljust(SECTOR * run.sectors, b"\0")
+            self.known.update(zip(contents, pool.map(functools.partial(self.verdict, before), contents.values())))
         verdicts = [(self.known[key], marks) for key, marks in keys]
         broken = [it for it, _ in verdicts if isinstance(it, str)]
         lost = [it for it, marks in verdicts if not isinstance(it, str) and it < marks]
