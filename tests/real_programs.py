@@ -145,35 +145,76 @@ def rows():
 GUESTS = [("DELETE", "OFF"), ("DELETE", "FULL"), ("DELETE", "EXTRA"), ("PERSIST", "FULL"), ("WAL", "NORMAL"), ("WAL", "FULL"), ("PERSIST", "OFF")]
 
 
+class Whole:
+    """The image of a cut in which nothing is lost, and a sum of its sectors; images beside it have few sectors changed."""
+
+    def __init__(self, run):
+        self.run, self.cut, self.commits = run, 0, 0
+        run.parts_over = functools.cache(run.parts_over)
+        self.bytes = bytearray(run.base.ljust(SECTOR * run.sectors, b"\0"))
+        self.sum, self.numbers = 0, set()
+
+    def sector(self, number):
+        return bytes(self.bytes[SECTOR * number : SECTOR * (number + 1)])
+
+    def go_on(self, cut):
+        """Goes on to a cut that isn't before the last one."""
+        for entry in self.run.recorded[self.cut : cut]:
+            self.commits += bool(entry.flags & MARK and entry.text.startswith(b"commit-"))
+            for at in range(entry.count):
+                number, new = entry.sector + at, entry.data[SECTOR * at : SECTOR * (at + 1)] or bytes(SECTOR)
+                self.sum += changed_sum(number, self.sector(number), new)
+                self.numbers.add(number)
+                self.bytes[SECTOR * number : SECTOR * (number + 1)] = new
+        self.cut = cut
+
+    def change(self, image):
+        """The sum of an image of this cut, and the sectors in which it differs."""
+        numbers = {it for part, _ in image.departures for it in range(part.sector, part.sector + len(part.content) // SECTOR)}
+        changed = {it: image.sector(it) for it in numbers}
+        return self.sum + sum(changed_sum(number, self.sector(number), new) for number, new in changed.items()), changed
+
+    def written(self, changed):
+        """The sectors that were written before the cut, as the image has them."""
+        return {it: self.sector(it) for it in self.numbers} | changed
+
+
+@functools.cache
+def sector_sum(number, content):
+    return int.from_bytes(hashlib.sha256(number.to_bytes(8, "little") + content).digest(), "little")
+
+
+def changed_sum(number, old, new):
+    """By how much the sum of an image grows where a sector changes."""
+    return 0 if old == new else sector_sum(number, new) - sector_sum(number, old)
+
+
 class Judge:
     """What a program says of images, each once."""
 
     def __init__(self, found, lay):
         self.found, self.lay, self.known = found, lay, {}
 
-    def verdict(self, content):
+    def verdict(self, before, written):
+        content = bytearray(before)
+        for number, it in written.items():
+            content[SECTOR * number : SECTOR * (number + 1)] = it
         with tempfile.TemporaryDirectory() as folder:
             self.lay(content, folder)
             return self.found(folder)
 
     def judge(self, run):
         """How many images a run has, how many differ, how many are broken, and in how many a commit is lost."""
-        keys, contents = [], {}
-        written = sorted({number for it in run.recorded for number in range(it.sector, it.sector + it.count)})
-        run.parts_over = functools.cache(run.parts_over)
-        whole = run.base.ljust(SECTOR * run.sectors, b"\0")
+        keys, contents, whole = [], {}, Whole(run)
         for image in run.images():
-            parts = [(number, image.sector(number)) for number in written]
-            key = hashlib.sha256(b"".join(it for _, it in parts)).digest()
-            marks = sum(1 for it in run.recorded[: image.cut] if it.flags & MARK and it.text.startswith(b"commit-"))
-            keys.append((key, marks))
+            whole.go_on(image.cut)
+            key, changed = whole.change(image)
+            keys.append((key, whole.commits))
             if key not in self.known and key not in contents:
-                content = bytearray(whole)
-                for number, it in parts:
-                    content[SECTOR * number : SECTOR * (number + 1)] = it
-                contents[key] = bytes(content)
+                contents[key] = whole.written(changed)
         with ThreadPoolExecutor(8) as pool:
-            self.known.update(zip(contents, pool.map(self.verdict, contents.values())))
+            before = run.base.ljust(SECTOR * run.sectors, b"\0")
+            self.known.update(zip(contents, pool.map(functools.partial(self.verdict, before), contents.values())))
         verdicts = [(self.known[key], marks) for key, marks in keys]
         broken = [it for it, _ in verdicts if isinstance(it, str)]
         lost = [it for it, marks in verdicts if not isinstance(it, str) and it < marks]
@@ -263,7 +304,10 @@ def in_guest(folder, kernel, journal, synchronous):
 
     def lay(content, room):
         Path(room, "image").write_bytes(content)
-        sh("e2fsck -fy image; for it in db db-journal db-wal; do debugfs -R \"stat /$it\" image 2>&1 | grep -q Inode: && debugfs -R \"dump /$it $it\" image; done; rm image", room)
+        Path(room, "dump").write_text("".join(f"dump /{it} {it}\n" for it in ("db", "db-journal", "db-wal")))
+        for words in (["/sbin/e2fsck", "-fy", "image"], ["/sbin/debugfs", "-f", "dump", "image"]):
+            ran(words, room)
+        Path(room, "image").unlink()
 
     judged(f"guest: SQLite {journal} {synchronous}", out / "writes.log", base, 16384, Judge(sqlite_found, lay))
 
