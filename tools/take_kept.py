@@ -39,7 +39,7 @@ def take(rt, crate, kept, left):
             shutil.copytree(from_left, f"{crate.folder}/out/rlib")
             is_there = True
     kept.is_built(crate)
-    if is_there:
+    if is_there and not crate.is_program:
         with open(f"{crate.folder}/out/rlib/stamp", "w", encoding="utf-8") as file:
             file.write(crate.stamp())
     return is_there
