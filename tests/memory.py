@@ -165,7 +165,7 @@ LARGE = {
     "sixteen codes": (writes(64), [named("report_codes")], "--bound 3", images(64)),
     "a fault": (writes(64), [program("exit")], "--bound 3 --checked 9", images(64)),
     "out of steps": (writes(64), [ONE], "--bound 3 --checked 1", images(64)),
-    "eight programs": (497, "72 . 72 11 72 26.0 26.1 26.2 26.3 72 26.4 26.5 26.6 26.7 72 26.0 72 26.1 26.2 26.3 26.4 72 26.5 26.6 26.7 60.0 72 60.1 60.2 60.3 60.4 72 60.5 60.6 60.7 72 . 72 ."),
+    "eight programs": (writes(36), [ONE] * 8, "--bound 3", images(36)),
     "no departures": ([F] * 30000, [ONE] * 8, "--bound 0", 30001),
 }
 
