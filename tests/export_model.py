@@ -98,7 +98,7 @@ def faults(run, text, first=0, last=None):
 
 
 def some_entry(chance, sectors):
-    """Any entry of a device of so many sectors. Few bytes come up, so that many images are the same."""
+    """Any entry of a device with that number of sectors. Few bytes come up, so that many images are the same."""
     kind = chance.random()
     if kind < 0.15:
         return Entry(flags=MARK, text=b"commit")

@@ -50,7 +50,7 @@ def places(sizes):
 
 
 def limits_of(sectors):
-    """The limits of a log for so many sectors."""
+    """The limits that a log of a device with that number of sectors has."""
     limits = trace_log.USUAL if sectors <= trace_log.USUAL.sectors else trace_log.LARGE
     if sectors > limits.sectors:
         raise Refused(f"the files take {sectors} sectors, and a device has at most {limits.sectors}")
