@@ -37,8 +37,9 @@ NOT_RUN = {
     r"qemu|examples/recording/(guest|in_flight)\b|formatting/|crashbpf-record --fuse": "it needs QEMU; tests/record.py runs what it can",
     r"crashbpf-record|recorded/": "it needs strace and sqlite3; tests/record.py records other programs",
     r"log writes\.log 55 120": "it needs a log that QEMU recorded",
-    r"sbatch|parallel|try_slurm|join_all run >": "it needs Slurm or several machines; tests/each.py runs parts as processes",
-    r"e2fsck|disk\.log all\.bpf": "tests/each.py runs it on an ext2",
+    r"sbatch|parallel|try_slurm|join_all run >": "it needs Slurm or several machines; tests/many_machines.py runs parts as processes",
+    r"crashbpf-each .*e2fsck": "tests/each.py runs it on an ext2",
+    r"\bused/|\bkernel\b|recovery/|mounted": "it needs a log that QEMU recorded",
 }
 # What the reader of a document has, as commands that make it. The first C of the document is $FIRST_C, its first fence without a
 # language $FIRST_TEXT.

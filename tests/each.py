@@ -1,21 +1,23 @@
 #!/usr/bin/env python3
-"""Tests examples/each, examples/many_machines, and what docs/CI.md does with a stored report.
+"""Tests examples/each/crashbpf-each: what a program gets of each image, what is reported, and what becomes of programs that misbehave.
 
     python3 tests/each.py [PROGRAM]
 
-PROGRAM is as in run.py. The bytes that `each` gives to a program are compared with those of the model. Then mke2fs and debugfs
-write a small ext2 file system, a log is made of what they wrote, and `each` gives its images to e2fsck, whose statuses are
-compared with those on the model's images; where these programs aren't there that row is left out, and a line says so. Runs are laid
-out in parts, which are judged by processes side by side, some of them killed and run again, and joined: that is the report of the
-run. Last the commands in docs/CI.md, 'Known failures', are run: on the report that is stored, and on others.
+PROGRAM is as in run.py. What a program gets, and the report, are compared with those of the model. Then mke2fs and debugfs write a
+small ext2 file system, a log is made of what they wrote, and its images are given to e2fsck, whose statuses are compared with those
+on the model's images; where these programs aren't there that row is left out, and a line says so.
 
-Prints a line for each row that failed, and last `N passed, M failed`.
+Prints a line for each row that failed, and last `N passed, M failed`. It takes some ten seconds.
 """
 import hashlib
+import importlib
+import io
 import os
+import pty
 import re
 import shutil
 import signal
+import struct
 import subprocess
 import sys
 import tempfile
@@ -26,15 +28,17 @@ from pathlib import Path
 sys.dont_write_bytecode = True
 
 from designs import DESIGNS
-from model import Run
-from notation import MARK, TOP, F, M, S, W, log
+from model import Run, escaped
+from notation import MARK, TOP, D, F, M, S, W, log
 
-EACH = TOP / "examples/each"
-MACHINES = TOP / "examples/many_machines"
-LOGS = TOP / "crates/aside/data"
+EACH = TOP / "examples/each/crashbpf-each"
 # Of ext2: the sectors of the device and of a block.
 SECTORS, BLOCK = 256, 2
 TOOLS = ("mke2fs", "debugfs", "e2fsck")
+STATE = "crashbpf-each.state"
+# How many rows are tried side by side.
+AT_A_TIME = 4
+SMALL = Run([W(0, 2, 1), W(2, 1, 2), F, W(1, 2, 3), M('"end" \t1'), W(3, 1, 4), F, M("two"), D(0, 2)], bound=1)
 
 
 def sh(folder, text, *words):
@@ -46,132 +50,113 @@ def differs(what, found, wanted):
     return [] if found == wanted else [f"{what} is {found!r}, and {wanted!r} is right"]
 
 
-def explored(folder, run, command="explore", options=""):
-    """Explores a run with a program that answers 1 always, and returns the path of its report."""
+def put(folder, run):
+    """Writes the log of a run and its base, and returns the words that name them with their options."""
     Path(folder, "disk.log").write_bytes(log(run.recorded))
-    Path(folder, "one.s").write_text("mov64 r0, 1\nexit\n")
-    done = sh(folder, f"crashbpf asm one.s > one.bpf && crashbpf {command} disk.log one.bpf {run.options()} {options} > report")
-    return [] if done.returncode == 1 else [f"{command} ended with {done.returncode}: {done.stderr}"]
+    Path(folder, "base").write_bytes(run.base)
+    return ["disk.log", *run.options().split()]
 
 
-def told(image, status):
-    return f"image {image.number} cut {image.cut} choice {image.choice()} status {status}"
+def each(folder, words, program, **more):
+    """Runs crashbpf-each, and returns its status and what it printed."""
+    return subprocess.run([EACH, *words, "--", *program], cwd=folder, capture_output=True, text=True, stdin=subprocess.DEVNULL, **more)
 
 
-def gives_images(folder, run):
-    """What is wrong with the bytes that a program gets of a run, each image of which fails."""
-    found = explored(folder, run)
-    done = sh(folder, '"$1" disk.log report -- sh -c \'sha256sum < "$1"; exit 3\' name {}', EACH)
-    images = list(run.images())
-    wanted = [line for it in images for line in (told(it, 3), f"    {hashlib.sha256(it.content()).hexdigest()}  -")]
-    found += differs("the output", done.stdout, "\n".join([*wanted, f"images {len(images)} failing {len(images)}", ""]))
-    return found + differs("the status", done.returncode, 1)
+def sh_words(text):
+    """The words of a program that is a shell's commands, to which $1 is the file."""
+    return ["sh", "-c", text, "sh", "{}"]
+
+
+def firsts(run):
+    """Each image of a run with the first that has the same bytes and as many marks."""
+    seen, found = {}, []
+    for image in run.images():
+        first = seen.setdefault((image.content(), image.marks()), image)
+        found.append((image, first))
+    return found
+
+
+def told(words):
+    return " ".join(escaped(it.encode()).replace(" ", r"\x{20}") or '""' for it in words)
+
+
+def report(run, words, text_of, first=False):
+    """The report of a run of a program, of which a function says by what words it fails on an image, or none."""
+    head = f"sectors {run.sectors} entries {len(run.entries)} cuts {run.cuts} bound {run.bound} tears {'yes' if run.tears else 'no'}"
+    head += f" first {'yes' if first else 'no'}{' by write' if run.by == 'write' else ''}{run.told()}{run.told_of_base()}"
+    lines, total = [], 0
+    for image, of in firsts(run):
+        total += 1
+        text = text_of(of)
+        if text:
+            lines.append(f"image {image.number} cut {image.cut} program 0 {text} choice {image.choice()}\n")
+    last = f"images {total} failing {len(lines)} lines {len(lines)}\n"
+    if first:
+        last = f"images {total} first {lines[0].split()[1] if lines else 'none'}\n"
+        lines = lines[:1]
+    return "".join(["crash report 2\n", head, "\n", f"program 0 outside {told(words)}\n", *lines, last])
+
+
+def ended(what, done, status, printed, said=""):
+    """What is wrong with how a call ended: its status, its output, and the last line that it said."""
+    found = differs(f"the status of {what}", done.returncode, status) + differs(f"the output of {what}", done.stdout, printed)
+    # (on a slow machine the progress is said too)
+    lines = "".join(it for it in done.stderr.splitlines(keepends=True) if not it.startswith("progress: "))
+    return found + ([] if re.fullmatch(said, lines) else [f"{what} says {lines!r}"])
+
+
+def refused(what, done, says=""):
+    """What is wrong with a refusal: the status 2, nothing on standard output, and one line."""
+    return ended(what, done, 2, "", f"crashbpf-each: {says}.*\n")
+
+
+def environment(of):
+    marks = [it for it in of.run.entries[: of.cut] if it.flags & MARK]
+    return f"{of.marks()} {escaped(marks[-1].text) if marks else ''} {of.cut} {of.choice()}"
+
+
+def gives_images(folder, run, runners):
+    """What is wrong with the bytes and the words that a program gets, what is kept of it, and the report."""
+    words = put(folder, run)
+    program = sh_words('[ "$1" = "$CRASH_IMAGE" ] && sha256sum < "$1" && echo "$CRASH_MARKS $CRASH_MARK $CRASH_CUT $CRASH_CHOICE" >&2; exit 3')
+    done = each(folder, ["-j", runners, "--keep", "kept", *words], program)
+    found = ended("it", done, 1, report(run, program, lambda of: "answer 3 codes -"))
+    wanted = {}
+    for image, of in firsts(run):
+        if image is of:
+            wanted[f"{of.number}.image"] = of.content()
+            wanted[f"{of.number}.said"] = f"{hashlib.sha256(of.content()).hexdigest()}  -\n{environment(of)}\n".encode()
+    kept = {it.name: it.read_bytes() for it in Path(folder, "kept").iterdir()}
+    return found + [f"{name} isn't as it should be" for name in sorted(wanted.keys() | kept.keys()) if wanted.get(name) != kept.get(name)]
 
 
 def gives_large(folder):
-    """What is wrong with the images of a device that takes --large: that option may be said or left out."""
+    """What is wrong with the images of a device that takes --large."""
     run = Run([W(0, 1, 1), W(20000, 1, 2)], sectors=20480)
-    found = explored(folder, run, options="--large")
-    images = list(run.images())
-    wanted = "\n".join([*(told(it, 0) for it in images), f"images {len(images)} failing 0", ""])
-    for options in ("", "--large"):
-        done = sh(folder, f'"$1" disk.log report {options} -- sh -c \'[ "$(wc -c < "$1")" = 10485760 ]\' name {{}}', EACH)
-        found += differs(f"the output with '{options}'", done.stdout, wanted)
-    return found
+    program = sh_words('[ "$(wc -c < "$1")" = 10485760 ] && [ "$(du -k "$1" | cut -f 1)" -lt 100 ]')
+    return ended("it", each(folder, [*put(folder, run), "--large"], program), 0, report(run, program, lambda of: None))
 
 
-def gives_many(folder):
-    """What is wrong with an image of a run that one process doesn't judge, of which the report was joined."""
-    Path(folder, "disk.log").write_bytes(log([W(0, 40, 1)]))
-    head = "sectors 40 entries 1 cuts flush bound 3 tears yes first no\nprogram 0 slots 2 budget 2\n"
-    failing = "image 33521100 cut 1 program 0 answer 1 codes - choice 0.37:tail7,0.38:tail7,0.39:tail7\n"
-    Path(folder, "report").write_text(f"crash report 2\n{head}{failing}images 33521101 failing 1 lines 1\n")
-    done = sh(folder, '"$1" disk.log report -- sh -c \'[ "$(wc -c < "$1")" = 20480 ]\' name {}', EACH)
-    wanted = "image 33521100 cut 1 choice 0.37:tail7,0.38:tail7,0.39:tail7 status 0\nimages 1 failing 0\n"
-    return differs("the output", (done.returncode, done.stdout, done.stderr), (0, wanted, ""))
-
-
-def gives_groups(folder):
-    """What is wrong with the images of groups: where each image fails, the one of each cut in which nothing departs."""
-    run = Run([W(0, 1, 1), W(1, 1, 2), F, W(0, 1, 3)], bound=2)
-    found = explored(folder, run, "why")
-    done = sh(folder, '"$1" disk.log report -- true {}', EACH)
-    whole = [it for it in run.images() if not it.departures]
-    found += differs("the output", done.stdout, "\n".join([*(told(it, 0) for it in whole), f"images {len(whole)} failing 0", ""]))
-    return found + differs("the status", done.returncode, 0)
-
-
-def refuses(folder):
-    """What is wrong with the refusals."""
-    found = explored(folder, Run([W(0, 1, 1)]))
-    cases = {
-        "disk.log report": "each: usage: ",
-        "disk.log report --": "each: usage: ",
-        "disk.log absent -- true": "each: the file absent can't be read",
-        "disk.log one.s -- true": "each: one.s is no report of explore or why",
-        "disk.log . -- true": "each: the report . is cut off",
-        "one.s report -- true": "each: the log one.s can't be explored with the options of the report",
-        "disk.log report -- -true": "each: usage: ",
-        """disk.log report --base 'a\nb' -- true""": "each: an option has a newline in it",
-        "absent report -- true": "each: the log absent can't be explored",
-        "longer.log report -- true": "each: the report is of 3 images, and the log has others",
-        "flush.log report -- true": "each: the report is of another log or other options: sectors 4 entries 1 cuts all",
-        "disk.log report --by write -- true": "each: the report is of another log or other options",
-        "disk.log report --base one.s -- true": "each: the report is of another log or other options",
-        "disk.log report --tears -- true": "each: the report is of 3 images, and the log has others",
-        "disk.log later -- true": "each: the report was made with base: give its option --base",
-    }
-    Path(folder, "longer.log").write_bytes(log([W(0, 1, 1), W(0, 1, 1)]))
-    Path(folder, "flush.log").write_bytes(log([F, F]))
-    Path(folder, "later").write_text(Path(folder, "report").read_text().replace("first no", "first no base 77", 1))
-    for words, line in cases.items():
-        done = sh(folder, f'"$1" {words}', EACH)
-        found += differs(f"the status of {words!r}", done.returncode, 2)
-        found += [] if line in done.stderr else [f"{words!r} says {done.stderr!r}"]
-    return found
-
-
-def cut_off(text):
-    """A report that is cut off in many ways, without one of its failing lines, or with one twice."""
-    lines = text.splitlines(keepends=True)
-    ends = [sum(map(len, lines[:it])) for it in range(len(lines) + 1)]
-    yield from (text[: end + it] for end in ends for it in (-2, -1, 0, 1) if 0 <= end + it < len(text))
-    failing = [at for at, line in enumerate(lines) if line.startswith(("image ", "group "))]
-    yield from ("".join(lines[:at] + [lines[at]] * times + lines[at + 1 :]) for at in failing for times in (0, 2))
-    yield from (text + it for it in ("\n", lines[-1], lines[-2], text))
-
-
-def refuses_cut_reports(folder):
-    """What is wrong with reports that aren't whole: none is taken for the report of fewer failures."""
-    run = Run([W(0, 1, 1), W(1, 1, 2), F, W(0, 1, 3)], bound=2)
-    found, reports = [], []
-    for command, options in (("explore", ""), ("explore", "--first"), ("why", "")):
-        found += explored(folder, run, command, options)
-        reports += [(f"{command} {options}", it) for it in cut_off(Path(folder, "report").read_text())]
-
-    def judged(number):
-        Path(folder, f"report.{number}").write_text(reports[number][1])
-        done = sh(folder, f'"$1" disk.log report.{number} -- true', EACH)
-        right = done.returncode == 2 and not done.stdout and re.fullmatch("each: .*\n", done.stderr)
-        return [] if right else [f"a report of {reports[number][0]} ends with {done.returncode}: {reports[number][1]!r}"]
-
-    with ThreadPoolExecutor(8) as pool:
-        return found + [line for lines in pool.map(judged, range(len(reports))) for line in lines]
-
-
-def takes_any_name(folder):
-    """What is wrong where files and words have odd names."""
-    run = Run([W(0, 1, 1)])
-    found = explored(folder, run)
-    wanted = "\n".join([*(told(it, 0) for it in run.images()), "images 3 failing 0", ""])
-    for name in ("x=y", "-n", "a b", "*", "two\nlines", "$(touch stolen)", "NR=7"):
-        for file, words in (("report", ["./disk.log", name]), ("disk.log", [name, "report"])):
-            shutil.copy(Path(folder, file), Path(folder, name))
-            done = sh(folder, '"$@"', EACH, *words, "--", "sh", "-c", '[ "$2" = "$3" ]', "{}", "{}", name, name)
-            found += differs(f"the output of {words!r}", (done.returncode, done.stdout, done.stderr), (0, wanted, ""))
-            Path(folder, name).unlink()
-    piped = sh(folder, 'cat report | "$1" disk.log /dev/stdin -- true', EACH)
-    return found + differs("the output of a report from a pipe", (piped.returncode, piped.stdout), (0, wanted))
+def tells_verdicts(folder):
+    """What is wrong with the words of verdicts, for each number of runners, and with each image judged once."""
+    words, found = put(folder, SMALL), []
+    text = 'echo $CRASH_CUT $CRASH_CHOICE >> judged; case $CRASH_CUT in 0) kill -9 $$ ;; 1) exit 255 ;; 4) sleep 60 ;; 6) kill $$ ;; esac'
+    says = {0: "signal 9", 1: "answer 255 codes -", 4: "out of time", 6: "signal 15"}
+    for runners in ("-j1", "-j=3", "-j 16"):
+        done = each(folder, ["--timeout", "3", *runners.split(), *words], sh_words(text))
+        if runners == "-j=3":
+            found += refused(runners, done, "-j is 1 to 64")
+            continue
+        found += ended(runners, done, 1, report(SMALL, sh_words(text), lambda of: says.get(of.cut)))
+    judged = Path(folder, "judged").read_text().splitlines()
+    wanted = [f"{of.cut} {of.choice()}" for image, of in firsts(SMALL) if image is of]
+    found += differs("what is judged", sorted(judged), sorted(2 * wanted))
+    for limit in (9, 0):
+        program = sh_words(f"[ $CRASH_CUT -lt {limit} ]") if limit else ["sh", "-c", "exit 1"]
+        done = each(folder, ["--first", "-j", "4", *words], program)
+        found += ended(f"--first {limit}", done, 1, report(SMALL, program, lambda of: "answer 1 codes -" if of.cut >= limit else None, True))
+    done = each(folder, ["--first", *words], ["true"])
+    return found + ended("--first", done, 0, report(SMALL, ["true"], lambda of: None, True))
 
 
 def image_blocks(path):
@@ -203,345 +188,365 @@ def ext2_log(folder):
 
 
 def gives_ext2(folder):
-    """What is wrong with the images of ext2 that e2fsck gets, from the end of mke2fs on."""
+    """What is wrong with the images of ext2 that e2fsck gets, from the end of mke2fs on, as copies and as the file itself."""
     entries = ext2_log(folder)
     made = next(number for number, it in enumerate(entries) if it.flags & MARK) + 1
     run = Run(entries, sectors=SECTORS, cuts="flush", by="write", first=made)
-    found = explored(folder, run)
-    done = sh(folder, '"$1" disk.log report -- e2fsck -fn {}', EACH)
-    statuses, wanted = [], []
-    for image in run.images():
-        Path(folder, "image").write_bytes(image.content())
-        statuses.append(sh(folder, "e2fsck -fn image").returncode)
-        wanted.append(told(image, statuses[-1]))
-    lines = [it for it in done.stdout.splitlines() if not it.startswith("    ")]
-    failing = sum(1 for it in statuses if it)
-    found += differs("the output", lines, [*wanted, f"images {len(wanted)} failing {failing}"])
-    found += differs("the status", done.returncode, 1)
+    words, statuses, found = put(folder, run), {}, []
+
+    def text_of(image):
+        if image.number not in statuses:
+            Path(folder, "image").write_bytes(image.content())
+            statuses[image.number] = sh(folder, "e2fsck -fn image").returncode
+        return f"answer {statuses[image.number]} codes -" if statuses[image.number] else None
+
+    wanted = report(run, ["e2fsck", "-fn", "{}"], text_of)
+    for way in ([], ["--read-only"]):
+        found += ended(f"e2fsck {way}", each(folder, [*way, *words], ["e2fsck", "-fn", "{}"]), 1, wanted)
     # Before and behind each step all is well; a step that lost a part of itself left something to repair.
-    whole = [status for status, image in zip(statuses, run.images()) if not image.departures]
-    found += differs("the statuses where nothing departs", whole, [0] * len(whole))
-    return found + ([] if failing else ["no image fails"])
+    whole = [statuses[of.number] for image, of in firsts(run) if not image.departures]
+    return found + differs("the statuses where nothing departs", whole, [0] * len(whole))
 
 
-def laid_out(folder, run, parts, options=""):
-    """Lays out a run of the checker of two_slots in the folder `run`, and returns the report of one process."""
-    Path(folder, "disk.log").write_bytes(log(run.recorded))
-    shutil.copy(TOP / "examples/two_slots/checker.bpf", folder)
-    whole = sh(folder, f"crashbpf explore disk.log checker.bpf {run.options()} {options}")
-    done = sh(folder, f'"$1"/lay_out run {parts} disk.log {run.options()} -- checker.bpf {options}', MACHINES)
-    return whole, differs("how many parts there are", done.stdout.strip(), str(parts))
-
-
-# Judges all parts of a run that are missing, four at a time.
-JUDGE = 'seq $(wc -l < "$1/parts") | xargs -P 4 -n 1 "$1/run_part" "$1"'
-
-
-def judges_in_parts(folder, run, parts, options=""):
-    """What is wrong with a run in parts, some of which are lost and judged again."""
-    whole, found = laid_out(folder, run, parts, options)
-    none = sh(folder, '"$1"/join_all run', MACHINES)
-    found += differs("the status where no part is judged", none.returncode, 2)
-    found += differs("what is judged by processes", sh(folder, JUDGE, "run").returncode, 0)
-    # One text is lost with its machine, and of another one a piece lies there under no name of a text.
-    Path(folder, "run/text.2").unlink()
-    Path(folder, "run/begun.3.there.77").write_bytes(Path(folder, "run/text.3").read_bytes()[:50])
-    Path(folder, "run/text.3").unlink()
-    lost = sh(folder, '"$1"/join_all run', MACHINES)
-    found += differs("what is missing", (lost.returncode, lost.stderr), (2, "join_all: not judged yet: 2 3\n"))
-    kept = Path(folder, "run/text.1").stat().st_mtime_ns
-    found += differs("what is judged again", sh(folder, JUDGE, "run").returncode, 0)
-    found += differs("when a text that was there was written", Path(folder, "run/text.1").stat().st_mtime_ns, kept)
-    joined = sh(folder, '"$1"/join_all run', MACHINES)
-    return found + differs("the report", (joined.returncode, joined.stdout), (whole.returncode, whole.stdout))
-
-
-def kills_a_part(folder, run):
-    """What is wrong where the process of a part is killed, and where a part is refused."""
-    whole, found = laid_out(folder, run, 4)
-    # A program that is killed by the signal 9 before its text is whole.
-    Path(folder, "killed").write_text('#!/bin/sh\necho crash part 1\nkill -9 $$\n')
-    Path(folder, "killed").chmod(0o755)
-    done = sh(folder, 'CRASHBPF=$PWD/killed run/run_part run 2')
-    found += [] if done.returncode > 1 else [f"a part that was killed ended with {done.returncode}"]
-    found += [] if not Path(folder, "run/text.2").exists() else ["a part that was killed left a text"]
-    found += differs("the status of a part that isn't there", sh(folder, "run/run_part run 5").returncode, 2)
-    os.rename(Path(folder, "disk.log"), Path(folder, "hidden.log"))
-    found += differs("the status of a part that is refused", sh(folder, "run/run_part run 2").returncode, 2)
-    os.rename(Path(folder, "hidden.log"), Path(folder, "disk.log"))
-    # From another folder, by the path of the run.
-    done = sh("/", JUDGE, Path(folder, "run"))
-    found += differs("what is judged from another folder", done.returncode, 0)
-    joined = sh(folder, '"$1"/join_all run', MACHINES)
-    return found + differs("the report", (joined.returncode, joined.stdout), (whole.returncode, whole.stdout))
-
-
-def refused(what, done, name, says=""):
-    """What is wrong with a refusal of a script: the status 2, nothing on standard output, and a last line."""
-    last = (done.stderr.splitlines() or [""])[-1]
-    right = done.returncode == 2 and not done.stdout and last.startswith(f"{name}: {says}")
-    return [] if right else [f"{what} ended with {done.returncode}, {done.stdout!r} and {done.stderr!r}"]
-
-
-# Words of lay_out, and what it says of them.
-NOT_LAID = {
-    "": "usage: ",
-    "new 4 disk.log --sectors 4": "usage: ",
-    "new 4 disk.log -- ": "usage: ",
-    "new 4 disk.log --sectors 4 -- checker.bpf -- checker.bpf": "usage: ",
-    "new four disk.log --sectors 4 -- checker.bpf": "PARTS is ",
-    "new 0 disk.log --sectors 4 -- checker.bpf": "PARTS is ",
-    "new 04 disk.log --sectors 4 -- checker.bpf": "PARTS is ",
-    "new -4 disk.log --sectors 4 -- checker.bpf": "PARTS is ",
-    "new '' disk.log --sectors 4 -- checker.bpf": "PARTS is ",
-    "new 18446744073709551617 disk.log --sectors 4 -- checker.bpf": "PARTS is ",
-    "new 1048577 disk.log --sectors 4 -- checker.bpf": "crashbpf images refuses ",
-    "new 4 absent.log --sectors 4 -- checker.bpf": "crashbpf images refuses ",
-    "new 4 checker.bpf --sectors 4 -- checker.bpf": "crashbpf images refuses ",
-    "new 4 disk.log --sectors 4 --base absent -- checker.bpf": "crashbpf images refuses ",
-    "new 4 disk.log --sectors 4 --bounds 2 -- checker.bpf": "crashbpf images refuses ",
-    "new 4 disk.log --sectors 4 --help -- checker.bpf": "crashbpf images says no number ",
-    "new 4 disk.log --sectors 4 --": "crashbpf explore refuses ",
-    "new 4 disk.log --sectors 4 -- --workers 2": "crashbpf explore refuses ",
-    "new 4 disk.log --sectors 4 -- absent.bpf": "crashbpf explore refuses ",
-    "new 4 disk.log --sectors 4 -- checker.bpf absent.bpf": "crashbpf explore refuses ",
-    "new 4 disk.log --sectors 4 -- disk.log": "crashbpf explore refuses ",
-    "new 4 disk.log --sectors 4 -- checker.bpf --images 0..1": "crashbpf explore refuses ",
-    "new 4 disk.log --sectors 4 -- checker.bpf --trace 2": "crashbpf explore refuses ",
-    "new 4 disk.log --sectors 4 -- checker.bpf --help": "the words after -- ",
-    "new 4 disk.log --sectors 4 -- checker.bpf --bound 2": "the words after -- ",
-    "new 4 disk.log --sectors 4 -- 'checker.bpf\n'": "no word may have a newline",
-    "'ne\nw' 4 disk.log --sectors 4 -- checker.bpf": "no word may have a newline",
-    "there 4 disk.log --sectors 4 -- checker.bpf": "",
-    "absent/new 4 disk.log --sectors 4 -- checker.bpf": "the folder ",
-    "new 4 disk.log --sectors 4 -- checker.bpf >/dev/full": "the number of parts ",
+# Programs that misbehave: what they do, how their images fail, and what is said at the end.
+WILD = {
+    "writes into the image": ('sha256sum "$1" >> ../sums; head -c 2048 /dev/zero | tr "\\0" x > "$1"', None, ""),
+    "removes the image": ('rm "$1"; mkdir "$1" "$1/a"; touch "$1-wal" ; ln -s /etc ../run/x; chmod 0 .', None, ""),
+    "leaves a process": ('sleep 60 & setsid sleep 61 & (setsid sh -c "sleep 62 & sleep 63" &) ; exit 2', "answer 2 codes -", "note: after 10 images the program left processes running, which were ended\n"),
+    "ignores signals": ("trap '' HUP INT TERM; sleep 60; sleep 60", "out of time", ""),
+    "closes its output": ("exec >&- 2>&-; exit 5", "answer 5 codes -", ""),
+    "kills its session": ("kill -9 0", "signal 9", ""),
+    "prints much": ("yes | head -c 3000000; exit 1", "answer 1 codes -", ""),
+    "prints for ever": ("cat /dev/zero", "out of time", ""),
 }
 
 
-def lays_out_no_other(folder):
-    """What is wrong with runs that can't be laid out: no folder is left, and none that was there is touched."""
-    found = laid_out(folder, Run(DESIGNS["two_slots/wrong"].recorded, 4), 3)[1]
-    Path(folder, "there").mkdir()
-    Path(folder, "there/kept").touch()
-    before = sorted(it.name for it in Path(folder).iterdir())
-    for words, says in NOT_LAID.items():
-        found += refused(words, sh(folder, f'"$1"/lay_out {words}', MACHINES), "lay_out", says)
-        found += differs(f"what is there after {words!r}", sorted(it.name for it in Path(folder).iterdir()), before)
-    return found + ([] if Path(folder, "there/kept").exists() else ["a folder that was there isn't"])
-
-
-def takes_odd_folders(folder):
-    """What is wrong where the folder, the log and the checker have odd names."""
-    whole, found = laid_out(folder, Run(DESIGNS["two_slots/wrong"].recorded, 4), 3)
-    os.rename(Path(folder, "disk.log"), Path(folder, "-x=y.log"))
-    os.rename(Path(folder, "checker.bpf"), Path(folder, "$(touch stolen) *"))
-    for name in ("-n", "a b\\", "$(touch stolen)", "%s"):
-        words = [MACHINES, name, "./-x=y.log", "$(touch stolen) *"]
-        done = sh(folder, '"$1"/lay_out "$2" 2 "$3" --sectors 4 -- "$4" && for it in 1 2; do "./$2/run_part" "$2" $it; done; "$1"/join_all "$2"', *words)
-        found += differs(f"what the run in {name!r} is", (done.returncode, done.stdout, done.stderr), (1, "2\n" + whole.stdout, ""))
-    return found + (["a word was run"] if Path(folder, "stolen").exists() else [])
-
-
-# Words that are no number of a part. Some are a script for sed.
-NO_PART = ["0", "01", "-1", "+1", " 1", "1 ", "", "x", "$", "1,2", "1p;2", "1w stolen\n1", "1e touch stolen\n1", "1.0", "5", str(2**32 + 1), str(2**64 + 1)]
-
-
-def judges_no_other_part(folder):
-    """What is wrong with words of run_part that name no part, and with runs that were changed."""
-    found = laid_out(folder, Run(DESIGNS["two_slots/wrong"].recorded, 4), 4)[1]
-    for words in [[it] for it in NO_PART] + [[], ["1", "2"]]:
-        found += refused(f"the part {words!r}", sh(folder, 'run/run_part run "$@"', *words), "run_part")
-    found += refused("a part of no folder", sh(folder, "run/run_part absent 1"), "run_part", "no run is laid out in ")
-    # The log, a program or the parts are no longer those that were laid out.
-    for name, content in (("disk.log", log([W(0, 1, 1)])), ("checker.bpf", b"\x95" + bytes(7)), ("run/parts", b"0..1\n0..1\n")):
-        kept = Path(folder, name).read_bytes()
-        Path(folder, name).write_bytes(content)
-        found += refused(f"a part with another {name}", sh(folder, f"run/run_part run {'3' if 'parts' in name else '2'}"), "run_part")
-        Path(folder, name).write_bytes(kept)
-    left = sorted(it.name for it in Path(folder, "run").iterdir())
-    found += differs("what is left", left, ["parts", "run", "run_part", "survey", "where", "words"])
-    return found + differs("what is there", sorted(it.name for it in Path(folder).iterdir()), ["checker.bpf", "disk.log", "run"])
-
-
-def at_once(folder, text, words, times=32):
-    """What the same command prints, each of many times at once, and with which status."""
-    calls = [subprocess.Popen(["sh", "-c", text, "sh", *map(str, words)], cwd=folder, stdout=subprocess.PIPE, text=True) for _ in range(times)]
-    return {(it.communicate()[0], it.returncode) for it in calls}
-
-
-def goes_at_once(folder, run):
-    """What is wrong where a part is judged many times at once, and where a run is joined many times at once."""
-    whole, found = laid_out(folder, run, 4)
-    found += differs("what is judged", sh(folder, JUDGE, "run").returncode, 0)
-    text = Path(folder, "run/text.2").read_text()
-    Path(folder, "run/text.2").unlink()
-    found += differs("what a part ends with", at_once(folder, "run/run_part run 2", [], 8), {("", 0)})
-    found += differs("the text of a part", Path(folder, "run/text.2").read_text(), text)
-    found += differs("what joins print", at_once(folder, '"$1"/join_all run', [MACHINES]), {(whole.stdout, whole.returncode)})
-    left = {it.name.partition(".")[0] for it in Path(folder, "run").iterdir()}
-    return found + differs("what is left", left, {"parts", "run", "run_part", "survey", "text", "where", "words"})
-
-
-def joins_whole_runs_alone(folder):
-    """What is wrong where the list of parts, a text or what comes out isn't that of the whole run."""
-    whole, found = laid_out(folder, Run(DESIGNS["two_slots/wrong"].recorded, 4, bound=2), 4)
-    found += differs("what is judged", sh(folder, JUDGE, "run").returncode, 0)
-    join = '"$1"/join_all run'
-    files = {it: Path(folder, "run", it).read_text() for it in ("parts", "survey", "run", "text.1", "text.4")}
-    parts = files["parts"].splitlines(keepends=True)
-    total = parts[-1].strip().partition("..")[2]
-    lists = {
-        "short": parts[:-1],
-        "headless": parts[1:],
-        "turned": [parts[1], parts[0], *parts[2:]],
-        "with a gap": [parts[0], *parts[2:]],
-        "twice": [*parts, parts[-1]],
-        "empty": [],
-        "cut": ["".join(parts)[:-1]],
-        "one part of all": [f"0..{total}\n"],
-    }
-    for name, lines in lists.items():
-        Path(folder, "run/parts").write_text("".join(lines))
-        found += refused(f"a list of parts that is {name}", sh(folder, join, MACHINES), "join_all")
-        # the same where the survey has been changed with it
-        survey = [it for it in files["survey"].splitlines(keepends=True) if not it.startswith("part ")]
-        Path(folder, "run/survey").write_text("".join([*survey, *(f"part {it}" for it in lines)]))
-        if name != "one part of all":
-            found += refused(f"a survey that is {name}", sh(folder, join, MACHINES), "join_all")
-        for kept in ("parts", "survey"):
-            Path(folder, "run", kept).write_text(files[kept])
-    changed = {
-        "run": files["run"].replace(f"{total} ", "9 "),
-        "text.1": files["text.4"],
-        "text.4": files["text.4"][:-1],
-        "survey": files["survey"].replace(f"total {total}", "total 9"),
-    }
-    for name, content in changed.items():
-        Path(folder, "run", name).write_text(content)
-        found += refused(f"a run with another {name}", sh(folder, join, MACHINES), "join_all")
-        Path(folder, "run", name).write_text(files[name])
-    # What programs print that end as if all were well.
-    last = whole.stdout.splitlines()[-1]
-    for printed in ("", files["text.1"], whole.stdout[:-1], whole.stdout.replace(last + "\n", ""), whole.stdout.replace(last, last.replace(total, "9", 1)), whole.stdout[1:]):
-        Path(folder, "printed").write_text(printed)
-        Path(folder, "other").write_text("#!/bin/sh\ncat printed\nexit 1\n")
-        Path(folder, "other").chmod(0o755)
-        found += refused(f"{printed!r}", sh(folder, f"CRASHBPF=./other {join}", MACHINES), "join_all")
-    Path(folder, "printed").write_text(whole.stdout)
-    Path(folder, "other").write_text("#!/bin/sh\ncat printed\n")
-    found += refused("a report whose status is 0", sh(folder, f"CRASHBPF=./other {join}", MACHINES), "join_all")
-    found += refused("a full disk", sh(folder, f"{join} > /dev/full", MACHINES), "join_all")
-    found += refused("no folder", sh(folder, '"$1"/join_all absent', MACHINES), "join_all")
-    joined = sh(folder, join, MACHINES)
-    found += differs("the report", (joined.returncode, joined.stdout), (whole.returncode, whole.stdout))
-    return found + differs("what is left", list(Path(folder, "run").glob("steps*")), [])
-
-
-def joins_many_parts(folder):
-    """What is wrong with a run of more parts than are joined at a time. Its texts are made of its report."""
-    run = Run([*DESIGNS["two_slots/wrong"].recorded, W(0, 4, 7)], 4, bound=2, tears=True)
-    whole, found = laid_out(folder, run, 1003)
-    head = [it for it in whole.stdout.splitlines(keepends=True) if it.startswith(("sectors ", "program "))]
-    failing = [it for it in whole.stdout.splitlines(keepends=True) if it.startswith("image ")]
-    inputs = Path(folder, "run/run").read_text()
-    for number, part in enumerate(Path(folder, "run/parts").read_text().split(), 1):
-        begin, end = map(int, part.split(".."))
-        lines = [it for it in failing if begin <= int(it.split()[1]) < end]
-        count = len({it.split()[1] for it in lines})
-        text = ["crash part 1\n", f"part {part} of {inputs}", *head, *lines, f"images {end - begin} failing {count} lines {len(lines)}\n"]
-        Path(folder, f"run/text.{number}").write_text("".join(text))
-    joined = sh(folder, '"$1"/join_all run', MACHINES)
-    found += differs("the report", (joined.returncode, joined.stdout, joined.stderr), (whole.returncode, whole.stdout, ""))
-    Path(folder, "run/text.1002").write_text(Path(folder, "run/text.1001").read_text())
-    return found + refused("a text that is there twice", sh(folder, '"$1"/join_all run', MACHINES), "join_all")
-
-
-def leaves_nothing(folder):
-    """What is wrong with what scripts leave where a signal ends them."""
-    found = laid_out(folder, Run(DESIGNS["two_slots/wrong"].recorded, 4), 2)[1]
-    found += differs("what is judged", sh(folder, JUDGE, "run").returncode, 0)
-    Path(folder, "run/text.2").rename(Path(folder, "text"))
-    Path(folder, "slow").write_text('#!/bin/sh\n[ "$1" != "$SLOW" ] || { echo "$1" > going; exec sleep 60; }\nexec crashbpf "$@"\n')
-    Path(folder, "slow").chmod(0o755)
-    calls = [("lay_out", it, f"{MACHINES}/lay_out new 2 disk.log --sectors 4 -- checker.bpf") for it in ("images", "explore")]
-    calls += [("run_part", "explore", "run/run_part run 2"), ("join_all", "join", f"{MACHINES}/join_all run")]
-    for name, command, words in calls:
-        if name == "join_all":
-            Path(folder, "text").rename(Path(folder, "run/text.2"))
-        before = sorted(Path(folder).rglob("*"))
-        for number in (signal.SIGTERM, signal.SIGINT, signal.SIGHUP):
-            surroundings = {**os.environ, "CRASHBPF": str(Path(folder, "slow")), "SLOW": command}
-            call = subprocess.Popen(words.split(), cwd=folder, env=surroundings, stdout=subprocess.PIPE, stderr=subprocess.PIPE, start_new_session=True)
-            while not Path(folder, "going").exists() and call.poll() is None:
-                time.sleep(0.02)
-            call.send_signal(number)
-            try:
-                printed = call.communicate(timeout=20)[0]
-            except subprocess.TimeoutExpired:
-                os.killpg(call.pid, signal.SIGKILL)
-                printed = call.communicate()[0]
-            found += differs(f"what {name} ends with at {number.name}", (call.returncode, printed), (2, b""))
-            Path(folder, "going").unlink(missing_ok=True)
-            found += differs(f"what {name} leaves at {number.name}", sorted(Path(folder).rglob("*")), before)
-            shutil.rmtree(Path(folder, "new"), ignore_errors=True)
+def left_running(folder):
+    """The processes whose environment names a folder."""
+    found = []
+    for it in Path("/proc").glob("[0-9]*"):
+        try:
+            if f"TMPDIR={folder}/tmp".encode() in Path(it, "environ").read_bytes():
+                found.append(Path(it, "cmdline").read_bytes())
+        except OSError:
+            pass
     return found
 
 
-def compared(folder, commands, stored, keep):
-    """What is wrong with commands of docs/CI.md that compare a run with what is stored of one; `keep` stores it."""
-    Path(folder, "check.bpf").write_bytes((TOP / "examples/two_slots/checker.bpf").read_bytes())
-    found = []
-    # The log of which a report is stored, the log at hand, and the status.
-    for known, at_hand, status in (("wrong", "wrong", 0), ("wrong", "right", 1), ("right", "wrong", 1), ("right", "right", 0)):
-        shutil.copy(LOGS / f"two_slots/{known}.log", Path(folder, "writes.log"))
-        Path(folder, stored).unlink(missing_ok=True)
-        sh(folder, keep)
-        shutil.copy(LOGS / f"two_slots/{at_hand}.log", Path(folder, "writes.log"))
-        done = sh(folder, commands)
-        found += differs(f"the status of {at_hand} beside {known}", done.returncode, status)
-    Path(folder, "writes.log").write_bytes(b"no log")
-    return found + differs("the status of a refusal", sh(folder, commands).returncode, 2)
+def with_folder(folder):
+    """Surroundings in which the runners' files stand in a folder of the test's."""
+    Path(folder, "tmp").mkdir(exist_ok=True)
+    return {**os.environ, "TMPDIR": f"{folder}/tmp"}
 
 
-def known_failures(folder):
-    """What is wrong with both commands of docs/CI.md that compare, each beside what was stored of its own report."""
-    text = (TOP / "docs/CI.md").read_text().partition("## Known failures")[2].partition("\n## ")[0]
-    blocks = re.findall(r"```sh\n(.*?)```", text, re.S)
-    if len(blocks) != 2:
-        return ["docs/CI.md hasn't both commands"]
-    by_report, by_answers = blocks
-    found = compared(folder, by_report, "known.report", by_report.replace("new.report", "known.report"))
-    return found + compared(folder, by_answers, "known.answers", by_answers.replace("new.answers", "known.answers"))
+def ends_programs(folder):
+    """What is wrong where programs misbehave: each verdict is its own, and nothing is left."""
+    run = Run([W(0, 1, 1), F, W(1, 1, 2), M("end"), W(2, 1, 3)], bound=2)
+    words, found = put(folder, run), []
+    for what, (text, says, note) in WILD.items():
+        program = sh_words(f'cd "$(dirname "$1")"; {text}')
+        done = each(folder, ["-j", "8", "--keep", "kept", "--timeout", "0.4" if says == "out of time" else "30", *words], program, env=with_folder(folder))
+        count = len({of.number for _image, of in firsts(run)})
+        note = re.sub(r"\d+ images", f"{count} images", note)
+        found += ended(what, done, 1 if says else 0, report(run, program, lambda of: says), f"crashbpf-each: {note}" if note else "")
+        found += differs(f"what {what} leaves", (left_running(folder), list(Path(folder, "tmp").iterdir())), ([], []))
+        for it in Path(folder, "kept").glob("*.said"):
+            size, end = it.stat().st_size, it.read_bytes()[-50:]
+            if "prints" in what and not (65536 < size < 65700 and b" bytes more were printed]\n" in end):
+                found.append(f"{it.name} of a program that {what} has {size} bytes, and ends {end!r}")
+        shutil.rmtree(Path(folder, "kept"))
+    return found
+
+
+def sees_changes(folder):
+    """What is wrong where a program with --read-only changes the file."""
+    words, found = put(folder, SMALL), []
+    texts = {
+        "writes": 'printf x | dd of="$1" bs=1 conv=notrunc',
+        "writes and sets the time": 'touch -r "$1" ../t; printf x | dd of="$1" bs=1 conv=notrunc; touch -r ../t "$1"',
+        "touches": 'touch -d 2001-01-01 "$1"',
+        "is longer": 'echo >> "$1"',
+        "is another": 'cp "$1" "$1.new"; mv "$1.new" "$1"',
+        "is gone": 'rm "$1"',
+    }
+    for what, text in texts.items():
+        done = each(folder, ["--read-only", *words], sh_words(f'[ "$CRASH_MARKS" -eq 0 ] || {{ {text}; }} 2> /dev/null'))
+        found += refused(what, done, r"the program changed (the file|bytes) of image \d+")
+        Path(folder, STATE).unlink(missing_ok=True)
+    # What no time tells: bytes that were changed through memory.
+    Path(folder, "mapped").write_text(
+        "import mmap, sys\nwith open(sys.argv[1], 'r+b') as file:\n    with mmap.mmap(file.fileno(), 0) as it:\n        it[5] = 77\n"
+    )
+    found += refused("bytes in memory", each(folder, ["--read-only", *words], [sys.executable, "mapped", "{}"]), r"the program changed ")
+    Path(folder, STATE).unlink(missing_ok=True)
+    done = each(folder, ["--read-only", "-j", "2", *words], sh_words('cat "$1"; touch beside "$1.beside"; exit 1'))
+    return found + ended("what is beside it", done, 1, report(SMALL, sh_words('cat "$1"; touch beside "$1.beside"; exit 1'), lambda of: "answer 1 codes -"))
+
+
+def fills_the_disk(folder):
+    """What is wrong where there is no room for what is to be written: a limit of each file stands for a disk that is full."""
+    words, found = put(folder, SMALL), []
+    limited = [sys.executable, "-c", "import os, resource, signal, sys; signal.signal(signal.SIGXFSZ, signal.SIG_IGN); "
+               "resource.setrlimit(resource.RLIMIT_FSIZE, (int(sys.argv[1]),) * 2); os.execvp(sys.argv[2], sys.argv[2:])"]
+    for size in (0, 1000, 2048 + 100, 600):
+        done = subprocess.run([*limited, str(size), EACH, *words, "--", "sh", "-c", "exit 1"], cwd=folder, capture_output=True, text=True)
+        if done.returncode == 1:
+            found += differs(f"the report with files of {size} bytes", done.stdout, report(SMALL, ["sh", "-c", "exit 1"], lambda of: "answer 1 codes -"))
+        else:
+            found += refused(f"files of {size} bytes", done, r".*(File too large|No space left)")
+        Path(folder, STATE).unlink(missing_ok=True)
+    full = sh(folder, f'"$1" disk.log {SMALL.options()} -- false > /dev/full', EACH)
+    found += refused("a full disk", full, r".*No space left")
+    again = each(folder, ["--resume", *words], ["false"])
+    return found + ended("what goes on after it", again, 1, report(SMALL, ["false"], lambda of: "answer 1 codes -"))
+
+
+def stopped(folder, words, program, number, whole):
+    """Starts a run, ends it by a signal as soon as some images are judged, and returns how it ended and what it said."""
+    call = subprocess.Popen([EACH, *words, "--", *program], cwd=folder, stdout=subprocess.PIPE, stderr=subprocess.PIPE, text=True, env=with_folder(folder), start_new_session=True)
+    while len(list(Path(folder).glob("judged.*"))) < whole and call.poll() is None:
+        time.sleep(0.01)
+    call.send_signal(number)
+    printed, said = call.communicate(timeout=30)
+    deadline = time.monotonic() + 10
+    while (left_running(folder) or list(Path(folder, "tmp").iterdir())) and time.monotonic() < deadline:
+        time.sleep(0.01)
+    return call.returncode, printed, said
+
+
+def goes_on(folder):
+    """What is wrong with what is left where a run is stopped, and with how it goes on."""
+    words, found = [*put(folder, SMALL), "-j", "2"], []
+    program = sh_words("touch judged.$CRASH_CUT.$CRASH_CHOICE; [ $CRASH_CUT -lt 5 ] || [ -e go ] || exec sleep 60; [ $CRASH_CUT -gt 3 ]")
+    wanted = report(SMALL, program, lambda of: "answer 1 codes -" if of.cut <= 3 else None)
+    judged = sum(1 for image, of in firsts(SMALL) if image is of and of.cut < 5)
+    for number in (signal.SIGINT, signal.SIGTERM, signal.SIGHUP, signal.SIGKILL):
+        status, printed, said = stopped(folder, words, program, number, judged + 2)
+        line = "crashbpf-each: stopped; with --resume the same words go on\n"
+        found += differs(f"how {number.name} ends it", (status, printed, said), (2, "", line) if number != signal.SIGKILL else (-9, "", ""))
+        found += differs(f"what {number.name} leaves", (left_running(folder), list(Path(folder, "tmp").iterdir())), ([], []))
+        again = each(folder, words, ["true"])
+        found += refused("a run beside what was stopped", again, f"{STATE} is of a run that was stopped")
+        kept = Path(folder, STATE).read_bytes()
+        found += refuses_others(folder, words, program) if number == signal.SIGINT else []
+        # A line that was being written, as the death of a process may leave it.
+        Path(folder, STATE).write_bytes(kept + b"image 7 answ")
+        Path(folder, "go").touch()
+        for it in Path(folder).glob("judged.*"):
+            it.unlink()
+        done = each(folder, ["--resume", *words[:-1], "3"], program)
+        found += ended(f"what goes on after {number.name}", done, 1, wanted)
+        again = sum(1 for it in Path(folder).glob("judged.[0-4].*"))
+        found += [] if again <= (1 if number == signal.SIGKILL else 0) else [f"{again} images were judged twice after {number.name}"]
+        found += [] if not Path(folder, STATE).exists() else ["a run that is done leaves its state"]
+        for it in (*Path(folder).glob("judged.*"), Path(folder, "go")):
+            it.unlink()
+    return found
+
+
+def refuses_others(folder, words, program):
+    """What is wrong where a state is of another run, is damaged, or is another's at the time. It is left as it is."""
+    state, found = Path(folder, STATE), []
+    kept = state.read_bytes()
+    shutil.copy(Path(folder, "disk.log"), Path(folder, "other.log"))
+    with open(Path(folder, "other.log"), "ab") as file:
+        file.write(b"x")
+    Path(folder, "other.base").write_bytes(b"x" * 512)
+    cases = {
+        "log": (["other.log", *words[1:]], program),
+        "base": ([*words, "--base", "other.base"], program),
+        "options": ([*words, "--timeout", "9"], program),
+        "options ": ([*words, "--first"], program),
+        "program or its words": (words, [*program, "x"]),
+    }
+    for what, (other, judge) in cases.items():
+        found += refused(f"another {what}", each(folder, ["--resume", *other], judge), f"{STATE} isn't gone on with: it is of another {what.strip()}")
+        found += differs("the state", state.read_bytes(), kept)
+    lines = kept.splitlines(keepends=True)
+    verdict = lines[5]
+    damaged = {
+        "twice": kept + verdict,
+        "empty": b"",
+        "headless": b"".join(lines[1:]),
+        "zeros": kept + bytes(100) + b"\n",
+        "other": kept + verdict.replace(b"answer", b"answers"),
+        "large": kept + b"image 07 answer 1 codes -\n",
+        "not text": kept + b"\xff\n",
+    }
+    for what, data in damaged.items():
+        state.write_bytes(data)
+        found += refused(f"a state that is {what}", each(folder, ["--resume", *words], program), f"{STATE} isn't gone on with: ")
+    state.write_bytes(kept)
+    holder = subprocess.Popen([sys.executable, "-c", f"import fcntl, time; file = open({str(state)!r}); fcntl.flock(file, fcntl.LOCK_EX); print(flush=True); time.sleep(60)"], stdout=subprocess.PIPE)
+    holder.stdout.readline()
+    found += refused("another at the time", each(folder, ["--resume", *words], program), f"another run goes on with {STATE}")
+    holder.kill()
+    holder.communicate()
+    return found
+
+
+def exported(folder, run):
+    """What `crashbpf export` prints of a run."""
+    return subprocess.run(["crashbpf", "export", *put(folder, run)], cwd=folder, capture_output=True, check=True).stdout
+
+
+def refuses_cut_exports(folder):
+    """What is wrong with exports that are cut off anywhere, or say what can't be: none is taken for one of fewer images."""
+    sys.path.insert(0, str(EACH.parent))
+    stream, faults = importlib.import_module("stream"), importlib.import_module("faults")
+    run = Run([W(0, 1, 1), W(1, 1, 2), F, M("end"), W(0, 1, 3)])
+    text, total = exported(folder, run), len(firsts(run))
+    found = differs("the number of images", len(list(stream.images(io.BytesIO(text), 4, total))), total)
+    head, last = text[: text.rindex(b"total ")], text[text.rindex(b"total ") :]
+    count = int(last.split()[3])
+    others = [text[:end] for end in range(len(text))] + [text + b"\n", text + last, head + head + last, last, b"total 0 new 0\n"]
+    others += [text.replace(b" same 0\n", b" same 9\n"), text.replace(b" same ", b" new ", 1), text.replace(b" new 1\n", b" new 2\n", 1)]
+    others += [text.replace(b"image 1 ", b"image 2 ", 1), text.replace(b" new 1\n", b" new 01\n", 1), text.replace(b"choice -", b"choice ", 1)]
+    others += [head + b"total %d new %d\n" % it for it in ((total + 1, count), (total, count + 1), (total - 1, count), (total, 0))]
+    at = text.index(b" new 1\n") + len(b" new 1\n")
+    others += [text[:at] + struct.pack("<Q", it) + text[at + 8 :] for it in (4, 2**63)]
+    for other in others:
+        try:
+            list(stream.images(io.BytesIO(other), 4, total))
+            found.append(f"an export is taken: {other[-60:]!r}")
+        except faults.Refusal:
+            pass
+    # The same from a process, which may end otherwise than its text says.
+    words = put(folder, run)
+    Path(folder, "text").write_bytes(text)
+    for tail, status, says in (("head -c 700 text", 0, "what crashbpf export printed is cut off"), ("cat text", 3, r"crashbpf export ended with 3: no memory"), ("head -c 700 text", 2, r"what crashbpf export printed is cut off.*; it ended with 2: no memory"), ("cat text; kill -9 $$", 0, "crashbpf export ended with -9")):
+        Path(folder, "other").write_text(f'#!/bin/sh\n[ "$1" = export ] || exec crashbpf "$@"\n{tail}; [ {status} = 0 ] || echo no memory >&2\nexit {status}\n')
+        Path(folder, "other").chmod(0o755)
+        found += refused(f"{tail}, {status}", each(folder, words, ["true"], env={**os.environ, "CRASHBPF": "./other"}), says)
+        Path(folder, STATE).unlink(missing_ok=True)
+    return found
+
+
+REFUSED = {
+    "": "usage: ",
+    "disk.log --sectors 4": "usage: ",
+    "disk.log --sectors 4 --": "usage: ",
+    "disk.log --sectors 4 -- ''": "usage: ",
+    "disk.log -- true": "usage: ",
+    "--sectors 4 -- true": "usage: ",
+    "disk.log disk.log --sectors 4 -- true": "usage: ",
+    "disk.log --sectors 4 --images 0..1 -- true": "there is no option '--images'",
+    "disk.log --sectors 4 --workers 2 -- true": "there is no option '--workers'",
+    "disk.log --sectors 4 --bound -- true": "--bound wants a value",
+    "disk.log --sectors 4 --sectors 4 -- true": "--sectors stands there twice",
+    "disk.log --sectors 04 -- true": "--sectors is 1 to 1048576",
+    "disk.log --sectors 1048577 -- true": "--sectors is 1 to 1048576",
+    "disk.log --sectors 20000 -- true": "crashbpf refuses the log disk.log, or its options: refused 13 at 1",
+    "disk.log --sectors 1 -- true": "crashbpf refuses the log disk.log, or its options: refused 9 at 0",
+    "disk.log --sectors 4 --bound 4 -- true": "crashbpf refuses the log disk.log, or its options: refused 13 at 2",
+    "disk.log --sectors 4 --base disk.log -- true": "crashbpf refuses the log disk.log, or its options: refused 13 at 14",
+    "disk.log --sectors 4 --base absent -- true": ".*No such file.*absent",
+    "absent --sectors 4 -- true": ".*No such file.*absent",
+    ". --sectors 4 -- true": "",
+    "/dev/null --sectors 4 -- true": "/dev/null is no regular file",
+    "-j 0 disk.log --sectors 4 -- true": "-j is 1 to 64",
+    "-j 65 disk.log --sectors 4 -- true": "-j is 1 to 64",
+    "--timeout 0 disk.log --sectors 4 -- true": "--timeout is ",
+    "--timeout 1e3 disk.log --sectors 4 -- true": "--timeout is ",
+    "--timeout 86401 disk.log --sectors 4 -- true": "--timeout is ",
+    "--keep full disk.log --sectors 4 -- true": "full isn't empty",
+    "--keep disk.log disk.log --sectors 4 -- true": ".*File exists",
+    "--resume disk.log --sectors 4 -- true": f"there is no {STATE} to go on with",
+    "disk.log --sectors 4 -- ./absent": "there is no program ./absent",
+    "disk.log --sectors 4 -- ./disk.log": "there is no program ./disk.log",
+    "disk.log --sectors 4 -- ./broken {}": "the program can't be run: .*Exec format error",
+}
+
+
+def refuses(folder):
+    """What is wrong with the refusals; nothing is left by them."""
+    put(folder, SMALL)
+    Path(folder, "full").mkdir()
+    Path(folder, "full/file").touch()
+    Path(folder, "broken").write_bytes(b"\0\0\0\0")
+    Path(folder, "broken").chmod(0o755)
+    surroundings, found = with_folder(folder), []
+    before = sorted(Path(folder).rglob("*"))
+    for words, says in REFUSED.items():
+        done = subprocess.run(["sh", "-c", f'"$1" {words}', "sh", EACH], cwd=folder, capture_output=True, text=True, env=surroundings, stdin=subprocess.DEVNULL)
+        found += refused(words, done, says)
+        found += differs(f"what {words!r} leaves", sorted(Path(folder).rglob("*")), before)
+    return found
+
+
+def takes_any_name(folder):
+    """What is wrong where files and words have odd names."""
+    run, found = Run([W(0, 1, 1)]), []
+    for name in ("x=y", "a b", "*", "two\nlines", "$(touch stolen)", 'q"\\', "", "é\t"):
+        program = ["sh", "-c", '[ "$1" = "$2" ] && [ -f "$3" ]', "sh", name, name, "{}"]
+        for file in [it for it in (f"./{name}", name) if name and not name.startswith("-")] or ["disk.log"]:
+            words = put(folder, run)
+            if file != "disk.log":
+                Path(folder, "disk.log").rename(Path(folder, file))
+            done = each(folder, [file, *words[1:]], program)
+            found += ended(repr(name), done, 0, report(run, program, lambda of: None))
+            Path(folder, file).unlink()
+    return found + (["a word was run"] if Path(folder, "stolen").exists() else [])
+
+
+def says_progress(folder):
+    """What is wrong with the line that a terminal is shown."""
+    ours, theirs = pty.openpty()
+    call = subprocess.Popen([EACH, *put(folder, SMALL), "-j", "1", "--", "sleep", "0.1"], cwd=folder, stdout=subprocess.PIPE, stderr=theirs)
+    printed = call.communicate()[0].decode()
+    os.set_blocking(ours, False)
+    said = os.read(ours, 1 << 16).decode()
+    os.close(ours)
+    os.close(theirs)
+    total = len(firsts(SMALL))
+    line = rf"\r\x1b\[Kprogress: (\d+) of {total} images, \d+ of them judged, 0 failing; (\d+) left(, some \d+ s)?"
+    right = re.fullmatch(rf"({line})+\r\x1b\[K", said)
+    found = differs("the report", printed, report(SMALL, ["sleep", "0.1"], lambda of: None))
+    return found + ([] if right and all(int(it[0]) + int(it[1]) == total for it in re.findall(line, said)) else [f"a terminal is shown {said!r}"])
 
 
 def rows():
-    small = [W(0, 2, 1), W(2, 1, 2), F, W(1, 2, 3), M("end"), W(3, 1, 4)]
-    yield "images by sector, with tears", lambda folder: gives_images(folder, Run(small, bound=1, tears=True, cuts="flush"))
-    yield "images by write, with a flush and a range", lambda folder: gives_images(
-        folder, Run(small, bound=2, by="write", flush=(1, 5), first=2, last=5)
-    )
+    tears = Run(SMALL.recorded, bound=1, tears=True, cuts="flush")
+    by_write = Run(SMALL.recorded, bound=2, by="write", flush=(1, 5), first=2, last=5, base=bytes(range(256)) * 5)
+    yield "images by sector, with tears", lambda folder: gives_images(folder, tears, "2")
+    yield "images by write, with a flush, a range and a base", lambda folder: gives_images(folder, by_write, "1")
+    yield "a run without images", lambda folder: gives_images_of_none(folder)
     yield "images of a large device", gives_large
-    yield "an image of a run in parts", gives_many
-    yield "groups of why", gives_groups
-    yield "refusals", refuses
-    yield "reports that are cut off", refuses_cut_reports
-    yield "odd names", takes_any_name
+    yield "verdicts", tells_verdicts
+    yield "a log of two slots", gives_design
     if all(map(shutil.which, TOOLS)):
         yield "images of ext2", gives_ext2
     else:
         print(f"not run: images of ext2, since there is no {' or no '.join(it for it in TOOLS if not shutil.which(it))}")
-    writes = DESIGNS["two_slots/wrong"].recorded
-    yield "a run in parts", lambda folder: judges_in_parts(folder, Run(writes, 4, bound=2, tears=True), 16, "--workers 2")
-    yield "the first failing image of a run in parts", lambda folder: judges_in_parts(folder, Run(writes, 4, bound=2), 5, "--first")
-    yield "a part that is killed", lambda folder: kills_a_part(folder, Run(writes, 4, bound=2, tears=True))
-    yield "runs that can't be laid out", lays_out_no_other
-    yield "odd names of runs", takes_odd_folders
-    yield "no part of a run", judges_no_other_part
-    yield "parts and joins at once", lambda folder: goes_at_once(folder, Run(writes, 4, bound=2, tears=True))
-    yield "what isn't the whole run", joins_whole_runs_alone
-    yield "more than a thousand parts", joins_many_parts
-    yield "signals", leaves_nothing
-    yield "known failures", known_failures
+    yield "programs that misbehave", ends_programs
+    yield "programs that change the file", sees_changes
+    yield "disks that are full", fills_the_disk
+    yield "runs that are stopped", goes_on
+    yield "exports that are cut off", refuses_cut_exports
+    yield "refusals", refuses
+    yield "odd names", takes_any_name
+    yield "progress", says_progress
+
+
+def gives_images_of_none(folder):
+    run = Run([W(0, 1, 1)], cuts="mark")
+    return ended("it", each(folder, put(folder, run), ["false"]), 0, report(run, ["false"], lambda of: "answer 1 codes -"))
+
+
+def gives_design(folder):
+    """What is wrong with the report of a log of the examples, by the sums of its images as a shell can compare them."""
+    run = Run(DESIGNS["two_slots/wrong"].recorded, 4)
+    words, bad = put(folder, run), {of.content() for image, of in firsts(run) if image.cut % 3 == 1}
+    Path(folder, "bad").write_text("".join(f"{hashlib.sha256(it).hexdigest()}\n" for it in bad))
+    program = sh_words('! sha256sum < "$1" | cut -c 1-64 | grep -q -F -f - bad')
+    return ended("it", each(folder, words, program), 1, report(run, program, lambda of: "answer 1 codes -" if of.content() in bad else None))
+
+
+def tried(row):
+    """Returns the name of a row and what is wrong, tried in a folder of its own."""
+    name, check = row
+    with tempfile.TemporaryDirectory() as folder:
+        return name, check(folder)
 
 
 def main(words):
@@ -555,12 +560,12 @@ def main(words):
     with tempfile.TemporaryDirectory() as path:
         os.symlink(program, Path(path, "crashbpf"))
         os.environ["PATH"] = os.pathsep.join([path, os.environ["PATH"], "/usr/sbin", "/sbin"])
-        for name, check in rows():
-            with tempfile.TemporaryDirectory() as folder:
-                found = check(folder)
-            passed, failed = passed + (not found), failed + bool(found)
-            if found:
-                print(f"FAILED {name}: {'; '.join(found)[:2000]}")
+        os.environ.pop("CRASHBPF", None)
+        with ThreadPoolExecutor(AT_A_TIME) as pool:
+            for name, found in pool.map(tried, rows()):
+                passed, failed = passed + (not found), failed + bool(found)
+                if found:
+                    print(f"FAILED {name}: {'; '.join(found)[:2000]}")
     print(f"{passed} passed, {failed} failed")
     return 1 if failed else 0
 

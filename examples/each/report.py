@@ -1,0 +1,44 @@
+"""The report of a run, as `crashbpf explore` prints one of a checker."""
+import os
+import shutil
+import sys
+import tempfile
+
+TITLE = "crash report 2\n"
+
+
+def escaped(word, also=""):
+    """Returns a word as `crashbpf log` prints the text of a mark: printable ASCII but for `"` and `\\`, any other byte by its number."""
+    plain = (chr(it) if 32 <= it < 127 and chr(it) not in '"\\' + also else f"\\x{{{it:x}}}" for it in os.fsencode(word))
+    return "".join(plain)
+
+
+def told(words):
+    """Returns the words of a program in one line, with a space between them: one in a word stands there by its number."""
+    return " ".join(escaped(it, " ") or '""' for it in words)
+
+
+class Report:
+    """The failing lines, in the order of their images, and how many there are."""
+
+    def __init__(self):
+        self.lines, self.count, self.first = tempfile.TemporaryFile(), 0, None
+
+    def add(self, number, cut, choice, verdict):
+        """Adds the failing line of an image."""
+        self.lines.write(f"image {number} cut {cut} program 0 {verdict.text()} choice {choice.decode()}\n".encode())
+        self.count += 1
+        self.first = number if self.first is None else self.first
+
+    def write(self, options, given, total):
+        """Prints the report on standard output."""
+        if given.first:
+            last = f"images {total} first {'none' if self.first is None else self.first}\n"
+        else:
+            last = f"images {total} failing {self.count} lines {self.count}\n"
+        out = sys.stdout.buffer
+        out.write(f"{TITLE}{options}\nprogram 0 outside {told(given.program)}\n".encode())
+        self.lines.seek(0)
+        shutil.copyfileobj(self.lines, out)
+        out.write(last.encode())
+        out.flush()
