@@ -72,7 +72,11 @@ class Crew:
 
     def __init__(self, folder, given):
         self.folder, self.seats = folder, []
-        for number in range(given.runners):
+        rooms = [os.path.join(folder, str(it)) for it in range(given.runners)]
+        # (all of them first: a runner that ends takes away the folder above where nothing is in it)
+        for room in rooms:
+            os.mkdir(room)
+        for room in rooms:
             ours, theirs = socket.socketpair()
             # (a signal that came in between would end both as if they were one; a runner is never ended by one)
             signal.pthread_sigmask(signal.SIG_BLOCK, SIGNALS)
@@ -80,7 +84,7 @@ class Crew:
             if process == 0:
                 for it in [ours, *(seat.channel for seat in self.seats)]:
                     it.close()
-                serve(os.path.join(folder, str(number)), given, theirs)
+                serve(room, given, theirs)
             theirs.close()
             self.seats.append(Seat(process, ours))
             signal.pthread_sigmask(signal.SIG_UNBLOCK, SIGNALS)

@@ -106,12 +106,11 @@ class Runner:
 
 
 def serve(folder, given, channel):
-    """Is a runner, until the other side is closed. Returns to nobody."""
+    """Is a runner in a folder of its own, until the other side is closed. Returns to nobody."""
     for it in (signal.SIGINT, signal.SIGTERM, signal.SIGHUP, signal.SIGQUIT):
         signal.signal(it, signal.SIG_IGN)
     adopt()
     try:
-        Path(folder).mkdir()
         Runner(folder, given, channel).go()
     except (Gone, BrokenPipeError, ConnectionError):
         pass
