@@ -50,6 +50,7 @@ Where the rows stand
     rows/trials.py      programs on one image: what they come to, their steps and the last ones in words
     rows/modelled.py    whole reports of many logs, against the model
     rows/small_logs.py  every image of small logs, what their cuts leave open, accepted programs with and without checks
+    rows/export.py      all images of a log as bytes, against the model
     rows/shown.py       images in words, by number and by cut and choice, against the model
     rows/why.py         why checkers fail, of many logs and of the designs, against the model
     rows/cure.py        where flushes are missing, of many logs and of the designs, against the model
@@ -112,6 +113,7 @@ from rows import (
     each_option,
     encodings,
     examples,
+    export,
     flushes,
     footprints,
     guards,
@@ -164,6 +166,7 @@ TABLES = [
     modelled,
     small_logs,
     shown,
+    export,
     why,
     cure,
     browser,

@@ -36,7 +36,7 @@ FILES = {
 
 # The words of each command on the log of ENTRIES, but for the options; a run of `image` and of `show` has a number too.
 RUNS = {it: f"{it} log p0" for it in ["explore", "why", "cure", "page"]}
-LOGS = {**RUNS, "images": "images log", "image": "image log", "show": "show log"}
+LOGS = {**RUNS, "images": "images log", "export": "export log", "image": "image log", "show": "show log"}
 
 
 def given(words):
@@ -80,6 +80,8 @@ def of_images(option):
             pairs[command] = dict(two=two, statuses=(0, 2), differ=("out", "error 1"), holds=("refused 13 at 9\n",))
         elif command == "page":
             pairs[command] = dict(two=two, statuses=(1, 1), differ=("out", *NOTED.get(option, ())))
+        elif command == "export":
+            pairs[command] = dict(two=two, differ=("out", *NOTED.get(option, ())))
         else:
             status = 0 if command == "images" else 1
             echoed = () if command == "images" else ("out 2",)
@@ -127,6 +129,7 @@ PAIRS["base"] = {
 PAIRS["base"]["image"] = dict(two=["image log 0 --sectors 4", "image log 0 --sectors 4 --base base"], differ=("out",))
 DROPPED = "show log --cut 1 --choice 0.0:drop --sectors 4"
 PAIRS["base"]["show"] = dict(two=[DROPPED, f"{DROPPED} --base base"], differ=("out -1",))
+PAIRS["base"]["export"] = dict(two=["export log --sectors 4", "export log --sectors 4 --base base"], differ=("out",))
 PAIRS["base"]["images"] = refusing("images log --sectors 4", "--base base", "--base long", "refused 13 at 14")
 PAIRS["base"]["log"] = refusing("log log --sectors 4", "--base base", "--base long", "refused 13 at 14")
 
@@ -166,6 +169,7 @@ PAIRS["first"] = {"explore": dict(two=["explore log p0 --sectors 4", "explore lo
 TOO_MANY = "--sectors 3000 --bound 3"
 PAIRS["images"] = {
     "explore": dict(two=["explore log p0 --sectors 4", "explore log p0 --sectors 4 --images 0..2"], statuses=(1, 1), differ=("out 1", "out -1"), holds=("crash part 1\n",)),
+    "export": dict(two=["export log --sectors 4", "export log --sectors 4 --images 0..2"], differ=("out",), holds=("total 2 new 2\n",)),
     "images": refusing(f"images wide {TOO_MANY}", "--images", "", "refused 12 at 1"),
     "image": refusing(f"image wide 0 {TOO_MANY}", "--images", "", "refused 12 at 1"),
     "show": refusing(f"show wide 0 {TOO_MANY}", "--images", "", "refused 12 at 1"),

@@ -3,6 +3,7 @@ such run ends with the number of its refusal and its place, and prints nothing; 
 import os
 from dataclasses import replace
 
+from export_model import exported
 from model import Checker, Run, explored, zero
 from notation import SECTOR, F, Folder, Hole, Link, Locked, Long, Row, W, code, log, refused
 from parts_model import PART_LINE, layout, part, report
@@ -36,12 +37,13 @@ ANSWERED = [
     cured("inputs", RUN),
     paged("inputs", RUN),
     SURVEYED,
+    Row("export", f"export log {RUN.options()}", {"log": log(RUN.recorded)}, exported(RUN)),
     *shown("inputs", RUN, [NUMBER]),
     in_words(RUN)[-1],
     Row("log", "log log --sectors 4 --base base", {"log": log(RUN.recorded)}, TABLE),
 ]
 ANSWERS = {it.words.split()[0]: replace(it, files={**it.files, "base": RUN.base}) for it in ANSWERED}
-assert [*ANSWERS] == ["explore", "why", "cure", "page", "images", "image", "show", "log"]
+assert [*ANSWERS] == ["explore", "why", "cure", "page", "images", "export", "image", "show", "log"]
 
 # What a file is that can't be read, as its name and what lies there. A superuser may read a file without permission.
 UNREADABLE = {

@@ -114,6 +114,7 @@ UNWRITTEN = [
     *unwritten("a long report", LONG_WORDS, LONG_FILES),
     *unwritten("the stored run", "", {}),
     *unwritten("images", "images log --sectors 4", files(LOG)),
+    *unwritten("export", "export log --sectors 4", files(LOG)),
     *unwritten("image", "image log 0 --sectors 4", files(LOG)),
     *unwritten("an image of 8 MiB", "image log 0 --sectors 16384", files(LOG)),
     *unwritten("verify", "verify p --sectors 4", {"p": GOOD}),

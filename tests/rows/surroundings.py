@@ -52,6 +52,7 @@ WITHOUT_END = [
     *endless("cure FILE good --sectors 4", "refused 10 at 0"),
     *endless("page FILE good --sectors 4", "refused 10 at 0"),
     *endless("images FILE --sectors 4", "refused 10 at 0"),
+    *endless("export FILE --sectors 4", "refused 10 at 0"),
     *endless("log FILE", "refused 10 at 0"),
     *endless("image FILE 0 --sectors 4", "refused 10 at 0"),
     *endless("show FILE 0 --sectors 4", "refused 10 at 0"),

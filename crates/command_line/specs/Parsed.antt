@@ -131,6 +131,7 @@ Asks p (Some verb.Why) r = (options : OptionWords) × AreOptions p options × (r
 Asks p (Some verb.Cure) r = (options : OptionWords) × AreOptions p options × (r ≡ asks.Cure options)
 Asks p (Some verb.Page) r = (options : OptionWords) × AreOptions p options × (r ≡ asks.Page options)
 Asks p (Some verb.Images) r = (options : OptionWords) × AreOptions p options × (r ≡ asks.Images options p.parts)
+Asks p (Some verb.Export) r = (options : OptionWords) × AreOptions p options × (r ≡ asks.Export options)
 Asks p (Some verb.Image) r = (options : OptionWords) × (meant : Which) × AreOptions p options × IsWhich p meant × (r ≡ asks.Image options meant)
 Asks p (Some verb.Show) r = (options : OptionWords) × (meant : Which) × AreOptions p options × IsWhich p meant × (r ≡ asks.Show options meant)
 Asks p (Some verb.Log) r = (options : OptionWords) × AreOptions p options × (r ≡ asks.Log options)

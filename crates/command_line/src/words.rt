@@ -97,6 +97,17 @@ Example: crashbpf images disk.log --sectors 64 --tears
 
 Exit status: 0, or 2 for a refusal.";
 
+/// What stands after the help of `export`.
+const AFTER_EXPORT: &str =
+    "For each image a line, such as 'image 13 cut 4 epoch 0 marks 1 choice 2.0:drop new 3', and after it 3 records,
+each the number of a sector (8 bytes, lowest first) and its 512 bytes: what differs from the last new image, or
+for the first from what the device held. An image with the same bytes and as many marks as an earlier one, say 13,
+has 'same 13' in place of 'new 3', and no records.
+
+Example: crashbpf export disk.log --sectors 64 > disk.images
+
+Exit status: 0, or 2 for a refusal.";
+
 /// What stands behind the help of `log`.
 const AFTER_LOG: &str =
     "An entry a line, with the number that the report names: sector j of 'sector S count N' is unit j, which
@@ -412,6 +423,19 @@ fn images_command<'a>(alloc: Global) -> Result<Command<'a>, AllocError> {
         ))
 }
 
+/// The command `export`.
+fn export_command<'a>(alloc: Global) -> Result<Command<'a>, AllocError> {
+    log_command(alloc, "export")?
+        .about("Writes the bytes of all crash images, each by the sectors in which it differs")
+        .after_help(AFTER_EXPORT)
+        .arg(word_option(
+            alloc,
+            "images",
+            "A..B",
+            "Write the images from A to below B alone",
+        ))
+}
+
 /// The number of an image, where it isn't named by its cut.
 fn image_number<'a>(alloc: Global) -> Result<Arg<'a>, AllocError> {
     Ok(
@@ -628,6 +652,7 @@ fn commands<'a>(alloc: Global) -> Result<Command<'a>, AllocError> {
     let command = with_command(command, cure_command(alloc))?;
     let command = with_command(command, page_command(alloc))?;
     let command = with_command(command, images_command(alloc))?;
+    let command = with_command(command, export_command(alloc))?;
     let command = with_command(command, image_command(alloc))?;
     let command = with_command(command, show_command(alloc))?;
     let command = with_command(command, table_command(alloc))?;
@@ -735,6 +760,7 @@ impl Words {
             Request::Explore(words) | Request::Why(words) => words.sectors,
             Request::Cure(words) | Request::Page(words) => words.sectors,
             Request::Images(words, _) | Request::Log(words) => words.sectors,
+            Request::Export(words) => words.sectors,
             Request::Image(words, _) | Request::Show(words, _) => words.sectors,
             Request::Verify { words, .. } => words.sectors,
             Request::Check(_) => 0,
@@ -752,6 +778,7 @@ impl Words {
             Request::Explore(words) | Request::Why(words) => words.limits,
             Request::Cure(words) | Request::Page(words) => words.limits,
             Request::Images(words, _) | Request::Log(words) => words.limits,
+            Request::Export(words) => words.limits,
             Request::Image(words, _) | Request::Show(words, _) => words.limits,
             Request::Verify { words, .. } => words.limits,
             Request::Check(words) => words.limits,

@@ -247,7 +247,7 @@ fn names_instruction(cause: VerifierCause) -> bool {
 fn log_options(request: Request) -> Option<OptionWords> {
     match request {
         Request::Images(words, _) | Request::Image(words, _) => Some(words),
-        Request::Show(words, _) => Some(words),
+        Request::Show(words, _) | Request::Export(words) => Some(words),
         _ => run_options(request),
     }
 }

@@ -85,6 +85,7 @@ pub fn notes_beside(alloc: Global, words: &Words, facts: &Facts) -> Result<Strin
             put_mark_notes(&mut out, facts)?;
             put_survey_notes(&mut out, options, facts)?
         }
+        Request::Export(options) => put_survey_notes(&mut out, options, facts)?,
         Request::Images(options, _) => put_survey_notes(&mut out, options, facts)?,
         Request::Log(_) => put_mark_notes(&mut out, facts)?,
         _ => (),

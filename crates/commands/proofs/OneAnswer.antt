@@ -35,6 +35,8 @@ use Rattle.raw_log.proofs.Profile.{one_import}
 use Rattle.looks.specs.Which.{IsMeant, IsOnly}
 use Rattle.looks.specs.Image.{text_in, IsImageIn, IsImage, IsShown}
 use Rattle.looks.specs.Survey.{survey_text, parts_text, IsSurvey}
+use Rattle.looks.specs.Export.{exported, IsExport}
+use Rattle.export.specs.Export.{export_text}
 use Rattle.looks.specs.Table.{IsTable}
 use Rattle.looks.specs.Verifying.{verified_text, IsAcceptedText}
 use Rattle.looks.specs.Assembly.{listing_text, IsAssembled, IsListed}
@@ -153,6 +155,10 @@ one_survey : Laws → (parts : Option ℕ) (s : Settings) → IsOneOf (λ text b
 one_survey laws parts s text bytes others a b =
     a.told ∙ ap (λ v. survey_text (plan_of s v) s.bound s.tears ++ parts_text parts (length (images_of s v))) (same_log laws.texts text s a.value b.value a.source b.source) ∙ sym b.told
 
+one_export : Laws → (s : Settings) → IsOneOf (λ text bytes. IsExport text s bytes)
+one_export laws s text bytes others a b =
+    a.told ∙ ap (λ (v : LogValue). export_text (exported s v)) (same_log laws.texts text s a.value b.value a.source b.source) ∙ sym b.told
+
 one_table : Laws → (s : Settings) → IsOneOf (λ text bytes. IsTable text s bytes)
 one_table laws s text bytes others a b =
     let value = same_asked laws.texts text s a.value b.value a.reads b.reads in
@@ -237,6 +243,7 @@ one_answer laws (request.Why w) files bytes others status ended a b = explore_on
 one_answer laws (request.Cure w) files bytes others status ended a b = explore_once laws wanted.Cured w files bytes others status ended a b
 one_answer laws (request.Page w) files bytes others status ended a b = explore_once laws (wanted.Told telling.Page) w files bytes others status ended a b
 one_answer laws (request.Images w parts) files bytes others status ended a b = of_once w (λ s text. IsSurvey parts text s) (one_survey laws parts) files bytes others status ended a b
+one_answer laws (request.Export w) files bytes others status ended a b = of_once w (λ s text. IsExport text s) (one_export laws) files bytes others status ended a b
 one_answer laws (request.Log w) files bytes others status ended a b = of_once w (λ s text. IsTable text s) (one_table laws) files bytes others status ended a b
 one_answer laws (request.Image w which) files bytes others status ended a b = of_once w (λ s text. IsImage text s which) (one_image laws _ which) files bytes others status ended a b
 one_answer laws (request.Show w which) files bytes others status ended a b = of_once w (λ s text. IsShown text s which) (one_image laws _ which) files bytes others status ended a b

@@ -40,6 +40,8 @@ use Rattle.looks.specs.Image as image
 use Rattle.looks.specs.Image.{IsImage, RefusesImage, IsShown}
 use Rattle.looks.specs.Survey as survey
 use Rattle.looks.specs.Survey.{Fits, IsSurvey, RefusesSurvey}
+use Rattle.looks.specs.Export as export
+use Rattle.looks.specs.Export.{IsExport, RefusesExport}
 use Rattle.looks.specs.Layout.{is_layout}
 use Rattle.looks.specs.Table as table
 use Rattle.looks.specs.Table.{IsTable, RefusesTable}
@@ -183,6 +185,11 @@ of_survey below parts s text bytes _ h (survey.for_parts value count source same
     absurd (not_laid parts count (length (images_of s h.value)) same h.fits (ap (λ (v : LogValue). is_layout (length (images_of s v)) count) one ∙ lack))
 of_survey below parts s text bytes _ h (survey.for_memory value source) = refl
 
+of_export : Below → (s : Settings) (text : Recording) (bytes : List ℕ) (r : Refusal) → IsExport text s bytes → RefusesExport text s r → IsOfMemory r.code
+of_export below s text bytes _ h (export.for_extent lack) = absurd (false≢true (sym lack ∙ h.taken))
+of_export below s text bytes _ h (export.for_source r why) = of_source below text s h.value r h.source why
+of_export below s text bytes _ h (export.for_memory value source) = refl
+
 of_table : Below → (s : Settings) (text : Recording) (bytes : List ℕ) (r : Refusal) → IsTable text s bytes → RefusesTable text s r → IsOfMemory r.code
 of_table below s text bytes _ h (table.for_log r why) = of_log below text s h.value r h.reads why
 of_table below s text bytes _ h (table.for_memory value reads) = refl
@@ -278,6 +285,8 @@ answer_or_refusal below (request.Cure w) files bytes status refusal h why = of_e
 answer_or_refusal below (request.Page w) files bytes status refusal h why = of_explore below (wanted.Told telling.Page) w files bytes status refusal h why
 answer_or_refusal below (request.Images w parts) files bytes status refusal h why =
     of_log_with w (λ s text. IsSurvey parts text s) (λ s text. RefusesSurvey parts text s) (of_survey below parts) files bytes status refusal h why
+answer_or_refusal below (request.Export w) files bytes status refusal h why =
+    of_log_with w (λ s text. IsExport text s) (λ s text. RefusesExport text s) (of_export below) files bytes status refusal h why
 answer_or_refusal below (request.Log w) files bytes status refusal h why =
     of_log_with w (λ s text. IsTable text s) (λ s text. RefusesTable text s) (of_table below) files bytes status refusal h why
 answer_or_refusal below (request.Image w which) files bytes status refusal h why =

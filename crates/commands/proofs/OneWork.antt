@@ -30,6 +30,7 @@ use Rattle.runs.specs.declared.explore_command.Wanted.{Wanted}
 use Rattle.runs.specs.declared.explore_command.Wanted.TheVariants as wanted
 use Rattle.looks.specs.Image.{IsImage, IsShown}
 use Rattle.looks.specs.Survey.{IsSurvey}
+use Rattle.looks.specs.Export.{IsExport}
 use Rattle.looks.specs.Table.{IsTable}
 use Rattle.looks.specs.Verifying.{IsAcceptedText}
 use Rattle.commands.specs.Acting.{Files, recording, AnswersExplore, AnswersOf, AnswersWith, Answers}
@@ -215,6 +216,9 @@ answers_alone (request.Page w) files bytes status h = explore_alone (wanted.Told
 answers_alone (request.Images w parts) files bytes status h =
     of_alone w (λ s text. IsSurvey parts text s)
     (λ s held shown k. record { value = k.value; source = images_alone k.source; fits = k.fits; told = k.told }) files bytes status h
+answers_alone (request.Export w) files bytes status h =
+    of_alone w (λ s text. IsExport text s)
+    (λ s held shown k. record { taken = k.taken; value = k.value; source = images_alone k.source; told = k.told }) files bytes status h
 answers_alone (request.Log w) files bytes status h =
     of_alone w (λ s text. IsTable text s)
     (λ s held shown k. record { value = k.value; reads = log_alone k.reads; shown = k.shown }) files bytes status h

@@ -33,6 +33,7 @@ use Rattle.raw_log.specs.Imported.{IsImported}
 use Rattle.looks.specs.Import.{RefusesImport}
 use Rattle.looks.specs.Image.{IsImage, RefusesImage, IsShown}
 use Rattle.looks.specs.Survey.{IsSurvey, RefusesSurvey}
+use Rattle.looks.specs.Export.{IsExport, RefusesExport}
 use Rattle.looks.specs.Table.{IsTable, RefusesTable}
 use Rattle.looks.specs.Verifying.{IsAcceptedText, RefusesVerified}
 use Rattle.looks.specs.Assembly.{IsAssembled, RefusesText, IsListed, RefusesBytes}
@@ -174,6 +175,7 @@ pub record AnswersJoin (part : Bool) (files : Files) (bytes : List ℕ) (status 
 -- what is shown of a log
 abbrev pub Shows : Look → Settings → Recording → List ℕ → Type 0
 Shows (look.Images parts) s text = IsSurvey parts text s
+Shows look.Export s text = IsExport text s
 Shows look.Log s text = IsTable text s
 Shows (look.Image which) s text = IsImage text s which
 Shows (look.Show which) s text = IsShown text s which
@@ -186,6 +188,7 @@ Answers (request.Why w) files bytes status = AnswersExplore (wanted.Told telling
 Answers (request.Cure w) files bytes status = AnswersExplore wanted.Cured w files bytes status
 Answers (request.Page w) files bytes status = AnswersExplore (wanted.Told telling.Page) w files bytes status
 Answers (request.Images w parts) files bytes status = AnswersOf w (λ s text. IsSurvey parts text s) files bytes status
+Answers (request.Export w) files bytes status = AnswersOf w (λ s text. IsExport text s) files bytes status
 Answers (request.Log w) files bytes status = AnswersOf w (λ s text. IsTable text s) files bytes status
 Answers (request.Image w which) files bytes status = AnswersOf w (λ s text. IsImage text s which) files bytes status
 Answers (request.Show w which) files bytes status = AnswersOf w (λ s text. IsShown text s which) files bytes status
@@ -252,6 +255,7 @@ pub data RefusesParts (part : Bool) (files : Files) : Refusal → Type 0 where
 -- when it is refused to show that of a log
 abbrev pub RefusesLook : Look → Settings → Recording → Refusal → Type 0
 RefusesLook (look.Images parts) s text = RefusesSurvey parts text s
+RefusesLook look.Export s text = RefusesExport text s
 RefusesLook look.Log s text = RefusesTable text s
 RefusesLook (look.Image which) s text = RefusesImage text s which
 RefusesLook (look.Show which) s text = RefusesImage text s which
@@ -264,6 +268,7 @@ RefusesToAct (request.Why w) files r = RefusesWith w (RefusesFiles (wanted.Told 
 RefusesToAct (request.Cure w) files r = RefusesWith w (RefusesFiles wanted.Cured files) r
 RefusesToAct (request.Page w) files r = RefusesWith w (RefusesFiles (wanted.Told telling.Page) files) r
 RefusesToAct (request.Images w parts) files r = RefusesWith w (λ s. RefusesRecording files (λ text. RefusesSurvey parts text s)) r
+RefusesToAct (request.Export w) files r = RefusesWith w (λ s. RefusesRecording files (λ text. RefusesExport text s)) r
 RefusesToAct (request.Log w) files r = RefusesWith w (λ s. RefusesRecording files (λ text. RefusesTable text s)) r
 RefusesToAct (request.Image w which) files r = RefusesWith w (λ s. RefusesRecording files (λ text. RefusesImage text s which)) r
 RefusesToAct (request.Show w which) files r = RefusesWith w (λ s. RefusesRecording files (λ text. RefusesImage text s which)) r

@@ -18,7 +18,9 @@ use command_line::Words;
 use facts::{Facts, Recording};
 use join::{JoinFault, join};
 use limits::Limits;
-use looks::{assemble, image, import, list, show, shown_log, survey, verify_program};
+use looks::{
+    assemble, export_images, image, import, list, show, shown_log, survey, verify_program,
+};
 use request::{
     OptionWords, Options, Request, Telling, TrialWords, Which, options_of, trial_of, unreadable,
 };
@@ -37,6 +39,8 @@ const MOST_TEXTS: usize = 4096;
 pub(crate) enum Look {
     /// How many crash images each cut has, and how the run is laid out in so many parts, where that is asked for.
     Images(Option<u64>),
+    /// The bytes of its crash images.
+    Export,
     /// Its entries as a table.
     Log,
     /// One crash image as bytes.
@@ -244,6 +248,7 @@ fn shown(
 {
     match look {
         Look::Images(parts) => survey(alloc, recording, parts, options, facts),
+        Look::Export => export_images(alloc, recording, options, facts),
         Look::Log => shown_log(alloc, recording, options, facts),
         Look::Image(which) => image(alloc, recording, which, options, facts),
         Look::Show(which) => show(alloc, recording, which, options, facts),
@@ -421,6 +426,7 @@ pub(crate) fn act_known<G: Gate + Sync, R: Threads + Wait + Sync>(
             act_explore(rt, alloc, gate, &asked, facts)
         }
         Request::Images(words, parts) => act_look(alloc, Look::Images(parts), words, files, facts),
+        Request::Export(words) => act_look(alloc, Look::Export, words, files, facts),
         Request::Log(words) => act_look(alloc, Look::Log, words, files, facts),
         Request::Import(limits) => act_import(alloc, limits, files),
         Request::Image(words, which) => act_look(alloc, Look::Image(which), words, files, facts),

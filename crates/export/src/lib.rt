@@ -33,6 +33,10 @@
 //! The call that makes the text. Until it is here the crate is a definition with its law.
 #![tactic(auto)]
 
+mod asked;
 mod laws;
+mod walk;
 
+pub use asked::{Asked, Wanted};
 pub use laws::exports_are_images;
+pub use walk::export;

@@ -1,6 +1,7 @@
 -- What the commands show that run no program.
 pub mod Which
 pub mod Image
+pub mod Export
 pub mod Layout
 pub mod Survey
 pub mod Table

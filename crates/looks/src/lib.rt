@@ -53,6 +53,7 @@
 #![tactic(auto)]
 
 mod asm_command;
+mod export_command;
 mod image_command;
 mod images_command;
 mod import_command;
@@ -65,6 +66,7 @@ mod verify_command;
 mod which;
 
 pub use asm_command::assemble;
+pub use export_command::export_images;
 pub use image_command::image;
 pub use images_command::survey;
 pub use import_command::import;

@@ -1,5 +1,5 @@
 -- How many crash images a run may have, and which of them are meant (docs/REPORT.md, The text of a part).
-use Rattle.std.specs.Prelude.{ℕ, ◌-◌, ◌==◌, Bool, true, ◌&&◌, ◌||◌, nat_le, nat_lt}
+use Rattle.std.specs.Prelude.{ℕ, ◌-◌, ◌==◌, Bool, true, false, ◌&&◌, ◌||◌, nat_le, nat_lt}
 use Rattle.choices.specs.Choices.{limit, wide_limit}
 use Rattle.request.specs.declared.extent.Extent.{Extent}
 use Rattle.request.specs.declared.extent.Extent.TheVariants as extent
@@ -9,6 +9,23 @@ abbrev pub most_images : Extent → ℕ
 most_images extent.Whole = limit
 most_images extent.Wide = wide_limit
 most_images (extent.Part from to) = wide_limit
+
+-- the first image that is meant, and the one after the last, of a run with so many: all, or those of the part
+abbrev pub first_meant : Extent → ℕ
+first_meant extent.Whole = 0
+first_meant extent.Wide = 0
+first_meant (extent.Part from to) = from
+
+abbrev pub end_meant : Extent → ℕ → ℕ
+end_meant extent.Whole images = images
+end_meant extent.Wide images = images
+end_meant (extent.Part from to) images = to
+
+-- all that are meant can be taken at once: those of a run that may have more than 16,777,216 can't
+abbrev pub is_at_once : Extent → Bool
+is_at_once extent.Whole = true
+is_at_once extent.Wide = false
+is_at_once (extent.Part from to) = true
 
 -- it can be asked for: a part has an image, or is 0..0, and has no more images than a run
 abbrev pub is_extent : Extent → Bool

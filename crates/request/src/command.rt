@@ -77,6 +77,8 @@ pub enum Request {
     Page(OptionWords),
     /// `images LOG`, with the number behind `--parts`, where that stands there.
     Images(OptionWords, Option<u64>),
+    /// `export LOG`.
+    Export(OptionWords),
     /// `log LOG`, of which the number of sectors counts.
     Log(OptionWords),
     /// `image LOG N`, or with `--cut` and `--choice` in place of the number.

@@ -1,7 +1,7 @@
 //! How many crash images a run may have, and which of them are meant.
 
 ghost use Rattle.std.specs.Prelude.{◌≡◌};
-ghost use Rattle.request.specs.Extents.{most_images, is_extent, has_extent};
+ghost use Rattle.request.specs.Extents.{most_images, first_meant, end_meant, is_at_once, is_extent, has_extent};
 
 /// The most crash images of a run, and of a part of one (docs/CRASH-MODEL.md, Limits).
 const MOST_IMAGES: u64 = 16_777_216;
@@ -32,6 +32,40 @@ impl Extent {
                 from: _from,
                 to: _to,
             } => MOST_WIDE,
+        }
+    }
+
+    /// The first image that is meant.
+    pub fn first(self) -> u64
+        ensures { result ≡ first_meant self }
+    {
+        match self {
+            Extent::Whole | Extent::Wide => 0,
+            Extent::Part { from, to: _to } => from,
+        }
+    }
+
+    /// The image after the last that is meant, of a run of so many.
+    pub fn end(self, images: u64) -> u64
+        ensures { result ≡ end_meant self images }
+    {
+        match self {
+            Extent::Whole | Extent::Wide => images,
+            Extent::Part { from: _from, to } => to,
+        }
+    }
+
+    /// Whether all that are meant can be taken at once: those of a run that may have more than 16,777,216 can't.
+    pub fn is_at_once(self) -> bool
+        ensures { result ≡ is_at_once self }
+    {
+        match self {
+            Extent::Whole => true,
+            Extent::Wide => false,
+            Extent::Part {
+                from: _from,
+                to: _to,
+            } => true,
         }
     }
 

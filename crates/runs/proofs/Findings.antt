@@ -17,7 +17,8 @@ use Rattle.request.specs.declared.settings.Telling.{Telling}
 use Rattle.request.specs.declared.settings.Telling.TheVariants as telling
 use Rattle.request.specs.Source.{plan_of, images_of}
 use Rattle.runs.specs.Inputs.{number_told}
-use Rattle.runs.specs.Judged.{first_judged, judged_end, IsJudged}
+use Rattle.request.specs.Extents.{first_meant, end_meant}
+use Rattle.runs.specs.Judged.{IsJudged}
 use Rattle.runs.specs.Explore.{subject_of, head_of, images_text, report_of}
 use Rattle.runs.specs.Why.{with_first, Tells}
 use Rattle.runs.specs.Found.{AreFound}
@@ -54,8 +55,8 @@ subject_with s value checkers first = record {
   checkers = checkers;
   bound = s.bound;
   tears = s.tears;
-  from = first_judged s.extent;
-  to = judged_end s.extent (length (images_of s value));
+  from = first_meant s.extent;
+  to = end_meant s.extent (length (images_of s value));
   first = first;
 }
 
@@ -67,7 +68,7 @@ any_first s value checkers first = refl
 
 -- the failing lines of a run are those that the report tells
 pub same_lines : (s : Settings) (value : LogValue) (checkers : List CheckerValue) (plan : PlanValue) (bound from to : ℕ) (tears first : Bool)
-    → plan ≡ plan_of s value → bound ≡ s.bound → tears ≡ s.tears → from ≡ first_judged s.extent → to ≡ judged_end s.extent (length (images_of s value))
+    → plan ≡ plan_of s value → bound ≡ s.bound → tears ≡ s.tears → from ≡ first_meant s.extent → to ≡ end_meant s.extent (length (images_of s value))
     → failing_lines (record { plan = plan; checkers = checkers; bound = bound; tears = tears; from = from; to = to; first = first })
     ≡ failing_lines (subject_of s value checkers)
 same_lines s value checkers plan bound from to tears first e f g h k =
@@ -124,8 +125,8 @@ unfolding head_of
 part_of_found s value checkers first head ls bytes span from to asked heads found judged part is =
     let h : HeadValue = head_of s value checkers in
     let ms : List FailingLine = failing_lines (subject_of s value checkers) in
-    let low : span.from ≡ from = judged.first ∙ ap first_judged (sym part) in
-    let high : span.to ≡ to = judged.end ∙ ap (λ (e : Extent). judged_end e (length (images_of s value))) (sym part) in
+    let low : span.from ≡ from = judged.first ∙ ap first_meant (sym part) in
+    let high : span.to ≡ to = judged.end ∙ ap (λ (e : Extent). end_meant e (length (images_of s value))) (sym part) in
     let named : span ≡ record { from = from; to = to; images = h.images; inputs = span.inputs } =
     λ i. record { from = low i; to = high i; images = judged.all i; inputs = span.inputs } in
     is

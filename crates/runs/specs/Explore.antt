@@ -24,7 +24,8 @@ use Rattle.runs.specs.Programs.{IsRunWithin, code_refusal, IsCodeFault, verifier
 use Rattle.request.specs.Source.{Recording, plan_of, images_of, HasImages, RefusesSource}
 use Rattle.runs.specs.declared.explore_command.Wanted.{Wanted}
 use Rattle.runs.specs.Inputs.{inputs_number}
-use Rattle.runs.specs.Judged.{first_judged, judged_end, takes}
+use Rattle.request.specs.Extents.{first_meant, end_meant}
+use Rattle.runs.specs.Judged.{takes}
 
 -- a run has one program to eight
 pub record IsProgramCount (n : ℕ) : Type 0 where
@@ -51,8 +52,8 @@ subject_of s value checkers = record {
   checkers = checkers;
   bound = s.bound;
   tears = s.tears;
-  from = first_judged s.extent;
-  to = judged_end s.extent (length (images_of s value));
+  from = first_meant s.extent;
+  to = end_meant s.extent (length (images_of s value));
   first = s.first;
 }
 

@@ -2,22 +2,12 @@
 use Rattle.std.specs.Prelude.{ℕ, ◌-◌, ◌≡◌, ◌<◌, ◌≤◌, ◌^◌, Bool, true, false}
 use Rattle.choices.specs.Choices.{limit}
 use Rattle.report.specs.declared.span.Span.{Span}
+use Rattle.request.specs.Extents.{first_meant, end_meant}
 use Rattle.request.specs.declared.extent.Extent.{Extent}
 use Rattle.request.specs.declared.extent.Extent.TheVariants as extent
 use Rattle.request.specs.declared.settings.Telling.TheVariants as telling
 use Rattle.runs.specs.declared.explore_command.Wanted.{Wanted}
 use Rattle.runs.specs.declared.explore_command.Wanted.TheVariants as wanted
-
--- the first image that is judged, and the one behind the last, of a run with so many: all, or those of the part that is meant
-abbrev pub first_judged : Extent → ℕ
-first_judged extent.Whole = 0
-first_judged extent.Wide = 0
-first_judged (extent.Part from to) = from
-
-abbrev pub judged_end : Extent → ℕ → ℕ
-judged_end extent.Whole images = images
-judged_end extent.Wide images = images
-judged_end (extent.Part from to) images = to
 
 -- a part is told of by the report alone
 abbrev pub takes_part : Wanted → Bool
@@ -36,8 +26,8 @@ takes w (extent.Part from to) = takes_part w
 pub record IsJudged (e : Extent) (images : ℕ) (span : Span) : Type 0 where
   pub all : span.images ≡ images
   pub counted : images < 2 ^ 63
-  pub first : span.from ≡ first_judged e
-  pub end : span.to ≡ judged_end e images
+  pub first : span.from ≡ first_meant e
+  pub end : span.to ≡ end_meant e images
   pub rising : span.from ≤ span.to
   pub within : span.to ≤ images
   pub few : span.to - span.from ≤ limit

@@ -336,19 +336,11 @@ fn span_with(wanted: Wanted, extent: Extent, images: u64, inputs: u64) -> Span
     ensures judged { IsJudged extent images result }
     ensures number { result.inputs ≡ inputs }
 {
-    match extent {
-        Extent::Part { from, to } => Span {
-            from,
-            to,
-            images,
-            inputs,
-        },
-        Extent::Whole | Extent::Wide => Span {
-            from: 0,
-            to: images,
-            images,
-            inputs,
-        },
+    Span {
+        from: extent.first(),
+        to: extent.end(images),
+        images,
+        inputs,
     }
 }
 
