@@ -1,4 +1,7 @@
--- Lemmas of the crate.
 pub mod First
 pub mod Same
 pub mod Readers
+pub mod Numbers
+pub mod Elsewhere
+pub mod Sums
+pub mod Index
