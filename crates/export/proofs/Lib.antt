@@ -3,5 +3,11 @@ pub mod Same
 pub mod Readers
 pub mod Numbers
 pub mod Elsewhere
-pub mod Sums
+pub mod Moves
+pub mod Weights
+pub mod Listing
+pub mod Unlike
+pub mod Told
+pub mod Keeping
+pub mod Walking
 pub mod Index

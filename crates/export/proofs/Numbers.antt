@@ -21,10 +21,10 @@ those_alike p q a (suc k) same =
     ∙ ap (λ xs. cond (q a) (a ∷ xs) xs) (those_alike p q (a + 1) k (λ m low high. same m (omega (arith, low)) (omega (arith, high))))
 
 -- what holds of each of a range
-kept : (P : ℕ → Type 0) (p : ℕ → Bool) (a k : ℕ) → ((m : ℕ) → a ≤ m → m < a + k → P m) → All P (filter p (range_with_len a k))
-kept P p a zero each = λ i d lt. absurd (omega (arith, lt))
-kept P p a (suc k) each =
-    let rest : All P (filter p (range_with_len (a + 1) k)) = kept P p (a + 1) k (λ m low high. each m (omega (arith, low)) (omega (arith, high))) in
+pub kept_of : (P : ℕ → Type 0) (p : ℕ → Bool) (a k : ℕ) → ((m : ℕ) → a ≤ m → m < a + k → P m) → All P (filter p (range_with_len a k))
+kept_of P p a zero each = λ i d lt. absurd (omega (arith, lt))
+kept_of P p a (suc k) each =
+    let rest : All P (filter p (range_with_len (a + 1) k)) = kept_of P p (a + 1) k (λ m low high. each m (omega (arith, low)) (omega (arith, high))) in
     let by : (b : Bool) → All P (cond b (a ∷ filter p (range_with_len (a + 1) k)) (filter p (range_with_len (a + 1) k))) =
     λ b. elim b as (λ c. All P (cond c (a ∷ filter p (range_with_len (a + 1) k)) (filter p (range_with_len (a + 1) k)))) [
       | true ↦ first P a (filter p (range_with_len (a + 1) k)) (each a (omega arith) (omega arith)) rest
@@ -45,7 +45,7 @@ those_rise p a zero = λ i j d le lt. absurd (omega (arith, lt))
 those_rise p a (suc k) =
     let rest : List ℕ = filter p (range_with_len (a + 1) k) in
     let by : (b : Bool) → IsNonDecreasingBy (λ (n : ℕ). n) (cond b (a ∷ rest) rest) = λ b. elim b as (λ c. IsNonDecreasingBy (λ (n : ℕ). n) (cond c (a ∷ rest) rest)) [
-      | true ↦ λ i j d le lt. rises a rest (kept (λ m. a ≤ m) p (a + 1) k (λ m low high. omega (arith, low))) (those_rise p (a + 1) k) i j d le lt
+      | true ↦ λ i j d le lt. rises a rest (kept_of (λ m. a ≤ m) p (a + 1) k (λ m low high. omega (arith, low))) (those_rise p (a + 1) k) i j d le lt
       | false ↦ those_rise p (a + 1) k
     ] in
     by (p a)
@@ -152,9 +152,9 @@ number_put p count n place there xs lt is bound before behind test =
     let after : those r count ≡ front ++ n ∷ back =
     split r ∙ ap (λ ys. ys ++ cond (r n) (n ∷ filter r (range_with_len (n + 1) q)) (filter r (range_with_len (n + 1) q))) same_front
     ∙ ap (λ ys. front ++ cond (r n) (n ∷ ys) ys) same_back ∙ ap (λ b. front ++ cond b (n ∷ back) back) (or_own p n) in
-    let below : All (λ m. m < n) front = kept (λ m. m < n) p 0 n (λ m low high. omega (arith, high)) in
-    let above : All (λ m. n < m) back = kept (λ m. n < m) p (n + 1) q (λ m low high. omega (arith, low)) in
-    let from : All (λ m. n ≤ m) (cond (p n) (n ∷ back) back) = kept (λ m. n ≤ m) p n (suc q) (λ m low high. low) in
+    let below : All (λ m. m < n) front = kept_of (λ m. m < n) p 0 n (λ m low high. omega (arith, high)) in
+    let above : All (λ m. n < m) back = kept_of (λ m. n < m) p (n + 1) q (λ m low high. omega (arith, low)) in
+    let from : All (λ m. n ≤ m) (cond (p n) (n ∷ back) back) = kept_of (λ m. n ≤ m) p n (suc q) (λ m low high. low) in
     let P : List ℕ → Type 0 = λ ys. place ≤ length ys in
     let Q : List ℕ → Type 0 = λ ys. (k d : ℕ) → k < place → slice_index_or ys k d < n in
     let R : List ℕ → Type 0 = λ ys. (k d : ℕ) → place ≤ k → k < length ys → n ≤ slice_index_or ys k d in

@@ -33,6 +33,14 @@
 //! The call that makes the text. Until it is here the crate is a definition with its law.
 #![tactic(auto)]
 
+mod asked;
+mod differing;
+mod image;
 mod laws;
+mod sums;
+mod text;
+mod walk;
 
+pub use asked::{Asked, Wanted};
+pub use walk::export;
 pub use laws::exports_are_images;

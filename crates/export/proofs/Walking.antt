@@ -1,0 +1,76 @@
+-- The search for an image that is the same, and the walk over all of them.
+use Rattle.std.proofs.Common.{ℕ, zero, suc, ◌≡◌, ◌≢◌, ◌+◌, ◌-◌, ◌<◌, ◌≤◌, ◌^◌, ◌%◌, ◌==◌, Bool, true, false, List, [], ◌∷◌, ◌++◌, length, filter, slice_get, Option, Some, None, refl, sym, subst, ◌∙◌, ap, inl, inr, arith, append_assoc}
+use Rattle.std.specs.List.{range_with_len, flat_map}
+use Rattle.std.proofs.lemmas.List.Elements.{flat_map-append}
+use Rattle.std.proofs.lemmas.List.{append-nil}
+use Rattle.base.proofs.Lists.{range_with_len-more}
+use Rattle.logfmt.specs.Bounds.{LogValue}
+use Rattle.images.specs.Views.{ViewValue, sectors_of}
+use Rattle.images.specs.Keys.{differs}
+use Rattle.images.specs.Whole.{length_view}
+use Rattle.export.specs.Export.{AskedValue, choice_at, device_at, marks_before, is_same, first_same, image_text}
+use Rattle.export.specs.Kept.{sum_of, key_by, key_at, key_behind, IsIndex, AreOthers, IsFree, IsNext}
+use Rattle.export.proofs.Same.{same_told, same_if}
+use Rattle.export.proofs.Keeping.{nowhere_differs, nothing_differs}
+use Rattle.export.proofs.Index.{others_more, kept_is_first}
+
+-- images with other marks before them aren't the same
+pub other_marks : (a : AskedValue) (i j : ℕ) → (marks_before a j ≡ marks_before a i → ⊥) → false ≡ is_same a i j
+other_marks a i j other = by (is_same a i j) refl
+  where
+    by : (b : Bool) → is_same a i j ≡ b → false ≡ b
+    by true e = absurd (other (sym (same_told a i j e).0))
+    by false e = refl
+
+empty_is : (xs : List ℕ) → (length xs == 0) ≡ true → xs ≡ []
+empty_is [] h = refl
+empty_is (x ∷ xs) h = absurd (let bad : false ≡ true = h in cc)
+
+-- images with as many marks before them are the same exactly where they differ in no sector
+pub same_by_sectors : (a : AskedValue) (i j : ℕ) (one other : ViewValue) (numbers : List ℕ) (empty : Bool) → one.log ≡ a.plan.log → other.log ≡ a.plan.log
+    → sectors_of one ≡ device_at a j → sectors_of other ≡ device_at a i → marks_before a j ≡ marks_before a i
+    → numbers ≡ filter (differs (sectors_of one) (sectors_of other)) (range_with_len 0 one.log.sectors) → empty ≡ (length numbers == 0) → empty ≡ is_same a i j
+same_by_sectors a i j one other numbers empty own log first second marks these is = is ∙ by (length numbers == 0) refl
+  where
+    count : other.log.sectors ≡ one.log.sectors
+    count = ap (λ (l : LogValue). l.sectors) (log ∙ sym own)
+    by : (b : Bool) → (length numbers == 0) ≡ b → b ≡ is_same a i j
+    by true e =
+        let none = empty_is numbers e in
+        let alike : sectors_of one ≡ sectors_of other =
+        nowhere_differs (sectors_of one) (sectors_of other) one.log.sectors (length_view one) (length_view other ∙ count) (sym these ∙ none) in
+        sym (same_if a i j (sym marks) (sym second ∙ sym alike ∙ first))
+    by false e = told (is_same a i j) refl
+      where
+        told : (v : Bool) → is_same a i j ≡ v → false ≡ v
+        told false f = refl
+        told true f =
+            let alike : sectors_of one ≡ sectors_of other = first ∙ sym (same_told a i j f).1 ∙ sym second in
+            let none : numbers ≡ [] = these ∙ nothing_differs (sectors_of one) (sectors_of other) one.log.sectors alike in
+            absurd (let bad : true ≡ false = sym (ap (λ (ns : List ℕ). length ns == 0) none) ∙ e in cc)
+
+-- the key that follows one by so many steps
+pub key_is : (a : AskedValue) (i sum marks key step at : ℕ) → sum ≡ sum_of (device_at a i) → marks ≡ marks_before a i → key ≡ key_by sum marks
+    → at ≡ (key + step) % 2 ^ 64 → at ≡ key_behind (key_at a i) step
+unfolding key_at
+key_is a i sum marks key step at s m k is =
+    is ∙ ap (λ n. (n + step) % 2 ^ 64) (k ∙ ap (λ n. key_by n marks) s ∙ ap (key_by (sum_of (device_at a i))) m)
+
+-- none of the keys before the first
+pub no_others : (a : AskedValue) (i : ℕ) (at : ℕ → Option ℕ) → AreOthers a i at 0
+no_others a i at = record { others = λ s lt. absurd (omega (arith, lt)) }
+
+pub free_here : (a : AskedValue) (i step key : ℕ) (at : ℕ → Option ℕ) → key ≡ key_behind (key_at a i) step → AreOthers a i at step → at key ≡ None → IsFree a i at key
+unfolding IsFree
+free_here a i step key at is others none = (step, is, others, none)
+
+-- the text of one image more
+pub text_more : (a : AskedValue) (n : ℕ) (head before behind : List ℕ) → before ≡ head ++ flat_map (image_text a) (range_with_len 0 n) → behind ≡ before ++ image_text a n
+    → behind ≡ head ++ flat_map (image_text a) (range_with_len 0 (n + 1))
+text_more a n head before behind was is =
+    let here : 0 + n ≡ n = omega arith in
+    is ∙ ap (λ xs. xs ++ image_text a n) was ∙ append_assoc head (flat_map (image_text a) (range_with_len 0 n)) (image_text a n)
+    ∙ ap (λ xs. head ++ xs)
+    (sym (ap (flat_map (image_text a)) (range_with_len-more 0 n) ∙ flat_map-append (image_text a) (range_with_len 0 n) ((0 + n) ∷ [])
+    ∙ ap (λ m. flat_map (image_text a) (range_with_len 0 n) ++ flat_map (image_text a) (m ∷ [])) here
+    ∙ ap (λ xs. flat_map (image_text a) (range_with_len 0 n) ++ xs) (append-nil (image_text a n))))
