@@ -1,6 +1,7 @@
 -- What is kept before the first image, and after one more.
-use Rattle.std.proofs.Common.{ℕ, zero, suc, ◌≡◌, ◌+◌, ◌-◌, ◌*◌, ◌<◌, ◌≤◌, ◌^◌, ◌==◌, Bool, true, false, not, cond, if◌then◌else◌, List, [], ◌∷◌, ◌++◌, length, map, filter, slice_get, sum_by, Option, Some, None, refl, sym, subst, ◌∙◌, ap, inl, inr, arith, add-one}
+use Rattle.std.proofs.Common.{ℕ, zero, suc, nat_eq, ◌≡◌, ◌+◌, ◌-◌, ◌*◌, ◌<◌, ◌≤◌, ◌^◌, ◌==◌, Bool, true, false, not, cond, if◌then◌else◌, List, [], ◌∷◌, ◌++◌, length, map, filter, slice_get, sum_by, Option, Some, None, refl, sym, subst, ◌∙◌, ap, inl, inr, arith, add-one}
 use Rattle.std.specs.List.{range_with_len}
+use Rattle.std.specs.HashMap.{HashMap, IsEmpty, get}
 use Rattle.std.specs.Cmp.Lexicographic.{pointwise_decides}
 use Rattle.std.proofs.lemmas.Bool.Decides.{Decides-eqb}
 use Rattle.std.proofs.lemmas.List.{same_lists, get_or_default, length-append}
@@ -36,6 +37,11 @@ first_kept a shown own fresh at is sum none empty =
       index = none_kept a at empty;
     }
 
+-- sectors of one content have one weight
+weights_alike : (one other : List (List ℕ)) (n : ℕ) → content_at one n ≡ content_at other n → weight_at one n ≡ weight_at other n
+unfolding weight_at
+weights_alike one other n same = ap (weight n) same
+
 -- the sum by which an image is found, by the sectors in which it differs
 pub sum_moves : (one other : ViewValue) (numbers : List ℕ) (own old new : ℕ) → one.log ≡ other.log
     → numbers ≡ filter (differs (sectors_of one) (sectors_of other)) (range_with_len 0 one.log.sectors)
@@ -54,10 +60,6 @@ sum_moves one other numbers own old new log is own_is old_is new_is =
     let before : old ≡ sum_by f (filter d all) = old_is ∙ ap (sum_by f) is in
     let behind : new ≡ sum_by g (filter d all) = new_is ∙ ap (sum_by g) is in
     omega (arith, moves, first, whole, before, behind)
-  where
-    weights_alike : (one other : List (List ℕ)) (n : ℕ) → content_at one n ≡ content_at other n → weight_at one n ≡ weight_at other n
-    unfolding weight_at
-    weights_alike one other n same = ap (λ s. weight n s) same
 
 -- numbers of sectors of a device
 pub numbers_inside : (p : ℕ → Bool) (count k n : ℕ) (xs : List ℕ) → xs ≡ filter p (range_with_len 0 count) → slice_get xs k ≡ Some n → n < count
@@ -77,6 +79,11 @@ nowhere_differs base image count long size none =
     get_or_default base k d [] lt ∙ unchanged base image k (none_first (differs base image) 0 count k first (omega arith) (omega (arith, lt, long)))
     ∙ sym (get_or_default image k d [] (omega (arith, lt, long, size))))
 
+-- a device doesn't differ from itself
+unlike_itself : (image : List (List ℕ)) (n : ℕ) → differs image image n ≡ false
+unfolding differs
+unlike_itself image n = ap not ((pointwise_decides Decides-eqb (content_at image n) (content_at image n)).1 refl)
+
 pub nothing_differs : (base image : List (List ℕ)) (count : ℕ) → base ≡ image → filter (differs base image) (range_with_len 0 count) ≡ []
 nothing_differs base image count same = ap (λ (d : List (List ℕ)). filter (differs d image) (range_with_len 0 count)) same ∙ none image 0 count
   where
@@ -85,10 +92,6 @@ nothing_differs base image count same = ap (λ (d : List (List ℕ)). filter (di
     none image a (suc k) =
         ap (λ b. cond b (a ∷ filter (differs image image) (range_with_len (a + 1) k)) (filter (differs image image) (range_with_len (a + 1) k))) (unlike_itself image a)
         ∙ none image (a + 1) k
-      where
-        unlike_itself : (image : List (List ℕ)) (n : ℕ) → differs image image n ≡ false
-        unfolding differs
-        unlike_itself image n = ap not ((pointwise_decides Decides-eqb (content_at image n) (content_at image n)).1 refl)
 
 -- the records of an image
 pub records_are : (a : AskedValue) (i : ℕ) (shown image : ViewValue) (numbers : List ℕ) → shown.log ≡ a.plan.log → image.log ≡ a.plan.log
@@ -160,3 +163,25 @@ kept_new a i shown new own sum fresh marks key at after is next free put =
       few = omega (arith, few);
       index = index_more a i at after steps is.index free.2 none (λ q. put q ∙ ap (λ k. cond (k == q) (Some i) (at q)) here);
     }
+
+-- so many numbers at most
+pub few_of_range : (p : ℕ → Bool) (count : ℕ) (xs : List ℕ) → xs ≡ filter p (range_with_len 0 count) → length xs ≤ count
+few_of_range p count xs is =
+    let long = ap length is in
+    let few = at_most p 0 count in
+    omega (arith, long, few)
+  where
+    at_most : (p : ℕ → Bool) (a k : ℕ) → length (filter p (range_with_len a k)) ≤ k
+    at_most p a zero = omega arith
+    at_most p a (suc k) =
+        let rest = at_most p (a + 1) k in
+        let by : (b : Bool) → length (cond b (a ∷ filter p (range_with_len (a + 1) k)) (filter p (range_with_len (a + 1) k))) ≤ suc k =
+        λ b. elim b as (λ c. length (cond c (a ∷ filter p (range_with_len (a + 1) k)) (filter p (range_with_len (a + 1) k))) ≤ suc k) [
+          | true ↦ omega (arith, rest)
+          | false ↦ omega (arith, rest)
+        ] in
+        by (p a)
+
+-- a map without entries
+pub none_at : {S : Type 0} (m : HashMap ℕ ℕ S) → IsEmpty m → (k : ℕ) → get nat_eq m k ≡ None
+none_at m empty k = rw empty refl

@@ -149,3 +149,8 @@ initial_read image n s cut none lt is =
     ∙ ap (λ (d : List (List ℕ)). slice_get d n) (starts image.log)
     ∙ slice_get-get_or (map (initial_sector image.log.initial) (range_with_len 0 image.log.sectors)) n [] (omega (arith, long, lt))
     ∙ ap (λ (t : List ℕ). Some t) (get_or-map-range_with_len (initial_sector image.log.initial) 0 image.log.sectors n n [] lt here ∙ sym is)
+
+-- the departures of an image, as they were read
+pub of_departures : (one other : ViewValue) (xs : List ℕ) (ds : List Departure) (p : ℕ → Bool) (own : List Departure) → ds ≡ own
+    → Lists one other xs p (IsDeparting ds) → Lists one other xs p (IsDeparting own)
+of_departures one other xs ds p own same so = subst (λ (es : List Departure). Lists one other xs p (IsDeparting es)) same so

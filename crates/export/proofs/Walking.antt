@@ -1,18 +1,24 @@
 -- The search for an image that is the same, and the walk over all of them.
 use Rattle.std.proofs.Common.{ℕ, zero, suc, ◌≡◌, ◌≢◌, ◌+◌, ◌-◌, ◌<◌, ◌≤◌, ◌^◌, ◌%◌, ◌==◌, Bool, true, false, List, [], ◌∷◌, ◌++◌, length, filter, slice_get, Option, Some, None, refl, sym, subst, ◌∙◌, ap, inl, inr, arith, append_assoc}
 use Rattle.std.specs.List.{range_with_len, flat_map}
-use Rattle.std.proofs.lemmas.List.Elements.{flat_map-append}
+use Rattle.std.proofs.lemmas.Bool.Decides.{Decides-eqb}
+use Rattle.std.proofs.lemmas.Grind.{flat_map-append}
 use Rattle.std.proofs.lemmas.List.{append-nil}
 use Rattle.base.proofs.Lists.{range_with_len-more}
 use Rattle.logfmt.specs.Bounds.{LogValue}
-use Rattle.images.specs.Views.{ViewValue, sectors_of}
+use Rattle.std.proofs.lemmas.Option.{get_or_from_slice_get}
+use Rattle.epochs.specs.Units.{marks_at}
+use Rattle.epochs.specs.Plan.{PlanValue}
+use Rattle.choices.specs.Choices.{ChoiceValue, ranked_choices}
+use Rattle.images.specs.Views.{ViewValue, IsMember, view_of, sectors_of}
+use Rattle.images.proofs.Members.{member_cut}
 use Rattle.images.specs.Keys.{differs}
 use Rattle.images.specs.Whole.{length_view}
-use Rattle.export.specs.Export.{AskedValue, choice_at, device_at, marks_before, is_same, first_same, image_text}
+use Rattle.export.specs.Export.{AskedValue, no_choice, choice_at, device_at, marks_before, is_same, first_same, is_new, image_text, new_count, total_text, export_text}
 use Rattle.export.specs.Kept.{sum_of, key_by, key_at, key_behind, IsIndex, AreOthers, IsFree, IsNext}
 use Rattle.export.proofs.Same.{same_told, same_if}
 use Rattle.export.proofs.Keeping.{nowhere_differs, nothing_differs}
-use Rattle.export.proofs.Index.{others_more, kept_is_first}
+use Rattle.export.proofs.Index.{free_is_new}
 
 -- images with other marks before them aren't the same
 pub other_marks : (a : AskedValue) (i j : ℕ) → (marks_before a j ≡ marks_before a i → ⊥) → false ≡ is_same a i j
@@ -24,7 +30,7 @@ other_marks a i j other = by (is_same a i j) refl
 
 empty_is : (xs : List ℕ) → (length xs == 0) ≡ true → xs ≡ []
 empty_is [] h = refl
-empty_is (x ∷ xs) h = absurd (let bad : false ≡ true = h in cc)
+empty_is (x ∷ xs) h = let bad = (Decides-eqb (length (x ∷ xs)) 0).0 h in absurd (omega (arith, bad))
 
 -- images with as many marks before them are the same exactly where they differ in no sector
 pub same_by_sectors : (a : AskedValue) (i j : ℕ) (one other : ViewValue) (numbers : List ℕ) (empty : Bool) → one.log ≡ a.plan.log → other.log ≡ a.plan.log
@@ -74,3 +80,62 @@ text_more a n head before behind was is =
     (sym (ap (flat_map (image_text a)) (range_with_len-more 0 n) ∙ flat_map-append (image_text a) (range_with_len 0 n) ((0 + n) ∷ [])
     ∙ ap (λ m. flat_map (image_text a) (range_with_len 0 n) ++ flat_map (image_text a) (m ∷ [])) here
     ∙ ap (λ xs. flat_map (image_text a) (range_with_len 0 n) ++ xs) (append-nil (image_text a n))))
+
+-- the choice at a place, its cut, its marks and its image
+choice_there : (a : AskedValue) (i : ℕ) (choice : ChoiceValue) → slice_get (ranked_choices a.plan a.bound a.tears) (a.from + i) ≡ Some choice → choice ≡ choice_at a i
+unfolding choice_at
+choice_there a i choice there = sym (get_or_from_slice_get (ranked_choices a.plan a.bound a.tears) (a.from + i) choice no_choice there)
+
+pub choice_is : (a : AskedValue) (i : ℕ) (choice : ChoiceValue) → slice_get (ranked_choices a.plan a.bound a.tears) (a.from + i) ≡ Some choice → choice ≡ choice_at a i
+choice_is a i choice there = choice_there a i choice there
+
+pub cut_of : (a : AskedValue) (i : ℕ) (choice : ChoiceValue) → slice_get (ranked_choices a.plan a.bound a.tears) (a.from + i) ≡ Some choice → choice.cut ≤ length a.plan.log.entries
+cut_of a i choice there = member_cut a.plan choice (record { bound = a.bound; tears = a.tears; number = a.from + i; there = there })
+
+pub marks_are : (a : AskedValue) (i : ℕ) (choice : ChoiceValue) (plan : PlanValue) (cut marks : ℕ) → slice_get (ranked_choices a.plan a.bound a.tears) (a.from + i) ≡ Some choice
+    → plan ≡ a.plan → cut ≡ choice.cut → marks ≡ marks_at plan.log.entries cut → marks ≡ marks_before a i
+unfolding marks_before
+marks_are a i choice plan cut marks there p k is =
+    is ∙ ap (λ (q : PlanValue). marks_at q.log.entries cut) p ∙ ap (marks_at a.plan.log.entries) k
+    ∙ ap (λ (c : ChoiceValue). marks_at a.plan.log.entries c.cut) (choice_there a i choice there)
+
+pub device_is : (a : AskedValue) (i : ℕ) (choice : ChoiceValue) (plan : PlanValue) (image : ViewValue) → slice_get (ranked_choices a.plan a.bound a.tears) (a.from + i) ≡ Some choice
+    → plan ≡ a.plan → image ≡ view_of plan choice → sectors_of image ≡ device_at a i
+unfolding device_at
+device_is a i choice plan image there p is =
+    ap sectors_of (is ∙ ap (λ (q : PlanValue). view_of q choice) p ∙ ap (view_of a.plan) (choice_there a i choice there))
+
+-- a key that is free for an image
+pub free_new : (a : AskedValue) (i key : ℕ) (at : ℕ → Option ℕ) → IsIndex a i at → IsFree a i at key → first_same a i ≡ None
+unfolding IsFree
+free_new a i key at index free = free_is_new a i at free.0 index free.2 (ap at (sym free.1) ∙ free.3)
+
+-- from one choice to the next
+pub goes_on : (xs : List ChoiceValue) (n : ℕ) (moved : Bool) (old new : ChoiceValue) → slice_get xs n ≡ Some old → n + 1 < length xs
+    → (moved ≡ true → (k : ℕ) → slice_get xs k ≡ Some old → slice_get xs (k + 1) ≡ Some new)
+    → (moved ≡ false → (k : ℕ) → slice_get xs k ≡ Some old → k + 1 ≡ length xs) → slice_get xs (n + 1) ≡ Some new
+goes_on xs n true old new there lt goes ends = goes refl n there
+goes_on xs n false old new there lt goes ends = let end = ends refl n there in absurd (omega (arith, end, lt))
+
+-- the whole text
+pub all_text : (a : AskedValue) (head before behind : List ℕ) (count fresh : ℕ) → before ≡ head ++ flat_map (image_text a) (range_with_len 0 (a.to - a.from))
+    → fresh ≡ new_count a (a.to - a.from) → a.from + count ≡ a.to → behind ≡ before ++ total_text count fresh → behind ≡ head ++ export_text a
+unfolding export_text
+all_text a head before behind count fresh was new size is =
+    let all : count ≡ a.to - a.from = omega (arith, size) in
+    is ∙ ap (λ xs. xs ++ total_text count fresh) was
+    ∙ append_assoc head (flat_map (image_text a) (range_with_len 0 (a.to - a.from))) (total_text count fresh)
+    ∙ ap (λ n. head ++ (flat_map (image_text a) (range_with_len 0 (a.to - a.from)) ++ total_text n fresh)) all
+    ∙ ap (λ n. head ++ (flat_map (image_text a) (range_with_len 0 (a.to - a.from)) ++ total_text (a.to - a.from) n)) new
+
+-- no image
+pub none_text : (a : AskedValue) (head : List ℕ) (count : ℕ) → a.from + count ≡ a.to → count ≡ 0 → head ≡ head ++ flat_map (image_text a) (range_with_len 0 (a.to - a.from))
+none_text a head count size none =
+    let all : a.to - a.from ≡ 0 = omega (arith, size, none) in
+    sym (ap (λ n. head ++ flat_map (image_text a) (range_with_len 0 n)) all ∙ append-nil head)
+
+pub none_new : (a : AskedValue) (count : ℕ) → a.from + count ≡ a.to → count ≡ 0 → 0 ≡ new_count a (a.to - a.from)
+unfolding new_count
+none_new a count size none =
+    let all : a.to - a.from ≡ 0 = omega (arith, size, none) in
+    sym (ap (λ n. length (filter (is_new a) (range_with_len 0 n))) all)

@@ -2,6 +2,7 @@
 use Rattle.std.proofs.Common.{ℕ, zero, suc, slice_get, Some, ◌≡◌, ◌+◌, ◌*◌, ◌^◌, ◌<◌, ◌≤◌, List, [], ◌∷◌, ◌++◌, length, take, get_or, sum_by, refl, sym, ◌∙◌, ap, arith}
 use Rattle.std.specs.List.{range_with_len}
 use Rattle.std.proofs.lemmas.List.Sums.{sum_by-cons, sum_by_push}
+use Rattle.std.proofs.lemmas.List.FromFn.{length-range_with_len}
 use Rattle.base.proofs.Lists.{range_with_len-more}
 use Rattle.std.proofs.lemmas.Option.{get_or_from_slice_get}
 use Rattle.images.specs.Views.{ViewValue, sectors_of}
@@ -46,10 +47,6 @@ sum_fits device ns sum count is few limit =
     let small = sums_small device ns in
     omega (arith, is, small, few, limit)
 
-pub length-range : (a n : ℕ) → length (range_with_len a n) ≡ n
-length-range a zero = refl
-length-range a (suc n) = ap suc (length-range (a + 1) n)
-
 pub weight_fits : (n : ℕ) (sector : List ℕ) (w : ℕ) → w ≡ weight n sector → w ≤ 8796093022207
 weight_fits n sector w is = let small = weight_small n sector in omega (arith, is, small)
 
@@ -58,3 +55,10 @@ take_short [] zero = omega arith
 take_short [] (suc i) = omega arith
 take_short (x ∷ xs) zero = omega arith
 take_short (x ∷ xs) (suc i) = let rest = take_short xs i in omega (arith, rest)
+
+pub whole_fits : (view : ViewValue) (sum : ℕ) → sum ≡ sum_of (sectors_of view) → view.log.sectors ≤ 1048576 → sum < 2 ^ 63
+unfolding sum_of
+whole_fits view sum is limit =
+    let long = length-range_with_len 0 (length (sectors_of view)) in
+    let size = length_view view in
+    sum_fits (sectors_of view) (range_with_len 0 (length (sectors_of view))) sum view.log.sectors is (omega (arith, long, size)) limit

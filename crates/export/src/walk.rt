@@ -1,6 +1,6 @@
 //! The walk over a range of images.
 
-ghost use Rattle.std.specs.Prelude.{◌≡◌, ◌+◌, ◌++◌, ◌<◌, ◌≤◌, ℕ, nat_eq, slice_get, Some, IfOk, OnOk, IsTrue, filter, length};
+ghost use Rattle.std.specs.Prelude.{◌≡◌, ◌+◌, ◌-◌, ◌++◌, ◌<◌, ◌≤◌, ℕ, nat_eq, slice_get, Some, IfOk, OnOk, IsTrue, filter, length};
 ghost use Rattle.std.specs.HashMap.{get};
 ghost use Rattle.std.specs.List.{flat_map, range_with_len};
 ghost use Rattle.choices.specs.Choices.{ranked_choices};
@@ -100,9 +100,10 @@ impl<'a> Kept<'a> {
         requires sum { self.now.sum ≡ sum_of (sectors_of self.now.shown) }
         ensures { result ≡ sum_of (sectors_of image.now) }
     {
+        let _sectors = self.shown.log().sectors();
         let old = sum_over(&self.shown, differing);
         let new = sum_over(image, differing);
-        self.sum - old + new
+        self.sum + new - old
     }
 }
 
@@ -121,7 +122,8 @@ impl<'a> Source<'a> {
         ensures log { IfOk result (λ image. image.log ≡ self.now.plan.log) }
         ensures device { IfOk result (λ image. sectors_of image ≡ device_at self.now place) }
     {
-        Image::of(alloc, self.asked.log(), self.history, choice)
+        let image = Image::of(alloc, self.asked.log(), self.history, choice)?;
+        Ok(image)
     }
 
     /// How many marks stand before the cut of a choice.
@@ -152,7 +154,7 @@ impl<'a> Source<'a> {
         }
         let other = self.image(alloc, place, &choice)?;
         put_differing(compared, &other, &next.image)?;
-        Ok(compared.is_empty())
+        Ok(compared.as_slice().is_empty())
     }
 
     /// The image that is the same as that of a place, or the key that is free for it.
@@ -268,7 +270,8 @@ impl<'a> Source<'a> {
                     &mut scratch.line,
                     self.asked.from() + u64::from(other),
                 )?;
-                self.keep_same(kept, place, next, scratch.differing.is_empty());
+                let is_last = scratch.differing.as_slice().is_empty();
+                self.keep_same(kept, place, next, is_last);
                 Ok(())
             }
             Found::Free(key) => {
@@ -278,7 +281,8 @@ impl<'a> Source<'a> {
                     &next.image,
                     scratch.differing.as_slice(),
                 )?;
-                self.keep_new(kept, place, next, key)
+                self.keep_new(kept, place, next, key)?;
+                Ok(())
             }
         }
     }
@@ -302,7 +306,7 @@ impl<'a> Source<'a> {
         let mut choice = self.choice(0);
         for place in 0..count {
             self.put_image(alloc, out, &mut kept, &mut scratch, place, &choice)?;
-            next(asked.plan(), asked.bound(), asked.tears(), &mut choice);
+            let _moved = next(asked.plan(), asked.bound(), asked.tears(), &mut choice);
         }
         Ok(kept.fresh)
     }
@@ -312,7 +316,8 @@ impl<'a> Source<'a> {
         ensures { OnOk result (out.new.items ≡ out.old.items ++ export_text self.now) }
     {
         let fresh = self.put_each(alloc, out)?;
-        put_total(alloc, out, u64::from(self.asked.count()), fresh)
+        put_total(alloc, out, u64::from(self.asked.count()), fresh)?;
+        Ok(())
     }
 }
 

@@ -1,9 +1,10 @@
 use Rattle.std.proofs.Common.{ℕ, ◌+◌, ◌≡◌, sum_by, sym, ◌∙◌, ap, arith}
 use Rattle.std.specs.List.{range_with_len}
+use Rattle.std.proofs.lemmas.List.FromFn.{length-range_with_len}
 use Rattle.logfmt.specs.Bounds.{LogValue}
 use Rattle.images.specs.Views.{sectors_of}
 use Rattle.export.specs.Kept.{weight_at}
-use Rattle.export.proofs.Weights.{weight_read, weight_fits, sum_more, sum_all, sum_fits, length-range}
+use Rattle.export.proofs.Weights.{weight_read, weight_fits, sum_more, sum_all, sum_fits}
 use Rattle.export.proofs.sums.sum_of.Goals as goal
 
 pub overflow_add-sum : goal.overflow_add-sum
@@ -11,7 +12,7 @@ overflow_add-sum c =
     let device = c.sectors-number-end.ensures.bounds.device in
     let end = c.sectors-number-end.ensures.value in
     let lt = c.loop-number-test.true in
-    let long = length-range 0 c.loop-number.number in
+    let long = length-range_with_len 0 c.loop-number.number in
     let sum = sum_fits (sectors_of c.args.image.now) (range_with_len 0 c.loop-number.number) c.loop-number.sum 1048576 c.loop-number.invariant (omega (arith, long, lt, end, device)) (omega arith) in
     let weight = weight_fits _ _ c.weight-sum.result c.weight-sum.ensures in
     omega (arith, sum, weight)
