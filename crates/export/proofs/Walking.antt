@@ -15,7 +15,7 @@ use Rattle.images.proofs.Members.{member_cut}
 use Rattle.images.specs.Keys.{differs}
 use Rattle.images.specs.Whole.{length_view}
 use Rattle.export.specs.Export.{AskedValue, no_choice, choice_at, device_at, marks_before, is_same, first_same, is_new, image_text, new_count, total_text, export_text}
-use Rattle.export.specs.Kept.{sum_of, key_by, key_at, key_behind, IsIndex, AreOthers, IsFree, IsNext}
+use Rattle.export.specs.Kept.{sum_of, key_by, key_at, key_behind, IsIndex, AreOthers, IsFree, IsNext, IsAsked}
 use Rattle.export.proofs.Same.{same_told, same_if}
 use Rattle.export.proofs.Keeping.{nowhere_differs, nothing_differs}
 use Rattle.export.proofs.Index.{free_is_new}
@@ -139,3 +139,21 @@ unfolding new_count
 none_new a count size none =
     let all : a.to - a.from ≡ 0 = omega (arith, size, none) in
     sym (ap (λ n. length (filter (is_new a) (range_with_len 0 n))) all)
+
+-- the choice behind one, as the walk goes on to it
+pub next_there : (a : AskedValue) (plan : PlanValue) (bound : ℕ) (tears : Bool) (place count : ℕ) (moved : Bool) (old new : ChoiceValue)
+    → plan ≡ a.plan → bound ≡ a.bound → tears ≡ a.tears → IsAsked a → a.from + count ≡ a.to
+    → slice_get (ranked_choices a.plan a.bound a.tears) (a.from + place) ≡ Some old
+    → (moved ≡ true → (k : ℕ) → slice_get (ranked_choices plan bound tears) k ≡ Some old → slice_get (ranked_choices plan bound tears) (k + 1) ≡ Some new)
+    → (moved ≡ false → (k : ℕ) → slice_get (ranked_choices plan bound tears) k ≡ Some old → k + 1 ≡ length (ranked_choices plan bound tears))
+    → place + 1 < count → slice_get (ranked_choices a.plan a.bound a.tears) (a.from + (place + 1)) ≡ Some new
+next_there a plan bound tears place count moved old new p b t asked size there goes ends lt =
+    let ranked : ranked_choices plan bound tears ≡ ranked_choices a.plan a.bound a.tears =
+    ap (λ (q : PlanValue). ranked_choices q bound tears) p ∙ ap (λ m. ranked_choices a.plan m tears) b ∙ ap (ranked_choices a.plan a.bound) t in
+    let long = ap (λ (cs : List ChoiceValue). length cs) ranked in
+    let within = asked.within in
+    let step : a.from + (place + 1) ≡ a.from + place + 1 = omega arith in
+    ap (slice_get (ranked_choices a.plan a.bound a.tears)) step
+    ∙ ap (λ (cs : List ChoiceValue). slice_get cs (a.from + place + 1)) (sym ranked)
+    ∙ goes_on (ranked_choices plan bound tears) (a.from + place) moved old new (ap (λ (cs : List ChoiceValue). slice_get cs (a.from + place)) ranked ∙ there)
+    (omega (arith, long, within, size, lt)) goes ends

@@ -50,6 +50,6 @@ returns-in_ok-keep_new-in-Free-clause-text c =
         ∙ ap (λ (b : AskedValue). head_text b i c.args.choice.now) c.self.view_is ∙ ap (head_text a i) (choice_is a i c.args.choice.now c.requires.choice) in
     c.in_ok-put_new-in-Free.ensures
     ∙ ap (λ xs. c.args.out.now.items ++ xs)
-    (new_told a i _ (map (with_content (sectors_of c.in_ok-next.next.image)) c.as_slice.result.now) head
-    (ap (map (with_content (sectors_of c.in_ok-next.next.image))) c.as_slice.ensures.value ∙ c.in_ok-next.ensures.records.told)
+    (new_told a i _ (map (with_content (sectors_of c.in_ok-next.next.image)) c.as_slice-in-Free.result.now) head
+    (ap (map (with_content (sectors_of c.in_ok-next.next.image))) c.as_slice-in-Free.ensures.value ∙ c.in_ok-next.ensures.records.told)
     (free_new a i c.in-Free.key (get nat_eq c.args.kept.now.places) c.requires.kept.index (subst P c.in-Free.is c.in_ok-found.ensures)))
