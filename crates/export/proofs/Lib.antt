@@ -1,4 +1,13 @@
--- Lemmas of the crate.
 pub mod First
 pub mod Same
 pub mod Readers
+pub mod Numbers
+pub mod Elsewhere
+pub mod Moves
+pub mod Weights
+pub mod Listing
+pub mod Unlike
+pub mod Told
+pub mod Keeping
+pub mod Walking
+pub mod Index

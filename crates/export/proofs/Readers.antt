@@ -72,7 +72,7 @@ unlike : (b : Bool) → not b ≡ false → b ≡ true
 unlike true h = refl
 unlike false h = absurd (let bad : true ≡ false = h in cc)
 
-unchanged : (base image : List (List ℕ)) (n : ℕ) → differs base image n ≡ false → content_at base n ≡ content_at image n
+pub unchanged : (base image : List (List ℕ)) (n : ℕ) → differs base image n ≡ false → content_at base n ≡ content_at image n
 unfolding differs
 unchanged base image n same = same_text (content_at base n) (content_at image n) (sym (unlike (pointwise nat_eq (content_at base n) (content_at image n)) same))
 

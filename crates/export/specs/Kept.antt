@@ -1,15 +1,18 @@
 -- What is kept while images are gone through: the sums by which equal ones are found, and where each new one is kept.
-use Rattle.std.specs.Prelude.{ℕ, ◌+◌, ◌*◌, ◌/◌, ◌%◌, ◌^◌, ◌≡◌, ◌<◌, ◌≤◌, ◌&&◌, nat_le, nat_lt, filter, Bool, false, List, [], length, sum_by, Option, Some, None, MatchOption}
-use Rattle.std.specs.List.{range_with_len, slice_range, list_any}
+use Rattle.std.specs.Prelude.{ℕ, ◌+◌, ◌*◌, ◌/◌, ◌%◌, ◌^◌, ◌≡◌, ◌<◌, ◌≤◌, ◌&&◌, filter, Bool, true, false, List, [], ◌++◌, length, map, sum_by, slice_get, codes, Option, Some, None, MatchOption}
+use Rattle.std.specs.Fmt.{decimal}
+use Rattle.std.specs.List.{range_with_len, flat_map}
 use Rattle.lanes.specs.Sector.{mix}
 use Rattle.logfmt.specs.Bounds.{IsLog}
 use Rattle.choices.specs.Choices.{ranked_choices}
 use Rattle.images.specs.Views.{ViewValue, sectors_of}
 use Rattle.images.specs.Table.{AreParts}
-use Rattle.images.specs.Keys.{content_at, differs}
+use Rattle.images.specs.Keys.{ChangedValue, content_at, with_content, differs}
 use Rattle.logfmt.specs.declared.entry.Entry.{Entry}
 use Rattle.choices.specs.declared.choice.Departure.{Departure}
-use Rattle.export.specs.Export.{AskedValue, device_at, marks_before, is_same, first_same, last_new, new_count}
+use Rattle.export.specs.Export.{AskedValue, device_at, marks_before, is_same, first_same, last_new, records_at, record_text, new_count}
+use Rattle.export.specs.declared.walk.Found.{Found}
+use Rattle.export.specs.declared.walk.Found.TheVariants as found
 
 -- what can be asked for
 pub record IsAsked (a : AskedValue) : Type 0 where
@@ -63,29 +66,74 @@ pub record IsIndex (a : AskedValue) (n : ℕ) (at : ℕ → Option ℕ) : Type 0
       → (t : ℕ) × (at (key_behind (key_at a j) t) ≡ Some j) × ((s : ℕ) → s < t → at (key_behind (key_at a j) s) ≡ None → ⊥)
 
 -- a sector is one of so many from one on
-abbrev pub covered : ℕ → ℕ → ℕ → Bool
-covered first count n = nat_le first n && nat_lt n (first + count)
+abbrev pub Spans : ℕ → ℕ → ℕ → Type 0
+Spans first count n = (first ≤ n) × (n < first + count)
 
--- a part that departs covers it
-abbrev pub departs : List Departure → ℕ → Bool
-departs ds n = list_any (λ (d : Departure). covered d.part.sector d.part.count n) ds
+-- a part that departs has it
+abbrev pub IsDeparting : List Departure → ℕ → Type 0
+IsDeparting ds n = (j : ℕ) × (d : Departure) × (slice_get ds j ≡ Some d) × Spans d.part.sector d.part.count n
 
--- an entry from one to before another writes or discards it
-abbrev pub is_written : List Entry → ℕ → ℕ → ℕ → Bool
-is_written es first last n = list_any (λ (x : Entry). covered x.sector x.count n) (slice_range es first last)
+-- an entry writes or discards it, or one from an entry to before another
+abbrev pub IsWrittenBy : List Entry → ℕ → ℕ → Type 0
+IsWrittenBy es e n = (x : Entry) × (slice_get es e ≡ Some x) × Spans x.sector x.count n
+
+abbrev pub IsWritten : List Entry → ℕ → ℕ → ℕ → Type 0
+IsWritten es first last n = (e : ℕ) × (first ≤ e) × (e < last) × IsWrittenBy es e n
 
 -- of the sectors that pass a test those in which two images differ, rising
 abbrev pub listed : ViewValue → ViewValue → (ℕ → Bool) → List ℕ
 listed one other p = filter (λ n. p n && differs (sectors_of one) (sectors_of other) n) (range_with_len 0 one.log.sectors)
 
+-- what is listed are those of some sectors, of which are all that pass a test, and all of some more
+pub record Lists (one other : ViewValue) (numbers : List ℕ) (p : ℕ → Bool) (More : ℕ → Type 0) : Type 0 where
+  pub chosen : ℕ → Bool
+  pub is : numbers ≡ listed one other chosen
+  pub stays : (n : ℕ) → p n ≡ true → chosen n ≡ true
+  pub more : (n : ℕ) → More n → chosen n ≡ true
+
 -- two images of one log
 abbrev pub OfOneLog : ViewValue → ViewValue → Type 0
 OfOneLog one other = one.log ≡ other.log
+
+-- the image at a place, how many marks stand before its cut, and its sum
+pub record IsNext (a : AskedValue) (i : ℕ) (image : ViewValue) (marks sum : ℕ) : Type 0 where
+  pub log : image.log ≡ a.plan.log
+  pub device : sectors_of image ≡ device_at a i
+  pub passed : marks ≡ marks_before a i
+  pub sum_is : sum ≡ sum_of (device_at a i)
+
+-- the numbers of the sectors in which the image at a place differs from the last new one before it
+pub record AreRecords (a : AskedValue) (i : ℕ) (image : ViewValue) (numbers : List ℕ) : Type 0 where
+  pub inside : (k n : ℕ) → slice_get numbers k ≡ Some n → n < image.log.sectors
+  pub told : map (with_content (sectors_of image)) numbers ≡ records_at a i
+  pub none : numbers ≡ [] → last_new a i ≡ device_at a i
 
 -- what is kept after the first n images: the last new one or what stands for it, its sum, how many were new, and where these are
 pub record IsKept (a : AskedValue) (n : ℕ) (shown : ViewValue) (own fresh : ℕ) (at : ℕ → Option ℕ) : Type 0 where
   pub log : shown.log ≡ a.plan.log
   pub device : sectors_of shown ≡ last_new a n
   pub sum : own ≡ sum_of (last_new a n)
-  pub new : fresh ≡ new_count a n
+  pub count : fresh ≡ new_count a n
+  pub few : fresh ≤ n
   pub index : IsIndex a n at
+
+-- a key is free for the image at a place, and the keys from its own on to before that one have other images
+unfoldable pub IsFree : AskedValue → ℕ → (ℕ → Option ℕ) → ℕ → Type 0
+IsFree a i at key = (steps : ℕ) × (key ≡ key_behind (key_at a i) steps) × AreOthers a i at steps × (at key ≡ None)
+
+-- what a search for an image ends in
+unfoldable pub IsFound : AskedValue → ℕ → (ℕ → Option ℕ) → Found → Type 0
+IsFound a i at (found.Free key) = IsFree a i at key
+IsFound a i at (found.Same place) = first_same a i ≡ Some place
+
+-- the beginning of the text of an image, before its choice
+abbrev pub place_text : ℕ → ℕ → ℕ → ℕ → List ℕ
+place_text number cut epoch marks =
+    codes "image " ++ decimal number ++ codes " cut " ++ decimal cut ++ codes " epoch " ++ decimal epoch ++ codes " marks " ++ decimal marks ++ codes " choice "
+
+-- the text behind the head of a new image, and of one that isn't new
+abbrev pub new_text : List ChangedValue → List ℕ
+new_text sectors = codes " new " ++ decimal (length sectors) ++ codes "\n" ++ flat_map record_text sectors
+
+abbrev pub same_text : ℕ → List ℕ
+same_text number = codes " same " ++ decimal number ++ codes "\n"

@@ -34,9 +34,13 @@
 #![tactic(auto)]
 
 mod asked;
+mod differing;
+mod image;
 mod laws;
+mod sums;
+mod text;
 mod walk;
 
 pub use asked::{Asked, Wanted};
-pub use laws::exports_are_images;
 pub use walk::export;
+pub use laws::exports_are_images;

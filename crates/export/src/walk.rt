@@ -1,16 +1,343 @@
-//! Stub.
+//! The walk over a range of images.
 
-ghost use Rattle.std.specs.Prelude.{◌≡◌, IfOk};
-ghost use Rattle.export.specs.Export.{export_text};
+ghost use Rattle.std.specs.Prelude.{◌≡◌, ◌+◌, ◌-◌, ◌++◌, ◌<◌, ◌≤◌, ℕ, nat_eq, slice_get, Some, IfOk, OnOk, IsTrue, filter, length};
+ghost use Rattle.std.specs.HashMap.{get};
+ghost use Rattle.std.specs.List.{flat_map, range_with_len};
+ghost use Rattle.choices.specs.Choices.{ranked_choices};
+ghost use Rattle.images.specs.Keys.{differs};
+ghost use Rattle.images.specs.Views.{view_of, sectors_of};
+ghost use Rattle.export.specs.Export.{choice_at, device_at, marks_before, is_same, first_same, last_new, new_count, image_text, export_text};
+ghost use Rattle.export.specs.Kept.{OfOneLog, sum_of, key_at, IsIndex, IsNext, AreRecords, IsFree, IsFound, IsKept};
 
 use crate::asked::Asked;
+use crate::differing::put_differing;
+use crate::image::Image;
+use crate::sums::{key_of, sum_of, sum_over};
+use crate::text::{put_head, put_new, put_same, put_total};
+use choices::{Choice, Starts, next};
+use images::History;
 use std::alloc::{AllocError, Global};
+use std::collections::HashMap;
+use std::marker::Model;
 
-/// Stub.
+/// What images are made of.
+#[derive(Drop)]
+struct Source<'a> {
+    asked: &'a Asked<'a>,
+    history: &'a History<'a>,
+    starts: &'a Starts<'a>,
+}
+
+/// An image, and what it is found by.
+#[derive(Drop)]
+struct Next<'a> {
+    image: Image<'a>,
+    /// How many marks stand before its cut.
+    marks: u32,
+    /// Its sum.
+    sum: u64,
+}
+
+/// Where an image belongs: a free key, or the place of the image that is the same.
+#[derive(Clone, Copy)]
+pub(crate) enum Found {
+    Free(u64),
+    Same(u32),
+}
+
+/// What is kept of the images so far.
+#[derive(Drop)]
+struct Kept<'a> {
+    /// The last new image, or one with the same bytes.
+    shown: Image<'a>,
+    /// Its sum.
+    sum: u64,
+    /// How many were new.
+    fresh: u64,
+    /// The place of each new image, by the first key from its own on that was free.
+    places: HashMap<u64, u32>,
+}
+
+/// What is written over for each image.
+#[derive(Drop)]
+struct Scratch {
+    line: String,
+    differing: Vec<u32>,
+    compared: Vec<u32>,
+}
+
+impl<'a> Model for Source<'a> {
+    ghost use Rattle.std.specs.Prelude.{◌≡◌};
+    ghost use Rattle.export.specs.Export.{AskedValue};
+
+    ghost Value = { AskedValue };
+
+    ghost view = { λ s. s.asked.now };
+
+    ghost invariant = { λ s. (s.history.now ≡ s.asked.now.plan)
+        × (s.starts.now ≡ record { plan = s.asked.now.plan; bound = s.asked.now.bound; tears = s.asked.now.tears }) };
+}
+
+impl<'a> Kept<'a> {
+    /// What is kept before the first image.
+    fn new(alloc: Global, asked: &Asked<'a>) -> Kept<'a>
+        ensures { IsKept asked.now 0 result.shown result.sum result.fresh (get nat_eq result.places) }
+    {
+        let shown = Image::initial(asked.log());
+        let sum = sum_of(&shown);
+        Kept {
+            shown,
+            sum,
+            fresh: 0,
+            places: HashMap::new(alloc),
+        }
+    }
+
+    /// The sum of an image that differs from the last new one in these sectors.
+    fn sum_with(&self, image: &Image<'a>, differing: &[u32]) -> u64
+        requires log { OfOneLog self.now.shown image.now }
+        requires differing { differing.now ≡ filter (differs (sectors_of self.now.shown) (sectors_of image.now)) (range_with_len 0 self.now.shown.log.sectors) }
+        requires sum { self.now.sum ≡ sum_of (sectors_of self.now.shown) }
+        ensures { result ≡ sum_of (sectors_of image.now) }
+    {
+        let _sectors = self.shown.log().sectors();
+        let old = sum_over(&self.shown, differing);
+        let new = sum_over(image, differing);
+        self.sum + new - old
+    }
+}
+
+impl<'a> Source<'a> {
+    /// The choice of the image at a place.
+    fn choice(&self, place: u32) -> Choice
+        requires { self.now.from + place < self.now.to }
+        ensures { slice_get (ranked_choices self.now.plan self.now.bound self.now.tears) (self.now.from + place) ≡ Some result }
+    {
+        self.starts.nth(self.asked.from() + u64::from(place))
+    }
+
+    /// The image of a choice.
+    fn image(&self, alloc: Global, place: u32, choice: &Choice) -> Result<Image<'a>, AllocError>
+        requires { slice_get (ranked_choices self.now.plan self.now.bound self.now.tears) (self.now.from + place) ≡ Some choice.now }
+        ensures log { IfOk result (λ image. image.log ≡ self.now.plan.log) }
+        ensures device { IfOk result (λ image. sectors_of image ≡ device_at self.now place) }
+    {
+        let image = Image::of(alloc, self.asked.log(), self.history, choice)?;
+        Ok(image)
+    }
+
+    /// How many marks stand before the cut of a choice.
+    fn marks(&self, place: u32, choice: &Choice) -> u32
+        requires { slice_get (ranked_choices self.now.plan self.now.bound self.now.tears) (self.now.from + place) ≡ Some choice.now }
+        ensures { result ≡ marks_before self.now place }
+    {
+        self.asked.plan().marks(choice.cut())
+    }
+
+    /// Whether the image of a later place is the same as that of another, with as many marks before it.
+    fn is_same(
+        &self,
+        alloc: Global,
+        compared: &mut Vec<u32>,
+        later: u32,
+        next: &Next<'a>,
+        place: u32,
+    ) -> Result<bool, AllocError>
+        requires place { self.now.from + place < self.now.to }
+        requires next { IsNext self.now later next.now.image next.now.marks next.now.sum }
+        ensures { IfOk result (λ same. same ≡ is_same self.now later place) }
+    {
+        let _later = later;
+        let choice = self.choice(place);
+        if self.marks(place, &choice) != next.marks {
+            return Ok(false);
+        }
+        let other = self.image(alloc, place, &choice)?;
+        put_differing(compared, &other, &next.image)?;
+        Ok(compared.as_slice().is_empty())
+    }
+
+    /// The image that is the same as that of a place, or the key that is free for it.
+    ///
+    /// # Errors
+    ///
+    /// Want of memory. Where 2^64 - 1 keys were taken there would be no memory for them.
+    fn find(
+        &self,
+        alloc: Global,
+        places: &HashMap<u64, u32>,
+        compared: &mut Vec<u32>,
+        place: u32,
+        next: &Next<'a>,
+    ) -> Result<Found, AllocError>
+        requires place { self.now.from + place < self.now.to }
+        requires next { IsNext self.now place next.now.image next.now.marks next.now.sum }
+        requires index { IsIndex self.now place (get nat_eq places.now) }
+        ensures { IfOk result (λ found. IsFound self.now place (get nat_eq places.now) found) }
+    {
+        let key = key_of(next.sum, next.marks);
+        for step in 0..u64::MAX {
+            let at = key.wrapping_add(step);
+            let Some(other) = places.get(&at) else {
+                return Ok(Found::Free(at));
+            };
+            if self.is_same(alloc, compared, place, next, *other)? {
+                return Ok(Found::Same(*other));
+            }
+        }
+        Err(AllocError)
+    }
+
+    /// The image of a choice, with the sectors in which it differs from the last new one.
+    fn next(
+        &self,
+        alloc: Global,
+        kept: &Kept<'a>,
+        differing: &mut Vec<u32>,
+        place: u32,
+        choice: &Choice,
+    ) -> Result<Next<'a>, AllocError>
+        requires choice { slice_get (ranked_choices self.now.plan self.now.bound self.now.tears) (self.now.from + place) ≡ Some choice.now }
+        requires kept { IsKept self.now place kept.now.shown kept.now.sum kept.now.fresh (get nat_eq kept.now.places) }
+        ensures next { IfOk result (λ next. IsNext self.now place next.image next.marks next.sum) }
+        ensures records { IfOk result (λ next. AreRecords self.now place next.image differing.new.items) }
+    {
+        let image = self.image(alloc, place, choice)?;
+        put_differing(differing, &kept.shown, &image)?;
+        let sum = kept.sum_with(&image, differing.as_slice());
+        let marks = self.marks(place, choice);
+        Ok(Next { image, marks, sum })
+    }
+
+    /// Keeps an image that isn't new. Where it has the bytes of the last new one, it stands in its place, since its cut is later.
+    fn keep_same(&self, kept: &mut Kept<'a>, place: u32, next: Next<'a>, is_last: bool)
+        requires kept { IsKept self.now place kept.old.shown kept.old.sum kept.old.fresh (get nat_eq kept.old.places) }
+        requires next { IsNext self.now place next.image next.marks next.sum }
+        requires same { (j : ℕ) × (first_same self.now place ≡ Some j) }
+        requires last { IsTrue is_last → last_new self.now place ≡ device_at self.now place }
+        ensures { IsKept self.now (place + 1) kept.new.shown kept.new.sum kept.new.fresh (get nat_eq kept.new.places) }
+    {
+        let _place = place;
+        if is_last {
+            kept.shown = next.image;
+        }
+    }
+
+    /// Keeps an image that is new, at a key that is free for it.
+    fn keep_new(
+        &self,
+        kept: &mut Kept<'a>,
+        place: u32,
+        next: Next<'a>,
+        key: u64,
+    ) -> Result<(), AllocError>
+        requires kept { IsKept self.now place kept.old.shown kept.old.sum kept.old.fresh (get nat_eq kept.old.places) }
+        requires next { IsNext self.now place next.image next.marks next.sum }
+        requires free { IsFree self.now place (get nat_eq kept.old.places) key }
+        ensures { OnOk result (IsKept self.now (place + 1) kept.new.shown kept.new.sum kept.new.fresh (get nat_eq kept.new.places)) }
+    {
+        kept.places.insert(key, place)?;
+        kept.shown = next.image;
+        kept.sum = next.sum;
+        kept.fresh += 1;
+        Ok(())
+    }
+
+    /// Appends the text of the image at a place, and keeps what the next ones need.
+    fn put_image(
+        &self,
+        alloc: Global,
+        out: &mut Vec<u8>,
+        kept: &mut Kept<'a>,
+        scratch: &mut Scratch,
+        place: u32,
+        choice: &Choice,
+    ) -> Result<(), AllocError>
+        requires place { self.now.from + place < self.now.to }
+        requires choice { slice_get (ranked_choices self.now.plan self.now.bound self.now.tears) (self.now.from + place) ≡ Some choice.now }
+        requires kept { IsKept self.now place kept.old.shown kept.old.sum kept.old.fresh (get nat_eq kept.old.places) }
+        ensures text { OnOk result (out.new.items ≡ out.old.items ++ image_text self.now place) }
+        ensures kept { OnOk result (IsKept self.now (place + 1) kept.new.shown kept.new.sum kept.new.fresh (get nat_eq kept.new.places)) }
+    {
+        let next = self.next(alloc, kept, &mut scratch.differing, place, choice)?;
+        scratch.line.clear();
+        put_head(&mut scratch.line, self.asked, place, choice)?;
+        let found = self.find(alloc, &kept.places, &mut scratch.compared, place, &next)?;
+        match found {
+            Found::Same(other) => {
+                put_same(
+                    out,
+                    &mut scratch.line,
+                    self.asked.from() + u64::from(other),
+                )?;
+                let is_last = scratch.differing.as_slice().is_empty();
+                self.keep_same(kept, place, next, is_last);
+                Ok(())
+            }
+            Found::Free(key) => {
+                put_new(
+                    out,
+                    &mut scratch.line,
+                    &next.image,
+                    scratch.differing.as_slice(),
+                )?;
+                self.keep_new(kept, place, next, key)?;
+                Ok(())
+            }
+        }
+    }
+
+    /// Appends the text of each image, and answers how many are new.
+    fn put_each(&self, alloc: Global, out: &mut Vec<u8>) -> Result<u64, AllocError>
+        ensures text { OnOk result (out.new.items ≡ out.old.items ++ flat_map (image_text self.now) (range_with_len 0 (self.now.to - self.now.from))) }
+        ensures fresh { IfOk result (λ fresh. fresh ≡ new_count self.now (self.now.to - self.now.from)) }
+    {
+        let asked = self.asked;
+        let mut kept = Kept::new(alloc, asked);
+        let count = asked.count();
+        if count == 0 {
+            return Ok(0);
+        }
+        let mut scratch = Scratch {
+            line: String::new(alloc),
+            differing: Vec::new(alloc),
+            compared: Vec::new(alloc),
+        };
+        let mut choice = self.choice(0);
+        for place in 0..count {
+            self.put_image(alloc, out, &mut kept, &mut scratch, place, &choice)?;
+            let _moved = next(asked.plan(), asked.bound(), asked.tears(), &mut choice);
+        }
+        Ok(kept.fresh)
+    }
+
+    /// Appends the text of all images.
+    fn put_all(&self, alloc: Global, out: &mut Vec<u8>) -> Result<(), AllocError>
+        ensures { OnOk result (out.new.items ≡ out.old.items ++ export_text self.now) }
+    {
+        let fresh = self.put_each(alloc, out)?;
+        put_total(alloc, out, u64::from(self.asked.count()), fresh)?;
+        Ok(())
+    }
+}
+
+/// The text of the images that are asked for (docs/REPORT.md, The text of `export`). Beside the text it keeps at most some 40 bytes
+/// for each new image: its place and a key, in a map.
+///
+/// # Errors
+///
+/// Want of memory.
 pub fn export(alloc: Global, asked: &Asked<'_>) -> Result<Vec<u8>, AllocError>
     ensures { IfOk result (λ bytes. bytes.items ≡ export_text asked.now) }
 {
-    let _asked = asked;
-    let _alloc = alloc;
-    Err(AllocError)
+    let history = History::new(alloc, asked.plan(), asked.log())?;
+    let starts = Starts::new(alloc, asked.plan(), asked.bound(), asked.tears())?;
+    let source = Source {
+        asked,
+        history: &history,
+        starts: &starts,
+    };
+    let mut out = Vec::new(alloc);
+    source.put_all(alloc, &mut out)?;
+    Ok(out)
 }

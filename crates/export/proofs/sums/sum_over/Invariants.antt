@@ -1,0 +1,7 @@
+use Rattle.std.proofs.Common.{◌≡◌, sum_by, take}
+use Rattle.images.specs.Views.{sectors_of}
+use Rattle.export.specs.Kept.{weight_at}
+use Rattle.export.proofs.sums.sum_over.Given as goal
+
+abbrev pub invariant-loop-number : goal.invariant-loop-number
+invariant-loop-number l = l.sum ≡ sum_by (weight_at (sectors_of l.image)) (take l.number-index l.numbers)
