@@ -18,7 +18,7 @@ PATIENCE = 20.0
 
 
 def folder_for(size, runners):
-    """Makes the folder of all runners, for so many files of a size and a copy of each, and returns its path."""
+    """Makes the folder of all runners, for a file of a size for each runner and a copy of it, and returns its path."""
     place = None
     if not os.environ.get("TMPDIR") and os.access(MEMORY, os.W_OK | os.X_OK):
         it = os.statvfs(MEMORY)

@@ -49,7 +49,7 @@ def copy_stretch(source, target, begin, end):
 
 
 class ImageFile:
-    """A file of so many sectors. With `watched` its bytes are kept in memory too, so that a change of them is seen."""
+    """A file with the bytes of an image. With `watched` its bytes are kept in memory too, so that a change of them is seen."""
 
     def __init__(self, path, sectors, base, watched):
         self.path, self.size, self.apart, self.stat = path, SECTOR * sectors, set(), None

@@ -124,7 +124,7 @@ def end_all(process):
 
 
 def run(words, surroundings, seconds, hang_up, nothing):
-    """Runs the program, at most for so many seconds. Where `hang_up` can be read it is ended at once."""
+    """Runs the program, for at most that many seconds. Where `hang_up` can be read it is ended at once."""
     reading, writing = os.pipe2(os.O_CLOEXEC)
     try:
         try:

@@ -44,7 +44,7 @@ class Words:
 
 
 def number(name, value, most):
-    """Returns the number behind an option, which is 1 to `most`."""
+    """Returns the number after an option, which is 1 to `most`."""
     if not NUMBER.fullmatch(value) or not 1 <= int(value) <= most:
         raise Refusal(f"{name} is 1 to {most}")
     return int(value)
@@ -67,7 +67,7 @@ def halves(words):
 
 
 def split(words):
-    """Returns the words as a list of pairs: an option with its value, or with none; a file stands behind the name ''."""
+    """Returns the words as a list of pairs: an option with its value, or with none; a file has the name ''."""
     found, rest = [], list(words)
     while rest:
         word = rest.pop(0)
