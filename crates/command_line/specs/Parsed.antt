@@ -39,6 +39,7 @@ command_named name =
     else if bytes_eq name (codes "cure") then Some verb.Cure
     else if bytes_eq name (codes "page") then Some verb.Page
     else if bytes_eq name (codes "images") then Some verb.Images
+    else if bytes_eq name (codes "export") then Some verb.Export
     else if bytes_eq name (codes "image") then Some verb.Image
     else if bytes_eq name (codes "show") then Some verb.Show
     else if bytes_eq name (codes "log") then Some verb.Log
