@@ -9,7 +9,7 @@ use Rattle.report.specs.declared.span.Span.{Span}
 use Rattle.request.specs.declared.extent.Extent.{Extent}
 use Rattle.request.specs.declared.extent.Extent.TheVariants as extent
 use Rattle.request.specs.declared.settings.Settings.{Settings}
-use Rattle.request.specs.Extents.{is_extent, has_extent, most_images}
+use Rattle.request.specs.Extents.{first_meant, end_meant, is_extent, has_extent, most_images}
 use Rattle.request.specs.Source.{plan_of, images_of}
 use Rattle.request.proofs.Plans.{counted_of}
 use Rattle.runs.specs.declared.explore_command.Wanted.{Wanted}
@@ -55,13 +55,12 @@ whole_judged images inputs few = record {
   few = omega (arith, few);
 }
 
--- the span of a part, and of all images
-pub part_span : (e : Extent) (from to images inputs : ℕ) → extent.Part from to ≡ e → is_extent e ≡ true → images ≤ most_images e → has_extent e images ≡ true
-    → IsJudged e images (record { from = from; to = to; images = images; inputs = inputs })
-part_span e from to images inputs part good few has =
-    subst (λ (x : Extent). IsJudged x images (record { from = from; to = to; images = images; inputs = inputs })) part
-    (part_judged from to images inputs (subst (λ (x : Extent). is_extent x ≡ true) (sym part) good) (subst (λ (x : Extent). images ≤ most_images x) (sym part) few)
-    (subst (λ (x : Extent). has_extent x images ≡ true) (sym part) has))
+-- the span of the images that are meant
+pub span_judged : (w : Wanted) (e : Extent) (images inputs : ℕ) → takes w e ≡ true → is_extent e ≡ true → images ≤ most_images e → has_extent e images ≡ true
+    → IsJudged e images (record { from = first_meant e; to = end_meant e images; images = images; inputs = inputs })
+span_judged w extent.Whole images inputs taken good few has = whole_judged images inputs few
+span_judged w extent.Wide images inputs taken good few has = absurd (false≢true taken)
+span_judged w (extent.Part from to) images inputs taken good few has = part_judged from to images inputs good few has
 
 pub judged_whole : (e : Extent) (count images inputs : ℕ) → e ≡ extent.Whole → images ≡ count → images ≤ most_images e
     → IsJudged e count (record { from = 0; to = images; images = images; inputs = inputs })

@@ -1,6 +1,6 @@
-use Rattle.std.proofs.Common.{sym}
-use Rattle.runs.proofs.Judging.{part_span}
+use Rattle.runs.proofs.Judging.{span_judged}
 use Rattle.runs.proofs.explore_command.span_with.Goals as goal
 
-pub returns-in-Part-clause-judged : goal.returns-in-Part-clause-judged
-returns-in-Part-clause-judged c = part_span c.args.extent _ _ _ _ (sym c.in-Part.is) c.requires.good c.requires.few c.requires.within
+pub returns-clause-judged : goal.returns-clause-judged
+returns-clause-judged c =
+    rw (c.first.ensures, c.end.ensures) (span_judged c.args.wanted c.args.extent _ _ c.requires.taken c.requires.good c.requires.few c.requires.within)
