@@ -1,5 +1,5 @@
 -- What is kept while images are gone through: the sums by which equal ones are found, and where each new one is kept.
-use Rattle.std.specs.Prelude.{ℕ, ◌+◌, ◌*◌, ◌/◌, ◌%◌, ◌^◌, ◌≡◌, ◌<◌, ◌≤◌, ◌&&◌, filter, Bool, true, false, List, [], ◌++◌, length, map, sum_by, slice_get, codes, Option, Some, None, MatchOption}
+use Rattle.std.specs.Prelude.{ℕ, bit_xor, ◌+◌, ◌*◌, ◌/◌, ◌%◌, ◌^◌, ◌≡◌, ◌<◌, ◌≤◌, ◌&&◌, filter, Bool, true, false, List, [], ◌++◌, length, map, sum_by, slice_get, codes, Option, Some, None, MatchOption}
 use Rattle.std.specs.Option.{option_map}
 use Rattle.std.specs.Fmt.{decimal}
 use Rattle.std.specs.List.{range_with_len, flat_map}
@@ -31,13 +31,17 @@ pub record IsImage (image : ViewValue) (view : Option ViewValue) : Type 0 where
   pub departs : AreParts image.log image.departures
   pub shown : MatchOption view ((image.cut ≡ 0) × (image.departures ≡ [])) (λ v. v ≡ image)
 
--- by which the mix of a sector counts, with the sector's number
+-- by which numbers are spread
 abbrev pub factor : ℕ
 factor = 11400714819323198485
 
+-- a number in which each bit depends on many of another's
+unfoldable pub spread : ℕ → ℕ
+spread n = bit_xor n (n / 2 ^ 32) * factor % 2 ^ 64
+
 -- what a sector adds to the sum of an image, below 2 ^ 43: so no sum of at most 2 ^ 20 sectors passes 2 ^ 63
 unfoldable pub weight : ℕ → List ℕ → ℕ
-weight n sector = mix sector * (factor * (2 * n + 1) % 2 ^ 64) % 2 ^ 64 / 2 ^ 21
+weight n sector = spread (spread ((mix sector + factor * n % 2 ^ 64) % 2 ^ 64)) / 2 ^ 21
 
 -- of a sector of a device
 unfoldable pub weight_at : List (List ℕ) → ℕ → ℕ
