@@ -1,5 +1,5 @@
 -- What is kept before the first image, and after one more.
-use Rattle.std.proofs.Common.{ℕ, zero, suc, nat_eq, ◌≡◌, ◌+◌, ◌-◌, ◌*◌, ◌<◌, ◌≤◌, ◌^◌, ◌==◌, Bool, true, false, not, cond, if◌then◌else◌, List, [], ◌∷◌, ◌++◌, length, map, filter, slice_get, sum_by, Option, Some, None, refl, sym, subst, ◌∙◌, ap, inl, inr, arith, add-one}
+use Rattle.std.proofs.Common.{ℕ, zero, suc, nat_eq, ◌≡◌, ◌+◌, ◌<◌, ◌≤◌, ◌==◌, Bool, true, false, not, cond, if◌then◌else◌, List, [], ◌∷◌, ◌++◌, length, map, filter, slice_get, sum_by, Option, Some, None, refl, sym, subst, ◌∙◌, ap, inl, inr, arith, add-one}
 use Rattle.std.specs.List.{range_with_len}
 use Rattle.std.specs.HashMap.{HashMap, IsEmpty, get}
 use Rattle.std.specs.Cmp.Lexicographic.{pointwise_decides}
@@ -12,18 +12,18 @@ use Rattle.logfmt.specs.Bounds.{LogValue}
 use Rattle.images.specs.Views.{ViewValue, sectors_of}
 use Rattle.images.specs.Keys.{content_at, differs, with_content, changed_below}
 use Rattle.images.specs.Whole.{length_view}
-use Rattle.export.specs.Export.{AskedValue, choice_at, device_at, marks_before, is_same, first_same, is_new, initial_device, last_new, records_at, new_count}
+use Rattle.export.specs.Export.{AskedValue, device_at, is_same, first_same, is_new, initial_device, last_new, records_at, new_count}
 use Rattle.std.specs.Option.{option_map}
 use Rattle.std.proofs.lemmas.Bool.{eq-eqb, ne_eqb}
 use Rattle.export.specs.declared.walk.Held.{Held}
-use Rattle.export.specs.Kept.{weight, weight_at, sum_of, key_at, key_behind, firsts, IsIndex, IsHeld, IsFree, IsNext, AreRecords, IsKept}
+use Rattle.export.specs.Kept.{weight, weight_at, sum_of, key_at, key_behind, firsts, IsIndex, IsFree, IsNext, AreRecords, IsKept}
 use Rattle.export.proofs.First.{none_first}
 use Rattle.export.proofs.Same.{same_if, told_first, new_flag, same_flag}
-use Rattle.export.proofs.Numbers.{those_alike, kept_of}
+use Rattle.export.proofs.Numbers.{kept_of}
 use Rattle.export.proofs.Unlike.{starts}
 use Rattle.export.proofs.Moves.{sums_move}
 use Rattle.export.proofs.Index.{none_kept, index_stays, index_more, free_is_new}
-use Rattle.export.proofs.Readers.{unchanged, new_shows, same_shows, length-device, length-last_new}
+use Rattle.export.proofs.Readers.{unchanged, new_shows, same_shows, length-device}
 
 -- before the first image
 pub first_kept : (a : AskedValue) (shown near : ViewValue) (own fresh : ℕ) (at : ℕ → Option Held) → shown ≡ record { log = a.plan.log; cut = 0; departures = [] }

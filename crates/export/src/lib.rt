@@ -74,5 +74,5 @@ mod text;
 mod walk;
 
 pub use asked::{Asked, Wanted};
-pub use walk::export;
 pub use laws::exports_are_images;
+pub use walk::export;

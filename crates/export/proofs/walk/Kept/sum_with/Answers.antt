@@ -1,5 +1,4 @@
-use Rattle.std.proofs.Common.{ℕ, ◌≡◌, ◌≤◌, length, sym, ◌∙◌, ap, arith}
-use Rattle.std.specs.List.{range_with_len}
+use Rattle.std.proofs.Common.{ap, arith}
 use Rattle.logfmt.specs.Bounds.{LogValue}
 use Rattle.images.specs.Keys.{differs}
 use Rattle.images.specs.Views.{sectors_of}

@@ -1,4 +1,4 @@
-use Rattle.std.proofs.Common.{ℕ, ◌≡◌, ◌+◌, ◌%◌, ◌^◌, nat_eq, Option, None, Some, refl, sym, ◌∙◌, ap, arith}
+use Rattle.std.proofs.Common.{ℕ, ◌≡◌, ◌+◌, ◌%◌, ◌^◌, nat_eq, Option, refl, sym, ◌∙◌, ap, arith}
 use Rattle.std.specs.HashMap.{get}
 use Rattle.std.specs.Option.{option_map}
 use Rattle.export.specs.declared.walk.Held.{Held}
@@ -31,9 +31,11 @@ returns-then-branch c =
     let at : ℕ → Option Held = get nat_eq c.args.places.now in
     let h : Held = c.in-Some.held.now in
     let there = sym c.in-Some.ensures.value in
-    let first = ap (option_map (λ (h : Held). h.first)) there in
-    (kept_is_first a i _ h.first (firsts at) c.requires.held.index first
-    (sym (first_told_by_last a i h.last h.first (c.requires.held.recent _ h there).1) ∙ sym c.in_ok-is_same.ensures ∙ c.if-branch.true), first)
+    let first = ap (option_map (λ (h : Held). h.first)) there in (
+      kept_is_first a i _ h.first (firsts at) c.requires.held.index first
+          (sym (first_told_by_last a i h.last h.first (c.requires.held.recent _ h there).1) ∙ sym c.in_ok-is_same.ensures ∙ c.if-branch.true),
+      first,
+    )
 
 pub loop-step-preserved : goal.loop-step-preserved
 loop-step-preserved c =
