@@ -1,5 +1,5 @@
 -- A sector that nothing between two images covers.
-use Rattle.std.proofs.Common.{ℕ, zero, suc, ◌≡◌, ◌≢◌, ◌+◌, ◌-◌, ◌<◌, ◌≤◌, List, [], ◌∷◌, ◌++◌, length, map, slice_get, slice_index_or, Some, refl, sym, subst, ◌∙◌, ap, inl, inr, arith, append_assoc}
+use Rattle.std.proofs.Common.{ℕ, zero, suc, ◌≡◌, ◌≢◌, ◌+◌, ◌-◌, ◌<◌, ◌≤◌, List, [], ◌∷◌, ◌++◌, length, map, slice_get, slice_index_or, Some, sym, subst, ◌∙◌, ap, inl, inr, arith, append_assoc}
 use Rattle.std.specs.List.{All, range_with_len}
 use Rattle.std.proofs.lemmas.Option.{slice_get_cases}
 use Rattle.std.proofs.lemmas.List.{append-nil}
@@ -10,7 +10,6 @@ use Rattle.epochs.specs.Units.{unit_of, units_of_entry, units_before}
 use Rattle.epochs.proofs.Growth.{units_before-next}
 use Rattle.choices.specs.declared.choice.Departure.{Departure}
 use Rattle.images.specs.Images.{sector_after}
-use Rattle.images.specs.Laws.{FatesShow}
 use Rattle.images.specs.Table.{AreParts}
 use Rattle.images.proofs.Departing.{Covers, departed_elsewhere}
 use Rattle.images.proofs.Fates.{fates_show}

@@ -1,11 +1,10 @@
 -- The index of new images.
-use Rattle.std.proofs.Common.{ℕ, ◌≡◌, ◌≢◌, ◌+◌, ◌<◌, ◌≤◌, ◌==◌, Bool, true, false, cond, Option, Some, None, refl, sym, subst, ◌∙◌, ap, inl, inr, arith}
+use Rattle.std.proofs.Common.{ℕ, ◌≡◌, ◌≢◌, ◌+◌, ◌<◌, ◌==◌, true, false, cond, Option, Some, None, refl, sym, subst, ◌∙◌, ap, inl, inr, arith}
 use Rattle.std.proofs.lemmas.Bool.{cases_lt, eq-eqb, ne_eqb}
 use Rattle.std.proofs.lemmas.Bool.Decides.{eqb_tells}
 use Rattle.std.proofs.lemmas.Option.{same_Some}
 use Rattle.export.specs.Export.{AskedValue, device_at, marks_before, is_same, first_same}
 use Rattle.export.specs.Kept.{sum_of, key_by, key_at, key_behind, AreOthers, IsIndex}
-use Rattle.export.proofs.First.{IsFirst}
 use Rattle.export.proofs.Same.{same_told, told_first, first_is_new, new_is_first}
 
 -- images that are the same have one key
@@ -109,14 +108,20 @@ index_more a i at new steps index are free is =
       ];
       found = λ m lt fresh. elim (cases_lt m i) [
         | inl before ↦
-            let was = index.found m before fresh in
-            (was.0, keeps at new key i (key_behind (key_at a m) was.0) m is free was.1,
-            λ s less none. stays_full at new key i (key_behind (key_at a m) s) is (was.2 s less) none)
+            let was = index.found m before fresh in (
+              was.0,
+              keeps at new key i (key_behind (key_at a m) was.0) m is free was.1,
+              λ s less none. stays_full at new key i (key_behind (key_at a m) s) is (was.2 s less) none,
+            )
         | inr past ↦
             let here : i ≡ m = omega (arith, lt, past) in
             let P : ℕ → Type 0 = λ j. (t : ℕ) × (new (key_behind (key_at a j) t) ≡ Some j) × ((s : ℕ) → s < t → new (key_behind (key_at a j) s) ≡ None → ⊥) in
-            subst P here (steps, put_here at new key i is, λ s less none.
-            let other = are.others s less in
-            stays_full at new key i (key_behind (key_at a i) s) is (λ gone. let bad : None ≡ Some other.0 = sym gone ∙ other.1 in cc) none)
+            subst P here (
+              steps,
+              put_here at new key i is,
+              λ s less none.
+                  let other = are.others s less in
+                  stays_full at new key i (key_behind (key_at a i) s) is (λ gone. let bad : None ≡ Some other.0 = sym gone ∙ other.1 in cc) none,
+            )
       ];
     }

@@ -1,41 +1,46 @@
 -- What is kept before the first image, and after one more.
-use Rattle.std.proofs.Common.{ℕ, zero, suc, nat_eq, ◌≡◌, ◌+◌, ◌-◌, ◌*◌, ◌<◌, ◌≤◌, ◌^◌, ◌==◌, Bool, true, false, not, cond, if◌then◌else◌, List, [], ◌∷◌, ◌++◌, length, map, filter, slice_get, sum_by, Option, Some, None, refl, sym, subst, ◌∙◌, ap, inl, inr, arith, add-one}
+use Rattle.std.proofs.Common.{ℕ, zero, suc, nat_eq, ◌≡◌, ◌+◌, ◌<◌, ◌≤◌, ◌==◌, Bool, true, false, not, cond, if◌then◌else◌, List, [], ◌∷◌, ◌++◌, length, map, filter, slice_get, sum_by, Option, Some, None, refl, sym, subst, ◌∙◌, ap, inl, inr, arith, add-one}
 use Rattle.std.specs.List.{range_with_len}
 use Rattle.std.specs.HashMap.{HashMap, IsEmpty, get}
 use Rattle.std.specs.Cmp.Lexicographic.{pointwise_decides}
-use Rattle.std.proofs.lemmas.Bool.Decides.{Decides-eqb}
+use Rattle.std.proofs.lemmas.Bool.Decides.{Decides-eqb, eqb_tells}
 use Rattle.std.proofs.lemmas.List.{same_lists, get_or_default, length-append}
 use Rattle.std.proofs.lemmas.List.Elements.{filter-append}
-use Rattle.std.proofs.lemmas.Option.{get_or_from_slice_get, slice_get_within}
+use Rattle.std.proofs.lemmas.Option.{get_or_from_slice_get, slice_get_within, same_Some}
 use Rattle.base.proofs.Lists.{range_with_len-more}
 use Rattle.logfmt.specs.Bounds.{LogValue}
 use Rattle.images.specs.Views.{ViewValue, sectors_of}
 use Rattle.images.specs.Keys.{content_at, differs, with_content, changed_below}
 use Rattle.images.specs.Whole.{length_view}
-use Rattle.export.specs.Export.{AskedValue, choice_at, device_at, marks_before, is_same, first_same, is_new, initial_device, last_new, records_at, new_count}
-use Rattle.export.specs.Kept.{weight, weight_at, sum_of, key_at, key_behind, IsIndex, AreOthers, IsFree, IsNext, AreRecords, IsKept}
+use Rattle.export.specs.Export.{AskedValue, device_at, is_same, first_same, is_new, initial_device, last_new, records_at, new_count}
+use Rattle.std.specs.Option.{option_map}
+use Rattle.std.proofs.lemmas.Bool.{eq-eqb, ne_eqb}
+use Rattle.export.specs.declared.walk.Held.{Held}
+use Rattle.export.specs.Kept.{weight, weight_at, sum_of, key_at, key_behind, firsts, IsIndex, IsFree, IsNext, AreRecords, IsKept}
 use Rattle.export.proofs.First.{none_first}
-use Rattle.export.proofs.Same.{new_flag, same_flag}
-use Rattle.export.proofs.Numbers.{those_alike, kept_of}
+use Rattle.export.proofs.Same.{same_if, told_first, new_flag, same_flag}
+use Rattle.export.proofs.Numbers.{kept_of}
 use Rattle.export.proofs.Unlike.{starts}
 use Rattle.export.proofs.Moves.{sums_move}
 use Rattle.export.proofs.Index.{none_kept, index_stays, index_more, free_is_new}
-use Rattle.export.proofs.Readers.{unchanged, new_shows, same_shows, length-device, length-last_new}
+use Rattle.export.proofs.Readers.{unchanged, new_shows, same_shows, length-device}
 
 -- before the first image
-pub first_kept : (a : AskedValue) (shown : ViewValue) (own fresh : ℕ) (at : ℕ → Option ℕ) → shown ≡ record { log = a.plan.log; cut = 0; departures = [] }
-    → own ≡ sum_of (sectors_of shown) → fresh ≡ 0 → ((k : ℕ) → at k ≡ None) → IsKept a 0 shown own fresh at
+pub first_kept : (a : AskedValue) (shown near : ViewValue) (own fresh : ℕ) (at : ℕ → Option Held) → shown ≡ record { log = a.plan.log; cut = 0; departures = [] }
+    → near.log ≡ a.plan.log → own ≡ sum_of (sectors_of near) → fresh ≡ 0 → ((k : ℕ) → at k ≡ None) → IsKept a 0 shown near own fresh at
 unfolding initial_device last_new new_count
-first_kept a shown own fresh at is sum none empty =
-    let device : sectors_of shown ≡ last_new a 0 = ap sectors_of is ∙ starts a.plan.log in
-    record {
-      log = ap (λ (v : ViewValue). v.log) is;
-      device = device;
-      sum = sum ∙ ap sum_of device;
-      count = none;
-      few = omega (arith, none);
-      index = none_kept a at empty;
-    }
+first_kept a shown near own fresh at is beside sum none empty = record {
+  log = ap (λ (v : ViewValue). v.log) is;
+  device = ap sectors_of is ∙ starts a.plan.log;
+  beside = beside;
+  sum = sum;
+  count = none;
+  few = omega (arith, none);
+  held = record {
+    index = none_kept a (firsts at) (λ k. ap (option_map (λ (h : Held). h.first)) (empty k));
+    recent = λ k h there. absurd (let bad : None ≡ Some h = sym (empty k) ∙ there in cc);
+  };
+}
 
 -- sectors of one content have one weight
 weights_alike : (one other : List (List ℕ)) (n : ℕ) → content_at one n ≡ content_at other n → weight_at one n ≡ weight_at other n
@@ -129,39 +134,84 @@ counted a n b is =
     lone true = refl
     lone false = refl
 
--- behind an image that isn't new, of which the bytes are those of the last new one, or others
-pub kept_same : (a : AskedValue) (i j : ℕ) (shown new : ViewValue) (own fresh : ℕ) (at : ℕ → Option ℕ) → IsKept a i shown own fresh at → first_same a i ≡ Some j
-    → new.log ≡ a.plan.log → sectors_of new ≡ last_new a i → IsKept a (i + 1) new own fresh at
-kept_same a i j shown new own fresh at is same log device =
-    let stays : last_new a (i + 1) ≡ last_new a i = ap (last_new a) (add-one i) ∙ same_shows a i j same in
+-- an image is the same as itself
+same_itself : (a : AskedValue) (i : ℕ) → is_same a i i ≡ true
+same_itself a i = same_if a i i refl refl
+
+-- what stands at a key after one was put there
+put_first : (at : ℕ → Option Held) (key q : ℕ) (held : Held) (b : Bool) → option_map (λ (h : Held). h.first) (cond b (Some held) (at q)) ≡ cond b (Some held.first) (firsts at q)
+put_first at key q held true = refl
+put_first at key q held false = refl
+
+stays_first : (at : ℕ → Option Held) (key q : ℕ) (held : Held) → firsts at key ≡ Some held.first → cond (key == q) (Some held.first) (firsts at q) ≡ firsts at q
+stays_first at key q held there = elim (eqb_tells key q) [
+  | inl same ↦ ap (λ b. cond b (Some held.first) (firsts at q)) (eq-eqb key q same.1) ∙ sym there ∙ ap (firsts at) same.1
+  | inr other ↦ ap (λ b. cond b (Some held.first) (firsts at q)) (ne_eqb key q other.1)
+]
+
+-- one is the last that is the same as the first
+recent_put : (a : AskedValue) (i key : ℕ) (at after : ℕ → Option Held) (held : Held) → ((q : ℕ) → after q ≡ cond (key == q) (Some held) (at q))
+    → ((k : ℕ) (h : Held) → at k ≡ Some h → (h.last < i) × (is_same a h.last h.first ≡ true)) → held.last ≡ i → is_same a i held.first ≡ true
+    → (k : ℕ) (h : Held) → after k ≡ Some h → (h.last < i + 1) × (is_same a h.last h.first ≡ true)
+recent_put a i key at after held put recent last same k h there = elim (eqb_tells key k) [
+  | inl here ↦
+      let is : held ≡ h = same_Some held h (sym (put k ∙ ap (λ b. cond b (Some held) (at k)) (eq-eqb key k here.1)) ∙ there) in
+      let P : Held → Type 0 = λ x. (x.last < i + 1) × (is_same a x.last x.first ≡ true) in
+      subst P is (omega (arith, last), ap (λ n. is_same a n held.first) last ∙ same)
+  | inr other ↦
+      let was = recent k h (sym (put k ∙ ap (λ b. cond b (Some held) (at k)) (ne_eqb key k other.1)) ∙ there) in
+      let lt = was.0 in
+      (omega (arith, lt), was.1)
+]
+
+-- behind an image that isn't new
+pub kept_same : (a : AskedValue) (i key : ℕ) (shown near new : ViewValue) (own sum fresh marks : ℕ) (at after : ℕ → Option Held) (held : Held)
+    → IsKept a i shown near own fresh at → IsNext a i new marks sum → held.last ≡ i → first_same a i ≡ Some held.first → firsts at key ≡ Some held.first
+    → ((q : ℕ) → after q ≡ cond (key == q) (Some held) (at q)) → IsKept a (i + 1) shown new sum fresh after
+kept_same a i key shown near new own sum fresh marks at after held is next last same there put =
+    let stays : last_new a (i + 1) ≡ last_new a i = ap (last_new a) (add-one i) ∙ same_shows a i held.first same in
     let few = is.few in
+    let alike : firsts at ≡ firsts after =
+    λ j q. sym (ap (option_map (λ (h : Held). h.first)) (put q) ∙ put_first at key q held (key == q) ∙ stays_first at key q held there) j in
     record {
-      log = log;
-      device = device ∙ sym stays;
-      sum = is.sum ∙ ap sum_of (sym stays);
-      count = is.count ∙ sym (let one = counted a i false (same_flag a i j same) in omega (arith, one));
+      log = is.log;
+      device = is.device ∙ sym stays;
+      beside = next.log;
+      sum = next.sum_is ∙ ap sum_of (sym next.device);
+      count = is.count ∙ sym (let one = counted a i false (same_flag a i held.first same) in omega (arith, one));
       few = omega (arith, few);
-      index = index_stays a i j at is.index same;
+      held = record {
+        index = subst (IsIndex a (i + 1)) alike (index_stays a i held.first (firsts at) is.held.index same);
+        recent = recent_put a i key at after held put is.held.recent last (told_first a i held.first same).passes;
+      };
     }
 
 -- behind one that is
-pub kept_new : (a : AskedValue) (i : ℕ) (shown new : ViewValue) (own sum fresh marks key : ℕ) (at after : ℕ → Option ℕ) → IsKept a i shown own fresh at
-    → IsNext a i new marks sum → IsFree a i at key → ((q : ℕ) → after q ≡ cond (key == q) (Some i) (at q)) → IsKept a (i + 1) new sum (fresh + 1) after
+pub kept_new : (a : AskedValue) (i key : ℕ) (shown near new next_shown : ViewValue) (own sum fresh marks : ℕ) (at after : ℕ → Option Held) (held : Held)
+    → IsKept a i shown near own fresh at → IsNext a i new marks sum → next_shown.log ≡ a.plan.log → sectors_of next_shown ≡ device_at a i
+    → IsFree a i (firsts at) key → held.first ≡ i → held.last ≡ i
+    → ((q : ℕ) → after q ≡ cond (key == q) (Some held) (at q)) → IsKept a (i + 1) next_shown new sum (fresh + 1) after
 unfolding IsFree
-kept_new a i shown new own sum fresh marks key at after is next free put =
+kept_new a i key shown near new next_shown own sum fresh marks at after held is next log device free first last put =
     let steps : ℕ = free.0 in
     let here : key ≡ key_behind (key_at a i) steps = free.1 in
-    let none : at (key_behind (key_at a i) steps) ≡ None = ap at (sym here) ∙ free.3 in
-    let fresh_is : first_same a i ≡ None = free_is_new a i at steps is.index free.2 none in
+    let none : firsts at (key_behind (key_at a i) steps) ≡ None = ap (firsts at) (sym here) ∙ free.3 in
+    let fresh_is : first_same a i ≡ None = free_is_new a i (firsts at) steps is.held.index free.2 none in
     let shows : last_new a (i + 1) ≡ device_at a i = ap (last_new a) (add-one i) ∙ new_shows a i fresh_is in
     let few = is.few in
     record {
-      log = next.log;
-      device = next.device ∙ sym shows;
-      sum = next.sum_is ∙ ap sum_of (sym shows);
+      log = log;
+      device = device ∙ sym shows;
+      beside = next.log;
+      sum = next.sum_is ∙ ap sum_of (sym next.device);
       count = ap (λ n. n + 1) is.count ∙ sym (counted a i true (new_flag a i fresh_is));
       few = omega (arith, few);
-      index = index_more a i at after steps is.index free.2 none (λ q. put q ∙ ap (λ k. cond (k == q) (Some i) (at q)) here);
+      held = record {
+        index = index_more a i (firsts at) (firsts after) steps is.held.index free.2 none
+            (λ q. ap (option_map (λ (h : Held). h.first)) (put q) ∙ put_first at key q held (key == q) ∙ ap (λ n. cond (key == q) (Some n) (firsts at q)) first
+            ∙ ap (λ k. cond (k == q) (Some i) (firsts at q)) here);
+        recent = recent_put a i key at after held put is.held.recent last (ap (is_same a i) first ∙ same_itself a i);
+      };
     }
 
 -- so many numbers at most
@@ -183,5 +233,5 @@ few_of_range p count xs is =
         by (p a)
 
 -- a map without entries
-pub none_at : {S : Type 0} (m : HashMap ℕ ℕ S) → IsEmpty m → (k : ℕ) → get nat_eq m k ≡ None
+pub none_at : {S : Type 0} (m : HashMap ℕ Held S) → IsEmpty m → (k : ℕ) → get nat_eq m k ≡ None
 none_at m empty k = rw empty refl

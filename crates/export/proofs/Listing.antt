@@ -1,11 +1,11 @@
 -- The sectors in which two images differ, of those that pass a test.
-use Rattle.std.proofs.Common.{ℕ, ◌≡◌, ◌≢◌, ◌+◌, ◌<◌, ◌≤◌, ◌⊎◌, ◌==◌, ◌&&◌, ◌||◌, Bool, true, false, List, [], filter, refl, sym, ◌∙◌, ap, inl, inr, arith, zero, suc}
+use Rattle.std.proofs.Common.{ℕ, ◌≡◌, ◌⊎◌, ◌==◌, ◌&&◌, ◌||◌, Bool, true, false, List, filter, refl, sym, ◌∙◌, ap, inl, inr}
 use Rattle.std.specs.List.{range_with_len}
 use Rattle.std.proofs.lemmas.Bool.{eq-eqb, ne_eqb}
 use Rattle.std.proofs.lemmas.Bool.Decides.{eqb_tells}
 use Rattle.images.specs.Views.{ViewValue, sectors_of}
 use Rattle.images.specs.Keys.{differs}
-use Rattle.export.specs.Kept.{listed, Lists, Spans}
+use Rattle.export.specs.Kept.{listed, Lists}
 use Rattle.export.proofs.Numbers.{those_alike, or_is}
 
 -- one sector more in which they differ

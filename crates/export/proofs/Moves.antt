@@ -1,5 +1,5 @@
 -- A sum over all numbers, by those in which two functions differ.
-use Rattle.std.proofs.Common.{ℕ, ◌≡◌, ◌+◌, ◌-◌, ◌*◌, ◌<◌, ◌≤◌, Bool, true, false, cond, List, [], ◌∷◌, length, filter, sum_by, refl, sym, ◌∙◌, ap, arith}
+use Rattle.std.proofs.Common.{ℕ, ◌≡◌, ◌+◌, Bool, true, false, cond, List, [], ◌∷◌, filter, sum_by, refl, arith}
 use Rattle.std.proofs.lemmas.List.Sums.{sum_by-cons}
 
 pub sums_move : (f g : ℕ → ℕ) (d : ℕ → Bool) (ns : List ℕ) → ((n : ℕ) → d n ≡ false → f n ≡ g n)

@@ -1,18 +1,17 @@
 -- What a reader of the text of `export` has.
-use Rattle.std.proofs.Common.{ℕ, zero, suc, ◌≡◌, ◌≢◌, ◌+◌, ◌<◌, ◌≤◌, ◌==◌, nat_eq, Bool, true, false, not, cond, if◌then◌else◌, List, [], ◌∷◌, length, map, filter, slice_set, Option, Some, None, refl, sym, subst, ◌∙◌, ap, inl, inr, arith}
+use Rattle.std.proofs.Common.{ℕ, zero, suc, ◌≡◌, ◌+◌, ◌<◌, ◌≤◌, nat_eq, Bool, true, false, not, cond, if◌then◌else◌, List, [], ◌∷◌, length, map, filter, slice_set, Some, None, refl, sym, ◌∙◌, ap, inl, inr, arith}
 use Rattle.std.specs.List.{range_with_len}
 use Rattle.std.specs.Cmp.Lexicographic.{pointwise, same_text}
 use Rattle.std.proofs.lemmas.Bool.{cases_lt}
 use Rattle.std.proofs.lemmas.Bool.Decides.{eqb_tells}
-use Rattle.std.proofs.lemmas.List.{length-set, length-map, get_or-set_same, get_or-set_other, set_past, same_lists, get_or_default}
+use Rattle.std.proofs.lemmas.List.{length-set, get_or-set_same, get_or-set_other, set_past, same_lists, get_or_default}
 use Rattle.std.proofs.lemmas.List.FromFn.{length-map-range_with_len}
 use Rattle.logfmt.specs.Initial.{initial_sector}
-use Rattle.images.specs.Keys.{ChangedValue, content_at, differs, with_content, changed_below, changed_sectors}
+use Rattle.images.specs.Keys.{content_at, differs, with_content, changed_below, changed_sectors}
 use Rattle.images.specs.Views.{view_of}
 use Rattle.images.specs.Whole.{length_view}
 use Rattle.export.specs.Export.{AskedValue, choice_at, device_at, marks_before, is_same, first_same, is_new, initial_device, last_new, records_at}
-use Rattle.export.specs.Laws.{written, reader, ReadersHaveImages, ExportsAreImages}
-use Rattle.export.proofs.First.{IsFirst}
+use Rattle.export.specs.Laws.{written, reader, ExportsAreImages}
 use Rattle.export.proofs.Same.{same_told, same_if, told_first, told_none, first_is_new, new_flag, same_flag}
 
 -- writing changes no size

@@ -1,16 +1,13 @@
 -- The text of an image in its parts.
-use Rattle.std.proofs.Common.{ℕ, ◌≡◌, ◌+◌, ◌++◌, ◌<◌, List, [], codes, length, map, filter, slice_get, Some, None, refl, sym, subst, ◌∙◌, ap, arith, append_assoc}
+use Rattle.std.proofs.Common.{ℕ, ◌≡◌, ◌+◌, ◌++◌, List, codes, Some, None, sym, ◌∙◌, ap, append_assoc}
 use Rattle.std.specs.Fmt.{decimal}
-use Rattle.std.specs.List.{range_with_len, flat_map}
-use Rattle.std.proofs.lemmas.List.{length-map}
-use Rattle.logfmt.specs.Bounds.{LogValue}
 use Rattle.epochs.specs.declared.part.By.{By}
 use Rattle.epochs.specs.Units.{epoch_at, marks_at}
 use Rattle.choices.specs.Choices.{ChoiceValue}
 use Rattle.choices.specs.declared.choice.Departure.{Departure}
 use Rattle.choice_text.specs.Text.{departures_text}
 use Rattle.images.specs.Keys.{ChangedValue}
-use Rattle.export.specs.Export.{AskedValue, head_text, told_text, record_text, image_text, choice_at, records_at, first_same}
+use Rattle.export.specs.Export.{AskedValue, head_text, told_text, image_text, choice_at, records_at, first_same}
 use Rattle.export.specs.Kept.{place_text, new_text, same_text}
 
 grouped : (n c e m rest : List ℕ)

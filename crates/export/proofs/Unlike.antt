@@ -1,8 +1,7 @@
 -- Two images differ in those sectors alone that departures of theirs have, or entries between their cuts.
-use Rattle.std.proofs.Common.{ℕ, zero, suc, ◌≡◌, ◌+◌, ◌<◌, ◌≤◌, ◌⊎◌, nat_eq, ◌&&◌, Bool, true, false, not, List, [], length, map, filter, slice_get, Option, Some, None, refl, sym, subst, ◌∙◌, ap, inl, inr, arith}
+use Rattle.std.proofs.Common.{ℕ, zero, suc, ◌≡◌, ◌+◌, ◌<◌, ◌≤◌, ◌⊎◌, nat_eq, ◌&&◌, Bool, true, false, not, List, [], length, map, filter, slice_get, Some, None, refl, sym, subst, ◌∙◌, ap, inl, inr, arith}
 use Rattle.std.specs.List.{range_with_len}
 use Rattle.std.specs.Cmp.Lexicographic.{pointwise, pointwise_decides}
-use Rattle.std.proofs.lemmas.Bool.{cases_lt}
 use Rattle.std.proofs.lemmas.Bool.Decides.{Decides-eqb}
 use Rattle.std.proofs.lemmas.Option.{get_or_from_slice_get, slice_get-get_or}
 use Rattle.std.proofs.lemmas.List.FromFn.{length-map-range_with_len, get_or-map-range_with_len}
@@ -10,17 +9,15 @@ use Rattle.logfmt.specs.Initial.{initial_sector}
 use Rattle.logfmt.specs.Bounds.{LogValue, IsLog}
 use Rattle.epochs.specs.Units.{units_before}
 use Rattle.choices.specs.declared.choice.Departure.{Departure}
-use Rattle.logfmt.specs.declared.entry.Entry.{Entry}
 use Rattle.images.specs.Images.{sector_after}
 use Rattle.images.specs.Views.{ViewValue, sectors_of}
 use Rattle.images.specs.Keys.{differs, content_at, base_of}
 use Rattle.images.proofs.Bases.{epoch_has_base}
 use Rattle.images.specs.Table.{AreParts}
-use Rattle.images.proofs.Departing.{Covers}
 use Rattle.images.proofs.Sectors.{view_there}
 use Rattle.export.specs.Kept.{listed, Lists, OfOneLog, IsDeparting, IsWritten}
 use Rattle.export.proofs.Numbers.{those_alike}
-use Rattle.export.proofs.Elsewhere.{Writes, agree}
+use Rattle.export.proofs.Elsewhere.{agree}
 
 -- whether two images differ in a sector, as it was read and compared
 pub differs_read : (one other : List (List ℕ)) (n : ℕ) (here there : List ℕ) (same : Bool) → slice_get one n ≡ Some here → slice_get other n ≡ Some there

@@ -1,5 +1,5 @@
 -- The search for an image that is the same, and the walk over all of them.
-use Rattle.std.proofs.Common.{ℕ, zero, suc, ◌≡◌, ◌≢◌, ◌+◌, ◌-◌, ◌<◌, ◌≤◌, ◌^◌, ◌%◌, ◌==◌, Bool, true, false, List, [], ◌∷◌, ◌++◌, length, filter, slice_get, Option, Some, None, refl, sym, subst, ◌∙◌, ap, inl, inr, arith, append_assoc}
+use Rattle.std.proofs.Common.{ℕ, ◌≡◌, ◌+◌, ◌-◌, ◌<◌, ◌≤◌, ◌^◌, ◌%◌, ◌==◌, Bool, true, false, List, [], ◌∷◌, ◌++◌, length, filter, slice_get, Option, Some, None, refl, sym, ◌∙◌, ap, arith, append_assoc}
 use Rattle.std.specs.List.{range_with_len, flat_map}
 use Rattle.std.proofs.lemmas.Bool.Decides.{Decides-eqb}
 use Rattle.std.proofs.lemmas.Grind.{flat_map-append}
@@ -10,13 +10,13 @@ use Rattle.std.proofs.lemmas.Option.{get_or_from_slice_get}
 use Rattle.epochs.specs.Units.{marks_at}
 use Rattle.epochs.specs.Plan.{PlanValue}
 use Rattle.choices.specs.Choices.{ChoiceValue, ranked_choices}
-use Rattle.images.specs.Views.{ViewValue, IsMember, view_of, sectors_of}
+use Rattle.images.specs.Views.{ViewValue, view_of, sectors_of}
 use Rattle.images.proofs.Members.{member_cut}
 use Rattle.images.specs.Keys.{differs}
 use Rattle.images.specs.Whole.{length_view}
 use Rattle.export.specs.Export.{AskedValue, no_choice, choice_at, device_at, marks_before, is_same, first_same, is_new, image_text, new_count, total_text, export_text}
-use Rattle.export.specs.Kept.{sum_of, key_by, key_at, key_behind, IsIndex, AreOthers, IsFree, IsNext, IsAsked}
-use Rattle.export.proofs.Same.{same_told, same_if}
+use Rattle.export.specs.Kept.{sum_of, key_by, key_at, key_behind, IsIndex, AreOthers, IsFree, IsAsked}
+use Rattle.export.proofs.Same.{same_told, same_if, same_chain, same_back}
 use Rattle.export.proofs.Keeping.{nowhere_differs, nothing_differs}
 use Rattle.export.proofs.Index.{free_is_new}
 
@@ -40,6 +40,7 @@ same_by_sectors a i j one other numbers empty own log first second marks these i
   where
     count : other.log.sectors ≡ one.log.sectors
     count = ap (λ (l : LogValue). l.sectors) (log ∙ sym own)
+
     by : (b : Bool) → (length numbers == 0) ≡ b → b ≡ is_same a i j
     by true e =
         let none = empty_is numbers e in
@@ -157,3 +158,13 @@ next_there a plan bound tears place count moved old new p b t asked size there g
     ∙ ap (λ (cs : List ChoiceValue). slice_get cs (a.from + place + 1)) (sym ranked)
     ∙ goes_on (ranked_choices plan bound tears) (a.from + place) moved old new (ap (λ (cs : List ChoiceValue). slice_get cs (a.from + place)) ranked ∙ there)
     (omega (arith, long, within, size, lt)) goes ends
+
+-- whether an image is the same as the first of some that are the same, by the last of them
+pub first_told_by_last : (a : AskedValue) (i last first : ℕ) → is_same a last first ≡ true → is_same a i last ≡ is_same a i first
+first_told_by_last a i last first same = by (is_same a i last) (is_same a i first) refl refl
+  where
+    by : (b c : Bool) → is_same a i last ≡ b → is_same a i first ≡ c → b ≡ c
+    by true true e f = refl
+    by false false e f = refl
+    by true false e f = sym (same_chain a i last first e same) ∙ f
+    by false true e f = sym e ∙ same_chain a i first last f (same_back a last first same)

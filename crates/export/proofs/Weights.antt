@@ -1,5 +1,5 @@
 -- Sums of weights: they are small, and grow by one sector.
-use Rattle.std.proofs.Common.{ℕ, zero, suc, slice_get, Some, ◌≡◌, ◌+◌, ◌*◌, ◌^◌, ◌<◌, ◌≤◌, List, [], ◌∷◌, ◌++◌, length, take, get_or, sum_by, refl, sym, ◌∙◌, ap, arith}
+use Rattle.std.proofs.Common.{ℕ, zero, suc, slice_get, Some, ◌≡◌, ◌+◌, ◌*◌, ◌^◌, ◌<◌, ◌≤◌, List, [], ◌∷◌, length, take, sum_by, sym, ◌∙◌, ap, arith}
 use Rattle.std.specs.List.{range_with_len}
 use Rattle.std.proofs.lemmas.List.Sums.{sum_by-cons, sum_by_push}
 use Rattle.std.proofs.lemmas.List.FromFn.{length-range_with_len}
@@ -8,10 +8,10 @@ use Rattle.std.proofs.lemmas.Option.{get_or_from_slice_get}
 use Rattle.images.specs.Views.{ViewValue, sectors_of}
 use Rattle.images.specs.Keys.{content_at}
 use Rattle.images.specs.Whole.{length_view}
-use Rattle.export.specs.Kept.{weight, weight_at, sum_of}
+use Rattle.export.specs.Kept.{spread, weight, weight_at, sum_of}
 
 weight_small : (n : ℕ) (sector : List ℕ) → weight n sector ≤ 8796093022207
-unfolding weight
+unfolding weight spread
 weight_small n sector = omega arith
 
 pub sums_small : (device : List (List ℕ)) (ns : List ℕ) → sum_by (weight_at device) ns ≤ 8796093022207 * length ns

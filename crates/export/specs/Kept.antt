@@ -1,5 +1,6 @@
 -- What is kept while images are gone through: the sums by which equal ones are found, and where each new one is kept.
-use Rattle.std.specs.Prelude.{ℕ, ◌+◌, ◌*◌, ◌/◌, ◌%◌, ◌^◌, ◌≡◌, ◌<◌, ◌≤◌, ◌&&◌, filter, Bool, true, false, List, [], ◌++◌, length, map, sum_by, slice_get, codes, Option, Some, None, MatchOption}
+use Rattle.std.specs.Prelude.{ℕ, bit_xor, ◌+◌, ◌*◌, ◌/◌, ◌%◌, ◌^◌, ◌≡◌, ◌<◌, ◌≤◌, ◌&&◌, filter, Bool, true, false, List, [], ◌++◌, length, map, sum_by, slice_get, codes, Option, Some, None, MatchOption}
+use Rattle.std.specs.Option.{option_map}
 use Rattle.std.specs.Fmt.{decimal}
 use Rattle.std.specs.List.{range_with_len, flat_map}
 use Rattle.lanes.specs.Sector.{mix}
@@ -11,6 +12,7 @@ use Rattle.images.specs.Keys.{ChangedValue, content_at, with_content, differs}
 use Rattle.logfmt.specs.declared.entry.Entry.{Entry}
 use Rattle.choices.specs.declared.choice.Departure.{Departure}
 use Rattle.export.specs.Export.{AskedValue, device_at, marks_before, is_same, first_same, last_new, records_at, record_text, new_count}
+use Rattle.export.specs.declared.walk.Held.{Held}
 use Rattle.export.specs.declared.walk.Found.{Found}
 use Rattle.export.specs.declared.walk.Found.TheVariants as found
 
@@ -29,13 +31,17 @@ pub record IsImage (image : ViewValue) (view : Option ViewValue) : Type 0 where
   pub departs : AreParts image.log image.departures
   pub shown : MatchOption view ((image.cut ≡ 0) × (image.departures ≡ [])) (λ v. v ≡ image)
 
--- by which the mix of a sector counts, with the sector's number
+-- by which numbers are spread
 abbrev pub factor : ℕ
 factor = 11400714819323198485
 
+-- a number in which each bit depends on many of another's
+unfoldable pub spread : ℕ → ℕ
+spread n = bit_xor n (n / 2 ^ 32) * factor % 2 ^ 64
+
 -- what a sector adds to the sum of an image, below 2 ^ 43: so no sum of at most 2 ^ 20 sectors passes 2 ^ 63
 unfoldable pub weight : ℕ → List ℕ → ℕ
-weight n sector = mix sector * (factor * (2 * n + 1) % 2 ^ 64) % 2 ^ 64 / 2 ^ 21
+weight n sector = spread (spread ((mix sector + factor * n % 2 ^ 64) % 2 ^ 64)) / 2 ^ 21
 
 -- of a sector of a device
 unfoldable pub weight_at : List (List ℕ) → ℕ → ℕ
@@ -64,6 +70,15 @@ pub record IsIndex (a : AskedValue) (n : ℕ) (at : ℕ → Option ℕ) : Type 0
   pub held : (k j : ℕ) → at k ≡ Some j → (j < n) × (first_same a j ≡ None)
   pub found : (j : ℕ) → j < n → first_same a j ≡ None
       → (t : ℕ) × (at (key_behind (key_at a j) t) ≡ Some j) × ((s : ℕ) → s < t → at (key_behind (key_at a j) s) ≡ None → ⊥)
+
+-- of what is kept at each key the first place
+abbrev pub firsts : (ℕ → Option Held) → ℕ → Option ℕ
+firsts at k = option_map (λ (h : Held). h.first) (at k)
+
+-- each new image of the first n is kept, with the place of an image that is the same
+pub record IsHeld (a : AskedValue) (n : ℕ) (at : ℕ → Option Held) : Type 0 where
+  pub index : IsIndex a n (firsts at)
+  pub recent : (k : ℕ) (h : Held) → at k ≡ Some h → (h.last < n) × (is_same a h.last h.first ≡ true)
 
 -- a sector is one of so many from one on
 abbrev pub Spans : ℕ → ℕ → ℕ → Type 0
@@ -108,23 +123,24 @@ pub record AreRecords (a : AskedValue) (i : ℕ) (image : ViewValue) (numbers : 
   pub told : map (with_content (sectors_of image)) numbers ≡ records_at a i
   pub none : numbers ≡ [] → last_new a i ≡ device_at a i
 
--- what is kept after the first n images: the last new one or what stands for it, its sum, how many were new, and where these are
-pub record IsKept (a : AskedValue) (n : ℕ) (shown : ViewValue) (own fresh : ℕ) (at : ℕ → Option ℕ) : Type 0 where
+-- what is kept after the first n images: the last new one, any one with its sum, how many were new, and where these are
+pub record IsKept (a : AskedValue) (n : ℕ) (shown near : ViewValue) (own fresh : ℕ) (at : ℕ → Option Held) : Type 0 where
   pub log : shown.log ≡ a.plan.log
   pub device : sectors_of shown ≡ last_new a n
-  pub sum : own ≡ sum_of (last_new a n)
+  pub beside : near.log ≡ a.plan.log
+  pub sum : own ≡ sum_of (sectors_of near)
   pub count : fresh ≡ new_count a n
   pub few : fresh ≤ n
-  pub index : IsIndex a n at
+  pub held : IsHeld a n at
 
 -- a key is free for the image at a place, and the keys from its own on to before that one have other images
 unfoldable pub IsFree : AskedValue → ℕ → (ℕ → Option ℕ) → ℕ → Type 0
 IsFree a i at key = (steps : ℕ) × (key ≡ key_behind (key_at a i) steps) × AreOthers a i at steps × (at key ≡ None)
 
 -- what a search for an image ends in
-unfoldable pub IsFound : AskedValue → ℕ → (ℕ → Option ℕ) → Found → Type 0
-IsFound a i at (found.Free key) = IsFree a i at key
-IsFound a i at (found.Same place) = first_same a i ≡ Some place
+unfoldable pub IsFound : AskedValue → ℕ → (ℕ → Option Held) → Found → Type 0
+IsFound a i at (found.Free key) = IsFree a i (firsts at) key
+IsFound a i at (found.Same key place) = (first_same a i ≡ Some place) × (firsts at key ≡ Some place)
 
 -- the beginning of the text of an image, before its choice
 abbrev pub place_text : ℕ → ℕ → ℕ → ℕ → List ℕ

@@ -1,5 +1,5 @@
 -- What who reads the text of `export` has of it.
-use Rattle.std.specs.Prelude.{ℕ, zero, suc, ◌≡◌, ◌<◌, ◌≤◌, Bool, true, false, if◌then◌else◌, List, [], ◌∷◌, slice_set, Option, Some, None}
+use Rattle.std.specs.Prelude.{ℕ, zero, suc, ◌≡◌, ◌<◌, if◌then◌else◌, List, [], ◌∷◌, slice_set, Some, None}
 use Rattle.images.specs.Keys.{ChangedValue}
 use Rattle.export.specs.Export.{AskedValue, device_at, marks_before, first_same, is_new, initial_device, records_at}
 

@@ -12,25 +12,57 @@
 //! Behind a line with `new R` stand R records, each the number of a sector in 8 bytes and its 512 bytes. docs/REPORT.md, 'The text
 //! of `export`', has the grammar, and what a reader does.
 //!
+//! | Call | Answer |
+//! |---|---|
+//! | `Asked::of(log, plan, wanted)` | the images of a plan that are wanted: from a number to before another, by a bound, with tears or without |
+//! | `export(alloc, &asked)` | their text, as bytes |
+//!
 //! # Place
 //!
 //! Beside `cases` and `flushes`: above `images`, whose crash images it tells of, `choices`, which numbers them, and `choice_text`,
-//! which prints a choice. Nothing stands on it yet.
+//! which prints a choice. No crate stands on it yet. A command that prints the text counts the images of its plan by
+//! `choices::count`, or by `count_up_to` where a part is asked for, makes an `Asked` of the options, and prints the bytes as they
+//! are; `AllocError` is its refusal for want of memory. Each `requires` of `Asked::of` is a fact that it has then: the bound of its
+//! options, the number that was counted, and a part of at most 16,777,216 images that lies within it.
 //!
 //! # What is proved
 //!
-//! `export_text` (`specs/Export.antt`) is the text. An image is told to be `same` exactly where an earlier one has the same bytes
-//! and as many marks before its cut, and the first of these is named. Of a new one the records are exactly the sectors whose bytes
-//! differ from those of the last new image before it; the first begins at what the device held before entry 0.
+//! `export` answers `export_text` (`specs/Export.antt`) to the byte, or that memory was refused. An image is told to be `same`
+//! exactly where an earlier one has the same bytes and as many marks before its cut, and the first of these is named. Of a new one
+//! the records are exactly the sectors whose bytes differ from those of the last new image before it; the first begins at what the
+//! device held before entry 0.
 //!
 //! `exports_are_images` is the law above it, whatever the plan and the range (`ReadersHaveImages`, `specs/Laws.antt`). After the
 //! line and the records of a new image the device of whoever writes the records is that image. The image that `same` names is an
 //! earlier one, was new, and is what the device was then; it has the same bytes and as many marks, and none before it has. None
 //! before a new image has.
 //!
-//! # What isn't built
+//! # How it is written
 //!
-//! The call that makes the text. Until it is here the crate is a definition with its law.
+//! `walk` goes from image to image. Each has a sum over its sectors (`sums`), in which a sector counts by its number and its mix
+//! (`lanes`). A map has the place of each new image under a key, made of its sum and the marks before it; where a key is taken by
+//! another image, the next free one behind it stands for it. So equal images are among those that a search from the key meets, and
+//! each one met is compared byte by byte (`IsIndex`, `IsFree`, `specs/Kept.antt`): the sums only say where to look.
+//!
+//! Two images of a log can differ in those sectors alone that a departure of one of them has, or that an entry between their cuts
+//! writes (`agree`, `proofs/Elsewhere.antt`). These are compared, and those that differ are listed in order (`differing`). So an
+//! image costs what departs and what is written since the one that it is compared with, whatever the size of the device.
+//! `image` holds a view with its cut and departures. It stands too for what the device held before entry 0, which no view shows.
+//!
+//! # Example
+//!
+//! ```
+//! use choices::count;
+//! use epochs::{By, Cuts, Plan};
+//! use export::{Asked, Wanted, export};
+//!
+//! // `log` writes sector 0 twice, first 0x11 and then 0x22
+//! let plan = Plan::new(alloc, &log, Cuts::ALL, By::Sector)?;
+//! let images = count(&plan, 1, false)?;
+//! let wanted = Wanted { by: By::Sector, bound: 1, tears: false, from: 0, to: images };
+//! let bytes = export(alloc, &Asked::of(&log, &plan, wanted))?;
+//! // begins with the line 'image 0 cut 0 epoch 0 marks 0 choice - new 0', and ends with 'total 6 new 3'
+//! ```
 #![tactic(auto)]
 
 mod asked;
@@ -42,5 +74,5 @@ mod text;
 mod walk;
 
 pub use asked::{Asked, Wanted};
-pub use walk::export;
 pub use laws::exports_are_images;
+pub use walk::export;

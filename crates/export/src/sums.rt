@@ -2,23 +2,31 @@
 
 ghost use Rattle.std.specs.Prelude.{◌≡◌, ◌<◌, ◌≤◌, ◌^◌, ℕ, length, slice_get, Some, sum_by};
 ghost use Rattle.images.specs.Views.{sectors_of};
-ghost use Rattle.export.specs.Kept.{weight, weight_at, sum_of, key_by};
+ghost use Rattle.export.specs.Kept.{spread, weight, weight_at, sum_of, key_by};
 
 use crate::image::Image;
 
-/// By which the mix of a sector counts, with its number.
+/// By which numbers are spread, an odd one near 2^64 by the golden ratio.
 const FACTOR: u64 = 0x9e37_79b9_7f4a_7c15;
 
 /// How many bits of a sector's weight are left away, so that no sum wraps.
 const SPARE: u32 = 21;
 
-/// What a sector adds to the sum of an image.
+/// A number in which each bit depends on many of another's.
+#[tactic(auto, unfolding(crate::specs::Kept::spread))]
+fn spread(number: u64) -> u64
+    ensures { result ≡ spread number }
+{
+    (number ^ (number >> 32)).wrapping_mul(FACTOR)
+}
+
+/// What a sector adds to the sum of an image. It isn't linear in the mix, so that images with few bytes seldom have one sum.
 #[tactic(auto, unfolding(crate::specs::Kept::weight))]
 fn weight(number: u32, sector: &[u8; 512]) -> u64
     ensures { result ≡ weight number sector.now }
 {
-    let factor = FACTOR.wrapping_mul(2 * u64::from(number) + 1);
-    lanes::mix(sector).wrapping_mul(factor) >> SPARE
+    let own = FACTOR.wrapping_mul(u64::from(number));
+    spread(spread(lanes::mix(sector).wrapping_add(own))) >> SPARE
 }
 
 /// What some sectors add to the sum of an image.

@@ -95,11 +95,7 @@ pub(crate) fn put_new(
 }
 
 /// Appends the line of an image that is as another to its head, and all of it to the text.
-pub(crate) fn put_same(
-    out: &mut Vec<u8>,
-    head: &mut String,
-    number: u64,
-) -> Result<(), AllocError>
+pub(crate) fn put_same(out: &mut Vec<u8>, head: &mut String, number: u64) -> Result<(), AllocError>
     ensures { OnOk result (out.new.items ≡ out.old.items ++ (string_bytes head.old ++ same_text number)) }
 {
     write!(head, " same {number}\n")?;

@@ -5,9 +5,9 @@ ghost use Rattle.std.specs.HashMap.{get};
 ghost use Rattle.std.specs.List.{flat_map, range_with_len};
 ghost use Rattle.choices.specs.Choices.{ranked_choices};
 ghost use Rattle.images.specs.Keys.{differs};
-ghost use Rattle.images.specs.Views.{view_of, sectors_of};
-ghost use Rattle.export.specs.Export.{choice_at, device_at, marks_before, is_same, first_same, last_new, new_count, image_text, export_text};
-ghost use Rattle.export.specs.Kept.{OfOneLog, sum_of, key_at, IsIndex, IsNext, AreRecords, IsFree, IsFound, IsKept};
+ghost use Rattle.images.specs.Views.{sectors_of};
+ghost use Rattle.export.specs.Export.{device_at, marks_before, is_same, first_same, new_count, image_text, export_text};
+ghost use Rattle.export.specs.Kept.{OfOneLog, sum_of, firsts, IsHeld, IsNext, IsFree, IsFound, IsKept};
 
 use crate::asked::Asked;
 use crate::differing::put_differing;
@@ -38,24 +38,33 @@ struct Next<'a> {
     sum: u64,
 }
 
-/// Where an image belongs: a free key, or the place of the image that is the same.
+/// Where an image belongs: a free key, or the key and the place of the first image that is the same.
 #[derive(Clone, Copy)]
 pub(crate) enum Found {
     Free(u64),
-    Same(u32),
+    Same(u64, u32),
+}
+
+/// A new image that is kept: its place, and that of the last one that is the same.
+#[derive(Clone, Copy)]
+pub(crate) struct Held {
+    pub(crate) first: u32,
+    pub(crate) last: u32,
 }
 
 /// What is kept of the images so far.
 #[derive(Drop)]
 struct Kept<'a> {
-    /// The last new image, or one with the same bytes.
+    /// The last new image.
     shown: Image<'a>,
-    /// Its sum.
+    /// The last image, from which the next one differs little.
+    near: Image<'a>,
+    /// The sum of the last image.
     sum: u64,
     /// How many were new.
     fresh: u64,
-    /// The place of each new image, by the first key from its own on that was free.
-    places: HashMap<u64, u32>,
+    /// Each new image, by the first key from its own on that was free.
+    places: HashMap<u64, Held>,
 }
 
 /// What is written over for each image.
@@ -81,27 +90,29 @@ impl<'a> Model for Source<'a> {
 impl<'a> Kept<'a> {
     /// What is kept before the first image.
     fn new(alloc: Global, asked: &Asked<'a>) -> Kept<'a>
-        ensures { IsKept asked.now 0 result.shown result.sum result.fresh (get nat_eq result.places) }
+        ensures { IsKept asked.now 0 result.shown result.near result.sum result.fresh (get nat_eq result.places) }
     {
         let shown = Image::initial(asked.log());
-        let sum = sum_of(&shown);
+        let near = Image::initial(asked.log());
+        let sum = sum_of(&near);
         Kept {
             shown,
+            near,
             sum,
             fresh: 0,
             places: HashMap::new(alloc),
         }
     }
 
-    /// The sum of an image that differs from the last new one in these sectors.
+    /// The sum of an image that differs from the last one in these sectors.
     fn sum_with(&self, image: &Image<'a>, differing: &[u32]) -> u64
-        requires log { OfOneLog self.now.shown image.now }
-        requires differing { differing.now ≡ filter (differs (sectors_of self.now.shown) (sectors_of image.now)) (range_with_len 0 self.now.shown.log.sectors) }
-        requires sum { self.now.sum ≡ sum_of (sectors_of self.now.shown) }
+        requires log { OfOneLog self.now.near image.now }
+        requires differing { differing.now ≡ filter (differs (sectors_of self.now.near) (sectors_of image.now)) (range_with_len 0 self.now.near.log.sectors) }
+        requires sum { self.now.sum ≡ sum_of (sectors_of self.now.near) }
         ensures { result ≡ sum_of (sectors_of image.now) }
     {
-        let _sectors = self.shown.log().sectors();
-        let old = sum_over(&self.shown, differing);
+        let _sectors = self.near.log().sectors();
+        let old = sum_over(&self.near, differing);
         let new = sum_over(image, differing);
         self.sum + new - old
     }
@@ -157,7 +168,8 @@ impl<'a> Source<'a> {
         Ok(compared.as_slice().is_empty())
     }
 
-    /// The image that is the same as that of a place, or the key that is free for it.
+    /// The image that is the same as that of a place, or the key that is free for it. It is compared with the last one that is the
+    /// same as each that is met: that is near it in the log more often than the first.
     ///
     /// # Errors
     ///
@@ -165,30 +177,30 @@ impl<'a> Source<'a> {
     fn find(
         &self,
         alloc: Global,
-        places: &HashMap<u64, u32>,
+        places: &HashMap<u64, Held>,
         compared: &mut Vec<u32>,
         place: u32,
         next: &Next<'a>,
     ) -> Result<Found, AllocError>
         requires place { self.now.from + place < self.now.to }
         requires next { IsNext self.now place next.now.image next.now.marks next.now.sum }
-        requires index { IsIndex self.now place (get nat_eq places.now) }
+        requires held { IsHeld self.now place (get nat_eq places.now) }
         ensures { IfOk result (λ found. IsFound self.now place (get nat_eq places.now) found) }
     {
         let key = key_of(next.sum, next.marks);
         for step in 0..u64::MAX {
             let at = key.wrapping_add(step);
-            let Some(other) = places.get(&at) else {
+            let Some(held) = places.get(&at) else {
                 return Ok(Found::Free(at));
             };
-            if self.is_same(alloc, compared, place, next, *other)? {
-                return Ok(Found::Same(*other));
+            if self.is_same(alloc, compared, place, next, held.last)? {
+                return Ok(Found::Same(at, held.first));
             }
         }
         Err(AllocError)
     }
 
-    /// The image of a choice, with the sectors in which it differs from the last new one.
+    /// The image of a choice, with its marks and its sum.
     fn next(
         &self,
         alloc: Global,
@@ -198,46 +210,63 @@ impl<'a> Source<'a> {
         choice: &Choice,
     ) -> Result<Next<'a>, AllocError>
         requires choice { slice_get (ranked_choices self.now.plan self.now.bound self.now.tears) (self.now.from + place) ≡ Some choice.now }
-        requires kept { IsKept self.now place kept.now.shown kept.now.sum kept.now.fresh (get nat_eq kept.now.places) }
-        ensures next { IfOk result (λ next. IsNext self.now place next.image next.marks next.sum) }
-        ensures records { IfOk result (λ next. AreRecords self.now place next.image differing.new.items) }
+        requires kept { IsKept self.now place kept.now.shown kept.now.near kept.now.sum kept.now.fresh (get nat_eq kept.now.places) }
+        ensures { IfOk result (λ next. IsNext self.now place next.image next.marks next.sum) }
     {
         let image = self.image(alloc, place, choice)?;
-        put_differing(differing, &kept.shown, &image)?;
+        put_differing(differing, &kept.near, &image)?;
         let sum = kept.sum_with(&image, differing.as_slice());
         let marks = self.marks(place, choice);
         Ok(Next { image, marks, sum })
     }
 
-    /// Keeps an image that isn't new. Where it has the bytes of the last new one, it stands in its place, since its cut is later.
-    fn keep_same(&self, kept: &mut Kept<'a>, place: u32, next: Next<'a>, is_last: bool)
-        requires kept { IsKept self.now place kept.old.shown kept.old.sum kept.old.fresh (get nat_eq kept.old.places) }
-        requires next { IsNext self.now place next.image next.marks next.sum }
-        requires same { (j : ℕ) × (first_same self.now place ≡ Some j) }
-        requires last { IsTrue is_last → last_new self.now place ≡ device_at self.now place }
-        ensures { IsKept self.now (place + 1) kept.new.shown kept.new.sum kept.new.fresh (get nat_eq kept.new.places) }
-    {
-        let _place = place;
-        if is_last {
-            kept.shown = next.image;
-        }
-    }
-
-    /// Keeps an image that is new, at a key that is free for it.
-    fn keep_new(
+    /// Keeps an image that isn't new, as the last one that is the same as the new one at a key.
+    fn keep_same(
         &self,
         kept: &mut Kept<'a>,
         place: u32,
         next: Next<'a>,
         key: u64,
+        first: u32,
     ) -> Result<(), AllocError>
-        requires kept { IsKept self.now place kept.old.shown kept.old.sum kept.old.fresh (get nat_eq kept.old.places) }
+        requires kept { IsKept self.now place kept.old.shown kept.old.near kept.old.sum kept.old.fresh (get nat_eq kept.old.places) }
         requires next { IsNext self.now place next.image next.marks next.sum }
-        requires free { IsFree self.now place (get nat_eq kept.old.places) key }
-        ensures { OnOk result (IsKept self.now (place + 1) kept.new.shown kept.new.sum kept.new.fresh (get nat_eq kept.new.places)) }
+        requires same { first_same self.now place ≡ Some first }
+        requires there { firsts (get nat_eq kept.old.places) key ≡ Some first }
+        ensures { OnOk result (IsKept self.now (place + 1) kept.new.shown kept.new.near kept.new.sum kept.new.fresh (get nat_eq kept.new.places)) }
     {
-        kept.places.insert(key, place)?;
-        kept.shown = next.image;
+        kept.places.insert(key, Held { first, last: place })?;
+        kept.near = next.image;
+        kept.sum = next.sum;
+        Ok(())
+    }
+
+    /// Keeps an image that is new, at a key that is free for it.
+    fn keep_new(
+        &self,
+        alloc: Global,
+        kept: &mut Kept<'a>,
+        place: u32,
+        choice: &Choice,
+        next: Next<'a>,
+        key: u64,
+    ) -> Result<(), AllocError>
+        requires choice { slice_get (ranked_choices self.now.plan self.now.bound self.now.tears) (self.now.from + place) ≡ Some choice.now }
+        requires kept { IsKept self.now place kept.old.shown kept.old.near kept.old.sum kept.old.fresh (get nat_eq kept.old.places) }
+        requires next { IsNext self.now place next.image next.marks next.sum }
+        requires free { IsFree self.now place (firsts (get nat_eq kept.old.places)) key }
+        ensures { OnOk result (IsKept self.now (place + 1) kept.new.shown kept.new.near kept.new.sum kept.new.fresh (get nat_eq kept.new.places)) }
+    {
+        let shown = self.image(alloc, place, choice)?;
+        kept.places.insert(
+            key,
+            Held {
+                first: place,
+                last: place,
+            },
+        )?;
+        kept.shown = shown;
+        kept.near = next.image;
         kept.sum = next.sum;
         kept.fresh += 1;
         Ok(())
@@ -255,33 +284,26 @@ impl<'a> Source<'a> {
     ) -> Result<(), AllocError>
         requires place { self.now.from + place < self.now.to }
         requires choice { slice_get (ranked_choices self.now.plan self.now.bound self.now.tears) (self.now.from + place) ≡ Some choice.now }
-        requires kept { IsKept self.now place kept.old.shown kept.old.sum kept.old.fresh (get nat_eq kept.old.places) }
+        requires kept { IsKept self.now place kept.old.shown kept.old.near kept.old.sum kept.old.fresh (get nat_eq kept.old.places) }
         ensures text { OnOk result (out.new.items ≡ out.old.items ++ image_text self.now place) }
-        ensures kept { OnOk result (IsKept self.now (place + 1) kept.new.shown kept.new.sum kept.new.fresh (get nat_eq kept.new.places)) }
+        ensures kept { OnOk result (IsKept self.now (place + 1) kept.new.shown kept.new.near kept.new.sum kept.new.fresh (get nat_eq kept.new.places)) }
     {
-        let next = self.next(alloc, kept, &mut scratch.differing, place, choice)?;
+        let next = self.next(alloc, kept, &mut scratch.compared, place, choice)?;
         scratch.line.clear();
         put_head(&mut scratch.line, self.asked, place, choice)?;
         let found = self.find(alloc, &kept.places, &mut scratch.compared, place, &next)?;
         match found {
-            Found::Same(other) => {
-                put_same(
-                    out,
-                    &mut scratch.line,
-                    self.asked.from() + u64::from(other),
-                )?;
-                let is_last = scratch.differing.as_slice().is_empty();
-                self.keep_same(kept, place, next, is_last);
+            Found::Same(key, first) => {
+                let number = self.asked.from() + u64::from(first);
+                put_same(out, &mut scratch.line, number)?;
+                self.keep_same(kept, place, next, key, first)?;
                 Ok(())
             }
             Found::Free(key) => {
-                put_new(
-                    out,
-                    &mut scratch.line,
-                    &next.image,
-                    scratch.differing.as_slice(),
-                )?;
-                self.keep_new(kept, place, next, key)?;
+                put_differing(&mut scratch.differing, &kept.shown, &next.image)?;
+                let differing = scratch.differing.as_slice();
+                put_new(out, &mut scratch.line, &next.image, differing)?;
+                self.keep_new(alloc, kept, place, choice, next, key)?;
                 Ok(())
             }
         }

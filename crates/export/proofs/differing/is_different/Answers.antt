@@ -1,8 +1,4 @@
-use Rattle.std.proofs.Common.{List, ℕ, [], nat_eq, not, sym, ◌∙◌, ap}
-use Rattle.std.specs.Cmp.Lexicographic.{pointwise}
-use Rattle.std.proofs.lemmas.Option.{get_or_from_slice_get}
 use Rattle.lanes.proofs.CallerLemmas.{same_test}
-use Rattle.images.specs.Keys.{differs, content_at}
 use Rattle.images.specs.Views.{sectors_of}
 use Rattle.export.proofs.Unlike.{differs_read}
 use Rattle.export.proofs.differing.is_different.Goals as goal

@@ -1,4 +1,4 @@
-use Rattle.std.proofs.Common.{ℕ, ◌≡◌, ◌+◌, ◌<◌, ◌≤◌, List, Some, length, slice_get, inl, inr, refl, sym, subst, ◌∙◌, ap, arith}
+use Rattle.std.proofs.Common.{ℕ, ◌≡◌, ◌+◌, ◌<◌, List, Some, length, slice_get, inl, inr, refl, sym, subst, ◌∙◌, ap, arith}
 use Rattle.std.proofs.lemmas.Bool.{cases_lt}
 use Rattle.std.proofs.lemmas.Option.{slice_get_read, slice_get_within, same_Some}
 use Rattle.choices.specs.declared.choice.Departure.{Departure}
@@ -27,11 +27,11 @@ loop-departure-preserved c = λ p is.
     let so = c.loop-departure.invariant p is in
     lists_on _ _ _ _ p (IsOfFirst ds i) (λ n. Spans own.part.sector own.part.count n) (IsOfFirst ds (i + 1)) so (c.in_ok-put_sectors.ensures so.chosen so.is)
     (λ n h. elim (cases_lt h.0 i) [
-    | inl before ↦ inl (h.0, h.1, before, h.3, h.4)
-    | inr past ↦
-        let here : h.0 ≡ i = omega (arith, past, h.2) in
-        let same : h.1 ≡ own = same_Some h.1 own (sym h.3 ∙ ap (slice_get ds) here ∙ there) in
-        inr (subst (λ (d : Departure). Spans d.part.sector d.part.count n) same h.4)
+      | inl before ↦ inl (h.0, h.1, before, h.3, h.4)
+      | inr past ↦
+          let here : h.0 ≡ i = omega (arith, past, h.2) in
+          let same : h.1 ≡ own = same_Some h.1 own (sym h.3 ∙ ap (slice_get ds) here ∙ there) in
+          inr (subst (λ (d : Departure). Spans d.part.sector d.part.count n) same h.4)
     ])
 
 pub returns : goal.returns

@@ -1,6 +1,5 @@
-use Rattle.std.proofs.Common.{ℕ, ◌≡◌, ◌≤◌, [], Bool, false, List, inl, inr, sym, ◌∙◌, ap, arith}
-use Rattle.export.specs.Kept.{listed, IsDeparting}
-use Rattle.export.proofs.Unlike.{IsWhole, AreOrdered, all_listed, none_chosen, of_departures}
+use Rattle.std.proofs.Common.{ℕ, Bool, false, inl, inr, ◌∙◌, arith}
+use Rattle.export.proofs.Unlike.{all_listed, none_chosen, of_departures}
 use Rattle.export.proofs.differing.put_differing.Goals as goal
 
 pub returns-then-here-there : goal.returns-then-here-there
@@ -17,7 +16,7 @@ returns-then-here-there c =
     first second (c.in_ok-put_written.ensures second.chosen second.is)
 
 pub returns : goal.returns
-returns c = 
+returns c =
     let one = c.args.one.now in
     let other = c.args.other.now in
     let p : ℕ → Bool = λ n. false in

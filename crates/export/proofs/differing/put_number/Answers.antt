@@ -1,5 +1,4 @@
-use Rattle.std.proofs.Common.{ℕ, List, Bool, ◌≡◌, ◌≤◌, ◌<◌, ◌==◌, length, filter, slice_get, slice_index_or, false, sym, subst, ◌∙◌, ap}
-use Rattle.std.specs.List.{range_with_len}
+use Rattle.std.proofs.Common.{ℕ, List, ◌≤◌, ◌<◌, ◌==◌, length, slice_get, slice_index_or, false, sym, subst, ◌∙◌, ap}
 use Rattle.std.specs.List.Sorted.{IsNonDecreasingBy}
 use Rattle.std.specs.Option.{option_map_or}
 use Rattle.export.proofs.Numbers.{number_put, those_rise, with_number}

@@ -1,4 +1,4 @@
-use Rattle.std.proofs.Common.{ℕ, ◌&&◌, sym, ◌∙◌}
+use Rattle.std.proofs.Common.{◌&&◌, sym, ◌∙◌}
 use Rattle.images.specs.Keys.{differs}
 use Rattle.images.specs.Views.{sectors_of}
 use Rattle.export.proofs.Listing.{one_listed, none_listed}

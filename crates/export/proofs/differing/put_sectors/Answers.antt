@@ -1,6 +1,6 @@
-use Rattle.std.proofs.Common.{ℕ, ◌≡◌, ◌+◌, ◌<◌, ◌≤◌, ◌⊎◌, inl, inr, refl, arith}
+use Rattle.std.proofs.Common.{ℕ, ◌≡◌, ◌+◌, inl, inr, arith}
 use Rattle.std.proofs.lemmas.Bool.{cases_lt}
-use Rattle.export.specs.Kept.{Spans, listed, Lists}
+use Rattle.export.specs.Kept.{Spans}
 use Rattle.export.proofs.Listing.{listed_so_far, lists_on}
 use Rattle.export.proofs.differing.put_sectors.Goals as goal
 
@@ -14,6 +14,6 @@ loop-place-preserved c = λ p is.
     let k : ℕ = c.loop-place.place in
     lists_on _ _ _ _ p (λ n. Spans first k n) (λ n. n ≡ first + k) (λ n. Spans first (k + 1) n) so (c.in_ok-put_sector.ensures so.chosen so.is)
     (λ n h. elim (cases_lt n (first + k)) [
-    | inl before ↦ inl (h.0, before)
-    | inr past ↦ inr (omega (arith, past, h.1))
+      | inl before ↦ inl (h.0, before)
+      | inr past ↦ inr (omega (arith, past, h.1))
     ])

@@ -1,4 +1,4 @@
-use Rattle.std.proofs.Common.{ℕ, ◌≡◌, ◌+◌, ◌<◌, ◌≤◌, inl, inr, subst, arith}
+use Rattle.std.proofs.Common.{ℕ, ◌≡◌, ◌+◌, inl, inr, subst, arith}
 use Rattle.std.proofs.lemmas.Bool.{cases_lt}
 use Rattle.export.specs.Kept.{IsWrittenBy, IsWritten}
 use Rattle.export.proofs.Listing.{lists_on, lists_less, listed_so_far}
@@ -15,10 +15,10 @@ loop-entry-preserved c = λ p is.
     let so = c.loop-entry.invariant p is in
     lists_on _ _ _ _ p (IsWritten es first k) (IsWrittenBy es k) (IsWritten es first (k + 1)) so (c.in_ok-put_entry.ensures so.chosen so.is)
     (λ n h. elim (cases_lt h.0 k) [
-    | inl before ↦ inl (h.0, h.1, before, h.3)
-    | inr past ↦
-        let here : h.0 ≡ k = omega (arith, past, h.2) in
-        inr (subst (λ e. IsWrittenBy es e n) here h.3)
+      | inl before ↦ inl (h.0, h.1, before, h.3)
+      | inr past ↦
+          let here : h.0 ≡ k = omega (arith, past, h.2) in
+          inr (subst (λ e. IsWrittenBy es e n) here h.3)
     ])
 
 pub returns : goal.returns

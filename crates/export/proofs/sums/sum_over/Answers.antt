@@ -1,4 +1,4 @@
-use Rattle.std.proofs.Common.{ℕ, ◌+◌, ◌≡◌, ◌<◌, Some, slice_get, sum_by, take, get_or, length, sym, ◌∙◌, ap, arith}
+use Rattle.std.proofs.Common.{ℕ, ◌+◌, ◌≡◌, sum_by, take, get_or, sym, ◌∙◌, ap, arith}
 use Rattle.std.proofs.lemmas.List.Sums.{sum_by_more}
 use Rattle.logfmt.specs.Bounds.{LogValue}
 use Rattle.images.specs.Views.{sectors_of}

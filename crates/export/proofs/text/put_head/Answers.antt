@@ -1,4 +1,4 @@
-use Rattle.std.proofs.Common.{ℕ, ◌+◌, ◌++◌, string_bytes, List, sym, ◌∙◌, ap, append_assoc, arith}
+use Rattle.std.proofs.Common.{ℕ, ◌+◌, ◌++◌, string_bytes, List, ◌∙◌, ap, append_assoc, arith}
 use Rattle.epochs.specs.Plan.{PlanValue}
 use Rattle.epochs.specs.Units.{epoch_at, marks_at}
 use Rattle.choice_text.specs.Text.{departures_text}

@@ -1,4 +1,4 @@
-use Rattle.std.proofs.Common.{ℕ, ◌≡◌, [], Option, Some, None, MatchOption, sym, subst, ◌∙◌, ap}
+use Rattle.std.proofs.Common.{◌≡◌, [], Option, MatchOption, sym, subst, ◌∙◌, ap}
 use Rattle.images.specs.Views.{ViewValue}
 use Rattle.logfmt.specs.Initial.{initial_sector}
 use Rattle.export.proofs.Unlike.{none_read, initial_read}

@@ -9,5 +9,5 @@ use Rattle.export.proofs.walk.Source.put_each.Given as goal
 abbrev pub invariant-loop-place : goal.invariant-loop-place
 invariant-loop-place l =
     (l.out.items ≡ l.initial.out.items ++ flat_map (image_text l.self) (range_with_len 0 l.place))
-    × IsKept l.self l.place l.kept.shown l.kept.sum l.kept.fresh (get nat_eq l.kept.places)
+    × IsKept l.self l.place l.kept.shown l.kept.near l.kept.sum l.kept.fresh (get nat_eq l.kept.places)
     × (l.place < l.count → slice_get (ranked_choices l.self.plan l.self.bound l.self.tears) (l.self.from + l.place) ≡ Some l.choice)

@@ -1,12 +1,12 @@
-use Rattle.std.proofs.Common.{ℕ, ◌≡◌, ◌+◌, ◌++◌, nat_eq, List, length, map, string_bytes, Option, sym, subst, ◌∙◌, ap, arith}
+use Rattle.std.proofs.Common.{ℕ, ◌+◌, ◌++◌, nat_eq, List, length, map, slice_get, sym, subst, ◌∙◌, ap, arith}
 use Rattle.std.specs.HashMap.{get}
 use Rattle.images.specs.Keys.{with_content}
 use Rattle.images.specs.Views.{sectors_of}
-use Rattle.choices.specs.Choices.{ChoiceValue}
 use Rattle.export.specs.declared.walk.Found.{Found}
 use Rattle.export.specs.Export.{AskedValue, head_text}
-use Rattle.export.specs.Kept.{IsFound}
+use Rattle.export.specs.Kept.{IsFound, firsts}
 use Rattle.export.proofs.Walking.{cut_of, choice_is, free_new}
+use Rattle.export.proofs.Keeping.{records_are}
 use Rattle.export.proofs.Told.{new_told, same_told_text}
 use Rattle.export.proofs.walk.Source.put_image.Goals as goal
 
@@ -19,7 +19,19 @@ pub keep_same-requires-clause-same : goal.keep_same-requires-clause-same
 unfolding IsFound
 keep_same-requires-clause-same c =
     let P : Found → Type 0 = λ f. IsFound c.args.self.now c.args.place (get nat_eq c.args.kept.now.places) f in
-    (c.in-Same.other, subst P c.in-Same.is c.in_ok-found.ensures)
+    (subst P c.in-Same.is c.in_ok-found.ensures).0
+
+pub keep_same-requires-clause-there : goal.keep_same-requires-clause-there
+unfolding IsFound
+keep_same-requires-clause-there c =
+    let P : Found → Type 0 = λ f. IsFound c.args.self.now c.args.place (get nat_eq c.args.kept.now.places) f in
+    (subst P c.in-Same.is c.in_ok-found.ensures).1
+
+pub put_new-requires : goal.put_new-requires
+put_new-requires c = λ k n at.
+    let records = records_are c.args.self.now c.args.place c.args.kept.now.shown c.in_ok-next.next.image c.put_differing.new.numbers.items c.requires.kept.log c.in_ok-next.ensures.log
+    c.requires.kept.device c.in_ok-next.ensures.device c.in_ok-put_differing-in-Free.ensures in
+    records.inside k n (ap (λ (ns : List ℕ). slice_get ns k) (sym c.as_slice-differing.ensures.value) ∙ at)
 
 pub keep_new-requires-clause-free : goal.keep_new-requires-clause-free
 unfolding IsFound
@@ -27,18 +39,18 @@ keep_new-requires-clause-free c =
     let P : Found → Type 0 = λ f. IsFound c.args.self.now c.args.place (get nat_eq c.args.kept.now.places) f in
     subst P c.in-Free.is c.in_ok-found.ensures
 
-pub returns-in_ok-put_same-in-Same-clause-text : goal.returns-in_ok-put_same-in-Same-clause-text
+pub returns-in_ok-keep_same-in-Same-clause-text : goal.returns-in_ok-keep_same-in-Same-clause-text
 unfolding IsFound
-returns-in_ok-put_same-in-Same-clause-text c =
+returns-in_ok-keep_same-in-Same-clause-text c =
     let a : AskedValue = c.args.self.now in
     let i : ℕ = c.args.place in
     let P : Found → Type 0 = λ f. IsFound a i (get nat_eq c.args.kept.now.places) f in
     let head = c.in_ok-put_head.ensures ∙ ap (λ bs. bs ++ head_text c.self.inside.asked.now i c.args.choice.now) c.clear.ensures.bytes
-        ∙ ap (λ (b : AskedValue). head_text b i c.args.choice.now) c.self.view_is ∙ ap (head_text a i) (choice_is a i c.args.choice.now c.requires.choice) in
+    ∙ ap (λ (b : AskedValue). head_text b i c.args.choice.now) c.self.view_is ∙ ap (head_text a i) (choice_is a i c.args.choice.now c.requires.choice) in
     let from = c.from.ensures.value ∙ ap (λ (b : AskedValue). b.from) c.self.view_is in
     c.in_ok-put_same-in-Same.ensures
     ∙ ap (λ xs. c.args.out.now.items ++ xs)
-    (same_told_text a i c.in-Same.other _ (c.from.result + c.from-in-Same.result) head (omega (arith, from, c.from-in-Same.ensures)) (subst P c.in-Same.is c.in_ok-found.ensures))
+    (same_told_text a i c.in-Same.first _ (c.from.result + c.from-in-Same.result) head (omega (arith, from, c.from-in-Same.ensures)) (subst P c.in-Same.is c.in_ok-found.ensures).0)
 
 pub returns-in_ok-keep_new-in-Free-clause-text : goal.returns-in_ok-keep_new-in-Free-clause-text
 unfolding IsFound
@@ -47,9 +59,11 @@ returns-in_ok-keep_new-in-Free-clause-text c =
     let i : ℕ = c.args.place in
     let P : Found → Type 0 = λ f. IsFound a i (get nat_eq c.args.kept.now.places) f in
     let head = c.in_ok-put_head.ensures ∙ ap (λ bs. bs ++ head_text c.self.inside.asked.now i c.args.choice.now) c.clear.ensures.bytes
-        ∙ ap (λ (b : AskedValue). head_text b i c.args.choice.now) c.self.view_is ∙ ap (head_text a i) (choice_is a i c.args.choice.now c.requires.choice) in
+    ∙ ap (λ (b : AskedValue). head_text b i c.args.choice.now) c.self.view_is ∙ ap (head_text a i) (choice_is a i c.args.choice.now c.requires.choice) in
+    let records = records_are a i c.args.kept.now.shown c.in_ok-next.next.image c.put_differing.new.numbers.items c.requires.kept.log c.in_ok-next.ensures.log
+    c.requires.kept.device c.in_ok-next.ensures.device c.in_ok-put_differing-in-Free.ensures in
     c.in_ok-put_new-in-Free.ensures
     ∙ ap (λ xs. c.args.out.now.items ++ xs)
-    (new_told a i _ (map (with_content (sectors_of c.in_ok-next.next.image)) c.as_slice-in-Free.result.now) head
-    (ap (map (with_content (sectors_of c.in_ok-next.next.image))) c.as_slice-in-Free.ensures.value ∙ c.in_ok-next.ensures.records.told)
-    (free_new a i c.in-Free.key (get nat_eq c.args.kept.now.places) c.requires.kept.index (subst P c.in-Free.is c.in_ok-found.ensures)))
+    (new_told a i _ (map (with_content (sectors_of c.in_ok-next.next.image)) c.as_slice-differing.result.now) head
+    (ap (map (with_content (sectors_of c.in_ok-next.next.image))) c.as_slice-differing.ensures.value ∙ records.told)
+    (free_new a i c.in-Free.key (firsts (get nat_eq c.args.kept.now.places)) c.requires.kept.held.index (subst P c.in-Free.is c.in_ok-found.ensures)))
