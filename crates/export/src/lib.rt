@@ -9,7 +9,7 @@
 //! image 2 cut 1 epoch 0 marks 0 choice 0.0:drop same 0
 //! ```
 //!
-//! Behind a line with `new R` stand R records, each the number of a sector in 8 bytes and its 512 bytes. docs/REPORT.md, 'The text
+//! After a line with `new R` stand R records, each the number of a sector in 8 bytes and its 512 bytes. docs/REPORT.md, 'The text
 //! of `export`', has the grammar, and what a reader does.
 //!
 //! | Call | Answer |
@@ -20,10 +20,9 @@
 //! # Place
 //!
 //! Beside `cases` and `flushes`: above `images`, whose crash images it tells of, `choices`, which numbers them, and `choice_text`,
-//! which prints a choice. No crate stands on it yet. A command that prints the text counts the images of its plan by
-//! `choices::count`, or by `count_up_to` where a part is asked for, makes an `Asked` of the options, and prints the bytes as they
-//! are; `AllocError` is its refusal for want of memory. Each `requires` of `Asked::of` is a fact that it has then: the bound of its
-//! options, the number that was counted, and a part of at most 16,777,216 images that lies within it.
+//! which prints a choice. `looks` prints the text for the command `export`. It counts the images of its plan, makes an `Asked` of the
+//! options, and answers the bytes as they are; `AllocError` is its refusal for want of memory. Each `requires` of `Asked::of` is a fact
+//! that it has then: the bound of its options, the number that was counted, and a part of at most 16,777,216 images that lies within it.
 //!
 //! # What is proved
 //!
@@ -41,7 +40,7 @@
 //!
 //! `walk` goes from image to image. Each has a sum over its sectors (`sums`), in which a sector counts by its number and its mix
 //! (`lanes`). A map has the place of each new image under a key, made of its sum and the marks before it; where a key is taken by
-//! another image, the next free one behind it stands for it. So equal images are among those that a search from the key meets, and
+//! another image, the next free one after it stands for it. So equal images are among those that a search from the key meets, and
 //! each one met is compared byte by byte (`IsIndex`, `IsFree`, `specs/Kept.antt`): the sums only say where to look.
 //!
 //! Two images of a log can differ in those sectors alone that a departure of one of them has, or that an entry between their cuts
