@@ -39,13 +39,16 @@
 //! # How it is written
 //!
 //! `walk` goes from image to image. Each has a sum over its sectors (`sums`), in which a sector counts by its number and its mix
-//! (`lanes`). A map has the place of each new image under a key, made of its sum and the marks before it; where a key is taken by
-//! another image, the next free one after it stands for it. So equal images are among those that a search from the key meets, and
-//! each one met is compared byte by byte (`IsIndex`, `IsFree`, `specs/Kept.antt`): the sums only say where to look.
+//! (`lanes`); it comes from the sum of the image before it, by the sectors in which the two differ. A map has each new image under a
+//! key, made of its sum and the marks before it; where a key is taken by another image, the next free one after it stands for it.
+//! So equal images are among those that a search from the key meets, and each one met is compared byte by byte (`IsIndex`, `IsFree`,
+//! `specs/Kept.antt`): the sums only say where to look. With a new image stands the place of the last that is the same (`IsHeld`).
+//! That one is compared, since it is near in the log.
 //!
 //! Two images of a log can differ in those sectors alone that a departure of one of them has, or that an entry between their cuts
 //! writes (`agree`, `proofs/Elsewhere.antt`). These are compared, and those that differ are listed in order (`differing`). So an
-//! image costs what departs and what is written since the one that it is compared with, whatever the size of the device.
+//! image costs what departs and what is written between it and the image before it, and the last that is the same, or, where it is
+//! new, the last new one; the size of the device costs nothing. Only the sum of the initial content goes over all sectors, once.
 //! `image` holds a view with its cut and departures. It stands too for what the device held before entry 0, which no view shows.
 //!
 //! # Example

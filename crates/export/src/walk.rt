@@ -343,8 +343,8 @@ impl<'a> Source<'a> {
     }
 }
 
-/// The text of the images that are asked for (docs/REPORT.md, The text of `export`). Beside the text it keeps at most some 40 bytes
-/// for each new image: its place and a key, in a map.
+/// The text of the images that are asked for (docs/REPORT.md, The text of `export`). Beside the text it keeps at most some 60 bytes
+/// for each new image: a key and two places, in a map.
 ///
 /// # Errors
 ///
