@@ -3,3 +3,7 @@ pub mod Rows
 pub mod Cuts
 pub mod Numbered
 pub mod Grouped
+pub mod Chosen
+pub mod Paths
+pub mod Distinct
+pub mod Below

@@ -60,8 +60,15 @@
 #![tactic(auto)]
 
 mod bits;
+mod cut;
 mod fates;
 mod laws;
+mod row;
+mod search;
+mod split;
 
-pub use fates::{fate_at, first_of, groups_of, hidden};
+pub use cut::Cut;
+pub use fates::{fate_at, first_of};
 pub use laws::{each_is_in_one, last_cuts_have_all, leaves_end_alike};
+pub use search::{Judge, Search};
+pub use split::Parted;
