@@ -1,17 +1,19 @@
 -- The units that cover a sector, one after the other, from the last before a cut down.
-use Rattle.std.proofs.Common.{ℕ, zero, suc, ◌≡◌, ◌+◌, ◌-◌, ◌<◌, ◌≤◌, ◌==◌, nat_lt, nat_le, Bool, true, false, not, ◌&&◌, ◌||◌, if◌then◌else◌, List, [], ◌∷◌, ◌++◌, length, map, filter, reverse, slice_get, Option, None, Some, refl, sym, subst, ◌∙◌, ap, arith}
+use Rattle.std.proofs.Common.{ℕ, zero, suc, ◌≡◌, ◌+◌, ◌-◌, ◌<◌, ◌≤◌, ◌==◌, nat_lt, nat_le, Bool, true, false, not, ◌&&◌, ◌||◌, if◌then◌else◌, List, [], ◌∷◌, ◌++◌, length, map, filter, reverse, slice_get, Option, None, Some, refl, sym, subst, ◌∙◌, ap, arith, inl, inr}
 use Rattle.std.specs.List.{range_with_len}
 use Rattle.std.proofs.lemmas.Bool.Decides.{eqb_tells, nat_tests}
 use Rattle.std.proofs.lemmas.Bool.{eq-eqb, ne_eqb}
 use Rattle.std.proofs.lemmas.List.{reverse-append, append-nil}
 use Rattle.std.proofs.lemmas.List.Elements.{filter-append}
+use Rattle.std.proofs.lemmas.Option.{same_Some}
 use Rattle.logfmt.specs.declared.entry.Entry.{Entry}
+use Rattle.logfmt.specs.Bounds.{LogValue, IsLog}
 use Rattle.epochs.specs.declared.unit.Unit.{Unit as LogUnit}
 use Rattle.epochs.specs.Units.{unit_of, units_of_entry, units_before}
 use Rattle.epochs.proofs.Growth.{units_before-next}
 use Rattle.images.specs.Table.{covering}
 use Rattle.cases.specs.Rows.{row}
-use Rattle.cases.specs.Table.{unit_over}
+use Rattle.cases.specs.Table.{unit_over, IsNext}
 use Rattle.cases.proofs.Numbered.{same_kept, kept_mapped}
 
 -- one number of a range alone passes a test
@@ -36,8 +38,13 @@ one_kept p a (suc n) t low high is none = elim (eqb_tells a t) [
       ∙ one_kept p (a + 1) n t (omega (arith, low, apart)) (omega (arith, high)) is none
 ]
 
+-- what is there as a list
+abbrev as_list : Option LogUnit → List LogUnit
+as_list None = []
+as_list (Some u) = u ∷ []
+
 -- the units of an entry that cover a sector: one, or none
-over_entry : (e : ℕ) (x : Entry) (s : ℕ) → filter (λ (u : LogUnit). u.sector == s) (units_of_entry e x) ≡ (elim (unit_over e x s) [ None ↦ [] | Some u ↦ u ∷ [] ])
+over_entry : (e : ℕ) (x : Entry) (s : ℕ) → filter (λ (u : LogUnit). u.sector == s) (units_of_entry e x) ≡ as_list (unit_over e x s)
 over_entry e x s = kept_mapped (unit_of e x) (λ (u : LogUnit). u.sector == s) (range_with_len 0 x.count) ∙ by_place (nat_lt s x.sector) (nat_le x.count (s - x.sector)) refl refl
   where
     p : ℕ → Bool
@@ -45,7 +52,7 @@ over_entry e x s = kept_mapped (unit_of e x) (λ (u : LogUnit). u.sector == s) (
 
     by_place : (a b : Bool) → nat_lt s x.sector ≡ a → nat_le x.count (s - x.sector) ≡ b
         → map (unit_of e x) (filter (λ j. x.sector + j == s) (range_with_len 0 x.count))
-        ≡ (elim (if a || b then None else Some (record { entry = e; place = s - x.sector; sector = s })) [ None ↦ [] | Some u ↦ u ∷ [] ])
+        ≡ as_list (if a || b then None else Some (record { entry = e; place = s - x.sector; sector = s }))
     by_place true b low high =
         let less : s < x.sector = grind (arith, nat_tests, low) in
         ap (map (unit_of e x)) (none_kept (λ j. x.sector + j == s) 0 x.count (λ i from to. ne_eqb (x.sector + i) s (λ hit. omega (arith, hit, less))))
@@ -75,21 +82,75 @@ kept_reversed p (x ∷ xs) =
     by_test false = append-nil (reverse (filter p xs))
 
 -- an entry that covers a sector has the last unit of its row, and what is below it is the row of the cut before that entry
-row_grown : (es : List Entry) (e s : ℕ) (x : Entry) → slice_get es e ≡ Some x → row es (suc e) s ≡ (elim (unit_over e x s) [ None ↦ [] | Some u ↦ u ∷ [] ]) ++ row es e s
+row_grown : (es : List Entry) (e s : ℕ) (x : Entry) → slice_get es e ≡ Some x → row es (suc e) s ≡ as_list (unit_over e x s) ++ row es e s
 unfolding covering
 row_grown es e s x there =
     let p : LogUnit → Bool = λ u. u.sector == s in
     ap (λ us. filter p (reverse us)) (units_before-next es e x there)
     ∙ ap (filter p) (reverse-append (units_before es e) (units_of_entry e x))
     ∙ filter-append p (reverse (units_of_entry e x)) (reverse (units_before es e))
-    ∙ ap (λ us. us ++ filter p (reverse (units_before es e))) (kept_reversed p (units_of_entry e x) ∙ ap reverse (over_entry e x s) ∙ turned (unit_over e x s))
+    ∙ ap (λ us. us ++ filter p (reverse (units_before es e))) (kept_reversed p (units_of_entry e x) ∙ ap (λ (us : List LogUnit). reverse us) (over_entry e x s) ∙ turned (unit_over e x s))
   where
-    turned : (o : Option LogUnit) → reverse (elim o [ None ↦ [] | Some u ↦ u ∷ [] ]) ≡ (elim o [ None ↦ [] | Some u ↦ u ∷ [] ])
+    turned : (o : Option LogUnit) → reverse (as_list o) ≡ as_list o
     turned None = refl
     turned (Some u) = refl
 
 pub row_none : (es : List Entry) (e s : ℕ) (x : Entry) → slice_get es e ≡ Some x → unit_over e x s ≡ None → row es (suc e) s ≡ row es e s
-row_none es e s x there none = row_grown es e s x there ∙ ap (λ o. (elim o [ None ↦ [] | Some u ↦ u ∷ [] ]) ++ row es e s) none
+row_none es e s x there none = row_grown es e s x there ∙ ap (λ o. as_list o ++ row es e s) none
 
 pub row_one : (es : List Entry) (e s : ℕ) (x : Entry) (u : LogUnit) → slice_get es e ≡ Some x → unit_over e x s ≡ Some u → row es (suc e) s ≡ u ∷ row es e s
-row_one es e s x u there some = row_grown es e s x there ∙ ap (λ o. (elim o [ None ↦ [] | Some v ↦ v ∷ [] ]) ++ row es e s) some
+row_one es e s x u there some = row_grown es e s x there ∙ ap (λ o. as_list o ++ row es e s) some
+
+-- what a unit over a sector says of its entry
+pub record IsOver (e : ℕ) (x : Entry) (s : ℕ) (u : LogUnit) : Type 0 where
+  pub low : x.sector ≤ s
+  pub high : s - x.sector < x.count
+  pub is : ◌≡◌ {A = LogUnit} (record { entry = e; place = s - x.sector; sector = s }) u
+
+pub over_is : (e : ℕ) (x : Entry) (s : ℕ) (u : LogUnit) → unit_over e x s ≡ Some u → IsOver e x s u
+over_is e x s u some = by_tests (nat_lt s x.sector) (nat_le x.count (s - x.sector)) refl refl some
+  where
+    by_tests : (a b : Bool) → nat_lt s x.sector ≡ a → nat_le x.count (s - x.sector) ≡ b
+        → ◌≡◌ {A = Option LogUnit} (if a || b then None else Some (record { entry = e; place = s - x.sector; sector = s })) (Some u) → IsOver e x s u
+    by_tests true b low high is = absurd (let bad : ◌≡◌ {A = Option LogUnit} None (Some u) = is in cc)
+    by_tests false true low high is = absurd (let bad : ◌≡◌ {A = Option LogUnit} None (Some u) = is in cc)
+    by_tests false false low high is = record {
+      low = grind (arith, nat_tests, low);
+      high = grind (arith, nat_tests, high);
+      is = same_Some _ u is;
+    }
+
+-- from a cut down to the last unit that covers a sector
+
+pub over_none : (es : List Entry) (n m s : ℕ) (x : Entry) → 0 < n → m ≡ n - 1 → slice_get es m ≡ Some x → unit_over m x s ≡ None → row es n s ≡ row es m s
+over_none es n m s x some is there none =
+    let same : n ≡ suc m = omega (arith, some, is) in
+    ap (λ j. row es j s) same ∙ row_none es m s x there none
+
+pub over_found : (log : LogValue) (k n m s : ℕ) (x : Entry) (u : LogUnit) → IsLog log → n ≤ k → 0 < n → m ≡ n - 1 → slice_get log.entries m ≡ Some x
+    → row log.entries k s ≡ row log.entries n s → unit_over m x s ≡ Some u → IsNext log k s u
+over_found log k n m s x u bounds le some is there so over =
+    let same : n ≡ suc m = omega (arith, some, is) in
+    let at = over_is m x s u over in
+    let entry : m ≡ u.entry = ap (λ (v : LogUnit). v.entry) at.is in
+    let place : s - x.sector ≡ u.place = ap (λ (v : LogUnit). v.place) at.is in
+    let sector : s ≡ u.sector = ap (λ (v : LogUnit). v.sector) at.is in
+    let low = at.low in
+    let high = at.high in
+    let on = (bounds.entries m x there).device (omega (arith, high)) in
+    record {
+      unit = record {
+        entry = x;
+        there = ap (slice_get log.entries) (sym entry) ∙ there;
+        place = omega (arith, high, place);
+        sector = omega (arith, low, place, sector);
+        device = omega (arith, on, low, high, sector);
+      };
+      before = omega (arith, le, some, is, entry);
+      over = sym sector;
+      rest = so ∙ ap (λ j. row log.entries j s) same ∙ row_one log.entries m s x u there over ∙ ap (λ j. u ∷ row log.entries j s) entry;
+    }
+
+pub row_of_none : (es : List Entry) (n s : ℕ) → n ≡ 0 → row es n s ≡ []
+unfolding covering
+row_of_none es n s none = ap (λ j. row es j s) none

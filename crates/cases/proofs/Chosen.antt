@@ -14,7 +14,7 @@ use Rattle.cases.specs.Cases.{Case, whole_case, is_same, with_part, firsts, kind
 use Rattle.cases.specs.Trees.{is_torn, is_lost}
 use Rattle.cases.specs.Laws.{IsAmong}
 use Rattle.cases.specs.Sets.{has, numbers_in, fates_in, fate_at, all_torn, all_lost}
-use Rattle.cases.specs.Search.{Apart, case_of, count_torn, count_lost}
+use Rattle.cases.specs.AtCut.{Apart, case_of}
 use Rattle.cases.proofs.Cases.{AreKinds, same_part, own_part}
 
 pub there_among : {A : Type 0} (xs : List A) (i : ℕ) (x : A) → slice_get xs i ≡ Some x → IsAmong xs x
@@ -73,7 +73,7 @@ count_same f g [] each = refl
 count_same f g (x ∷ xs) each =
     let one = sum_by-cons (λ y. if f y then 1 else 0) x xs in
     let two = sum_by-cons (λ y. if g y then 1 else 0) x xs in
-    let here : (if f x then 1 else 0) ≡ (if g x then 1 else 0) = ap (λ b. if b then 1 else 0) (each x (inl refl)) in
+    let here : ◌≡◌ {A = ℕ} (if f x then 1 else 0) (if g x then 1 else 0) = ap (λ b. if b then 1 else 0) (each x (inl refl)) in
     let rest = count_same f g xs (λ y is. each y (inr is)) in
     omega (arith, one, two, here, rest)
 
@@ -89,7 +89,7 @@ count_in_case tears test (q ∷ parts) (b ∷ sets) apart long =
     let one = sum_by-cons (λ y. if F y then 1 else 0) q parts in
     let two = sum_by-cons (λ y. if H y then 1 else 0) b sets in
     let own : F q ≡ H b = ap (λ v. list_all test (if v then fates_in b else case_of tears parts sets q)) (own_part q) in
-    let here : (if F q then 1 else 0) ≡ (if H b then 1 else 0) = ap (λ v. if v then 1 else 0) own in
+    let here : ◌≡◌ {A = ℕ} (if F q then 1 else 0) (if H b then 1 else 0) = ap (λ v. if v then 1 else 0) own in
     let rest : count_by F parts ≡ count_by G parts =
     count_same F G parts (λ p is. ap (λ v. list_all test (if v then fates_in b else case_of tears parts sets p)) (apart.0 p is)) in
     let more = count_in_case tears test parts sets apart.1 (omega (arith, long)) in

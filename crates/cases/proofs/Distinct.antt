@@ -13,7 +13,7 @@ use Rattle.epochs.proofs.Growth.{parts_before-next}
 use Rattle.cases.specs.Cases.{is_same}
 use Rattle.cases.specs.Laws.{IsAmong}
 use Rattle.cases.specs.Risk.{is_at_risk, parts_at_risk}
-use Rattle.cases.specs.Search.{Apart}
+use Rattle.cases.specs.AtCut.{Apart}
 use Rattle.cases.proofs.Cases.{among_kept}
 use Rattle.cases.proofs.Rows.{among_range, part_before}
 
@@ -69,12 +69,12 @@ apart_before way es (suc k) le = elim (slice_get_cases es k).1 [
       subst Apart (sym (parts_before-next way es k a.0 a.2))
       (apart_both (parts_before way es k) (parts_of_entry way k a.0) (apart_before way es k (omega (arith, le))) (apart_entry way k a.0)
       (λ p q early late.
-          let was = part_before way es k p (omega (arith, le)) early in
-          let now = among_range (part_of way k a.0) 0 (part_count way a.0) q late in
-          let first : was.entry ≡ p.entry = ap (λ (r : Part). r.entry) was.is in
-          let second : k ≡ q.entry = ap (λ (r : Part). r.entry) now.3 in
-          let less = was.before in
-          ap (λ b. b && ((p.place == q.place) && ((p.count == q.count) && (p.sector == q.sector)))) (ne_eqb p.entry q.entry (λ same. omega (arith, same, first, second, less)))))
+      let was = part_before way es k p (omega (arith, le)) early in
+      let now = among_range (part_of way k a.0) 0 (part_count way a.0) q late in
+      let first : was.entry ≡ p.entry = ap (λ (r : Part). r.entry) was.is in
+      let second : k ≡ q.entry = ap (λ (r : Part). r.entry) now.3 in
+      let less = was.before in
+      ap (λ b. b && ((p.place == q.place) && ((p.count == q.count) && (p.sector == q.sector)))) (ne_eqb p.entry q.entry (λ same. omega (arith, same, first, second, less)))))
 ]
 
 pub apart_risky : (way : By) (es : List Entry) (k : ℕ) → k ≤ length es → Apart (parts_at_risk way es k)

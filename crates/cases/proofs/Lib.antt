@@ -4,6 +4,9 @@ pub mod Cuts
 pub mod Numbered
 pub mod Grouped
 pub mod Chosen
-pub mod Paths
 pub mod Distinct
+pub mod AtRisk
 pub mod Below
+pub mod Mattering
+pub mod Owned
+pub mod Splitting

@@ -99,10 +99,11 @@ first_kept : (p : ℕ → Bool) (a n t : ℕ) → a ≤ t → t < a + n → p t 
 first_kept p a zero t low high is none = absurd (omega (arith, low, high))
 first_kept p a (suc n) t low high is none = elim (eqb_tells a t) [
   | inl same ↦
-      let here : p a ≡ true = ap p same.1 ∙ is in
-      (filter p (range_with_len (a + 1) n),
-      ap (λ b. if b then a ∷ filter p (range_with_len (a + 1) n) else filter p (range_with_len (a + 1) n)) here
-      ∙ ap (λ x. x ∷ filter p (range_with_len (a + 1) n)) same.1)
+      let here : p a ≡ true = ap p same.1 ∙ is in (
+        filter p (range_with_len (a + 1) n),
+        ap (λ b. if b then a ∷ filter p (range_with_len (a + 1) n) else filter p (range_with_len (a + 1) n)) here
+            ∙ ap (λ x. x ∷ filter p (range_with_len (a + 1) n)) same.1,
+      )
   | inr other ↦
       let apart = other.1 in
       let here : p a ≡ false = none a (omega arith) (omega (arith, low, apart)) in

@@ -155,7 +155,7 @@ part_before way es (suc k) p le is = elim (slice_get_cases es k).1 [
       ]
 ]
 
-before_part : (way : By) (es : List Entry) (k e : ℕ) (x : Entry) (j : ℕ) → k ≤ length es → e < k → slice_get es e ≡ Some x → j < part_count way x
+pub before_part : (way : By) (es : List Entry) (k e : ℕ) (x : Entry) (j : ℕ) → k ≤ length es → e < k → slice_get es e ≡ Some x → j < part_count way x
     → IsAmong (parts_before way es k) (part_of way e x j)
 before_part way es zero e x j le lt there within = absurd (omega (arith, lt))
 before_part way es (suc k) e x j le lt there within = elim (slice_get_cases es k).1 [
@@ -206,18 +206,18 @@ unit_before es (suc k) u le is = elim (slice_get_cases es k).1 [
 
 -- the part that a unit is of is one of its entry, and no other part before the cut has the unit
 
-abbrev own_place : By → ℕ → ℕ
+abbrev pub own_place : By → ℕ → ℕ
 own_place by.Sector j = j
 own_place by.Write j = 0
 
-own_within : (way : By) (x : Entry) (j : ℕ) → j < x.count → own_place way j < part_count way x
+pub own_within : (way : By) (x : Entry) (j : ℕ) → j < x.count → own_place way j < part_count way x
 own_within by.Sector x j lt = lt
 own_within by.Write x j lt =
     let some : (x.count == 0) ≡ false = grind (arith, nat_tests, lt) in
     let one : part_count by.Write x ≡ 1 = rw some refl in
     omega (arith, one)
 
-own_is : (way : By) (es : List Entry) (e : ℕ) (x : Entry) (j : ℕ) → slice_get es e ≡ Some x → part_of way e x (own_place way j) ≡ part_with way es (unit_of e x j)
+pub own_is : (way : By) (es : List Entry) (e : ℕ) (x : Entry) (j : ℕ) → slice_get es e ≡ Some x → part_of way e x (own_place way j) ≡ part_with way es (unit_of e x j)
 own_is by.Sector es e x j there =
     let place : j * 1 ≡ j = omega arith in
     let sector : x.sector + j * 1 ≡ x.sector + j = omega arith in

@@ -6,5 +6,5 @@ pub mod Cases
 pub mod Trees
 pub mod Laws
 pub mod Sets
-pub mod Search
+pub mod AtCut
 pub mod Table

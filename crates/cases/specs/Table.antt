@@ -7,7 +7,7 @@ use Rattle.epochs.specs.declared.unit.Unit.{Unit as LogUnit}
 use Rattle.epochs.specs.Laws.{last_flush}
 use Rattle.epochs.specs.Plan.{IsUnit}
 use Rattle.cases.specs.Rows.{row, piece}
-use Rattle.cases.specs.Search.{CutValue, parts_of, Apart}
+use Rattle.cases.specs.AtCut.{CutValue, parts_of, Apart}
 
 -- the parts at risk, each once, and the last flush entry before the cut
 pub record IsCut (at : CutValue) (flush : ℕ) (parts : List Part) : Type 0 where

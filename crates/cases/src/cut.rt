@@ -1,11 +1,14 @@
 //! A cut of a log, with what a crash may take there.
 
-ghost use Rattle.std.specs.Prelude.{◌≡◌, ◌+◌, ◌^◌, ◌<◌, ◌≤◌, ◌++◌, length, IfOk, OnOk};
+ghost use Rattle.std.specs.Prelude.{◌≡◌, ◌+◌, ◌^◌, ◌<◌, ◌≤◌, ◌++◌, ◌==◌, ◌||◌, not, length, filter, slice_get, Some, IfOk, OnOk};
+ghost use Rattle.logfmt.specs.declared.entry.Entry.{Entry as LogEntry};
+ghost use Rattle.epochs.specs.declared.part.Part.{Part as LogPart};
 ghost use Rattle.epochs.specs.Laws.{last_flush};
 ghost use Rattle.epochs.specs.Parts.{parts_of_entry, part_size};
 ghost use Rattle.limits.specs.Sizes.{most_sectors};
+ghost use Rattle.logfmt.specs.Bounds.{IsLog};
 ghost use Rattle.cases.specs.Risk.{is_at_risk, parts_at_risk};
-ghost use Rattle.cases.specs.Search.{parts_of, Apart};
+ghost use Rattle.cases.specs.AtCut.{parts_of, Apart};
 
 use epochs::{By, Part};
 use logfmt::{Entry, Log};
@@ -26,7 +29,7 @@ pub struct Cut<'a> {
 }
 
 impl<'a> Model for Cut<'a> {
-    ghost use Rattle.cases.specs.Search.{CutValue};
+    ghost use Rattle.cases.specs.AtCut.{CutValue};
     ghost use Rattle.cases.specs.Table.{IsCut};
 
     ghost Value = { CutValue };
@@ -81,29 +84,62 @@ fn put_parts(parts: &mut Vec<Part>, way: By, number: u32, entry: &Entry) -> Resu
     Ok(())
 }
 
-/// Whether a crash may take something of an entry at a cut behind which no flush but `flush` is the last.
+/// Whether an entry isn't forced to the device with its data, or is the last before a cut, and so in flight.
+fn is_open(forced: bool, number: u32, cut: u32) -> bool
+    requires { number < cut }
+    ensures { result ≡ (not forced || (number + 1 == cut)) }
+{
+    if forced { number + 1 == cut } else { true }
+}
+
+/// Whether a crash may take something of an entry at a cut, by the last flush entry before that.
 fn is_risky(entries: &[Entry], cut: u32, flush: u32, number: u32) -> bool
     requires cut { cut ≤ length entries.now }
     requires number { number < cut }
     requires flush { flush ≡ last_flush entries.now cut }
     ensures { result ≡ is_at_risk entries.now cut number }
 {
-    let forced = entries[number as usize].flags.fua;
-    (!forced || number + 1 == cut) && flush <= number
+    let open = is_open(entries[number as usize].flags.fua, number, cut);
+    if open { flush <= number } else { false }
+}
+
+/// Appends the parts of an entry, if a crash may take something of it at a cut.
+fn put_risky(
+    parts: &mut Vec<Part>,
+    log: &Log,
+    way: By,
+    cut: u32,
+    flush: u32,
+    number: u32,
+) -> Result<(), AllocError>
+    requires cut { cut ≤ length log.now.entries }
+    requires number { number < cut }
+    requires flush { flush ≡ last_flush log.now.entries cut }
+    ensures { OnOk result ((x : LogEntry) → slice_get log.now.entries number ≡ Some x
+        → parts.new.items ≡ parts.old.items ++ filter (λ (p : LogPart). is_at_risk log.now.entries cut p.entry) (parts_of_entry way number x)) }
+{
+    let entries = log.entries();
+    if is_risky(entries, cut, flush, number) {
+        put_parts(parts, way, number, &entries[number as usize])?;
+    }
+    Ok(())
 }
 
 /// The parts at risk at a cut, by entry and then by sector.
-fn parts_at_risk(alloc: Global, log: &Log, way: By, cut: u32, flush: u32) -> Result<Vec<Part>, AllocError>
+fn parts_at_risk(
+    alloc: Global,
+    log: &Log,
+    way: By,
+    cut: u32,
+    flush: u32,
+) -> Result<Vec<Part>, AllocError>
     requires cut { cut ≤ length log.now.entries }
     requires flush { flush ≡ last_flush log.now.entries cut }
     ensures { IfOk result (λ parts. parts.items ≡ parts_at_risk way log.now.entries cut) }
 {
-    let entries = log.entries();
     let mut parts = Vec::new(alloc);
     for number in 0..cut {
-        if is_risky(entries, cut, flush, number) {
-            put_parts(&mut parts, way, number, &entries[number as usize])?;
-        }
+        put_risky(&mut parts, log, way, cut, flush, number)?;
     }
     Ok(parts)
 }
@@ -135,7 +171,9 @@ impl<'a> Cut<'a> {
 
     /// The log.
     pub(crate) fn log(&self) -> &'a Log
-        ensures { result.now ≡ self.now.log }
+        ensures value { result.now ≡ self.now.log }
+        ensures bounds { IsLog self.now.log }
+        ensures within { self.now.cut ≤ length self.now.log.entries }
     {
         self.log
     }

@@ -8,7 +8,7 @@
 //! # Place
 //!
 //! On `epochs`, `choices` and `images`, whose parts, fates and crash images it speaks of, and on `machine` for the footprint of a run.
-//! It has definitions and laws, and of the search for the leaves the first step, sets of fates; no other crate stands on it yet.
+//! It has definitions and laws, and of the search for the leaves one step, the part that splits a case; no other crate stands on it yet.
 //!
 //! # The definitions
 //!
@@ -24,19 +24,27 @@
 //! - `Sets`: what may become of a part, by number, 0 for whole up to 15 for the largest tail; a set of these in the bits of a word
 //!   (`fates_in`), and a set of the pieces of a sector in eight of them (`pieces_in`).
 //!
-//! # Sets of fates
+//! - `AtCut`: a cut as a value (`CutValue`), the parts at risk there (`parts_of`), a case as a set for each of them (`case_of`), and
+//!   when a part by its number and the sets of its groups are the split of a case (`IsFound`).
+//!
+//! # The calls
 //!
 //! | Call | Answer |
 //! |---|---|
+//! | `Cut::new(alloc, log, way, number)` | a cut of a log. It takes memory for each part at risk |
+//! | `cut.parts()` | the parts at risk, in order, each once |
+//! | `cut.first_split(sets, sectors)` | the part that splits a case, the first one of some sectors, with its fates in groups; or none |
 //! | `fate_at(number)` | the fate of a number, `None` for whole |
-//! | `first_of(set)` | the first fate of a set |
-//! | `groups_of(part, unit, pieces, set)` | the fates of a set in groups, by what they show of some pieces of a unit |
-//! | `hidden(part, unit, pieces, set)` | those of the pieces that the part doesn't show with the first fate of the set |
+//! | `first_of(set)` | the first fate of a set, which is that of the representative |
 //!
-//! They take no memory. The groups are the `kinds` of the definition, in its order, none forgotten and none twice.
+//! All but the first take no memory. `first_split` goes through the rows of the sectors, each from the last unit before the cut down. It
+//! finds that unit by a walk over the entries, and the number of its part by a walk over the parts.
 //!
 //! # What is proved
 //!
+//! - `Cut::first_split` answers exactly the `first_split` of the definition: its part is the first that tells choices of the case apart
+//!   in these sectors, its groups are the `kinds` of its fates, in order, none forgotten and none twice, and where it answers none there
+//!   is none.
 //! - `each_is_in_one`: each choice is in exactly one of the leaves and of the cases that were left out. One with as few torn parts, and
 //!   as few lost ones, as is asked is in none that was left out.
 //! - `leaves_end_alike`: on the image of each choice in a leaf the program ends as on that of its representative, if its footprint
@@ -64,11 +72,9 @@ mod cut;
 mod fates;
 mod laws;
 mod row;
-mod search;
 mod split;
 
 pub use cut::Cut;
 pub use fates::{fate_at, first_of};
 pub use laws::{each_is_in_one, last_cuts_have_all, leaves_end_alike};
-pub use search::{Judge, Search};
 pub use split::Parted;

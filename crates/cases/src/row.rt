@@ -1,15 +1,15 @@
 //! The row of a sector at a cut, from the last unit down, and the part in it that splits a case.
 
-ghost use Rattle.std.specs.Prelude.{◌≡◌, ◌+◌, ◌*◌, ◌<◌, ◌≤◌, ◌&&◌, ℕ, Bool, [], length, slice_get, slice_range, filter, Some, MatchOption};
+ghost use Rattle.std.specs.Prelude.{◌≡◌, ◌+◌, ◌*◌, ◌<◌, ◌≤◌, ◌&&◌, ◌||◌, ℕ, Bool, true, [], length, slice_get, slice_range, filter, Some, MatchOption};
 ghost use Rattle.std.specs.List.{range_with_len};
 ghost use Rattle.epochs.specs.Units.{unit_content};
 ghost use Rattle.epochs.specs.Plan.{IsUnit};
 ghost use Rattle.cases.specs.Laws.{IsAmong};
 ghost use Rattle.cases.specs.Risk.{is_at_risk};
 ghost use Rattle.cases.specs.Rows.{row, part_with};
-ghost use Rattle.cases.specs.Cases.{matters, split_in_row, first_split};
+ghost use Rattle.cases.specs.Cases.{is_same, matters, split_in_row, first_split};
 ghost use Rattle.cases.specs.Sets.{has, pieces_in};
-ghost use Rattle.cases.specs.Search.{parts_of, case_of, IsFound};
+ghost use Rattle.cases.specs.AtCut.{parts_of, case_of, Apart, IsFound};
 ghost use Rattle.cases.specs.Table.{unit_over, difference, IsNext};
 
 use crate::bits::{has, with_if};
@@ -50,9 +50,8 @@ fn last_over(log: &Log, cut: u32, sector: u32) -> Option<Unit>
     let mut number = cut;
     while number > 0 {
         number -= 1;
-        let over = unit_over(&entries[number as usize], number, sector);
-        if over.is_some() {
-            return over;
+        if let Some(unit) = unit_over(&entries[number as usize], number, sector) {
+            return Some(unit);
         }
     }
     None
@@ -82,30 +81,46 @@ fn content_of(log: &Log, unit: Unit) -> &Sector
     }
 }
 
+/// Whether two sectors differ in a piece.
+fn differs(one: &Sector, other: &Sector, piece: u8) -> bool
+    requires { piece < 8 }
+    ensures { result ≡ difference one.now other.now piece }
+{
+    let start = 64 * usize::from(piece);
+    let second = &other[start..start + 64];
+    let first = &one[start..start + 64];
+    second != first
+}
+
 /// Adds to a set those of some pieces in which two sectors differ.
 fn differing(one: &Sector, other: &Sector, pieces: u16, found: u16) -> u16
     ensures { (i : ℕ) → i < 8 → has result i ≡ (has found i || (has pieces i && difference one.now other.now i)) }
 {
     let mut more = found;
     for number in 0..8 {
-        let start = 64 * usize::from(number);
-        let is = has(pieces, number) && other[start..start + 64] != one[start..start + 64];
+        let is = has(pieces, number) && differs(one, other, number);
         more = with_if(more, number, is);
     }
     more
 }
 
+/// Whether two parts are the same.
+fn is_same(part: Part, other: Part) -> bool
+    ensures { result ≡ is_same part other }
+{
+    part.entry == other.entry
+        && (part.place == other.place && (part.count == other.count && part.sector == other.sector))
+}
+
 /// The place of a part in a list.
-fn place_of(parts: &[Part], part: Part) -> u32
+fn place_of(parts: &[Part], part: Part) -> usize
     requires { IsAmong parts.now part }
     ensures { slice_get parts.now result ≡ Some part }
 {
-    let mut place = 0;
-    for other in parts {
-        if *other == part {
+    for (place, other) in parts.iter().enumerate() {
+        if is_same(part, *other) {
             return place;
         }
-        place += 1;
     }
     unreachable!()
 }
@@ -151,7 +166,33 @@ impl<'a> Cut<'a> {
             }
             cut = below.entry;
         }
-        differing(content, self.log().initial().sector(unit.sector), pieces, found)
+        differing(
+            content,
+            self.log().initial().sector(unit.sector),
+            pieces,
+            found,
+        )
+    }
+
+    /// The part that a unit is of.
+    fn own_part(&self, unit: Unit) -> Part
+        requires { IsUnit self.now.log unit }
+        ensures { result ≡ part_with self.now.way self.now.log.entries unit }
+    {
+        part_of(self.log(), self.way(), unit)
+    }
+
+    /// The number among the parts at risk of the part that a unit is of.
+    fn number_of(&self, unit: Unit) -> usize
+        requires unit { IsUnit self.now.log unit }
+        requires before { unit.entry < self.now.cut }
+        requires risk { is_at_risk self.now.log.entries self.now.cut unit.entry ≡ true }
+        ensures part { slice_get (parts_of self.now) result ≡ Some (part_with self.now.way self.now.log.entries unit) }
+        ensures apart { Apart (parts_of self.now) }
+    {
+        let part = self.own_part(unit);
+        let _log = self.log();
+        place_of(self.parts(), part)
     }
 
     /// The first part of a sector's row whose fates in a case show something different of it.
@@ -168,13 +209,16 @@ impl<'a> Cut<'a> {
             if !self.risks(unit.entry) {
                 return None;
             }
-            let part = part_of(self.log(), self.way(), unit);
-            let place = place_of(self.parts(), part);
-            let set = sets[place as usize];
+            let part = self.own_part(unit);
+            let number = self.number_of(unit);
+            let set = sets[number];
             let pieces = self.matter(unit, wanted);
             let groups = groups_of(part, unit, pieces, set);
             if groups.len() > 1 {
-                return Some(Parted { part: place, groups });
+                return Some(Parted {
+                    part: number,
+                    groups,
+                });
             }
             wanted = hidden(part, unit, pieces, set);
             cut = unit.entry;
@@ -189,9 +233,8 @@ impl<'a> Cut<'a> {
         ensures { (tears : Bool) → IsFound (parts_of self.now) result (first_split self.now.log self.now.way self.now.cut (case_of tears (parts_of self.now) sets.now) sectors.now) }
     {
         for sector in sectors {
-            let found = self.split_in_row(sets, *sector);
-            if found.is_some() {
-                return found;
+            if let Some(found) = self.split_in_row(sets, *sector) {
+                return Some(found);
             }
         }
         None

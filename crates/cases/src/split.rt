@@ -7,7 +7,7 @@ use arrayvec::ArrayVec;
 #[derive(Drop)]
 pub struct Parted {
     /// The number of the part.
-    pub part: u32,
+    pub part: usize,
     /// The groups, by the first fate of each.
     pub groups: ArrayVec<u16, 16>,
 }
