@@ -282,7 +282,7 @@ split_is log way k s c (u ∷ below) wanted it is = by_test (λ others own. spli
         split_here c (split_in_row log way k s c below) (part_with way log.entries u) u (filter (matters log k s u below) wanted) it here again
     by_test again false here = absurd (let bad : None ≡ Some it = here in cc)
 
-first_is : (log : LogValue) (way : By) (k : ℕ) (c : Case) (sectors : List ℕ) (it : Split) → first_split log way k c sectors ≡ Some it → IsSplit c it
+pub first_is : (log : LogValue) (way : By) (k : ℕ) (c : Case) (sectors : List ℕ) (it : Split) → first_split log way k c sectors ≡ Some it → IsSplit c it
 first_is log way k c [] it is = absurd (let bad : None ≡ Some it = is in cc)
 first_is log way k c (s ∷ sectors) it is =
     by_first (λ own. first_is log way k c sectors it own) (split_in_row log way k s c (row log.entries k s) (range_with_len 0 8)) refl is

@@ -10,3 +10,4 @@ pub mod Below
 pub mod Mattering
 pub mod Owned
 pub mod Splitting
+pub mod Paths

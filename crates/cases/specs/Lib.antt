@@ -8,3 +8,4 @@ pub mod Laws
 pub mod Sets
 pub mod AtCut
 pub mod Table
+pub mod Search

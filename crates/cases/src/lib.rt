@@ -72,9 +72,11 @@ mod cut;
 mod fates;
 mod laws;
 mod row;
+mod search;
 mod split;
 
 pub use cut::Cut;
 pub use fates::{fate_at, first_of};
 pub use laws::{each_is_in_one, last_cuts_have_all, leaves_end_alike};
+pub use search::{Judge, Search};
 pub use split::Parted;

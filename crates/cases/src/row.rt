@@ -166,12 +166,8 @@ impl<'a> Cut<'a> {
             }
             cut = below.entry;
         }
-        differing(
-            content,
-            self.log().initial().sector(unit.sector),
-            pieces,
-            found,
-        )
+        let held = self.log().initial().sector(unit.sector);
+        differing(content, held, pieces, found)
     }
 
     /// The part that a unit is of.

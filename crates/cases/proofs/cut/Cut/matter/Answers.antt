@@ -25,9 +25,9 @@ returns c =
     let log = c.args.self.now.log in
     let none : row c.log-in-below.result.now.entries c.below.cut c.args.unit.sector ≡ [] =
     MatchOption-at_none (row c.log-in-below.result.now.entries c.below.cut c.args.unit.sector ≡ []) (IsNext c.log-in-below.result.now c.below.cut c.args.unit.sector) c.in_default.is c.last_over.ensures in
-    matter_all log c.args.self.now.cut c.args.unit c.args.pieces c.below.found c.below.cut c.differing.result c.content_of-content.result.now c.sector.result.now
+    matter_all log c.args.self.now.cut c.args.unit c.args.pieces c.below.found c.below.cut c.differing.result c.content_of-content.result.now c.sector-held.result.now
     c.below.invariant
     (sym (ap (λ (l : LogValue). row l.entries c.below.cut c.args.unit.sector) c.log-in-below.ensures.value) ∙ none)
     (c.content_of-content.ensures ∙ ap (λ (l : LogValue). unit_content l.entries c.args.unit) c.log.ensures.value)
-    (c.sector.ensures ∙ ap (λ held. initial_sector held c.args.unit.sector) (c.initial.ensures.value ∙ ap (λ (l : LogValue). l.initial) c.log-2.ensures.value))
+    (c.sector-held.ensures ∙ ap (λ held. initial_sector held c.args.unit.sector) (c.initial.ensures.value ∙ ap (λ (l : LogValue). l.initial) c.log-2.ensures.value))
     c.differing.ensures
