@@ -11,3 +11,4 @@ pub mod Mattering
 pub mod Owned
 pub mod Splitting
 pub mod Paths
+pub mod Runs

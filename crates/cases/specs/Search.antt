@@ -10,8 +10,9 @@ use Rattle.cases.specs.Risk.{parts_at_risk}
 use Rattle.cases.specs.Choices.{image_at}
 use Rattle.cases.specs.Cases.{Case, whole_case, representative, is_same, Split, first_split}
 use Rattle.cases.specs.AtCut.{CutValue, parts_of, case_of}
-use Rattle.cases.specs.Trees.{Program, Subject, is_torn, surely, is_within, AreLeaves}
-use Rattle.cases.specs.Laws.{IsAmong}
+use Rattle.machine.specs.Outcome.{Ending}
+use Rattle.cases.specs.Trees.{Program, Subject, ending_of, is_torn, surely, is_within, AreLeaves}
+use Rattle.cases.specs.Laws.{AreCases}
 use Rattle.cases.specs.Sets.{fates_in, all_torn, all_lost}
 
 -- What is still to be explored beside a case: the groups of each part that was split which weren't taken yet, the last split first.
@@ -117,3 +118,36 @@ pub record Went (s : Subject) (old new : SearchValue) (found : Bool) : Type 0 wh
   pub ended : IsFalse found → pending new ≡ []
   pub torn : new.torn_beyond ≡ plus old.torn_beyond (count_by (is_torn_beyond s) left)
   pub lost : new.lost_beyond ≡ plus old.lost_beyond (count_by (λ c. not (is_torn_beyond s c)) left)
+
+-- a leaf: a set for each part at risk, and what the program ends in on the image of its representative
+pub record LeafValue : Type 0 where
+  pub sets : List ℕ
+  pub ending : Ending
+
+abbrev pub leaf_case : Bool → CutValue → LeafValue → Case
+leaf_case tears at leaf = case_of tears (parts_of at) leaf.sets
+
+-- what the program ends in there
+abbrev pub EndsSo : Subject → Bool → CutValue → LeafValue → Type 0
+EndsSo s tears at leaf = leaf.ending ≡ ending_of s (representative (leaf_case tears at leaf))
+
+-- a search went over some leaves, of which a judge was told, and counted the cases between that were left out
+pub record Ran (s : Subject) (old new : SearchValue) (before after : List LeafValue) : Type 0 where
+  pub told : List LeafValue
+  pub left : List Case
+  pub added : after ≡ before ++ told
+  pub leads : Leads s (pending old) (map (leaf_case old.tears old.asked.at) told) left (pending new)
+  pub endings : All (EndsSo s old.tears old.asked.at) told
+  pub torn : new.torn_beyond ≡ plus old.torn_beyond (count_by (is_torn_beyond s) left)
+  pub lost : new.lost_beyond ≡ plus old.lost_beyond (count_by (λ c. not (is_torn_beyond s c)) left)
+
+-- A judge was told of the leaves of all choices of a cut, in order, and of no other, each with what the program ends in there. So many
+-- cases were left out since more parts are torn in them than is asked, and so many others, since more are lost.
+pub record FoundCases (s : Subject) (tears : Bool) (at : CutValue) (before after : List LeafValue) (torn lost : ℕ) : Type 0 where
+  pub told : List LeafValue
+  pub left : List Case
+  pub added : after ≡ before ++ told
+  pub are : AreCases s tears (map (leaf_case tears at) told) left
+  pub endings : All (EndsSo s tears at) told
+  pub torn_beyond : torn ≡ plus 0 (count_by (is_torn_beyond s) left)
+  pub lost_beyond : lost ≡ plus 0 (count_by (λ c. not (is_torn_beyond s c)) left)

@@ -78,5 +78,5 @@ mod split;
 pub use cut::Cut;
 pub use fates::{fate_at, first_of};
 pub use laws::{each_is_in_one, last_cuts_have_all, leaves_end_alike};
-pub use search::{Judge, Search};
+pub use search::{Beyond, Judge, Search, find_cases};
 pub use split::Parted;

@@ -1,6 +1,6 @@
 //! The search for the leaves of a cut.
 
-ghost use Rattle.std.specs.Prelude.{◌≡◌, ◌<◌, ◌≤◌, ◌++◌, ◌∷◌, [], ℕ, Bool, List, Option, true, false, not, nat_le, ◌&&◌, map, reverse, set, length, replicate, slice_get, Some, None, All, IfOk, OnOk, IsTrue, IsFalse, if◌then◌else◌};
+ghost use Rattle.std.specs.Prelude.{◌≡◌, ◌<◌, ◌≤◌, ◌++◌, ◌∷◌, [], ℕ, Bool, List, Option, true, false, not, nat_le, ◌+◌, MatchOption, ◌&&◌, map, reverse, set, length, replicate, slice_get, Some, None, All, IfOk, OnOk, IsTrue, IsFalse, if◌then◌else◌};
 ghost use Rattle.std.specs.Option.{option_map_or};
 ghost use Rattle.machine.specs.Outcome.{Ending};
 ghost use Rattle.epochs.specs.declared.part.Part.{Part as LogPart};
@@ -10,7 +10,7 @@ ghost use Rattle.cases.specs.Sets.{all_torn, all_lost, fates_in};
 ghost use Rattle.cases.specs.Choices.{all_fates};
 ghost use Rattle.cases.specs.Trees.{Program, ending_of};
 ghost use Rattle.cases.specs.AtCut.{parts_of, case_of, image_of, split_at, IsFound};
-ghost use Rattle.cases.specs.Search.{case_in, others, pending, subject_of, SameSearch, OnlyCounts, Counted, Descends, Took, Went, count_torn, count_lost};
+ghost use Rattle.cases.specs.Search.{case_in, others, pending, subject_of, SameSearch, OnlyCounts, Counted, Descends, Took, Went, LeafValue, Ran, FoundCases, count_torn, count_lost};
 
 use crate::bits::has;
 use crate::cut::Cut;
@@ -27,13 +27,16 @@ pub(crate) struct Frame {
     pub(crate) groups: ArrayVec<u16, 16>,
 }
 
-/// A program that is run on the representatives of cases.
+/// A program that is run on the representatives of cases, and is told which of them are leaves.
 pub trait Judge {
     /// What it ends in on a device, and at which sectors it looks there, in their order.
     ghost program: { Self → Program };
 
     /// What its last run ended in.
     ghost ending: { Self → Ending };
+
+    /// The leaves that it was told of, in order.
+    ghost leaves: { Self → List LeafValue };
 
     /// Runs it on the image of the representative of a case, and answers which part splits the case: the first one of the sectors at
     /// which the program looked, however many these are.
@@ -45,8 +48,15 @@ pub trait Judge {
     ) -> Result<Option<Parted>, AllocError>
         requires { length sets.now ≡ length (parts_of cut.now) }
         ensures same { program self.new ≡ program self.old }
+        ensures kept { leaves self.new ≡ leaves self.old }
         ensures ending { OnOk result (ending self.new ≡ (program self.old).ending (image_of cut.now (case_of tears (parts_of cut.now) sets.now))) }
         ensures split { IfOk result (λ found. IsFound (parts_of cut.now) found (split_at cut.now (program self.old) (case_of tears (parts_of cut.now) sets.now))) };
+
+    /// Is told that a case is a leaf. Its last run was on the representative of it.
+    fn tell(&mut self, cut: &Cut<'_>, sets: &[u16]) -> Result<(), AllocError>
+        requires { length sets.now ≡ length (parts_of cut.now) }
+        ensures same { program self.new ≡ program self.old }
+        ensures told { OnOk result (leaves self.new ≡ leaves self.old ++ record { sets = sets.now; ending = ending self.old } ∷ []) };
 }
 
 /// All that may become of a part, as a set.
@@ -164,6 +174,7 @@ fn descend<J: Judge>(
     ensures sets { length sets.new.items ≡ length sets.old.items }
     ensures frames { All (λ (f : Framed). f.part < length sets.new.items) frames.new.items }
     ensures same { J.program judge.new ≡ J.program judge.old }
+    ensures kept { J.leaves judge.new ≡ J.leaves judge.old }
     ensures ending { OnOk result (J.ending judge.new ≡ (J.program judge.old).ending (image_of cut.now (case_of tears (parts_of cut.now) sets.new.items))) }
     ensures leads { (torn : ℕ) (lost : Option ℕ) → OnOk result (Descends (record { at = cut.now; torn = torn; lost = lost }) (J.program judge.old) tears sets.old.items (reverse frames.old.items) sets.new.items (reverse frames.new.items)) }
 {
@@ -221,6 +232,7 @@ impl<'a> Search<'a> {
         lost: Option<u32>,
     ) -> Result<Search<'a>, AllocError>
         ensures asked { IfOk result (λ search. search.asked ≡ record { at = cut.now; torn = torn; lost = lost }) }
+        ensures tears { IfOk result (λ search. search.tears ≡ tears) }
         ensures pending { IfOk result (λ search. pending search ≡ whole_case tears ∷ []) }
         ensures none { IfOk result (λ search. (search.torn_beyond ≡ 0) × (search.lost_beyond ≡ 0)) }
     {
@@ -328,6 +340,7 @@ impl<'a> Search<'a> {
     pub fn next<J: Judge>(&mut self, judge: &mut J) -> Result<bool, AllocError>
         ensures same { SameSearch self.old self.new }
         ensures program { J.program judge.new ≡ J.program judge.old }
+        ensures kept { J.leaves judge.new ≡ J.leaves judge.old }
         ensures went { IfOk result (Went (subject_of self.old.asked (J.program judge.old)) self.old self.new) }
         ensures ending { IfOk result (λ found. IsTrue found → J.ending judge.new ≡ ending_of (subject_of self.old.asked (J.program judge.old)) (representative (case_in self.new))) }
     {
@@ -343,6 +356,64 @@ impl<'a> Search<'a> {
         )?;
         Ok(true)
     }
+
+    /// Tells a judge that the case of the last leaf is one.
+    fn tell<J: Judge>(&self, judge: &mut J) -> Result<(), AllocError>
+        ensures program { J.program judge.new ≡ J.program judge.old }
+        ensures told { OnOk result (J.leaves judge.new ≡ J.leaves judge.old ++ record { sets = self.now.sets; ending = J.ending judge.old } ∷ []) }
+    {
+        let _parts = self.cut.parts();
+        judge.tell(self.cut, self.sets.as_slice())
+    }
+
+    /// Goes on from leaf to leaf, so many at most, and tells a judge of each. Answers `true` where there is no other leaf, and `false`
+    /// where it told so many, of which the last may be the last of all.
+    pub fn run<J: Judge>(&mut self, judge: &mut J, most: u32) -> Result<bool, AllocError>
+        ensures same { SameSearch self.old self.new }
+        ensures program { J.program judge.new ≡ J.program judge.old }
+        ensures ran { OnOk result (Ran (subject_of self.old.asked (J.program judge.old)) self.old self.new (J.leaves judge.old) (J.leaves judge.new)) }
+        ensures ended { IfOk result (λ ended. IsTrue ended → pending self.new ≡ []) }
+        ensures many { IfOk result (λ ended. IsFalse ended → length (J.leaves judge.new) ≡ length (J.leaves judge.old) + most) }
+    {
+        for count in 0..most {
+            if !self.next(judge)? {
+                return Ok(true);
+            }
+            self.tell(judge)?;
+        }
+        Ok(false)
+    }
+}
+
+/// How many cases were left out, since more parts are torn in them than is asked, or else since more are lost, each up to what the
+/// number holds.
+#[derive(Clone, Copy)]
+pub struct Beyond {
+    /// How many are torn in more parts.
+    pub torn: u64,
+    /// How many others are lost in more parts.
+    pub lost: u64,
+}
+
+/// Tells a judge of the leaves of a cut, which are so many at most, and answers how many cases were left out: none where it is complete.
+/// Answers `None` where it told so many leaves, and there may be others.
+///
+/// # Errors
+///
+/// Memory was refused.
+pub fn find_cases<J: Judge>(alloc: Global, cut: &Cut<'_>, tears: bool, torn: u32, lost: Option<u32>, most: u32, judge: &mut J) -> Result<Option<Beyond>, AllocError>
+    ensures program { J.program judge.new ≡ J.program judge.old }
+    ensures found { IfOk result (λ found. MatchOption found (length (J.leaves judge.new) ≡ length (J.leaves judge.old) + most)
+        (λ beyond. FoundCases (subject_of (record { at = cut.now; torn = torn; lost = lost }) (J.program judge.old)) tears cut.now (J.leaves judge.old) (J.leaves judge.new) beyond.torn beyond.lost)) }
+{
+    let mut search = Search::new(alloc, cut, tears, torn, lost)?;
+    if !search.run(judge, most)? {
+        return Ok(None);
+    }
+    Ok(Some(Beyond {
+        torn: search.torn_beyond(),
+        lost: search.lost_beyond(),
+    }))
 }
 
 /// Whether a number is more than a bound, if there is one.
