@@ -16,7 +16,7 @@ use Rattle.choices.specs.declared.fate.Fate.{Fate}
 use Rattle.choices.specs.Choices.{nowhere}
 use Rattle.cases.specs.declared.split.Parted.{Parted}
 use Rattle.cases.specs.declared.search.Frame.{Frame}
-use Rattle.cases.specs.Cases.{Case, whole_case, is_same, with_part, firsts, kinds, show_alike, Split}
+use Rattle.cases.specs.Cases.{Case, whole_case, is_same, with_part, firsts, kinds, show_alike}
 use Rattle.cases.specs.Trees.{Program, Subject, is_torn, is_lost, surely, is_within, AreLeaves, is_beyond, is_leaf, is_split}
 use Rattle.cases.specs.Choices.{all_fates}
 use Rattle.cases.specs.Sets.{fates_in, numbers_in, all_torn, all_lost}
@@ -24,7 +24,7 @@ use Rattle.cases.specs.AtCut.{CutValue, Apart, parts_of, case_of, split_by, spli
 use Rattle.cases.specs.Search.{Asked, subject_of, SearchValue, pending, others, Leads, Descends, Took, Went, case_in, count_torn, count_lost, is_torn_beyond, plus, IsSearch, SameSearch, OnlyCounts, Counted}
 use Rattle.cases.proofs.Cases.{IsSplit, first_is, shown_kinds}
 use Rattle.cases.proofs.Distinct.{apart_risky}
-use Rattle.cases.proofs.Chosen.{case_there, case_with, count_in_case, count_same, torn_all, lost_all, torn_first, lost_first, FirstGroup, first_group, count_set_le}
+use Rattle.cases.proofs.Chosen.{case_there, case_with, count_in_case, count_same, torn_all, lost_all, torn_first, lost_first, first_group, count_set_le}
 
 pub reverse_push : {A : Type 0} (xs : List A) (x : A) → reverse (xs ++ x ∷ []) ≡ x ∷ reverse xs
 reverse_push [] x = refl

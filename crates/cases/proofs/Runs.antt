@@ -1,15 +1,14 @@
 -- Of a whole run from leaf to leaf.
-use Rattle.std.proofs.Common.{ℕ, zero, suc, ◌≡◌, ◌+◌, ◌^◌, ◌-◌, min, Bool, true, false, not, if◌then◌else◌, List, [], ◌∷◌, ◌++◌, length, map, count_by, refl, sym, subst, ◌∙◌, ap, arith, append_assoc, add-one}
+use Rattle.std.proofs.Common.{ℕ, zero, suc, ◌≡◌, ◌+◌, ◌^◌, ◌-◌, min, Bool, true, false, not, if◌then◌else◌, List, [], ◌∷◌, ◌++◌, length, map, count_by, refl, sym, subst, ◌∙◌, ap, arith, append_assoc}
 use Rattle.std.specs.List.{All}
 use Rattle.std.proofs.lemmas.List.{append-nil, map-append, length-append}
 use Rattle.std.proofs.lemmas.List.Elements.{All-push, All-nil}
 use Rattle.std.proofs.lemmas.List.Sums.{sum_by-append}
 use Rattle.machine.specs.Outcome.{Ending}
-use Rattle.epochs.specs.declared.part.Part.{Part}
 use Rattle.cases.specs.Cases.{Case, whole_case, representative}
-use Rattle.cases.specs.AtCut.{CutValue, parts_of, case_of}
+use Rattle.cases.specs.AtCut.{parts_of, case_of}
 use Rattle.cases.specs.Trees.{Program, Subject, ending_of, AreLeaves, no_case}
-use Rattle.cases.specs.Search.{Asked, subject_of, SearchValue, pending, case_in, Leads, SameSearch, Went, is_torn_beyond, plus, LeafValue, leaf_case, EndsSo, Ran, FoundCases}
+use Rattle.cases.specs.Search.{Asked, subject_of, SearchValue, pending, case_in, SameSearch, Went, is_torn_beyond, plus, LeafValue, leaf_case, EndsSo, Ran, FoundCases}
 
 plus_plus : (n a b : ℕ) → plus (plus n a) b ≡ plus n (a + b)
 plus_plus n a zero = let same : a ≡ a + 0 = omega arith in ap (plus n) same

@@ -1,6 +1,6 @@
 -- The first part of a row, and of some sectors, that splits a case.
-use Rattle.std.proofs.Common.{ℕ, zero, suc, ◌≡◌, ◌+◌, ◌<◌, ◌≤◌, nat_lt, Bool, true, false, not, ◌&&◌, if◌then◌else◌, List, [], ◌∷◌, length, map, filter, drop, slice_get, slice_index_or, Option, None, Some, refl, sym, subst, ◌∙◌, ap, arith, add-one}
-use Rattle.std.specs.List.{range_with_len, list_all}
+use Rattle.std.proofs.Common.{ℕ, suc, ◌≡◌, ◌+◌, ◌<◌, ◌≤◌, nat_lt, Bool, true, false, not, if◌then◌else◌, List, [], ◌∷◌, length, map, filter, drop, slice_get, slice_index_or, Option, None, Some, refl, sym, ◌∙◌, ap, arith, add-one}
+use Rattle.std.specs.List.{range_with_len}
 use Rattle.std.proofs.lemmas.Bool.Decides.{nat_tests}
 use Rattle.std.proofs.lemmas.List.{length-map, drop_all}
 use Rattle.std.proofs.Math.Seq.{drop-cons}
@@ -12,11 +12,11 @@ use Rattle.epochs.specs.declared.part.By.{By}
 use Rattle.choices.specs.declared.fate.Fate.{Fate}
 use Rattle.choices.specs.Choices.{nowhere}
 use Rattle.cases.specs.declared.split.Parted.{Parted}
-use Rattle.cases.specs.Risk.{is_at_risk, parts_at_risk}
+use Rattle.cases.specs.Risk.{is_at_risk}
 use Rattle.cases.specs.Rows.{row, part_with, shows}
 use Rattle.cases.specs.Cases.{Case, Split, show_alike, firsts, kinds, matters, split_or, split_in_row, first_split, or_else}
 use Rattle.cases.specs.Sets.{fates_in, pieces_in, numbers_in}
-use Rattle.cases.specs.AtCut.{CutValue, parts_of, Apart, case_of, split_by, IsFound}
+use Rattle.cases.specs.AtCut.{CutValue, parts_of, Apart, case_of, split_by}
 use Rattle.cases.specs.Table.{IsNext}
 use Rattle.cases.proofs.Chosen.{case_there}
 

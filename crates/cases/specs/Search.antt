@@ -1,19 +1,13 @@
 -- The search for the leaves: a case as a set for each part at risk, and what is still to be explored.
-use Rattle.std.specs.Prelude.{ℕ, zero, suc, ◌≡◌, ◌+◌, ◌-◌, ◌^◌, ◌<◌, ◌≤◌, min, nat_le, Bool, true, false, not, ◌&&◌, if◌then◌else◌, List, [], ◌∷◌, ◌++◌, length, map, reverse, set, count_by, slice_index_or, Option, None, Some, MatchOption, IsTrue, IsFalse, All}
-use Rattle.logfmt.specs.Bounds.{LogValue, IsLog}
+use Rattle.std.specs.Prelude.{ℕ, zero, suc, ◌≡◌, ◌+◌, ◌-◌, ◌^◌, ◌<◌, ◌≤◌, min, nat_le, Bool, true, not, ◌&&◌, if◌then◌else◌, List, [], ◌∷◌, ◌++◌, length, map, reverse, set, count_by, Option, IsTrue, IsFalse, All}
 use Rattle.epochs.specs.declared.part.Part.{Part}
-use Rattle.epochs.specs.declared.part.By.{By}
-use Rattle.choices.specs.Choices.{nowhere}
-use Rattle.cases.specs.declared.split.Parted.{Parted}
 use Rattle.cases.specs.declared.search.Frame.{Frame}
-use Rattle.cases.specs.Risk.{parts_at_risk}
-use Rattle.cases.specs.Choices.{image_at}
-use Rattle.cases.specs.Cases.{Case, whole_case, representative, is_same, Split, first_split}
+use Rattle.cases.specs.Cases.{Case, representative}
 use Rattle.cases.specs.AtCut.{CutValue, parts_of, case_of}
 use Rattle.machine.specs.Outcome.{Ending}
 use Rattle.cases.specs.Trees.{Program, Subject, ending_of, is_torn, surely, is_within, AreLeaves}
 use Rattle.cases.specs.Laws.{AreCases}
-use Rattle.cases.specs.Sets.{fates_in, all_torn, all_lost}
+use Rattle.cases.specs.Sets.{all_torn, all_lost}
 
 -- What is still to be explored beside a case: the groups of each part that was split which weren't taken yet, the last split first.
 -- All else is as it stood when the split was made.

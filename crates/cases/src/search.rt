@@ -401,7 +401,15 @@ pub struct Beyond {
 /// # Errors
 ///
 /// Memory was refused.
-pub fn find_cases<J: Judge>(alloc: Global, cut: &Cut<'_>, tears: bool, torn: u32, lost: Option<u32>, most: u32, judge: &mut J) -> Result<Option<Beyond>, AllocError>
+pub fn find_cases<J: Judge>(
+    alloc: Global,
+    cut: &Cut<'_>,
+    tears: bool,
+    torn: u32,
+    lost: Option<u32>,
+    most: u32,
+    judge: &mut J,
+) -> Result<Option<Beyond>, AllocError>
     ensures program { J.program judge.new ≡ J.program judge.old }
     ensures found { IfOk result (λ found. MatchOption found (length (J.leaves judge.new) ≡ length (J.leaves judge.old) + most)
         (λ beyond. FoundCases (subject_of (record { at = cut.now; torn = torn; lost = lost }) (J.program judge.old)) tears cut.now (J.leaves judge.old) (J.leaves judge.new) beyond.torn beyond.lost)) }

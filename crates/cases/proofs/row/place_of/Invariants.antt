@@ -1,4 +1,4 @@
-use Rattle.std.proofs.Common.{◌≡◌, drop}
+use Rattle.std.proofs.Common.{drop}
 use Rattle.cases.specs.Laws.{IsAmong}
 use Rattle.cases.proofs.row.place_of.Given as goal
 

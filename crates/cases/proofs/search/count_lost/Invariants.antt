@@ -1,4 +1,4 @@
-use Rattle.std.proofs.Common.{◌≡◌, ◌≤◌, take, length}
+use Rattle.std.proofs.Common.{◌≡◌, ◌≤◌, take}
 use Rattle.cases.specs.Search.{count_lost}
 use Rattle.cases.proofs.search.count_lost.Given as goal
 

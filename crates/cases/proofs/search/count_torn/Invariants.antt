@@ -1,4 +1,4 @@
-use Rattle.std.proofs.Common.{◌≡◌, ◌≤◌, take, length}
+use Rattle.std.proofs.Common.{◌≡◌, ◌≤◌, take}
 use Rattle.cases.specs.Search.{count_torn}
 use Rattle.cases.proofs.search.count_torn.Given as goal
 

@@ -1,4 +1,4 @@
-use Rattle.std.proofs.Common.{ap, ◌∙◌, sym}
+use Rattle.std.proofs.Common.{◌∙◌}
 use Rattle.cases.proofs.Paths.{gone_more, gone_all, found_some, found_none}
 use Rattle.cases.proofs.search.descend.Goals as goal
 

@@ -1,4 +1,4 @@
-use Rattle.std.proofs.Common.{ℕ, List, ◌++◌, ◌∷◌, [], reverse, set, sym, subst, ◌∙◌, ap, refl}
+use Rattle.std.proofs.Common.{List, ◌∷◌, reverse, set, sym, subst, ◌∙◌, ap, refl}
 use Rattle.cases.specs.declared.search.Frame.{Frame}
 use Rattle.cases.specs.AtCut.{case_of}
 use Rattle.cases.specs.Search.{others}

@@ -1,9 +1,6 @@
-use Rattle.std.proofs.Common.{◌≡◌, ◌<◌, ◌+◌, None, drop, length, refl, ◌∙◌, ap, arith}
-use Rattle.std.specs.List.{range_with_len}
+use Rattle.std.proofs.Common.{◌≡◌, ◌<◌, None, length, refl, ◌∙◌, arith}
 use Rattle.std.proofs.lemmas.Option.{MatchOption-at_none}
-use Rattle.cases.specs.Rows.{row}
-use Rattle.cases.specs.Cases.{split_in_row, first_split, or_else}
-use Rattle.cases.specs.AtCut.{parts_of, case_of, split_by}
+use Rattle.cases.specs.AtCut.{parts_of, case_of}
 use Rattle.cases.specs.declared.split.Parted.{Parted}
 use Rattle.cases.proofs.Splitting.{sectors_next, sectors_end}
 use Rattle.cases.proofs.cut.Cut.first_split.Goals as goal

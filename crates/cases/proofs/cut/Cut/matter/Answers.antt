@@ -4,7 +4,6 @@ use Rattle.logfmt.specs.Bounds.{LogValue}
 use Rattle.logfmt.specs.Initial.{initial_sector}
 use Rattle.epochs.specs.Units.{unit_content}
 use Rattle.cases.specs.Rows.{row}
-use Rattle.cases.specs.Risk.{is_at_risk}
 use Rattle.cases.specs.Table.{IsNext}
 use Rattle.cases.proofs.Mattering.{matter_ends, matter_all}
 use Rattle.cases.proofs.cut.Cut.matter.Goals as goal

@@ -1,7 +1,7 @@
-use Rattle.std.proofs.Common.{ℕ, ◌≡◌, ◌<◌, ◌≤◌, [], length, refl, sym, subst, ◌∙◌, ap, arith}
+use Rattle.std.proofs.Common.{◌≡◌, ◌<◌, ◌≤◌, [], length, refl, sym, subst, ◌∙◌, ap, arith}
 use Rattle.std.proofs.lemmas.Option.{MatchOption-at_none, slice_get_within}
 use Rattle.logfmt.specs.Bounds.{LogValue}
-use Rattle.cases.specs.Rows.{row, part_with}
+use Rattle.cases.specs.Rows.{row}
 use Rattle.cases.specs.AtCut.{parts_of}
 use Rattle.cases.specs.Table.{IsNext}
 use Rattle.cases.proofs.Splitting.{RowSo, UnitSo, row_start, row_ended, row_shown, row_durable, row_found, row_passed}

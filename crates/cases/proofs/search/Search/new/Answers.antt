@@ -1,6 +1,5 @@
-use Rattle.std.proofs.Common.{List, ◌≡◌, ◌∷◌, length, reverse, ◌∙◌, ap}
-use Rattle.cases.specs.declared.search.Frame.{Frame}
-use Rattle.cases.specs.Cases.{Case, whole_case}
+use Rattle.std.proofs.Common.{◌≡◌, ◌∷◌, length, reverse, ◌∙◌, ap}
+use Rattle.cases.specs.Cases.{whole_case}
 use Rattle.cases.specs.AtCut.{parts_of, case_of}
 use Rattle.cases.specs.Search.{others}
 use Rattle.cases.proofs.Paths.{new_case}

@@ -1,4 +1,4 @@
-use Rattle.std.proofs.Common.{reverse, sym, subst, ◌∙◌, ap}
+use Rattle.std.proofs.Common.{reverse, subst, ◌∙◌, ap}
 use Rattle.cases.specs.Search.{Asked, SearchValue, subject_of, Descends, Took}
 use Rattle.cases.proofs.Paths.{went_none, went_found}
 use Rattle.cases.proofs.search.Search.next.Goals as goal

@@ -1,4 +1,4 @@
-use Rattle.std.proofs.Common.{◌≡◌, ◌+◌, ◌++◌, ◌∷◌, [], List, length, refl, sym, subst, ◌∙◌, ap, arith}
+use Rattle.std.proofs.Common.{◌≡◌, ◌++◌, ◌∷◌, [], List, refl, subst, ◌∙◌, ap, arith}
 use Rattle.cases.specs.Cases.{representative}
 use Rattle.cases.specs.Trees.{Program, ending_of}
 use Rattle.cases.specs.Search.{subject_of, case_in, Went, LeafValue}

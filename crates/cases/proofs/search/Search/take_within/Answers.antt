@@ -1,4 +1,4 @@
-use Rattle.std.proofs.Common.{sym, ◌∙◌}
+use Rattle.std.proofs.Common.{◌∙◌}
 use Rattle.cases.specs.Search.{subject_of}
 use Rattle.cases.proofs.Paths.{took_one, passed_one, took_none}
 use Rattle.cases.proofs.search.Search.take_within.Goals as goal
