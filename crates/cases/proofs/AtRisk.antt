@@ -80,6 +80,17 @@ risk_told es k e flush x ready le lt flush_is there ready_is =
     by_ready true = refl
     by_ready false = refl
 
+-- no entry before the last flush entry is at risk
+pub flushed : (es : List Entry) (k e : ℕ) → k ≤ length es → e < last_flush es k → is_at_risk es k e ≡ false
+flushed es k e le less =
+    let low = Rattle.epochs.proofs.Runs.last_flush_le es k in
+    let late : nat_le (last_flush es k) e ≡ false = grind (arith, nat_tests, less) in
+    ap (λ b. (not (is_forced es e) || (e + 1 == k)) && b) (flush_told es e k le (omega (arith, low, less)) ∙ late) ∙ and_no (not (is_forced es e) || (e + 1 == k))
+  where
+    and_no : (b : Bool) → (b && false) ≡ false
+    and_no true = refl
+    and_no false = refl
+
 -- the parts of an entry, one after the other
 
 pub put_one : {A : Type 0} (f : ℕ → A) (front xs more : List A) (n : ℕ) (x : A) → xs ≡ front ++ map f (range_with_len 0 n) → more ≡ xs ++ x ∷ [] → x ≡ f n

@@ -580,7 +580,7 @@ reverse_among (y ∷ xs) x is =
     of_last (inl same) = inl same
     of_last (inr none) = absurd none
 
-row_units : (es : List Entry) (k s : ℕ) (u : LogUnit) → IsAmong (row es k s) u → IsAmong (units_before es k) u
+pub row_units : (es : List Entry) (k s : ℕ) (u : LogUnit) → IsAmong (row es k s) u → IsAmong (units_before es k) u
 unfolding covering
 row_units es k s u is = reverse_among (units_before es k) u (among_kept (λ (v : LogUnit). v.sector == s) (reverse (units_before es k)) u is).0
 

@@ -1,5 +1,5 @@
 -- The first part of a row, and of some sectors, that splits a case.
-use Rattle.std.proofs.Common.{ℕ, suc, ◌≡◌, ◌+◌, ◌<◌, ◌≤◌, nat_lt, Bool, true, false, not, if◌then◌else◌, List, [], ◌∷◌, length, map, filter, drop, slice_get, slice_index_or, Option, None, Some, refl, sym, ◌∙◌, ap, arith, add-one}
+use Rattle.std.proofs.Common.{ℕ, suc, ◌≡◌, ◌+◌, ◌<◌, ◌≤◌, nat_lt, Bool, true, false, not, if◌then◌else◌, List, [], ◌∷◌, length, map, filter, drop, slice_get, slice_index_or, Option, None, Some, refl, sym, ◌∙◌, ap, arith, add-one, inl}
 use Rattle.std.specs.List.{range_with_len}
 use Rattle.std.proofs.lemmas.Bool.Decides.{nat_tests}
 use Rattle.std.proofs.lemmas.List.{length-map, drop_all}
@@ -18,6 +18,11 @@ use Rattle.cases.specs.Cases.{Case, Split, show_alike, firsts, kinds, matters, s
 use Rattle.cases.specs.Sets.{fates_in, pieces_in, numbers_in}
 use Rattle.cases.specs.AtCut.{CutValue, parts_of, Apart, case_of, split_by}
 use Rattle.cases.specs.Table.{IsNext}
+use Rattle.epochs.specs.Laws.{last_flush}
+use Rattle.epochs.proofs.Runs.{last_flush_le}
+use Rattle.cases.specs.Laws.{IsAmong}
+use Rattle.cases.proofs.AtRisk.{flushed}
+use Rattle.cases.proofs.Rows.{unit_before, row_units}
 use Rattle.cases.proofs.Chosen.{case_there}
 
 -- of no pieces no part tells anything
@@ -78,17 +83,38 @@ pub record RowSo (at : CutValue) (s : ℕ) (sets : List ℕ) (wanted cut : ℕ) 
       → split_in_row at.log at.way at.cut s (case_of tears (parts_of at) sets) (row at.log.entries at.cut s) (range_with_len 0 8)
       ≡ split_in_row at.log at.way at.cut s (case_of tears (parts_of at) sets) (row at.log.entries cut s) (pieces_in wanted)
   pub low : cut ≤ at.cut
+  pub high : last_flush at.log.entries at.cut ≤ cut
 
 pub row_start : (at : CutValue) (s : ℕ) (sets : List ℕ) → RowSo at s sets 255 at.cut
 row_start at s sets = record {
   so = λ tears. ap (split_in_row at.log at.way at.cut s (case_of tears (parts_of at) sets) (row at.log.entries at.cut s)) (sym pieces_all);
   low = omega arith;
+  high = last_flush_le at.log.entries at.cut;
 }
 
-pub row_ended : (at : CutValue) (s : ℕ) (sets : List ℕ) (wanted cut : ℕ) → RowSo at s sets wanted cut → row at.log.entries cut s ≡ []
+-- what stands before the last flush entry isn't at risk
+flushed_row : (log : LogValue) (way : By) (k s : ℕ) (c : Case) (us : List LogUnit) (wanted : List ℕ) → k ≤ length log.entries
+    → ((u : LogUnit) → IsAmong us u → u.entry < last_flush log.entries k) → split_in_row log way k s c us wanted ≡ None
+flushed_row log way k s c [] wanted le all = refl
+flushed_row log way k s c (u ∷ below) wanted le all =
+    let p : Part = part_with way log.entries u in
+    ap (λ b. if b then split_or (split_in_row log way k s c below) p u (filter (matters log k s u below) wanted) (c p) else None) (flushed log.entries k u.entry le (all u (inl refl)))
+
+pub row_flushed : (at : CutValue) (s : ℕ) (sets : List ℕ) (wanted cut : ℕ) → RowSo at s sets wanted cut → at.cut ≤ length at.log.entries
+    → row at.log.entries cut s ≡ row at.log.entries (last_flush at.log.entries at.cut) s
     → (tears : Bool) → split_in_row at.log at.way at.cut s (case_of tears (parts_of at) sets) (row at.log.entries at.cut s) (range_with_len 0 8) ≡ None
-row_ended at s sets wanted cut before none tears =
-    before.so tears ∙ ap (λ us. split_in_row at.log at.way at.cut s (case_of tears (parts_of at) sets) us (pieces_in wanted)) none
+row_flushed at s sets wanted cut before le none tears =
+    let c : Case = case_of tears (parts_of at) sets in
+    let m : ℕ = last_flush at.log.entries at.cut in
+    let low = last_flush_le at.log.entries at.cut in
+    before.so tears
+    ∙ ap (λ us. split_in_row at.log at.way at.cut s c us (pieces_in wanted)) none
+    ∙ flushed_row at.log at.way at.cut s c (row at.log.entries m s) (pieces_in wanted) le
+    (λ u among.
+    let was = unit_before at.log.entries m u (omega (arith, low, le)) (row_units at.log.entries m s u among) in
+    let entry : was.entry ≡ u.entry = ap (λ (v : LogUnit). v.entry) was.is in
+    let less = was.before in
+    omega (arith, entry, less))
 
 pub row_shown : (at : CutValue) (s : ℕ) (sets : List ℕ) (wanted cut : ℕ) → RowSo at s sets wanted cut → wanted ≡ 0
     → (tears : Bool) → split_in_row at.log at.way at.cut s (case_of tears (parts_of at) sets) (row at.log.entries at.cut s) (range_with_len 0 8) ≡ None
@@ -154,8 +180,8 @@ pub row_passed : (at : CutValue) (s : ℕ) (sets : List ℕ) (wanted cut : ℕ) 
     → RowSo at s sets wanted cut → UnitSo at s sets wanted cut u number pieces → part ≡ part_with at.way at.log.entries u → set ≡ slice_index_or sets number 0
     → map fates_in groups ≡ kinds (show_alike part u (pieces_in pieces)) (fates_in set) → length groups ≤ 1
     → pieces_in next ≡ filter (λ i. not (shows (slice_index_or (fates_in set) 0 None) part u i)) (pieces_in pieces)
-    → RowSo at s sets next u.entry
-row_passed at s sets wanted cut u number pieces set next part groups before unit own held are few hidden =
+    → last_flush at.log.entries at.cut ≤ u.entry → RowSo at s sets next u.entry
+row_passed at s sets wanted cut u number pieces set next part groups before unit own held are few hidden behind =
     let p : Part = part_with at.way at.log.entries u in
     let fates : List (Option Fate) = fates_in (slice_index_or sets number 0) in
     let kinds_are : map fates_in groups ≡ kinds (show_alike p u (pieces_in pieces)) fates = are ∙ (λ i. kinds (show_alike (own i) u (pieces_in pieces)) (fates_in (held i))) in
@@ -167,6 +193,7 @@ row_passed at s sets wanted cut u number pieces set next part groups before unit
           ∙ not_parted (split_in_row at.log at.way at.cut s (case_of tears (parts_of at) sets) (row at.log.entries u.entry s)) p u (pieces_in pieces) fates groups kinds_are few
           ∙ ap (split_in_row at.log at.way at.cut s (case_of tears (parts_of at) sets) (row at.log.entries u.entry s)) left;
       low = let one = unit.next.before in let two = before.low in omega (arith, one, two);
+      high = behind;
     }
 
 -- of some sectors, one after the other

@@ -193,6 +193,14 @@ impl<'a> Cut<'a> {
         self.number
     }
 
+    /// The last flush entry before the cut, or 0. No entry before it is at risk.
+    pub(crate) fn flush(&self) -> u32
+        ensures value { result ≡ last_flush self.now.log.entries self.now.cut }
+        ensures low { result ≤ self.now.cut }
+    {
+        self.flush
+    }
+
     /// Whether a crash may take something of an entry.
     pub(crate) fn risks(&self, number: u32) -> bool
         requires { number < self.now.cut }

@@ -1,6 +1,6 @@
 //! The row of a sector at a cut, from the last unit down, and the part in it that splits a case.
 
-ghost use Rattle.std.specs.Prelude.{◌≡◌, ◌+◌, ◌*◌, ◌<◌, ◌≤◌, ◌&&◌, ◌||◌, ℕ, Bool, true, [], length, slice_get, slice_range, filter, Some, MatchOption};
+ghost use Rattle.std.specs.Prelude.{◌≡◌, ◌+◌, ◌*◌, ◌<◌, ◌≤◌, ◌&&◌, ◌||◌, ℕ, Bool, true, [], length, slice_get, slice_range, filter, Some, IsTrue, IfSome, MatchOption};
 ghost use Rattle.std.specs.List.{range_with_len};
 ghost use Rattle.epochs.specs.Units.{unit_content};
 ghost use Rattle.epochs.specs.Plan.{IsUnit};
@@ -41,14 +41,16 @@ fn unit_over(entry: &Entry, number: u32, sector: u32) -> Option<Unit>
     })
 }
 
-/// The last unit before a cut that covers a sector. It goes down entry by entry.
-fn last_over(log: &Log, cut: u32, sector: u32) -> Option<Unit>
-    requires { cut ≤ length log.now.entries }
-    ensures { MatchOption result (row log.now.entries cut sector ≡ []) (IsNext log.now cut sector) }
+/// The last unit before a cut, and not before another, that covers a sector. It goes down entry by entry.
+fn last_over(log: &Log, floor: u32, cut: u32, sector: u32) -> Option<Unit>
+    requires floor { floor ≤ cut }
+    requires cut { cut ≤ length log.now.entries }
+    ensures next { MatchOption result (row log.now.entries cut sector ≡ row log.now.entries floor sector) (IsNext log.now cut sector) }
+    ensures low { IfSome result (λ unit. floor ≤ unit.entry) }
 {
     let entries = log.entries();
     let mut number = cut;
-    while number > 0 {
+    while number > floor {
         number -= 1;
         if let Some(unit) = unit_over(&entries[number as usize], number, sector) {
             return Some(unit);
@@ -112,11 +114,33 @@ fn is_same(part: Part, other: Part) -> bool
         && (part.place == other.place && (part.count == other.count && part.sector == other.sector))
 }
 
+/// Whether a part stands at a place of a list.
+fn stands_at(parts: &[Part], place: usize, part: Part) -> bool
+    ensures { IsTrue result → slice_get parts.now place ≡ Some part }
+{
+    match parts.get(place) {
+        Some(other) => is_same(part, *other),
+        None => false,
+    }
+}
+
+/// Where a part stands among the parts at risk, which rise by entry and then by place. No contract says so, and who asks has to look.
+fn guess_of(parts: &[Part], part: Part) -> usize {
+    let entry = part.entry;
+    parts
+        .partition_point(|other| other.entry < entry)
+        .saturating_add(part.place as usize)
+}
+
 /// The place of a part in a list.
 fn place_of(parts: &[Part], part: Part) -> usize
     requires { IsAmong parts.now part }
     ensures { slice_get parts.now result ≡ Some part }
 {
+    let guess = guess_of(parts, part);
+    if stands_at(parts, guess, part) {
+        return guess;
+    }
     for (place, other) in parts.iter().enumerate() {
         if is_same(part, *other) {
             return place;
@@ -159,7 +183,7 @@ impl<'a> Cut<'a> {
         let content = content_of(self.log(), unit);
         let mut found = 0;
         let mut cut = unit.entry;
-        'below: while let Some(below) = last_over(self.log(), cut, unit.sector) {
+        'below: while let Some(below) = last_over(self.log(), 0, cut, unit.sector) {
             found = differing(content, content_of(self.log(), below), pieces, found);
             if !self.risks(below.entry) {
                 return found;
@@ -197,9 +221,10 @@ impl<'a> Cut<'a> {
         ensures { (tears : Bool) → IsFound (parts_of self.now) result (split_in_row self.now.log self.now.way self.now.cut sector (case_of tears (parts_of self.now) sets.now) (row self.now.log.entries self.now.cut sector) (range_with_len 0 8)) }
     {
         let mut wanted = 255;
+        let flush = self.flush();
         let mut cut = self.number();
         'row: while wanted != 0 {
-            let Some(unit) = last_over(self.log(), cut, sector) else {
+            let Some(unit) = last_over(self.log(), flush, cut, sector) else {
                 return None;
             };
             if !self.risks(unit.entry) {

@@ -4,7 +4,7 @@ use Rattle.logfmt.specs.Bounds.{LogValue}
 use Rattle.cases.specs.Rows.{row}
 use Rattle.cases.specs.AtCut.{parts_of}
 use Rattle.cases.specs.Table.{IsNext}
-use Rattle.cases.proofs.Splitting.{RowSo, UnitSo, row_start, row_ended, row_shown, row_durable, row_found, row_passed}
+use Rattle.cases.proofs.Splitting.{RowSo, UnitSo, row_start, row_flushed, row_shown, row_durable, row_found, row_passed}
 use Rattle.cases.proofs.cut.Cut.split_in_row.Goals as goal
 
 pub row-init : goal.row-init
@@ -13,15 +13,17 @@ row-init c =
 
 pub returns-in_default : goal.returns-in_default
 returns-in_default c =
-    let none : row c.log.result.now.entries c.row.cut c.args.sector ≡ [] =
-    MatchOption-at_none (row c.log.result.now.entries c.row.cut c.args.sector ≡ []) (IsNext c.log.result.now c.row.cut c.args.sector) c.in_default.is c.last_over.ensures in
-    row_ended c.args.self.now c.args.sector c.args.sets.now c.row.wanted c.row.cut c.row.invariant
-    (sym (ap (λ (l : LogValue). row l.entries c.row.cut c.args.sector) c.log.ensures.value) ∙ none)
+    let none : row c.log.result.now.entries c.row.cut c.args.sector ≡ row c.log.result.now.entries c.flush-flush.result c.args.sector =
+    MatchOption-at_none (row c.log.result.now.entries c.row.cut c.args.sector ≡ row c.log.result.now.entries c.flush-flush.result c.args.sector) (IsNext c.log.result.now c.row.cut c.args.sector) c.in_default.is c.last_over.ensures.next in
+    row_flushed c.args.self.now c.args.sector c.args.sets.now c.row.wanted c.row.cut c.row.invariant
+    c.log.ensures.within
+    (sym (ap (λ (l : LogValue). row l.entries c.row.cut c.args.sector) c.log.ensures.value) ∙ none
+    ∙ (λ i. row (c.log.ensures.value i).entries (c.flush-flush.ensures.value i) c.args.sector))
 
 pub returns-then-not-risks : goal.returns-then-not-risks
 returns-then-not-risks c =
     row_durable c.args.self.now c.args.sector c.args.sets.now c.row.wanted c.row.cut c.in-Some.unit c.row.invariant
-    (subst (λ (l : LogValue). IsNext l c.row.cut c.args.sector c.in-Some.unit) c.log.ensures.value c.in-Some.ensures)
+    (subst (λ (l : LogValue). IsNext l c.row.cut c.args.sector c.in-Some.unit) c.log.ensures.value c.in-Some.ensures.next)
     (sym c.risks.ensures ∙ c.if-not-risks.true)
 
 pub offset_bounds-sets-number : goal.offset_bounds-sets-number
@@ -39,7 +41,7 @@ pub returns-then-len-gt1 : goal.returns-then-len-gt1
 returns-then-len-gt1 c =
     let within : c.number_of-number.result < length (parts_of c.args.self.now) = slice_get_within (parts_of c.args.self.now) c.number_of-number.result _ c.number_of-number.ensures.part in
     let unit : UnitSo c.args.self.now c.args.sector c.args.sets.now c.row.wanted c.row.cut c.in-Some.unit c.number_of-number.result c.matter-pieces.result = record {
-      next = subst (λ (l : LogValue). IsNext l c.row.cut c.args.sector c.in-Some.unit) c.log.ensures.value c.in-Some.ensures;
+      next = subst (λ (l : LogValue). IsNext l c.row.cut c.args.sector c.in-Some.unit) c.log.ensures.value c.in-Some.ensures.next;
       risk = sym c.risks.ensures ∙ c.if-not-risks.false;
       apart = c.number_of-number.ensures.apart;
       there = c.number_of-number.ensures.part;
@@ -54,7 +56,7 @@ pub row-preserved : goal.row-preserved
 row-preserved c =
     let within : c.number_of-number.result < length (parts_of c.args.self.now) = slice_get_within (parts_of c.args.self.now) c.number_of-number.result _ c.number_of-number.ensures.part in
     let unit : UnitSo c.args.self.now c.args.sector c.args.sets.now c.row.wanted c.row.cut c.in-Some.unit c.number_of-number.result c.matter-pieces.result = record {
-      next = subst (λ (l : LogValue). IsNext l c.row.cut c.args.sector c.in-Some.unit) c.log.ensures.value c.in-Some.ensures;
+      next = subst (λ (l : LogValue). IsNext l c.row.cut c.args.sector c.in-Some.unit) c.log.ensures.value c.in-Some.ensures.next;
       risk = sym c.risks.ensures ∙ c.if-not-risks.false;
       apart = c.number_of-number.ensures.apart;
       there = c.number_of-number.ensures.part;
@@ -64,6 +66,10 @@ row-preserved c =
     let few : length c.groups_of-groups.result.items ≤ 1 = omega (arith, c.if-len-gt1.false, c.len.ensures.value) in
     row_passed c.args.self.now c.args.sector c.args.sets.now c.row.wanted c.row.cut c.in-Some.unit c.number_of-number.result c.matter-pieces.result _ c.hidden-wanted.result c.own_part-part.result
     c.groups_of-groups.result.items c.row.invariant unit c.own_part-part.ensures refl c.groups_of-groups.ensures few c.hidden-wanted.ensures
+    (subst (λ n. n ≤ c.in-Some.unit.entry) c.flush-flush.ensures.value c.in-Some.ensures.low)
 
 pub returns : goal.returns
 returns c = row_shown c.args.self.now c.args.sector c.args.sets.now c.row.wanted c.row.cut c.row.invariant (omega (arith, c.row-test.false))
+
+pub last_over-requires-clause-floor : goal.last_over-requires-clause-floor
+last_over-requires-clause-floor c = let high = c.row.invariant.high in omega (arith, high, c.flush-flush.ensures.value)
