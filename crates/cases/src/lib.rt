@@ -23,10 +23,8 @@
 //!   those of its groups.
 //! - `Sets`: what may become of a part, by number, 0 for whole up to 15 for the largest tail; a set of these in the bits of a word
 //!   (`fates_in`), and a set of the pieces of a sector in eight of them (`pieces_in`).
-//!
 //! - `AtCut`: a cut as a value (`CutValue`), the parts at risk there (`parts_of`), a case as a set for each of them (`case_of`), and
 //!   when a part by its number and the sets of its groups are the split of a case (`IsFound`).
-//!
 //! - `Search`: a search as a value, the cases that it has still to explore (`pending`), and when a judge was told of exactly the leaves
 //!   of a cut (`FoundCases`).
 //!
