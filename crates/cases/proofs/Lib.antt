@@ -12,3 +12,4 @@ pub mod Owned
 pub mod Splitting
 pub mod Paths
 pub mod Runs
+pub mod Forming

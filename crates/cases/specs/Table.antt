@@ -1,12 +1,14 @@
 -- What a cut keeps beside its log, and the units that cover a sector, one after the other.
-use Rattle.std.specs.Prelude.{ℕ, ◌≡◌, ◌-◌, ◌<◌, ◌≤◌, ◌∷◌, nat_lt, nat_le, Bool, not, ◌||◌, if◌then◌else◌, List, length, bytes_eq, Option, None, Some}
+use Rattle.std.specs.Prelude.{ℕ, ◌≡◌, ◌-◌, ◌<◌, ◌≤◌, ◌∷◌, nat_lt, nat_le, Bool, true, not, ◌||◌, if◌then◌else◌, List, length, bytes_eq, Option, None, Some}
 use Rattle.logfmt.specs.declared.entry.Entry.{Entry}
 use Rattle.logfmt.specs.Bounds.{LogValue, IsLog}
 use Rattle.epochs.specs.declared.part.Part.{Part}
 use Rattle.epochs.specs.declared.unit.Unit.{Unit as LogUnit}
 use Rattle.epochs.specs.Laws.{last_flush}
 use Rattle.epochs.specs.Plan.{IsUnit}
-use Rattle.cases.specs.Rows.{row, piece}
+use Rattle.cases.specs.Risk.{is_at_risk}
+use Rattle.cases.specs.Rows.{row, piece, part_with, shows}
+use Rattle.cases.specs.Cases.{Case, representative}
 use Rattle.cases.specs.AtCut.{CutValue, parts_of, Apart}
 
 -- the parts at risk, each once, and the last flush entry before the cut
@@ -31,3 +33,8 @@ pub record IsNext (log : LogValue) (k s : ℕ) (u : LogUnit) : Type 0 where
 -- two sectors differ in piece i
 abbrev pub difference : List ℕ → List ℕ → ℕ → Bool
 difference one other i = not (bytes_eq (piece i other) (piece i one))
+
+-- with the representative of a case a unit leaves piece i of its sector on the device
+abbrev pub leaves_piece : CutValue → Case → LogUnit → ℕ → Bool
+leaves_piece at c u i =
+    if is_at_risk at.log.entries at.cut u.entry then shows (representative c (part_with at.way at.log.entries u)) (part_with at.way at.log.entries u) u i else true

@@ -120,7 +120,8 @@ pub(crate) fn groups_of(part: Part, unit: Unit, pieces: u16, set: u16) -> ArrayV
 
 /// Those of some pieces that a part doesn't show with the first fate of a set.
 pub(crate) fn hidden(part: Part, unit: Unit, pieces: u16, set: u16) -> u16
-    ensures { pieces_in result ≡ filter (λ i. not (shows (slice_index_or (fates_in set) 0 None) part unit i)) (pieces_in pieces) }
+    ensures pieces { pieces_in result ≡ filter (λ i. not (shows (slice_index_or (fates_in set) 0 None) part unit i)) (pieces_in pieces) }
+    ensures each { (i : ℕ) → i < 8 → has result i ≡ (has pieces i && not (shows (slice_index_or (fates_in set) 0 None) part unit i)) }
 {
     let first = first_number(set);
     let mut hidden = 0;

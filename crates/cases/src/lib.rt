@@ -39,6 +39,7 @@
 //! | `search.torn_beyond()`, `search.lost_beyond()` | how many cases were left out so far |
 //! | `cut.parts()` | the parts at risk, in order, each once |
 //! | `cut.first_split(sets, sectors)` | the part that splits a case, the first one of some sectors, with its fates in groups; or none |
+//! | `cut.sector(sets, number)` | a sector of the image of a case's representative, however many parts are lost or torn in it |
 //! | `fate_at(number)` | the fate of a number, `None` for whole |
 //! | `first_of(set)` | the first fate of a set, which is that of the representative |
 //!
@@ -65,6 +66,7 @@
 //! - `Cut::first_split` answers exactly the `first_split` of the definition: its part is the first that tells choices of the case apart
 //!   in these sectors, its groups are the `kinds` of its fates, in order, none forgotten and none twice, and where it answers none there
 //!   is none.
+//! - `Cut::sector` is that sector of `image_of`, the crash image of the definition.
 //! - `each_is_in_one`: each choice is in exactly one of the leaves and of the cases that were left out. One with as few torn parts, and
 //!   as few lost ones, as is asked is in none that was left out.
 //! - `leaves_end_alike`: on the image of each choice in a leaf the program ends as on that of its representative, if its footprint
@@ -90,6 +92,7 @@
 mod bits;
 mod cut;
 mod fates;
+mod form;
 mod laws;
 mod row;
 mod search;

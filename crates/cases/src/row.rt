@@ -20,7 +20,7 @@ use epochs::{By, Part, Unit};
 use logfmt::{Entry, Log};
 
 /// The bytes of a sector.
-type Sector = [u8; 512];
+pub(crate) type Sector = [u8; 512];
 
 /// The content of each unit of a discard.
 static ZEROS: Sector = [0; 512];
@@ -42,7 +42,7 @@ fn unit_over(entry: &Entry, number: u32, sector: u32) -> Option<Unit>
 }
 
 /// The last unit before a cut, and not before another, that covers a sector. It goes down entry by entry.
-fn last_over(log: &Log, floor: u32, cut: u32, sector: u32) -> Option<Unit>
+pub(crate) fn last_over(log: &Log, floor: u32, cut: u32, sector: u32) -> Option<Unit>
     requires floor { floor ≤ cut }
     requires cut { cut ≤ length log.now.entries }
     ensures next { MatchOption result (row log.now.entries cut sector ≡ row log.now.entries floor sector) (IsNext log.now cut sector) }
@@ -71,7 +71,7 @@ fn sector_at(content: &[u8], place: usize) -> &Sector
 }
 
 /// The content of a unit: its sector of the data of its entry, zeros for a discard.
-fn content_of(log: &Log, unit: Unit) -> &Sector
+pub(crate) fn content_of(log: &Log, unit: Unit) -> &Sector
     requires { IsUnit log.now unit }
     ensures { result.now ≡ unit_content log.now.entries unit }
 {
@@ -195,7 +195,7 @@ impl<'a> Cut<'a> {
     }
 
     /// The part that a unit is of.
-    fn own_part(&self, unit: Unit) -> Part
+    pub(crate) fn own_part(&self, unit: Unit) -> Part
         requires { IsUnit self.now.log unit }
         ensures { result ≡ part_with self.now.way self.now.log.entries unit }
     {
@@ -203,7 +203,7 @@ impl<'a> Cut<'a> {
     }
 
     /// The number among the parts at risk of the part that a unit is of.
-    fn number_of(&self, unit: Unit) -> usize
+    pub(crate) fn number_of(&self, unit: Unit) -> usize
         requires unit { IsUnit self.now.log unit }
         requires before { unit.entry < self.now.cut }
         requires risk { is_at_risk self.now.log.entries self.now.cut unit.entry ≡ true }

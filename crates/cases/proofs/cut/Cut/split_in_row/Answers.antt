@@ -1,4 +1,4 @@
-use Rattle.std.proofs.Common.{◌≡◌, ◌<◌, ◌≤◌, [], length, refl, sym, subst, ◌∙◌, ap, arith}
+use Rattle.std.proofs.Common.{◌≡◌, ◌<◌, ◌≤◌, length, refl, sym, subst, ◌∙◌, ap, arith}
 use Rattle.std.proofs.lemmas.Option.{MatchOption-at_none, slice_get_within}
 use Rattle.logfmt.specs.Bounds.{LogValue}
 use Rattle.cases.specs.Rows.{row}
@@ -65,7 +65,7 @@ row-preserved c =
     } in
     let few : length c.groups_of-groups.result.items ≤ 1 = omega (arith, c.if-len-gt1.false, c.len.ensures.value) in
     row_passed c.args.self.now c.args.sector c.args.sets.now c.row.wanted c.row.cut c.in-Some.unit c.number_of-number.result c.matter-pieces.result _ c.hidden-wanted.result c.own_part-part.result
-    c.groups_of-groups.result.items c.row.invariant unit c.own_part-part.ensures refl c.groups_of-groups.ensures few c.hidden-wanted.ensures
+    c.groups_of-groups.result.items c.row.invariant unit c.own_part-part.ensures refl c.groups_of-groups.ensures few c.hidden-wanted.ensures.pieces
     (subst (λ n. n ≤ c.in-Some.unit.entry) c.flush-flush.ensures.value c.in-Some.ensures.low)
 
 pub returns : goal.returns
