@@ -8,7 +8,7 @@ use Rattle.machine.specs.Outcome.{Ending}
 use Rattle.cases.specs.Cases.{Case, whole_case, representative}
 use Rattle.cases.specs.AtCut.{parts_of, case_of}
 use Rattle.cases.specs.Trees.{Program, Subject, ending_of, AreLeaves, no_case}
-use Rattle.cases.specs.Search.{Asked, subject_of, SearchValue, pending, case_in, SameSearch, Went, is_torn_beyond, plus, LeafValue, leaf_case, EndsSo, Ran, FoundCases}
+use Rattle.cases.specs.Search.{Asked, subject_of, SearchValue, pending, case_in, SameSearch, Went, is_torn_beyond, plus, LeafValue, leaf_case, EndsSo, Ran, FoundCases, BegunCases}
 
 plus_plus : (n a b : ℕ) → plus (plus n a) b ≡ plus n (a + b)
 plus_plus n a zero = let same : a ≡ a + 0 = omega arith in ap (plus n) same
@@ -110,3 +110,24 @@ found_all asked program tears old new before after asked_is tears_is whole none 
 
 pub one_told : (before mid after : List LeafValue) (leaf : LeafValue) (n : ℕ) → length mid ≡ length before + n → after ≡ mid ++ leaf ∷ [] → length after ≡ length before + (n + 1)
 one_told before mid after leaf n so put = let long = ap (λ (ls : List LeafValue). length ls) put ∙ length-append mid (leaf ∷ []) in omega (arith, so, long)
+
+-- one that hasn't ended
+pub begun_all : (asked : Asked) (program : Program) (tears : Bool) (old new : SearchValue) (before after : List LeafValue) (most : ℕ) → old.asked ≡ asked → old.tears ≡ tears
+    → pending old ≡ whole_case tears ∷ [] → Ran (subject_of old.asked program) old new before after → length after ≡ length before + most
+    → BegunCases (subject_of asked program) tears asked.at before after most
+begun_all asked program tears old new before after most asked_is tears_is whole ran long =
+    let s = subject_of asked program in
+    let own : Ran s old new before after = subst (λ (a : Asked). Ran (subject_of a program) old new before after) asked_is ran in
+    let same : leaf_case old.tears old.asked.at ≡ leaf_case tears asked.at = λ i. leaf_case (tears_is i) (asked_is i).at in
+    let all = ap (λ (ls : List LeafValue). length ls) own.added ∙ length-append before own.told in
+    record {
+      told = own.told;
+      left = own.left;
+      to = pending new;
+      added = own.added;
+      many = omega (arith, long, all);
+      leads = λ more rest are.
+          subst (λ (f : LeafValue → Case). AreLeaves s (whole_case tears ∷ []) (map f own.told ++ more) (own.left ++ rest)) same
+          (subst (λ (cs : List Case). AreLeaves s cs (map (leaf_case old.tears old.asked.at) own.told ++ more) (own.left ++ rest)) whole (own.leads more rest are));
+      endings = subst (λ (P : LeafValue → Type 0). All P own.told) (λ i. EndsSo s (tears_is i) (asked_is i).at) own.endings;
+    }

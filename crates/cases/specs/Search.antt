@@ -2,7 +2,7 @@
 use Rattle.std.specs.Prelude.{ℕ, zero, suc, ◌≡◌, ◌+◌, ◌-◌, ◌^◌, ◌<◌, ◌≤◌, min, nat_le, Bool, true, not, ◌&&◌, if◌then◌else◌, List, [], ◌∷◌, ◌++◌, length, map, reverse, set, count_by, Option, IsTrue, IsFalse, All}
 use Rattle.epochs.specs.declared.part.Part.{Part}
 use Rattle.cases.specs.declared.search.Frame.{Frame}
-use Rattle.cases.specs.Cases.{Case, representative}
+use Rattle.cases.specs.Cases.{Case, whole_case, representative}
 use Rattle.cases.specs.AtCut.{CutValue, parts_of, case_of}
 use Rattle.machine.specs.Outcome.{Ending}
 use Rattle.cases.specs.Trees.{Program, Subject, ending_of, is_torn, surely, is_within, AreLeaves}
@@ -145,3 +145,13 @@ pub record FoundCases (s : Subject) (tears : Bool) (at : CutValue) (before after
   pub endings : All (EndsSo s tears at) told
   pub torn_beyond : torn ≡ plus 0 (count_by (is_torn_beyond s) left)
   pub lost_beyond : lost ≡ plus 0 (count_by (λ c. not (is_torn_beyond s c)) left)
+
+-- A judge was told of the first leaves of a cut, so many, each with what the program ends in there, and other cases were to be explored.
+pub record BegunCases (s : Subject) (tears : Bool) (at : CutValue) (before after : List LeafValue) (most : ℕ) : Type 0 where
+  pub told : List LeafValue
+  pub left : List Case
+  pub to : List Case
+  pub added : after ≡ before ++ told
+  pub many : length told ≡ most
+  pub leads : Leads s (whole_case tears ∷ []) (map (leaf_case tears at) told) left to
+  pub endings : All (EndsSo s tears at) told

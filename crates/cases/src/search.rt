@@ -10,7 +10,7 @@ ghost use Rattle.cases.specs.Sets.{all_torn, all_lost, fates_in};
 ghost use Rattle.cases.specs.Choices.{all_fates};
 ghost use Rattle.cases.specs.Trees.{Program, ending_of};
 ghost use Rattle.cases.specs.AtCut.{parts_of, case_of, image_of, split_at, IsFound};
-ghost use Rattle.cases.specs.Search.{case_in, others, pending, subject_of, SameSearch, OnlyCounts, Counted, Descends, Took, Went, LeafValue, Ran, FoundCases, count_torn, count_lost};
+ghost use Rattle.cases.specs.Search.{case_in, others, pending, subject_of, SameSearch, OnlyCounts, Counted, Descends, Took, Went, LeafValue, Ran, FoundCases, BegunCases, count_torn, count_lost};
 
 use crate::bits::has;
 use crate::cut::Cut;
@@ -411,7 +411,8 @@ pub fn find_cases<J: Judge>(
     judge: &mut J,
 ) -> Result<Option<Beyond>, AllocError>
     ensures program { J.program judge.new ≡ J.program judge.old }
-    ensures found { IfOk result (λ found. MatchOption found (length (J.leaves judge.new) ≡ length (J.leaves judge.old) + most)
+    ensures found { IfOk result (λ found. MatchOption found
+        (BegunCases (subject_of (record { at = cut.now; torn = torn; lost = lost }) (J.program judge.old)) tears cut.now (J.leaves judge.old) (J.leaves judge.new) most)
         (λ beyond. FoundCases (subject_of (record { at = cut.now; torn = torn; lost = lost }) (J.program judge.old)) tears cut.now (J.leaves judge.old) (J.leaves judge.new) beyond.torn beyond.lost)) }
 {
     let mut search = Search::new(alloc, cut, tears, torn, lost)?;
