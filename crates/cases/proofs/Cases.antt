@@ -255,20 +255,21 @@ pub record IsSplit (c : Case) (it : Split) : Type 0 where
   pub unit : LogUnit
   pub pieces : List ℕ
   pub groups : it.groups ≡ kinds (show_alike it.part unit pieces) (c it.part)
+  pub many : nat_lt 1 (length (firsts (show_alike it.part unit pieces) (c it.part))) ≡ true
 
 split_here : (c : Case) (below : List ℕ → Option Split) (p : Part) (u : LogUnit) (pieces : List ℕ) (it : Split) → split_or below p u pieces (c p) ≡ Some it
     → ((wanted : List ℕ) → below wanted ≡ Some it → IsSplit c it) → IsSplit c it
-split_here c below p u pieces it is rest = by_test (nat_lt 1 (length (firsts (show_alike p u pieces) (c p)))) is
+split_here c below p u pieces it is rest = by_test (nat_lt 1 (length (firsts (show_alike p u pieces) (c p)))) refl is
   where
-    by_test : (b : Bool)
+    by_test : (b : Bool) → nat_lt 1 (length (firsts (show_alike p u pieces) (c p))) ≡ b
         → (if b then Some (record { part = p; groups = kinds (show_alike p u pieces) (c p) }) else below (filter (λ i. not (shows (slice_index_or (c p) 0 None) p u i)) pieces)) ≡ Some it
         → IsSplit c it
-    by_test true here =
+    by_test true many here =
         let own : Split = record { part = p; groups = kinds (show_alike p u pieces) (c p) } in
         let same : own ≡ it = same_Some own it here in
         let P : Split → Type 0 = λ x. IsSplit c x in
-        subst P same (record { unit = u; pieces = pieces; groups = refl })
-    by_test false here = rest (filter (λ i. not (shows (slice_index_or (c p) 0 None) p u i)) pieces) here
+        subst P same (record { unit = u; pieces = pieces; groups = refl; many = many })
+    by_test false few here = rest (filter (λ i. not (shows (slice_index_or (c p) 0 None) p u i)) pieces) here
 
 split_is : (log : LogValue) (way : By) (k s : ℕ) (c : Case) (us : List LogUnit) (wanted : List ℕ) (it : Split) → split_in_row log way k s c us wanted ≡ Some it → IsSplit c it
 split_is log way k s c [] wanted it is = absurd (let bad : None ≡ Some it = is in cc)
@@ -281,7 +282,7 @@ split_is log way k s c (u ∷ below) wanted it is = by_test (λ others own. spli
         split_here c (split_in_row log way k s c below) (part_with way log.entries u) u (filter (matters log k s u below) wanted) it here again
     by_test again false here = absurd (let bad : None ≡ Some it = here in cc)
 
-first_is : (log : LogValue) (way : By) (k : ℕ) (c : Case) (sectors : List ℕ) (it : Split) → first_split log way k c sectors ≡ Some it → IsSplit c it
+pub first_is : (log : LogValue) (way : By) (k : ℕ) (c : Case) (sectors : List ℕ) (it : Split) → first_split log way k c sectors ≡ Some it → IsSplit c it
 first_is log way k c [] it is = absurd (let bad : None ≡ Some it = is in cc)
 first_is log way k c (s ∷ sectors) it is =
     by_first (λ own. first_is log way k c sectors it own) (split_in_row log way k s c (row log.entries k s) (range_with_len 0 8)) refl is

@@ -94,7 +94,7 @@ calm es k le is =
     ]
 
 -- a flush entry after e and before the next cut
-flush_between-next : (es : List Entry) (e k : ℕ) (x : Entry) → slice_get es k ≡ Some x → e < k
+pub flush_between-next : (es : List Entry) (e k : ℕ) (x : Entry) → slice_get es k ≡ Some x → e < k
     → is_flush_between es e (suc k) ≡ (is_flush_between es e k || x.flags.flush)
 flush_between-next es e k x here lt =
     let p : Entry → Bool = λ entry. entry.flags.flush in
@@ -107,7 +107,7 @@ flush_between-next es e k x here lt =
     let one : get_or rest i x ≡ x = get_or-drop (e + 1) es i x ∙ ap (λ n. get_or es n x) back ∙ get_or_from_slice_get es k x x here in
     ap (λ n. list_any p (take n rest)) next ∙ list_any_more p rest i x inside ∙ ap (λ entry. list_any p (take i rest) || p entry) one
 
-no_flush_between : (es : List Entry) (k : ℕ) → is_flush_between es k (suc k) ≡ false
+pub no_flush_between : (es : List Entry) (k : ℕ) → is_flush_between es k (suc k) ≡ false
 no_flush_between es k =
     let none : suc k - (k + 1) ≡ 0 = omega arith in
     ap (λ n. list_any (λ (entry : Entry). entry.flags.flush) (take n (drop (k + 1) es))) none

@@ -3,3 +3,13 @@ pub mod Rows
 pub mod Cuts
 pub mod Numbered
 pub mod Grouped
+pub mod Chosen
+pub mod Distinct
+pub mod AtRisk
+pub mod Below
+pub mod Mattering
+pub mod Owned
+pub mod Splitting
+pub mod Paths
+pub mod Runs
+pub mod Forming

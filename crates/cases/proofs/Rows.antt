@@ -8,7 +8,7 @@ use Rattle.std.proofs.lemmas.Bool.Decides.{eqb_tells, nat_tests}
 use Rattle.std.proofs.lemmas.List.{reverse-reverse, get_or-take, get_or-drop}
 use Rattle.std.proofs.lemmas.List.Folds.{list_all-append}
 use Rattle.std.proofs.lemmas.List.FromFn.{length-map-range_with_len, get_or-map-range_with_len}
-use Rattle.std.proofs.lemmas.Grind.{reverse_onto}
+use Rattle.std.proofs.lemmas.Grind.{reverse_onto, same_number_lists}
 use Rattle.std.proofs.lemmas.Option.{slice_get_cases, slice_get_past, same_Some}
 use Rattle.std.proofs.lemmas.Slice.Eq.{bytes_eq-Decides}
 use Rattle.logfmt.specs.declared.entry.Entry.{Entry}
@@ -155,7 +155,7 @@ part_before way es (suc k) p le is = elim (slice_get_cases es k).1 [
       ]
 ]
 
-before_part : (way : By) (es : List Entry) (k e : ℕ) (x : Entry) (j : ℕ) → k ≤ length es → e < k → slice_get es e ≡ Some x → j < part_count way x
+pub before_part : (way : By) (es : List Entry) (k e : ℕ) (x : Entry) (j : ℕ) → k ≤ length es → e < k → slice_get es e ≡ Some x → j < part_count way x
     → IsAmong (parts_before way es k) (part_of way e x j)
 before_part way es zero e x j le lt there within = absurd (omega (arith, lt))
 before_part way es (suc k) e x j le lt there within = elim (slice_get_cases es k).1 [
@@ -206,18 +206,18 @@ unit_before es (suc k) u le is = elim (slice_get_cases es k).1 [
 
 -- the part that a unit is of is one of its entry, and no other part before the cut has the unit
 
-abbrev own_place : By → ℕ → ℕ
+abbrev pub own_place : By → ℕ → ℕ
 own_place by.Sector j = j
 own_place by.Write j = 0
 
-own_within : (way : By) (x : Entry) (j : ℕ) → j < x.count → own_place way j < part_count way x
+pub own_within : (way : By) (x : Entry) (j : ℕ) → j < x.count → own_place way j < part_count way x
 own_within by.Sector x j lt = lt
 own_within by.Write x j lt =
     let some : (x.count == 0) ≡ false = grind (arith, nat_tests, lt) in
     let one : part_count by.Write x ≡ 1 = rw some refl in
     omega (arith, one)
 
-own_is : (way : By) (es : List Entry) (e : ℕ) (x : Entry) (j : ℕ) → slice_get es e ≡ Some x → part_of way e x (own_place way j) ≡ part_with way es (unit_of e x j)
+pub own_is : (way : By) (es : List Entry) (e : ℕ) (x : Entry) (j : ℕ) → slice_get es e ≡ Some x → part_of way e x (own_place way j) ≡ part_with way es (unit_of e x j)
 own_is by.Sector es e x j there =
     let place : j * 1 ≡ j = omega arith in
     let sector : x.sector + j * 1 ≡ x.sector + j = omega arith in
@@ -344,7 +344,7 @@ survives_by log way k choice u i le among =
             ∙ sym (ap (λ b. if b then kept_at (choice (part_with way log.entries (unit_of e x j))) (part_with way log.entries (unit_of e x j)) (unit_of e x j) i else true) calm)
 
 -- a part shows a piece whole
-whole_piece : (o : Option Fate) (p : Part) (u : LogUnit) (i j : ℕ) → i / 64 ≡ j → kept_at o p u i ≡ shows o p u j
+pub whole_piece : (o : Option Fate) (p : Part) (u : LogUnit) (i j : ℕ) → i / 64 ≡ j → kept_at o p u i ≡ shows o p u j
 whole_piece None p u i j at = refl
 whole_piece (Some fate.Drop) p u i j at = refl
 whole_piece (Some (fate.Head t)) p u i j at =
@@ -357,9 +357,18 @@ whole_piece (Some (fate.Tail t)) p u i j at =
     le_alike (512 * p.count - 64 * m) (512 * a + i) (512 * p.count - 64 * m) (512 * a + 64 * j) (λ le. omega (arith, le, at)) (λ le. omega (arith, le, at))
 
 -- a byte of a sector, by its row: that of the last unit which reaches the device there
-shown : LogValue → List Departure → ℕ → ℕ → List LogUnit → ℕ
+pub shown : LogValue → List Departure → ℕ → ℕ → List LogUnit → ℕ
 shown log ds s i [] = initial_byte log.initial s i
 shown log ds s i (u ∷ below) = if survives ds i u then slice_index (unit_content log.entries u) i else shown log ds s i below
+
+pub shown_none : (log : LogValue) (ds : List Departure) (s i : ℕ) → shown log ds s i [] ≡ initial_byte log.initial s i
+unfolding shown
+shown_none log ds s i = refl
+
+pub shown_next : (log : LogValue) (ds : List Departure) (s i : ℕ) (u : LogUnit) (below : List LogUnit)
+    → shown log ds s i (u ∷ below) ≡ (if survives ds i u then slice_index (unit_content log.entries u) i else shown log ds s i below)
+unfolding shown
+shown_next log ds s i u below = refl
 
 byte_of_row : (log : LogValue) (us : List LogUnit) (ds : List Departure) (s i : ℕ) → byte_after log (reverse us) ds s i ≡ shown log ds s i (covering s us)
 unfolding covering writes shown
@@ -580,7 +589,7 @@ reverse_among (y ∷ xs) x is =
     of_last (inl same) = inl same
     of_last (inr none) = absurd none
 
-row_units : (es : List Entry) (k s : ℕ) (u : LogUnit) → IsAmong (row es k s) u → IsAmong (units_before es k) u
+pub row_units : (es : List Entry) (k s : ℕ) (u : LogUnit) → IsAmong (row es k s) u → IsAmong (units_before es k) u
 unfolding covering
 row_units es k s u is = reverse_among (units_before es k) u (among_kept (λ (v : LogUnit). v.sector == s) (reverse (units_before es k)) u is).0
 
@@ -610,6 +619,28 @@ sector_alike log way k s c one two le in_one in_two none =
 
     eighth : (i : ℕ) → i < 512 → IsAmong (range_with_len 0 8) (i / 64)
     eighth i within = among_numbers 0 8 (i / 64) (omega arith) (omega (arith, within))
+
+-- a sector, by the bytes of its row
+pub sector_by_row : (log : LogValue) (k s : ℕ) (ds : List Departure) (out : List ℕ) → length out ≡ 512
+    → ((i : ℕ) → i < 512 → slice_index out i ≡ shown log ds s i (row log.entries k s)) → sector_after log (units_before log.entries k) ds s ≡ out
+unfolding sector_after
+sector_by_row log k s ds out long each =
+    let us : List LogUnit = units_before log.entries k in
+    let by_row : (i : ℕ) → byte_after log us ds s i ≡ shown log ds s i (row log.entries k s) =
+    λ i. ap (λ (xs : List LogUnit). byte_after log xs ds s i) (sym (reverse-reverse us)) ∙ byte_of_row log (reverse us) ds s i in
+    same_number_lists (map (byte_after log us ds s) (range_with_len 0 512)) out (length-map-range_with_len (byte_after log us ds s) 0 512 ∙ sym long)
+    (λ i less.
+    let low : i < 512 = omega (arith, less, length-map-range_with_len (byte_after log us ds s) 0 512) in
+    let here : 0 + i ≡ i = omega arith in
+    get_or-map-range_with_len (byte_after log us ds s) 0 512 i i 0 low here ∙ by_row i ∙ sym (each i low))
+
+pub initial_at : (log : LogValue) (s i : ℕ) → i < 512 → slice_index (initial_sector log.initial s) i ≡ initial_byte log.initial s i
+unfolding initial_sector
+initial_at log s i low = let here : 0 + i ≡ i = omega arith in get_or-map-range_with_len (initial_byte log.initial s) 0 512 i i 0 low here
+
+pub initial_long : (log : LogValue) (s : ℕ) → length (initial_sector log.initial s) ≡ 512
+unfolding initial_sector
+initial_long log s = length-map-range_with_len (initial_byte log.initial s) 0 512
 
 length_device : (log : LogValue) (us : List LogUnit) (ds : List Departure) → length (device_after log us ds) ≡ log.sectors
 unfolding device_after

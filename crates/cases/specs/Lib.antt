@@ -1,4 +1,4 @@
--- Any number of losses: what may become of each part at a cut, cases, and the tree that finds them.
+-- Any number of losses: what may become of each part at a cut, cases, the tree that finds them, and the search for its leaves.
 pub mod Risk
 pub mod Choices
 pub mod Rows
@@ -6,3 +6,6 @@ pub mod Cases
 pub mod Trees
 pub mod Laws
 pub mod Sets
+pub mod AtCut
+pub mod Table
+pub mod Search

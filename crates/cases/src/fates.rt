@@ -105,7 +105,7 @@ pub(crate) fn group_of(part: Part, unit: Unit, pieces: u16, set: u16, one: u8) -
 }
 
 /// The fates of a set in groups by what they show of some pieces, by the first fate of each.
-pub fn groups_of(part: Part, unit: Unit, pieces: u16, set: u16) -> ArrayVec<u16, 16>
+pub(crate) fn groups_of(part: Part, unit: Unit, pieces: u16, set: u16) -> ArrayVec<u16, 16>
     ensures { map fates_in result.items ≡ kinds (show_alike part unit (pieces_in pieces)) (fates_in set) }
 {
     let mut groups = ArrayVec::new();
@@ -119,8 +119,9 @@ pub fn groups_of(part: Part, unit: Unit, pieces: u16, set: u16) -> ArrayVec<u16,
 }
 
 /// Those of some pieces that a part doesn't show with the first fate of a set.
-pub fn hidden(part: Part, unit: Unit, pieces: u16, set: u16) -> u16
-    ensures { pieces_in result ≡ filter (λ i. not (shows (slice_index_or (fates_in set) 0 None) part unit i)) (pieces_in pieces) }
+pub(crate) fn hidden(part: Part, unit: Unit, pieces: u16, set: u16) -> u16
+    ensures pieces { pieces_in result ≡ filter (λ i. not (shows (slice_index_or (fates_in set) 0 None) part unit i)) (pieces_in pieces) }
+    ensures each { (i : ℕ) → i < 8 → has result i ≡ (has pieces i && not (shows (slice_index_or (fates_in set) 0 None) part unit i)) }
 {
     let first = first_number(set);
     let mut hidden = 0;

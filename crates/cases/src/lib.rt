@@ -8,7 +8,7 @@
 //! # Place
 //!
 //! On `epochs`, `choices` and `images`, whose parts, fates and crash images it speaks of, and on `machine` for the footprint of a run.
-//! It has definitions and laws, and of the search for the leaves the first step, sets of fates; no other crate stands on it yet.
+//! It has definitions and laws, and the search for the leaves; no other crate stands on it yet.
 //!
 //! # The definitions
 //!
@@ -23,20 +23,50 @@
 //!   those of its groups.
 //! - `Sets`: what may become of a part, by number, 0 for whole up to 15 for the largest tail; a set of these in the bits of a word
 //!   (`fates_in`), and a set of the pieces of a sector in eight of them (`pieces_in`).
+//! - `AtCut`: a cut as a value (`CutValue`), the parts at risk there (`parts_of`), a case as a set for each of them (`case_of`), and
+//!   when a part by its number and the sets of its groups are the split of a case (`IsFound`).
+//! - `Search`: a search as a value, the cases that it has still to explore (`pending`), and when a judge was told of exactly the leaves
+//!   of a cut (`FoundCases`).
 //!
-//! # Sets of fates
+//! # The calls
 //!
 //! | Call | Answer |
 //! |---|---|
+//! | `Cut::new(alloc, log, way, number)` | a cut of a log. It takes memory for each part at risk |
+//! | `find_cases(alloc, cut, tears, torn, lost, most, judge)` | tells a judge of all leaves of a cut, and answers how many cases were left out; or `None` where it told so many leaves, and hadn't ended |
+//! | `Search::new(alloc, cut, tears, torn, lost)` | the same leaf by leaf: a search that hasn't begun |
+//! | `search.next(judge)` | goes on to the next leaf, if there is one; `search.sets()` is its case |
+//! | `search.torn_beyond()`, `search.lost_beyond()` | how many cases were left out so far |
+//! | `cut.parts()` | the parts at risk, in order, each once |
+//! | `cut.first_split(sets, sectors)` | the part that splits a case, the first one of some sectors, with its fates in groups; or none |
+//! | `cut.sector(sets, number)` | a sector of the image of a case's representative, however many parts are lost or torn in it |
 //! | `fate_at(number)` | the fate of a number, `None` for whole |
-//! | `first_of(set)` | the first fate of a set |
-//! | `groups_of(part, unit, pieces, set)` | the fates of a set in groups, by what they show of some pieces of a unit |
-//! | `hidden(part, unit, pieces, set)` | those of the pieces that the part doesn't show with the first fate of the set |
+//! | `first_of(set)` | the first fate of a set, which is that of the representative |
 //!
-//! They take no memory. The groups are the `kinds` of the definition, in its order, none forgotten and none twice.
+//! A `Judge` is a program that is run on the image of a case's representative. It answers what `cut.first_split` says of the sectors at
+//! which the program looked, all of them, and it is told which cases are leaves. So verified programs and others can be judges.
+//!
+//! # How it searches
+//!
+//! A case is a set of fates for each part at risk. The search keeps one, and on a stack the part of each split that led to it, with the
+//! set of the part before, and the groups that weren't taken yet. From a case it goes down: the first group of a split becomes the case,
+//! until none splits it. Then it takes the next group of the last split that has one, and puts back the sets of those that have none. So
+//! a case needs no memory but a place on the stack for each split, which is kept for the next. No call but `Cut::new`, `Search::new` and
+//! the growth of that stack takes memory.
+//!
+//! `first_split` goes through the rows of the sectors, each from the last unit before the cut down. It finds the next unit by a walk over
+//! the entries, down to the last flush entry: what stands before that isn't at risk.
 //!
 //! # What is proved
 //!
+//! - `find_cases` tells its judge of the leaves of `AreCases`, in their order, and of no other, each with what the program ends in on the
+//!   image of its representative. The cases that were left out are those of the same tree, and it counts them: those that are torn in more
+//!   parts than is asked, and the others, which are lost in more. `Search::next` is one step of that. Both hold for each judge whose
+//!   answers are those of its program. Where it told so many leaves as it may, it says that these are the first ones.
+//! - `Cut::first_split` answers exactly the `first_split` of the definition: its part is the first that tells choices of the case apart
+//!   in these sectors, its groups are the `kinds` of its fates, in order, none forgotten and none twice, and where it answers none there
+//!   is none.
+//! - `Cut::sector` is that sector of `image_of`, the crash image of the definition.
 //! - `each_is_in_one`: each choice is in exactly one of the leaves and of the cases that were left out. One with as few torn parts, and
 //!   as few lost ones, as is asked is in none that was left out.
 //! - `leaves_end_alike`: on the image of each choice in a leaf the program ends as on that of its representative, if its footprint
@@ -60,8 +90,16 @@
 #![tactic(auto)]
 
 mod bits;
+mod cut;
 mod fates;
+mod form;
 mod laws;
+mod row;
+mod search;
+mod split;
 
-pub use fates::{fate_at, first_of, groups_of, hidden};
+pub use cut::Cut;
+pub use fates::{fate_at, first_of};
 pub use laws::{each_is_in_one, last_cuts_have_all, leaves_end_alike};
+pub use search::{Beyond, Judge, Search, find_cases};
+pub use split::Parted;
