@@ -12,3 +12,6 @@ returns-in-Image-clause-refused g c = rw (sym c.in-Image.ensures) c.act_look-in-
 
 pub returns-in-Show-clause-refused : goal.returns-in-Show-clause-refused
 returns-in-Show-clause-refused g c = rw (sym c.in-Show.ensures) c.act_look-in-Show.ensures.refused
+
+pub returns-in-Export-clause-refused : goal.returns-in-Export-clause-refused
+returns-in-Export-clause-refused g c = rw (sym c.in-Export.ensures) c.act_look-in-Export.ensures.refused
