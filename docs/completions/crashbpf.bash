@@ -5,8 +5,8 @@ _crashbpf() {
     [ "$word" != = ] || word=
     [ "$before" != = ] || before=${COMP_WORDS[COMP_CWORD - 2]}
     case "$COMP_CWORD ${COMP_WORDS[1]} $before" in
-    1\ *) words='explore why cure page images image show log import verify check asm list join help -h --help -V --version' ;;
-    *\ help\ *) words='explore why cure page images image show log import verify check asm list join help' ;;
+    1\ *) words='explore why cure page images export image show log import verify check asm list join help -h --help -V --version' ;;
+    *\ help\ *) words='explore why cure page images export image show log import verify check asm list join help' ;;
     *\ explore\ --cuts) words='all flush mark' ;;
     *\ explore\ --by) words='sector write' ;;
     *\ explore\ --base) : ;;
@@ -32,6 +32,11 @@ _crashbpf() {
     *\ images\ --base) : ;;
     *\ images\ --sectors|*\ images\ --flush|*\ images\ --from|*\ images\ --to|*\ images\ --bound|*\ images\ --parts) return ;;
     *\ images\ *) [[ $word != -* ]] || words='--sectors --large --flush --base --cuts --from --to --bound --tears --by --images --parts -h --help' ;;
+    *\ export\ --cuts) words='all flush mark' ;;
+    *\ export\ --by) words='sector write' ;;
+    *\ export\ --base) : ;;
+    *\ export\ --sectors|*\ export\ --flush|*\ export\ --from|*\ export\ --to|*\ export\ --bound|*\ export\ --images) return ;;
+    *\ export\ *) [[ $word != -* ]] || words='--sectors --large --flush --base --cuts --from --to --bound --tears --by --images -h --help' ;;
     *\ image\ --cuts) words='all flush mark' ;;
     *\ image\ --by) words='sector write' ;;
     *\ image\ --base) : ;;
