@@ -248,7 +248,7 @@ def runs(path, install, prefix, folder):
 
 # What bash completes behind words, the last of which is begun; as the help of the commands has it.
 COMPLETED = {
-    ("crashbpf", "exp"): "explore",
+    ("crashbpf", "expl"): "explore",
     ("crashbpf", "help", "ver"): "verify",
     ("crashbpf", "explore", "--cuts", ""): "all flush mark",
     ("crashbpf", "image", "--by", "=", "w"): "write",
