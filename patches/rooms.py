@@ -31,6 +31,13 @@ import tempfile
 import textwrap
 from pathlib import Path
 
+sys.dont_write_bytecode = True
+sys.path.insert(0, str(Path(__file__).resolve().parent.parent / "tools"))
+
+import kit
+import ledger
+import wrong_bodies
+
 TOP = Path(__file__).resolve().parent.parent
 ROOMS = TOP / "patches" / "rooms"
 CRATES = Path("crates")
@@ -74,11 +81,11 @@ LAYERS = [
 # What the rows of docs/MAP.md say of the merged crates.
 ROWS = {
     "base": "little-endian numbers, an owned list of bytes, the causes of refusals with their numbers, the type of a refusal, the first check that fails; how large a log and its device may be, usually and with `--large`",
-    "report": "the bytes of the report and of a part; the text of a choice, by sector or by write, printed and read back; failing lines, what they say, their text, in which they are kept, and of which image and program each is",
-    "losses": "what was lost where a program fails: the smallest failing choices and their groups, what the program ends in, and both as a text; where a flush takes a failing image away, the fewest flushes that take away all against which a flush helps, and what is said of them",
-    "inspect": "the commands that look at one log, image or program by itself, from bytes to bytes: the images of a log, one or all of them as bytes or in words, a log as a table, the import of a raw log, verifying, assembling and listing, and one run of a program on one image, step by step",
-    "notes": "what is said beside an answer or a refusal: listings with slots, what is known of registers, a log as a table, parts of notes; and which notes stand behind a refusal and beside an answer",
-    "request": "what is asked: the options, tested in their order, what a command line asks for, a command's log and the number of its images; the line of a refusal; the recording that a command is given, and what it finds on its way that its notes say",
+    "report": "the bytes of the report and of a part. The text of a choice (`choice_text`), by sector or by write, printed and read back. Failing lines (`lines`): what they say, their text, in which they are kept, and of which image and program each is",
+    "losses": "what was lost where a program fails: the smallest failing choices (`groups`), what the program ends in (`outcomes`), and how many images of each cut fail, in which groups (`why`). Where a flush takes a failing image away, and the fewest flushes that take away all against which a flush helps (`flushes`); what is said of them (`cure`)",
+    "inspect": "the commands that look at one log, image or program by itself (`looks`): the images of a log, one or all of them as bytes or in words, a log as a table, the import of a raw log, verifying, assembling and listing. One run of a program on one image, step by step (`trial`)",
+    "notes": "what is said beside an answer or a refusal: listings with slots, what is known of registers, a log as a table, parts of notes. Which notes stand behind a refusal and beside an answer (`command_notes`)",
+    "request": "what is asked: the options, tested in their order, what a command line asks for, a command's log and the number of its images; the line of a refusal. The recording that a command is given, and what it finds on its way that its notes say (`facts`)",
 }
 # Names of definitions and lemmas in the merged crates that say what they are of: by crate and part, old and new.
 NAMES = {
@@ -194,6 +201,7 @@ def move_files(target, crate, names):
             text = re.sub(r"^# law: src/lib\.rt\b", f"# law: src/{crate}.rt", text, flags=re.M)
             text = re.sub(rf"^# law: src/(?!{crate}\.rt)", f"# law: src/{crate}/", text, flags=re.M)
             new.write_text(text)
+            it.unlink()
     left = [it for it in own.rglob("*") if it.is_file() and it.name != "Lib.antt" and "out" not in it.relative_to(own).parts]
     for it in left:
         complain(f"{it} is lost")
@@ -288,8 +296,8 @@ def merged_needs(needs):
     """What each crate stands on when all is merged."""
     found = {}
     for name, own in needs.items():
-        to = found.setdefault(GONE.get(name, name), [])
-        to += [it for it in (GONE.get(it, it) for it in own) if it not in to]
+        found.setdefault(GONE.get(name, name), []).extend(GONE.get(it, it) for it in own)
+    found = {name: list(dict.fromkeys(own)) for name, own in found.items()}
     return {name: [it for it in own if it != name] for name, own in found.items()}
 
 
@@ -409,9 +417,21 @@ def stripped(lines):
     return text.split("\n")
 
 
+def sorted_uses(lines):
+    """The `use` lines of examples in the order of the formatter."""
+    at = 0
+    while at < len(lines):
+        end = at
+        while end < len(lines) and re.fullmatch(r"use [^;]*;", lines[end]):
+            end += 1
+        lines[at:end] = sorted(lines[at:end])
+        at = end + 1
+    return lines
+
+
 def written_page(lines, rest):
     """A file with this page."""
-    return "\n".join([*(f"//! {it}".rstrip() for it in stripped(lines)), rest])
+    return "\n".join([*(f"//! {it}".rstrip() for it in sorted_uses(stripped(lines))), rest])
 
 
 def write_pages(pages, names):
@@ -488,9 +508,6 @@ def with_paths(text, names):
 
 def with_cells(text):
     """docs/PROVED.md with the crates of the columns 'Carried by' as they are now, each once in a cell."""
-    sys.path.insert(0, "tools")
-    import ledger
-
     lines = text.split("\n")
     for number, cell in ledger.cells(lines):
         groups = {}
@@ -589,13 +606,9 @@ def format_crates():
             complain(f"rt fmt in {crate}: {(ran.stdout + ran.stderr).strip()[-300:]}")
 
 
-def test_edits():
-    """Tests that each edit can be made in the files that it names, and that the listed edits are there."""
-    sys.path.insert(0, "tools")
-    import kit
-    import wrong_bodies
-
-    rt = kit.load()
+def bad_edits():
+    """What is wrong with edits: they can't be made in the files that they name, or aren't there."""
+    rt, found = kit.load(), {}
     folders = {it.name: it.folder for it in kit.crates(rt)}
     for path in sorted([*CRATES.glob("*/wrong/*.edit"), *CRATES.glob("*/must-fail/*.edit")]):
         text = path.read_text()
@@ -605,35 +618,39 @@ def test_edits():
                 it.flush()
                 bad = rt.read_edit(it.name, folders[name])[1] if name in folders else f"no crate {name}"
             if bad:
-                complain(f"{path}: {bad}")
+                found[path] = bad
         for law in re.findall(r"(?m)^# law: ((?:crates/\w+/)?(?:src|specs|proofs)/\S+)", text):
             if not (Path(law) if law.startswith("crates/") else path.parent.parent / law).is_file():
-                complain(f"{path}: no file {law}")
+                found[path] = f"no file {law}"
     for line in Path("tests/gate_edits.txt").read_text().splitlines():
-        if line and not line.startswith("#") and not (CRATES / line.replace("/", "/wrong/")).with_suffix(".edit").exists():
-            complain(f"tests/gate_edits.txt: no edit {line}")
+        path = (CRATES / line.replace("/", "/wrong/")).with_suffix(".edit")
+        if line and not line.startswith("#") and not path.exists():
+            found[path] = "listed, and not there"
+    return found
 
 
-def test_needs(needs):
-    """Says which crates name one that the list doesn't have for them, or don't name one that it has."""
-    own = set(needs)
+def true_needs(needs):
+    """The same without what a crate doesn't name. Says which crates name one that they don't stand on."""
+    own, found = set(needs), {}
     for name in needs:
         said = ""
         for path in [*(CRATES / name).rglob("*.rt"), *(CRATES / name).rglob("*.antt")]:
             if "out" not in path.parts:
-                said += "\n".join(it for it in path.read_text().splitlines() if not it.lstrip().startswith(("//", "-- ")))
+                said += "".join(f"{it}\n" for it in path.read_text().splitlines() if not it.lstrip().startswith(("//", "-- ")))
         modules = set(re.findall(r"(?m)^\s*(?:pub )?mod (\w+);", said))
-        named = {it for it in own - {name} - modules if re.search(rf"\bRattle\.{it}\.|(?<![\w:.]){it}::", said)}
-        for it in sorted(named - set(needs[name])):
+        named = {it for it in own | set(needs[name]) if re.search(rf"\bRattle\.{it}\.|(?<![\w:.]){it}::", said)} - {name}
+        for it in sorted(named & own - set(needs[name]) - modules):
             complain(f"crates.txt: {name} names {it}")
-        for it in sorted(it for it in needs[name] if it in own and it not in named):
-            print(f"crates.txt: {name} doesn't name {it} (as before)")
+        for it in [it for it in needs[name] if it not in named]:
+            print(f"crates.txt: {name} doesn't name {it}, and doesn't stand on it any more")
+        found[name] = [it for it in needs[name] if it in named]
+    return found
 
 
 def test_names():
     """Says where a text names a crate that is gone. A command, a call or a module of the name is meant in some; so these are read."""
     gone = "|".join(it for it in GONE if it not in ("why", "cure"))
-    for path in [*documents(), *scripts(), *texts()]:
+    for path in [*documents(), *scripts(), *(it for it in texts() if it.parts[1] not in MERGES)]:
         for number, line in enumerate(path.read_text().splitlines(), 1):
             text = line if path.suffix == ".md" else re.sub(r"^(?!\s*(//|--|#)).*$", "", line)
             if re.search(rf"`({gone})`(?! \|)|\b[Cc]rates? `({gone}|why|cure)`|\bRattle\.({gone}|why|cure)\.|crates/({gone}|why|cure)/", text):
@@ -646,7 +663,8 @@ def main():
         sys.exit("this was done")
     if subprocess.run(["git", "status", "--porcelain"], capture_output=True, text=True, check=True).stdout:
         sys.exit("the checkout isn't clean")
-    needs, names = needs_of("crates.txt"), {}
+    print("edits as they are", flush=True)
+    needs, names, stale = needs_of("crates.txt"), {}, {it.name for it in bad_edits()}
     own = dict(needs) | needs_of("bench/crate/crate.txt")
     for target, crates in MERGES.items():
         names |= merge(target, crates, own)
@@ -654,7 +672,7 @@ def main():
         for name, below in own.items():
             own[name] = list(dict.fromkeys([*below, *(target for it in below if it in crates)]))
         own[target] = list(dict.fromkeys([*own.get(target, []), *(it for crate in crates for it in own[crate])]))
-    needs = merged_needs(needs)
+    needs = true_needs(merged_needs(needs))
     layers = ordered(layers_over(needs), needs)
     write_list(layers, needs)
     bench = Path("bench/crate/crate.txt")
@@ -663,12 +681,15 @@ def main():
     pages = {target: Page(CRATES / target / "src" / "lib.rt") for target in MERGES}
     pages |= {crate: Page(CRATES / target / "src" / f"{crate}.rt") for crate, target in GONE.items()}
     write_pages(pages, names)
+    print("crates are merged", flush=True)
     write_layers(layers)
     write_documents(names)
     replace_texts()
+    print("formatting", flush=True)
     format_crates()
-    test_needs(needs)
-    test_edits()
+    print("looking at edits and names", flush=True)
+    for path, bad in bad_edits().items():
+        (print if path.name in stale else complain)(f"{path}: {bad}" + (" (as before)" if path.name in stale else ""))
     test_names()
     print(f"{len(complaints)} to be looked at" if complaints else "all was found")
     return 1 if complaints else 0
