@@ -1,5 +1,5 @@
 #!/usr/bin/env python3
-"""Puts thirteen small crates into six, by what they are for: each becomes a module of one of these.
+"""Puts twelve small crates into six, by what they are for: each becomes a module of one of these.
 
     patches/rooms.py
 
@@ -83,7 +83,7 @@ ROWS = {
     "base": "little-endian numbers, an owned list of bytes, the causes of refusals with their numbers, the type of a refusal, the first check that fails; how large a log and its device may be, usually and with `--large`",
     "report": "the bytes of the report and of a part. The text of a choice (`choice_text`), by sector or by write, printed and read back. Failing lines (`lines`): what they say, their text, in which they are kept, and of which image and program each is",
     "losses": "what was lost where a program fails: the smallest failing choices (`groups`), what the program ends in (`outcomes`), and how many images of each cut fail, in which groups (`why`). Where a flush takes a failing image away, and the fewest flushes that take away all against which a flush helps (`flushes`); what is said of them (`cure`)",
-    "inspect": "the commands that look at one log, image or program by itself (`looks`): the images of a log, one or all of them as bytes or in words, a log as a table, the import of a raw log, verifying, assembling and listing. One run of a program on one image, step by step (`trial`)",
+    "inspect": "the commands that look at one log, image or program by itself (`looks`). These are the images of a log, one or all of them as bytes or in words, a log as a table, the import of a raw log, and verifying, assembling and listing. One run of a program on one image, step by step (`trial`)",
     "notes": "what is said beside an answer or a refusal: listings with slots, what is known of registers, a log as a table, parts of notes. Which notes stand behind a refusal and beside an answer (`command_notes`)",
     "request": "what is asked: the options, tested in their order, what a command line asks for, a command's log and the number of its images; the line of a refusal. The recording that a command is given, and what it finds on its way that its notes say (`facts`)",
 }
