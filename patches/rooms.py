@@ -439,7 +439,9 @@ def write_pages(pages, names):
     for target, crates in MERGES.items():
         lines = []
         for line in (ROOMS / "pages" / f"{target}.txt").read_text().split("\n"):
-            if line.startswith("@"):
+            if line.startswith("@") and line.split(" ")[1] not in pages:
+                complain(f"no page for {line} in rooms/pages/{target}.txt")
+            elif line.startswith("@"):
                 what, crate, *title = line[1:].split(" ")
                 part = pages[crate].part([what, *title])
                 if not "".join(part).strip():
@@ -665,6 +667,11 @@ def main():
         sys.exit("the checkout isn't clean")
     print("edits as they are", flush=True)
     needs, names, stale = needs_of("crates.txt"), {}, {it.name for it in bad_edits()}
+    for crate, target in list(GONE.items()):
+        if crate not in needs:
+            complain(f"no crate {crate}, which was to go into {target}")
+            MERGES[target].remove(crate)
+            del GONE[crate]
     own = dict(needs) | needs_of("bench/crate/crate.txt")
     for target, crates in MERGES.items():
         names |= merge(target, crates, own)
