@@ -20,7 +20,8 @@ CRATE`, its first table; `@after CRATE`, what stands behind this table in its se
 that heading, without its first table.
 
 rooms/texts.txt has replacements: a line `= FILE ..`, whose files may be patterns, and under it pairs of lines `- OLD` and `+ NEW`. A
-space of OLD stands for a space or for a line's end in a comment. Each OLD is to be found in one of the files.
+space of OLD stands for a space or for a line's end in a comment. Each OLD is to be found in one of the files, but for one with ~ in
+place of -.
 """
 import os
 import re
@@ -536,16 +537,16 @@ def write_documents(names):
 
 
 def replacements():
-    """The files of each replacement, the old text and the new one."""
-    files, old = [], None
+    """The files of each replacement, whether they may lack it, the old text and the new one."""
+    files, old, may_lack = [], None, False
     for number, line in enumerate((ROOMS / "texts.txt").read_text().splitlines(), 1):
         mark, _, rest = line.partition(" ")
         if mark == "=":
             files = rest.split(" ")
-        elif mark == "-":
-            old = rest
+        elif mark in ("-", "~"):
+            old, may_lack = rest, mark == "~"
         elif mark == "+":
-            yield files, old, rest.replace("\\n", "\n")
+            yield files, may_lack, old, rest.replace("\\n", "\n")
         elif line and mark != "#":
             sys.exit(f"rooms/texts.txt:{number}: {line}")
 
@@ -571,7 +572,7 @@ def rewrap(text):
 def replace_texts():
     """Makes the replacements of rooms/texts.txt."""
     touched = set()
-    for files, old, new in replacements():
+    for files, may_lack, old, new in replacements():
         between = r"(?: |\n[ \t]*(?:(?://[/!]?|--|#) ?)?[ \t]*)"
         pattern = between.join(re.escape(it) for it in old.split(" "))
         count = 0
@@ -585,7 +586,7 @@ def replace_texts():
                     count += times
                     path.write_text(text)
                     touched.add(path)
-        if not count:
+        if not count and not may_lack:
             complain(f"{' '.join(files)}: not found: {old[:100]}")
     for path in touched:
         if path.suffix in (".rt", ".antt"):
