@@ -1,11 +1,12 @@
 #!/usr/bin/env python3
 """Puts docs/COMMANDS.md, docs/OUTPUT.md and docs/REFUSALS.md in place of docs/REPORT.md.
 
-    python3 patches/documents.py [--anyway] [TOP]
+    python3 patches/documents.py [--anyway] [--proved] [TOP]
 
 TOP is a clean checkout, the folder above this one where it isn't given. What is done there:
 
-- The documents in documents/ are put into docs/. REPORT.md goes.
+- The documents in documents/ are put into docs/. REPORT.md goes. With --proved so is the short PROVED.md: what it leaves out, which
+  is to stand on the pages of the crates, is in documents/moved.txt. Without it only the references of PROVED.md are rewritten.
 - Each reference to a section of REPORT.md becomes one to the section that has it now, by SECTIONS and MOVED. A reference to the
   whole document is rewritten by WHOLE. So are the links, by their anchors, and what SPECIAL has, word for word.
 - The tool that makes the tables of REPORT.md becomes tools/document_tables.py, and is run.
@@ -23,7 +24,7 @@ from pathlib import Path
 HERE = Path(__file__).resolve().parent
 NEW = HERE / "documents"
 # The blobs from which the documents were made.
-MADE_FROM = {"docs/REPORT.md": "5d87b7b844dbc6bf8f2e347bd68fb6af6f59ee31"}
+MADE_FROM = {"docs/PROVED.md": "9d66e85858ea3e464737bd975b1905abc51eb038", "docs/REPORT.md": "5d87b7b844dbc6bf8f2e347bd68fb6af6f59ee31"}
 # Each section of REPORT.md: the document that has it now, and its title there.
 SECTIONS = {
     "Commands": ("COMMANDS.md", "Commands"),
@@ -208,9 +209,10 @@ def git(top, *words):
     return subprocess.run(["git", "-C", top, *words], stdout=subprocess.PIPE, text=True, check=True).stdout
 
 
-def changed_since(top):
+def changed_since(top, put):
     """Returns the documents that aren't those from which the new ones were made."""
-    return [it for it, blob in MADE_FROM.items() if git(top, "hash-object", str(top / it)).strip() != blob]
+    made_from = {it: blob for it, blob in MADE_FROM.items() if it == "docs/REPORT.md" or Path(it).name in put}
+    return [it for it, blob in made_from.items() if git(top, "hash-object", str(top / it)).strip() != blob]
 
 
 def headless():
@@ -220,9 +222,11 @@ def headless():
 
 
 def main(words):
-    anyway = words[:1] == ["--anyway"]
-    top = Path(words[anyway] if len(words) > anyway else HERE.parent).resolve()
-    old = changed_since(top)
+    anyway, proved = "--anyway" in words, "--proved" in words
+    folders = [it for it in words if not it.startswith("--")]
+    top = Path(folders[0] if folders else HERE.parent).resolve()
+    put = {it.name: it for it in NEW.glob("*.md") if proved or it.name != "PROVED.md"}
+    old = changed_since(top, put)
     for it in old:
         print(f"{it} isn't the one from which documents/ was made; `git diff {MADE_FROM[it]} HEAD:{it}` shows what to bring over")
     if old and not anyway:
@@ -230,7 +234,7 @@ def main(words):
     if headless():
         print("No document has:", *headless(), sep="\n")
         return 1
-    replaced = {"docs/REPORT.md", "tools/report_tables.py"} | {f"docs/{it.name}" for it in NEW.glob("*.md")}
+    replaced = {"docs/REPORT.md", "tools/report_tables.py"} | {f"docs/{it}" for it in put}
     texts, unknown = {}, []
     for path in git(top, "ls-files", "-z").split("\0"):
         if not path or path.startswith("patches/") or path in replaced or not (top / path).is_file():
@@ -248,8 +252,8 @@ def main(words):
     for path, text in texts.items():
         (top / path).write_text(text)
     shutil.copymode(top / "tools/report_tables.py", top / "tools/document_tables.py")
-    for it in NEW.glob("*.md"):
-        shutil.copy(it, top / "docs" / it.name)
+    for name, it in put.items():
+        shutil.copy(it, top / "docs" / name)
     for it in ("docs/REPORT.md", "tools/report_tables.py"):
         (top / it).unlink()
     subprocess.run([sys.executable, top / "tools/document_tables.py"], check=True)
