@@ -15,6 +15,7 @@ Then the lines of code and tests that a run prints or compares are shown. Nothin
 from which those in documents/ were made (MADE_FROM): what changed since has to be brought over first, and --anyway says that it
 was. Nothing is written either where a reference is found that no table here has.
 """
+import hashlib
 import re
 import shutil
 import subprocess
@@ -23,8 +24,9 @@ from pathlib import Path
 
 HERE = Path(__file__).resolve().parent
 NEW = HERE / "documents"
-# The blobs from which the documents were made.
-MADE_FROM = {"docs/PROVED.md": "9d66e85858ea3e464737bd975b1905abc51eb038", "docs/REPORT.md": "5d87b7b844dbc6bf8f2e347bd68fb6af6f59ee31"}
+# The commit from which the documents were made, and the digests of those there, without the tables that a tool makes.
+COMMIT = "5a475230"
+MADE_FROM = {"docs/PROVED.md": "a713e8bf94fd3136", "docs/REPORT.md": "2b1d4347bab816e6"}
 # Each section of REPORT.md: the document that has it now, and its title there.
 SECTIONS = {
     "Commands": ("COMMANDS.md", "Commands"),
@@ -209,10 +211,14 @@ def git(top, *words):
     return subprocess.run(["git", "-C", top, *words], stdout=subprocess.PIPE, text=True, check=True).stdout
 
 
+def digest(text):
+    return hashlib.sha256(re.sub(r"(?s)(<!-- made: \w+ -->\n).*?(<!-- end)", r"\1\2", text).encode()).hexdigest()[:16]
+
+
 def changed_since(top, put):
     """Returns the documents that aren't those from which the new ones were made."""
-    made_from = {it: blob for it, blob in MADE_FROM.items() if it == "docs/REPORT.md" or Path(it).name in put}
-    return [it for it, blob in made_from.items() if git(top, "hash-object", str(top / it)).strip() != blob]
+    of = [it for it in MADE_FROM if it == "docs/REPORT.md" or Path(it).name in put]
+    return [it for it in of if digest((top / it).read_text()) != MADE_FROM[it]]
 
 
 def headless():
@@ -228,7 +234,7 @@ def main(words):
     put = {it.name: it for it in NEW.glob("*.md") if proved or it.name != "PROVED.md"}
     old = changed_since(top, put)
     for it in old:
-        print(f"{it} isn't the one from which documents/ was made; `git diff {MADE_FROM[it]} HEAD:{it}` shows what to bring over")
+        print(f"{it} isn't the one from which documents/ was made; `git diff {COMMIT} HEAD -- {it}` shows what to bring over")
     if old and not anyway:
         return 1
     if headless():
