@@ -51,6 +51,26 @@ SECTIONS = {
     "All refusals": ("REFUSALS.md", "All refusals"),
 }
 SECTIONS |= {f"The text of `{it}`": ("OUTPUT.md", f"The text of `{it}`") for it in ("why", "cure", "images", "export", "log", "show", "check")}
+# Each section that the short PROVED.md doesn't have: the one that has its promises there.
+PROVED = {
+    "In plain words": "The report",
+    "Images and commands": "Commands",
+    "Files": "Commands",
+    "All images as a text": "Commands",
+    "Logs": "Logs and crash images",
+    "Cuts, units and choices": "Logs and crash images",
+    "Crash images": "Logs and crash images",
+    "Any number of losses": "Logs and crash images",
+    "Why a program fails": "Why a program fails, and cures",
+    "Where a flush is missing": "Why a program fails, and cures",
+    "Checkers as bytes and as text": "Checkers and the machine",
+    "The machine": "Checkers and the machine",
+    "Blocks and pieces": "Threads and the cache",
+    "The board": "Threads and the cache",
+    "The hands": "Threads and the cache",
+    "Verdict cache": "Threads and the cache",
+    "The exploration as a list of events": "Threads and the cache",
+}
 # Where a file means a narrower section than the one it names.
 MOVED = {
     ("crates/commands/specs/Stored.antt", "Commands"): ("COMMANDS.md", "The stored run"),
@@ -130,10 +150,18 @@ TOOL = [
 ]
 # A space of a reference, which may be the end of a line of a comment.
 SPACE = r"(?:[ ]|[ ]?\n[ \t]*(?://[/!]?|--|#)?[ ]*)"
-TITLE = "|".join(SPACE.join(map(re.escape, it.split(" "))) for it in sorted(SECTIONS, key=len, reverse=True))
+
+
+def spelt(titles):
+    """Returns what matches one of these titles, over whatever lines."""
+    return "|".join(SPACE.join(map(re.escape, it.split(" "))) for it in sorted(titles, key=len, reverse=True))
+
+
+TITLE = spelt(SECTIONS)
 REFERENCE = re.compile(
     rf"(?P<folder>docs/)?REPORT\.md,(?P<space>{SPACE})(?P<quote>'?)(?P<title>{TITLE})(?![\w`])(?:(?P<and>{SPACE}and{SPACE})(?P<other>{TITLE})(?![\w`]))?"
 )
+IN_PROVED = re.compile(rf"(?P<before>PROVED\.md,{SPACE}'?(?:Blocks and pieces', ')?)(?P<title>{spelt(PROVED)})(?=['),;])")
 LINK = re.compile(r"\[(?P<says>[^\]]*)\]\((?P<path>[./\w]*)REPORT\.md#(?P<anchor>[\w-]+)\)")
 
 
@@ -151,16 +179,18 @@ def place_of(path, title):
     return MOVED.get((path, title)) or SECTIONS[title]
 
 
-def told(space, spelt, title):
+def told(space, old, title):
     """Returns a section's title as it stands after a document's name: over the lines of the old one, where it keeps its words."""
-    if title_of(spelt) == title:
-        return space + spelt
-    turn = re.search(r"[ ]?\n[ \t]*(?://[/!]?|--|#)?[ ]*", spelt)
+    if title_of(old) == title:
+        return space + old
+    turn = re.search(r"[ ]?\n[ \t]*(?://[/!]?|--|#)?[ ]*", old)
     return (turn[0] if turn else space) + title
 
 
-def rewritten(path, text):
-    """Returns a file's text with its references rewritten, and those that no table has."""
+def rewritten(path, text, proved):
+    """Returns a file's text with its references rewritten, and those that no table has; with `proved` those to PROVED.md too."""
+    if proved:
+        text = IN_PROVED.sub(lambda it: it["before"].replace("Blocks and pieces', '", "") + told("", it["title"], PROVED[title_of(it["title"])]), text)
     for file, old, new in SPECIAL:
         if file == path and old in text:
             text = text.replace(old, new)
@@ -246,8 +276,8 @@ def main(words):
         if not path or path.startswith("patches/") or path in replaced or not (top / path).is_file():
             continue
         content = (top / path).read_bytes()
-        if b"REPORT.md" in content or b"report_tables" in content:
-            text, lost = rewritten(path, content.decode())
+        if b"REPORT.md" in content or b"report_tables" in content or proved and b"PROVED.md" in content:
+            text, lost = rewritten(path, content.decode(), proved)
             texts[path] = text
             unknown += lost
     if unknown:
