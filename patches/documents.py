@@ -115,6 +115,8 @@ SPECIAL = [
     ("docs/ROADMAP.md", "REPORT.md, 'The text of a part', 'Joining parts'", "OUTPUT.md, 'The text of a part'; COMMANDS.md, 'Joining parts'"),
     ("examples/README.md", "[docs/REPORT.md](../docs/REPORT.md), 'The text of `cure`'", "[docs/OUTPUT.md](../docs/OUTPUT.md), 'The text of `cure`'"),
     ("tests/parts_model.py", "docs/REPORT.md ('The text of a part', 'Joining parts', 'The text of `images`')", "docs/OUTPUT.md ('The text of a part', 'The text of `images`'), docs/COMMANDS.md ('Joining parts')"),
+    ("tests/cure_model.py", "docs/REPORT.md, 'The text of `cure`'", "docs/COMMANDS.md, 'cure', and docs/OUTPUT.md, 'The text of `cure`'"),
+    ("tests/run.py", "docs/CRASH-MODEL.md and docs/REPORT.md alone; by", "docs/CRASH-MODEL.md, docs/COMMANDS.md and docs/OUTPUT.md alone; by"),
     ("tests/package.py", '"docs/REPORT.md"', '"docs/COMMANDS.md", "docs/OUTPUT.md", "docs/REFUSALS.md"'),
     ("tests/run.py", "whether the tables of docs/REPORT.md that\n", "whether the tables of docs/ that\n"),
     ("tests/run.py", "What is wrong with the tables of docs/REPORT.md that", "What is wrong with the tables of docs/ that"),
@@ -262,6 +264,9 @@ def main(words):
     folders = [it for it in words if not it.startswith("--")]
     top = Path(folders[0] if folders else HERE.parent).resolve()
     put = {it.name: it for it in NEW.glob("*.md") if proved or it.name != "PROVED.md"}
+    if not (top / "docs/REPORT.md").exists():
+        print("docs/REPORT.md isn't there: it was split already")
+        return 1
     old = changed_since(top, put)
     for it in old:
         print(f"{it} isn't the one from which documents/ was made; `git diff {COMMIT} HEAD -- {it}` shows what to bring over")
