@@ -81,6 +81,13 @@ class Export:
         if status != 0:
             raise Refusal(f"crashbpf export ended with {status}: {self.first_line()}")
 
+    def status_now(self):
+        """Returns the status of the process where it has ended, or is about to, and None where it goes on."""
+        try:
+            return self.process.wait(1)
+        except subprocess.TimeoutExpired:
+            return None
+
     def first_line(self):
         self.said.seek(0)
         return first_line(self.said.read(65536))
