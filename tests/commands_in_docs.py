@@ -40,6 +40,7 @@ NOT_RUN = {
     r"sbatch|parallel|try_slurm|join_all run >": "it needs Slurm or several machines; tests/many_machines.py runs parts as processes",
     r"crashbpf-each .*e2fsck": "tests/each.py runs it on an ext2",
     r"\bused/|\bkernel\b|recovery/|mounted": "it needs a log that QEMU recorded",
+    r"tests/real_programs\.py": "it is a test itself, which records databases",
 }
 # What the reader of a document has, as commands that make it. The first C of the document is $FIRST_C, its first fence without a
 # language $FIRST_TEXT.
