@@ -20,9 +20,7 @@ import signal
 import struct
 import subprocess
 import sys
-import tempfile
 import time
-from concurrent.futures import ThreadPoolExecutor
 from pathlib import Path
 
 sys.dont_write_bytecode = True
@@ -30,6 +28,7 @@ sys.dont_write_bytecode = True
 from designs import DESIGNS
 from model import Run, escaped
 from notation import MARK, TOP, D, F, M, S, W, log
+from shells import differs, sh, try_all
 
 EACH = TOP / "examples/each/crashbpf-each"
 # Of ext2: the sectors of the device and of a block.
@@ -39,15 +38,6 @@ STATE = "crashbpf-each.state"
 # How many rows are tried side by side.
 AT_A_TIME = 4
 SMALL = Run([W(0, 2, 1), W(2, 1, 2), F, W(1, 2, 3), M('"end" \t1'), W(3, 1, 4), F, M("two"), D(0, 2)], bound=1)
-
-
-def sh(folder, text, *words):
-    """Runs shell commands in a folder, in whose path `crashbpf` is the program."""
-    return subprocess.run(["sh", "-c", text, "sh", *map(str, words)], cwd=folder, capture_output=True, text=True, stdin=subprocess.DEVNULL)
-
-
-def differs(what, found, wanted):
-    return [] if found == wanted else [f"{what} is {found!r}, and {wanted!r} is right"]
 
 
 def put(folder, run):
@@ -542,33 +532,5 @@ def gives_design(folder):
     return ended("it", each(folder, words, program), 1, report(run, program, lambda of: "answer 1 codes -" if of.content() in bad else None))
 
 
-def tried(row):
-    """Returns the name of a row and what is wrong, tried in a folder of its own."""
-    name, check = row
-    with tempfile.TemporaryDirectory() as folder:
-        return name, check(folder)
-
-
-def main(words):
-    # A process that was started by nohup, or behind a shell's &, ignores some signals, and so would what it starts.
-    for number in (signal.SIGHUP, signal.SIGINT, signal.SIGTERM):
-        signal.signal(number, signal.SIG_DFL)
-    program = Path(words[0] if words else TOP / "crates/crashbpf/out/crashbpf").resolve()
-    if not os.access(program, os.X_OK):
-        sys.exit(f"there is no program {program}: `rt run` in crates/crashbpf builds it")
-    passed = failed = 0
-    with tempfile.TemporaryDirectory() as path:
-        os.symlink(program, Path(path, "crashbpf"))
-        os.environ["PATH"] = os.pathsep.join([path, os.environ["PATH"], "/usr/sbin", "/sbin"])
-        os.environ.pop("CRASHBPF", None)
-        with ThreadPoolExecutor(AT_A_TIME) as pool:
-            for name, found in pool.map(tried, rows()):
-                passed, failed = passed + (not found), failed + bool(found)
-                if found:
-                    print(f"FAILED {name}: {'; '.join(found)[:2000]}")
-    print(f"{passed} passed, {failed} failed")
-    return 1 if failed else 0
-
-
 if __name__ == "__main__":
-    sys.exit(main(sys.argv[1:]))
+    sys.exit(try_all(sys.argv[1:], rows(), AT_A_TIME))

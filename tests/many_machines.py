@@ -15,7 +15,6 @@ import shutil
 import signal
 import subprocess
 import sys
-import tempfile
 import time
 from pathlib import Path
 
@@ -24,18 +23,10 @@ sys.dont_write_bytecode = True
 from designs import DESIGNS
 from model import Run
 from notation import TOP, W, log
+from shells import differs, sh, try_all
 
 MACHINES = TOP / "examples/many_machines"
 LOGS = TOP / "crates/aside/data"
-
-
-def sh(folder, text, *words):
-    """Runs shell commands in a folder, in whose path `crashbpf` is the program."""
-    return subprocess.run(["sh", "-c", text, "sh", *map(str, words)], cwd=folder, capture_output=True, text=True, stdin=subprocess.DEVNULL)
-
-
-def differs(what, found, wanted):
-    return [] if found == wanted else [f"{what} is {found!r}, and {wanted!r} is right"]
 
 
 def laid_out(folder, run, parts, options=""):
@@ -343,26 +334,5 @@ def rows():
     yield "known failures", known_failures
 
 
-def main(words):
-    # A process that was started by nohup, or behind a shell's &, ignores some signals, and so would what it starts.
-    for number in (signal.SIGHUP, signal.SIGINT, signal.SIGTERM):
-        signal.signal(number, signal.SIG_DFL)
-    program = Path(words[0] if words else TOP / "crates/crashbpf/out/crashbpf").resolve()
-    if not os.access(program, os.X_OK):
-        sys.exit(f"there is no program {program}: `rt run` in crates/crashbpf builds it")
-    passed = failed = 0
-    with tempfile.TemporaryDirectory() as path:
-        os.symlink(program, Path(path, "crashbpf"))
-        os.environ["PATH"] = os.pathsep.join([path, os.environ["PATH"], "/usr/sbin", "/sbin"])
-        for name, check in rows():
-            with tempfile.TemporaryDirectory() as folder:
-                found = check(folder)
-            passed, failed = passed + (not found), failed + bool(found)
-            if found:
-                print(f"FAILED {name}: {'; '.join(found)[:2000]}")
-    print(f"{passed} passed, {failed} failed")
-    return 1 if failed else 0
-
-
 if __name__ == "__main__":
-    sys.exit(main(sys.argv[1:]))
+    sys.exit(try_all(sys.argv[1:], rows()))

@@ -143,23 +143,22 @@ class Machine:
             return "".join((self.folder / "console").read_text(errors="replace").splitlines(keepends=True)[-40:])
         return ""
 
-    def kill(self):
-        """Ends the machine, which is then started anew."""
-        process = self.process("qemu.pid")
+    def stop(self, name, number):
+        """Sends a signal to the process that a file names, and waits for its end."""
+        process = self.process(name)
         if process:
             with contextlib.suppress(OSError):
-                os.kill(process, signal.SIGKILL)
+                os.kill(process, number)
             while runs(process):
                 time.sleep(0.01)
 
+    def kill(self):
+        """Ends the machine, which is then started anew."""
+        self.stop("qemu.pid", signal.SIGKILL)
+
     def end(self):
         """Ends the process that starts the machine, and with it the machine."""
-        process = self.process("watch.pid")
-        if process:
-            with contextlib.suppress(OSError):
-                os.kill(process, signal.SIGTERM)
-            while runs(process):
-                time.sleep(0.01)
+        self.stop("watch.pid", signal.SIGTERM)
 
 
 def locked(file):

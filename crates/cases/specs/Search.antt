@@ -135,8 +135,8 @@ pub record Ran (s : Subject) (old new : SearchValue) (before after : List LeafVa
   pub torn : new.torn_beyond ≡ plus old.torn_beyond (count_by (is_torn_beyond s) left)
   pub lost : new.lost_beyond ≡ plus old.lost_beyond (count_by (λ c. not (is_torn_beyond s c)) left)
 
--- A judge was told of the leaves of all choices of a cut, in order, and of no other, each with what the program ends in there. So many
--- cases were left out since more parts are torn in them than is asked, and so many others, since more are lost.
+-- A judge was told of the leaves of all choices of a cut, in order, and of no other, each with what the program ends in there. `torn`
+-- counts the cases that were left out since more parts are torn in them than is asked, and `lost` the others, in which more are lost.
 pub record FoundCases (s : Subject) (tears : Bool) (at : CutValue) (before after : List LeafValue) (torn lost : ℕ) : Type 0 where
   pub told : List LeafValue
   pub left : List Case
@@ -146,7 +146,7 @@ pub record FoundCases (s : Subject) (tears : Bool) (at : CutValue) (before after
   pub torn_beyond : torn ≡ plus 0 (count_by (is_torn_beyond s) left)
   pub lost_beyond : lost ≡ plus 0 (count_by (λ c. not (is_torn_beyond s c)) left)
 
--- A judge was told of the first leaves of a cut, so many, each with what the program ends in there, and other cases were to be explored.
+-- A judge was told of the first `most` leaves of a cut, each with what the program ends in there, and other cases were to be explored.
 pub record BegunCases (s : Subject) (tears : Bool) (at : CutValue) (before after : List LeafValue) (most : ℕ) : Type 0 where
   pub told : List LeafValue
   pub left : List Case

@@ -33,7 +33,7 @@
 //! | Call | Answer |
 //! |---|---|
 //! | `Cut::new(alloc, log, way, number)` | a cut of a log. It takes memory for each part at risk |
-//! | `find_cases(alloc, cut, tears, torn, lost, most, judge)` | tells a judge of all leaves of a cut, and answers how many cases were left out; or `None` where it told so many leaves, and hadn't ended |
+//! | `find_cases(alloc, cut, tears, torn, lost, most, judge)` | tells a judge of all leaves of a cut, and answers how many cases were left out; or `None` where it told of `most` leaves before it had ended |
 //! | `Search::new(alloc, cut, tears, torn, lost)` | the same leaf by leaf: a search that hasn't begun |
 //! | `search.next(judge)` | goes on to the next leaf, if there is one; `search.sets()` is its case |
 //! | `search.torn_beyond()`, `search.lost_beyond()` | how many cases were left out so far |
@@ -62,7 +62,7 @@
 //! - `find_cases` tells its judge of the leaves of `AreCases`, in their order, and of no other, each with what the program ends in on the
 //!   image of its representative. The cases that were left out are those of the same tree, and it counts them: those that are torn in more
 //!   parts than is asked, and the others, which are lost in more. `Search::next` is one step of that. Both hold for each judge whose
-//!   answers are those of its program. Where it told so many leaves as it may, it says that these are the first ones.
+//!   answers are those of its program. Where it stops at `most` leaves, these are the first ones.
 //! - `Cut::first_split` answers exactly the `first_split` of the definition: its part is the first that tells choices of the case apart
 //!   in these sectors, its groups are the `kinds` of its fates, in order, none forgotten and none twice, and where it answers none there
 //!   is none.

@@ -66,7 +66,7 @@ fn all_of(tears: bool) -> u16
     if tears { 65535 } else { 3 }
 }
 
-/// The same set for each of some parts.
+/// A set for each of some parts, all alike.
 fn sets_of(alloc: Global, count: usize, set: u16) -> Result<Vec<u16>, AllocError>
     ensures { IfOk result (λ sets. sets.items ≡ replicate count set) }
 {
@@ -366,8 +366,8 @@ impl<'a> Search<'a> {
         judge.tell(self.cut, self.sets.as_slice())
     }
 
-    /// Goes on from leaf to leaf, so many at most, and tells a judge of each. Answers `true` where there is no other leaf, and `false`
-    /// where it told so many, of which the last may be the last of all.
+    /// Goes on from leaf to leaf, to at most `most` of them, and tells a judge of each. Answers `true` where there is no other leaf, and
+    /// `false` where it told of `most`, of which the last may be the last of all.
     pub fn run<J: Judge>(&mut self, judge: &mut J, most: u32) -> Result<bool, AllocError>
         ensures same { SameSearch self.old self.new }
         ensures program { J.program judge.new ≡ J.program judge.old }
@@ -395,8 +395,8 @@ pub struct Beyond {
     pub lost: u64,
 }
 
-/// Tells a judge of the leaves of a cut, which are so many at most, and answers how many cases were left out: none where it is complete.
-/// Answers `None` where it told so many leaves, and there may be others.
+/// Tells a judge of the leaves of a cut, of `most` at most, and answers how many cases were left out: none where it is complete.
+/// Answers `None` where it told of `most` leaves, and there may be others.
 ///
 /// # Errors
 ///
