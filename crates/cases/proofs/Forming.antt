@@ -39,7 +39,7 @@ pub record FormSo (at : CutValue) (s : ℕ) (sets : List ℕ) (missing cut : ℕ
   pub low : cut ≤ at.cut
   pub long : length out ≡ 512
 
-all_wanted : (j : ℕ) → j < 8 → has 255 j ≡ true
+pub all_wanted : (j : ℕ) → j < 8 → has 255 j ≡ true
 all_wanted zero low = refl
 all_wanted (suc zero) low = refl
 all_wanted (suc (suc zero)) low = refl

@@ -13,3 +13,5 @@ pub mod Splitting
 pub mod Paths
 pub mod Runs
 pub mod Forming
+pub mod Lending
+pub mod Once

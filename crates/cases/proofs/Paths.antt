@@ -17,11 +17,11 @@ use Rattle.choices.specs.Choices.{nowhere}
 use Rattle.cases.specs.declared.split.Parted.{Parted}
 use Rattle.cases.specs.declared.search.Frame.{Frame}
 use Rattle.cases.specs.Cases.{Case, whole_case, is_same, with_part, firsts, kinds, show_alike}
-use Rattle.cases.specs.Trees.{Program, Subject, is_torn, is_lost, surely, is_within, AreLeaves, is_beyond, is_leaf, is_split}
+use Rattle.cases.specs.Trees.{Program, Subject, is_torn, is_lost, surely, is_within}
 use Rattle.cases.specs.Choices.{all_fates}
 use Rattle.cases.specs.Sets.{fates_in, numbers_in, all_torn, all_lost}
 use Rattle.cases.specs.AtCut.{CutValue, Apart, parts_of, case_of, split_by, split_at, IsFound}
-use Rattle.cases.specs.Search.{Asked, subject_of, SearchValue, pending, others, Leads, Descends, Took, Went, case_in, count_torn, count_lost, is_torn_beyond, plus, IsSearch, SameSearch, OnlyCounts, Counted}
+use Rattle.cases.specs.Search.{Asked, subject_of, SearchValue, pending, others, LeadTo, past_beyond, past_leaf, past_split, Leads, Descends, Took, Went, case_in, count_torn, count_lost, is_torn_beyond, plus, IsSearch, SameSearch, OnlyCounts, Counted}
 use Rattle.cases.proofs.Cases.{IsSplit, first_is, shown_kinds}
 use Rattle.cases.proofs.Distinct.{apart_risky}
 use Rattle.cases.proofs.Chosen.{case_there, case_with, count_in_case, count_same, torn_all, lost_all, torn_first, lost_first, first_group, count_set_le}
@@ -135,9 +135,9 @@ within_set asked sets k g within torn lost is =
 
 -- what a split of a case does
 pub record Deeper (asked : Asked) (program : Program) (tears : Bool) (sets : List ℕ) (it : Parted) (first : ℕ) : Type 0 where
-  pub leads : (os more rest : List Case) → is_within (subject_of asked program) (case_of tears (parts_of asked.at) sets) ≡ true
-      → AreLeaves (subject_of asked program) (map (λ bits. case_of tears (parts_of asked.at) (set sets it.part bits)) it.groups.items ++ os) more rest
-      → AreLeaves (subject_of asked program) (case_of tears (parts_of asked.at) sets ∷ os) more rest
+  pub leads : (end os more rest : List Case) → is_within (subject_of asked program) (case_of tears (parts_of asked.at) sets) ≡ true
+      → LeadTo (subject_of asked program) end (map (λ bits. case_of tears (parts_of asked.at) (set sets it.part bits)) it.groups.items ++ os) more rest
+      → LeadTo (subject_of asked program) end (case_of tears (parts_of asked.at) sets ∷ os) more rest
   pub within : is_within (subject_of asked program) (case_of tears (parts_of asked.at) sets) ≡ true
       → is_within (subject_of asked program) (case_of tears (parts_of asked.at) (set sets it.part first)) ≡ true
   pub less : sum_by (λ bits. length (fates_in bits)) (set sets it.part first) < sum_by (λ bits. length (fates_in bits)) sets
@@ -191,9 +191,9 @@ deeper asked program tears sets it g gs apart long inside groups is =
     let moved = sum_by-set (λ bits. length (fates_in bits)) sets it.part g 0 held in
     let fewer = first.less in
     record {
-      leads = λ os more rest within are_leaves.
-          is_split c (split_by parts it) os more rest within is
-          (subst (λ cs. AreLeaves (subject_of asked program) (cs ++ os) more rest) (children it.groups.items there held) are_leaves);
+      leads = λ end os more rest within are_leaves.
+          past_split c (split_by parts it) os more rest within is
+          (subst (λ cs. LeadTo (subject_of asked program) end (cs ++ os) more rest) (children it.groups.items there held) are_leaves);
       within = λ within.
           is_within_by asked program tears (set sets it.part g) apart long_more
           ∙ within_set asked sets it.part g held
@@ -225,10 +225,10 @@ pub record TakenSo (sets : List ℕ) (frames : List Frame) (now : List ℕ) (lef
 pub record GoneSo (at : CutValue) (program : Program) (tears : Bool) (sets : List ℕ) (frames : List Frame) (now : List ℕ) (more : List Frame) : Type 0 where
   pub within : (torn : ℕ) (lost : Option ℕ) → is_within (subject_of (record { at = at; torn = torn; lost = lost }) program) (case_of tears (parts_of at) sets) ≡ true
       → is_within (subject_of (record { at = at; torn = torn; lost = lost }) program) (case_of tears (parts_of at) now) ≡ true
-  pub leads : (torn : ℕ) (lost : Option ℕ) (leaves rest : List Case)
+  pub leads : (torn : ℕ) (lost : Option ℕ) (end leaves rest : List Case)
       → is_within (subject_of (record { at = at; torn = torn; lost = lost }) program) (case_of tears (parts_of at) sets) ≡ true
-      → AreLeaves (subject_of (record { at = at; torn = torn; lost = lost }) program) (case_of tears (parts_of at) now ∷ others tears (parts_of at) now (reverse more)) leaves rest
-      → AreLeaves (subject_of (record { at = at; torn = torn; lost = lost }) program) (case_of tears (parts_of at) sets ∷ others tears (parts_of at) sets (reverse frames)) leaves rest
+      → LeadTo (subject_of (record { at = at; torn = torn; lost = lost }) program) end (case_of tears (parts_of at) now ∷ others tears (parts_of at) now (reverse more)) leaves rest
+      → LeadTo (subject_of (record { at = at; torn = torn; lost = lost }) program) end (case_of tears (parts_of at) sets ∷ others tears (parts_of at) sets (reverse frames)) leaves rest
   pub each : length now ≡ length (parts_of at)
   pub splits : All (λ (f : Frame). f.part < length now) more
 
@@ -236,7 +236,7 @@ pub gone_none : (at : CutValue) (program : Program) (tears : Bool) (sets : List 
     → All (λ (f : Frame). f.part < length sets) frames → GoneSo at program tears sets frames sets frames
 gone_none at program tears sets frames each splits = record {
   within = λ torn lost is. is;
-  leads = λ torn lost leaves rest within are. are;
+  leads = λ torn lost end leaves rest within are. are;
   each = each;
   splits = splits;
 }
@@ -261,10 +261,10 @@ gone_more at program tears sets frames now more it next after apart so is long s
         within = λ torn lost within.
             subst (λ (xs : List ℕ). is_within (subject_of (record { at = at; torn = torn; lost = lost }) program) (case_of tears (parts_of at) xs) ≡ true) (sym moved)
             ((deep torn lost).within (so.within torn lost within));
-        leads = λ torn lost leaves rest within are.
-            so.leads torn lost leaves rest within
-            ((deep torn lost).leads (others tears (parts_of at) now (reverse more)) leaves rest (so.within torn lost within)
-            (subst (λ (cs : List Case). AreLeaves (subject_of (record { at = at; torn = torn; lost = lost }) program) cs leaves rest) (sym (split has.first has.rest has.is)) are));
+        leads = λ torn lost end leaves rest within are.
+            so.leads torn lost end leaves rest within
+            ((deep torn lost).leads end (others tears (parts_of at) now (reverse more)) leaves rest (so.within torn lost within)
+            (subst (λ (cs : List Case). LeadTo (subject_of (record { at = at; torn = torn; lost = lost }) program) end cs leaves rest) (sym (split has.first has.rest has.is)) are));
         each = long ∙ so.each;
         splits = splits;
       },
@@ -275,9 +275,9 @@ gone_more at program tears sets frames now more it next after apart so is long s
 pub gone_all : (at : CutValue) (program : Program) (tears : Bool) (sets : List ℕ) (frames : List Frame) (now : List ℕ) (more : List Frame)
     → GoneSo at program tears sets frames now more → split_at at program (case_of tears (parts_of at) now) ≡ None
     → (torn : ℕ) (lost : Option ℕ) → Descends (record { at = at; torn = torn; lost = lost }) program tears sets (reverse frames) now (reverse more)
-gone_all at program tears sets frames now more so none torn lost within leaves rest are =
-    so.leads torn lost (case_of tears (parts_of at) now ∷ leaves) rest within
-    (is_leaf (case_of tears (parts_of at) now) (others tears (parts_of at) now (reverse more)) leaves rest (so.within torn lost within) none are)
+gone_all at program tears sets frames now more so none torn lost within end leaves rest are =
+    so.leads torn lost end (case_of tears (parts_of at) now ∷ leaves) rest within
+    (past_leaf (case_of tears (parts_of at) now) (others tears (parts_of at) now (reverse more)) leaves rest (so.within torn lost within) none are)
 
 -- the cases that were left out, so far
 pub record PassedSo (s : Subject) (old now : SearchValue) : Type 0 where
@@ -343,7 +343,7 @@ plus_more n a true = ap (plus n) (add-one a)
 plus_more n a false = let same : a + 0 ≡ a = omega arith in ap (plus n) same
 
 pub passed_start : (s : Subject) (v : SearchValue) → PassedSo s v v
-passed_start s v = record { left = []; leads = λ more rest are. are; torn = refl; lost = refl }
+passed_start s v = record { left = []; leads = λ end more rest are. are; torn = refl; lost = refl }
 
 -- what only the counts tell apart has the same case, and the same to be explored
 pub same_case : (old new : SearchValue) → OnlyCounts old new → case_in new ≡ case_in old
@@ -362,11 +362,11 @@ passed_more s old now taken next so is torn lost only counted =
     let same = same_pending taken next only in
     record {
       left = so.left ++ c ∷ [];
-      leads = λ more rest are.
-          subst (λ (cs : List Case). AreLeaves s (pending old) more cs) (sym (append_assoc so.left (c ∷ []) rest))
-          (so.leads more (c ∷ rest)
-          (subst (λ (cs : List Case). AreLeaves s cs more (c ∷ rest)) (sym is)
-          (is_beyond c (pending taken) more rest counted.is (subst (λ (cs : List Case). AreLeaves s cs more rest) same are))));
+      leads = λ end more rest are.
+          subst (λ (cs : List Case). LeadTo s end (pending old) more cs) (sym (append_assoc so.left (c ∷ []) rest))
+          (so.leads end more (c ∷ rest)
+          (subst (λ (cs : List Case). LeadTo s end cs more (c ∷ rest)) (sym is)
+          (past_beyond c (pending taken) more rest counted.is (subst (λ (cs : List Case). LeadTo s end cs more rest) same are))));
       torn =
           counted.torn ∙ ap (λ n. plus n (if is_torn_beyond s c then 1 else 0)) (torn ∙ so.torn)
           ∙ sym (plus_more old.torn_beyond (count_by (is_torn_beyond s) so.left) (is_torn_beyond s c))
@@ -426,7 +426,7 @@ pub took : (s : Subject) (old now next : SearchValue) (found : Bool) → PassedS
     → Took s old next found
 took s old now next found so is within ended torn lost = record {
   left = so.left;
-  leads = λ more rest are. so.leads more rest (subst (λ (cs : List Case). AreLeaves s cs more rest) (sym is) are);
+  leads = λ end more rest are. so.leads end more rest (subst (λ (cs : List Case). LeadTo s end cs more rest) (sym is) are);
   within = within;
   ended = ended;
   torn = torn ∙ so.torn;
@@ -451,11 +451,11 @@ went_found asked program old mid new one same kept tears mid_taken new_taken tor
     let within : is_within s (case_of mid.tears (parts_of asked.at) mid.sets) ≡ true = sym (ap (is_within s) mid_case) ∙ one.within refl in
     record {
       left = one.left;
-      leads = λ more rest are.
-          subst (λ (c : Case). AreLeaves s (pending old) (c ∷ more) (one.left ++ rest)) (sym new_case)
-          (one.leads (case_of mid.tears (parts_of asked.at) new.sets ∷ more) rest
-          (subst (λ (cs : List Case). AreLeaves s cs (case_of mid.tears (parts_of asked.at) new.sets ∷ more) rest) (sym (λ i. mid_case i ∷ mid_pending i))
-          (down within more rest (subst (λ (cs : List Case). AreLeaves s cs more rest) new_pending are))));
+      leads = λ end more rest are.
+          subst (λ (c : Case). LeadTo s end (pending old) (c ∷ more) (one.left ++ rest)) (sym new_case)
+          (one.leads end (case_of mid.tears (parts_of asked.at) new.sets ∷ more) rest
+          (subst (λ (cs : List Case). LeadTo s end cs (case_of mid.tears (parts_of asked.at) new.sets ∷ more) rest) (sym (λ i. mid_case i ∷ mid_pending i))
+          (down within end more rest (subst (λ (cs : List Case). LeadTo s end cs more rest) new_pending are))));
       ended = λ f. absurd (let bad : true ≡ false = f in cc);
       torn = torn ∙ one.torn;
       lost = lost ∙ one.lost;
@@ -465,7 +465,7 @@ went_found asked program old mid new one same kept tears mid_taken new_taken tor
 pub went_none : (s : Subject) (old new : SearchValue) → Took s old new false → Went s old new false
 went_none s old new one = record {
   left = one.left;
-  leads = λ more rest are. one.leads more rest (subst (λ (cs : List Case). AreLeaves s cs more rest) (one.ended refl) are);
+  leads = λ end more rest are. one.leads end more rest (subst (λ (cs : List Case). LeadTo s end cs more rest) (one.ended refl) are);
   ended = one.ended;
   torn = one.torn;
   lost = one.lost;

@@ -8,4 +8,6 @@ pub mod Laws
 pub mod Sets
 pub mod AtCut
 pub mod Table
+pub mod Lent
 pub mod Search
+pub mod Once

@@ -1,11 +1,12 @@
 -- The search for the leaves: a case as a set for each part at risk, and what is still to be explored.
-use Rattle.std.specs.Prelude.{ℕ, zero, suc, ◌≡◌, ◌+◌, ◌-◌, ◌^◌, ◌<◌, ◌≤◌, min, nat_le, Bool, true, not, ◌&&◌, if◌then◌else◌, List, [], ◌∷◌, ◌++◌, length, map, reverse, set, count_by, Option, IsTrue, IsFalse, All}
+use Rattle.std.specs.Prelude.{ℕ, zero, suc, ◌≡◌, ◌+◌, ◌-◌, ◌^◌, ◌<◌, ◌≤◌, min, nat_le, Bool, true, false, not, ◌&&◌, if◌then◌else◌, List, [], ◌∷◌, ◌++◌, length, map, reverse, set, count_by, Option, None, Some, IsTrue, IsFalse, All}
 use Rattle.epochs.specs.declared.part.Part.{Part}
 use Rattle.cases.specs.declared.search.Frame.{Frame}
 use Rattle.cases.specs.Cases.{Case, whole_case, representative}
 use Rattle.cases.specs.AtCut.{CutValue, parts_of, case_of}
 use Rattle.machine.specs.Outcome.{Ending}
-use Rattle.cases.specs.Trees.{Program, Subject, ending_of, is_torn, surely, is_within, AreLeaves}
+use Rattle.cases.specs.Cases.{Split, with_part}
+use Rattle.cases.specs.Trees.{Program, Subject, ending_of, is_torn, surely, is_within, split_of}
 use Rattle.cases.specs.Laws.{AreCases}
 use Rattle.cases.specs.Sets.{all_torn, all_lost}
 
@@ -50,9 +51,17 @@ case_in v = case_of v.tears (parts_of v.asked.at) v.sets
 abbrev pub pending : SearchValue → List Case
 pending v = (if v.fresh then case_in v ∷ [] else []) ++ others v.tears (parts_of v.asked.at) v.sets (reverse v.frames)
 
--- some leaves, and some cases that were left out, lead from some cases to others: they come before the leaves of these
+-- The leaves of some cases up to others, which are still to be explored, and the cases beyond what is asked, as in `AreLeaves`.
+pub data LeadTo (s : Subject) (to : List Case) : List Case → List Case → List Case → Type 0 where
+  are_there : LeadTo s to to [] []
+  past_beyond : (c : Case) (cs leaves left : List Case) → is_within s c ≡ false → LeadTo s to cs leaves left → LeadTo s to (c ∷ cs) leaves (c ∷ left)
+  past_leaf : (c : Case) (cs leaves left : List Case) → is_within s c ≡ true → split_of s c ≡ None → LeadTo s to cs leaves left → LeadTo s to (c ∷ cs) (c ∷ leaves) left
+  past_split : (c : Case) (it : Split) (cs leaves left : List Case) → is_within s c ≡ true → split_of s c ≡ Some it
+      → LeadTo s to (map (with_part c it.part) it.groups ++ cs) leaves left → LeadTo s to (c ∷ cs) leaves left
+
+-- some leaves, and some cases that were left out, lead from some cases to others: they come before what leads on from these
 abbrev pub Leads : Subject → List Case → List Case → List Case → List Case → Type 0
-Leads s from leaves left to = (more rest : List Case) → AreLeaves s to more rest → AreLeaves s from (leaves ++ more) (left ++ rest)
+Leads s from leaves left to = (end more rest : List Case) → LeadTo s end to more rest → LeadTo s end from (leaves ++ more) (left ++ rest)
 
 -- of some sets those without whole and without the drop, and those without whole
 abbrev pub count_torn : List ℕ → ℕ
@@ -153,5 +162,5 @@ pub record BegunCases (s : Subject) (tears : Bool) (at : CutValue) (before after
   pub to : List Case
   pub added : after ≡ before ++ told
   pub many : length told ≡ most
-  pub leads : Leads s (whole_case tears ∷ []) (map (leaf_case tears at) told) left to
+  pub leads : LeadTo s to (whole_case tears ∷ []) (map (leaf_case tears at) told) left
   pub endings : All (EndsSo s tears at) told

@@ -5,7 +5,7 @@ ghost use Rattle.logfmt.specs.declared.entry.Entry.{Entry as LogEntry};
 ghost use Rattle.epochs.specs.declared.part.Part.{Part as LogPart};
 ghost use Rattle.epochs.specs.Laws.{last_flush};
 ghost use Rattle.epochs.specs.Parts.{parts_of_entry, part_size};
-ghost use Rattle.limits.specs.Sizes.{most_sectors};
+ghost use Rattle.base.specs.Sizes.{most_sectors};
 ghost use Rattle.logfmt.specs.Bounds.{IsLog};
 ghost use Rattle.cases.specs.Risk.{is_at_risk, parts_at_risk};
 ghost use Rattle.cases.specs.AtCut.{parts_of, Apart};
@@ -186,7 +186,7 @@ impl<'a> Cut<'a> {
     }
 
     /// The number of the cut.
-    pub(crate) fn number(&self) -> u32
+    pub fn number(&self) -> u32
         ensures value { result ≡ self.now.cut }
         ensures within { result ≤ length self.now.log.entries }
     {

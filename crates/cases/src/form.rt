@@ -48,7 +48,7 @@ impl<'a> Cut<'a> {
     }
 
     /// The next unit of a sector's row, from a cut down, while pieces are wanted.
-    fn next_wanted(&self, pieces: u16, cut: u32, sector: u32) -> Option<Unit>
+    pub(crate) fn next_wanted(&self, pieces: u16, cut: u32, sector: u32) -> Option<Unit>
         requires { cut ≤ self.now.cut }
         ensures { MatchOption result ((pieces ≡ 0) ⊎ (row self.now.log.entries cut sector ≡ [])) (IsNext self.now.log cut sector) }
     {

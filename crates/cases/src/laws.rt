@@ -1,6 +1,7 @@
 //! Laws of cases. The functions do nothing; each contract is a theorem.
 
 ghost use Rattle.cases.specs.Laws.{EachIsInOne, LeavesEndAlike, LastCutsHaveAll};
+ghost use Rattle.cases.specs.Once.{TreeIsOne};
 
 /// Each choice is in exactly one case.
 pub fn each_is_in_one()
@@ -15,4 +16,9 @@ pub fn leaves_end_alike()
 /// Each image of a cut is one of a last cut.
 pub fn last_cuts_have_all()
     ensures { LastCutsHaveAll }
+{}
+
+/// Some cases have their leaves in one way, and a search on its way has told of no more than these.
+pub fn tree_is_one()
+    ensures { TreeIsOne }
 {}

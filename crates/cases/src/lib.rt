@@ -8,7 +8,7 @@
 //! # Place
 //!
 //! On `epochs`, `choices` and `images`, whose parts, fates and crash images it speaks of, and on `machine` for the footprint of a run.
-//! It has definitions and laws, and the search for the leaves; no other crate stands on it yet.
+//! It has definitions and laws, and the search for the leaves. `case_runs` stands on it, where checkers are judges.
 //!
 //! # The definitions
 //!
@@ -27,6 +27,7 @@
 //!   when a part by its number and the sets of its groups are the split of a case (`IsFound`).
 //! - `Search`: a search as a value, the cases that it has still to explore (`pending`), and when a judge was told of exactly the leaves
 //!   of a cut (`FoundCases`).
+//! - `Once`: that the tree is one.
 //!
 //! # The calls
 //!
@@ -40,7 +41,10 @@
 //! | `cut.parts()` | the parts at risk, in order, each once |
 //! | `cut.first_split(sets, sectors)` | the part that splits a case, the first one of some sectors, with its fates in groups; or none |
 //! | `cut.sector(sets, number)` | a sector of the image of a case's representative, however many parts are lost or torn in it |
+//! | `cut.lent(sets, number)` | the same, borrowed, where the log has it as it is; none where a torn part covers it |
+//! | `cut.sectors()`, `cut.number()` | how many sectors the device has; the number of the cut |
 //! | `fate_at(number)` | the fate of a number, `None` for whole |
+//! | `is_torn_first(set)` | whether the representative tears a part with that set |
 //! | `first_of(set)` | the first fate of a set, which is that of the representative |
 //!
 //! A `Judge` is a program that is run on the image of a case's representative. It answers what `cut.first_split` says of the sectors at
@@ -66,11 +70,14 @@
 //! - `Cut::first_split` answers exactly the `first_split` of the definition: its part is the first that tells choices of the case apart
 //!   in these sectors, its groups are the `kinds` of its fates, in order, none forgotten and none twice, and where it answers none there
 //!   is none.
-//! - `Cut::sector` is that sector of `image_of`, the crash image of the definition.
+//! - `Cut::sector` is that sector of `image_of`, the crash image of the definition. So is `Cut::lent`, where it answers one; where it answers
+//!   none, a part at risk that covers the sector is torn.
 //! - `each_is_in_one`: each choice is in exactly one of the leaves and of the cases that were left out. One with as few torn parts, and
 //!   as few lost ones, as is asked is in none that was left out.
 //! - `leaves_end_alike`: on the image of each choice in a leaf the program ends as on that of its representative, if its footprint
 //!   tells what it ends in. `footprint_tells` of `machine` says that of each program.
+//! - `tree_is_one`: some cases have their leaves in one way, and leave out the same cases. Where a search stops on its way, the leaves that
+//!   it told of are no more than there are.
 //! - `last_cuts_have_all`: each image of a cut is one of a last cut, in the same epoch, after as many marks, with as many torn parts.
 //!
 //! So an image of any cut, with any number of losses, fails exactly where the representative of its leaf does.
@@ -94,12 +101,14 @@ mod cut;
 mod fates;
 mod form;
 mod laws;
+mod lend;
 mod row;
 mod search;
 mod split;
 
 pub use cut::Cut;
 pub use fates::{fate_at, first_of};
-pub use laws::{each_is_in_one, last_cuts_have_all, leaves_end_alike};
+pub use laws::{each_is_in_one, last_cuts_have_all, leaves_end_alike, tree_is_one};
+pub use lend::is_torn_first;
 pub use search::{Beyond, Judge, Search, find_cases};
 pub use split::Parted;

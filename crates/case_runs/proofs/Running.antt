@@ -1,0 +1,156 @@
+-- Runs of a checker on the images of cases.
+use Rattle.std.proofs.Common.{ℕ, zero, suc, ◌≡◌, ◌+◌, ◌-◌, ◌<◌, ◌≤◌, ◌==◌, nat_lt, Bool, true, false, if◌then◌else◌, List, [], ◌∷◌, ◌++◌, length, slice_get, Option, None, Some, refl, sym, subst, ◌∙◌, ap, arith}
+use Rattle.std.specs.List.{range_with_len, AllByRecursion}
+use Rattle.std.specs.Option.{option_and_then}
+use Rattle.std.proofs.lemmas.Bool.Decides.{eqb_tells, nat_tests}
+use Rattle.std.proofs.lemmas.Bool.{eq-eqb, ne_eqb}
+use Rattle.base.proofs.Lists.{range_with_len-more, range_with_len-append}
+use Rattle.logfmt.specs.Bounds.{IsLog}
+use Rattle.helpers.specs.declared.device.Context.{Context}
+use Rattle.helpers.specs.Footprint.{FootprintValue, lists, unread, footprint_with, footprint_after}
+use Rattle.machine.specs.Outcome.{Ending, OutOfSteps}
+use Rattle.interp.specs.Ending.{ending_of}
+use Rattle.soundness.specs.Accepted.{IsImage}
+use Rattle.checker.specs.Checker.{CheckerValue, Suits, judgement}
+use Rattle.checker.specs.Footprints.{footprint_of, kept_footprint}
+use Rattle.checker.proofs.Suiting.{suits_image}
+use Rattle.images.specs.Views.{sectors_of, context_at}
+use Rattle.images.proofs.Devices.{images_are_devices}
+use Rattle.cases.specs.declared.split.Parted.{Parted}
+use Rattle.cases.specs.Choices.{departures}
+use Rattle.cases.specs.Risk.{parts_at_risk}
+use Rattle.cases.specs.Rows.{row}
+use Rattle.cases.specs.Cases.{Split, representative, or_else, first_split, split_in_row}
+use Rattle.cases.specs.AtCut.{CutValue, parts_of, case_of, image_of, IsFound}
+use Rattle.case_runs.specs.declared.runs.Ran.{Ran}
+use Rattle.case_runs.specs.Images.{ImageValue, sectors_in, count_sectors}
+use Rattle.case_runs.specs.Judges.{most_looks, or_all, looks, program_of, IsSplitAt, RunsSo, JudgesSo}
+use Rattle.case_runs.specs.Leaves.{IsFit}
+
+-- the part that splits a case, of some sectors
+abbrev pub first_of : ImageValue → List ℕ → Option Split
+first_of v sectors = first_split v.at.log v.at.way v.at.cut (case_of v.tears (parts_of v.at) v.sets) sectors
+
+first_append : (v : ImageValue) (xs ys : List ℕ) → first_of v xs ≡ None → first_of v (xs ++ ys) ≡ first_of v ys
+first_append v [] ys none = refl
+first_append v (x ∷ xs) ys none = by (split_in_row v.at.log v.at.way v.at.cut x (case_of v.tears (parts_of v.at) v.sets) (row v.at.log.entries v.at.cut x) (range_with_len 0 8)) none (first_append v xs ys)
+  where
+    by : (o : Option Split) → or_else o (first_of v xs) ≡ None → (first_of v xs ≡ None → first_of v (xs ++ ys) ≡ first_of v ys) → or_else o (first_of v (xs ++ ys)) ≡ first_of v ys
+    by None none rest = rest none
+    by (Some it) none rest = absurd (let bad : Some it ≡ None = none in cc)
+
+or_some : (o r : Option Split) (x : Split) → or_else o None ≡ Some x → or_else o r ≡ Some x
+or_some None r x is = absurd (let bad : None ≡ Some x = is in cc)
+or_some (Some it) r x is = is
+
+pub split_of : (v : ImageValue) (at : CutValue) (sets : List ℕ) (found : Option Parted) (sectors : List ℕ) → at ≡ v.at → sets ≡ v.sets
+    → IsFound (parts_of at) found (first_split at.log at.way at.cut (case_of v.tears (parts_of at) sets) sectors) → IsSplitAt v found sectors
+split_of v at sets found sectors one two is =
+    subst (λ (a : CutValue). IsFound (parts_of a) found (first_split a.log a.way a.cut (case_of v.tears (parts_of a) v.sets) sectors)) one
+    (subst (λ (ss : List ℕ). IsFound (parts_of at) found (first_split at.log at.way at.cut (case_of v.tears (parts_of at) ss) sectors)) two is)
+
+-- none of the sectors up to one
+pub split_more : (v : ImageValue) (s : ℕ) → first_of v (range_with_len 0 s) ≡ None → first_of v (s ∷ []) ≡ None → first_of v (range_with_len 0 (s + 1)) ≡ None
+split_more v s none own =
+    let here : 0 + s ≡ s = omega arith in
+    ap (first_of v) (range_with_len-more 0 s) ∙ first_append v (range_with_len 0 s) ((0 + s) ∷ []) none ∙ ap (λ n. first_of v (n ∷ [])) here ∙ own
+
+pub split_found : (v : ImageValue) (s n : ℕ) (it : Parted) → s < n → first_of v (range_with_len 0 s) ≡ None → IsSplitAt v (Some it) (s ∷ []) → IsSplitAt v (Some it) (range_with_len 0 n)
+split_found v s n it less none found =
+    let many : n ≡ s + suc (n - s - 1) = omega (arith, less) in
+    let here : 0 + s ≡ s = omega arith in (
+      found.0,
+      ap (λ m. first_of v (range_with_len 0 m)) many
+          ∙ ap (first_of v) (range_with_len-append 0 s (suc (n - s - 1)))
+          ∙ first_append v (range_with_len 0 s) (range_with_len (0 + s) (suc (n - s - 1))) none
+          ∙ ap (λ a. first_of v (range_with_len a (suc (n - s - 1)))) here
+          ∙ or_some (split_in_row v.at.log v.at.way v.at.cut s (case_of v.tears (parts_of v.at) v.sets) (row v.at.log.entries v.at.cut s) (range_with_len 0 8))
+          (first_of v (range_with_len (s + 1) (n - s - 1))) _ found.1,
+    )
+
+pub split_none : (v : ImageValue) (s n : ℕ) → s ≤ n → n ≤ s → first_of v (range_with_len 0 s) ≡ None → first_of v (range_with_len 0 n) ≡ None
+split_none v s n low high none = let same : n ≡ s = omega (arith, low, high) in ap (λ m. first_of v (range_with_len 0 m)) same ∙ none
+
+-- more room keeps the same list
+
+after : ℕ → Option (List ℕ) → List ℕ → Option (List ℕ)
+after room o ns = (footprint_after (record { room = room; sectors = o }) ns).sectors
+
+none_after : (room : ℕ) (ns : List ℕ) → after room None ns ≡ None
+unfolding footprint_with after
+none_after room [] = refl
+none_after room (n ∷ ns) = none_after room ns
+
+kept_up : (r q : ℕ) → r ≤ q → (ns : List ℕ) (o : Option (List ℕ)) (l : List ℕ) → after r o ns ≡ Some l → after q o ns ≡ Some l
+unfolding footprint_with after
+kept_up r q le [] o l is = is
+kept_up r q le (n ∷ ns) None l is = kept_up r q le ns None l is
+kept_up r q le (n ∷ ns) (Some numbers) l is = by (λ o h. kept_up r q le ns o l h) (lists numbers n) (nat_lt (length numbers) r) refl is
+  where
+    by : ((o : Option (List ℕ)) → after r o ns ≡ Some l → after q o ns ≡ Some l) → (there fits : Bool) → nat_lt (length numbers) r ≡ fits
+        → after r (if there then Some numbers else if fits then Some (numbers ++ n ∷ []) else None) ns ≡ Some l
+        → after q (if there then Some numbers else if nat_lt (length numbers) q then Some (numbers ++ n ∷ []) else None) ns ≡ Some l
+    by rest true fits e h = rest (Some numbers) h
+    by rest false true e h =
+        let few : length numbers < r = grind (arith, nat_tests, e) in
+        let fewer : length numbers < q = omega (arith, few, le) in
+        let more : nat_lt (length numbers) q ≡ true = grind (arith, nat_tests, fewer) in
+        ap (λ b. after q (if b then Some (numbers ++ n ∷ []) else None) ns) more ∙ rest (Some (numbers ++ n ∷ [])) h
+    by rest false false e h = absurd (let bad : None ≡ Some l = sym (none_after r ns) ∙ h in cc)
+
+pub looks_kept : (room : ℕ) (checker : CheckerValue) (context : Context) (device : List (List ℕ)) (kept : FootprintValue) (l : List ℕ) → room ≤ 16384
+    → kept ≡ kept_footprint room checker device context → kept.sectors ≡ Some l → looks checker context device ≡ l
+unfolding looks after
+looks_kept room checker context device kept l le is some =
+    ap (or_all device) (by (room == 0) (sym (ap (λ (f : FootprintValue). f.sectors) is) ∙ some))
+  where
+    ns : List ℕ
+    ns = footprint_of checker device context
+
+    by : (b : Bool) → after room (if b then None else Some []) (footprint_of checker device context) ≡ Some l → after 16384 (Some []) (footprint_of checker device context) ≡ Some l
+    by true h = absurd (let bad : None ≡ Some l = sym (none_after room (footprint_of checker device context)) ∙ h in cc)
+    by false h = kept_up room 16384 le (footprint_of checker device context) (Some []) l h
+
+pub looks_all : (checker : CheckerValue) (context : Context) (v : ImageValue) → (kept_footprint 16384 checker (sectors_in v) context).sectors ≡ None
+    → looks checker context (sectors_in v) ≡ range_with_len 0 v.at.log.sectors
+unfolding looks
+looks_all checker context v none = ap (or_all (sectors_in v)) none ∙ ap (range_with_len 0) (count_sectors v)
+
+pub runs_so : (checker : CheckerValue) (context : Context) (v : ImageValue) (ran : Ran) (sectors : List ℕ) → ending_of ran.outcome ≡ judgement checker (sectors_in v) context
+    → looks checker context (sectors_in v) ≡ sectors → IsSplitAt v ran.split sectors → RunsSo checker context v ran
+runs_so checker context v ran sectors ends is split = record { ending = ends; split = subst (IsSplitAt v ran.split) (sym is) split }
+
+-- a checker may be run on an image of a device of its size
+pub suits : (checker : CheckerValue) (context : Context) (v : ImageValue) → IsLog v.at.log → v.at.log.sectors ≡ context.sectors → IsFit checker context
+    → Suits checker.verified (sectors_in v) context
+unfolding sectors_of
+suits checker context v is size fit =
+    let shows = images_are_devices (record { log = v.at.log; cut = v.at.cut; departures = departures (representative (case_of v.tears (parts_of v.at) v.sets)) (parts_at_risk v.at.way v.at.log.entries v.at.cut) }) is in
+    suits_image checker.verified context.sectors (sectors_in v) context fit.device (record {
+      count = shows.count ∙ size;
+      whole = λ n sector there. record { long = shows.long n sector there; bytes = shows.bytes n sector there };
+      told = refl;
+      epoch = fit.epoch;
+      marks = fit.marks;
+    })
+
+-- on a device of its size
+pub judges_so : (checker : CheckerValue) (context : Context) (v : ImageValue) (ran : Ran) → v.at.log.sectors ≡ context.sectors → RunsSo checker context v ran
+    → JudgesSo (program_of checker context) v.at v.tears v.sets ran
+judges_so checker context v ran size so =
+    let own : (length (sectors_in v) == context.sectors) ≡ true = eq-eqb (length (sectors_in v)) context.sectors (count_sectors v ∙ size) in
+    record {
+      ending = so.ending ∙ sym (ap (λ b. if b then judgement checker (sectors_in v) context else OutOfSteps) own);
+      split = subst (IsSplitAt v ran.split) (sym (ap (λ b. if b then looks checker context (sectors_in v) else []) own)) so.split;
+    }
+
+-- on any other
+pub judges_none : (checker : CheckerValue) (context : Context) (v : ImageValue) (ran : Ran) → (v.at.log.sectors ≡ context.sectors → ⊥) → ending_of ran.outcome ≡ OutOfSteps → ran.split ≡ None
+    → JudgesSo (program_of checker context) v.at v.tears v.sets ran
+judges_none checker context v ran apart ends none =
+    let own : (length (sectors_in v) == context.sectors) ≡ false = ne_eqb (length (sectors_in v)) context.sectors (λ e. apart (sym (count_sectors v) ∙ e)) in
+    record {
+      ending = ends ∙ sym (ap (λ b. if b then judgement checker (sectors_in v) context else OutOfSteps) own);
+      split = subst (λ o. IsSplitAt v o (if length (sectors_in v) == context.sectors then looks checker context (sectors_in v) else [])) (sym none)
+          (ap (λ b. first_of v (if b then looks checker context (sectors_in v) else [])) own);
+    }

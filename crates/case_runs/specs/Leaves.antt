@@ -1,0 +1,50 @@
+-- The leaves of which a judge was told, and those that fail.
+use Rattle.std.specs.Prelude.{ℕ, ◌≡◌, ◌+◌, ◌≤◌, if◌then◌else◌, List, [], ◌∷◌, ◌++◌, map}
+use Rattle.helpers.specs.declared.device.Context.{Context}
+use Rattle.machine.specs.Outcome.{Ending}
+use Rattle.interp.specs.Ending.{ending_of}
+use Rattle.report.specs.Line.{fails}
+use Rattle.checker.specs.Checker.{CheckerValue, IsFor}
+use Rattle.cases.specs.Search.{LeafValue}
+use Rattle.case_runs.specs.declared.leaves.Told.{Told}
+use Rattle.case_runs.specs.declared.leaves.FailingCase.{FailingCase}
+
+-- a leaf that fails: its number among the leaves, what the program ends in there, and a set for each part at risk
+pub record FailingValue : Type 0 where
+  pub number : ℕ
+  pub ending : Ending
+  pub sets : List ℕ
+
+abbrev pub failing_value : FailingCase → FailingValue
+failing_value f = record { number = f.number; ending = ending_of f.outcome; sets = f.sets.items }
+
+-- a leaf as it was told
+abbrev pub leaf_of : Told → LeafValue
+leaf_of t = record { sets = t.sets.value.items; ending = ending_of t.outcome.value }
+
+-- leaf n, if it fails
+abbrev pub failing_if : ℕ → LeafValue → List FailingValue
+failing_if n leaf = if fails leaf.ending then record { number = n; ending = leaf.ending; sets = leaf.sets } ∷ [] else []
+
+-- the leaves that fail, of some leaves of which the first has number n
+abbrev pub failing_from : ℕ → List LeafValue → List FailingValue
+failing_from n [] = []
+failing_from n (leaf ∷ leaves) = failing_if n leaf ++ failing_from (n + 1) leaves
+
+-- a judge: a checker, the context of a cut, what its last run ended in, the leaves that it was told of, and those of them that fail
+pub record JudgeValue : Type 0 where
+  pub checker : CheckerValue
+  pub context : Context
+  pub ending : Ending
+  pub leaves : List LeafValue
+  pub failing : List FailingValue
+
+-- a checker may be run in a context
+pub record IsFit (checker : CheckerValue) (context : Context) : Type 0 where
+  pub device : IsFor context.sectors checker.verified
+  pub epoch : context.epoch ≤ 65536
+  pub marks : context.marks ≤ 65536
+
+pub record IsJudge (checker : CheckerValue) (context : Context) (leaves : List LeafValue) (failing : List FailingValue) : Type 0 where
+  pub fit : IsFit checker context
+  pub those : failing ≡ failing_from 0 leaves

@@ -1,0 +1,7 @@
+-- Checkers as judges of cases.
+pub mod Images
+pub mod Judges
+pub mod Leaves
+pub mod Laws
+pub mod Found
+pub mod Cuts

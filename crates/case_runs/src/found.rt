@@ -1,0 +1,224 @@
+//! The failing cases of some cuts, with some checkers.
+
+ghost use Rattle.std.specs.Prelude.{◌≡◌, ◌+◌, ◌≤◌, length, All, IfOk, IfErr, MatchOption};
+ghost use Rattle.images.specs.Views.{context_at};
+ghost use Rattle.checker.specs.Checker.{AreFor};
+ghost use Rattle.case_runs.specs.Leaves.{IsFit};
+ghost use Rattle.case_runs.specs.Found.{IsFoundAt, IsBegunAt, AreFoundAt, AreFoundIn, cases_at, cases_in, most_cases, StopsAtOne, StopsAt, StopsIn};
+
+use crate::judge::CaseJudge;
+use crate::leaves::FailingCase;
+use cases::{Cut, find_cases};
+use checker::Checker;
+use epochs::{By, Plan};
+use helpers::Context;
+use logfmt::Log;
+use std::alloc::{AllocError, AllocFailed, Global};
+
+/// How many cases are met at most, of all cuts and checkers together.
+pub const MOST_CASES: u32 = 16_777_216;
+
+/// What is asked: whether parts may be torn, how many at most, and, if that is bounded, how many may not be whole.
+#[derive(Clone, Copy)]
+pub struct Losses {
+    pub tears: bool,
+    pub torn: u32,
+    pub lost: Option<u32>,
+}
+
+/// What was found at a cut with a checker.
+#[derive(Drop)]
+pub struct Found {
+    /// How many leaves there are.
+    pub cases: usize,
+    /// How many cases were left out, since more parts are torn than is asked.
+    pub torn_beyond: u64,
+    /// How many others were, since more are lost.
+    pub lost_beyond: u64,
+    /// The leaves that fail, in the order of the tree.
+    pub failing: Vec<FailingCase>,
+}
+
+/// What was found at a cut, with each checker in order.
+#[derive(Drop)]
+pub struct CutFound {
+    pub cut: u32,
+    pub programs: Vec<Found>,
+}
+
+/// Why the cases weren't found.
+#[derive(Clone, Copy, Debug)]
+pub enum CasesFault {
+    /// Memory was refused.
+    Memory,
+    /// With the cases of this cut they were more than `MOST_CASES`.
+    TooMany(u32),
+}
+
+impl From<AllocError> for CasesFault {
+    ghost use Rattle.case_runs.specs.declared.found.CasesFault.TheVariants.{Memory};
+
+    ghost from_gives = { λ _ e. e ≡ Memory };
+
+    fn from(_error: AllocError) -> CasesFault {
+        CasesFault::Memory
+    }
+}
+
+impl<T: Drop> From<AllocFailed<T>> for CasesFault {
+    ghost use Rattle.case_runs.specs.declared.found.CasesFault.TheVariants.{Memory};
+
+    ghost from_gives = { λ _ e. e ≡ Memory };
+
+    fn from(_error: AllocFailed<T>) -> CasesFault {
+        CasesFault::Memory
+    }
+}
+
+/// The cases of a cut with a checker, if they are fewer than that many.
+fn find_at(
+    alloc: Global,
+    cut: &Cut<'_>,
+    context: Context,
+    checker: &Checker<'_>,
+    asked: Losses,
+    most: u32,
+) -> Result<Option<Found>, AllocError>
+    requires context { context ≡ context_at cut.now.log cut.now.cut }
+    requires fit { IsFit checker.now context }
+    ensures { IfOk result (λ found. MatchOption found (IsBegunAt asked cut.now checker.now most) (IsFoundAt asked cut.now checker.now)) }
+{
+    let mut judge = CaseJudge::new(alloc, checker, context);
+    let beyond = find_cases(
+        alloc,
+        cut,
+        asked.tears,
+        asked.torn,
+        asked.lost,
+        most,
+        &mut judge,
+    )?;
+    let Some(beyond) = beyond else {
+        return Ok(None);
+    };
+    let cases = judge.cases();
+    Ok(Some(Found {
+        cases,
+        torn_beyond: beyond.torn,
+        lost_beyond: beyond.lost,
+        failing: judge.into_failing(),
+    }))
+}
+
+/// The same, and takes the cases from those that may still be met.
+fn find_within(
+    alloc: Global,
+    cut: &Cut<'_>,
+    context: Context,
+    checker: &Checker<'_>,
+    asked: Losses,
+    left: &mut u32,
+) -> Result<Found, CasesFault>
+    requires context { context ≡ context_at cut.now.log cut.now.cut }
+    requires fit { IsFit checker.now context }
+    requires few { left.old ≤ most_cases }
+    ensures found { IfOk result (IsFoundAt asked cut.now checker.now) }
+    ensures taken { IfOk result (λ found. left.old ≡ left.new + found.cases) }
+    ensures many { IfErr result (StopsAtOne asked cut.now checker.now left.old) }
+{
+    let number = cut.number();
+    let Some(found) = find_at(alloc, cut, context, checker, asked, *left + 1)? else {
+        return Err(CasesFault::TooMany(number));
+    };
+    if found.cases > *left as usize {
+        return Err(CasesFault::TooMany(number));
+    }
+    *left -= found.cases as u32;
+    Ok(found)
+}
+
+/// The cases of a cut with each of some checkers.
+fn find_each(
+    alloc: Global,
+    cut: &Cut<'_>,
+    context: Context,
+    checkers: &[Checker<'_>],
+    asked: Losses,
+    left: &mut u32,
+) -> Result<Vec<Found>, CasesFault>
+    requires context { context ≡ context_at cut.now.log cut.now.cut }
+    requires small { (context.epoch ≤ 65536) × (context.marks ≤ 65536) }
+    requires device { AreFor cut.now.log.sectors checkers.now }
+    requires few { left.old ≤ most_cases }
+    ensures found { IfOk result (λ found. AreFoundAt asked cut.now checkers.now found.items) }
+    ensures taken { IfOk result (λ found. left.old ≡ left.new + cases_at found.items) }
+    ensures many { IfErr result (StopsAt asked cut.now checkers.now left.old) }
+{
+    let mut out = Vec::new(alloc);
+    for checker in checkers {
+        out.push(find_within(alloc, cut, context, checker, asked, left)?)?;
+    }
+    Ok(out)
+}
+
+/// The cases of a cut of a plan.
+fn find_in(
+    alloc: Global,
+    plan: &Plan<'_>,
+    log: &Log,
+    way: By,
+    number: u32,
+    checkers: &[Checker<'_>],
+    asked: Losses,
+    left: &mut u32,
+) -> Result<CutFound, CasesFault>
+    requires plan { plan.now.log ≡ log.now }
+    requires cut { number ≤ length log.now.entries }
+    requires device { AreFor log.now.sectors checkers.now }
+    requires few { left.old ≤ most_cases }
+    ensures cut { IfOk result (λ found. found.cut ≡ number) }
+    ensures each { IfOk result (λ found. AreFoundAt asked (record { log = log.now; way = way; cut = number }) checkers.now found.programs.items) }
+    ensures taken { IfOk result (λ found. left.old ≡ left.new + cases_at found.programs.items) }
+    ensures many { IfErr result (StopsAt asked (record { log = log.now; way = way; cut = number }) checkers.now left.old) }
+{
+    let cut = Cut::new(alloc, log, way, number)?;
+    let context = Context {
+        sectors: log.sectors(),
+        epoch: plan.epoch(number),
+        marks: plan.marks(number),
+    };
+    let programs = find_each(alloc, &cut, context, checkers, asked, left)?;
+    Ok(CutFound {
+        cut: number,
+        programs,
+    })
+}
+
+/// The failing cases of some cuts of a log, with each of some checkers, by cut and then by checker.
+///
+/// # Errors
+///
+/// Memory was refused, or there were more than `MOST_CASES` cases.
+pub fn find_failing(
+    alloc: Global,
+    plan: &Plan<'_>,
+    log: &Log,
+    way: By,
+    cuts: &[u32],
+    checkers: &[Checker<'_>],
+    asked: Losses,
+) -> Result<Vec<CutFound>, CasesFault>
+    requires plan { plan.now.log ≡ log.now }
+    requires cuts { All (λ cut. cut ≤ length log.now.entries) cuts.now }
+    requires device { AreFor log.now.sectors checkers.now }
+    ensures found { IfOk result (λ found. AreFoundIn asked log.now way cuts.now checkers.now found.items) }
+    ensures few { IfOk result (λ found. cases_in found.items ≤ most_cases) }
+    ensures refused { IfErr result (StopsIn asked log.now way cuts.now checkers.now) }
+{
+    let mut out = Vec::new(alloc);
+    let mut left = MOST_CASES;
+    for cut in cuts {
+        out.push(find_in(alloc, plan, log, way, *cut, checkers, asked, &mut left)?)?;
+    }
+    Ok(out)
+}

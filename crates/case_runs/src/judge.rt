@@ -1,0 +1,129 @@
+//! A checker as a judge of cases.
+
+ghost use Rattle.std.specs.Prelude.{◌≡◌, [], map, length, IfOk};
+ghost use Rattle.case_runs.specs.Leaves.{failing_value, failing_from, IsFit};
+
+use crate::image::Formed;
+use crate::leaves::{FailingCase, Told, put_leaf};
+use crate::runs::run_on;
+use cases::{Cut, Judge, Parted};
+use checker::Checker;
+use helpers::Context;
+use interp::Outcome;
+use std::alloc::{AllocError, Global};
+use std::marker::Model;
+
+/// A checker as a judge of the cases of a cut: it is run on the images of their representatives, in the context of the cut, and keeps
+/// the leaves on which it fails.
+#[derive(Drop)]
+pub struct CaseJudge<'c, 'p> {
+    checker: &'c Checker<'p>,
+    context: Context,
+    /// What its last run ended in.
+    outcome: Outcome,
+    /// The formed sectors of the last image.
+    formed: Vec<Formed>,
+    /// A place for the sets of a leaf.
+    place: Vec<u16>,
+    told: Vec<Told>,
+    failing: Vec<FailingCase>,
+}
+
+impl<'c, 'p> Model for CaseJudge<'c, 'p> {
+    ghost use Rattle.std.specs.Prelude.{map};
+    ghost use Rattle.interp.specs.Ending.{ending_of};
+    ghost use Rattle.case_runs.specs.Leaves.{JudgeValue, IsJudge, leaf_of, failing_value};
+
+    ghost Value = { JudgeValue };
+
+    ghost view = { λ j. record {
+      checker = j.checker.now;
+      context = j.context;
+      ending = ending_of j.outcome;
+      leaves = map leaf_of j.told.items;
+      failing = map failing_value j.failing.items;
+    } };
+
+    ghost invariant = { λ j. IsJudge j.checker.now j.context (map leaf_of j.told.items) (map failing_value j.failing.items) };
+}
+
+impl<'c, 'p> CaseJudge<'c, 'p> {
+    /// A judge that was told of no leaf.
+    pub fn new(alloc: Global, checker: &'c Checker<'p>, context: Context) -> CaseJudge<'c, 'p>
+        requires { IsFit checker.now context }
+        ensures checker { result.checker ≡ checker.now }
+        ensures context { result.context ≡ context }
+        ensures leaves { result.leaves ≡ [] }
+    {
+        CaseJudge {
+            checker,
+            context,
+            outcome: Outcome::OutOfSteps,
+            formed: Vec::new(alloc),
+            place: Vec::new(alloc),
+            told: Vec::new(alloc),
+            failing: Vec::new(alloc),
+        }
+    }
+
+    /// How many leaves it was told of.
+    pub fn cases(&self) -> usize
+        ensures { result ≡ length self.now.leaves }
+    {
+        self.told.len()
+    }
+
+    /// The leaves that fail, in order.
+    pub fn into_failing(self) -> Vec<FailingCase>
+        ensures { map failing_value result.items ≡ failing_from 0 self.entry.leaves }
+    {
+        self.failing
+    }
+}
+
+impl<'c, 'p> Judge for CaseJudge<'c, 'p> {
+    ghost use Rattle.case_runs.specs.Judges.{program_of};
+
+    ghost program = { λ j. program_of j.checker j.context };
+
+    ghost ending = { λ j. j.ending };
+
+    ghost leaves = { λ j. j.leaves };
+
+    fn judge(
+        &mut self,
+        cut: &Cut<'_>,
+        tears: bool,
+        sets: &[u16],
+    ) -> Result<Option<Parted>, AllocError> {
+        let ran = run_on(
+            self.checker,
+            &self.context,
+            &mut self.formed,
+            cut,
+            tears,
+            sets,
+        )?;
+        self.outcome = ran.outcome;
+        Ok(ran.split)
+    }
+
+    fn tell(&mut self, _cut: &Cut<'_>, sets: &[u16]) -> Result<(), AllocError> {
+        let added = put_leaf(
+            &mut self.told,
+            &mut self.place,
+            &mut self.failing,
+            &self.outcome,
+            sets,
+        );
+        match added {
+            Ok(()) => Ok(()),
+            Err(error) => {
+                // The judge is of no more use.
+                self.told.clear();
+                self.failing.clear();
+                Err(error)
+            }
+        }
+    }
+}

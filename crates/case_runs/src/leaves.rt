@@ -1,0 +1,103 @@
+//! The leaves of which a judge was told.
+
+ghost use Rattle.std.specs.Prelude.{◌≡◌, ◌++◌, ◌∷◌, [], map, length, IfOk, OnOk};
+ghost use Rattle.interp.specs.Ending.{ending_of};
+ghost use Rattle.report.specs.Line.{fails};
+ghost use Rattle.case_runs.specs.Leaves.{failing_value, leaf_of, failing_if};
+
+use interp::Outcome;
+use std::alloc::{AllocError, Global};
+use std::snapshot::Snapshot;
+use verdict_cache::copy_of;
+
+/// A leaf on whose images a checker fails.
+#[derive(Drop)]
+pub struct FailingCase {
+    /// Its number among the leaves of its cut, from 0.
+    pub number: usize,
+    /// What the checker ends in on each of its images.
+    pub outcome: Outcome,
+    /// What may become of each part at risk.
+    pub sets: Vec<u16>,
+}
+
+/// A leaf of which a judge was told, for contracts alone: it takes no room.
+#[derive(Drop)]
+pub(crate) struct Told {
+    pub(crate) sets: Snapshot<Vec<u16>>,
+    pub(crate) outcome: Snapshot<Outcome>,
+}
+
+/// Whether a checker fails that ends so.
+fn fails_with(outcome: &Outcome) -> bool
+    ensures { result ≡ fails (ending_of outcome.now) }
+{
+    match outcome {
+        Outcome::Verdict(verdict) => verdict.answer != 0,
+        Outcome::Fault { code: _, slot: _ } => true,
+        Outcome::OutOfSteps => true,
+        Outcome::Stray(_slot) => true,
+    }
+}
+
+/// A copy of the sets of a case.
+fn copy_sets(alloc: Global, sets: &[u16]) -> Result<Vec<u16>, AllocError>
+    ensures { IfOk result (λ copy. copy.items ≡ sets.now) }
+{
+    let mut copy = Vec::new(alloc);
+    copy.extend_from_slice(sets)?;
+    Ok(copy)
+}
+
+/// Appends a leaf, if the checker fails there.
+fn put_failing(
+    failing: &mut Vec<FailingCase>,
+    number: usize,
+    outcome: &Outcome,
+    sets: &[u16],
+) -> Result<(), AllocError>
+    ensures { OnOk result (map failing_value failing.new.items ≡ map failing_value failing.old.items ++ failing_if number (record { sets = sets.now; ending = ending_of outcome.now })) }
+{
+    if fails_with(outcome) {
+        let sets = copy_sets(*failing.allocator(), sets)?;
+        failing.push(FailingCase {
+            number,
+            outcome: copy_of(outcome),
+            sets,
+        })?;
+    }
+    Ok(())
+}
+
+/// Appends a leaf to what was told. The vector is a place for its sets.
+fn put_told(
+    told: &mut Vec<Told>,
+    place: &mut Vec<u16>,
+    outcome: &Outcome,
+    sets: &[u16],
+) -> Result<(), AllocError>
+    ensures { OnOk result (map leaf_of told.new.items ≡ map leaf_of told.old.items ++ record { sets = sets.now; ending = ending_of outcome.now } ∷ []) }
+{
+    place.clear();
+    place.extend_from_slice(sets)?;
+    told.push(Told {
+        sets: Snapshot::of(place),
+        outcome: Snapshot::of(outcome),
+    })?;
+    Ok(())
+}
+
+/// Appends a leaf to both lists.
+pub(crate) fn put_leaf(
+    told: &mut Vec<Told>,
+    place: &mut Vec<u16>,
+    failing: &mut Vec<FailingCase>,
+    outcome: &Outcome,
+    sets: &[u16],
+) -> Result<(), AllocError>
+    ensures told { OnOk result (map leaf_of told.new.items ≡ map leaf_of told.old.items ++ record { sets = sets.now; ending = ending_of outcome.now } ∷ []) }
+    ensures failing { OnOk result (map failing_value failing.new.items ≡ map failing_value failing.old.items ++ failing_if (length told.old.items) (record { sets = sets.now; ending = ending_of outcome.now })) }
+{
+    put_failing(failing, told.len(), outcome, sets)?;
+    put_told(told, place, outcome, sets)
+}

@@ -1,0 +1,76 @@
+//! Checkers as judges of cases: which images a checker fails on, whatever was lost.
+//!
+//! A case is a set of crash images of a cut that a checker can't tell apart, with any number of parts lost (docs/CRASH-MODEL.md, Any
+//! number of losses). `cases` defines them, and finds the leaves of a cut for any judge. Here a checker is that judge. It is run once for
+//! each case that is met, on the image of the case's representative. What is kept of a cut is the leaves on which the checker fails.
+//!
+//! # Place
+//!
+//! On `cases`, whose search it drives, on `checker`, which runs a program with every check or without any, and on `epochs`, whose plan
+//! tells of the context of a cut. The commands stand above it. No other crate does yet.
+//!
+//! # The calls
+//!
+//! | Call | Answer |
+//! |---|---|
+//! | `explored_cuts(alloc, log, from, to)` | the last cuts of a range, and its end |
+//! | `find_failing(alloc, plan, log, way, cuts, checkers, asked)` | at each cut, with each checker: the leaves that fail, each with its number among the leaves, what the checker ends in, and its sets; how many leaves there are; how many cases were left out |
+//! | `CaseJudge::new(alloc, checker, context)` | a checker as a `Judge` of `cases`, for one cut |
+//! | `CaseImage` | the image of a case's representative, as a `Device` |
+//! | `checkers_tell()`, `losses_are_judged()`, `finding_is_one()` | laws |
+//!
+//! # How it runs
+//!
+//! A sector of the image is lent from the log, or from what the device held before entry 0, unless a torn part covers it. The sectors of
+//! torn parts are formed once for each case, in a list that the next case uses again. So a case takes no memory once the lists have
+//! grown, but for those that fail, which are kept. To look up a sector takes a walk over the entries from the cut down to the last one
+//! that reaches the device there, or to the first; there is no index yet. A torn part by write has all its sectors formed.
+//!
+//! A run keeps its footprint in a room of 64 sectors. Where it looks at more, the checker is run again with a room of 1,024, and then of
+//! 16,384, which is as many as a device has within the usual limits. On a large device it may look at more still. Then it is taken to look at
+//! all sectors of the device, in their order (`looks` in `specs/Judges.antt`). That is a footprint too: it tells what the checker ends in.
+//!
+//! # What is proved
+//!
+//! - `CaseImage` shows exactly the crash image of the representative, `image_of` of `cases`, of any number of lost and torn parts.
+//! - `CaseJudge` is a judge: the program that it stands for (`program_of`) ends as the checker's `judgement` says in the context of the
+//!   cut, and looks at the sectors of the checker's footprint, each once, in the order of the first looks. Verified programs, those with guards,
+//!   and others are judged alike.
+//! - `find_failing` answers, for each cut and each checker, in order: of exactly the leaves of the definition (`AreCases` of `cases`), in the
+//!   order of the tree, those on which the checker fails, with their numbers and what it ends in; how many leaves there are; and how
+//!   many cases were left out (`AreFoundIn`, `specs/Found.antt`).
+//! - `explored_cuts` has each last cut of the range, and its end, rising, and no other.
+//! - `checkers_tell`: two devices that agree at these sectors are judged alike, so the laws of `cases` hold of each checker.
+//! - `losses_are_judged`: take an image of any cut, whatever was lost there, with as few torn parts as is asked. It is an image of a last
+//!   cut, is in a leaf there, and the checker ends on it as on the image of the leaf's representative. So it fails exactly where the leaf does.
+//!
+//! `find_failing` refuses where memory is wanting, or where there are more than 16,777,216 cases, and names the cut with which there are
+//! (`AreTooMany`). By the law `finding_is_one` it answers one thing, and doesn't refuse for the number of cases what it answers.
+//!
+//! # Example
+//!
+//! ```
+//! use case_runs::{Losses, explored_cuts, find_failing};
+//! use epochs::By;
+//!
+//! let asked = Losses { tears: false, torn: 0, lost: None };
+//! let cuts = explored_cuts(alloc, &log, 0, log.entries().len() as u32)?;
+//! let found = find_failing(alloc, &plan, &log, By::Write, cuts.as_slice(), checkers, asked)?;
+//! // found[i].programs[j].failing: the cases of cuts[i] on which checker j fails
+//! ```
+#![tactic(auto)]
+
+mod cuts;
+mod found;
+mod image;
+mod judge;
+mod laws;
+mod leaves;
+mod runs;
+
+pub use cuts::explored_cuts;
+pub use found::{CasesFault, CutFound, Found, Losses, MOST_CASES, find_failing};
+pub use image::CaseImage;
+pub use judge::CaseJudge;
+pub use laws::{checkers_tell, finding_is_one, losses_are_judged};
+pub use leaves::FailingCase;

@@ -1,0 +1,6 @@
+use Rattle.std.proofs.Common.{◌≡◌, true, take}
+use Rattle.case_text.specs.Known.{is_never_whole}
+use Rattle.case_text.proofs.fates.is_never_whole.Given as goal
+
+abbrev pub invariant-loop-fate : goal.invariant-loop-fate
+invariant-loop-fate l = is_never_whole (take l.fate-index l.fates) ≡ true

@@ -1,0 +1,57 @@
+-- What holds of the windows of cases.
+use Rattle.std.specs.Prelude.{ℕ, ◌+◌, ◌≡◌, ◌<◌, ◌≤◌, ◌⊎◌, true, List, length, Some, MatchOption}
+use Rattle.logfmt.specs.declared.entry.Entry.{Entry}
+use Rattle.logfmt.specs.Flushed.{flushed_at, is_place}
+use Rattle.epochs.specs.declared.part.By.{By}
+use Rattle.epochs.specs.declared.part.Part.{Part}
+use Rattle.choices.specs.declared.choice.Departure.{Departure}
+use Rattle.cases.specs.Risk.{parts_at_risk}
+use Rattle.cases.specs.Choices.{Choice, departures}
+use Rattle.cases.specs.Cases.{Case}
+use Rattle.cases.specs.Laws.{IsAmong, Includes}
+use Rattle.cases.specs.AtCut.{CutValue, parts_of}
+use Rattle.losses.specs.declared.flushes.window.Window.{Window}
+use Rattle.losses.specs.Places.{Holds}
+use Rattle.losses.specs.WindowLaws.{up_to}
+use Rattle.case_text.specs.Known.{is_never_whole, is_never_gone}
+use Rattle.case_text.specs.Window.{stays, case_window}
+
+-- no choice at a cut of some entries loses and tears just that
+abbrev pub NoneDeparts : By → List Entry → ℕ → List Departure → Type 0
+NoneDeparts way es k ds = (other : Choice) → ¬ (departures other (parts_at_risk way es k) ≡ ds)
+
+-- A flush in the window of a case takes all its images away: in the log with that flush, and with any others, what a choice of the case
+-- loses and tears is lost by no choice at its cut. Nor is what it loses and tears up to the end of the window by one right after that.
+abbrev pub FlushTakesCaseAway : Type 0
+FlushTakesCaseAway =
+    (at : CutValue) (c : Case) (choice : Choice) (w : Window) (places : List ℕ) (p : ℕ)
+    → at.cut ≤ length at.log.entries → case_window at c ≡ Some w → Includes choice c → Holds w p → is_place places p ≡ true
+    → NoneDeparts at.way (flushed_at (is_place places) at.log.entries) at.cut (departures choice (parts_of at))
+    × NoneDeparts at.way (flushed_at (is_place places) at.log.entries) (w.end + 1) (up_to w.end (departures choice (parts_of at)))
+
+-- something of entry e is there on each image of a case, or it is a mark
+abbrev pub IsThere : CutValue → Case → ℕ → Type 0
+IsThere at c e =
+    (stays at.way at.log.entries at.cut e ≡ true)
+    ⊎ ((p : Part) × IsAmong (parts_of at) p × (is_never_gone (c p) ≡ true) × (p.entry ≡ e))
+
+-- the window of a case: from after the first entry of which a part isn't whole on any image to the last entry of which something is there on
+-- each, or that is a mark
+pub record IsWindow (at : CutValue) (c : Case) (w : Window) : Type 0 where
+  pub first : Part
+  pub risky : IsAmong (parts_of at) first
+  pub lost : is_never_whole (c first) ≡ true
+  pub earliest : (p : Part) → IsAmong (parts_of at) p → is_never_whole (c p) ≡ true → first.entry ≤ p.entry
+  pub start : w.start ≡ first.entry + 1
+  pub order : w.start ≤ w.end
+  pub before : w.end < at.cut
+  pub end : IsThere at c w.end
+  pub last : (e : ℕ) → w.end < e → e < at.cut → ¬ (IsThere at c e)
+
+-- no window: after an entry of which a part isn't whole on any image there is none of which something is there on each
+abbrev pub HasNoWindow : CutValue → Case → Type 0
+HasNoWindow at c = (p : Part) (e : ℕ) → IsAmong (parts_of at) p → is_never_whole (c p) ≡ true → p.entry < e → e < at.cut → ¬ (IsThere at c e)
+
+-- what is printed as the window of a case is its window, and where none is there is none
+abbrev pub WindowIsTold : Type 0
+WindowIsTold = (at : CutValue) (c : Case) → at.cut ≤ length at.log.entries → MatchOption (case_window at c) (HasNoWindow at c) (IsWindow at c)

@@ -1,0 +1,7 @@
+-- The text of cases.
+pub mod Known
+pub mod Collected
+pub mod Window
+pub mod Text
+pub mod Counts
+pub mod Laws

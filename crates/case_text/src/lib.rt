@@ -1,0 +1,85 @@
+//! The text of the failing cases of a run: what `explore` prints with `--bound any`.
+//!
+//! A run with a bound prints a line for each image on which a program fails. Without a bound images are judged as cases, each a set of
+//! choices that a program can't tell apart (`cases`). A line then is of a case. It tells how the program ends on all its images, and what
+//! is known of the parts at risk:
+//!
+//! ```text
+//! crash cases 1
+//! sectors 8 entries 7 cuts all bound any tears yes torn 1
+//! program 0 slots 18 budget 20
+//! cut 6 epoch 1 marks 0 program 0 case 4 answer 1 codes 3 choice 2.0:drop,5.0:head3 kept 3.0,4.0 among 5.0:head3+head4 free 1 flush 3..5
+//! cuts 3 cases 21 failing 1 torn beyond 2 lost beyond 0
+//! ```
+//!
+//! | Word | Says |
+//! |---|---|
+//! | `case` | the case's number among those of its cut and program, in the order of the tree |
+//! | `choice` | what is lost and torn on the image on which the program ran: any number of parts |
+//! | `kept` | the parts that are whole on each image of the case |
+//! | `among` | the parts of which more than one fate is possible, and not all |
+//! | `free` | how many parts at risk may have any fate |
+//! | `flush` | the window: a flush before any of these entries takes all images of the case away |
+//! | `complete` | in the last line, where no case was left out |
+//!
+//! # Place
+//!
+//! On `cases`, whose sets of fates it reads, on `case_runs`, whose findings it prints, and on `report`, whose words it takes for the head,
+//! what a program ends in, and what departs. A window is that of `losses`. It judges nothing.
+//!
+//! # The calls
+//!
+//! | Call | Answer |
+//! |---|---|
+//! | `write_cases(alloc, head, log, plan, asked, found)` | the bytes of the text |
+//! | `is_any_failing(found)` | whether a program fails on some case |
+//!
+//! # The definitions
+//!
+//! - `Known`: what a case says of a part at risk, and of all (`known_of`).
+//! - `Window`: which entries stand on each image of a cut, and where a flush takes a case away (`case_window`).
+//! - `Text`: the bytes (`cases_bytes`).
+//!
+//! # What is proved
+//!
+//! - `write_cases` gives exactly `cases_bytes` of the head, of what was asked, of the log and of what was found, byte by byte. Its one
+//!   error is want of memory.
+//! - `flush_takes_case_away`: take a choice of a case with a window, and a log with a flush before an entry of the window, and with any
+//!   others. What that choice loses and tears is lost by no choice at its cut there. Nor is what it loses and tears up to the end of the
+//!   window by one right after that.
+//! - `window_is_told`: the window of a case begins after the first entry of which a part is whole on none of its images. It ends with the
+//!   last entry of which something is there on each image, or that is a mark. Where no window is printed there is no such entry.
+//!
+//! # How it is written
+//!
+//! What is known of a case is collected part by part into lists, which are kept from case to case (`Known`). So a case takes no memory but
+//! the growth of the text. What is the same for all cases of a cut is found once (`Site`).
+//!
+//! # Example
+//!
+//! ```
+//! use case_runs::{Losses, explored_cuts, find_failing};
+//! use case_text::{is_any_failing, write_cases};
+//! use epochs::By;
+//!
+//! let asked = Losses { tears: false, torn: 0, lost: None };
+//! let cuts = explored_cuts(alloc, &log, 0, log.entries().len() as u32)?;
+//! let found = find_failing(alloc, &plan, &log, By::Write, cuts.as_slice(), checkers, asked)?;
+//! let bytes = write_cases(alloc, &head, &log, &plan, asked, found.as_slice())?;
+//! let failing = is_any_failing(found.as_slice());
+//! ```
+#![tactic(auto)]
+
+mod fates;
+mod head;
+mod known;
+mod laws;
+mod lines;
+mod said;
+mod site;
+mod totals;
+mod writer;
+
+pub use laws::{flush_takes_case_away, window_is_told};
+pub use totals::is_any_failing;
+pub use writer::write_cases;

@@ -1,0 +1,111 @@
+//! What the cases of a run come to.
+
+ghost use Rattle.std.specs.Prelude.{◌≡◌, ◌++◌, OnOk, string_bytes};
+ghost use Rattle.case_text.specs.Text.{count_cases, count_failing, count_torn_beyond, count_lost_beyond, fails_at, is_any_failing, complete_word, counts_text, beyond_text, totals_text};
+ghost use Rattle.case_text.specs.Counts.{with_found, with_all};
+
+use case_runs::{CutFound, Found};
+use std::alloc::AllocError;
+
+/// How many cases there are, how many of them fail, and how many were left out; each at most 2^64 - 1.
+#[derive(Clone, Copy)]
+struct Totals {
+    cases: u64,
+    failing: u64,
+    torn_beyond: u64,
+    lost_beyond: u64,
+}
+
+/// Those with what was found with one more program.
+fn with_found(totals: Totals, found: &Found) -> Totals
+    ensures { result ≡ with_found totals found.now }
+{
+    Totals {
+        cases: totals.cases.saturating_add(found.cases as u64),
+        failing: totals.failing.saturating_add(found.failing.len() as u64),
+        torn_beyond: totals.torn_beyond.saturating_add(found.torn_beyond),
+        lost_beyond: totals.lost_beyond.saturating_add(found.lost_beyond),
+    }
+}
+
+/// Those with what was found at one more cut.
+fn with_all(totals: Totals, found: &[Found]) -> Totals
+    ensures { result ≡ with_all totals found.now }
+{
+    let mut all = totals;
+    for one in found {
+        all = with_found(all, one);
+    }
+    all
+}
+
+/// Those of all cuts.
+fn totals_of(found: &[CutFound]) -> Totals
+    ensures cases { result.cases ≡ count_cases found.now }
+    ensures failing { result.failing ≡ count_failing found.now }
+    ensures torn { result.torn_beyond ≡ count_torn_beyond found.now }
+    ensures lost { result.lost_beyond ≡ count_lost_beyond found.now }
+{
+    let mut all = Totals {
+        cases: 0,
+        failing: 0,
+        torn_beyond: 0,
+        lost_beyond: 0,
+    };
+    for cut in found {
+        all = with_all(all, cut.programs.as_slice());
+    }
+    all
+}
+
+/// Appends a word, where no case was left out.
+fn put_complete(out: &mut String, torn: u64, lost: u64) -> Result<(), AllocError>
+    ensures { OnOk result (string_bytes out.new ≡ string_bytes out.old ++ complete_word torn lost) }
+{
+    if torn == 0 && lost == 0 {
+        write!(out, " complete")?;
+    }
+    Ok(())
+}
+
+/// Appends how many cuts and cases there are, and how many cases fail.
+#[tactic(auto, unfolding(crate::specs::Text::counts_text))]
+fn put_counts(out: &mut String, cuts: usize, cases: u64, failing: u64) -> Result<(), AllocError>
+    ensures { OnOk result (string_bytes out.new ≡ string_bytes out.old ++ counts_text cuts cases failing) }
+{
+    write!(out, "cuts {cuts} cases {cases} failing {failing}")
+}
+
+/// Appends how many cases were left out.
+#[tactic(auto, unfolding(crate::specs::Text::beyond_text))]
+fn put_beyond(out: &mut String, torn: u64, lost: u64) -> Result<(), AllocError>
+    ensures { OnOk result (string_bytes out.new ≡ string_bytes out.old ++ beyond_text torn lost) }
+{
+    write!(out, " torn beyond {torn} lost beyond {lost}")
+}
+
+/// Appends the last line.
+pub(crate) fn put_totals(out: &mut String, found: &[CutFound]) -> Result<(), AllocError>
+    ensures { OnOk result (string_bytes out.new ≡ string_bytes out.old ++ totals_text found.now) }
+{
+    let all = totals_of(found);
+    put_counts(out, found.len(), all.cases, all.failing)?;
+    put_beyond(out, all.torn_beyond, all.lost_beyond)?;
+    put_complete(out, all.torn_beyond, all.lost_beyond)?;
+    write!(out, "\n")?;
+    Ok(())
+}
+
+/// Whether some case of a cut fails.
+fn fails_at(found: &[Found]) -> bool
+    ensures { result ≡ fails_at found.now }
+{
+    found.iter().any(|one| one.failing.len() != 0)
+}
+
+/// Whether a program fails on some case.
+pub fn is_any_failing(found: &[CutFound]) -> bool
+    ensures { result ≡ is_any_failing found.now }
+{
+    found.iter().any(|cut| fails_at(cut.programs.as_slice()))
+}
